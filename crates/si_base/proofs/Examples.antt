@@ -1,0 +1,149 @@
+-- The two-input C-element: the definitions at work.
+use Rattle.std.proofs.Common.{◌≡◌, ℕ, ◌<◌, ◌≤◌, ◌==◌, ◌&&◌, ◌||◌, not, Bool, true, false, List, [], ◌∷◌, refl, Option, Some, None, IsTrue, rules, arith, codes, length, nat_le, lit<, leb-true, sym}
+use Rattle.std.specs.List.{list_any, list_all}
+use Rattle.si_base.specs.declared.ids.Event.{Event}
+use Rattle.si_base.specs.declared.ids.Literal.{Literal}
+use Rattle.si_base.specs.declared.graph.Edge.{Edge}
+use Rattle.si_base.specs.declared.graph.Signal.{Signal}
+use Rattle.si_base.specs.declared.graph.SigKind.TheVariants.{Input, Output}
+use Rattle.si_base.specs.Bits.{bit, flip}
+use Rattle.si_base.specs.Graph.{StateGraph, Step, Walk, IsReachable, arc, rise, fall, enables, same_event}
+use Rattle.si_base.specs.Codes.{CodedGraph, code, next_value}
+use Rattle.si_base.specs.Netlist.{Sum, SumGate, Netlist, gate_value, IsExcited}
+use Rattle.si_base.specs.System.{State, Fires, Runs, IsReached, start, IsLeastTarget}
+use Rattle.si_base.specs.Behaviour.{IsBisimilar}
+use Prim.Native.String.{String}
+use Rattle.si_base.specs.NetlistText.{netlist_text}
+use Rattle.si_base.specs.Cover.{full_netlist}
+use Rattle.si_base.specs.StrictText.{ArcLine, Spelling, strict_text, state_names}
+use Rattle.si_base.proofs.Steps.{all_arcs}
+
+abbrev signals : List Signal
+signals = record { name = codes "a"; kind = Input } ∷ record { name = codes "b"; kind = Input } ∷ record { name = codes "c"; kind = Output } ∷ []
+
+abbrev c_element : StateGraph
+c_element = record {
+  signals = signals;
+  states = 8;
+  edges = arc 0 (rise 0) 1 ∷ arc 0 (rise 1) 2 ∷ arc 1 (rise 1) 3 ∷ arc 2 (rise 0) 3 ∷ arc 3 (rise 2) 4 ∷ arc 4 (fall 0) 5 ∷ arc 4 (fall 1) 6 ∷ arc 5 (fall 1) 7 ∷ arc 6 (fall 0) 7 ∷ arc 7 (fall 2) 0 ∷ [];
+  start = 0;
+}
+
+abbrev coded : CodedGraph
+coded = record { graph = c_element; codes = 0 ∷ 1 ∷ 2 ∷ 3 ∷ 7 ∷ 6 ∷ 5 ∷ 4 ∷ [] }
+
+abbrev plain : ℕ → Literal
+plain a = record { sig = a; plain = true }
+
+abbrev net : Sum → Netlist
+net sum = record { model = codes "c2"; signals = signals; start = 0; inserts = []; gates = SumGate sum ∷ [] }
+
+-- a b + b c + a c
+abbrev majority : Netlist
+majority = net ((plain 0 ∷ plain 1 ∷ []) ∷ (plain 1 ∷ plain 2 ∷ []) ∷ (plain 0 ∷ plain 2 ∷ []) ∷ [])
+
+-- the gate c is a alone
+abbrev wrong : Netlist
+wrong = net ((plain 0 ∷ []) ∷ [])
+
+-- s3 has the code 110
+s3_code : (bit (code coded 3) 0 ≡ true) × (bit (code coded 3) 1 ≡ true) × (bit (code coded 3) 2 ≡ false)
+s3_code = (refl, refl, refl)
+
+-- the next value of c at s3 is 1, and so is the gate's value
+s3_next : next_value coded 3 2 ≡ true
+s3_next = refl
+
+s3_gate : gate_value majority 2 3 ≡ true
+s3_gate = refl
+
+-- the wrong gate has the value 1 at 100
+s1_wrong : gate_value wrong 2 1 ≡ true
+s1_wrong = refl
+
+-- the arc s3 c+ s4
+s3_step : Step c_element 3 (rise 2) 4
+s3_step = (4, lit< tt, refl)
+
+s3_enables : enables c_element 3 (rise 2) ≡ true
+s3_enables = refl
+
+abbrev at_code : ℕ → ℕ → State
+at_code values s = record { values = values; place = Some s }
+
+true≢false' : true ≡ false → ⊥
+true≢false' h = cc
+
+-- c+ is a step at 110 and s3, and leads to 111 and s4
+c_rises : Fires c_element majority (at_code 3 3) (rise 2) (at_code 7 4)
+c_rises = record {
+  at = 3;
+  not_astray = refl;
+  signal = record { name = codes "c"; kind = Output };
+  named = refl;
+  old_value = refl;
+  new_values = refl;
+  may = (record { gate = (record { name = codes "c"; kind = Output }, refl, refl); differs = true≢false' }, record { step = s3_step; least = λ u step. leb-true 4 u (one_target u step) });
+}
+  where
+    one_target : (u : ℕ) → Step c_element 3 (rise 2) u → nat_le 4 u ≡ true
+    one_target u step = all_arcs (λ a. not ((a.from == 3) && same_event a.event (rise 2)) || nat_le 4 a.to) c_element 3 (rise 2) u refl step
+
+-- the wrong gate leads astray at s1
+astray : Fires c_element wrong (at_code 1 1) (rise 2) (record { values = 5; place = None })
+astray = record {
+  at = 1;
+  not_astray = refl;
+  signal = record { name = codes "c"; kind = Output };
+  named = refl;
+  old_value = refl;
+  new_values = refl;
+  may = (record { gate = (record { name = codes "c"; kind = Output }, refl, refl); differs = true≢false' }, λ enabled. true≢false' (sym enabled));
+}
+
+a_rises : Fires c_element wrong (at_code 0 0) (rise 0) (at_code 1 1)
+a_rises = record {
+  at = 0;
+  not_astray = refl;
+  signal = record { name = codes "a"; kind = Input };
+  named = refl;
+  old_value = refl;
+  new_values = refl;
+  may = (refl, record { step = (0, lit< tt, refl); least = λ u step. leb-true 1 u (one_target u step) });
+}
+  where
+    one_target : (u : ℕ) → Step c_element 0 (rise 0) u → nat_le 1 u ≡ true
+    one_target u step = all_arcs (λ a. not ((a.from == 0) && same_event a.event (rise 0)) || nat_le 1 a.to) c_element 0 (rise 0) u refl step
+
+-- so the wrong netlist isn't bisimilar to the graph
+wrong_refuted : IsBisimilar c_element wrong → ⊥
+wrong_refuted is = absurd (true≢false' (sym (is.never_astray (record { values = 5; place = None }) (rise 0 ∷ rise 2 ∷ [], (at_code 1 1, a_rises, ((record { values = 5; place = None }), astray, refl))))))
+
+-- ---- the text of the netlist
+majority_text : netlist_text majority ≡ codes ".model c2\n.inputs a b\n.outputs c\n.internal\n.inserted\n.start 000\n.gates\nc sum a b + b c + a c\n.end\n"
+unfolding netlist_text
+majority_text = refl
+
+full_sums_text : netlist_text (full_netlist (codes "c2") coded) ≡ codes ".model c2\n.inputs a b\n.outputs c\n.internal\n.inserted\n.start 000\n.gates\nc sum a b c' + a b c + a' b c + a b' c\n.end\n"
+unfolding netlist_text full_netlist
+full_sums_text = refl
+
+abbrev w : String → String → Bool → String → ArcLine
+w from signal up to = record { from = codes from; signal = codes signal; up = up; to = codes to }
+
+abbrev c_element_parts : Spelling
+c_element_parts = record {
+  model = codes "c2";
+  inputs = codes "a" ∷ codes "b" ∷ [];
+  outputs = codes "c" ∷ [];
+  internals = [];
+  arcs = w "s0" "a" true "s1" ∷ w "s0" "b" true "s2" ∷ w "s1" "b" true "s3" ∷ w "s2" "a" true "s3" ∷ w "s3" "c" true "s4" ∷ w "s4" "a" false "s5" ∷ w "s4" "b" false "s6" ∷ w "s5" "b" false "s7" ∷ w "s6" "a" false "s7" ∷ w "s7" "c" false "s0" ∷ [];
+  marked = codes "s0";
+}
+
+c_element_text : strict_text c_element_parts ≡ codes ".model c2\n.inputs a b\n.outputs c\n.state graph\ns0 a+ s1\ns0 b+ s2\ns1 b+ s3\ns2 a+ s3\ns3 c+ s4\ns4 a- s5\ns4 b- s6\ns5 b- s7\ns6 a- s7\ns7 c- s0\n.marking {s0}\n.end\n"
+unfolding strict_text
+c_element_text = refl
+
+c_element_states : state_names c_element_parts ≡ codes "s0" ∷ codes "s1" ∷ codes "s2" ∷ codes "s3" ∷ codes "s4" ∷ codes "s5" ∷ codes "s6" ∷ codes "s7" ∷ []
+c_element_states = refl

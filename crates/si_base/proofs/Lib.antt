@@ -1,0 +1,12 @@
+pub mod Examples
+pub mod Steps
+pub mod Circuit
+pub mod BitFacts
+pub mod FullSums
+pub mod Sorted
+pub mod Unique
+pub mod UniqueText
+pub mod Unsplit
+pub mod Given
+pub mod Parity
+pub mod NameLemmas

@@ -1,0 +1,16 @@
+pub mod Limits
+pub mod Bits
+pub mod Order
+pub mod Graph
+pub mod Codes
+pub mod Proper
+pub mod Netlist
+pub mod System
+pub mod Behaviour
+pub mod Words
+pub mod StrictText
+pub mod NetlistText
+pub mod Cover
+pub mod EdgeOrder
+pub mod WellFormed
+pub mod RightGates

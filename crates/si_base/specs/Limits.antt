@@ -1,0 +1,22 @@
+-- The limits of the tool. The code has them under the same words, in `src/limits.rt`.
+use Rattle.std.specs.Prelude.{ℕ}
+
+-- the most signals of a graph or a netlist, inserted ones included
+abbrev pub max_signals : ℕ
+max_signals = 64
+
+-- the most states of a graph that is read
+abbrev pub max_states_read : ℕ
+max_states_read = 65536
+
+-- the most states of any graph, after insertion of signals too
+abbrev pub max_states : ℕ
+max_states = 262144
+
+-- the most distinct arcs of a graph that is read
+abbrev pub max_arcs_read : ℕ
+max_arcs_read = 1048576
+
+-- the most bytes of a text
+abbrev pub max_text : ℕ
+max_text = 16777216

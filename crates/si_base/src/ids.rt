@@ -1,0 +1,95 @@
+//! Ids, events and codes.
+
+ghost use Rattle.std.specs.Prelude.{◌≡◌, ℕ, ◌+◌, ◌<◌, ◌≤◌, ◌^◌, ◌↔◌, IsTrue, Bool};
+ghost use Rattle.si_base.specs.Bits.{bit, IsSet};
+
+use std::alloc::{AllocError, AllocFailed};
+use std::marker::Model;
+
+/// A signal, by its place in signal order.
+#[derive(Clone, Copy, PartialEq, Eq, PartialOrd, Ord, Debug)]
+pub struct Sig(pub u8);
+
+impl Model for Sig {
+    ghost Value = { ℕ };
+
+    ghost view = { λ s. s.0 };
+
+    ghost inverse = { λ n. record { 0 = n } };
+}
+
+/// A state, by its place in state order.
+#[derive(Clone, Copy, PartialEq, Eq, PartialOrd, Ord, Debug)]
+pub struct StateId(pub u32);
+
+impl Model for StateId {
+    ghost Value = { ℕ };
+
+    ghost view = { λ s. s.0 };
+
+    ghost inverse = { λ n. record { 0 = n } };
+}
+
+/// One switching of a signal: `up` from 0 to 1, else from 1 to 0.
+#[derive(Clone, Copy, PartialEq, Eq, Debug)]
+pub struct Event {
+    pub sig: Sig,
+    pub up: bool,
+}
+
+/// A value for each signal: bit i is the value of signal i.
+#[derive(Clone, Copy, PartialEq, Eq, PartialOrd, Ord, Debug)]
+pub struct Code(pub u64);
+
+impl Model for Code {
+    ghost Value = { ℕ };
+
+    ghost view = { λ c. c.0 };
+
+    ghost inverse = { λ n. record { 0 = n } };
+}
+
+impl Code {
+    /// The value of a signal.
+    pub fn get(self, s: Sig) -> bool
+        requires { s < 64 }
+        ensures { result ≡ bit self s }
+    {
+        self.0 >> s.0 & 1 == 1
+    }
+
+    /// The code with that value for the signal.
+    pub fn set(self, s: Sig, v: bool) -> Code
+        requires { s < 64 }
+        ensures { IsSet self s v result }
+    {
+        if self.get(s) == v {
+            self
+        } else {
+            Code(self.0 ^ 1 << s.0)
+        }
+    }
+}
+
+/// A signal plain or complemented.
+#[derive(Clone, Copy, PartialEq, Eq, Debug)]
+pub struct Literal {
+    pub sig: Sig,
+    pub plain: bool,
+}
+
+/// Want of memory.
+#[derive(Clone, Copy, PartialEq, Eq, Debug)]
+pub struct NoMemory;
+
+impl From<AllocError> for NoMemory {
+    fn from(_e: AllocError) -> NoMemory {
+        NoMemory
+    }
+}
+
+impl<T: Drop> From<AllocFailed<T>> for NoMemory {
+    fn from(_e: AllocFailed<T>) -> NoMemory {
+        NoMemory
+    }
+}

@@ -1,0 +1,112 @@
+//! A graph with the codes of its states.
+
+ghost use Rattle.std.specs.Prelude.{◌≡◌, ℕ, ◌<◌, ◌≢◌, ◌↔◌, length, IfOk, IfErr, IsTrue, Bool};
+ghost use Rattle.si_base.specs.Bits.{bit};
+ghost use Rattle.si_base.specs.Codes.{IsCoded, IsConnected, code, next_value};
+ghost use Rattle.si_graph.specs.Excited.{IsExcitedAt};
+
+use crate::graph::Graph;
+use si_base::ids::{Code, Event, Sig, StateId};
+use std::alloc::Global;
+use std::marker::Model;
+
+/// A deterministic and consistent graph, each state of which is reachable, with the codes of its states.
+#[derive(Drop)]
+pub struct Coded {
+    graph: Graph,
+    codes: Vec<Code>,
+}
+
+impl Model for Coded {
+    ghost use Rattle.si_base.specs.Codes.{CodedGraph, IsCoded};
+
+    ghost Value = { CodedGraph };
+
+    ghost view = { λ c. record { graph = c.graph; codes = c.codes.items } };
+
+    ghost invariant = { λ c. IsCoded (record { graph = c.graph; codes = c.codes.items }) };
+}
+
+/// Why a graph has no codes.
+#[derive(Clone, Copy, PartialEq, Eq, Debug)]
+pub enum CodeFault {
+    /// Want of memory.
+    NoMemory,
+    /// The state `s` leads by `e` to both `t` and `u`.
+    Nondeterministic {
+        s: StateId,
+        e: Event,
+        t: StateId,
+        u: StateId,
+    },
+    /// No values of the signal suit the arcs.
+    Inconsistent {
+        sig: Sig,
+    },
+}
+
+impl Coded {
+    ghost use Rattle.si_graph.specs.Faults.{ShowsUncoded};
+
+    /// The graph with its codes, or the first breach of determinism, or else of consistency. The graph comes back.
+    pub fn make(_alloc: Global, graph: Graph) -> Result<Coded, (Graph, CodeFault)>
+        requires { IsConnected graph }
+        ensures same { IfOk result (λ c. c.graph ≡ graph) }
+        ensures coded { IfOk result IsCoded }
+        ensures back { IfErr result (λ e. e.0 ≡ graph) }
+        ensures fault { IfErr result (λ e. ShowsUncoded graph e.1) }
+    {
+        Err((graph, CodeFault::NoMemory))
+    }
+
+    /// The graph.
+    pub fn graph(&self) -> &Graph
+        ensures { result.now ≡ self.now.graph }
+    {
+        &self.graph
+    }
+
+    /// The graph, and what holds of it and its codes.
+    pub fn coded_graph(&self) -> &Graph
+        ensures same { result.now ≡ self.now.graph }
+        ensures coded { IsCoded self.now }
+    {
+        &self.graph
+    }
+
+    /// The graph, without its codes.
+    pub fn into_graph(self) -> Graph
+        ensures { result ≡ self.graph }
+    {
+        let Coded { graph, codes: _ } = self;
+        graph
+    }
+
+    /// The code of a state: bit i is the value of signal i, and each bit past the last signal is 0.
+    pub fn code(&self, s: StateId) -> Code
+        requires { s < self.now.graph.states }
+        ensures { result ≡ code self.now s }
+    {
+        self.codes[s.0 as usize]
+    }
+
+    /// The next value of a signal: 1 if it is about to rise, or if it is 1 and not about to fall.
+    pub fn next_value(&self, s: StateId, z: Sig) -> bool
+        requires state { s < self.now.graph.states }
+        requires signal { z < length self.now.graph.signals }
+        ensures { result ≡ next_value self.now s z }
+    {
+        let rise = Event { sig: z, up: true };
+        let fall = Event { sig: z, up: false };
+        self.graph.enabled(s, rise) || (self.code(s).get(z) && !self.graph.enabled(s, fall))
+    }
+
+    /// Whether the signal is no input, and its next value differs from its value.
+    pub fn excited(&self, s: StateId, z: Sig) -> bool
+        requires state { s < self.now.graph.states }
+        requires signal { z < length self.now.graph.signals }
+        ensures { IsTrue result ↔ IsExcitedAt self.now s z }
+    {
+        self.graph.is_driven(z) && self.next_value(s, z) != self.code(s).get(z)
+    }
+}

@@ -1,0 +1,12 @@
+//! The tool: from the words of a command line to the status.
+#![tactic(auto)]
+
+pub mod distinct;
+pub mod proper;
+pub mod read;
+pub mod run;
+pub mod status;
+pub mod sure;
+pub mod synth;
+pub mod whole;
+pub mod write;

@@ -1,0 +1,176 @@
+//! The top call.
+
+ghost use Rattle.std.specs.Prelude.{◌≡◌, ◌≢◌, ◌⊎◌, ℕ, ◌+◌, ◌<◌, ◌≤◌, List, [], ◌∷◌, ◌++◌, length, IfSome, Some, Option, IfOk, Err, string_bytes, MatchOption, OnErr};
+ghost use Rattle.si_io.specs.Outside.{Rose, Appends, AppendsPrefix};
+ghost use Rattle.si_base.specs.Limits.{max_text};
+ghost use Rattle.si_tool.specs.Command.{AsksFor, AsksNothing};
+ghost use Rattle.si_tool.specs.Answer.{IsBadText, IsImproper, IsUnresolved, IsSynthesis, refusal_line, IsShort, Names, PutsLine};
+
+use crate::status::Status;
+use crate::synth::{NoNetlist, synth};
+use si_base::ids::NoMemory;
+use si_base::limits::MAX_TEXT;
+use si_base::text::Text;
+use si_io::shelf::{LoadFault, Shelf};
+use si_io::sink::{PutFault, Sink};
+use std::alloc::Global;
+
+/// Does what the words of a command line ask for.
+pub fn run<H: Shelf, O: Sink, E: Sink>(
+    alloc: Global,
+    words: &Vec<String>,
+    shelf: &mut H,
+    out: &mut O,
+    err: &mut E,
+) -> Status
+    // The words.
+    ensures usage { result ≡ Status.Usage → AsksNothing words.now.items }
+    ensures no_command { AsksNothing words.now.items → (result ≡ Status.Usage) ⊎ (result ≡ Status.NoMemory) }
+
+    // The outside.
+    ensures read_fault { result ≡ Status.ReadFault → Names words.now.items (λ file. Rose (H.faults shelf.old file) (H.faults shelf.new file)) }
+    ensures write_fault { result ≡ Status.WriteFault → Rose (O.faults out.old) (O.faults out.new) }
+    ensures too_long { result ≡ Status.TooLong
+        → Names words.now.items (λ file. IfSome (H.content shelf.old file) (λ text. max_text < length text)) }
+
+    // The text and its graph.
+    ensures bad_text { result ≡ Status.BadText
+        → Names words.now.items (λ file. IfSome (H.content shelf.old file) (λ text. IsShort text × IsBadText text)) }
+    ensures improper { result ≡ Status.Improper
+        → Names words.now.items (λ file. IfSome (H.content shelf.old file) (λ text. IsShort text × IsImproper text)) }
+    ensures unresolved { result ≡ Status.Unresolved
+        → Names words.now.items (λ file. IfSome (H.content shelf.old file) (λ text. IsShort text × IsUnresolved text)) }
+    ensures unmapped { result ≢ Status.Unmapped }
+    ensures differs { result ≢ Status.Differs }
+
+    // The headline.
+    ensures done { result ≡ Status.Done → Names words.now.items (λ file. IfSome (H.content shelf.old file) (λ text. IsShort text
+        × ((output : List ℕ) × IsSynthesis text output × Appends (O.bytes out.old) output (O.bytes out.new)))) }
+
+    // A refused run leaves `out` as it was, but for a prefix of the output where a write failed.
+    ensures out_refused { result ≢ Status.Done → (O.bytes out.new ≡ O.bytes out.old) ⊎ (Rose (O.faults out.old) (O.faults out.new)
+        × Names words.now.items (λ file. IfSome (H.content shelf.old file) (λ text.
+        (output : List ℕ) × IsSynthesis text output × AppendsPrefix (O.bytes out.old) output (O.bytes out.new)))) }
+
+    // A refused run puts its line on `err`.
+    ensures err_kept { result ≡ Status.Done → E.bytes err.new ≡ E.bytes err.old }
+    ensures err_line { result ≢ Status.Done → PutsLine words.now.items result (E.faults err.old) (E.faults err.new) (E.bytes err.old) (E.bytes err.new) }
+
+    // Counts never fall, and contents stay.
+    ensures shelf_later { (n : List ℕ) → H.faults shelf.old n ≤ H.faults shelf.new n }
+    ensures shelf_same { (n : List ℕ) → H.content shelf.new n ≡ H.content shelf.old n }
+    ensures out_later { O.faults out.old ≤ O.faults out.new }
+    ensures err_later { E.faults err.old ≤ E.faults err.new }
+{
+    let Some(file) = asked_file(words) else {
+        return refuse(alloc, Status::Usage, "", err);
+    };
+    match output(alloc, file, shelf) {
+        Ok(text) => match out.put(text.bytes()) {
+            Ok(()) => Status::Done,
+            Err(PutFault::Failed) => refuse(alloc, Status::WriteFault, file, err),
+            Err(PutFault::NoMemory) => refuse(alloc, Status::NoMemory, file, err),
+        },
+        Err(status) => refuse(alloc, status, file, err),
+    }
+}
+
+/// The file of the one command.
+fn asked_file(words: &[String]) -> Option<&str>
+    ensures { MatchOption result (AsksNothing words.now) (λ file. AsksFor words.now file.now) }
+{
+    match words {
+        [command, file, style] if command.as_str() == "synth" && style.as_str() == "complex" => {
+            Some(file.as_str())
+        }
+        _ => None,
+    }
+}
+
+/// The output for a file, or the status of the refusal.
+fn output<H: Shelf>(alloc: Global, file: &str, shelf: &mut H) -> Result<Text, Status>
+    ensures ok { IfOk result (λ text. IfSome (H.content shelf.old file.now) (λ input. IsShort input × IsSynthesis input text)) }
+    ensures read_fault { result ≡ Err Status.ReadFault → Rose (H.faults shelf.old file.now) (H.faults shelf.new file.now) }
+    ensures too_long { result ≡ Err Status.TooLong → IfSome (H.content shelf.old file.now) (λ input. max_text < length input) }
+    ensures bad_text { result ≡ Err Status.BadText → IfSome (H.content shelf.old file.now) (λ input. IsShort input × IsBadText input) }
+    ensures improper { result ≡ Err Status.Improper → IfSome (H.content shelf.old file.now) (λ input. IsShort input × IsImproper input) }
+    ensures unresolved { result ≡ Err Status.Unresolved → IfSome (H.content shelf.old file.now) (λ input. IsShort input × IsUnresolved input) }
+    ensures usage { result ≢ Err Status.Usage }
+    ensures done { result ≢ Err Status.Done }
+    ensures write_fault { result ≢ Err Status.WriteFault }
+    ensures unmapped { result ≢ Err Status.Unmapped }
+    ensures differs { result ≢ Err Status.Differs }
+    ensures later { (n : List ℕ) → H.faults shelf.old n ≤ H.faults shelf.new n }
+    ensures same { (n : List ℕ) → H.content shelf.new n ≡ H.content shelf.old n }
+{
+    match shelf.load(alloc, file, MAX_TEXT) {
+        Ok(input) => match synth(alloc, &input) {
+            Ok(text) => Ok(text),
+            Err(NoNetlist::NoMemory) => Err(Status::NoMemory),
+            Err(NoNetlist::BadText) => Err(Status::BadText),
+            Err(NoNetlist::Improper) => Err(Status::Improper),
+            Err(NoNetlist::Unresolved) => Err(Status::Unresolved),
+        },
+        Err(LoadFault::NoMemory) => Err(Status::NoMemory),
+        Err(LoadFault::Failed) => Err(Status::ReadFault),
+        Err(LoadFault::TooLong { .. }) => Err(Status::TooLong),
+    }
+}
+
+/// A refusal's line on `err`. The status is then the refusal's, or want of memory.
+fn refuse<E: Sink>(alloc: Global, status: Status, file: &str, err: &mut E) -> Status
+    requires { status ≢ Status.Done }
+    ensures status { (result ≡ status) ⊎ (result ≡ Status.NoMemory) }
+    ensures whole { (result ≡ Status.NoMemory) ⊎ (Appends (E.bytes err.old) (refusal_line result file.now) (E.bytes err.new) ⊎ Rose (E.faults err.old) (E.faults err.new)) }
+    ensures part { AppendsPrefix (E.bytes err.old) (refusal_line result file.now) (E.bytes err.new) }
+    ensures later { E.faults err.old ≤ E.faults err.new }
+{
+    let Ok(line) = refusal(alloc, status, file) else {
+        return put_no_memory(err);
+    };
+    match err.put(line.bytes()) {
+        Ok(()) => status,
+        Err(PutFault::Failed) => status,
+        Err(PutFault::NoMemory) => Status::NoMemory,
+    }
+}
+
+/// Puts the line of want of memory.
+fn put_no_memory<E: Sink>(err: &mut E) -> Status
+    ensures status { result ≡ Status.NoMemory }
+    ensures part { AppendsPrefix (E.bytes err.old) (refusal_line Status.NoMemory []) (E.bytes err.new) }
+    ensures later { E.faults err.old ≤ E.faults err.new }
+{
+    match err.put(b"nomemory\n") {
+        Ok(()) => Status::NoMemory,
+        Err(_) => Status::NoMemory,
+    }
+}
+
+/// The line of a refusal.
+fn refusal(alloc: Global, status: Status, file: &str) -> Result<Text, NoMemory>
+    ensures { IfOk result (λ text. text ≡ refusal_line status file.now) }
+{
+    match status {
+        Status::Done => Text::copy_of(alloc, b""),
+        Status::Unmapped => Text::copy_of(alloc, b""),
+        Status::Differs => Text::copy_of(alloc, b""),
+        Status::NoMemory => Text::copy_of(alloc, b"nomemory\n"),
+        Status::Usage => Text::copy_of(alloc, b"usage\n"),
+        Status::WriteFault => Text::copy_of(alloc, b"writefault\n"),
+        Status::Improper => Text::copy_of(alloc, b"improper\n"),
+        Status::Unresolved => Text::copy_of(alloc, b"unresolved\n"),
+        Status::ReadFault => naming(alloc, b"readfault ", file, b"\n"),
+        Status::TooLong => naming(alloc, b"toolong ", file, b"\n"),
+        Status::BadText => naming(alloc, b"badtext ", file, b" 0 BadLine\n"),
+    }
+}
+
+fn naming(alloc: Global, head: &[u8], file: &str, tail: &[u8]) -> Result<Text, NoMemory>
+    ensures { IfOk result (λ text. text ≡ head.now ++ file.now ++ tail.now) }
+{
+    let mut line = Text::copy_of(alloc, head)?;
+    line.add(file.as_bytes())?;
+    line.add(tail)?;
+    Ok(line)
+}

@@ -1,0 +1,65 @@
+//! From the text of a graph to the text of its netlist.
+
+ghost use Rattle.std.specs.Prelude.{◌≡◌, ℕ, IfOk, Err};
+ghost use Rattle.si_tool.specs.Answer.{IsBadText, IsImproper, IsUnresolved, IsSynthesis};
+
+use crate::distinct::{Distinct, NotDistinct};
+use crate::proper::{Improper, Proper};
+use crate::read::{NotRead, Sg, read_strict};
+use crate::write::write_full;
+use si_base::text::Text;
+use si_graph::coded::{CodeFault, Coded};
+use std::alloc::Global;
+use thiserror::Error;
+
+/// Why there is no netlist.
+#[derive(Debug, Drop, Error)]
+pub enum NoNetlist {
+    #[error("no memory")]
+    NoMemory,
+    #[error("the text is not in the strict form")]
+    BadText,
+    #[error("the graph is not proper")]
+    Improper,
+    #[error("the graph has a conflict")]
+    Unresolved,
+}
+
+/// The text of the netlist of the graph that the text spells.
+pub fn synth(alloc: Global, text: &[u8]) -> Result<Text, NoNetlist>
+    ensures netlist { IfOk result (IsSynthesis text.now) }
+    ensures bad_text { result ≡ Err NoNetlist.BadText → IsBadText text.now }
+    ensures improper { result ≡ Err NoNetlist.Improper → IsImproper text.now }
+    ensures unresolved { result ≡ Err NoNetlist.Unresolved → IsUnresolved text.now }
+{
+    let Sg {
+        model,
+        graph,
+        states: _,
+    } = match read_strict(alloc, text) {
+        Ok(given) => given,
+        Err(NotRead::NoMemory) => return Err(NoNetlist::NoMemory),
+        Err(NotRead::BadText) => return Err(NoNetlist::BadText),
+    };
+    let coded = match Coded::make(alloc, graph) {
+        Ok(coded) => coded,
+        Err((_, CodeFault::NoMemory)) => return Err(NoNetlist::NoMemory),
+        Err((_, CodeFault::Nondeterministic { .. })) => return Err(NoNetlist::Improper),
+        Err((_, CodeFault::Inconsistent { .. })) => return Err(NoNetlist::Improper),
+    };
+    let proper = match Proper::make(alloc, coded) {
+        Ok(proper) => proper,
+        Err((_, Improper::NoMemory)) => return Err(NoNetlist::NoMemory),
+        Err((_, Improper::Noncommutative { .. })) => return Err(NoNetlist::Improper),
+        Err((_, Improper::Nonpersistent { .. })) => return Err(NoNetlist::Improper),
+    };
+    let distinct = match Distinct::make(alloc, &proper) {
+        Ok(distinct) => distinct,
+        Err(NotDistinct::NoMemory) => return Err(NoNetlist::NoMemory),
+        Err(NotDistinct::Conflict { .. }) => return Err(NoNetlist::Unresolved),
+    };
+    match write_full(alloc, &model, distinct) {
+        Ok(text) => Ok(text),
+        Err(_) => Err(NoNetlist::NoMemory),
+    }
+}
