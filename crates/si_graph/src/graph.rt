@@ -69,8 +69,15 @@ impl Graph {
         requires start { start < states }
         ensures { IfOk result (λ g. IsMadeOf signals.items states edges.items start g) }
     {
-        let _ = (signals, states, edges, start);
-        Err(NoMemory)
+        let mut edges = edges;
+        edges.sort_unstable();
+        edges.dedup();
+        Ok(Graph {
+            signals,
+            states,
+            edges,
+            start,
+        })
     }
 
     /// The signals in signal order.
