@@ -7,6 +7,8 @@ ghost use Rattle.si_base.specs.Limits.{max_signals, max_states};
 ghost use Rattle.si_base.specs.System.{IsLeastTarget};
 ghost use Rattle.si_graph.specs.Arcs.{edge_at, IsFirstPlace, IsOutOf, AreOut};
 
+use crate::reach::reachable;
+use crate::renaming::{Renaming, rename, renamed_arcs};
 use si_base::graph::{Edge, SigKind, Signal};
 use si_base::ids::{Event, NoMemory, Sig, StateId};
 use std::alloc::Global;
@@ -160,10 +162,16 @@ impl Graph {
     }
 
     /// The graph of the reachable states in the same order, and their old ids. After `NoMemory` the graph is given up.
-    pub fn cut(self, _alloc: Global) -> Result<Cut, NoMemory>
+    pub fn cut(self, alloc: Global) -> Result<Cut, NoMemory>
         ensures cut { IfOk result (λ cut. IsCut self cut.kept.items cut.graph) }
         ensures connected { IfOk result (λ cut. IsConnected cut.graph) }
     {
-        Err(NoMemory)
+        let reached = reachable(alloc, &self)?;
+        let Renaming { kept, places } = rename(alloc, &reached)?;
+        let arcs = renamed_arcs(alloc, &self.edges, &reached, &places)?;
+        let start = places[self.start.0 as usize];
+        let states = kept.len() as u32;
+        let graph = Graph::make(alloc, self.signals, states, arcs, start)?;
+        Ok(Cut { graph, kept })
     }
 }
