@@ -13,7 +13,7 @@ use Rattle.si_base.specs.Graph.{StateGraph, Step, Walk, IsReachable, IsGraph, Is
 use Rattle.si_base.specs.Codes.{IsConnected}
 use Rattle.si_graph.specs.Reach.{IsIn}
 use Rattle.si_graph.specs.Renaming.{Renames, renamed, leaves_marked}
-use Rattle.si_graph.proofs.ArcOrderFacts.{IsInside}
+use Rattle.si_graph.proofs.ArcFacts.{IsInside}
 use Rattle.si_graph.proofs.MarkLemmas.{reachable-step}
 use Rattle.si_graph.proofs.MemberLemmas.{Contains-filter, Contains-from_filter, Contains-map, Contains-from_map}
 

@@ -2,7 +2,8 @@ use Rattle.std.proofs.Common.{arith, refl, length}
 use Rattle.std.proofs.lemmas.List.Filters.{dedup_is, All-dedup}
 use Rattle.std.proofs.lemmas.List.Kept.{Contains-dedup, Contains-from_dedup, IsStrictlySortedBy-dedup}
 use Rattle.std.proofs.lemmas.List.Sorted.{Contains-permutation, IsPermutation-sym, All-permutation}
-use Rattle.si_graph.proofs.ArcOrderFacts.{IsInside, edge_total, edge_eq_equiv, edge_eq-true, edge_ties}
+use Rattle.si_graph.proofs.OrderLemmas.{edge_total}
+use Rattle.si_graph.proofs.ArcFacts.{IsInside, edge_eq_equiv, edge_eq-true, edge_ties}
 use Rattle.si_graph.proofs.graph.Graph.make.Goals as goal
 
 pub invariant_of-result : goal.invariant_of-result
