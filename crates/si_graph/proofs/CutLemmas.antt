@@ -1,8 +1,8 @@
 -- The graph that is made of the renamed arcs is the cut, and each of its states is reachable.
-use Rattle.std.proofs.Common.{◌≡◌, ◌≢◌, ℕ, ◌+◌, ◌<◌, ◌≤◌, Bool, true, false, ap, ◌∙◌, sym, refl, subst, arith, List, [], ◌∷◌, ◌++◌, length, get_or, slice_get, Some, None, Option, Contains, inl, inr, ◌⊎◌, ◌↔◌, true≢false, AllPairs, All, map, filter, nat_cmp}
+use Rattle.std.proofs.Common.{◌≡◌, ◌≢◌, ℕ, ◌+◌, ◌<◌, ◌≤◌, Bool, true, false, ap, ap₂, ◌∙◌, sym, refl, subst, arith, List, [], ◌∷◌, ◌++◌, length, get_or, slice_get, Some, None, Option, Contains, inl, inr, ◌⊎◌, ◌↔◌, true≢false, AllPairs, All, map, filter, nat_cmp}
 use Rattle.std.specs.List.Sorted.{IsStrictlySortedBy}
 use Rattle.std.proofs.lemmas.Bool.{cases_lt, cases_order}
-use Rattle.std.proofs.lemmas.List.{get_or_past, get_or_default, length-map}
+use Rattle.std.proofs.lemmas.List.{get_or_past, get_or_default, get_or_read, length-map}
 use Rattle.std.proofs.lemmas.List.Sums.{length-filter, count_by-le-length}
 use Rattle.std.proofs.lemmas.List.Elements.{Contains-get_or, All-contains}
 use Rattle.std.proofs.lemmas.Option.{slice_get_within, slice_get-get_or, get_or_from_slice_get}
@@ -34,6 +34,13 @@ sorted_from_pairs xs pairs = sorted_from_strictly_increasing xs (λ k within. pa
 -- the renamed arcs of a graph
 abbrev pub new_arcs : StateGraph → List Bool → List ℕ → List Edge
 new_arcs g marks places = map (renamed places) (filter (leaves_marked marks) g.edges)
+
+pub new_arcs_are : (g : StateGraph) (marks : List Bool) (places read : List ℕ) (arcs made : List Edge) → made ≡ map (renamed read) (filter (leaves_marked marks) arcs) → arcs ≡ g.edges → read ≡ places → made ≡ new_arcs g marks places
+new_arcs_are g marks places read arcs made is same_arcs same_places = is ∙ ap₂ (λ (es : List Edge) (ps : List ℕ). map (renamed ps) (filter (leaves_marked marks) es)) same_arcs same_places
+
+-- what is read at the place of the start
+pub place_read : (places : List ℕ) (k s x : ℕ) → k ≡ s → s < length places → x ≡ get_or places k x → x ≡ get_or places s 0
+place_read places k s x same within at = get_or_read places s x within (subst (λ j. x ≡ get_or places j x) same at) 0
 
 pub new_arcs_few : (g : StateGraph) (marks : List Bool) (places : List ℕ) → length (new_arcs g marks places) ≤ length g.edges
 new_arcs_few g marks places = omega (arith, length-map (filter (leaves_marked marks) g.edges) (renamed places), length-filter (leaves_marked marks) g.edges, count_by-le-length (leaves_marked marks) g.edges)

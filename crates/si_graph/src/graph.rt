@@ -204,12 +204,13 @@ impl Graph {
         ensures cut { IfOk result (λ cut. IsCut self cut.kept.items cut.graph) }
         ensures connected { IfOk result (λ cut. IsConnected cut.graph) }
     {
+        let arcs = self.arcs();
         let reached = reachable(alloc, &self)?;
         let Renaming { kept, places } = rename(alloc, &reached)?;
-        let arcs = renamed_arcs(alloc, &self.edges, &reached, &places)?;
-        let start = places[self.start.0 as usize];
+        let renamed = renamed_arcs(alloc, arcs, &reached, &places)?;
+        let start = places[self.start().0 as usize];
         let states = kept.len() as u32;
-        let graph = Graph::make(alloc, self.signals, states, arcs, start)?;
+        let graph = Graph::make(alloc, self.signals, states, renamed, start)?;
         Ok(Cut { graph, kept })
     }
 }
