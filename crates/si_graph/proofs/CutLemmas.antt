@@ -1,11 +1,11 @@
 -- The graph that is made of the renamed arcs is the cut, and each of its states is reachable.
-use Rattle.std.proofs.Common.{◌≡◌, ◌≢◌, ℕ, ◌+◌, ◌<◌, ◌≤◌, Bool, true, false, ap, ap₂, ◌∙◌, sym, refl, subst, arith, List, [], ◌∷◌, ◌++◌, length, get_or, slice_get, Some, None, Option, Contains, inl, inr, ◌⊎◌, ◌↔◌, true≢false, AllPairs, All, map, filter, nat_cmp}
+use Rattle.std.proofs.Common.{◌≡◌, ℕ, ◌+◌, ◌<◌, ◌≤◌, Bool, false, ap, ap₂, ◌∙◌, sym, refl, subst, arith, List, [], ◌∷◌, length, get_or, slice_get, Some, Contains, inl, inr, ◌↔◌, true≢false, AllPairs, All, map, filter, nat_cmp}
 use Rattle.std.specs.List.Sorted.{IsStrictlySortedBy}
 use Rattle.std.proofs.lemmas.Bool.{cases_lt, cases_order}
 use Rattle.std.proofs.lemmas.List.{get_or_past, get_or_default, get_or_read, length-map}
 use Rattle.std.proofs.lemmas.List.Sums.{length-filter, count_by-le-length}
 use Rattle.std.proofs.lemmas.List.Elements.{Contains-get_or, All-contains}
-use Rattle.std.proofs.lemmas.Option.{slice_get_within, slice_get-get_or, get_or_from_slice_get}
+use Rattle.std.proofs.lemmas.Option.{slice_get_within, get_or_from_slice_get}
 use Rattle.std.proofs.lemmas.Map.Keys.{sorted_from_strictly_increasing, below_from_sorted}
 use Rattle.si_base.specs.declared.ids.Event.{Event}
 use Rattle.si_base.specs.declared.graph.Edge.{Edge}

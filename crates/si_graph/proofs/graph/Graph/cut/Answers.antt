@@ -1,6 +1,4 @@
-use Rattle.std.proofs.Common.{◌≡◌, ◌<◌, ◌∙◌, sym, ap, arith, length, get_or, All}
-use Rattle.si_base.specs.Graph.{IsCut}
-use Rattle.si_graph.proofs.ArcFacts.{IsInside}
+use Rattle.std.proofs.Common.{◌≡◌, ◌<◌, ◌∙◌, ap, arith, length, get_or}
 use Rattle.si_graph.proofs.CutLemmas.{new_arcs, new_arcs_are, new_arcs_few, new_arcs_inside, place_read, start_within, made_is_cut, cut_connected}
 use Rattle.si_graph.proofs.graph.Graph.cut.Goals as goal
 
