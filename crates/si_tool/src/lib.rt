@@ -4,8 +4,11 @@
 pub mod distinct;
 pub mod proper;
 pub mod read;
+pub mod refusals;
 pub mod run;
 pub mod status;
 pub mod sure;
 pub mod synth;
+#[cfg(test)]
+mod tests;
 pub mod write;

@@ -4,12 +4,12 @@ ghost use Rattle.std.specs.Prelude.{◌≡◌, ◌≢◌, ◌⊎◌, ℕ, ◌+�
 ghost use Rattle.si_base.specs.Limits.{max_text};
 ghost use Rattle.si_io.specs.Outside.{Rose, Appends, AppendsPrefix};
 ghost use Rattle.si_tool.specs.Command.{Asked, AsksSynth, Asks, AsksNothing, files_of};
-ghost use Rattle.si_tool.specs.Answer.{IsShort, IsBadText, IsImproper, IsUnresolved, IsSynthesis, IsTooLong, HasBadText, HasImproper, HasConflict, Deserve, AreTold, AskingTold, ReadRose, Outputs, OutputsPart, Ends, PutsLine, refusal_line};
+ghost use Rattle.si_tool.specs.Answer.{IsShort, IsBadText, IsImproper, IsUnresolved, IsSynthesis, IsTooLong, HasBadText, HasImproper, HasConflict, Deserve, AreTold, AskingTold, ReadRose, Outputs, OutputsPart, Ends, PutsLine};
 ghost use Rattle.si_tool.specs.declared.status.Status.{Status as Statuses};
 
+use crate::refusals::refuse;
 use crate::status::Status;
 use crate::synth::{NoNetlist, synth};
-use si_base::ids::NoMemory;
 use si_base::limits::MAX_TEXT;
 use si_base::text::Text;
 use si_io::shelf::{LoadFault, Shelf};
@@ -164,62 +164,4 @@ fn output<H: Shelf>(alloc: Global, file: &str, shelf: &mut H) -> Result<Text, St
         Err(LoadFault::Failed) => Err(Status::ReadFault),
         Err(LoadFault::TooLong { .. }) => Err(Status::TooLong),
     }
-}
-
-/// A refusal's line on `err`. The status is then the refusal's, or want of memory.
-fn refuse<E: Sink>(alloc: Global, status: Status, file: &str, err: &mut E) -> Status
-    requires { status ≢ Status.Done }
-    ensures status { (result ≡ status) ⊎ (result ≡ Status.NoMemory) }
-    ensures whole { (result ≡ Status.NoMemory) ⊎ (Appends (E.bytes err.old) (refusal_line result file.now) (E.bytes err.new) ⊎ Rose (E.faults err.old) (E.faults err.new)) }
-    ensures part { AppendsPrefix (E.bytes err.old) (refusal_line result file.now) (E.bytes err.new) }
-    ensures later { E.faults err.old ≤ E.faults err.new }
-{
-    let Ok(line) = refusal(alloc, status, file) else {
-        return put_no_memory(err);
-    };
-    match err.put(line.bytes()) {
-        Ok(()) => status,
-        Err(PutFault::Failed) => status,
-        Err(PutFault::NoMemory) => Status::NoMemory,
-    }
-}
-
-/// Puts the line of want of memory.
-fn put_no_memory<E: Sink>(err: &mut E) -> Status
-    ensures status { result ≡ Status.NoMemory }
-    ensures part { AppendsPrefix (E.bytes err.old) (refusal_line Status.NoMemory []) (E.bytes err.new) }
-    ensures later { E.faults err.old ≤ E.faults err.new }
-{
-    match err.put(b"nomemory\n") {
-        Ok(()) => Status::NoMemory,
-        Err(_) => Status::NoMemory,
-    }
-}
-
-/// The line of a refusal.
-fn refusal(alloc: Global, status: Status, file: &str) -> Result<Text, NoMemory>
-    ensures { IfOk result (λ text. text ≡ refusal_line status file.now) }
-{
-    match status {
-        Status::Done => Text::copy_of(alloc, b""),
-        Status::Unmapped => Text::copy_of(alloc, b""),
-        Status::Differs => Text::copy_of(alloc, b""),
-        Status::NoMemory => Text::copy_of(alloc, b"nomemory\n"),
-        Status::Usage => Text::copy_of(alloc, b"usage\n"),
-        Status::WriteFault => Text::copy_of(alloc, b"writefault\n"),
-        Status::Improper => Text::copy_of(alloc, b"improper\n"),
-        Status::Unresolved => Text::copy_of(alloc, b"unresolved\n"),
-        Status::ReadFault => naming(alloc, b"readfault ", file, b"\n"),
-        Status::TooLong => naming(alloc, b"toolong ", file, b"\n"),
-        Status::BadText => naming(alloc, b"badtext ", file, b" 0 BadLine\n"),
-    }
-}
-
-fn naming(alloc: Global, head: &[u8], file: &str, tail: &[u8]) -> Result<Text, NoMemory>
-    ensures { IfOk result (λ text. text ≡ head.now ++ file.now ++ tail.now) }
-{
-    let mut line = Text::copy_of(alloc, head)?;
-    line.add(file.as_bytes())?;
-    line.add(tail)?;
-    Ok(line)
 }
