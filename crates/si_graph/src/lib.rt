@@ -2,4 +2,5 @@
 #![tactic(auto)]
 
 pub mod coded;
+mod determinism;
 pub mod graph;
