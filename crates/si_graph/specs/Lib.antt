@@ -1,3 +1,5 @@
 pub mod Arcs
 pub mod Faults
 pub mod Excited
+pub mod Changes
+pub mod Values

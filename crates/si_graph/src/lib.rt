@@ -4,3 +4,4 @@
 pub mod coded;
 mod determinism;
 pub mod graph;
+mod values;
