@@ -5,6 +5,8 @@ use Rattle.std.specs.Int.{bit_at}
 use Rattle.std.proofs.lemmas.Bool.{cases_eq, cases_lt, or_parts, or_from, true≢false}
 use Rattle.std.proofs.lemmas.List.{get_or_default, get_or-map, take-take, take_all}
 use Rattle.std.proofs.lemmas.List.Elements.{All-more, All-take, All-contains}
+use Rattle.std.proofs.Math.Nat.{mod-lt}
+use Rattle.std.proofs.lemmas.Nat.{pow_pos, div-add-mod'}
 use Rattle.std.proofs.lemmas.Nat.Bits.{bit_at_xor, bit_at_or, bit_at-lt, bit_at-zero, bit_at_above, bit_at_cat_low, same_from_bits}
 use Rattle.si_base.specs.declared.ids.Event.{Event}
 use Rattle.si_base.specs.declared.graph.Edge.{Edge}
@@ -50,12 +52,13 @@ bit_none n i no_bit = elim (below_two (bit_at n i) (bit_at-lt n i)) [
 -- a number with no bit from k on is below 2 ^ k
 pub fits_from_bits : (n k : ℕ) → ((i : ℕ) → k ≤ i → bit n i ≡ false) → n < 2 ^ k
 fits_from_bits n k none =
-    let low : n % 2 ^ k < 2 ^ k = ? in
+    let low : n % 2 ^ k < 2 ^ k = mod-lt n (pow_pos k) in
     let same : n ≡ n % 2 ^ k = same_from_bits n (n % 2 ^ k) (λ i. elim (cases_lt i k) [
-      | inl below ↦ ?
+      | inl below ↦ ap (λ (m : ℕ). bit_at m i) (sym (div-add-mod' n (2 ^ k))) ∙ bit_at_cat_low (n / 2 ^ k) k (n % 2 ^ k) i below
       | inr above ↦ bit_none n i (none i above) ∙ sym (bit_at_above (n % 2 ^ k) k i low above)
     ]) in
-    rw same low
+    let P : ℕ → Type 0 = λ m. m < 2 ^ k in
+    subst P (sym same) low
 
 -- ---- the code of the start
 -- what the arcs so far have told of it
