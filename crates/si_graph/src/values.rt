@@ -1,13 +1,21 @@
 //! Codes read off the arcs, and the first signal whose values don't suit these.
 
-ghost use Rattle.std.specs.Prelude.{◌≡◌, ◌≢◌, ℕ, ◌+◌, ◌<◌, ◌≤◌, ◌↔◌, false, length, map, bit_xor, IfOk, MatchOption};
+ghost use Rattle.std.specs.Prelude.{◌≡◌, ◌≢◌, ℕ, ◌+◌, ◌<◌, ◌≤◌, ◌↔◌, false, length, map, slice_index, bit_xor, IfOk, MatchOption};
 ghost use Rattle.si_base.specs.Bits.{bit};
 ghost use Rattle.si_graph.specs.Changes.{AreChanges};
 ghost use Rattle.si_graph.specs.Values.{IsStartCode, Suits, SuitAll};
 
 use crate::graph::Graph;
-use si_base::ids::{Code, Event, NoMemory, Sig};
+use si_base::ids::{Code, Event, NoMemory, Sig, StateId};
 use std::alloc::Global;
+
+/// The code of a state.
+fn code_at(codes: &[Code], s: StateId) -> Code
+    requires { s < length codes.now }
+    ensures { result ≡ slice_index codes.now s }
+{
+    codes[s.0 as usize]
+}
 
 /// The code of the start: the source of an arc shows the value of the arc's signal.
 pub fn start_code(graph: &Graph, changes: &[Code]) -> Code
@@ -17,7 +25,7 @@ pub fn start_code(graph: &Graph, changes: &[Code]) -> Code
     let mut start = Code(0);
     for arc in graph.arcs() {
         let sig = arc.event.sig;
-        let value = changes[arc.from.0 as usize].get(sig) == arc.event.up;
+        let value = code_at(changes, arc.from).get(sig) == arc.event.up;
         start = start.set(sig, value);
     }
     start
@@ -55,8 +63,8 @@ fn wrong_signals(graph: &Graph, codes: &[Code]) -> u64
 {
     let mut wrong = 0;
     for arc in graph.arcs() {
-        let from = codes[arc.from.0 as usize];
-        let to = codes[arc.to.0 as usize];
+        let from = code_at(codes, arc.from);
+        let to = code_at(codes, arc.to);
         wrong |= wrong_at(from, to, arc.event);
     }
     wrong

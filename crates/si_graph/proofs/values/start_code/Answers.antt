@@ -6,7 +6,7 @@ pub loop-arc-preserved : goal.loop-arc-preserved
 loop-arc-preserved c =
     start_more c.args.graph.now c.args.changes.now c.arcs-arc-items.result.now c.loop-arc.arc-index c.loop-arc.start c.set-start.result c.arc-item.result
     c.arcs-arc-items.ensures.graph c.requires c.arcs-arc-items.ensures.arcs (omega arith) c.arc-item.is
-    ? c.loop-arc.invariant
+    (rw (c.get.ensures, c.code_at.ensures) at c.set-start.ensures) c.loop-arc.invariant
 
 pub returns : goal.returns
 returns c = start_told c.args.graph.now c.arcs-arc-items.result.now c.loop-arc.arc-index c.loop-arc.start c.arcs-arc-items.ensures.graph c.arcs-arc-items.ensures.arcs (omega arith) c.loop-arc.invariant
