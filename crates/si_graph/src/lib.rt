@@ -4,4 +4,5 @@
 pub mod coded;
 mod determinism;
 pub mod graph;
+mod spread;
 mod values;
