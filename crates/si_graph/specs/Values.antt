@@ -23,3 +23,8 @@ pub record Suits (from to : ℕ) (e : Event) (a : ℕ) : Type 0 where
 -- the codes suit each of the arcs at signal a
 abbrev pub SuitAll : List Edge → List ℕ → ℕ → Type 0
 SuitAll arcs codes a = All (λ x. Suits (slice_index codes x.from) (slice_index codes x.to) x.event a) arcs
+
+-- a is the first signal at which the codes don't suit each of the arcs
+pub record IsFirstUnsuited (arcs : List Edge) (codes : List ℕ) (a : ℕ) : Type 0 where
+  pub unsuited : SuitAll arcs codes a → ⊥
+  pub before : (b : ℕ) → b < a → SuitAll arcs codes b

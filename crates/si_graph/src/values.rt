@@ -1,11 +1,15 @@
 //! Codes read off the arcs, and the first signal whose values don't suit these.
 
-ghost use Rattle.std.specs.Prelude.{◌≡◌, ◌≢◌, ℕ, ◌+◌, ◌<◌, ◌≤◌, ◌↔◌, false, length, map, slice_index, bit_xor, IfOk, MatchOption};
+ghost use Rattle.std.specs.Prelude.{All, ◌≡◌, ◌≢◌, ℕ, ◌+◌, ◌<◌, ◌≤◌, ◌↔◌, false, length, map, slice_index, bit_xor, IfOk, MatchOption};
 ghost use Rattle.si_base.specs.Bits.{bit};
 ghost use Rattle.si_graph.specs.Changes.{AreChanges};
-ghost use Rattle.si_graph.specs.Values.{IsStartCode, Suits, SuitAll};
+ghost use Rattle.si_base.specs.Codes.{IsConnected};
+ghost use Rattle.si_base.specs.Graph.{IsGraph};
+ghost use Rattle.si_graph.specs.Values.{IsFirstUnsuited, IsStartCode, Suits, SuitAll, TellsValues};
 
 use crate::graph::Graph;
+use crate::spread::changes_from_start;
+use si_base::graph::Edge;
 use si_base::ids::{Code, Event, NoMemory, Sig, StateId};
 use std::alloc::Global;
 
@@ -17,8 +21,20 @@ fn code_at(codes: &[Code], s: StateId) -> Code
     codes[s.0 as usize]
 }
 
+/// The codes that tell the values of each signal that has any.
+pub fn told_codes(alloc: Global, graph: &Graph) -> Result<Vec<Code>, NoMemory>
+    requires graph { IsGraph graph.now }
+    requires connected { IsConnected graph.now }
+    ensures count { IfOk result (λ codes. length codes.items ≡ graph.now.states) }
+    ensures tells { IfOk result (λ codes. TellsValues graph.now codes.items) }
+{
+    let changes = changes_from_start(alloc, graph)?;
+    let start = start_code(graph, changes.as_slice());
+    shifted(alloc, changes.as_slice(), start)
+}
+
 /// The code of the start: the source of an arc shows the value of the arc's signal.
-pub fn start_code(graph: &Graph, changes: &[Code]) -> Code
+fn start_code(graph: &Graph, changes: &[Code]) -> Code
     requires { AreChanges graph.now changes.now }
     ensures { IsStartCode graph.now result }
 {
@@ -31,18 +47,18 @@ pub fn start_code(graph: &Graph, changes: &[Code]) -> Code
     start
 }
 
-/// The code changed by that of the start.
-fn shifted(change: Code, start: Code) -> Code
+/// The code that a state has if the start has the code and the way there changes it so.
+fn changed(start: Code, change: Code) -> Code
     ensures { result ≡ bit_xor change start }
 {
     Code(change.0 ^ start.0)
 }
 
-/// All codes, from their changes on the way from the start.
-pub fn shift_all(alloc: Global, changes: &[Code], start: Code) -> Result<Vec<Code>, NoMemory>
+/// The codes of all states, from that of the start and their changes.
+fn shifted(alloc: Global, changes: &[Code], start: Code) -> Result<Vec<Code>, NoMemory>
     ensures { IfOk result (λ codes. codes.items ≡ map (λ change. bit_xor change start) changes.now) }
 {
-    let codes = changes.iter().map(|change| shifted(*change, start));
+    let codes = changes.iter().map(|change| changed(start, *change));
     Ok(codes.collect(alloc)?)
 }
 
@@ -57,12 +73,12 @@ fn wrong_at(from: Code, to: Code, event: Event) -> u64
 }
 
 /// A mask of the signals whose values in the codes don't suit some arc.
-fn wrong_signals(graph: &Graph, codes: &[Code]) -> u64
-    requires { length codes.now ≡ graph.now.states }
-    ensures { (a : ℕ) → (bit result a ≡ false) ↔ SuitAll graph.now.edges codes.now a }
+fn wrong_signals(arcs: &[Edge], codes: &[Code]) -> u64
+    requires { All (λ a. (a.from < length codes.now) × (a.event.sig < 64) × (a.to < length codes.now)) arcs.now }
+    ensures { (a : ℕ) → (bit result a ≡ false) ↔ SuitAll arcs.now codes.now a }
 {
     let mut wrong = 0;
-    for arc in graph.arcs() {
+    for arc in arcs {
         let from = code_at(codes, arc.from);
         let to = code_at(codes, arc.to);
         wrong |= wrong_at(from, to, arc.event);
@@ -71,12 +87,11 @@ fn wrong_signals(graph: &Graph, codes: &[Code]) -> u64
 }
 
 /// The first signal whose values in the codes don't suit some arc.
-pub fn first_wrong(graph: &Graph, codes: &[Code]) -> Option<Sig>
-    requires { length codes.now ≡ graph.now.states }
-    ensures none { MatchOption result ((a : ℕ) → SuitAll graph.now.edges codes.now a) (λ a. SuitAll graph.now.edges codes.now a → ⊥) }
-    ensures before { MatchOption result (Unit {0}) (λ a. (b : ℕ) → b < a → SuitAll graph.now.edges codes.now b) }
+pub fn first_wrong(arcs: &[Edge], codes: &[Code]) -> Option<Sig>
+    requires { All (λ a. (a.from < length codes.now) × (a.event.sig < 64) × (a.to < length codes.now)) arcs.now }
+    ensures { MatchOption result ((a : ℕ) → SuitAll arcs.now codes.now a) (IsFirstUnsuited arcs.now codes.now) }
 {
-    let wrong = wrong_signals(graph, codes);
+    let wrong = wrong_signals(arcs, codes);
     if wrong == 0 {
         return None;
     }

@@ -5,10 +5,10 @@ use Rattle.si_graph.proofs.values.wrong_signals.Goals as goal
 
 pub loop-arc-preserved : goal.loop-arc-preserved
 loop-arc-preserved c a =
-    wrong_more c.arcs-arc-items.result.now c.args.codes.now c.loop-arc.arc-index c.loop-arc.wrong c.wrong_at-wrong.result a c.arc-item.result
+    wrong_more c.args.arcs.now c.args.codes.now c.loop-arc.arc-index c.loop-arc.wrong c.wrong_at-wrong.result a c.arc-item.result
     (omega arith) c.arc-item.is (c.loop-arc.invariant a) (rw (c.code_at-from.ensures, c.code_at-to.ensures) at (c.wrong_at-wrong.ensures a))
 
 pub returns : goal.returns
 returns c =
-    let all : length c.arcs-arc-items.result.now ≤ c.loop-arc.arc-index = omega arith in
-    rw (take_all c.loop-arc.arc-index c.arcs-arc-items.result.now all, c.arcs-arc-items.ensures.arcs) at c.loop-arc.invariant
+    let all : length c.args.arcs.now ≤ c.loop-arc.arc-index = omega arith in
+    rw (take_all c.loop-arc.arc-index c.args.arcs.now all) at c.loop-arc.invariant

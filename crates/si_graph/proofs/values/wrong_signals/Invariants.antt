@@ -4,4 +4,4 @@ use Rattle.si_graph.specs.Values.{SuitAll}
 use Rattle.si_graph.proofs.values.wrong_signals.Given as goal
 
 abbrev pub invariant-loop-arc : goal.invariant-loop-arc
-invariant-loop-arc l = (a : ℕ) → (bit l.wrong a ≡ false) ↔ SuitAll (take l.arc-index l.arc-items) l.codes a
+invariant-loop-arc l = (a : ℕ) → (bit l.wrong a ≡ false) ↔ SuitAll (take l.arc-index l.arcs) l.codes a
