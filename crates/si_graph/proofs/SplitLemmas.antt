@@ -1,6 +1,7 @@
 -- In an ordered list of arcs, those of one source and one event are neighbours.
 use Rattle.std.proofs.Common.{◌≡◌, ◌≢◌, ℕ, ◌+◌, ◌*◌, ◌-◌, ◌<◌, ◌≤◌, ◌⊎◌, ◌==◌, Bool, true, false, List, [], ◌∷◌, length, get_or, refl, sym, ap, ap₂, subst, ◌∙◌, arith, inl, inr, cond, Ordering, Less, Equal, Greater, nat_cmp, nat_lt, if◌then◌else◌, le-ltb, eqb-true}
 use Rattle.std.proofs.lemmas.Bool.{cases_Bool, cases_eq, cases_lt, cases_order, lt-ltb, ne_eqb, true≢false}
+use Rattle.std.proofs.lemmas.Bool.Decides.{nat_tests}
 use Rattle.std.proofs.lemmas.List.{get_or_default, get_or_read}
 use Rattle.std.specs.Ordering.{bool_cmp, ordering_then}
 use Rattle.std.specs.List.Sorted.{IsStrictlySortedBy}
@@ -11,57 +12,17 @@ use Rattle.si_base.specs.Order.{Before, IsFirst}
 use Rattle.si_base.specs.Graph.{StateGraph, Step, arc, event_place, same_event}
 use Rattle.si_base.specs.Codes.{IsDeterministic}
 use Rattle.si_base.specs.Proper.{Split, split_place, Splits}
-use Rattle.si_base.proofs.Sorted.{sorted_at}
+use Rattle.si_base.proofs.Sorted.{sorted_at, nat_less}
 use Rattle.si_base.proofs.Steps.{same_event-true}
 use Rattle.si_graph.specs.Arcs.{edge_at, no_edge}
+use Rattle.si_graph.proofs.OrderLemmas.{then_Less, place_lt, event_from_place}
 
 -- the numbers by which arcs are compared
 abbrev pub arc_place : Edge → List ℕ
 arc_place x = x.from ∷ event_place x.event ∷ x.to ∷ []
 
-then_less : (o p : Ordering) → ordering_then o p ≡ Less → (o ≡ Less) ⊎ ((o ≡ Equal) × (p ≡ Less))
-then_less Less p h = inl refl
-then_less Equal p h = inr (refl, h)
-then_less Greater p h = cc
-
-nat_less : (x y : ℕ) → nat_cmp x y ≡ Less → x < y
-nat_less x y h = elim (cases_order x y) [
-  | inl same ↦ absurd (tied (x == y) (rw (le-ltb x y (omega arith)) at h))
-  | inr (inl less) ↦ less
-  | inr (inr more) ↦ absurd (tied (x == y) (rw (le-ltb x y (omega arith)) at h))
-]
-  where
-    tied : (b : Bool) → cond b Equal Greater ≡ Less → ⊥
-    tied true e = cc
-    tied false e = cc
-
 nat_equal : (x y : ℕ) → nat_cmp x y ≡ Equal → x ≡ y
-nat_equal x y h = elim (cases_order x y) [
-  | inl same ↦ same
-  | inr (inl less) ↦ (let e : Less ≡ Equal = rw (lt-ltb x y less) at h in cc)
-  | inr (inr more) ↦ absurd (apart (ne_eqb x y (λ same. omega arith)) (rw (le-ltb x y (omega arith)) at h))
-]
-  where
-    apart : (x == y) ≡ false → cond (x == y) Equal Greater ≡ Equal → ⊥
-    apart not_same e = let f : Greater ≡ Equal = rw not_same at e in cc
-
-event_less : (e f : Event) → event_cmp e f ≡ Less → event_place e < event_place f
-event_less e f h = elim (then_less _ _ h) [
-  | inl less ↦ (let lower = nat_less e.sig f.sig less in by_signal e.sig f.sig e.up f.up lower)
-  | inr tied ↦ (let same = nat_equal e.sig f.sig tied.0 in by_sign e.sig f.sig e.up f.up same tied.1)
-]
-  where
-    by_signal : (m n : ℕ) (u w : Bool) → m < n → 2 * m + (if u then 0 else 1) < 2 * n + (if w then 0 else 1)
-    by_signal m n true true less = omega arith
-    by_signal m n true false less = omega arith
-    by_signal m n false true less = omega arith
-    by_signal m n false false less = omega arith
-
-    by_sign : (m n : ℕ) (u w : Bool) → m ≡ n → bool_cmp w u ≡ Less → 2 * m + (if u then 0 else 1) < 2 * n + (if w then 0 else 1)
-    by_sign m n true true same less = cc
-    by_sign m n true false same less = omega arith
-    by_sign m n false true same less = cc
-    by_sign m n false false same less = cc
+nat_equal x y h = grind (arith, nat_tests)
 
 event_equal : (e f : Event) → event_cmp e f ≡ Equal → event_place e ≡ event_place f
 event_equal e f h = ap event_place (ap₂ make (nat_equal e.sig f.sig parts.0) (sign e.up f.up parts.1))
@@ -83,25 +44,12 @@ event_equal e f h = ap event_place (ap₂ make (nat_equal e.sig f.sig parts.0) (
     parts : (nat_cmp e.sig f.sig ≡ Equal) × (bool_cmp f.up e.up ≡ Equal)
     parts = both _ _ h
 
--- an event is told by its place
-pub same_event_place : (e f : Event) → event_place e ≡ event_place f → e ≡ f
-same_event_place e f h = ap₂ make (parts e.up f.up h).0 (parts e.up f.up h).1
-  where
-    make : ℕ → Bool → Event
-    make x y = record { sig = x; up = y }
-
-    parts : (u w : Bool) → 2 * e.sig + (if u then 0 else 1) ≡ 2 * f.sig + (if w then 0 else 1) → (e.sig ≡ f.sig) × (u ≡ w)
-    parts true true t = (omega arith, refl)
-    parts true false t = absurd (omega arith)
-    parts false true t = absurd (omega arith)
-    parts false false t = (omega arith, refl)
-
 -- of two arcs of an ordered list the earlier one has the lower place
 pub before_in_order : (x y : Edge) → edge_cmp x y ≡ Less → Before (arc_place x) (arc_place y)
-before_in_order x y h = elim (then_less _ _ h) [
+before_in_order x y h = elim (then_Less _ _ h) [
   | inl less ↦ inl (nat_less x.from y.from less)
-  | inr tied ↦ inr (nat_equal x.from y.from tied.0, elim (then_less _ _ tied.1) [
-    | inl less ↦ inl (event_less x.event y.event less)
+  | inr tied ↦ inr (nat_equal x.from y.from tied.0, elim (then_Less _ _ tied.1) [
+    | inl less ↦ inl (place_lt x.event y.event less)
     | inr also ↦ inr (event_equal x.event y.event also.0, inl (nat_less x.to y.to also.1))
   ])
 ]
@@ -189,7 +137,7 @@ module _ (g : StateGraph) (ordered : IsStrictlySortedBy edge_cmp g.edges) (k : �
       found : Splits g (record { s = (edge_at g.edges h).from; e = (edge_at g.edges h).event; t = (edge_at g.edges h).to; u = (edge_at g.edges k).to })
       found = record {
         one = step_at g h h_in;
-        other = step_as g k (edge_at g.edges h).from (edge_at g.edges h).event within (sym same.from) (same_event_place _ _ (sym same.event));
+        other = step_as g k (edge_at g.edges h).from (edge_at g.edges h).event within (sym same.from) (event_from_place _ _ (sym same.event));
         apart = targets_apart (edge_at g.edges h) (edge_at g.edges k) order same;
       }
 

@@ -1,14 +1,19 @@
 -- How codes change on the way from the start, and how far that has been followed.
-use Rattle.std.specs.Prelude.{◌≡◌, ℕ, ◌+◌, ◌*◌, ◌<◌, ◌⊎◌, Bool, true, false, not, List, length, Contains, slice_index, slice_index_or, slice_set, count_by}
+use Rattle.std.specs.Prelude.{◌≡◌, ℕ, ◌+◌, ◌*◌, ◌<◌, ◌⊎◌, Bool, true, false, not, List, [], ◌∷◌, length, Contains, slice_index, slice_index_or, slice_set, count_by}
 use Rattle.si_base.specs.declared.ids.Event.{Event}
+use Rattle.si_base.specs.Bits.{flip}
 use Rattle.si_base.specs.Graph.{StateGraph, Step, Walk}
-use Rattle.si_base.proofs.Parity.{parity}
 
--- some walk from the start to s switches the signals of the change, and no others, an odd number of times
+-- how a walk changes the code: it turns the signals that switch an odd number of times
+abbrev pub change_along : List Event → ℕ
+change_along [] = 0
+change_along (e ∷ es) = flip (change_along es) e.sig
+
+-- some walk from the start to s changes the code so
 pub record IsChange (g : StateGraph) (s change : ℕ) : Type 0 where
   pub events : List Event
   pub walk : Walk g g.start events s
-  pub change_is : change ≡ parity events
+  pub change_is : change ≡ change_along events
 
 -- for each state such a change
 pub record AreChanges (g : StateGraph) (changes : List ℕ) : Type 0 where
