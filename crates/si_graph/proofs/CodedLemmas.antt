@@ -1,13 +1,13 @@
 -- Codes that suit all arcs are codes of the graph, and a signal whose values don't has none.
-use Rattle.std.proofs.Common.{◌≡◌, ◌≢◌, ℕ, ◌+◌, ◌^◌, ◌<◌, ◌≤◌, ◌⊎◌, Bool, true, false, not, List, length, get_or, All, Contains, refl, sym, ap, subst, ◌∙◌, arith, inl, inr, slice_index}
-use Rattle.std.proofs.lemmas.Bool.{cases_lt, cases_eq}
+use Rattle.std.proofs.Common.{◌≡◌, ℕ, ◌^◌, ◌<◌, ◌≤◌, Bool, true, false, not, List, length, get_or, refl, sym, ap, subst, ◌∙◌, arith, inl, inr, slice_index}
+use Rattle.std.proofs.lemmas.Bool.{cases_lt}
 use Rattle.std.proofs.lemmas.List.{get_or_default}
 use Rattle.std.proofs.lemmas.List.Elements.{All-contains, Contains-get_or}
 use Rattle.si_base.specs.declared.ids.Event.{Event}
 use Rattle.si_base.specs.declared.graph.Edge.{Edge}
 use Rattle.si_base.specs.Bits.{bit}
 use Rattle.si_base.specs.Graph.{StateGraph, Step, IsGraph, arc, rise, fall}
-use Rattle.si_base.specs.Codes.{AreValues, HasValues, IsIdle, IsConnected, IsDeterministic, CodedGraph, IsCoded, code}
+use Rattle.si_base.specs.Codes.{AreValues, HasValues, IsIdle, IsConnected, IsDeterministic, IsCoded}
 use Rattle.si_base.specs.Proper.{IsFirstWithoutValues}
 use Rattle.si_base.proofs.Circuit.{step_within, turns, old_value}
 use Rattle.si_graph.specs.Values.{TellsValues, Suits, SuitAll, IsFirstUnsuited}

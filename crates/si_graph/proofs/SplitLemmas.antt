@@ -1,6 +1,6 @@
 -- In an ordered list of arcs, those of one source and one event are neighbours.
-use Rattle.std.proofs.Common.{◌≡◌, ◌≢◌, ℕ, ◌+◌, ◌*◌, ◌-◌, ◌<◌, ◌≤◌, ◌⊎◌, ◌==◌, Bool, true, false, List, [], ◌∷◌, length, get_or, refl, sym, ap, ap₂, subst, ◌∙◌, arith, inl, inr, cond, Ordering, Less, Equal, Greater, nat_cmp, nat_lt, if◌then◌else◌, le-ltb, eqb-true}
-use Rattle.std.proofs.lemmas.Bool.{cases_Bool, cases_eq, cases_lt, cases_order, lt-ltb, ne_eqb, true≢false}
+use Rattle.std.proofs.Common.{◌≡◌, ℕ, ◌+◌, ◌-◌, ◌<◌, ◌≤◌, ◌==◌, Bool, true, false, List, [], ◌∷◌, length, get_or, refl, sym, ap, ap₂, ◌∙◌, arith, inl, inr, Ordering, Less, Equal, Greater, nat_cmp, eqb-true}
+use Rattle.std.proofs.lemmas.Bool.{cases_eq, cases_order}
 use Rattle.std.proofs.lemmas.Bool.Decides.{nat_tests}
 use Rattle.std.proofs.lemmas.List.{get_or_default, get_or_read}
 use Rattle.std.specs.Ordering.{bool_cmp, ordering_then}
@@ -48,10 +48,13 @@ event_equal e f h = ap event_place (ap₂ make (nat_equal e.sig f.sig parts.0) (
 pub before_in_order : (x y : Edge) → edge_cmp x y ≡ Less → Before (arc_place x) (arc_place y)
 before_in_order x y h = elim (then_Less _ _ h) [
   | inl less ↦ inl (nat_less x.from y.from less)
-  | inr tied ↦ inr (nat_equal x.from y.from tied.0, elim (then_Less _ _ tied.1) [
-    | inl less ↦ inl (place_lt x.event y.event less)
-    | inr also ↦ inr (event_equal x.event y.event also.0, inl (nat_less x.to y.to also.1))
-  ])
+  | inr tied ↦ inr (
+    nat_equal x.from y.from tied.0,
+    elim (then_Less _ _ tied.1) [
+      | inl less ↦ inl (place_lt x.event y.event less)
+      | inr also ↦ inr (event_equal x.event y.event also.0, inl (nat_less x.to y.to also.1))
+    ],
+  )
 ]
 
 -- the two arcs have one source and one event

@@ -1,5 +1,5 @@
 -- Changes spread along the arcs.
-use Rattle.std.proofs.Common.{◌≡◌, ◌≢◌, ℕ, zero, suc, ◌+◌, ◌*◌, ◌^◌, ◌<◌, ◌≤◌, ◌⊎◌, Bool, true, false, not, cond, List, [], ◌∷◌, ◌++◌, length, get_or, set, take, All, Contains, bit_xor, replicate, count_by, refl, sym, ap, subst, ◌∙◌, arith, inl, inr, if◌then◌else◌, get_or-set_same, get_or-set_other, length-set, slice_index, slice_index_or, slice_set}
+use Rattle.std.proofs.Common.{◌≡◌, ◌≢◌, ℕ, ◌+◌, ◌^◌, ◌<◌, ◌≤◌, ◌⊎◌, Bool, true, false, not, cond, List, [], ◌∷◌, ◌++◌, length, get_or, take, All, Contains, refl, sym, ap, subst, ◌∙◌, arith, inl, inr, if◌then◌else◌, get_or-set_same, get_or-set_other, length-set, slice_index_or, slice_set}
 use Rattle.std.proofs.lemmas.Bool.{cases_eq, cases_lt, cases_Bool, true≢false}
 use Rattle.std.proofs.lemmas.List.{length_push, set-get_or, get_or_past, take_all}
 use Rattle.std.proofs.lemmas.List.Elements.{Contains-push, Contains-push_cases, Contains-append_left, Contains-append_right, Contains-append_cases, All-contains, All-more, All-weaker}
@@ -7,10 +7,10 @@ use Rattle.std.proofs.lemmas.List.Sums.{sum_by-set}
 use Rattle.si_base.specs.declared.ids.Event.{Event}
 use Rattle.si_base.specs.declared.graph.Edge.{Edge}
 use Rattle.si_base.specs.Bits.{bit, flip}
-use Rattle.si_base.specs.Graph.{StateGraph, Step, Walk, IsGraph, IsReachable, arc}
+use Rattle.si_base.specs.Graph.{StateGraph, Step, Walk, arc}
 use Rattle.si_base.specs.Codes.{IsConnected}
 use Rattle.si_base.proofs.Parity.{turn}
-use Rattle.si_base.proofs.BitFacts.{same_codes, flip-same, flip-other}
+use Rattle.si_base.proofs.BitFacts.{same_codes}
 use Rattle.si_graph.specs.Arcs.{AreOut}
 use Rattle.si_graph.specs.Changes.{IsChange, AreChanges, IsIn, LeadsInto, AreSpread, left_to_do, change_along}
 use Rattle.si_graph.proofs.ValueLemmas.{bit-xor}
@@ -179,10 +179,10 @@ pub spread_over : (g : StateGraph) (reached : List Bool) (changes waiting : List
 spread_over g reached changes waiting connected spread none = record {
   count = spread.count;
   changes_are = λ s within. let walk = connected s within in
-    spread.changes_are s (all_reached g reached (λ u there. elim (spread.followed u there) [
-      | inl waits ↦ absurd (nowhere u (rw none at waits))
-      | inr into ↦ into
-    ]) walk.0 g.start s spread.begun walk.1);
+      spread.changes_are s (all_reached g reached (λ u there. elim (spread.followed u there) [
+        | inl waits ↦ absurd (nowhere u (rw none at waits))
+        | inr into ↦ into
+      ]) walk.0 g.start s spread.begun walk.1);
 }
   where
     nowhere : (u : ℕ) → Contains [] u → ⊥

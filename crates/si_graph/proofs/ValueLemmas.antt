@@ -1,9 +1,9 @@
 -- Codes read off the arcs, and what arcs that they don't suit show.
-use Rattle.std.proofs.Common.{◌≡◌, ◌≢◌, ℕ, ◌+◌, ◌*◌, ◌/◌, ◌%◌, ◌^◌, ◌<◌, ◌≤◌, ◌⊎◌, ◌==◌, ◌||◌, ◌↔◌, Bool, true, false, not, max, List, [], ◌∷◌, length, get_or, take, map, All, Contains, bit_xor, bit_or, refl, sym, ap, ap₂, subst, ◌∙◌, arith, inl, inr, length-take, get_or-take, slice_index}
+use Rattle.std.proofs.Common.{◌≡◌, ◌≢◌, ℕ, ◌+◌, ◌/◌, ◌%◌, ◌^◌, ◌<◌, ◌≤◌, ◌⊎◌, ◌==◌, ◌||◌, ◌↔◌, Bool, true, false, not, max, List, length, get_or, take, map, All, bit_xor, bit_or, refl, sym, ap, subst, ◌∙◌, arith, inl, inr, length-take, get_or-take, slice_index}
 use mathlib.Core.Bool.{beq}
 use Rattle.std.specs.Int.{bit_at}
 use Rattle.std.proofs.lemmas.Bool.{cases_eq, cases_lt, or_parts, or_from, true≢false}
-use Rattle.std.proofs.lemmas.List.{get_or_default, get_or-map, take-take, take_all}
+use Rattle.std.proofs.lemmas.List.{get_or-map, take-take, take_all}
 use Rattle.std.proofs.lemmas.List.Elements.{All-more, All-take, All-contains}
 use Rattle.std.proofs.Math.Nat.{mod-lt}
 use Rattle.std.proofs.lemmas.Nat.{pow_pos, div-add-mod'}
@@ -11,11 +11,10 @@ use Rattle.std.proofs.lemmas.Nat.Bits.{bit_at_xor, bit_at_or, bit_at-lt, bit_at-
 use Rattle.si_base.specs.declared.ids.Event.{Event}
 use Rattle.si_base.specs.declared.graph.Edge.{Edge}
 use Rattle.si_base.specs.Bits.{bit, IsSet}
-use Rattle.si_base.specs.Graph.{StateGraph, Step, IsGraph, arc, rise, fall}
-use Rattle.si_base.specs.Codes.{AreValues, HasValues, IsIdle, IsConnected, IsDeterministic, IsConsistent, CodedGraph, IsCoded, code}
-use Rattle.si_base.specs.Proper.{IsFirstWithoutValues}
-use Rattle.si_base.proofs.Parity.{parity, turn, values_along, start_shown}
-use Rattle.si_graph.specs.Changes.{AreChanges, IsChange}
+use Rattle.si_base.specs.Graph.{StateGraph, Step, IsGraph, arc}
+use Rattle.si_base.specs.Codes.{AreValues}
+use Rattle.si_base.proofs.Parity.{turn, values_along, start_shown}
+use Rattle.si_graph.specs.Changes.{AreChanges}
 use Rattle.si_graph.specs.Values.{IsStartCode, TellsValues, Suits, SuitAll}
 
 -- ---- bits

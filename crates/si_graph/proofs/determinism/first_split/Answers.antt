@@ -1,4 +1,4 @@
-use Rattle.std.proofs.Common.{◌≡◌, ◌∙◌, sym, ap, length, arith}
+use Rattle.std.proofs.Common.{◌∙◌, sym, ap, length, arith}
 use Rattle.si_graph.proofs.SplitLemmas.{deterministic, found_first}
 use Rattle.si_graph.proofs.determinism.first_split.Goals as goal
 

@@ -1,4 +1,4 @@
-use Rattle.std.proofs.Common.{◌≡◌, ◌<◌, ◌^◌, ◌==◌, ℕ, arith, ap, sym, ◌∙◌, eq-eqb}
+use Rattle.std.proofs.Common.{◌==◌, ℕ, arith, ap, sym, ◌∙◌, eq-eqb}
 use Rattle.std.specs.Int.{w64, trailing_zeros, bit_at}
 use Rattle.std.proofs.lemmas.Bool.{true≢false}
 use Rattle.std.proofs.lemmas.Nat.Bits.{bit_at-trailing_zeros}

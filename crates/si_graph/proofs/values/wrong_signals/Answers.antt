@@ -1,4 +1,4 @@
-use Rattle.std.proofs.Common.{◌≡◌, ◌≤◌, arith, length}
+use Rattle.std.proofs.Common.{◌≤◌, arith, length}
 use Rattle.std.proofs.lemmas.List.{take_all}
 use Rattle.si_graph.proofs.ValueLemmas.{wrong_more}
 use Rattle.si_graph.proofs.values.wrong_signals.Goals as goal

@@ -1,5 +1,3 @@
-use Rattle.std.proofs.Common.{◌≡◌, ◌∙◌, ap, length}
-use Rattle.si_graph.specs.Values.{SuitAll, IsFirstUnsuited}
 use Rattle.si_graph.proofs.CodedLemmas.{coded_from, first_without}
 use Rattle.si_graph.proofs.coded.Coded.codes_of.Goals as goal
 
