@@ -3,3 +3,5 @@ pub mod Faults
 pub mod Excited
 pub mod Changes
 pub mod Values
+pub mod Reach
+pub mod Renaming

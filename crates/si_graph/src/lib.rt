@@ -4,5 +4,7 @@
 pub mod coded;
 mod determinism;
 pub mod graph;
+mod reach;
+mod renaming;
 mod spread;
 mod values;
