@@ -12,14 +12,12 @@ use Rattle.si_base.specs.Codes.{IsConnected}
 use Rattle.si_base.proofs.Parity.{turn}
 use Rattle.si_base.proofs.BitFacts.{same_codes}
 use Rattle.si_graph.specs.Arcs.{AreOut}
-use Rattle.si_graph.specs.Changes.{IsChange, AreChanges, IsIn, LeadsInto, AreSpread, left_to_do, change_along}
+use Rattle.si_graph.specs.Changes.{IsChange, AreChanges, LeadsInto, AreSpread, left_to_do, change_along}
+use Rattle.si_graph.specs.Reach.{IsIn}
+use Rattle.si_graph.proofs.MarkLemmas.{stays_in, in_cases, Walk-push}
 use Rattle.si_graph.proofs.ValueLemmas.{bit-xor}
 
--- ---- walks one step longer
-pub walk_push : (g : StateGraph) (es : List Event) (s u t : ℕ) (e : Event) → Walk g s es u → Step g u e t → Walk g s (es ++ e ∷ []) t
-walk_push g [] s u t e walk step = (t, subst (λ (x : ℕ). Step g x e t) (sym walk) step, refl)
-walk_push g (f ∷ es) s u t e walk step = (walk.0, walk.1, walk_push g es walk.0 u t e walk.2 step)
-
+-- ---- changes along walks
 turn_swap : (p q r : Bool) → turn (turn p q) r ≡ turn (turn p r) q
 turn_swap true true true = refl
 turn_swap true true false = refl
@@ -43,7 +41,7 @@ along_push (f ∷ es) e = ap (λ k. flip k f.sig) (along_push es e) ∙ flip_swa
 pub change_more : (g : StateGraph) (s t change : ℕ) (e : Event) → IsChange g s change → Step g s e t → IsChange g t (flip change e.sig)
 change_more g s t change e is step = record {
   events = is.events ++ e ∷ [];
-  walk = walk_push g is.events g.start s t e is.walk step;
+  walk = Walk-push g is.events g.start s t e is.walk step;
   change_is = ap (λ k. flip k e.sig) is.change_is ∙ sym (along_push is.events e);
 }
 
@@ -54,20 +52,8 @@ in_below reached s there = elim (cases_lt s (length reached)) [
   | inr past ↦ absurd (true≢false (sym there ∙ get_or_past reached s false past))
 ]
 
-stays : (reached : List Bool) (s t : ℕ) → s < length reached → IsIn reached t → IsIn (slice_set reached s true) t
-stays reached s t within there = elim (cases_eq t s) [
-  | inl same ↦ rw (same, get_or-set_same reached s true false within) refl
-  | inr other ↦ get_or-set_other reached s t true false other ∙ there
-]
-
-now_in : (reached : List Bool) (s t : ℕ) → IsIn (slice_set reached s true) t → (t ≡ s) ⊎ IsIn reached t
-now_in reached s t there = elim (cases_eq t s) [
-  | inl same ↦ inl same
-  | inr other ↦ inr (sym (get_or-set_other reached s t true false other) ∙ there)
-]
-
 leads_more : (g : StateGraph) (reached : List Bool) (s u : ℕ) → s < length reached → LeadsInto g u reached → LeadsInto g u (slice_set reached s true)
-leads_more g reached s u within into e t step = stays reached s t within (into e t step)
+leads_more g reached s u within into e t step = stays_in reached s t within (into e t step)
 
 pub spread_more : (g : StateGraph) (reached : List Bool) (changes waiting rest : List ℕ) (s change : ℕ) (reached' : List Bool) (changes' waiting' : List ℕ)
     → s < g.states → IsChange g s change → AreSpread g reached changes (waiting ++ rest)
@@ -115,16 +101,16 @@ spread_more g reached changes waiting rest s change reached' changes' waiting' w
     added fresh = record {
       size = length-set reached s true ∙ spread.size;
       count = length-set changes s change ∙ spread.count;
-      begun = stays reached s g.start in_range spread.begun;
-      changes_are = λ t there. elim (now_in reached s t there) [
+      begun = stays_in reached s g.start in_range spread.begun;
+      changes_are = λ t there. elim (in_cases reached s t there) [
         | inl same ↦ rw (same, get_or-set_same changes s change 0 (omega (arith, spread.count))) is
         | inr old ↦ rw (get_or-set_other changes s t change 0 (apart fresh t old)) (spread.changes_are t old)
       ];
       waiting_reached = λ t there. elim (back t there) [
-        | inl old ↦ stays reached s t in_range (spread.waiting_reached t old)
+        | inl old ↦ stays_in reached s t in_range (spread.waiting_reached t old)
         | inr new ↦ rw (← new, get_or-set_same reached s true false in_range) refl
       ];
-      followed = λ t there. elim (now_in reached s t there) [
+      followed = λ t there. elim (in_cases reached s t there) [
         | inl same ↦ inl (rw same (Contains-append_left (waiting ++ s ∷ []) rest s (Contains-push waiting s)))
         | inr old ↦ elim (spread.followed t old) [
           | inl waits ↦ inl (moved t waits)
@@ -143,7 +129,7 @@ pub into_more : (arcs : List Edge) (i : ℕ) (x : Edge) (reached reached' : List
     → All (λ a. IsIn reached a.to) (take i arcs) → All (λ a. IsIn reached' a.to) (take (i + 1) arcs)
 into_more arcs i x reached reached' within at below is into =
     rw is (All-more (λ (a : Edge). IsIn (slice_set reached x.to true) a.to) arcs i x within
-    (All-weaker (λ (a : Edge). IsIn reached a.to) (λ (a : Edge). IsIn (slice_set reached x.to true) a.to) (λ a there. stays reached x.to a.to below there) (take i arcs) into)
+    (All-weaker (λ (a : Edge). IsIn reached a.to) (λ (a : Edge). IsIn (slice_set reached x.to true) a.to) (λ a there. stays_in reached x.to a.to below there) (take i arcs) into)
     (subst (λ (a : Edge). IsIn (slice_set reached x.to true) a.to) at (get_or-set_same reached x.to true false below)))
 
 -- once its arcs were followed a state doesn't wait any more

@@ -3,6 +3,7 @@ use Rattle.std.specs.Prelude.{◌≡◌, ℕ, ◌+◌, ◌*◌, ◌<◌, ◌⊎�
 use Rattle.si_base.specs.declared.ids.Event.{Event}
 use Rattle.si_base.specs.Bits.{flip}
 use Rattle.si_base.specs.Graph.{StateGraph, Step, Walk}
+use Rattle.si_graph.specs.Reach.{IsIn, unmarked}
 
 -- how a walk changes the code: it turns the signals that switch an odd number of times
 abbrev pub change_along : List Event → ℕ
@@ -20,13 +21,9 @@ pub record AreChanges (g : StateGraph) (changes : List ℕ) : Type 0 where
   pub count : length changes ≡ g.states
   pub changes_are : (s : ℕ) → s < g.states → IsChange g s (slice_index changes s)
 
--- s is in the set
-abbrev pub IsIn : List Bool → ℕ → Type 0
-IsIn set s = slice_index_or set s false ≡ true
-
--- s leads only to states of the set
+-- s leads only to states that were reached
 abbrev pub LeadsInto : StateGraph → ℕ → List Bool → Type 0
-LeadsInto g s set = (e : Event) (t : ℕ) → Step g s e t → IsIn set t
+LeadsInto g s reached = (e : Event) (t : ℕ) → Step g s e t → IsIn reached t
 
 -- the changes of the states that were reached; those whose arcs weren't followed yet are waiting
 pub record AreSpread (g : StateGraph) (reached : List Bool) (changes waiting : List ℕ) : Type 0 where
@@ -39,4 +36,4 @@ pub record AreSpread (g : StateGraph) (reached : List Bool) (changes waiting : L
 
 -- how much is left to do: each state that wasn't reached is reached and followed, each that waits is followed
 abbrev pub left_to_do : List Bool → List ℕ → ℕ
-left_to_do reached waiting = 2 * count_by not reached + length waiting
+left_to_do reached waiting = 2 * unmarked reached + length waiting
