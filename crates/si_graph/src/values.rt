@@ -1,11 +1,12 @@
 //! Codes read off the arcs, and the first signal whose values don't suit these.
 
-ghost use Rattle.std.specs.Prelude.{All, ◌≡◌, ◌≢◌, ℕ, ◌+◌, ◌<◌, ◌≤◌, ◌↔◌, false, length, map, slice_index, bit_xor, IfOk, MatchOption};
+ghost use Rattle.std.specs.Prelude.{◌≡◌, ◌↔◌, ◌<◌, ℕ, All, IfOk, MatchOption, bit_xor, false, length, map, slice_index};
 ghost use Rattle.si_base.specs.Bits.{bit};
-ghost use Rattle.si_graph.specs.Changes.{AreChanges};
 ghost use Rattle.si_base.specs.Codes.{IsConnected};
 ghost use Rattle.si_base.specs.Graph.{IsGraph};
-ghost use Rattle.si_graph.specs.Values.{IsFirstUnsuited, IsStartCode, Suits, SuitAll, TellsValues};
+ghost use Rattle.si_base.specs.Limits.{max_signals};
+ghost use Rattle.si_graph.specs.Changes.{AreChanges};
+ghost use Rattle.si_graph.specs.Values.{HasPlaces, IsFirstUnsuited, IsStartCode, SuitAll, Suits, TellsValues};
 
 use crate::graph::Graph;
 use crate::spread::changes_from_start;
@@ -64,7 +65,7 @@ fn shifted(alloc: Global, changes: &[Code], start: Code) -> Result<Vec<Code>, No
 
 /// A mask of the signals whose values in the two codes don't suit an arc by the event.
 fn wrong_at(from: Code, to: Code, event: Event) -> u64
-    requires { event.sig < 64 }
+    requires { event.sig < max_signals }
     ensures { (a : ℕ) → (bit result a ≡ false) ↔ Suits from to event a }
 {
     let after = from.set(event.sig, event.up);
@@ -74,7 +75,7 @@ fn wrong_at(from: Code, to: Code, event: Event) -> u64
 
 /// A mask of the signals whose values in the codes don't suit some arc.
 fn wrong_signals(arcs: &[Edge], codes: &[Code]) -> u64
-    requires { All (λ a. (a.from < length codes.now) × (a.event.sig < 64) × (a.to < length codes.now)) arcs.now }
+    requires { All (HasPlaces codes.now) arcs.now }
     ensures { (a : ℕ) → (bit result a ≡ false) ↔ SuitAll arcs.now codes.now a }
 {
     let mut wrong = 0;
@@ -88,7 +89,7 @@ fn wrong_signals(arcs: &[Edge], codes: &[Code]) -> u64
 
 /// The first signal whose values in the codes don't suit some arc.
 pub fn first_wrong(arcs: &[Edge], codes: &[Code]) -> Option<Sig>
-    requires { All (λ a. (a.from < length codes.now) × (a.event.sig < 64) × (a.to < length codes.now)) arcs.now }
+    requires { All (HasPlaces codes.now) arcs.now }
     ensures { MatchOption result ((a : ℕ) → SuitAll arcs.now codes.now a) (IsFirstUnsuited arcs.now codes.now) }
 {
     let wrong = wrong_signals(arcs, codes);
