@@ -8,5 +8,4 @@ pub mod run;
 pub mod status;
 pub mod sure;
 pub mod synth;
-pub mod whole;
 pub mod write;
