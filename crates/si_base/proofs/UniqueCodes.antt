@@ -1,5 +1,5 @@
 -- A graph has one code for each state.
-use Rattle.std.proofs.Common.{◌≡◌, ◌≢◌, ℕ, ◌⊎◌, ◌<◌, ◌≤◌, ◌^◌, ◌==◌, Bool, true, false, List, length, get_or, refl, sym, ap, subst, ◌∙◌, inl, inr, arith, eqb-true, eq-eqb}
+use Rattle.std.proofs.Common.{◌≡◌, ◌≢◌, ℕ, ◌⊎◌, ◌<◌, ◌≤◌, ◌^◌, ◌==◌, Bool, false, List, length, sym, ap, subst, ◌∙◌, inl, inr, arith, eqb-true, eq-eqb}
 use Rattle.std.proofs.lemmas.Bool.{cases_Bool, cases_lt, true≢false}
 use Rattle.std.proofs.lemmas.Nat.Bits.{bit_at_above}
 use Rattle.std.proofs.lemmas.List.Folds.{list_any_at, Any-from_list_any}
@@ -7,9 +7,9 @@ use Rattle.std.specs.List.{list_any}
 use Rattle.si_base.specs.declared.ids.Event.{Event}
 use Rattle.si_base.specs.declared.graph.Edge.{Edge}
 use Rattle.si_base.specs.Bits.{bit}
-use Rattle.si_base.specs.Graph.{StateGraph, Step, arc, IsReachable, IsNonInput, enables}
+use Rattle.si_base.specs.Graph.{StateGraph, Step, arc, IsNonInput, enables}
 use Rattle.si_base.specs.Codes.{AreValues, IsIdle, CodedGraph, IsCoded, IsConnected, code}
-use Rattle.si_base.specs.Proper.{IsConflict, HasNoConflict}
+use Rattle.si_base.specs.Proper.{IsConflict}
 use Rattle.si_base.proofs.BitFacts.{same_codes}
 use Rattle.si_base.proofs.Circuit.{step_within, code_fits}
 use Rattle.si_base.proofs.Parity.{values_along, start_shown, parity, turn}

@@ -7,4 +7,6 @@ pub mod graph;
 mod reach;
 mod renaming;
 mod spread;
+#[cfg(test)]
+mod tests;
 mod values;
