@@ -2,3 +2,6 @@ pub mod Faults
 pub mod Command
 pub mod Answer
 pub mod Read
+pub mod Lines
+pub mod Parts
+pub mod Strict

@@ -2,10 +2,13 @@
 #![tactic(auto)]
 
 pub mod distinct;
+mod lines;
+mod parts;
 pub mod proper;
 pub mod read;
 pub mod run;
 pub mod status;
+mod strict;
 pub mod sure;
 pub mod synth;
 pub mod whole;
