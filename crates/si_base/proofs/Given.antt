@@ -75,7 +75,7 @@ no_end_join [] are = tt
 no_end_join (w ∷ []) are = no_end w are.0
 no_end_join (w ∷ v ∷ ws) are = no_end_append w (32 ∷ join_with_byte 32 (v ∷ ws)) (no_end w are.0) (refl, no_end_join (v ∷ ws) are.1)
 
-lines_without : (lines : List (List (List ℕ))) → LinesClean lines → AllWithout 10 (map (join_with_byte 32) lines)
+pub lines_without : (lines : List (List (List ℕ))) → LinesClean lines → AllWithout 10 (map (join_with_byte 32) lines)
 lines_without [] clean = tt
 lines_without (ws ∷ lines) clean = (All-from_recursion _ _ (no_end_join ws clean.0), lines_without lines clean.1)
 
@@ -87,7 +87,7 @@ words_without (w ∷ ws) are = (All-from_recursion _ _ (no_blank w are.0), words
 abbrev NoneEmpty : List (List (List ℕ)) → Type 0
 NoneEmpty lines = AllByRecursion (λ ws. ws ≢ []) lines
 
-cut_back : (lines : List (List (List ℕ))) → LinesClean lines → NoneEmpty lines → map (slice_split (λ b. b == 32)) (map (join_with_byte 32) lines) ≡ lines
+pub cut_back : (lines : List (List (List ℕ))) → LinesClean lines → NoneEmpty lines → map (slice_split (λ b. b == 32)) (map (join_with_byte 32) lines) ≡ lines
 cut_back [] clean some = refl
 cut_back ([] ∷ lines) clean some = absurd (some.0 refl)
 cut_back ((w ∷ ws) ∷ lines) clean some = ap₂ (λ (x : List (List ℕ)) (xs : List (List (List ℕ))). x ∷ xs) (split-join 32 w ws (words_without (w ∷ ws) clean.0)) (cut_back lines clean.1 some.1)
@@ -150,7 +150,7 @@ marked_clean x is =
 word_clean : (w : List ℕ) → list_all (λ b. not (b == 10) && not (b == 32)) w ≡ true → IsClean w
 word_clean w h = clean_word (λ b. not (b == 10) && not (b == 32)) w refl refl h
 
-spelling_clean : (x : Spelling) → IsStrict x → LinesClean (strict_lines x)
+pub spelling_clean : (x : Spelling) → IsStrict x → LinesClean (strict_lines x)
 spelling_clean x is =
     let all : AreClean (x.inputs ++ x.outputs ++ x.internals) = names_clean (signal_names x) (recursion_from_All _ (signal_names x) is.names) in
     let front_two = take_left (x.inputs ++ x.outputs) x.internals all in
@@ -177,7 +177,7 @@ arcs_some : (arcs : List ArcLine) → NoneEmpty (map arc_line arcs)
 arcs_some [] = tt
 arcs_some (a ∷ arcs) = ((λ h. cc), arcs_some arcs)
 
-spelling_some : (x : Spelling) → NoneEmpty (strict_lines x)
+pub spelling_some : (x : Spelling) → NoneEmpty (strict_lines x)
 spelling_some x = (
   (λ h. cc),
   lines_some _ _ (list_some (codes ".inputs") x.inputs) (lines_some _ _ (list_some (codes ".outputs") x.outputs) (lines_some _ _ (list_some (codes ".internal") x.internals)
