@@ -4,7 +4,7 @@ use Rattle.std.specs.List.{list_any}
 use Rattle.std.proofs.lemmas.Bool.{cases_Bool, true≢false, false_from_ne_true}
 use Rattle.std.proofs.lemmas.List.{append-nil, flat_map_more, length_push}
 use Rattle.std.proofs.lemmas.List.Elements.{filter-append}
-use Rattle.std.proofs.lemmas.Option.{slice_get_within}
+use Rattle.std.proofs.lemmas.Option.{slice_get-get_or, get_or_from_slice_get}
 use Rattle.std.proofs.lemmas.Slice.Eq.{bytes_eq-Decides}
 use Rattle.si_base.specs.Words.{once}
 use Rattle.si_base.specs.StrictText.{ArcLine}
@@ -136,3 +136,13 @@ in_ends [] n there = absurd there
 in_ends (b ∷ arcs) n (inl same) = (0, b, omega arith, refl, inl (sym same))
 in_ends (b ∷ arcs) n (inr (inl same)) = (0, b, omega arith, refl, inr (sym same))
 in_ends (b ∷ arcs) n (inr (inr later)) = let r = in_ends arcs n later in (suc r.0, r.1, omega arith, r.3, r.4)
+
+-- a state of the lines is among their names
+pub marked_there : (arcs : List ArcLine) (n : List ℕ) → Any (λ a. (a.from ≡ n) ⊎ (a.to ≡ n)) arcs → Contains (once bytes_eq (ends_of arcs)) n
+marked_there arcs n (k, a, within, at, is) = contains_once (ends_of arcs) n (contains_from_in (ends_of arcs) n (ends_in arcs n k a within (slice_get-get_or arcs k a within ∙ ap Some at) is))
+
+pub marked_from : (arcs : List ArcLine) (n : List ℕ) → Contains (once bytes_eq (ends_of arcs)) n → Any (λ a. (a.from ≡ n) ⊎ (a.to ≡ n)) arcs
+marked_from arcs n there =
+    let found = once_contains (ends_of arcs) n there in
+    let r = in_ends arcs n (in_from_contains (ends_of arcs) n found.0 found.1 found.2) in
+    (r.0, r.1, r.2, get_or_from_slice_get arcs r.0 r.1 r.1 r.3, r.4)

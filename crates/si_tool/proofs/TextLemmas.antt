@@ -40,7 +40,7 @@ joined_words (p ∷ parts) = ap₂ (λ (x : List ℕ) (xs : List (List ℕ)). x 
 
 joined_lines : (lines : List (List (List ℕ))) → join_with_byte 10 (map (join_with_byte 32) (lines ++ behind)) ≡ text_of lines
 joined_lines [] = refl
-joined_lines (ws ∷ []) = refl
+joined_lines (ws ∷ []) = sym (append-nil (line ws))
 joined_lines (ws ∷ vs ∷ lines) = ap (λ t. join_with_byte 32 ws ++ 10 ∷ t) (joined_lines (vs ∷ lines)) ∙ sym (append_assoc (join_with_byte 32 ws) (10 ∷ []) (text_of (vs ∷ lines)))
 
 -- a text that is cut into the lines of a spelling is that spelling's

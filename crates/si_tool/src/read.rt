@@ -108,7 +108,7 @@ fn names_at(alloc: Global, names: &Names, places: &[StateId]) -> Result<Names, N
 {
     let mut kept = Names::new(alloc)?;
     for place in places {
-        match kept.add(names.get(place.0), u32::MAX) {
+        match kept.add(names.get(place.0), names.len()) {
             Ok(_) => {}
             Err(_) => return Err(NoMemory),
         }

@@ -5,3 +5,6 @@ use Rattle.si_tool.proofs.read.names_at.Goals as goal
 
 pub returns : goal.returns
 returns c = ?
+
+pub loop-place-preserved : goal.loop-place-preserved
+loop-place-preserved c = ?
