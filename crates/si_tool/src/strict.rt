@@ -60,11 +60,12 @@ pub fn whole_of(alloc: Global, parts: &Parts<'_, '_>) -> Result<Whole, NotRead>
     let Some(start) = arcs.states.place(parts.marked) else {
         return Err(NotRead::BadText);
     };
+    let count = arcs.states.len();
     let edges = each_once(arcs.edges);
     if edges.len() > MAX_ARCS_READ {
         return Err(NotRead::BadText);
     }
-    let graph = Graph::make(alloc, signals.list, arcs.states.len(), edges, StateId(start))?;
+    let graph = Graph::make(alloc, signals.list, count, edges, StateId(start))?;
     Ok(Whole {
         graph,
         states: arcs.states,
