@@ -1,6 +1,5 @@
 -- Arcs of a graph and the lines that spell them, as many of the one as of the other.
-use Rattle.std.proofs.Common.{◌≡◌, ◌≢◌, ℕ, zero, suc, ◌+◌, ◌<◌, ◌≤◌, ◌⊎◌, ◌↔◌, ◌&&◌, Bool, true, false, not, cond, List, [], ◌∷◌, ◌++◌, map, filter, length, get_or, slice_get, Some, None, option_map, Contains, Any, All, AllPairs, bytes_eq, refl, sym, ap, ap₂, subst, ◌∙◌, arith, rules, inl, inr, Ordering, Less, Equal, Greater}
-use mathlib.Core.Bool.{beq}
+use Rattle.std.proofs.Common.{◌≡◌, ◌≢◌, ℕ, ◌+◌, ◌<◌, ◌≤◌, ◌⊎◌, ◌↔◌, Bool, true, false, not, cond, List, [], ◌∷◌, map, filter, length, get_or, slice_get, Some, Contains, Any, All, AllPairs, bytes_eq, refl, sym, ap, ap₂, subst, ◌∙◌, arith, rules, inl, inr, Ordering, Less}
 use Rattle.std.specs.List.{AllZip, AllByRecursion}
 use Rattle.std.specs.List.Sorted.{IsStrictlySortedBy}
 use Rattle.std.specs.Cmp.{IsTotalOrder}
@@ -10,7 +9,6 @@ use Rattle.std.proofs.lemmas.Bool.{cases_Bool, cases_order, true≢false, and_pa
 use Rattle.std.proofs.lemmas.List.Elements.{Contains-get_or}
 use Rattle.std.proofs.lemmas.Option.{slice_get-map, slice_get_within, get_or_from_slice_get, same_Some}
 use Rattle.std.proofs.lemmas.Slice.Eq.{bytes_eq-Decides}
-use Rattle.si_base.specs.declared.ids.Event.{Event}
 use Rattle.si_base.specs.declared.graph.Edge.{Edge}
 use Rattle.si_base.specs.declared.graph.Signal.{Signal}
 use Rattle.si_base.specs.EdgeOrder.{edge_cmp}
@@ -204,6 +202,7 @@ module _ (signals states : List (List ℕ)) (signals_apart : AllPairs (λ a b. a
             let r = line_for a is in
             let at = contains_from_in lines r.0 r.1 in
             (at.0, r.0, at.1, at.2, record { from = r.2.from; signal = sym (slice_get-map (λ (x : Signal). x.name) list a.event.sig) ∙ ap (λ ns. slice_get ns a.event.sig) (sym names) ∙ r.2.signal; up = r.2.up; to = r.2.to })
+
         back : Any (λ l. SpellsArc list states l a) lines → Contains ordered a
         back (k, l, within, at, spells) =
             let is : IsSpelledBy signals states l a = record { from = spells.from; signal = ap (λ ns. slice_get ns a.event.sig) names ∙ slice_get-map (λ (x : Signal). x.name) list a.event.sig ∙ spells.signal; up = spells.up; to = spells.to } in

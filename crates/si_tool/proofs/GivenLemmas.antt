@@ -1,12 +1,12 @@
 -- The graph that a text gives, and the names of the states that are kept.
-use Rattle.std.proofs.Common.{◌≡◌, ◌≢◌, ℕ, ◌+◌, ◌<◌, ◌≤◌, List, [], ◌∷◌, ◌++◌, map, take, length, get_or, slice_get, Some, All, AllPairs, Contains, refl, sym, ap, ap₂, subst, ◌∙◌, arith, Less, nat_cmp}
+use Rattle.std.proofs.Common.{◌≡◌, ◌≢◌, ℕ, zero, suc, ◌+◌, ◌<◌, ◌≤◌, List, [], ◌∷◌, ◌++◌, map, take, length, get_or, slice_get, Some, All, AllPairs, Contains, sym, ap, ap₂, subst, ◌∙◌, arith, nat_cmp}
 use Rattle.std.specs.List.Sorted.{IsStrictlySortedBy}
-use Rattle.std.proofs.lemmas.List.{take_more, map_push, get_or-map, get_or-take, get_or_default, length-map, length-take-le}
+use Rattle.std.proofs.lemmas.List.{take_more, map_push, get_or-map, get_or-take, length-map, length-take-le}
 use Rattle.std.proofs.lemmas.List.Elements.{Contains-get_or}
-use Rattle.std.proofs.lemmas.Option.{slice_get_within, get_or_from_slice_get}
+use Rattle.std.proofs.lemmas.Option.{get_or_from_slice_get}
 use Rattle.si_base.specs.declared.ids.Event.{Event}
 use Rattle.si_base.specs.Graph.{StateGraph, IsGraph, IsCut, IsReachable, Walk}
-use Rattle.si_base.specs.StrictText.{Spelling, IsStrict, IsStrictText, strict_text}
+use Rattle.si_base.specs.StrictText.{Spelling, IsStrict, IsStrictText}
 use Rattle.si_base.proofs.Circuit.{step_within}
 use Rattle.si_base.proofs.Sorted.{sorted_at, nat_less}
 use Rattle.si_tool.specs.Lines.{lines_between}
@@ -39,9 +39,26 @@ kept_more names kept new places i d name distinct sorted within inside is at add
     let here : f (get_or places i d) ≡ name = get_or_from_slice_get names (get_or places i d) name [] at in
     let count : length (take i places) ≡ i = length-take-le i places (omega arith) in
     let absent : Contains kept name → ⊥ = λ (j, before, same).
-      let short : j < length (take i places) = omega (arith, ap length is, length-map (take i places) f) in
-      let earlier : j < i = omega arith in
-      let place : get_or (take i places) j d ≡ get_or places j d = get_or-take i places j d earlier in
-      let also : f (get_or places j d) ≡ name = ap f (sym place) ∙ sym (get_or-map f (take i places) j d name short) ∙ ap (λ ns. get_or ns j name) (sym is) ∙ same in
-      distinct (get_or places j d) (get_or places i d) [] (nat_less _ _ (sorted_at nat_cmp places sorted j i d earlier within)) (inside i d within) (also ∙ sym here) in
+    let short : j < length (take i places) = omega (arith, ap length is, length-map (take i places) f) in
+    let earlier : j < i = omega arith in
+    let place : get_or (take i places) j d ≡ get_or places j d = get_or-take i places j d earlier in
+    let also : f (get_or places j d) ≡ name = ap f (sym place) ∙ sym (get_or-map f (take i places) j d name short) ∙ ap (λ ns. get_or ns j name) (sym is) ∙ same in
+    distinct (get_or places j d) (get_or places i d) [] (nat_less _ _ (sorted_at nat_cmp places sorted j i d earlier within)) (inside i d within) (also ∙ sym here) in
     added absent ∙ ap₂ (λ (ns : List (List ℕ)) (n : List ℕ). ns ++ n ∷ []) is (sym here) ∙ sym (map_push f (take i places) (get_or places i d)) ∙ ap (map f) (sym (take_more places i d within))
+
+-- numbers that ascend stand no lower than their places
+climbs : (places : List ℕ) (d : ℕ) → IsStrictlySortedBy nat_cmp places → (i : ℕ) → i < length places → i ≤ get_or places i d
+climbs places d sorted zero within = omega arith
+climbs places d sorted (suc i) within =
+    let below : i ≤ get_or places i d = climbs places d sorted i (omega arith) in
+    let step : get_or places i d < get_or places (suc i) d = nat_less _ _ (sorted_at nat_cmp places sorted i (suc i) d (omega arith) within) in
+    omega arith
+
+-- fewer names are kept before this place than there are
+pub kept_fewer : (names kept : List (List ℕ)) (places : List ℕ) (i : ℕ) → IsStrictlySortedBy nat_cmp places → i < length places → All (λ s. s < length names) places → kept ≡ map (λ s. get_or names s []) (take i places) → length names ≤ length kept → ⊥
+kept_fewer names kept places i sorted within inside is most =
+    let f : ℕ → List ℕ = λ s. get_or names s [] in
+    let count : length kept ≡ i = ap length is ∙ length-map (take i places) f ∙ length-take-le i places (omega arith) in
+    let low = climbs places 0 sorted i within in
+    let high = inside i 0 within in
+    omega arith

@@ -1,5 +1,5 @@
 -- The names of states in order of first appearance, one more at a time.
-use Rattle.std.proofs.Common.{◌≡◌, ◌≢◌, ℕ, zero, suc, ◌+◌, ◌<◌, ◌≤◌, ◌⊎◌, ◌||◌, Bool, true, false, not, cond, if◌then◌else◌, List, [], ◌∷◌, ◌++◌, filter, flat_map, length, slice_get, Some, None, Contains, Any, bytes_eq, refl, sym, ap, ap₂, subst, ◌∙◌, arith, inl, inr, append_assoc}
+use Rattle.std.proofs.Common.{◌≡◌, ℕ, zero, suc, ◌<◌, ◌≤◌, ◌⊎◌, ◌||◌, Bool, true, false, not, if◌then◌else◌, List, [], ◌∷◌, ◌++◌, filter, length, slice_get, Some, Contains, Any, bytes_eq, refl, sym, ap, ◌∙◌, arith, inl, inr, append_assoc}
 use Rattle.std.specs.List.{list_any}
 use Rattle.std.proofs.lemmas.Bool.{cases_Bool, true≢false, false_from_ne_true}
 use Rattle.std.proofs.lemmas.List.{append-nil, flat_map_more, length_push}
@@ -82,13 +82,13 @@ has_once (x ∷ names) n = elim (cases_Bool (bytes_eq n x)) [
 filter_with_name : (x y : List ℕ) (zs : List (List ℕ)) → filter (λ z. not (bytes_eq z x)) (with_name zs y) ≡ (if bytes_eq y x then filter (λ z. not (bytes_eq z x)) zs else with_name (filter (λ z. not (bytes_eq z x)) zs) y)
 filter_with_name x y zs = elim (cases_Bool (bytes_eq y x)) [
   | inl same ↦ elim (cases_Bool (has zs y)) [
-      | inl there ↦ rw (same, there) refl
-      | inr absent ↦ rw (same, absent) (filter-append p zs (y ∷ []) ∙ rw same (append-nil (filter p zs)))
-    ]
+    | inl there ↦ rw (same, there) refl
+    | inr absent ↦ rw (same, absent) (filter-append p zs (y ∷ []) ∙ rw same (append-nil (filter p zs)))
+  ]
   | inr other ↦ elim (cases_Bool (has zs y)) [
-      | inl there ↦ rw (other, has_filter x y zs other, there) refl
-      | inr absent ↦ rw (other, has_filter x y zs other, absent) (filter-append p zs (y ∷ []) ∙ rw other refl)
-    ]
+    | inl there ↦ rw (other, has_filter x y zs other, there) refl
+    | inr absent ↦ rw (other, has_filter x y zs other, absent) (filter-append p zs (y ∷ []) ∙ rw other refl)
+  ]
 ]
   where
     p : List ℕ → Bool
@@ -101,6 +101,7 @@ once_push (x ∷ xs) y =
   where
     kept : List (List ℕ)
     kept = filter (λ z. not (bytes_eq z x)) (once bytes_eq xs)
+
     put_first : (b : Bool) → bytes_eq y x ≡ b → x ∷ (if b then kept else with_name kept y) ≡ (if b || has kept y then x ∷ kept else (x ∷ kept) ++ y ∷ [])
     put_first true same = refl
     put_first false other = elim (cases_Bool (has kept y)) [ inl there ↦ rw there refl | inr absent ↦ rw absent refl ]

@@ -1,6 +1,6 @@
 -- Names of signals, one more at a time.
-use Rattle.std.proofs.Common.{◌≡◌, ◌≢◌, ℕ, zero, suc, ◌+◌, ◌<◌, ◌≤◌, List, [], ◌∷◌, ◌++◌, map, take, drop, length, get_or, All, AllPairs, Contains, IsTrue, refl, sym, ap, ap₂, subst, ◌∙◌, arith, append_assoc, Bor}
-use Rattle.std.proofs.lemmas.List.{take_more, take-append-drop, take_at, get_or_append_left, get_or_push, get_or_default, length-append, length_push, length-map, get_or-map, map-append, map_push}
+use Rattle.std.proofs.Common.{◌≡◌, ◌≢◌, ℕ, ◌+◌, ◌<◌, List, [], ◌∷◌, ◌++◌, map, take, drop, length, get_or, All, IsTrue, refl, sym, ap, ap₂, subst, ◌∙◌, arith, append_assoc, Bor}
+use Rattle.std.proofs.lemmas.List.{take_more, take-append-drop, take_at, get_or_append_left, get_or_push, get_or_default, length-append, length_push, length-map, get_or-map, map_push}
 use Rattle.std.proofs.lemmas.List.Elements.{All-push, All-take, All-contains, Contains-push}
 use Rattle.std.proofs.lemmas.List.Quantifiers.{all_pairs_push}
 use Rattle.si_base.specs.declared.graph.SigKind.{SigKind}

@@ -1,5 +1,5 @@
 -- Names of states and the lines that name them.
-use Rattle.std.proofs.Common.{◌≡◌, ◌≢◌, ℕ, zero, suc, ◌+◌, ◌<◌, ◌≤◌, ◌&&◌, ◌||◌, not, Bool, true, false, List, [], ◌∷◌, ◌++◌, map, take, drop, length, get_or, slice_get, Some, None, All, Contains, IsTrue, codes, eqb, bytes_eq, refl, sym, ap, ap₂, subst, ◌∙◌, arith, append_assoc, inl, inr}
+use Rattle.std.proofs.Common.{◌≡◌, ℕ, ◌+◌, ◌<◌, ◌≤◌, ◌&&◌, ◌||◌, not, Bool, true, false, List, [], ◌∷◌, ◌++◌, take, drop, length, get_or, slice_get, Some, All, Contains, IsTrue, codes, eqb, bytes_eq, refl, sym, ap, subst, ◌∙◌, arith, inl, inr}
 use Rattle.std.specs.List.{list_all, list_any, AllZip}
 use Rattle.std.proofs.lemmas.Bool.{cases_Bool, cases_lt, true≢false, and_parts}
 use Rattle.std.proofs.lemmas.List.{take_more, take_all, take-append-drop, length-map, get_or-map, length_push}
@@ -11,7 +11,6 @@ use Rattle.si_base.specs.Limits.{max_states_read}
 use Rattle.si_base.specs.Words.{is_word_byte, IsStateName, once}
 use Rattle.si_base.specs.StrictText.{ArcLine}
 use Rattle.si_tool.specs.declared.parts.Arc.{Arc}
-use Rattle.si_tool.specs.declared.read.NotRead.{NotRead}
 use Rattle.si_tool.specs.declared.read.NotRead.TheVariants as read
 use Rattle.si_tool.specs.Read.{not_read_for}
 use Rattle.si_tool.specs.Parts.{arc_now, arcs_now}
@@ -81,9 +80,9 @@ pub room_for : (states : List (List ℕ)) (n : List ℕ) → ((Contains states n
 room_for states n not_full few = elim (cases_Bool (list_any (bytes_eq n) states)) [
   | inl there ↦ rw there few
   | inr absent ↦ rw absent (let new : Contains states n → ⊥ = λ is. true≢false (sym (contains_has states n is) ∙ absent) in elim (cases_lt (length states) max_states_read) [
-      | inl room ↦ omega (arith, length_push states n)
-      | inr most ↦ absurd (not_full (new, most))
-    ])
+    | inl room ↦ omega (arith, length_push states n)
+    | inr most ↦ absurd (not_full (new, most))
+  ])
 ]
 
 -- ---- one more line

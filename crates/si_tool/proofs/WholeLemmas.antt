@@ -1,9 +1,9 @@
 -- The graph of the parts of a text.
-use Rattle.std.proofs.Common.{◌≡◌, ◌≢◌, ℕ, ◌+◌, ◌<◌, ◌≤◌, ◌⊎◌, ◌↔◌, true, List, [], ◌∷◌, ◌++◌, map, length, get_or, slice_get, Some, All, AllPairs, Any, Contains, IsTrue, bytes_eq, refl, sym, ap, ap₂, subst, ◌∙◌, arith, append_assoc}
+use Rattle.std.proofs.Common.{◌≡◌, ◌≢◌, ℕ, ◌<◌, ◌≤◌, ◌↔◌, true, List, [], ◌∷◌, ◌++◌, map, length, get_or, slice_get, Some, All, AllPairs, Any, Contains, refl, sym, ap, ap₂, subst, ◌∙◌, arith, append_assoc}
 use Rattle.std.specs.List.{AllZip}
 use Rattle.std.specs.List.Sorted.{IsStrictlySortedBy}
 use Rattle.std.proofs.lemmas.List.{append-nil, map-append, get_or-map, length-map}
-use Rattle.std.proofs.lemmas.List.Elements.{All-nil, All-cons, All-append}
+use Rattle.std.proofs.lemmas.List.Elements.{All-nil, All-cons}
 use Rattle.std.proofs.lemmas.List.Kept.{AllPairs-cons}
 use Rattle.si_base.specs.declared.graph.Edge.{Edge}
 use Rattle.si_base.specs.declared.graph.Signal.{Signal}
@@ -15,7 +15,7 @@ use Rattle.si_base.specs.Limits.{max_arcs_read}
 use Rattle.si_base.specs.Words.{is_model_name, once}
 use Rattle.si_base.specs.StrictText.{Spelling, IsStrict, Spells, SpellsArc, signal_names, state_names, signals_of, same_arc}
 use Rattle.si_base.proofs.NameLemmas.{there}
-use Rattle.si_tool.specs.Strict.{AreSignalNames, AreArcLines, IsSpelledBy, ends_of}
+use Rattle.si_tool.specs.Strict.{AreSignalNames, AreArcLines, IsSpelledBy}
 use Rattle.si_tool.proofs.OnceLemmas.{marked_there, marked_from}
 use Rattle.si_tool.proofs.EdgeLemmas.{as_many, arcs_spelled, all_within}
 

@@ -1,5 +1,5 @@
 -- Lines of words.
-use Rattle.std.specs.Prelude.{◌≡◌, ◌==◌, ℕ, List, [], ◌∷◌, map, Vec}
+use Rattle.std.specs.Prelude.{◌==◌, ℕ, List, map, Vec}
 use Rattle.std.specs.List.{slice_split}
 use Rattle.std.specs.declared.alloc.Global.{Global}
 use Rattle.std.specs.Borrow.{Bor}

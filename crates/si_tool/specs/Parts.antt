@@ -1,6 +1,5 @@
 -- The parts of a text as the reader holds them, and the lines that spell them.
-use Rattle.std.specs.Prelude.{◌≡◌, ℕ, List, [], ◌∷◌, ◌++◌, map, codes, Bool}
-use Rattle.std.specs.declared.alloc.Global.{Global}
+use Rattle.std.specs.Prelude.{◌≡◌, ℕ, List, [], ◌∷◌, ◌++◌, map, codes}
 use Rattle.si_base.specs.StrictText.{ArcLine, Spelling, arc_line, list_line}
 use Rattle.si_tool.specs.Lines.{words_now}
 use Rattle.si_tool.specs.declared.parts.Arc.{Arc}

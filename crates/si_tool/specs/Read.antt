@@ -1,5 +1,4 @@
 -- What the reader answers, as the definitions see it.
-use Rattle.std.specs.Prelude.{◌≡◌, ℕ, List}
 use Rattle.si_base.specs.declared.names.AddFault.{AddFault}
 use Rattle.si_base.specs.declared.names.AddFault.TheVariants as add
 use Rattle.si_base.specs.StrictText.{Sg as SgValue}

@@ -25,7 +25,9 @@ fn pieces<'a>(alloc: Global, text: &'a [u8], at: u8) -> Result<Vec<&'a [u8]>, Al
 }
 
 /// The words of the first line, and the lines after it.
-pub fn split_first_line<'l, 'a>(lines: &'l [Vec<&'a [u8]>]) -> Option<(&'l [&'a [u8]], &'l [Vec<&'a [u8]>])>
+pub fn split_first_line<'l, 'a>(
+    lines: &'l [Vec<&'a [u8]>],
+) -> Option<(&'l [&'a [u8]], &'l [Vec<&'a [u8]>])>
     ensures { MatchOption result (lines_now lines.now ≡ []) (λ r. lines_now lines.now ≡ words_now r.0.now ∷ lines_now r.1.now) }
 {
     let (first, rest) = lines.split_first()?;
@@ -33,7 +35,9 @@ pub fn split_first_line<'l, 'a>(lines: &'l [Vec<&'a [u8]>]) -> Option<(&'l [&'a 
 }
 
 /// The words of the last line, and the lines before it.
-pub fn split_last_line<'l, 'a>(lines: &'l [Vec<&'a [u8]>]) -> Option<(&'l [&'a [u8]], &'l [Vec<&'a [u8]>])>
+pub fn split_last_line<'l, 'a>(
+    lines: &'l [Vec<&'a [u8]>],
+) -> Option<(&'l [&'a [u8]], &'l [Vec<&'a [u8]>])>
     ensures { MatchOption result (lines_now lines.now ≡ []) (λ r. lines_now lines.now ≡ lines_now r.1.now ++ words_now r.0.now ∷ []) }
 {
     let (last, front) = lines.split_last()?;

@@ -77,7 +77,10 @@ fn header_of<'l, 'a>(lines: &'l [Vec<&'a [u8]>]) -> Option<(Header<'l, 'a>, &'l 
 }
 
 /// The word behind that head on the first line, and the lines after it.
-fn value_line<'l, 'a>(lines: &'l [Vec<&'a [u8]>], head: &[u8]) -> Option<(&'a [u8], &'l [Vec<&'a [u8]>])>
+fn value_line<'l, 'a>(
+    lines: &'l [Vec<&'a [u8]>],
+    head: &[u8],
+) -> Option<(&'a [u8], &'l [Vec<&'a [u8]>])>
     ensures { MatchOption result ((value : List ℕ) (rest : List (List (List ℕ))) → lines_now lines.now ≡ (head.now ∷ value ∷ []) ∷ rest → ⊥)
         (λ r. lines_now lines.now ≡ (head.now ∷ r.0.now ∷ []) ∷ lines_now r.1.now) }
 {
@@ -116,7 +119,10 @@ fn is_only(words: &[&[u8]], word: &[u8]) -> bool
 
 /// The names of a list line with that head and the lines after it; no names where the first line has another head.
 /// `None` exactly where there is no line, or it has the head and no name.
-fn list_names<'l, 'a>(lines: &'l [Vec<&'a [u8]>], head: &[u8]) -> Option<(&'l [&'a [u8]], &'l [Vec<&'a [u8]>])>
+fn list_names<'l, 'a>(
+    lines: &'l [Vec<&'a [u8]>],
+    head: &[u8],
+) -> Option<(&'l [&'a [u8]], &'l [Vec<&'a [u8]>])>
     ensures { MatchOption result ((lines_now lines.now ≡ []) ⊎ ((rest : List (List (List ℕ))) × (lines_now lines.now ≡ (head.now ∷ []) ∷ rest)))
         (λ r. TakesList head.now (lines_now lines.now) (words_now r.0.now) (lines_now r.1.now)) }
 {

@@ -110,7 +110,9 @@ fn names_at(alloc: Global, names: &Names, places: &[StateId]) -> Result<Names, N
     for place in places {
         match kept.add(names.get(place.0), names.len()) {
             Ok(_) => {}
-            Err(_) => return Err(NoMemory),
+            Err(AddFault::NoMemory) => return Err(NoMemory),
+            // Fewer names are kept so far than there are.
+            Err(AddFault::Full) => unreachable!(),
         }
     }
     Ok(kept)

@@ -92,7 +92,12 @@ fn read_signals(alloc: Global, header: &Header<'_, '_>) -> Result<Signals, NotRe
 }
 
 /// Adds a signal of this kind for each word. `BadText` comes exactly where the names aren't in the strict form then.
-fn add_signals(alloc: Global, signals: &mut Signals, words: &[&[u8]], kind: SigKind) -> Result<(), NotRead>
+fn add_signals(
+    alloc: Global,
+    signals: &mut Signals,
+    words: &[&[u8]],
+    kind: SigKind,
+) -> Result<(), NotRead>
     ensures names { OnOk result (signals.new.names ≡ signals.old.names ++ words_now words.now) }
     ensures list { OnOk result (signals.new.list.items ≡ signals.old.list.items ++ signals_of kind (words_now words.now)) }
     ensures good { OnOk result (AreSignalNames signals.old.names → AreSignalNames signals.new.names) }
@@ -105,7 +110,12 @@ fn add_signals(alloc: Global, signals: &mut Signals, words: &[&[u8]], kind: SigK
 }
 
 /// Adds a signal. `BadText` comes exactly where the word is no signal name, is there already, or is one too many.
-fn add_signal(alloc: Global, signals: &mut Signals, word: &[u8], kind: SigKind) -> Result<(), NotRead>
+fn add_signal(
+    alloc: Global,
+    signals: &mut Signals,
+    word: &[u8],
+    kind: SigKind,
+) -> Result<(), NotRead>
     ensures names { OnOk result (signals.new.names ≡ signals.old.names ++ word.now ∷ []) }
     ensures list { OnOk result (signals.new.list.items ≡ signals.old.list.items ++ record { name = word.now; kind = kind } ∷ []) }
     ensures good { OnOk result (IsNextName signals.old.names word.now) }
@@ -231,7 +241,13 @@ fn is_letter(b: u8) -> bool
 fn is_name_byte(b: u8) -> bool
     ensures { result ≡ words.is_name_byte b }
 {
-    is_letter(b) || b.is_ascii_digit() || b == b'.' || b == b'[' || b == b']' || b == b'<' || b == b'>'
+    is_letter(b)
+        || b.is_ascii_digit()
+        || b == b'.'
+        || b == b'['
+        || b == b']'
+        || b == b'<'
+        || b == b'>'
 }
 
 /// Whether the byte may stand in a word.

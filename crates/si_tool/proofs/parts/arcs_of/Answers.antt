@@ -1,4 +1,4 @@
-use Rattle.std.proofs.Common.{◌≡◌, sym, ◌∙◌, ap}
+use Rattle.std.proofs.Common.{sym, ◌∙◌, ap}
 use Rattle.si_tool.specs.Lines.{words_now}
 use Rattle.si_tool.proofs.ArcLemmas.{arcs_more, arc_at}
 use Rattle.si_tool.proofs.parts.arcs_of.Goals as goal

@@ -1,7 +1,6 @@
-use Rattle.std.proofs.Common.{◌≡◌, sym, ◌∙◌}
+use Rattle.std.proofs.Common.{sym, ◌∙◌}
 use Rattle.std.proofs.lemmas.Bool.{true≢false}
-use Rattle.si_tool.specs.Lines.{lines_now, words_now}
-use Rattle.si_tool.proofs.HeaderLemmas.{ends_are, ends_from}
+use Rattle.si_tool.proofs.HeaderLemmas.{ends_are}
 use Rattle.si_tool.proofs.parts.ending_of.Goals as goal
 use Rattle.si_tool.proofs.parts.ending_of.Goals.{else-is_only-via-then-is_only+else-is_only-2, else-is_only-via-else-is_only}
 

@@ -1,7 +1,7 @@
 use Rattle.std.proofs.Common.{◌≡◌, sym, ◌∙◌, codes}
 use Rattle.std.proofs.lemmas.Bool.{true≢false, not-true}
 use Rattle.std.proofs.lemmas.Slice.Eq.{bytes_eq-Decides}
-use Rattle.si_tool.specs.Lines.{lines_now, words_now}
+use Rattle.si_tool.specs.Lines.{lines_now}
 use Rattle.si_tool.proofs.HeaderLemmas.{to_inputs, to_outputs, to_internals, to_state, lacks_inputs, lacks_outputs, lacks_internals}
 use Rattle.si_tool.proofs.parts.header_of.Goals as goal
 

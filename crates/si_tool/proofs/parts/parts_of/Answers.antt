@@ -1,7 +1,5 @@
-use Rattle.std.proofs.Common.{◌≡◌, sym, ◌∙◌}
 use Rattle.std.proofs.lemmas.Result.{err_from_is_err_and}
-use Rattle.si_tool.specs.Lines.{lines_now, words_now}
-use Rattle.si_tool.proofs.HeaderLemmas.{body_is, arcs_are}
+use Rattle.si_tool.proofs.HeaderLemmas.{arcs_are}
 use Rattle.si_tool.proofs.parts.parts_of.Goals as goal
 
 pub returns-in_err-arcs-clause-bad : goal.returns-in_err-arcs-clause-bad

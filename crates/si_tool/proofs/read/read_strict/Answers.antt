@@ -1,4 +1,4 @@
-use Rattle.std.proofs.Common.{◌≡◌, ap, map, get_or, sym, ◌∙◌, [], Err, length}
+use Rattle.std.proofs.Common.{ap, sym, ◌∙◌, length}
 use Rattle.std.proofs.lemmas.Result.{err_from_is_err_and}
 use Rattle.si_tool.specs.Lines.{lines_now}
 use Rattle.si_tool.specs.Parts.{spelling_of}

@@ -1,4 +1,4 @@
-use Rattle.std.proofs.Common.{◌≡◌, ap, Err, ◌∙◌, sym, subst}
+use Rattle.std.proofs.Common.{sym, subst}
 use Rattle.std.proofs.lemmas.Result.{err_from_is_err_and}
 use Rattle.si_tool.specs.Strict.{AreSignalNames}
 use Rattle.si_tool.proofs.SignalLemmas.{name_at, names_more, signals_more, next_names}

@@ -1,7 +1,6 @@
-use Rattle.std.proofs.Common.{◌≡◌, ◌↔◌, IsTrue, sym, ◌∙◌, codes, not}
+use Rattle.std.proofs.Common.{sym, ◌∙◌}
 use Rattle.std.proofs.lemmas.Bool.{true≢false, not-true, not-false}
 use Rattle.std.proofs.lemmas.Slice.Eq.{bytes_eq-Decides}
-use Rattle.si_base.specs.Words.{IsStateName}
 use Rattle.si_tool.proofs.StateLemmas.{state_name, no_state_name}
 use Rattle.si_tool.proofs.strict.is_state_name.Goals as goal
 use Rattle.si_tool.proofs.strict.is_state_name.Goals.{then-ne, else-ne}
@@ -15,7 +14,10 @@ returns-then-are_word_bytes c = elim c.if-ne.branch [
 ]
 
 pub returns-else-are_word_bytes : goal.returns-else-are_word_bytes
-returns-else-are_word_bytes c = (λ yes'. absurd (true≢false (sym yes' ∙ c.if-are_word_bytes.false)), λ name. elim c.if-ne.branch [
-  | then-ne w ↦ absurd (no_state_name c.args.word.now (sym w.are_word_bytes.ensures ∙ sym w.value-is ∙ c.if-are_word_bytes.false) name)
-  | else-ne w ↦ absurd (name.not_down ((bytes_eq-Decides _ _).0 (not-false _ (sym c.ne.ensures ∙ w.if-ne.false)) ∙ c.as_slice.ensures))
-])
+returns-else-are_word_bytes c = (
+  λ yes'. absurd (true≢false (sym yes' ∙ c.if-are_word_bytes.false)),
+  λ name. elim c.if-ne.branch [
+    | then-ne w ↦ absurd (no_state_name c.args.word.now (sym w.are_word_bytes.ensures ∙ sym w.value-is ∙ c.if-are_word_bytes.false) name)
+    | else-ne w ↦ absurd (name.not_down ((bytes_eq-Decides _ _).0 (not-false _ (sym c.ne.ensures ∙ w.if-ne.false)) ∙ c.as_slice.ensures))
+  ],
+)

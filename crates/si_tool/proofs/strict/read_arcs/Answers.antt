@@ -1,4 +1,3 @@
-use Rattle.std.proofs.Common.{◌≡◌, ap, Err, ◌∙◌, sym, subst}
 use Rattle.std.proofs.lemmas.Result.{err_from_is_err_and}
 use Rattle.si_tool.proofs.StateLemmas.{states_more, edges_more, named_more, line_strict, arc_lines_all}
 use Rattle.si_tool.proofs.strict.read_arcs.Goals as goal

@@ -1,9 +1,8 @@
-use Rattle.std.proofs.Common.{◌≡◌, ◌≢◌, ◌<◌, ◌==◌, false, List, [], ◌∷◌, ℕ, rules, vec_len, ap, Err, ◌∙◌, sym, subst, arith, length}
+use Rattle.std.proofs.Common.{◌≡◌, ◌<◌, ◌==◌, false, List, [], ◌∷◌, ℕ, rules, vec_len, ap, ◌∙◌, sym, arith, length}
 use Rattle.std.proofs.lemmas.List.{length-map}
 use Rattle.std.proofs.lemmas.Option.{slice_get_within}
 use Rattle.std.proofs.lemmas.Result.{err_from_is_err_and}
-use Rattle.si_tool.specs.Parts.{spelling_of, arcs_now}
-use Rattle.si_tool.specs.Strict.{AreArcLines}
+use Rattle.si_tool.specs.Parts.{spelling_of}
 use Rattle.si_tool.proofs.WholeLemmas.{strict_names, strict_arcs, strict_marked, too_many, within, distinct_names, kinds_in_order, strict, spells}
 use Rattle.si_tool.proofs.strict.whole_of.Goals as goal
 
