@@ -3,3 +3,6 @@ pub mod Command
 pub mod Answer
 pub mod Read
 pub mod ExitStatus
+pub mod Lines
+pub mod Parts
+pub mod Strict

@@ -2,11 +2,14 @@
 #![tactic(auto)]
 
 pub mod distinct;
+mod lines;
+mod parts;
 pub mod proper;
 pub mod read;
 pub mod refusals;
 pub mod run;
 pub mod status;
+mod strict;
 pub mod sure;
 pub mod synth;
 #[cfg(test)]
