@@ -1,4 +1,5 @@
 pub mod Faults
+pub mod Breaches
 pub mod Command
 pub mod Answer
 pub mod Read

@@ -1,6 +1,7 @@
 //! The tool: from the words of a command line to the status.
 #![tactic(auto)]
 
+mod conflicts;
 pub mod distinct;
 pub mod proper;
 pub mod read;

@@ -1,0 +1,73 @@
+-- The parts of a search for the first breach.
+use Rattle.std.specs.Prelude.{◌≡◌, ◌≢◌, ℕ, ◌<◌, ◌≤◌, true, false, List, Option, Some, None}
+use Rattle.si_base.specs.declared.ids.Event.{Event}
+use Rattle.si_base.specs.Order.{IsFirst}
+use Rattle.si_base.specs.Graph.{StateGraph, Step, enables, IsNonInput}
+use Rattle.si_base.specs.Codes.{CodedGraph, code}
+use Rattle.si_base.specs.Proper.{Fork, Forks, Loss, Loses, IsConflict}
+
+-- the first that has P, in the order of places, or None where nothing has P
+abbrev pub IsFirstOrNone : {A : Type 0} → (A → List ℕ) → (A → Type 0) → Option A → Type 0
+IsFirstOrNone place P None = (x : _) → P x → ⊥
+IsFirstOrNone place P (Some x) = IsFirst place P x
+
+-- t leads by c, and u by a, to two different states
+pub record EndsApart (g : StateGraph) (t : ℕ) (c : Event) (u : ℕ) (a : Event) (ends : ℕ × ℕ) : Type 0 where
+  pub one : Step g t c ends.0
+  pub other : Step g u a ends.1
+  pub apart : ends.0 ≢ ends.1
+
+-- a fork at s
+pub record ForksAt (g : StateGraph) (s : ℕ) (b : Fork) : Type 0 where
+  pub forks : Forks g b
+  pub at : b.s ≡ s
+
+-- a fork at s, the earlier event of which is a
+pub record ForksBy (g : StateGraph) (s : ℕ) (a : Event) (b : Fork) : Type 0 where
+  pub forks : Forks g b
+  pub at : b.s ≡ s
+  pub by : b.a ≡ a
+
+-- a loss at s
+pub record LosesAt (g : StateGraph) (s : ℕ) (b : Loss) : Type 0 where
+  pub loses : Loses g b
+  pub at : b.s ≡ s
+
+-- a loss of the event lost at s
+pub record LosesOf (g : StateGraph) (s : ℕ) (lost : Event) (b : Loss) : Type 0 where
+  pub loses : Loses g b
+  pub at : b.s ≡ s
+  pub loss_of : b.lost ≡ lost
+
+-- p enables a non-input event that q doesn't
+pub record EnablesMore (g : StateGraph) (p q : ℕ) : Type 0 where
+  pub event : Event
+  pub non_input : IsNonInput g.signals event.sig
+  pub here : enables g p event ≡ true
+  pub not_there : enables g q event ≡ false
+
+-- p and q enable different non-input events
+pub record Differ (g : StateGraph) (p q : ℕ) : Type 0 where
+  pub event : Event
+  pub non_input : IsNonInput g.signals event.sig
+  pub differ : enables g p event ≢ enables g q event
+
+-- p is the first state with the code k
+pub record IsFirstOfCode (c : CodedGraph) (k p : ℕ) : Type 0 where
+  pub has_code : code c p ≡ k
+  pub first : (r : ℕ) → r < p → code c r ≢ k
+
+-- of the first n states, the first with the code k, or None where none has it
+abbrev pub IsFirstOfCodeBelow : CodedGraph → ℕ → ℕ → Option ℕ → Type 0
+IsFirstOfCodeBelow c n k None = (r : ℕ) → r < n → code c r ≢ k
+IsFirstOfCodeBelow c n k (Some p) = (p < n) × IsFirstOfCode c k p
+
+-- a conflict among the first n states
+pub record IsConflictBelow (c : CodedGraph) (n : ℕ) (pair : ℕ × ℕ) : Type 0 where
+  pub conflict : IsConflict c pair
+  pub below : pair.1 < n
+
+-- of a pair that may have been found and another the one that starts earlier, the found one where both start at one state
+abbrev pub Keeps : Option (ℕ × ℕ) → ℕ × ℕ → ℕ × ℕ → Type 0
+Keeps None pair r = r ≡ pair
+Keeps (Some best) pair r = (best.0 ≤ pair.0 → r ≡ best) × (pair.0 < best.0 → r ≡ pair)
