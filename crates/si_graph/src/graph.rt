@@ -120,6 +120,43 @@ impl Graph {
         self.edges.as_slice()
     }
 
+    /// The arcs out of a state, in event order, then order of targets.
+    pub fn arcs_out(&self, s: StateId) -> &[Edge]
+        ensures { AreOut self.now s result.now }
+    {
+        let low = self.edges.partition_point(|a| a.from < s);
+        let (_, rest) = self.edges.split_at(low);
+        let count = rest.partition_point(|a| a.from <= s);
+        let (arcs, _) = rest.split_at(count);
+        arcs
+    }
+
+    /// The first arc out of a state in event order, then order of targets; `None` where there is none.
+    pub fn first_out(&self, s: StateId) -> Option<EdgeId>
+        ensures { IsFirstPlace (IsOutOf self.now s) 0 (length self.now.edges) result }
+    {
+        let place = self.edges.partition_point(|a| a.from < s);
+        if place < self.edges.len() && self.edges[place].from == s {
+            Some(EdgeId(place as u32))
+        } else {
+            None
+        }
+    }
+
+    /// The next arc out of the same state; `None` at the end of the walk.
+    pub fn next_out(&self, k: EdgeId) -> Option<EdgeId>
+        requires { k < length self.now.edges }
+        ensures { IsFirstPlace (IsOutOf self.now (edge_at self.now.edges k).from) (k + 1) (length self.now.edges) result }
+    {
+        let from = self.edge(k).from;
+        let next = k.0 as usize + 1;
+        if next < self.edges.len() && self.edges[next].from == from {
+            Some(EdgeId(next as u32))
+        } else {
+            None
+        }
+    }
+
     /// Whether the circuit drives the signal, that is, whether it is no input.
     pub fn is_driven(&self, z: Sig) -> bool
         requires { z < length self.now.signals }
@@ -137,12 +174,13 @@ impl Graph {
     pub fn succ(&self, s: StateId, e: Event) -> Option<StateId>
         ensures { MatchOption result (IsTrue (enables self.now s e) → ⊥) (λ t. IsLeastTarget self.now s e t) }
     {
-        for a in &self.edges {
-            if a.from == s && a.event == e {
-                return Some(a.to);
-            }
+        let arcs = self.arcs_out(s);
+        let place = arcs.partition_point(|a| a.event < e);
+        if place < arcs.len() && arcs[place].event == e {
+            Some(arcs[place].to)
+        } else {
+            None
         }
-        None
     }
 
     /// Whether the event is enabled.
