@@ -1,15 +1,19 @@
 -- The first conflict among the first states, as one more state is looked at.
-use Rattle.std.proofs.Common.{◌≡◌, ◌≢◌, ℕ, ◌+◌, ◌<◌, ◌≤◌, ◌⊎◌, Bool, true, false, List, [], ◌∷◌, refl, sym, ap, subst, ◌∙◌, arith, inl, inr, Option, Some, None, unwrap_or}
+use Rattle.std.proofs.Common.{◌≡◌, ◌≢◌, ℕ, ◌+◌, ◌<◌, ◌≤◌, ◌⊎◌, Bool, true, false, List, [], ◌∷◌, length, get_or, refl, sym, ap, subst, ◌∙◌, arith, inl, inr, Option, Some, None, unwrap_or}
 use Rattle.std.specs.Cmp.{nat_cmp_is}
 use Rattle.std.specs.Ordering.{nat_cmp, is_eq}
 use Rattle.std.specs.declared.cmp.Ordering.TheVariants.{Less, Greater}
-use Rattle.std.proofs.lemmas.Bool.{cases_eq, cases_lt, cases_order}
+use Rattle.std.proofs.lemmas.Bool.{cases_eq, cases_lt, cases_order, cases_Bool, true≢false}
 use Rattle.si_base.specs.declared.ids.Event.{Event}
 use Rattle.si_base.specs.Order.{IsFirst, Before}
-use Rattle.si_base.specs.Graph.{StateGraph, enables, IsNonInput}
+use Rattle.si_base.specs.declared.graph.Edge.{Edge}
+use Rattle.si_base.specs.Graph.{StateGraph, enables, IsNonInput, arc}
+use Rattle.si_base.proofs.Steps.{enables-step, step_from_enables}
+use Rattle.si_graph.specs.Arcs.{AreOut}
+use Rattle.si_tool.proofs.OutLemmas.{out_item, out_place}
 use Rattle.si_base.specs.Codes.{CodedGraph, code}
 use Rattle.si_base.specs.Proper.{IsConflict, pair_place}
-use Rattle.si_tool.specs.Breaches.{IsFirstOrNone, Differ, IsFirstOfCode, IsFirstOfCodeBelow, IsConflictBelow, Keeps}
+use Rattle.si_tool.specs.Breaches.{IsFirstOrNone, EnablesMore, Differ, IsFirstOfCode, IsFirstOfCodeBelow, IsConflictBelow, Keeps}
 
 cases_same : (a b : Bool) → (a ≡ b) ⊎ (a ≢ b)
 cases_same true true = inl refl
@@ -26,6 +30,44 @@ agrees g p q same e non_input = elim (cases_same (enables g p e) (enables g q e)
 conflict_from : (c : CodedGraph) (p q : ℕ) → p < q → q < c.graph.states → code c p ≡ code c q → Differ c.graph p q → IsConflict c (p, q)
 conflict_from c p q order within same differ = record { order = order; within = within; same_code = same; event = differ.event; non_input = differ.non_input; differ = differ.differ }
 
+-- ---- what one state enables and another doesn't
+pub more_found : (g : StateGraph) (p q : ℕ) (arcs : List Edge) (out : AreOut g p arcs) (n : ℕ) (a : Edge) → n < length arcs → a ≡ get_or arcs n a → IsNonInput g.signals a.event.sig → false ≡ enables g q a.event → EnablesMore g p q
+more_found g p q arcs out n a within at non_input not_there = record {
+  event = a.event;
+  non_input = non_input;
+  here = enables-step g p a.event a.to (out_item g p arcs out n a within at);
+  not_there = sym not_there;
+}
+
+pub none_more : (g : StateGraph) (p q : ℕ) (arcs : List Edge) (out : AreOut g p arcs) (n : ℕ) → length arcs ≤ n → ((k : ℕ) (d : Edge) → k < n → IsNonInput g.signals (get_or arcs k d).event.sig → enables g q (get_or arcs k d).event ≡ true) → EnablesMore g p q → ⊥
+none_more g p q arcs out n count all more =
+    let found = step_from_enables g p more.event more.here in
+    let a = arc p more.event found.0 in
+    let place = out_place g p arcs out more.event found.0 found.1 in
+    let NonInput : Edge → Type 0 = λ b. IsNonInput g.signals b.event.sig in
+    let Enabled : Edge → Type 0 = λ b. enables g q b.event ≡ true in
+    let there = subst Enabled place.2 (all place.0 a (omega (arith, place.1)) (subst NonInput (sym place.2) more.non_input)) in
+    true≢false (sym there ∙ more.not_there)
+
+pub more_differs : (g : StateGraph) (p q : ℕ) → EnablesMore g p q → Differ g p q
+more_differs g p q more = record { event = more.event; non_input = more.non_input; differ = λ same. true≢false (sym more.here ∙ same ∙ more.not_there) }
+
+pub less_differs : (g : StateGraph) (p q : ℕ) → EnablesMore g q p → Differ g p q
+less_differs g p q more = record { event = more.event; non_input = more.non_input; differ = λ same. true≢false (sym more.here ∙ sym same ∙ more.not_there) }
+
+pub none_differ : (g : StateGraph) (p q : ℕ) → (EnablesMore g p q → ⊥) → (EnablesMore g q p → ⊥) → Differ g p q → ⊥
+none_differ g p q more less is = elim (cases_Bool (enables g p is.event)) [
+  | inl here ↦ elim (cases_Bool (enables g q is.event)) [
+    | inl also ↦ is.differ (here ∙ sym also)
+    | inr not ↦ more (record { event = is.event; non_input = is.non_input; here = here; not_there = not })
+  ]
+  | inr not ↦ elim (cases_Bool (enables g q is.event)) [
+    | inl here ↦ less (record { event = is.event; non_input = is.non_input; here = here; not_there = not })
+    | inr also ↦ is.differ (not ∙ sym also)
+  ]
+]
+
+-- ---- the first conflict
 -- what holds of the state n and the first state p of its code
 pub record IsAt (c : CodedGraph) (n p : ℕ) : Type 0 where
   pub within : n < c.graph.states
@@ -131,11 +173,11 @@ take_pair c n p (Some f) r at differ first keeps =
     ]
 
 -- all states have been looked at
-pub all_states : (c : CodedGraph) (found : Option (ℕ × ℕ)) → IsFirstOrNone pair_place (IsConflictBelow c c.graph.states) found → IsFirstOrNone pair_place (IsConflict c) found
-all_states c None none = λ pair is. none pair (record { conflict = is; below = is.within })
-all_states c (Some f) first = record {
+pub all_states : (c : CodedGraph) (n : ℕ) (found : Option (ℕ × ℕ)) → c.graph.states ≤ n → IsFirstOrNone pair_place (IsConflictBelow c n) found → IsFirstOrNone pair_place (IsConflict c) found
+all_states c n None all none = λ pair is. none pair (record { conflict = is; below = omega (arith, is.within) })
+all_states c n (Some f) all first = record {
   holds = first.holds.conflict;
-  none_before = λ pair is before. first.none_before pair (record { conflict = is; below = is.within }) before;
+  none_before = λ pair is before. first.none_before pair (record { conflict = is; below = omega (arith, is.within) }) before;
 }
 
 -- ---- the first states of the codes

@@ -76,10 +76,8 @@ fn enables_more(graph: &Graph, p: StateId, q: StateId) -> bool
     ensures { IsTrue result ↔ EnablesMore graph.now p q }
 {
     let _arcs = graph.arcs();
-    for a in graph.arcs() {
-        if a.from != p {
-            continue;
-        }
+    let arcs = graph.arcs_out(p);
+    for a in arcs {
         if !graph.is_driven(a.event.sig) {
             continue;
         }

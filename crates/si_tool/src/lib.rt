@@ -3,6 +3,8 @@
 
 mod conflicts;
 pub mod distinct;
+mod forks;
+mod losses;
 pub mod proper;
 pub mod read;
 pub mod run;

@@ -2,6 +2,7 @@
 
 ghost use Rattle.std.specs.Prelude.{◌≡◌, ℕ, ◌<◌, IsTrue};
 ghost use Rattle.si_base.specs.Graph.{IsGraph, IsNonInput, enables};
+ghost use Rattle.si_base.specs.Codes.{IsDeterministic};
 ghost use Rattle.si_base.specs.Proper.{Loses, loss_place};
 ghost use Rattle.si_tool.specs.Breaches.{IsFirstOrNone, LosesAt, LosesOf};
 
@@ -27,8 +28,9 @@ impl Model for Loss {
     ghost inverse = { λ b. record { s = b.s; lost = b.lost; by = b.by } };
 }
 
-/// The first loss of a graph, if it has any.
+/// The first loss of a deterministic graph, if it has any.
 pub fn first_loss(graph: &Graph) -> Option<Loss>
+    requires { IsDeterministic graph.now }
     ensures { IsFirstOrNone loss_place (Loses graph.now) result }
 {
     let _arcs = graph.arcs();
@@ -42,6 +44,7 @@ pub fn first_loss(graph: &Graph) -> Option<Loss>
 
 /// The first loss at a state.
 fn first_loss_at(graph: &Graph, s: StateId) -> Option<Loss>
+    requires { IsDeterministic graph.now }
     ensures { IsFirstOrNone loss_place (LosesAt graph.now s) result }
 {
     let _arcs = graph.arcs();
@@ -59,6 +62,7 @@ fn first_loss_at(graph: &Graph, s: StateId) -> Option<Loss>
 
 /// The first loss of an enabled non-input event at a state.
 fn first_loss_of(graph: &Graph, s: StateId, lost: Event) -> Option<Loss>
+    requires deterministic { IsDeterministic graph.now }
     requires non_input { IsNonInput graph.now.signals lost.sig }
     requires enabled { IsTrue (enables graph.now s lost) }
     ensures { IsFirstOrNone loss_place (LosesOf graph.now s lost) result }
