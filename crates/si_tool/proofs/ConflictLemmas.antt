@@ -13,8 +13,25 @@ use Rattle.si_graph.specs.Arcs.{AreOut}
 use Rattle.si_tool.proofs.OutLemmas.{out_item, out_place}
 use Rattle.si_base.specs.Codes.{CodedGraph, code}
 use Rattle.si_base.specs.Proper.{IsConflict, pair_place}
-use Rattle.si_tool.specs.Breaches.{IsFirstOrNone, EnablesMore, Differ, IsFirstOfCode, IsFirstOfCodeBelow, IsConflictBelow, Keeps}
+use Rattle.si_tool.specs.Searches.{IsFirstOrNone, EnablesMore, Differ, Keeps}
 
+-- ---- what the loop over the states keeps
+-- p is the first state with the code k
+pub record IsFirstOfCode (c : CodedGraph) (k p : ℕ) : Type 0 where
+  pub has_code : code c p ≡ k
+  pub first : (r : ℕ) → r < p → code c r ≢ k
+
+-- of the first n states, the first with the code k, or None where none has it
+abbrev pub IsFirstOfCodeBelow : CodedGraph → ℕ → ℕ → Option ℕ → Type 0
+IsFirstOfCodeBelow c n k None = (r : ℕ) → r < n → code c r ≢ k
+IsFirstOfCodeBelow c n k (Some p) = (p < n) × IsFirstOfCode c k p
+
+-- a conflict among the first n states
+pub record IsConflictBelow (c : CodedGraph) (n : ℕ) (pair : ℕ × ℕ) : Type 0 where
+  pub conflict : IsConflict c pair
+  pub below : pair.1 < n
+
+-- ---- events that two states enable
 cases_same : (a b : Bool) → (a ≡ b) ⊎ (a ≢ b)
 cases_same true true = inl refl
 cases_same true false = inr (λ same. cc)

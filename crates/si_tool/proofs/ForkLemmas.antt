@@ -10,7 +10,7 @@ use Rattle.si_base.specs.Proper.{IsCommutative, Fork, Forks, fork_place}
 use Rattle.si_base.specs.System.{IsLeastTarget}
 use Rattle.si_base.proofs.Circuit.{step_within}
 use Rattle.si_graph.specs.Arcs.{AreOut}
-use Rattle.si_tool.specs.Breaches.{IsFirstOrNone, EndsApart, ForksAt, ForksBy}
+use Rattle.si_tool.specs.Searches.{IsFirstOrNone, EndsApart, ForksAt, ForksBy}
 use Rattle.si_tool.proofs.OutLemmas.{event_same, NoneWithin, none_before}
 
 -- ---- forks and the ends that they have

@@ -10,7 +10,7 @@ use Rattle.si_base.specs.Proper.{IsPersistent, Loss, Loses, loss_place}
 use Rattle.si_base.proofs.Circuit.{step_within}
 use Rattle.si_base.proofs.Steps.{step_from_enables, same_event-refl}
 use Rattle.si_graph.specs.Arcs.{AreOut}
-use Rattle.si_tool.specs.Breaches.{LosesAt, LosesOf}
+use Rattle.si_tool.specs.Searches.{LosesAt, LosesOf}
 use Rattle.si_tool.proofs.OutLemmas.{event_same, NoneWithin, none_before}
 
 -- ---- losses and the steps that they have

@@ -6,7 +6,7 @@ ghost use Rattle.std.specs.Ordering.{nat_cmp};
 ghost use Rattle.si_base.specs.Codes.{code};
 ghost use Rattle.si_base.specs.Graph.{enables, IsNonInput};
 ghost use Rattle.si_base.specs.Proper.{IsConflict, pair_place};
-ghost use Rattle.si_tool.specs.Breaches.{IsFirstOrNone, EnablesMore, Differ, Keeps};
+ghost use Rattle.si_tool.specs.Searches.{IsFirstOrNone, EnablesMore, Differ, Keeps};
 
 use si_base::ids::{Code, NoMemory, StateId};
 use si_graph::coded::Coded;

@@ -4,7 +4,7 @@ ghost use Rattle.std.specs.Prelude.{◌≡◌, ℕ, ◌<◌, Contains, MatchOpti
 ghost use Rattle.si_base.specs.Graph.{IsGraph};
 ghost use Rattle.si_base.specs.Codes.{IsDeterministic};
 ghost use Rattle.si_base.specs.Proper.{Forks, fork_place};
-ghost use Rattle.si_tool.specs.Breaches.{IsFirstOrNone, EndsApart, ForksAt, ForksBy};
+ghost use Rattle.si_tool.specs.Searches.{IsFirstOrNone, EndsApart, ForksAt, ForksBy};
 
 use si_base::graph::Edge;
 use si_base::ids::{Event, StateId};

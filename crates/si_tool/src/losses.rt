@@ -4,7 +4,7 @@ ghost use Rattle.std.specs.Prelude.{◌≡◌, ℕ, ◌<◌, IsTrue};
 ghost use Rattle.si_base.specs.Graph.{IsGraph, IsNonInput, enables};
 ghost use Rattle.si_base.specs.Codes.{IsDeterministic};
 ghost use Rattle.si_base.specs.Proper.{Loses, loss_place};
-ghost use Rattle.si_tool.specs.Breaches.{IsFirstOrNone, LosesAt, LosesOf};
+ghost use Rattle.si_tool.specs.Searches.{IsFirstOrNone, LosesAt, LosesOf};
 
 use si_base::ids::{Event, StateId};
 use si_graph::graph::Graph;

@@ -5,8 +5,8 @@ use Rattle.std.specs.Ordering.{nat_cmp}
 use Rattle.si_base.specs.Graph.{StateGraph}
 use Rattle.si_base.specs.Codes.{code}
 use Rattle.si_base.specs.Proper.{pair_place}
-use Rattle.si_tool.specs.Breaches.{Differ, IsFirstOrNone, IsConflictBelow}
-use Rattle.si_tool.proofs.ConflictLemmas.{IsAt, first_at, firsts_more, keep_found, take_pair, all_states}
+use Rattle.si_tool.specs.Searches.{Differ, IsFirstOrNone}
+use Rattle.si_tool.proofs.ConflictLemmas.{IsConflictBelow, IsAt, first_at, firsts_more, keep_found, take_pair, all_states}
 use Rattle.si_tool.proofs.conflicts.first_conflict.Goals as goal
 use Rattle.si_tool.proofs.conflicts.first_conflict.Goals.{then-differ, else-differ}
 

@@ -1,4 +1,4 @@
-use Rattle.si_tool.specs.Breaches.{ForksAt}
+use Rattle.si_tool.specs.Searches.{ForksAt}
 use Rattle.si_tool.proofs.OutLemmas.{NoneWithin}
 use Rattle.si_tool.proofs.forks.first_fork_at.Given as goal
 

@@ -1,4 +1,4 @@
-use Rattle.si_tool.specs.Breaches.{ForksBy}
+use Rattle.si_tool.specs.Searches.{ForksBy}
 use Rattle.si_tool.proofs.OutLemmas.{NoneWithin}
 use Rattle.si_tool.proofs.forks.first_fork_by.Given as goal
 

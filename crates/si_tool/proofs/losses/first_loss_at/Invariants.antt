@@ -1,4 +1,4 @@
-use Rattle.si_tool.specs.Breaches.{LosesAt}
+use Rattle.si_tool.specs.Searches.{LosesAt}
 use Rattle.si_tool.proofs.OutLemmas.{NoneWithin}
 use Rattle.si_tool.proofs.losses.first_loss_at.Given as goal
 

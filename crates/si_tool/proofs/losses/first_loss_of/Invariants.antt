@@ -1,4 +1,4 @@
-use Rattle.si_tool.specs.Breaches.{LosesOf}
+use Rattle.si_tool.specs.Searches.{LosesOf}
 use Rattle.si_tool.proofs.OutLemmas.{NoneWithin}
 use Rattle.si_tool.proofs.losses.first_loss_of.Given as goal
 

@@ -1,10 +1,9 @@
--- The parts of a search for the first breach.
+-- What the parts of a search for the first breach answer.
 use Rattle.std.specs.Prelude.{◌≡◌, ◌≢◌, ℕ, ◌<◌, ◌≤◌, true, false, List, Option, Some, None}
 use Rattle.si_base.specs.declared.ids.Event.{Event}
 use Rattle.si_base.specs.Order.{IsFirst}
 use Rattle.si_base.specs.Graph.{StateGraph, Step, enables, IsNonInput}
-use Rattle.si_base.specs.Codes.{CodedGraph, code}
-use Rattle.si_base.specs.Proper.{Fork, Forks, Loss, Loses, IsConflict}
+use Rattle.si_base.specs.Proper.{Fork, Forks, Loss, Loses}
 
 -- the first that has P, in the order of places, or None where nothing has P
 abbrev pub IsFirstOrNone : {A : Type 0} → (A → List ℕ) → (A → Type 0) → Option A → Type 0
@@ -51,21 +50,6 @@ pub record Differ (g : StateGraph) (p q : ℕ) : Type 0 where
   pub event : Event
   pub non_input : IsNonInput g.signals event.sig
   pub differ : enables g p event ≢ enables g q event
-
--- p is the first state with the code k
-pub record IsFirstOfCode (c : CodedGraph) (k p : ℕ) : Type 0 where
-  pub has_code : code c p ≡ k
-  pub first : (r : ℕ) → r < p → code c r ≢ k
-
--- of the first n states, the first with the code k, or None where none has it
-abbrev pub IsFirstOfCodeBelow : CodedGraph → ℕ → ℕ → Option ℕ → Type 0
-IsFirstOfCodeBelow c n k None = (r : ℕ) → r < n → code c r ≢ k
-IsFirstOfCodeBelow c n k (Some p) = (p < n) × IsFirstOfCode c k p
-
--- a conflict among the first n states
-pub record IsConflictBelow (c : CodedGraph) (n : ℕ) (pair : ℕ × ℕ) : Type 0 where
-  pub conflict : IsConflict c pair
-  pub below : pair.1 < n
 
 -- of a pair that may have been found and another the one that starts earlier, the found one where both start at one state
 abbrev pub Keeps : Option (ℕ × ℕ) → ℕ × ℕ → ℕ × ℕ → Type 0
