@@ -22,7 +22,7 @@ use Rattle.si_base.specs.System.{is_inserted}
 use Rattle.si_base.specs.Behaviour.{Implements}
 use Rattle.si_base.proofs.Steps.{beq-refl, beq-true}
 use Rattle.si_base.proofs.BitFacts.{same_codes, beq_false}
-use Rattle.si_base.specs.RightGates.{IsRight}
+use Rattle.si_base.specs.RightGates.{HasNoneInserted, IsRight}
 use Rattle.si_base.proofs.Circuit.{code_fits, implements}
 
 -- ---- the gate of a signal
@@ -150,7 +150,7 @@ sum_at c s z is none within non_input =
     ]
 
 -- the netlist of full sums has the next values
-pub full_is_right : (c : CodedGraph) (model : List ℕ) → IsCoded c → HasNoConflict c → ((z : ℕ) (x : Signal) → slice_get c.graph.signals z ≡ Some x → is_inserted x.kind ≡ false) → IsRight c (full_netlist model c)
+pub full_is_right : (c : CodedGraph) (model : List ℕ) → IsCoded c → HasNoConflict c → HasNoneInserted (full_netlist model c) → IsRight c (full_netlist model c)
 unfolding full_netlist
 full_is_right c model is none given = record {
   signals = refl;
@@ -165,5 +165,5 @@ full_is_right c model is none given = record {
 }
 
 -- the headline without insertions
-pub full_implements : (c : CodedGraph) (model : List ℕ) → IsCoded c → IsProper c.graph → HasNoConflict c → ((z : ℕ) (x : Signal) → slice_get c.graph.signals z ≡ Some x → is_inserted x.kind ≡ false) → Implements (full_netlist model c) c.graph
+pub full_implements : (c : CodedGraph) (model : List ℕ) → IsCoded c → IsProper c.graph → HasNoConflict c → HasNoneInserted (full_netlist model c) → Implements (full_netlist model c) c.graph
 full_implements c model is proper none given = implements c (full_netlist model c) is proper (full_is_right c model is none given)

@@ -11,88 +11,88 @@ use Rattle.si_base.proofs.UniqueText.{NoDots, lines_unique, spells_unique}
 use Rattle.si_base.proofs.Unique.{cut_unique}
 
 -- a word without blanks and line ends
-abbrev IsClean : List ℕ → Type 0
+abbrev pub IsClean : List ℕ → Type 0
 IsClean word = AllByRecursion (λ b. ((b == 10) ≡ false) × ((b == 32) ≡ false)) word
 
-abbrev AreClean : List (List ℕ) → Type 0
+abbrev pub AreClean : List (List ℕ) → Type 0
 AreClean words = AllByRecursion IsClean words
 
-excludes : (p : ℕ → Bool) (c b : ℕ) → p c ≡ false → p b ≡ true → (b == c) ≡ false
+pub excludes : (p : ℕ → Bool) (c b : ℕ) → p c ≡ false → p b ≡ true → (b == c) ≡ false
 excludes p c b low high = elim (cases_eq b c) [
   | inl same ↦ absurd (true≢false (sym high ∙ ap p same ∙ low))
   | inr other ↦ ne_eqb b c other
 ]
 
-clean_word : (p : ℕ → Bool) (w : List ℕ) → p 10 ≡ false → p 32 ≡ false → list_all p w ≡ true → IsClean w
+pub clean_word : (p : ℕ → Bool) (w : List ℕ) → p 10 ≡ false → p 32 ≡ false → list_all p w ≡ true → IsClean w
 clean_word p [] ten blank all = tt
 clean_word p (b ∷ w) ten blank all = let parts = and_parts _ _ all in ((excludes p 10 b ten parts.0, excludes p 32 b blank parts.0), clean_word p w ten blank parts.1)
 
-clean_signal : (w : List ℕ) → is_signal_name w ≡ true → IsClean w
+pub clean_signal : (w : List ℕ) → is_signal_name w ≡ true → IsClean w
 clean_signal [] h = tt
 clean_signal (b ∷ w) h = let parts = and_parts _ _ h in ((excludes is_letter 10 b refl parts.0, excludes is_letter 32 b refl parts.0), clean_word is_name_byte w refl refl parts.1)
 
-clean_model : (w : List ℕ) → is_model_name w ≡ true → IsClean w
+pub clean_model : (w : List ℕ) → is_model_name w ≡ true → IsClean w
 clean_model [] h = tt
 clean_model (b ∷ w) h = clean_word is_word_byte (b ∷ w) refl refl h
 
-clean_state : (w : List ℕ) → IsStateName w → IsClean w
+pub clean_state : (w : List ℕ) → IsStateName w → IsClean w
 clean_state w is = clean_word (λ b. is_word_byte b && not (b == 64)) w refl refl is.bytes
 
-clean_append : (v w : List ℕ) → IsClean v → IsClean w → IsClean (v ++ w)
+pub clean_append : (v w : List ℕ) → IsClean v → IsClean w → IsClean (v ++ w)
 clean_append [] w one other = other
 clean_append (b ∷ v) w one other = (one.0, clean_append v w one.1 other)
 
 -- ---- lines
-abbrev LinesClean : List (List (List ℕ)) → Type 0
+abbrev pub LinesClean : List (List (List ℕ)) → Type 0
 LinesClean lines = AllByRecursion AreClean lines
 
-lines_append : (k l : List (List (List ℕ))) → LinesClean k → LinesClean l → LinesClean (k ++ l)
+pub lines_append : (k l : List (List (List ℕ))) → LinesClean k → LinesClean l → LinesClean (k ++ l)
 lines_append [] l one other = other
 lines_append (ws ∷ k) l one other = (one.0, lines_append k l one.1 other)
 
-clean_list : (head : List ℕ) (names : List (List ℕ)) → IsClean head → AreClean names → LinesClean (list_line head names)
+pub clean_list : (head : List ℕ) (names : List (List ℕ)) → IsClean head → AreClean names → LinesClean (list_line head names)
 clean_list head [] is are = tt
 clean_list head (n ∷ ns) is are = ((is, are), tt)
 
 -- ---- joined words
-abbrev NoEnd : List ℕ → Type 0
+abbrev pub NoEnd : List ℕ → Type 0
 NoEnd bytes = AllByRecursion (λ b. (b == 10) ≡ false) bytes
 
-no_end : (w : List ℕ) → IsClean w → NoEnd w
+pub no_end : (w : List ℕ) → IsClean w → NoEnd w
 no_end [] is = tt
 no_end (b ∷ w) is = (is.0.0, no_end w is.1)
 
-no_blank : (w : List ℕ) → IsClean w → AllByRecursion (λ b. (b == 32) ≡ false) w
+pub no_blank : (w : List ℕ) → IsClean w → AllByRecursion (λ b. (b == 32) ≡ false) w
 no_blank [] is = tt
 no_blank (b ∷ w) is = (is.0.1, no_blank w is.1)
 
-no_end_append : (v w : List ℕ) → NoEnd v → NoEnd w → NoEnd (v ++ w)
+pub no_end_append : (v w : List ℕ) → NoEnd v → NoEnd w → NoEnd (v ++ w)
 no_end_append [] w one other = other
 no_end_append (b ∷ v) w one other = (one.0, no_end_append v w one.1 other)
 
-no_end_join : (ws : List (List ℕ)) → AreClean ws → NoEnd (join_with_byte 32 ws)
+pub no_end_join : (ws : List (List ℕ)) → AreClean ws → NoEnd (join_with_byte 32 ws)
 no_end_join [] are = tt
 no_end_join (w ∷ []) are = no_end w are.0
 no_end_join (w ∷ v ∷ ws) are = no_end_append w (32 ∷ join_with_byte 32 (v ∷ ws)) (no_end w are.0) (refl, no_end_join (v ∷ ws) are.1)
 
-lines_without : (lines : List (List (List ℕ))) → LinesClean lines → AllWithout 10 (map (join_with_byte 32) lines)
+pub lines_without : (lines : List (List (List ℕ))) → LinesClean lines → AllWithout 10 (map (join_with_byte 32) lines)
 lines_without [] clean = tt
 lines_without (ws ∷ lines) clean = (All-from_recursion _ _ (no_end_join ws clean.0), lines_without lines clean.1)
 
-words_without : (ws : List (List ℕ)) → AreClean ws → AllWithout 32 ws
+pub words_without : (ws : List (List ℕ)) → AreClean ws → AllWithout 32 ws
 words_without [] are = tt
 words_without (w ∷ ws) are = (All-from_recursion _ _ (no_blank w are.0), words_without ws are.1)
 
 -- no line is without words
-abbrev NoneEmpty : List (List (List ℕ)) → Type 0
+abbrev pub NoneEmpty : List (List (List ℕ)) → Type 0
 NoneEmpty lines = AllByRecursion (λ ws. ws ≢ []) lines
 
-cut_back : (lines : List (List (List ℕ))) → LinesClean lines → NoneEmpty lines → map (slice_split (λ b. b == 32)) (map (join_with_byte 32) lines) ≡ lines
+pub cut_back : (lines : List (List (List ℕ))) → LinesClean lines → NoneEmpty lines → map (slice_split (λ b. b == 32)) (map (join_with_byte 32) lines) ≡ lines
 cut_back [] clean some = refl
 cut_back ([] ∷ lines) clean some = absurd (some.0 refl)
 cut_back ((w ∷ ws) ∷ lines) clean some = ap₂ (λ (x : List (List ℕ)) (xs : List (List (List ℕ))). x ∷ xs) (split-join 32 w ws (words_without (w ∷ ws) clean.0)) (cut_back lines clean.1 some.1)
 
-front : (xs ys : List (List ℕ)) → xs ++ [] ∷ [] ≡ ys ++ [] ∷ [] → xs ≡ ys
+pub front : (xs ys : List (List ℕ)) → xs ++ [] ∷ [] ≡ ys ++ [] ∷ [] → xs ≡ ys
 front [] [] same = refl
 front [] (y ∷ []) same = cc
 front [] (y ∷ z ∷ ys) same = cc
@@ -111,22 +111,22 @@ text_unique k l clean_k clean_l some_k some_l same =
     sym (cut_back k clean_k some_k) ∙ ap (λ (x : List (List ℕ)). map (slice_split (λ b. b == 32)) x) joined ∙ cut_back l clean_l some_l
 
 -- ---- the lines of a spelling are clean
-names_clean : (names : List (List ℕ)) → AllByRecursion (λ n. IsTrue (is_signal_name n)) names → AreClean names
+pub names_clean : (names : List (List ℕ)) → AllByRecursion (λ n. IsTrue (is_signal_name n)) names → AreClean names
 names_clean [] all = tt
 names_clean (n ∷ names) all = (clean_signal n all.0, names_clean names all.1)
 
-take_left : (xs ys : List (List ℕ)) → AreClean (xs ++ ys) → AreClean xs
+pub take_left : (xs ys : List (List ℕ)) → AreClean (xs ++ ys) → AreClean xs
 take_left [] ys all = tt
 take_left (x ∷ xs) ys all = (all.0, take_left xs ys all.1)
 
-take_right : (xs ys : List (List ℕ)) → AreClean (xs ++ ys) → AreClean ys
+pub take_right : (xs ys : List (List ℕ)) → AreClean (xs ++ ys) → AreClean ys
 take_right [] ys all = all
 take_right (x ∷ xs) ys all = take_right xs ys all.1
 
-member_clean : (names : List (List ℕ)) (k : ℕ) (n : List ℕ) → AreClean names → k < length names → get_or names k n ≡ n → IsClean n
+pub member_clean : (names : List (List ℕ)) (k : ℕ) (n : List ℕ) → AreClean names → k < length names → get_or names k n ≡ n → IsClean n
 member_clean names k n all within at = subst IsClean at (All-from_recursion IsClean names all k n within)
 
-arcs_clean : (names : List (List ℕ)) (arcs : List ArcLine) → AreClean names → AllByRecursion (λ a. IsStateName a.from × IsStateName a.to × Contains names a.signal) arcs → LinesClean (map arc_line arcs)
+pub arcs_clean : (names : List (List ℕ)) (arcs : List ArcLine) → AreClean names → AllByRecursion (λ a. IsStateName a.from × IsStateName a.to × Contains names a.signal) arcs → LinesClean (map arc_line arcs)
 arcs_clean names [] clean all = tt
 arcs_clean names (a ∷ arcs) clean all =
     let signal = member_clean names all.0.2.0 a.signal clean all.0.2.1 all.0.2.2 in
@@ -136,7 +136,7 @@ arcs_clean names (a ∷ arcs) clean all =
     sign_clean true = (refl, refl)
     sign_clean false = (refl, refl)
 
-marked_clean : (x : Spelling) → IsStrict x → IsClean x.marked
+pub marked_clean : (x : Spelling) → IsStrict x → IsClean x.marked
 marked_clean x is =
     let a : ArcLine = is.marking.1 in
     let names = is.arcs is.marking.0 a is.marking.2 in
@@ -147,10 +147,10 @@ marked_clean x is =
       | inr same ↦ subst IsClean same (clean_state a.to here.1)
     ]
 
-word_clean : (w : List ℕ) → list_all (λ b. not (b == 10) && not (b == 32)) w ≡ true → IsClean w
+pub word_clean : (w : List ℕ) → list_all (λ b. not (b == 10) && not (b == 32)) w ≡ true → IsClean w
 word_clean w h = clean_word (λ b. not (b == 10) && not (b == 32)) w refl refl h
 
-spelling_clean : (x : Spelling) → IsStrict x → LinesClean (strict_lines x)
+pub spelling_clean : (x : Spelling) → IsStrict x → LinesClean (strict_lines x)
 spelling_clean x is =
     let all : AreClean (x.inputs ++ x.outputs ++ x.internals) = names_clean (signal_names x) (recursion_from_All _ (signal_names x) is.names) in
     let front_two = take_left (x.inputs ++ x.outputs) x.internals all in
@@ -165,26 +165,26 @@ spelling_clean x is =
           ))),
     )
 
-lines_some : (k l : List (List (List ℕ))) → NoneEmpty k → NoneEmpty l → NoneEmpty (k ++ l)
+pub lines_some : (k l : List (List (List ℕ))) → NoneEmpty k → NoneEmpty l → NoneEmpty (k ++ l)
 lines_some [] l one other = other
 lines_some (ws ∷ k) l one other = (one.0, lines_some k l one.1 other)
 
-list_some : (head : List ℕ) (names : List (List ℕ)) → NoneEmpty (list_line head names)
+pub list_some : (head : List ℕ) (names : List (List ℕ)) → NoneEmpty (list_line head names)
 list_some head [] = tt
 list_some head (n ∷ ns) = ((λ h. cc), tt)
 
-arcs_some : (arcs : List ArcLine) → NoneEmpty (map arc_line arcs)
+pub arcs_some : (arcs : List ArcLine) → NoneEmpty (map arc_line arcs)
 arcs_some [] = tt
 arcs_some (a ∷ arcs) = ((λ h. cc), arcs_some arcs)
 
-spelling_some : (x : Spelling) → NoneEmpty (strict_lines x)
+pub spelling_some : (x : Spelling) → NoneEmpty (strict_lines x)
 spelling_some x = (
   (λ h. cc),
   lines_some _ _ (list_some (codes ".inputs") x.inputs) (lines_some _ _ (list_some (codes ".outputs") x.outputs) (lines_some _ _ (list_some (codes ".internal") x.internals)
       ((λ h. cc), lines_some _ _ (arcs_some x.arcs) ((λ h. cc), ((λ h. cc), tt))))),
 )
 
-no_dots : (names : List (List ℕ)) (arcs : List ArcLine) → AllByRecursion (λ a. IsStateName a.from × IsStateName a.to × Contains names a.signal) arcs → NoDots arcs
+pub no_dots : (names : List (List ℕ)) (arcs : List ArcLine) → AllByRecursion (λ a. IsStateName a.from × IsStateName a.to × Contains names a.signal) arcs → NoDots arcs
 no_dots names [] all = tt
 no_dots names (a ∷ arcs) all = (all.0.0.no_dot, no_dots names arcs all.1)
 

@@ -5,8 +5,11 @@
 
 pub mod graph;
 pub mod ids;
+pub mod laws;
 pub mod limits;
 pub mod names;
 pub mod order;
 pub mod sets;
+#[cfg(test)]
+mod tests;
 pub mod text;

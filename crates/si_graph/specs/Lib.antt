@@ -1,3 +1,5 @@
 pub mod Arcs
 pub mod Faults
 pub mod Excited
+pub mod Reach
+pub mod Renaming

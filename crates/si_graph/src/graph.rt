@@ -7,6 +7,8 @@ ghost use Rattle.si_base.specs.Limits.{max_signals, max_states};
 ghost use Rattle.si_base.specs.System.{IsLeastTarget};
 ghost use Rattle.si_graph.specs.Arcs.{edge_at, IsFirstPlace, IsOutOf, AreOut};
 
+use crate::reach::reachable;
+use crate::renaming::{Renaming, rename, renamed_arcs};
 use si_base::graph::{Edge, SigKind, Signal};
 use si_base::ids::{Event, NoMemory, Sig, StateId};
 use std::alloc::Global;
@@ -69,8 +71,15 @@ impl Graph {
         requires start { start < states }
         ensures { IfOk result (λ g. IsMadeOf signals.items states edges.items start g) }
     {
-        let _ = (signals, states, edges, start);
-        Err(NoMemory)
+        let mut edges = edges;
+        edges.sort_unstable();
+        edges.dedup();
+        Ok(Graph {
+            signals,
+            states,
+            edges,
+            start,
+        })
     }
 
     /// The signals in signal order.
@@ -191,10 +200,17 @@ impl Graph {
     }
 
     /// The graph of the reachable states in the same order, and their old ids. After `NoMemory` the graph is given up.
-    pub fn cut(self, _alloc: Global) -> Result<Cut, NoMemory>
+    pub fn cut(self, alloc: Global) -> Result<Cut, NoMemory>
         ensures cut { IfOk result (λ cut. IsCut self cut.kept.items cut.graph) }
         ensures connected { IfOk result (λ cut. IsConnected cut.graph) }
     {
-        Err(NoMemory)
+        let arcs = self.arcs();
+        let reached = reachable(alloc, &self)?;
+        let Renaming { kept, places } = rename(alloc, &reached)?;
+        let renamed = renamed_arcs(alloc, arcs, &reached, &places)?;
+        let start = places[self.start().0 as usize];
+        let states = kept.len() as u32;
+        let graph = Graph::make(alloc, self.signals, states, renamed, start)?;
+        Ok(Cut { graph, kept })
     }
 }

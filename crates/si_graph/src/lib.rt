@@ -3,3 +3,5 @@
 
 pub mod coded;
 pub mod graph;
+mod reach;
+mod renaming;

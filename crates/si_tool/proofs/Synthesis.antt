@@ -8,6 +8,7 @@ use Rattle.si_base.specs.Codes.{CodedGraph, IsCoded, code}
 use Rattle.si_base.specs.Proper.{IsProper, HasNoConflict}
 use Rattle.si_base.specs.System.{is_inserted, IsFor}
 use Rattle.si_base.specs.Netlist.{Netlist}
+use Rattle.si_base.specs.RightGates.{HasNoneInserted}
 use Rattle.si_base.specs.Cover.{full_netlist}
 use Rattle.si_base.specs.NetlistText.{netlist_text}
 use Rattle.si_base.specs.Behaviour.{Implements}
@@ -52,6 +53,10 @@ full_is_for : (model : List ℕ) (c : CodedGraph) → NoneInserted c.graph.signa
 unfolding full_netlist
 full_is_for model c clean = record { signals = all_kept c.graph.signals clean; values = λ a within. refl }
 
+none_inserted : (model : List ℕ) (c : CodedGraph) → NoneInserted c.graph.signals → HasNoneInserted (full_netlist model c)
+unfolding full_netlist
+none_inserted model c clean = clean
+
 pub is_synthesis : (text : List ℕ) (sg : Sg) (c : CodedGraph) (output : List ℕ) → IsGiven text sg → IsCoded c → c.graph ≡ sg.graph → IsProper c.graph → HasNoConflict c → output ≡ netlist_text (full_netlist sg.model c) → IsSynthesis text output
 is_synthesis text sg c output given coded same proper none is =
     let Clean : StateGraph → Type 0 = λ g. NoneInserted g.signals in
@@ -70,6 +75,6 @@ is_synthesis text sg c output given coded same proper none is =
       output_is = is;
       model_is = model_of_full sg.model c;
       is_for = full_is_for sg.model c clean;
-      implements = subst Meets same (full_implements c sg.model coded proper none clean);
+      implements = subst Meets same (full_implements c sg.model coded proper none (none_inserted sg.model c clean));
       sums_are = refl;
     }

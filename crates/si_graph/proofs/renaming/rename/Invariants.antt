@@ -1,0 +1,5 @@
+use Rattle.si_graph.specs.Renaming.{Renames}
+use Rattle.si_graph.proofs.renaming.rename.Given as goal
+
+abbrev pub invariant-loop-s : goal.invariant-loop-s
+invariant-loop-s l = Renames l.set l.s l.kept.items l.places.items
