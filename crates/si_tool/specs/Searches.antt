@@ -10,6 +10,11 @@ abbrev pub IsFirstOrNone : {A : Type 0} → (A → List ℕ) → (A → Type 0) 
 IsFirstOrNone place P None = (x : _) → P x → ⊥
 IsFirstOrNone place P (Some x) = IsFirst place P x
 
+-- one that has P, or None where nothing has P
+abbrev pub IsOneOrNone : {A : Type 0} → (A → Type 0) → Option A → Type 0
+IsOneOrNone P None = (x : _) → P x → ⊥
+IsOneOrNone P (Some x) = P x
+
 -- t leads by c, and u by a, to two different states
 pub record EndsApart (g : StateGraph) (t : ℕ) (c : Event) (u : ℕ) (a : Event) (ends : ℕ × ℕ) : Type 0 where
   pub one : Step g t c ends.0

@@ -1,10 +1,8 @@
 //! The first conflict of a coded graph.
 
-ghost use Rattle.std.specs.Prelude.{◌≡◌, ◌≢◌, ℕ, ◌<◌, ◌+◌, ◌↔◌, IsTrue, IfOk, OnOk, unwrap_or, Some};
+ghost use Rattle.std.specs.Prelude.{◌≡◌, ◌≢◌, ℕ, ◌↔◌, IsTrue, IfOk, OnOk, unwrap_or, Some};
 ghost use Rattle.std.specs.BTreeMap.{get};
 ghost use Rattle.std.specs.Ordering.{nat_cmp};
-ghost use Rattle.si_base.specs.Codes.{code};
-ghost use Rattle.si_base.specs.Graph.{enables, IsNonInput};
 ghost use Rattle.si_base.specs.Proper.{IsConflict, pair_place};
 ghost use Rattle.si_tool.specs.Searches.{IsFirstOrNone, EnablesMore, Differ, Keeps};
 
@@ -75,7 +73,8 @@ fn differ(graph: &Graph, p: StateId, q: StateId) -> bool
 fn enables_more(graph: &Graph, p: StateId, q: StateId) -> bool
     ensures { IsTrue result ↔ EnablesMore graph.now p q }
 {
-    let _arcs = graph.arcs();
+    // What holds of each graph comes with its arcs: here, that each event is of one of its signals.
+    let _all_arcs = graph.arcs();
     let arcs = graph.arcs_out(p);
     for a in arcs {
         if !graph.is_driven(a.event.sig) {

@@ -1,10 +1,9 @@
 //! The first breach of commutativity.
 
-ghost use Rattle.std.specs.Prelude.{◌≡◌, ℕ, ◌<◌, Contains, MatchOption};
-ghost use Rattle.si_base.specs.Graph.{IsGraph};
+ghost use Rattle.std.specs.Prelude.{Contains};
 ghost use Rattle.si_base.specs.Codes.{IsDeterministic};
 ghost use Rattle.si_base.specs.Proper.{Forks, fork_place};
-ghost use Rattle.si_tool.specs.Searches.{IsFirstOrNone, EndsApart, ForksAt, ForksBy};
+ghost use Rattle.si_tool.specs.Searches.{IsFirstOrNone, IsOneOrNone, EndsApart, ForksAt, ForksBy};
 
 use si_base::graph::Edge;
 use si_base::ids::{Event, StateId};
@@ -36,7 +35,8 @@ pub fn first_fork(graph: &Graph) -> Option<Fork>
     requires { IsDeterministic graph.now }
     ensures { IsFirstOrNone fork_place (Forks graph.now) result }
 {
-    let _arcs = graph.arcs();
+    // What holds of each graph comes with its arcs: here, that each leaves one of its states.
+    let _all_arcs = graph.arcs();
     for s in 0..graph.states() {
         if let Some(fork) = first_fork_at(graph, StateId(s)) {
             return Some(fork);
@@ -86,7 +86,7 @@ fn first_fork_by(graph: &Graph, x: Edge) -> Option<Fork>
 /// The two states to which the targets of two arcs lead by the other arc's event, where these states differ.
 fn ends_apart(graph: &Graph, x: Edge, y: Edge) -> Option<(StateId, StateId)>
     requires { IsDeterministic graph.now }
-    ensures { MatchOption result ((ends : ℕ × ℕ) → EndsApart graph.now x.to y.event y.to x.event ends → ⊥) (EndsApart graph.now x.to y.event y.to x.event) }
+    ensures { IsOneOrNone (EndsApart graph.now x.to y.event y.to x.event) result }
 {
     let w = graph.succ(x.to, y.event)?;
     let w2 = graph.succ(y.to, x.event)?;

@@ -1,7 +1,7 @@
 //! The first breach of output persistency.
 
-ghost use Rattle.std.specs.Prelude.{◌≡◌, ℕ, ◌<◌, IsTrue};
-ghost use Rattle.si_base.specs.Graph.{IsGraph, IsNonInput, enables};
+ghost use Rattle.std.specs.Prelude.{IsTrue};
+ghost use Rattle.si_base.specs.Graph.{IsNonInput, enables};
 ghost use Rattle.si_base.specs.Codes.{IsDeterministic};
 ghost use Rattle.si_base.specs.Proper.{Loses, loss_place};
 ghost use Rattle.si_tool.specs.Searches.{IsFirstOrNone, LosesAt, LosesOf};
@@ -33,7 +33,8 @@ pub fn first_loss(graph: &Graph) -> Option<Loss>
     requires { IsDeterministic graph.now }
     ensures { IsFirstOrNone loss_place (Loses graph.now) result }
 {
-    let _arcs = graph.arcs();
+    // What holds of each graph comes with its arcs: here, that each leaves one of its states.
+    let _all_arcs = graph.arcs();
     for s in 0..graph.states() {
         if let Some(loss) = first_loss_at(graph, StateId(s)) {
             return Some(loss);
@@ -47,7 +48,8 @@ fn first_loss_at(graph: &Graph, s: StateId) -> Option<Loss>
     requires { IsDeterministic graph.now }
     ensures { IsFirstOrNone loss_place (LosesAt graph.now s) result }
 {
-    let _arcs = graph.arcs();
+    // What holds of each graph comes with its arcs: here, that each event is of one of its signals.
+    let _all_arcs = graph.arcs();
     let arcs = graph.arcs_out(s);
     for x in arcs {
         if !graph.is_driven(x.event.sig) {
