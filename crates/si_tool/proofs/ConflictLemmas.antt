@@ -1,11 +1,11 @@
 -- The first conflict among the first states, as one more state is looked at.
-use Rattle.std.proofs.Common.{◌≡◌, ◌≢◌, ℕ, ◌+◌, ◌<◌, ◌≤◌, ◌⊎◌, Bool, true, false, List, [], ◌∷◌, length, get_or, refl, sym, ap, subst, ◌∙◌, arith, inl, inr, Option, Some, None, unwrap_or}
+use Rattle.std.proofs.Common.{◌≡◌, ◌≢◌, ℕ, ◌+◌, ◌<◌, ◌≤◌, ◌⊎◌, Bool, true, false, List, length, get_or, refl, sym, ap, subst, ◌∙◌, arith, inl, inr, Option, Some, None, unwrap_or}
 use Rattle.std.specs.Cmp.{nat_cmp_is}
 use Rattle.std.specs.Ordering.{nat_cmp, is_eq}
 use Rattle.std.specs.declared.cmp.Ordering.TheVariants.{Less, Greater}
 use Rattle.std.proofs.lemmas.Bool.{cases_eq, cases_lt, cases_order, cases_Bool, true≢false}
 use Rattle.si_base.specs.declared.ids.Event.{Event}
-use Rattle.si_base.specs.Order.{IsFirst, Before}
+use Rattle.si_base.specs.Order.{IsFirst}
 use Rattle.si_base.specs.declared.graph.Edge.{Edge}
 use Rattle.si_base.specs.Graph.{StateGraph, enables, IsNonInput, arc}
 use Rattle.si_base.proofs.Steps.{enables-step, step_from_enables}
@@ -176,17 +176,17 @@ take_pair c n p (Some f) r at differ first keeps =
     elim (cases_lt p f.0) [
       | inl less ↦ subst P (sym (keeps.1 less)) (pair_first c n p at differ (λ pair is le. first.none_before pair is (inl (omega arith))))
       | inr above ↦ subst P (sym (keeps.0 above)) (record {
-          holds = wider c n f first.holds;
-          none_before = λ pair is before. elim (cases_new c n pair is) [
-            | inl old ↦ first.none_before pair old before
-            | inr new ↦ (
-                let le : p ≤ pair.0 = after_first c n p pair.0 at new.1.same_code in
-                elim before [
-                  | inl less ↦ absurd (omega arith)
-                  | inr tied ↦ elim tied.1 [ inl less ↦ absurd (omega (arith, new.0)) | inr never ↦ absurd never.1 ]
-                ])
-          ];
-        })
+        holds = wider c n f first.holds;
+        none_before = λ pair is before. elim (cases_new c n pair is) [
+          | inl old ↦ first.none_before pair old before
+          | inr new ↦ (
+              let le : p ≤ pair.0 = after_first c n p pair.0 at new.1.same_code in
+              elim before [
+                | inl less ↦ absurd (omega arith)
+                | inr tied ↦ elim tied.1 [ inl less ↦ absurd (omega (arith, new.0)) | inr never ↦ absurd never.1 ]
+              ])
+        ];
+      })
     ]
 
 -- all states have been looked at

@@ -1,16 +1,16 @@
 -- Forks, and the first of them.
-use Rattle.std.proofs.Common.{◌≡◌, ◌≢◌, ℕ, ◌+◌, ◌<◌, ◌≤◌, ◌⊎◌, List, [], ◌∷◌, length, get_or, Contains, refl, sym, ap, subst, ◌∙◌, arith, inl, inr, Option, Some, None}
+use Rattle.std.proofs.Common.{◌≡◌, ℕ, ◌+◌, ◌<◌, ◌≤◌, ◌⊎◌, List, length, get_or, sym, ap, subst, ◌∙◌, arith, inl, inr}
 use Rattle.std.proofs.lemmas.Bool.{cases_eq, cases_order}
 use Rattle.si_base.specs.declared.ids.Event.{Event}
 use Rattle.si_base.specs.declared.graph.Edge.{Edge}
-use Rattle.si_base.specs.Order.{IsFirst, Before}
-use Rattle.si_base.specs.Graph.{StateGraph, Step, arc, event_place, IsGraph}
+use Rattle.si_base.specs.Order.{IsFirst}
+use Rattle.si_base.specs.Graph.{StateGraph, Step, event_place, IsGraph}
 use Rattle.si_base.specs.Codes.{IsDeterministic}
 use Rattle.si_base.specs.Proper.{IsCommutative, Fork, Forks, fork_place}
 use Rattle.si_base.specs.System.{IsLeastTarget}
 use Rattle.si_base.proofs.Circuit.{step_within}
 use Rattle.si_graph.specs.Arcs.{AreOut}
-use Rattle.si_tool.specs.Searches.{IsFirstOrNone, EndsApart, ForksAt, ForksBy}
+use Rattle.si_tool.specs.Searches.{EndsApart, ForksAt, ForksBy}
 use Rattle.si_tool.proofs.OutLemmas.{event_same, NoneWithin, none_before}
 
 -- ---- forks and the ends that they have
@@ -60,16 +60,16 @@ module _ (g : StateGraph) (s : ℕ) (arcs : List Edge) (out : AreOut g s arcs) w
   first_by a b n y is within at same none = record {
     holds = is;
     none_before = λ f also before.
-      let froms : f.s ≡ b.s = also.at ∙ sym is.at in
-      let firsts : event_place f.a ≡ event_place b.a = ap event_place (also.by ∙ sym is.by) in
-      let earlier : event_place f.c < event_place b.c = elim before [
-        | inl less ↦ absurd (omega arith)
-        | inr tied ↦ elim tied.1 [
+        let froms : f.s ≡ b.s = also.at ∙ sym is.at in
+        let firsts : event_place f.a ≡ event_place b.a = ap event_place (also.by ∙ sym is.by) in
+        let earlier : event_place f.c < event_place b.c = elim before [
           | inl less ↦ absurd (omega arith)
-          | inr both ↦ elim both.1 [ inl less ↦ less | inr never ↦ absurd never.1 ]
-        ]
-      ] in
-      none_before g s arcs out (ForksBy g s a) (λ e. e.c) (by_step g s a) n y within at none f also (omega (arith, ap event_place same));
+          | inr tied ↦ elim tied.1 [
+            | inl less ↦ absurd (omega arith)
+            | inr both ↦ elim both.1 [ inl less ↦ less | inr never ↦ absurd never.1 ]
+          ]
+        ] in
+        none_before g s arcs out (ForksBy g s a) (λ e. e.c) (by_step g s a) n y within at none f also (omega (arith, ap event_place same));
   }
 
   pub first_at : (b : Fork) (n : ℕ) (x : Edge) → x.from ≡ s → n < length arcs → x ≡ get_or arcs n x → IsFirst fork_place (ForksBy g x.from x.event) b → NoneWithin arcs (ForksAt g s) (λ f. f.a) n → IsFirst fork_place (ForksAt g s) b
@@ -79,15 +79,15 @@ module _ (g : StateGraph) (s : ℕ) (arcs : List Edge) (out : AreOut g s arcs) w
       record {
         holds = record { forks = is.forks; at = here };
         none_before = λ f also before.
-          let froms : f.s ≡ b.s = also.at ∙ sym here in
-          let rest : (event_place f.a < event_place b.a) ⊎ (event_place f.a ≡ event_place b.a) = elim before [
-            | inl less ↦ absurd (omega arith)
-            | inr tied ↦ elim tied.1 [ inl less ↦ inl less | inr both ↦ inr both.0 ]
-          ] in
-          elim rest [
-            | inl less ↦ none_before g s arcs out (ForksAt g s) (λ e. e.a) (at_step g s) n x within at none f also (omega (arith, ap event_place is.by))
-            | inr same ↦ first.none_before f (record { forks = also.forks; at = also.at ∙ sym from; by = event_same f.a b.a same ∙ is.by }) before
-          ];
+            let froms : f.s ≡ b.s = also.at ∙ sym here in
+            let rest : (event_place f.a < event_place b.a) ⊎ (event_place f.a ≡ event_place b.a) = elim before [
+              | inl less ↦ absurd (omega arith)
+              | inr tied ↦ elim tied.1 [ inl less ↦ inl less | inr both ↦ inr both.0 ]
+            ] in
+            elim rest [
+              | inl less ↦ none_before g s arcs out (ForksAt g s) (λ e. e.a) (at_step g s) n x within at none f also (omega (arith, ap event_place is.by))
+              | inr same ↦ first.none_before f (record { forks = also.forks; at = also.at ∙ sym from; by = event_same f.a b.a same ∙ is.by }) before
+            ];
       }
 
 -- at all states
@@ -98,12 +98,12 @@ pub first_of_all : (g : StateGraph) (b : Fork) (n : ℕ) → IsFirst fork_place 
 first_of_all g b n first none = record {
   holds = first.holds.forks;
   none_before = λ f also before.
-    let at : b.s ≡ n = first.holds.at in
-    let rest : (f.s < b.s) ⊎ (f.s ≡ b.s) = elim before [ inl less ↦ inl less | inr tied ↦ inr tied.0 ] in
-    elim rest [
-      | inl less ↦ none f also (omega arith)
-      | inr same ↦ first.none_before f (record { forks = also; at = same ∙ at }) before
-    ];
+      let at : b.s ≡ n = first.holds.at in
+      let rest : (f.s < b.s) ⊎ (f.s ≡ b.s) = elim before [ inl less ↦ inl less | inr tied ↦ inr tied.0 ] in
+      elim rest [
+        | inl less ↦ none f also (omega arith)
+        | inr same ↦ first.none_before f (record { forks = also; at = same ∙ at }) before
+      ];
 }
 
 pub none_more : (g : StateGraph) (n : ℕ) → NoneBelow g n → ((b : Fork) → ForksAt g n b → ⊥) → NoneBelow g (n + 1)

@@ -1,9 +1,9 @@
 -- Losses, and the first of them.
-use Rattle.std.proofs.Common.{◌≡◌, ◌≢◌, ℕ, ◌+◌, ◌<◌, ◌≤◌, ◌⊎◌, Bool, true, false, List, [], ◌∷◌, length, get_or, refl, sym, ap, subst, ◌∙◌, arith, inl, inr, IsTrue}
+use Rattle.std.proofs.Common.{◌≡◌, ℕ, ◌+◌, ◌<◌, ◌≤◌, ◌⊎◌, true, false, List, length, get_or, sym, ap, subst, ◌∙◌, arith, inl, inr, IsTrue}
 use Rattle.std.proofs.lemmas.Bool.{cases_eq, cases_Bool, true≢false}
 use Rattle.si_base.specs.declared.ids.Event.{Event}
 use Rattle.si_base.specs.declared.graph.Edge.{Edge}
-use Rattle.si_base.specs.Order.{IsFirst, Before}
+use Rattle.si_base.specs.Order.{IsFirst}
 use Rattle.si_base.specs.Graph.{StateGraph, Step, event_place, IsGraph, IsNonInput, enables, same_event}
 use Rattle.si_base.specs.Codes.{IsDeterministic}
 use Rattle.si_base.specs.Proper.{IsPersistent, Loss, Loses, loss_place}
@@ -54,16 +54,16 @@ module _ (g : StateGraph) (s : ℕ) (arcs : List Edge) (out : AreOut g s arcs) w
   first_of lost b n y is within at same none = record {
     holds = is;
     none_before = λ f also before.
-      let froms : f.s ≡ b.s = also.at ∙ sym is.at in
-      let losts : event_place f.lost ≡ event_place b.lost = ap event_place (also.loss_of ∙ sym is.loss_of) in
-      let earlier : event_place f.by < event_place b.by = elim before [
-        | inl less ↦ absurd (omega arith)
-        | inr tied ↦ elim tied.1 [
+        let froms : f.s ≡ b.s = also.at ∙ sym is.at in
+        let losts : event_place f.lost ≡ event_place b.lost = ap event_place (also.loss_of ∙ sym is.loss_of) in
+        let earlier : event_place f.by < event_place b.by = elim before [
           | inl less ↦ absurd (omega arith)
-          | inr both ↦ elim both.1 [ inl less ↦ less | inr never ↦ absurd never.1 ]
-        ]
-      ] in
-      none_before g s arcs out (LosesOf g s lost) (λ e. e.by) (of_step g s lost) n y within at none f also (omega (arith, ap event_place same));
+          | inr tied ↦ elim tied.1 [
+            | inl less ↦ absurd (omega arith)
+            | inr both ↦ elim both.1 [ inl less ↦ less | inr never ↦ absurd never.1 ]
+          ]
+        ] in
+        none_before g s arcs out (LosesOf g s lost) (λ e. e.by) (of_step g s lost) n y within at none f also (omega (arith, ap event_place same));
   }
 
   pub first_at : (b : Loss) (n : ℕ) (x : Edge) → n < length arcs → x ≡ get_or arcs n x → IsFirst loss_place (LosesOf g s x.event) b → NoneWithin arcs (LosesAt g s) (λ f. f.lost) n → IsFirst loss_place (LosesAt g s) b
@@ -72,15 +72,15 @@ module _ (g : StateGraph) (s : ℕ) (arcs : List Edge) (out : AreOut g s arcs) w
       record {
         holds = record { loses = is.loses; at = is.at };
         none_before = λ f also before.
-          let froms : f.s ≡ b.s = also.at ∙ sym is.at in
-          let rest : (event_place f.lost < event_place b.lost) ⊎ (event_place f.lost ≡ event_place b.lost) = elim before [
-            | inl less ↦ absurd (omega arith)
-            | inr tied ↦ elim tied.1 [ inl less ↦ inl less | inr both ↦ inr both.0 ]
-          ] in
-          elim rest [
-            | inl less ↦ none_before g s arcs out (LosesAt g s) (λ e. e.lost) (at_step g s) n x within at none f also (omega (arith, ap event_place is.loss_of))
-            | inr same ↦ first.none_before f (record { loses = also.loses; at = also.at; loss_of = event_same f.lost b.lost same ∙ is.loss_of }) before
-          ];
+            let froms : f.s ≡ b.s = also.at ∙ sym is.at in
+            let rest : (event_place f.lost < event_place b.lost) ⊎ (event_place f.lost ≡ event_place b.lost) = elim before [
+              | inl less ↦ absurd (omega arith)
+              | inr tied ↦ elim tied.1 [ inl less ↦ inl less | inr both ↦ inr both.0 ]
+            ] in
+            elim rest [
+              | inl less ↦ none_before g s arcs out (LosesAt g s) (λ e. e.lost) (at_step g s) n x within at none f also (omega (arith, ap event_place is.loss_of))
+              | inr same ↦ first.none_before f (record { loses = also.loses; at = also.at; loss_of = event_same f.lost b.lost same ∙ is.loss_of }) before
+            ];
       }
 
 -- at all states
@@ -91,12 +91,12 @@ pub first_of_all : (g : StateGraph) (b : Loss) (n : ℕ) → IsFirst loss_place 
 first_of_all g b n first none = record {
   holds = first.holds.loses;
   none_before = λ f also before.
-    let at : b.s ≡ n = first.holds.at in
-    let rest : (f.s < b.s) ⊎ (f.s ≡ b.s) = elim before [ inl less ↦ inl less | inr tied ↦ inr tied.0 ] in
-    elim rest [
-      | inl less ↦ none f also (omega arith)
-      | inr same ↦ first.none_before f (record { loses = also; at = same ∙ at }) before
-    ];
+      let at : b.s ≡ n = first.holds.at in
+      let rest : (f.s < b.s) ⊎ (f.s ≡ b.s) = elim before [ inl less ↦ inl less | inr tied ↦ inr tied.0 ] in
+      elim rest [
+        | inl less ↦ none f also (omega arith)
+        | inr same ↦ first.none_before f (record { loses = also; at = same ∙ at }) before
+      ];
 }
 
 pub none_more : (g : StateGraph) (n : ℕ) → NoneBelow g n → ((b : Loss) → LosesAt g n b → ⊥) → NoneBelow g (n + 1)

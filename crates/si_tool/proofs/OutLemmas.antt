@@ -1,5 +1,5 @@
 -- Event order by places, and the arcs out of a state in that order.
-use Rattle.std.proofs.Common.{◌≡◌, ◌≢◌, ℕ, ◌+◌, ◌*◌, ◌<◌, ◌≤◌, ◌⊎◌, Bool, true, false, if◌then◌else◌, List, length, get_or, Contains, refl, sym, ap, ap₂, subst, ◌∙◌, arith, inl, inr}
+use Rattle.std.proofs.Common.{◌≡◌, ℕ, ◌+◌, ◌*◌, ◌<◌, ◌≤◌, ◌⊎◌, Bool, true, false, if◌then◌else◌, List, length, get_or, Contains, refl, sym, ap, ap₂, subst, ◌∙◌, arith, inl, inr}
 use Rattle.std.specs.Cmp.{nat_cmp_is}
 use Rattle.std.specs.Ordering.{nat_cmp, bool_cmp, ordering_then, is_le}
 use Rattle.std.specs.declared.cmp.Ordering.{Ordering}
@@ -11,7 +11,7 @@ use Rattle.si_base.specs.declared.graph.Edge.{Edge}
 use Rattle.si_base.specs.EdgeOrder.{event_cmp, edge_cmp}
 use Rattle.si_base.specs.Graph.{StateGraph, Step, arc, event_place, IsGraph}
 use Rattle.si_base.proofs.Circuit.{step_within}
-use Rattle.si_base.proofs.Sorted.{sorted_at, nat_less, nat_same}
+use Rattle.si_base.proofs.Sorted.{sorted_at, nat_same}
 use Rattle.si_graph.specs.Arcs.{AreOut}
 
 small : (b : Bool) → (if b then 0 else 1) ≤ 1

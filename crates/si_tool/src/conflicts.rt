@@ -16,10 +16,7 @@ use std::collections::BTreeMap;
 ///
 /// States are compared with the first state of their code alone: if two states are a conflict, one of them differs from
 /// that state, so the first conflict has the first state of a code.
-pub fn first_conflict(
-    alloc: Global,
-    coded: &Coded,
-) -> Result<Option<(StateId, StateId)>, NoMemory>
+pub fn first_conflict(alloc: Global, coded: &Coded) -> Result<Option<(StateId, StateId)>, NoMemory>
     ensures { IfOk result (IsFirstOrNone pair_place (IsConflict coded.now)) }
 {
     let graph = coded.coded_graph();

@@ -1,4 +1,4 @@
-use Rattle.std.proofs.Common.{◌≡◌, ◌<◌, arith, sym, refl}
+use Rattle.std.proofs.Common.{sym, refl}
 use Rattle.std.proofs.lemmas.Bool.{true≢false}
 use Rattle.si_tool.proofs.OutLemmas.{out_signal}
 use Rattle.si_tool.proofs.ConflictLemmas.{more_found, none_more}

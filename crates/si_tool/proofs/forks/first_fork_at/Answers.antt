@@ -1,4 +1,4 @@
-use Rattle.std.proofs.Common.{◌≡◌, ◌∙◌, sym}
+use Rattle.std.proofs.Common.{◌∙◌, sym}
 use Rattle.si_tool.specs.Searches.{ForksAt}
 use Rattle.si_tool.proofs.OutLemmas.{out_arc, out_source, one_more, none_at_all}
 use Rattle.si_tool.proofs.ForkLemmas.{at_step, first_at}

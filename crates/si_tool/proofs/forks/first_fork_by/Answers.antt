@@ -1,4 +1,4 @@
-use Rattle.std.proofs.Common.{◌≡◌, refl}
+use Rattle.std.proofs.Common.{refl}
 use Rattle.si_tool.proofs.OutLemmas.{out_item, one_more, none_at_all, later_event}
 use Rattle.si_tool.specs.Searches.{ForksBy}
 use Rattle.si_tool.proofs.ForkLemmas.{by_step, fork_from, ends_from, first_by}

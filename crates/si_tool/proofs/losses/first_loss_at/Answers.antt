@@ -1,7 +1,6 @@
-use Rattle.std.proofs.Common.{◌≡◌}
 use Rattle.si_base.proofs.Steps.{enables-step}
 use Rattle.si_tool.specs.Searches.{LosesAt}
-use Rattle.si_tool.proofs.OutLemmas.{out_item, out_signal, one_more, none_at_all}
+use Rattle.si_tool.proofs.OutLemmas.{out_item, out_signal, none_at_all}
 use Rattle.si_tool.proofs.LossLemmas.{at_step, first_at}
 use Rattle.si_tool.proofs.losses.first_loss_at.Goals as goal
 

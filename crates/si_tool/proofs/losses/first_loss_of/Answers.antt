@@ -1,5 +1,4 @@
-use Rattle.std.proofs.Common.{◌≡◌, ◌∙◌, sym, refl}
-
+use Rattle.std.proofs.Common.{sym, refl}
 use Rattle.si_tool.specs.Searches.{LosesOf}
 use Rattle.si_tool.proofs.OutLemmas.{out_item, one_more, none_at_all}
 use Rattle.si_tool.proofs.LossLemmas.{of_step, loss_from, still_enabled, differs, first_of}

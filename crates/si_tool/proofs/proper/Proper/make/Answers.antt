@@ -1,4 +1,4 @@
-use Rattle.std.proofs.Common.{◌≡◌, subst}
+use Rattle.std.proofs.Common.{subst}
 use Rattle.si_base.specs.Graph.{StateGraph}
 use Rattle.si_base.specs.Order.{IsFirst}
 use Rattle.si_base.specs.Proper.{Loses, loss_place}
