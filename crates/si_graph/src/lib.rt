@@ -2,6 +2,9 @@
 #![tactic(auto)]
 
 pub mod coded;
+mod determinism;
 pub mod graph;
 mod reach;
 mod renaming;
+mod spread;
+mod values;

@@ -3,3 +3,4 @@ pub mod Searches
 pub mod Command
 pub mod Answer
 pub mod Read
+pub mod ExitStatus

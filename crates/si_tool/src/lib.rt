@@ -7,9 +7,11 @@ mod forks;
 mod losses;
 pub mod proper;
 pub mod read;
+pub mod refusals;
 pub mod run;
 pub mod status;
 pub mod sure;
 pub mod synth;
-pub mod whole;
+#[cfg(test)]
+mod tests;
 pub mod write;
