@@ -1,6 +1,8 @@
 //! The tool: from the words of a command line to the status.
 #![tactic(auto)]
 
+#[cfg(test)]
+mod breach_tests;
 mod conflicts;
 pub mod distinct;
 mod forks;
