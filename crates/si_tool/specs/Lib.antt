@@ -1,4 +1,5 @@
 pub mod Faults
+pub mod Searches
 pub mod Command
 pub mod Answer
 pub mod Read

@@ -3,8 +3,9 @@
 ghost use Rattle.std.specs.Prelude.{◌≡◌, ℕ, IfOk, IfErr};
 ghost use Rattle.si_base.specs.Proper.{HasNoConflict};
 
+use crate::conflicts::first_conflict;
 use crate::proper::Proper;
-use si_base::ids::StateId;
+use si_base::ids::{NoMemory, StateId};
 use std::alloc::Global;
 
 /// A loan of a proper graph without conflicts.
@@ -27,13 +28,16 @@ impl<'a> Distinct<'a> {
     ghost use Rattle.si_tool.specs.Faults.{ShowsConflict};
 
     /// The graph where it has no conflict, or its first conflict.
-    pub fn make(_alloc: Global, graph: &'a Proper) -> Result<Distinct<'a>, NotDistinct>
+    pub fn make(alloc: Global, graph: &'a Proper) -> Result<Distinct<'a>, NotDistinct>
         ensures same { IfOk result (λ d. d.graph.now ≡ graph.now) }
         ensures distinct { IfOk result (λ d. HasNoConflict graph.now) }
         ensures fault { IfErr result (ShowsConflict graph.now) }
     {
-        let _ = graph.coded();
-        Err(NotDistinct::NoMemory)
+        match first_conflict(alloc, graph.coded()) {
+            Ok(None) => Ok(Distinct { graph }),
+            Ok(Some((p, q))) => Err(NotDistinct::Conflict { p, q }),
+            Err(NoMemory) => Err(NotDistinct::NoMemory),
+        }
     }
 
     /// The graph, of which it is known that it has no conflict.

@@ -1,9 +1,14 @@
 //! The tool: from the words of a command line to the status.
 #![tactic(auto)]
 
+#[cfg(test)]
+mod breach_tests;
+mod conflicts;
 pub mod distinct;
 mod lines;
 mod parts;
+mod forks;
+mod losses;
 pub mod proper;
 pub mod read;
 pub mod refusals;

@@ -3,6 +3,8 @@
 ghost use Rattle.std.specs.Prelude.{◌≡◌, ℕ, IfOk, IfErr};
 ghost use Rattle.si_base.specs.Proper.{IsProper};
 
+use crate::forks::{Fork, first_fork};
+use crate::losses::{Loss, first_loss};
 use si_base::ids::{Event, StateId};
 use si_graph::coded::Coded;
 use std::alloc::Global;
@@ -57,7 +59,16 @@ impl Proper {
         ensures back { IfErr result (λ e. e.0 ≡ coded) }
         ensures fault { IfErr result (λ e. ShowsImproper coded.graph e.1) }
     {
-        Err((coded, Improper::NoMemory))
+        let graph = coded.coded_graph();
+        if let Some(fork) = first_fork(graph) {
+            let Fork { s, a, c, w, w2 } = fork;
+            return Err((coded, Improper::Noncommutative { s, a, c, w, w2 }));
+        }
+        if let Some(loss) = first_loss(graph) {
+            let Loss { s, lost, by } = loss;
+            return Err((coded, Improper::Nonpersistent { s, lost, by }));
+        }
+        Ok(Proper { coded })
     }
 
     /// The coded graph.
