@@ -2,3 +2,4 @@ pub mod Faults
 pub mod Command
 pub mod Answer
 pub mod Read
+pub mod Writing

@@ -1,11 +1,13 @@
 //! The tool: from the words of a command line to the status.
 #![tactic(auto)]
 
+mod cubes;
 pub mod distinct;
 pub mod proper;
 pub mod read;
 pub mod run;
 pub mod status;
+mod sums;
 pub mod sure;
 pub mod synth;
 pub mod whole;
