@@ -1,5 +1,5 @@
 -- Parts of a netlist's text.
-use Rattle.std.specs.Prelude.{ℕ, List, [], ◌∷◌, map, filter, flat_map}
+use Rattle.std.specs.Prelude.{ℕ, List, ◌∷◌, map, filter, flat_map}
 use Rattle.std.specs.List.{zip}
 use Rattle.si_base.specs.declared.graph.Signal.{Signal}
 use Rattle.si_base.specs.Graph.{is_driven}

@@ -23,9 +23,10 @@ pub fn sum_codes(alloc: Global, coded: &Coded, z: Sig) -> Result<Vec<Code>, NoMe
             continue;
         }
         let code = coded.code(s);
-        if met.insert(code)? {
-            codes.push(code)?;
+        if !met.insert(code)? {
+            continue;
         }
+        codes.push(code)?;
     }
     Ok(codes)
 }

@@ -117,7 +117,6 @@ fn add_gates(alloc: Global, text: &mut Text, coded: &Coded) -> Result<(), NoMemo
     ensures { OnOk result (text.new ≡ text.old ++ text_of (gate_lines_from coded.now 0 coded.now.graph.signals)) }
 {
     let graph = coded.coded_graph();
-    let _arcs = graph.arcs();
     for i in 0..graph.signals().len() {
         let z = Sig(i as u8);
         if !graph.is_driven(z) {
@@ -133,10 +132,18 @@ fn add_gate(alloc: Global, text: &mut Text, coded: &Coded, z: Sig) -> Result<(),
     requires { z < length coded.now.graph.signals }
     ensures { OnOk result (text.new ≡ text.old ++ line (name_of coded.now.graph.signals z ∷ gate_words coded.now.graph.signals (SumGate (full_sum coded.now z)))) }
 {
-    let signals = coded.graph().signals();
+    let signals = coded.coded_graph().signals();
     let codes = sum_codes(alloc, coded, z)?;
-    text.add(signals[z.0 as usize].name.bytes())?;
+    text.add(signal_name(signals, z))?;
     add_word(text, b"sum")?;
     add_sum(text, signals, &codes)?;
     text.add(b"\n")
+}
+
+/// The name of a signal.
+fn signal_name(signals: &[Signal], z: Sig) -> &[u8]
+    requires { z < length signals.now }
+    ensures { result.now ≡ name_of signals.now z }
+{
+    signals[z.0 as usize].name.bytes()
 }
