@@ -1,8 +1,10 @@
 -- A run over a solvable text that met no fault is done, or had no memory.
-use Rattle.std.proofs.Common.{◌≡◌, ◌≢◌, ◌⊎◌, ℕ, ◌<◌, ◌≤◌, List, length, Option, Some, IfSome, refl, sym, ap, subst, ◌∙◌, arith, inl, inr, String, Global}
+use Rattle.std.proofs.Common.{◌≡◌, ◌≢◌, ◌⊎◌, ℕ, ◌<◌, ◌≤◌, List, [], ◌∷◌, length, Option, Some, IfSome, refl, sym, ap, subst, ◌∙◌, arith, inl, inr, String, Global}
+use Rattle.si_base.specs.Graph.{StateGraph}
 use Rattle.si_base.specs.Limits.{max_text}
+use Rattle.si_base.specs.Codes.{CodedGraph, IsCoded}
 use Rattle.si_base.specs.Proper.{IsProper}
-use Rattle.si_base.specs.StrictText.{Sg}
+use Rattle.si_base.specs.StrictText.{IsGiven, Sg}
 use Rattle.si_base.proofs.Given.{given_unique}
 use Rattle.si_tool.specs.Command.{AsksFor, AsksNothing}
 use Rattle.si_tool.specs.Answer.{IsBadText, IsImproper, IsUnresolved, IsShort, Names, IsSolvable}

@@ -1,5 +1,5 @@
 -- What a text deserves, and the lines of refusals.
-use Rattle.std.specs.Prelude.{◌≡◌, ℕ, ◌≤◌, ◌⊎◌, List, [], ◌∷◌, length, codes, Option, String, Bool, true, false, IsTrue}
+use Rattle.std.specs.Prelude.{◌≡◌, ℕ, ◌<◌, ◌≤◌, ◌⊎◌, List, [], ◌∷◌, ◌++◌, length, codes, Option, IfSome, Result, String, Bool, true, false, IsTrue}
 use Rattle.std.specs.declared.alloc.Global.{Global}
 use Rattle.si_io.specs.Outside.{Rose, Appends, AppendsPrefix}
 use Rattle.si_tool.specs.Command.{AsksFor}

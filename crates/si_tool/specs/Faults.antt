@@ -1,4 +1,5 @@
 -- What the faults of the checks show of a coded graph.
+use Rattle.std.specs.Prelude.{◌≡◌, ℕ}
 use Rattle.si_base.specs.Graph.{StateGraph}
 use Rattle.si_base.specs.Order.{IsFirst}
 use Rattle.si_base.specs.Codes.{CodedGraph}

@@ -1,4 +1,5 @@
 -- What the reader answers, as the definitions see it.
+use Rattle.std.specs.Prelude.{◌≡◌, ℕ, List}
 use Rattle.si_base.specs.StrictText.{Sg as SgValue}
 use Rattle.si_tool.specs.declared.read.Sg.{Sg}
 
