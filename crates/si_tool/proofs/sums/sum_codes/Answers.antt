@@ -3,7 +3,7 @@ use Rattle.std.proofs.lemmas.Bool.{not-true, not-false}
 use Rattle.std.specs.BTreeSet.{contains}
 use Rattle.std.specs.Ordering.{nat_cmp}
 use Rattle.si_base.specs.Codes.{next_value}
-use Rattle.si_tool.proofs.OnceLemmas.{unmet_none, walk_again, walk_new}
+use Rattle.si_tool.proofs.SumLemmas.{unmet_none, walk_again, walk_new}
 use Rattle.si_tool.proofs.sums.sum_codes.Goals as goal
 
 pub loop-s-init : goal.loop-s-init

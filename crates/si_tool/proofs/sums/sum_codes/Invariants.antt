@@ -4,7 +4,7 @@ use Rattle.std.specs.Ordering.{nat_cmp}
 use Rattle.si_base.specs.Codes.{next_value}
 use Rattle.si_base.specs.Cover.{required_codes}
 use Rattle.si_base.specs.Words.{once}
-use Rattle.si_tool.proofs.OnceLemmas.{kept_from, unmet}
+use Rattle.si_tool.proofs.SumLemmas.{kept_from, unmet}
 use Rattle.si_tool.proofs.sums.sum_codes.Given as goal
 
 abbrev pub invariant-loop-s : goal.invariant-loop-s
