@@ -1,21 +1,20 @@
 -- A netlist whose gates have the next values of a proper graph without conflicts loses no excitation and follows the graph.
-use Rattle.std.proofs.Common.{◌≡◌, ◌≢◌, ℕ, ◌+◌, ◌*◌, ◌⊎◌, ◌<◌, ◌≤◌, ◌==◌, ◌^◌, ◌&&◌, ◌||◌, not, Bool, true, false, List, [], ◌∷◌, refl, sym, ap, ap₂, subst, subst₂, ◌∙◌, IsTrue, rules, arith, length, get_or, slice_get, slice_index, Contains, Option, Some, None, All, IsSome, eqb-true, eq-eqb, inl, inr, bit_xor}
-use Rattle.std.proofs.lemmas.Bool.{and_parts, and_from, true≢false, cases_Bool, or_cases, cases_eq, cases_lt}
-use Rattle.std.proofs.lemmas.Nat.Bits.{bit_at_xor, bit_at-pow_same, bit_at-pow_other, same_from_bits, bit_at_above, bit_at-lt}
+use Rattle.std.proofs.Common.{◌≡◌, ◌≢◌, ℕ, ◌⊎◌, ◌<◌, ◌≤◌, ◌==◌, ◌^◌, ◌&&◌, ◌||◌, not, Bool, true, false, List, [], ◌∷◌, refl, sym, ap, subst, subst₂, ◌∙◌, IsTrue, arith, length, Option, Some, None, IsSome, inl, inr}
+use Rattle.std.proofs.lemmas.Bool.{true≢false, cases_Bool, cases_eq, cases_lt}
+use Rattle.std.proofs.lemmas.Nat.Bits.{bit_at_above}
 use Rattle.std.proofs.lemmas.Option.{slice_get_within, slice_get_cases}
-use Rattle.std.specs.Int.{bit_at}
 use Rattle.si_base.specs.declared.ids.Event.{Event}
 use Rattle.si_base.specs.declared.graph.Edge.{Edge}
 use Rattle.si_base.specs.declared.graph.Signal.{Signal}
 use Rattle.si_base.specs.declared.graph.SigKind.{SigKind}
 use Rattle.si_base.specs.declared.graph.SigKind.TheVariants.{Input, Output, Internal, Inserted}
 use Rattle.si_base.specs.Bits.{bit, flip}
-use Rattle.si_base.specs.Graph.{StateGraph, Step, Walk, IsReachable, arc, rise, fall, enables, same_event, is_driven, IsNonInput, IsGraph}
-use Rattle.si_base.specs.Codes.{CodedGraph, code, next_value, IsCoded, AreValues, IsDeterministic}
+use Rattle.si_base.specs.Graph.{StateGraph, Step, arc, rise, fall, enables, is_driven, IsNonInput, IsGraph}
+use Rattle.si_base.specs.Codes.{CodedGraph, code, IsCoded, AreValues}
 use Rattle.si_base.specs.Proper.{IsProper, IsPersistent}
-use Rattle.si_base.specs.Netlist.{Netlist, gate_value, IsExcited}
+use Rattle.si_base.specs.Netlist.{Netlist, IsExcited}
 use Rattle.si_base.specs.System.{State, Fires, Runs, IsReached, start, IsLeastTarget, Follows, May, is_inserted}
-use Rattle.si_base.specs.Behaviour.{IsBisimilar, IsInputEvent, IsHidden, LosesNoExcitation, HasNoSilentCycle, Implements}
+use Rattle.si_base.specs.Behaviour.{IsBisimilar, IsHidden, LosesNoExcitation, HasNoSilentCycle, Implements}
 use Rattle.si_base.specs.RightGates.{GivesNextValues, IsRight}
 use Rattle.si_base.proofs.BitFacts.{flip-same, flip-other, same_codes}
 use Rattle.si_base.proofs.Steps.{enables-step, step_from_enables}

@@ -1,22 +1,23 @@
 -- The two-input C-element: the definitions at work.
-use Rattle.std.proofs.Common.{◌≡◌, ℕ, ◌<◌, ◌≤◌, ◌==◌, ◌&&◌, ◌||◌, not, Bool, true, false, List, [], ◌∷◌, refl, Option, Some, None, IsTrue, rules, arith, codes, length, nat_le, lit<, leb-true, sym}
-use Rattle.std.specs.List.{list_any, list_all}
+use Rattle.std.proofs.Common.{◌≡◌, ℕ, ◌==◌, ◌&&◌, ◌||◌, not, Bool, true, false, List, [], ◌∷◌, refl, Some, None, codes, nat_le, lit<, leb-true, sym, eqb-true, inl, inr}
 use Rattle.si_base.specs.declared.ids.Event.{Event}
 use Rattle.si_base.specs.declared.ids.Literal.{Literal}
-use Rattle.si_base.specs.declared.graph.Edge.{Edge}
 use Rattle.si_base.specs.declared.graph.Signal.{Signal}
 use Rattle.si_base.specs.declared.graph.SigKind.TheVariants.{Input, Output}
-use Rattle.si_base.specs.Bits.{bit, flip}
-use Rattle.si_base.specs.Graph.{StateGraph, Step, Walk, IsReachable, arc, rise, fall, enables, same_event}
-use Rattle.si_base.specs.Codes.{CodedGraph, code, next_value}
-use Rattle.si_base.specs.Netlist.{Sum, SumGate, Netlist, gate_value, IsExcited}
-use Rattle.si_base.specs.System.{State, Fires, Runs, IsReached, start, IsLeastTarget}
+use Rattle.si_base.specs.Bits.{bit}
+use Rattle.si_base.specs.Graph.{StateGraph, Step, IsReachable, arc, rise, fall, enables, same_event}
+use Rattle.si_base.specs.Codes.{CodedGraph, code, next_value, AreValues}
+use Rattle.si_base.specs.Proper.{IsConflict}
+use Rattle.si_base.specs.Netlist.{Sum, SumGate, Netlist, gate_value}
+use Rattle.si_base.specs.System.{State, Fires}
 use Rattle.si_base.specs.Behaviour.{IsBisimilar}
 use Prim.Native.String.{String}
 use Rattle.si_base.specs.NetlistText.{netlist_text}
 use Rattle.si_base.specs.Cover.{full_netlist}
 use Rattle.si_base.specs.StrictText.{ArcLine, Spelling, strict_text, state_names}
-use Rattle.si_base.proofs.Steps.{all_arcs}
+use mathlib.Core.Bool.{beq}
+use Rattle.std.proofs.lemmas.Bool.{and_parts, or_cases}
+use Rattle.si_base.proofs.Steps.{all_arcs, beq-true}
 
 abbrev signals : List Signal
 signals = record { name = codes "a"; kind = Input } ∷ record { name = codes "b"; kind = Input } ∷ record { name = codes "c"; kind = Output } ∷ []
@@ -68,6 +69,10 @@ s3_step = (4, lit< tt, refl)
 s3_enables : enables c_element 3 (rise 2) ≡ true
 s3_enables = refl
 
+not-true : (b : Bool) → not b ≡ true → b ≡ false
+not-true true h = cc
+not-true false h = refl
+
 abbrev at_code : ℕ → ℕ → State
 at_code values s = record { values = values; place = Some s }
 
@@ -118,6 +123,49 @@ a_rises = record {
 -- so the wrong netlist isn't bisimilar to the graph
 wrong_refuted : IsBisimilar c_element wrong → ⊥
 wrong_refuted is = absurd (true≢false' (sym (is.never_astray (record { values = 5; place = None }) (rise 0 ∷ rise 2 ∷ [], (at_code 1 1, a_rises, ((record { values = 5; place = None }), astray, refl))))))
+
+-- ---- a walk, values, a conflict
+-- a+, b+ and c+ lead from the start to s4
+s4_reachable : IsReachable c_element 4
+s4_reachable = (rise 0 ∷ rise 1 ∷ rise 2 ∷ [], (1, (0, lit< tt, refl), (3, (2, lit< tt, refl), (4, (4, lit< tt, refl), refl))))
+
+-- the value of a in the codes suits the arcs
+a_values : AreValues c_element 0 (λ s. bit (code coded s) 0)
+a_values = record {
+  rises = λ s t step. (
+      let both = and_parts _ _ (all_arcs (λ x. not (same_event x.event (rise 0)) || (not (bit (code coded x.from) 0) && bit (code coded x.to) 0)) c_element s (rise 0) t refl step) in
+      (not-true _ both.0, both.1));
+  falls = λ s t step. (
+      let both = and_parts _ _ (all_arcs (λ x. not (same_event x.event (fall 0)) || (bit (code coded x.from) 0 && not (bit (code coded x.to) 0))) c_element s (fall 0) t refl step) in
+      (both.0, not-true _ both.1));
+  keeps = λ s t e other step. kept e (bit (code coded s) 0) (bit (code coded t) 0) other (all_arcs (λ x. (x.event.sig == 0) || beq (bit (code coded x.to) 0) (bit (code coded x.from) 0)) c_element s e t refl step);
+  idle = λ idle s within. absurd (idle 0 (rise 0) 1 (0, lit< tt, refl) refl);
+}
+  where
+    kept : (e : Event) (v w : Bool) → (e.sig ≡ 0 → ⊥) → ((e.sig == 0) || beq w v) ≡ true → w ≡ v
+    kept e v w other h = elim (or_cases (e.sig == 0) (beq w v) h) [ inl same ↦ absurd (other (eqb-true _ _ same)) | inr equal ↦ beq-true w v equal ]
+
+-- two pulses of a, and z rises after the first alone: s0 and s2 have the code 00, and s2 alone enables z+
+abbrev pulses : CodedGraph
+pulses = record {
+  graph = record {
+    signals = record { name = codes "a"; kind = Input } ∷ record { name = codes "z"; kind = Output } ∷ [];
+    states = 6;
+    edges = arc 0 (rise 0) 1 ∷ arc 1 (fall 0) 2 ∷ arc 2 (rise 1) 3 ∷ arc 3 (rise 0) 4 ∷ arc 4 (fall 0) 5 ∷ arc 5 (fall 1) 0 ∷ [];
+    start = 0;
+  };
+  codes = 0 ∷ 1 ∷ 0 ∷ 2 ∷ 3 ∷ 2 ∷ [];
+}
+
+pulses_conflict : IsConflict pulses (0, 2)
+pulses_conflict = record {
+  order = lit< tt;
+  within = lit< tt;
+  same_code = refl;
+  event = rise 1;
+  non_input = (record { name = codes "z"; kind = Output }, refl, refl);
+  differ = λ h. true≢false' (sym h);
+}
 
 -- ---- the text of the netlist
 majority_text : netlist_text majority ≡ codes ".model c2\n.inputs a b\n.outputs c\n.internal\n.inserted\n.start 000\n.gates\nc sum a b + b c + a c\n.end\n"

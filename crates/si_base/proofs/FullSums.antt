@@ -1,7 +1,6 @@
 -- The sums of full cubes have the next values at the codes of a graph without conflicts.
-use Rattle.std.proofs.Common.{◌≡◌, ◌≢◌, ℕ, zero, suc, ◌+◌, ◌*◌, ◌⊎◌, ◌<◌, ◌≤◌, ◌==◌, ◌^◌, ◌&&◌, ◌||◌, not, Bool, true, false, List, [], ◌∷◌, ◌++◌, refl, sym, ap, ap₂, subst, ◌∙◌, IsTrue, arith, length, get_or, slice_get, take, map, filter, count_by, Option, Some, None, eqb-true, eq-eqb, inl, inr, one-add, zero-add, cond, if◌then◌else◌}
-use Rattle.std.proofs.lemmas.Bool.{not-false, and_parts, and_from, true≢false, cases_Bool, or_cases, cases_eq, cases_lt, cases_order}
-use Rattle.std.proofs.lemmas.Option.{slice_get_within, slice_get_cases}
+use Rattle.std.proofs.Common.{◌≡◌, ℕ, zero, suc, ◌+◌, ◌<◌, ◌≤◌, ◌==◌, ◌^◌, ◌&&◌, ◌||◌, not, Bool, true, false, List, [], ◌∷◌, ◌++◌, refl, sym, ap, ap₂, subst, ◌∙◌, arith, length, get_or, slice_get, map, filter, Option, Some, eqb-true, inl, inr, one-add, zero-add, if◌then◌else◌}
+use Rattle.std.proofs.lemmas.Bool.{not-false, and_parts, and_from, true≢false, cases_Bool, cases_eq, cases_lt, cases_order}
 use Rattle.std.proofs.lemmas.List.{get_or_default}
 use Rattle.std.proofs.lemmas.List.Folds.{list_any_at, Any-from_list_any}
 use Rattle.std.proofs.lemmas.List.FromFn.{get_or-enumerate_from, length-enumerate_from}
@@ -9,16 +8,14 @@ use Rattle.std.proofs.lemmas.Nat.Bits.{bit_at_above}
 use Rattle.std.specs.List.{list_any, list_all, enumerate_from}
 use mathlib.Core.Bool.{beq}
 use Rattle.si_base.specs.declared.ids.Event.{Event}
-use Rattle.si_base.specs.declared.ids.Literal.{Literal}
 use Rattle.si_base.specs.declared.graph.Signal.{Signal}
 use Rattle.si_base.specs.Bits.{bit}
 use Rattle.si_base.specs.Words.{once}
-use Rattle.si_base.specs.Graph.{StateGraph, enables, rise, fall, is_driven, IsNonInput}
+use Rattle.si_base.specs.Graph.{enables, rise, fall, is_driven, IsNonInput}
 use Rattle.si_base.specs.Codes.{CodedGraph, code, next_value, IsCoded}
-use Rattle.si_base.specs.Proper.{IsConflict, HasNoConflict, IsProper}
-use Rattle.si_base.specs.Netlist.{Sum, Gate, SumGate, Netlist, gate_value, gate_place, sum_value, literal_value, value_if_there}
+use Rattle.si_base.specs.Proper.{HasNoConflict, IsProper}
+use Rattle.si_base.specs.Netlist.{Gate, SumGate, gate_place, sum_value, literal_value, value_if_there}
 use Rattle.si_base.specs.Cover.{full_cube_from, required_codes, full_sum, full_gates_from, full_netlist}
-use Rattle.si_base.specs.System.{is_inserted}
 use Rattle.si_base.specs.Behaviour.{Implements}
 use Rattle.si_base.proofs.Steps.{beq-refl, beq-true}
 use Rattle.si_base.proofs.BitFacts.{same_codes, beq_false}

@@ -1,12 +1,12 @@
 -- A strict text spells one given graph.
-use Rattle.std.proofs.Common.{◌≡◌, ◌≢◌, ℕ, zero, suc, ◌+◌, ◌<◌, ◌⊎◌, ◌==◌, ◌&&◌, not, Bool, true, false, List, [], ◌∷◌, ◌++◌, map, length, All, Contains, slice_index, refl, sym, ap, ap₂, subst, ◌∙◌, codes, inl, inr, IsTrue, ne_eqb, get_or}
-use Rattle.std.proofs.lemmas.Bool.{cases_Bool, cases_eq, true≢false, and_parts, and_from}
+use Rattle.std.proofs.Common.{◌≡◌, ◌≢◌, ℕ, ◌<◌, ◌==◌, ◌&&◌, not, Bool, true, false, List, [], ◌∷◌, ◌++◌, map, length, Contains, refl, sym, ap, ap₂, subst, ◌∙◌, codes, inl, inr, IsTrue, ne_eqb, get_or}
+use Rattle.std.proofs.lemmas.Bool.{cases_eq, true≢false, and_parts}
 use Rattle.std.proofs.lemmas.List.Elements.{All-from_recursion, recursion_from_All}
 use Rattle.std.specs.List.{AllByRecursion, list_all, slice_split, join_with_byte, slice_index_or}
-use Rattle.si_base.specs.Words.{line, text_of, is_signal_name, is_model_name, IsStateName, is_letter, is_name_byte, is_word_byte}
+use Rattle.si_base.specs.Words.{text_of, is_signal_name, is_model_name, IsStateName, is_letter, is_name_byte, is_word_byte}
 use Rattle.si_base.specs.Graph.{StateGraph, IsCut}
 use Rattle.si_base.specs.StrictText.{Spelling, ArcLine, IsStrict, strict_lines, strict_text, arc_line, list_line, signal_names, state_names, IsGiven, Sg, Spells, sign}
-use Rattle.si_base.proofs.Unsplit.{Without, AllWithout, split-join, split-text}
+use Rattle.si_base.proofs.Unsplit.{AllWithout, split-join, split-text}
 use Rattle.si_base.proofs.UniqueText.{NoDots, lines_unique, spells_unique}
 use Rattle.si_base.proofs.Unique.{cut_unique}
 

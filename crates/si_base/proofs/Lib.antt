@@ -10,3 +10,4 @@ pub mod Unsplit
 pub mod Given
 pub mod Parity
 pub mod NameLemmas
+pub mod UniqueCodes

@@ -1,5 +1,5 @@
 -- State graphs: steps, walks, reachable states, and the cut to these.
-use Rattle.std.specs.Prelude.{◌≡◌, ℕ, ◌+◌, ◌*◌, ◌<◌, ◌≤◌, ◌^◌, ◌==◌, ◌&&◌, ◌↔◌, Bool, true, false, not, List, [], ◌∷◌, length, Contains, All, AllPairs, slice_index, slice_get, Some, if◌then◌else◌, IsTrue}
+use Rattle.std.specs.Prelude.{◌≡◌, ℕ, ◌+◌, ◌*◌, ◌<◌, ◌≤◌, ◌^◌, ◌==◌, ◌&&◌, ◌↔◌, Bool, true, false, List, [], ◌∷◌, length, Contains, All, AllPairs, slice_index, slice_get, Some, if◌then◌else◌, IsTrue}
 use mathlib.Core.Bool.{beq}
 use Rattle.std.specs.List.{list_any}
 use Rattle.si_base.specs.declared.ids.Event.{Event}

@@ -1,5 +1,5 @@
 -- Gates that give the next values of a coded graph.
-use Rattle.std.specs.Prelude.{◌≡◌, ℕ, ◌<◌, Bool, false, Some, slice_get}
+use Rattle.std.specs.Prelude.{◌≡◌, ℕ, ◌<◌, false, Some, slice_get}
 use Rattle.si_base.specs.declared.graph.Signal.{Signal}
 use Rattle.si_base.specs.Graph.{IsNonInput}
 use Rattle.si_base.specs.Codes.{CodedGraph, code, next_value}

@@ -1,8 +1,7 @@
 -- What is a netlist: the conditions under which its text reads back.
-use Rattle.std.specs.Prelude.{◌≡◌, ◌≢◌, ℕ, ◌+◌, ◌<◌, ◌≤◌, ◌^◌, Bool, true, false, List, [], ◌∷◌, length, map, filter, codes, IsTrue, All, AllPairs}
+use Rattle.std.specs.Prelude.{◌≡◌, ◌≢◌, ℕ, ◌<◌, ◌≤◌, ◌^◌, List, [], ◌∷◌, length, map, filter, codes, IsTrue, All, AllPairs}
 use Rattle.std.specs.List.{list_all}
 use Rattle.si_base.specs.declared.ids.Literal.{Literal}
-use Rattle.si_base.specs.declared.graph.Signal.{Signal}
 use Rattle.si_base.specs.declared.graph.SigKind.TheVariants.{Inserted}
 use Rattle.si_base.specs.Words.{is_between, is_signal_name}
 use Rattle.si_base.specs.Graph.{is_driven, kind_place}

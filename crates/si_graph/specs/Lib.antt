@@ -1,5 +1,7 @@
 pub mod Arcs
 pub mod Faults
 pub mod Excited
+pub mod Changes
+pub mod Values
 pub mod Reach
 pub mod Renaming

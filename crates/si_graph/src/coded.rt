@@ -5,8 +5,10 @@ ghost use Rattle.si_base.specs.Bits.{bit};
 ghost use Rattle.si_base.specs.Codes.{IsCoded, IsConnected, code, next_value};
 ghost use Rattle.si_graph.specs.Excited.{IsExcitedAt};
 
+use crate::determinism::first_split;
 use crate::graph::Graph;
-use si_base::ids::{Code, Event, Sig, StateId};
+use crate::values::{first_wrong, told_codes};
+use si_base::ids::{Code, Event, NoMemory, Sig, StateId};
 use std::alloc::Global;
 use std::marker::Model;
 
@@ -45,18 +47,54 @@ pub enum CodeFault {
     },
 }
 
+impl From<NoMemory> for CodeFault {
+    ghost use Rattle.std.specs.Prelude.{◌≡◌};
+    ghost use Rattle.si_graph.specs.declared.coded.CodeFault.TheVariants.{NoMemory};
+
+    ghost from_gives = { λ _ e. e ≡ NoMemory };
+
+    fn from(_e: NoMemory) -> CodeFault {
+        CodeFault::NoMemory
+    }
+}
+
 impl Coded {
     ghost use Rattle.si_graph.specs.Faults.{ShowsUncoded};
 
     /// The graph with its codes, or the first breach of determinism, or else of consistency. The graph comes back.
-    pub fn make(_alloc: Global, graph: Graph) -> Result<Coded, (Graph, CodeFault)>
+    pub fn make(alloc: Global, graph: Graph) -> Result<Coded, (Graph, CodeFault)>
         requires { IsConnected graph }
         ensures same { IfOk result (λ c. c.graph ≡ graph) }
         ensures coded { IfOk result IsCoded }
         ensures back { IfErr result (λ e. e.0 ≡ graph) }
         ensures fault { IfErr result (λ e. ShowsUncoded graph e.1) }
     {
-        Err((graph, CodeFault::NoMemory))
+        match Coded::codes_of(alloc, &graph) {
+            Ok(codes) => Ok(Coded { graph, codes }),
+            Err(fault) => Err((graph, fault)),
+        }
+    }
+
+    /// The codes of the states, or the first breach of determinism, or else of consistency.
+    fn codes_of(alloc: Global, graph: &Graph) -> Result<Vec<Code>, CodeFault>
+        requires { IsConnected graph.now }
+        ensures coded { IfOk result (λ codes. IsCoded (record { graph = graph.now; codes = codes.items })) }
+        ensures fault { IfErr result (ShowsUncoded graph.now) }
+    {
+        if let Some((one, other)) = first_split(graph) {
+            return Err(CodeFault::Nondeterministic {
+                s: one.from,
+                e: one.event,
+                t: one.to,
+                u: other.to,
+            });
+        }
+        let arcs = graph.arcs();
+        let codes = told_codes(alloc, graph)?;
+        match first_wrong(arcs, codes.as_slice()) {
+            Some(sig) => Err(CodeFault::Inconsistent { sig }),
+            None => Ok(codes),
+        }
     }
 
     /// The graph.

@@ -2,6 +2,11 @@
 #![tactic(auto)]
 
 pub mod coded;
+mod determinism;
 pub mod graph;
 mod reach;
 mod renaming;
+mod spread;
+#[cfg(test)]
+mod tests;
+mod values;

@@ -64,13 +64,12 @@ is_synthesis text sg c output given coded same proper none is =
     let Fine : StateGraph → Type 0 = λ g. IsProper g in
     let Meets : StateGraph → Type 0 = λ g. Implements (full_netlist sg.model c) g in
     record {
-      given = sg;
-      given_is = given;
-      coded = c;
-      coded_is = coded;
-      same_graph = same;
-      proper = subst Fine same proper;
-      no_conflict = none;
+      solvable = record {
+        given = sg;
+        coded = c;
+        sound = record { given_is = given; coded_is = coded; same_graph = same; proper = subst Fine same proper };
+        no_conflict = none;
+      };
       netlist = full_netlist sg.model c;
       output_is = is;
       model_is = model_of_full sg.model c;

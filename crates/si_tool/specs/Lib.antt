@@ -3,3 +3,4 @@ pub mod Command
 pub mod Answer
 pub mod Read
 pub mod Writing
+pub mod ExitStatus

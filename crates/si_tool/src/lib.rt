@@ -5,10 +5,12 @@ mod cubes;
 pub mod distinct;
 pub mod proper;
 pub mod read;
+pub mod refusals;
 pub mod run;
 pub mod status;
 mod sums;
 pub mod sure;
 pub mod synth;
-pub mod whole;
+#[cfg(test)]
+mod tests;
 pub mod write;

@@ -1,21 +1,27 @@
 //! The top call.
 
-ghost use Rattle.std.specs.Prelude.{◌≡◌, ◌≢◌, ◌⊎◌, ℕ, ◌+◌, ◌<◌, ◌≤◌, List, [], ◌∷◌, ◌++◌, length, IfSome, Some, Option, IfOk, Err, string_bytes, MatchOption, OnErr};
-ghost use Rattle.si_io.specs.Outside.{Rose, Appends, AppendsPrefix};
+ghost use Rattle.std.specs.Prelude.{◌≡◌, ◌≢◌, ◌⊎◌, ℕ, ◌+◌, ◌<◌, ◌≤◌, List, [], ◌∷◌, ◌++◌, length, IfSome, Some, Option, IfOk, Err, MatchOption};
 ghost use Rattle.si_base.specs.Limits.{max_text};
-ghost use Rattle.si_tool.specs.Command.{AsksFor, AsksNothing};
-ghost use Rattle.si_tool.specs.Answer.{IsBadText, IsImproper, IsUnresolved, IsSynthesis, refusal_line, IsShort, Names, PutsLine};
+ghost use Rattle.si_io.specs.Outside.{Rose, Appends, AppendsPrefix};
+ghost use Rattle.si_tool.specs.Command.{Asked, AsksSynth, Asks, AsksNothing, files_of};
+ghost use Rattle.si_tool.specs.Answer.{IsShort, IsBadText, IsImproper, IsUnresolved, IsSynthesis, IsTooLong, HasBadText, HasImproper, HasConflict, Deserve, AreTold, AskingTold, ReadRose, Outputs, OutputsPart, Ends, PutsLine};
+ghost use Rattle.si_tool.specs.declared.status.Status.{Status as Statuses};
 
+use crate::refusals::refuse;
 use crate::status::Status;
 use crate::synth::{NoNetlist, synth};
-use si_base::ids::NoMemory;
 use si_base::limits::MAX_TEXT;
 use si_base::text::Text;
 use si_io::shelf::{LoadFault, Shelf};
 use si_io::sink::{PutFault, Sink};
 use std::alloc::Global;
 
-/// Does what the words of a command line ask for.
+/// Does what the words of a command line ask for, without the program's name. It loads the named files from the
+/// shelf, builds the whole output in memory, and puts it to `out` in one call. A refused run puts one line on `err`.
+///
+/// `NoMemory` may come wherever memory is wanting; each other answer has its cause, and comes exactly where that cause
+/// and none earlier is there: `Usage`, `ReadFault`, `TooLong`, `BadText`, `Improper`, `Unresolved`, `WriteFault`.
+/// Of a `Done` run the text on `out` is a netlist that implements the graph of the file.
 pub fn run<H: Shelf, O: Sink, E: Sink>(
     alloc: Global,
     words: &Vec<String>,
@@ -28,37 +34,80 @@ pub fn run<H: Shelf, O: Sink, E: Sink>(
     ensures no_command { AsksNothing words.now.items → (result ≡ Status.Usage) ⊎ (result ≡ Status.NoMemory) }
 
     // The outside.
-    ensures read_fault { result ≡ Status.ReadFault → Names words.now.items (λ file. Rose (H.faults shelf.old file) (H.faults shelf.new file)) }
+    ensures read_fault { result ≡ Status.ReadFault → ReadRose words.now.items (H.faults shelf.old) (H.faults shelf.new) }
     ensures write_fault { result ≡ Status.WriteFault → Rose (O.faults out.old) (O.faults out.new) }
-    ensures too_long { result ≡ Status.TooLong
-        → Names words.now.items (λ file. IfSome (H.content shelf.old file) (λ text. max_text < length text)) }
+    ensures too_long { result ≡ Status.TooLong → AskingTold words.now.items (H.content shelf.old) IsTooLong }
 
-    // The text and its graph.
-    ensures bad_text { result ≡ Status.BadText
-        → Names words.now.items (λ file. IfSome (H.content shelf.old file) (λ text. IsShort text × IsBadText text)) }
-    ensures improper { result ≡ Status.Improper
-        → Names words.now.items (λ file. IfSome (H.content shelf.old file) (λ text. IsShort text × IsImproper text)) }
-    ensures unresolved { result ≡ Status.Unresolved
-        → Names words.now.items (λ file. IfSome (H.content shelf.old file) (λ text. IsShort text × IsUnresolved text)) }
+    // The texts.
+    ensures bad_text { result ≡ Status.BadText → AskingTold words.now.items (H.content shelf.old) HasBadText }
+    ensures improper { result ≡ Status.Improper → AskingTold words.now.items (H.content shelf.old) HasImproper }
+    ensures unresolved { result ≡ Status.Unresolved → AskingTold words.now.items (H.content shelf.old) HasConflict }
     ensures unmapped { result ≢ Status.Unmapped }
     ensures differs { result ≢ Status.Differs }
 
-    // The headline.
-    ensures done { result ≡ Status.Done → Names words.now.items (λ file. IfSome (H.content shelf.old file) (λ text. IsShort text
-        × ((output : List ℕ) × IsSynthesis text output × Appends (O.bytes out.old) output (O.bytes out.new)))) }
-
-    // A refused run leaves `out` as it was, but for a prefix of the output where a write failed.
+    // The output.
+    ensures done { result ≡ Status.Done
+        → AskingTold words.now.items (H.content shelf.old) (Outputs (O.bytes out.old) (O.bytes out.new)) }
     ensures out_refused { result ≢ Status.Done → (O.bytes out.new ≡ O.bytes out.old) ⊎ (Rose (O.faults out.old) (O.faults out.new)
-        × Names words.now.items (λ file. IfSome (H.content shelf.old file) (λ text.
-        (output : List ℕ) × IsSynthesis text output × AppendsPrefix (O.bytes out.old) output (O.bytes out.new)))) }
+        × AskingTold words.now.items (H.content shelf.old) (OutputsPart (O.bytes out.old) (O.bytes out.new))) }
 
-    // A refused run puts its line on `err`.
+    // The line of a refusal.
     ensures err_kept { result ≡ Status.Done → E.bytes err.new ≡ E.bytes err.old }
-    ensures err_line { result ≢ Status.Done → PutsLine words.now.items result (E.faults err.old) (E.faults err.new) (E.bytes err.old) (E.bytes err.new) }
+    ensures err_line { result ≢ Status.Done
+        → PutsLine words.now.items result (E.faults err.old) (E.faults err.new) (E.bytes err.old) (E.bytes err.new) }
 
-    // Counts never fall, and contents stay.
-    ensures shelf_later { (n : List ℕ) → H.faults shelf.old n ≤ H.faults shelf.new n }
+    // Contents stay, and counts never fall.
     ensures shelf_same { (n : List ℕ) → H.content shelf.new n ≡ H.content shelf.old n }
+    ensures shelf_later { (n : List ℕ) → H.faults shelf.old n ≤ H.faults shelf.new n }
+    ensures out_later { O.faults out.old ≤ O.faults out.new }
+    ensures err_later { E.faults err.old ≤ E.faults err.new }
+
+    // Told texts get the answer that they deserve, want of memory and faults of the outside aside.
+    ensures complete { (asked : Asked) (texts : List (List ℕ)) (status : Statuses)
+        → Asks words.now.items asked → AreTold (H.content shelf.old) (files_of asked) texts → Deserve asked texts status
+        → Ends status result (ReadRose words.now.items (H.faults shelf.old) (H.faults shelf.new)) (Rose (O.faults out.old) (O.faults out.new)) }
+{
+    attempt(alloc, words, shelf, out, err)
+}
+
+/// What `run` does.
+fn attempt<H: Shelf, O: Sink, E: Sink>(
+    alloc: Global,
+    words: &Vec<String>,
+    shelf: &mut H,
+    out: &mut O,
+    err: &mut E,
+) -> Status
+    // The words.
+    ensures usage { result ≡ Status.Usage → AsksNothing words.now.items }
+    ensures no_command { AsksNothing words.now.items → (result ≡ Status.Usage) ⊎ (result ≡ Status.NoMemory) }
+
+    // The outside.
+    ensures read_fault { result ≡ Status.ReadFault → ReadRose words.now.items (H.faults shelf.old) (H.faults shelf.new) }
+    ensures write_fault { result ≡ Status.WriteFault → Rose (O.faults out.old) (O.faults out.new) }
+    ensures too_long { result ≡ Status.TooLong → AskingTold words.now.items (H.content shelf.old) IsTooLong }
+
+    // The texts.
+    ensures bad_text { result ≡ Status.BadText → AskingTold words.now.items (H.content shelf.old) HasBadText }
+    ensures improper { result ≡ Status.Improper → AskingTold words.now.items (H.content shelf.old) HasImproper }
+    ensures unresolved { result ≡ Status.Unresolved → AskingTold words.now.items (H.content shelf.old) HasConflict }
+    ensures unmapped { result ≢ Status.Unmapped }
+    ensures differs { result ≢ Status.Differs }
+
+    // The output.
+    ensures done { result ≡ Status.Done
+        → AskingTold words.now.items (H.content shelf.old) (Outputs (O.bytes out.old) (O.bytes out.new)) }
+    ensures out_refused { result ≢ Status.Done → (O.bytes out.new ≡ O.bytes out.old) ⊎ (Rose (O.faults out.old) (O.faults out.new)
+        × AskingTold words.now.items (H.content shelf.old) (OutputsPart (O.bytes out.old) (O.bytes out.new))) }
+
+    // The line of a refusal.
+    ensures err_kept { result ≡ Status.Done → E.bytes err.new ≡ E.bytes err.old }
+    ensures err_line { result ≢ Status.Done
+        → PutsLine words.now.items result (E.faults err.old) (E.faults err.new) (E.bytes err.old) (E.bytes err.new) }
+
+    // Contents stay, and counts never fall.
+    ensures shelf_same { (n : List ℕ) → H.content shelf.new n ≡ H.content shelf.old n }
+    ensures shelf_later { (n : List ℕ) → H.faults shelf.old n ≤ H.faults shelf.new n }
     ensures out_later { O.faults out.old ≤ O.faults out.new }
     ensures err_later { E.faults err.old ≤ E.faults err.new }
 {
@@ -77,7 +126,7 @@ pub fn run<H: Shelf, O: Sink, E: Sink>(
 
 /// The file of the one command.
 fn asked_file(words: &[String]) -> Option<&str>
-    ensures { MatchOption result (AsksNothing words.now) (λ file. AsksFor words.now file.now) }
+    ensures { MatchOption result (AsksNothing words.now) (λ file. Asks words.now (AsksSynth file.now)) }
 {
     match words {
         [command, file, style] if command.as_str() == "synth" && style.as_str() == "complex" => {
@@ -115,62 +164,4 @@ fn output<H: Shelf>(alloc: Global, file: &str, shelf: &mut H) -> Result<Text, St
         Err(LoadFault::Failed) => Err(Status::ReadFault),
         Err(LoadFault::TooLong { .. }) => Err(Status::TooLong),
     }
-}
-
-/// A refusal's line on `err`. The status is then the refusal's, or want of memory.
-fn refuse<E: Sink>(alloc: Global, status: Status, file: &str, err: &mut E) -> Status
-    requires { status ≢ Status.Done }
-    ensures status { (result ≡ status) ⊎ (result ≡ Status.NoMemory) }
-    ensures whole { (result ≡ Status.NoMemory) ⊎ (Appends (E.bytes err.old) (refusal_line result file.now) (E.bytes err.new) ⊎ Rose (E.faults err.old) (E.faults err.new)) }
-    ensures part { AppendsPrefix (E.bytes err.old) (refusal_line result file.now) (E.bytes err.new) }
-    ensures later { E.faults err.old ≤ E.faults err.new }
-{
-    let Ok(line) = refusal(alloc, status, file) else {
-        return put_no_memory(err);
-    };
-    match err.put(line.bytes()) {
-        Ok(()) => status,
-        Err(PutFault::Failed) => status,
-        Err(PutFault::NoMemory) => Status::NoMemory,
-    }
-}
-
-/// Puts the line of want of memory.
-fn put_no_memory<E: Sink>(err: &mut E) -> Status
-    ensures status { result ≡ Status.NoMemory }
-    ensures part { AppendsPrefix (E.bytes err.old) (refusal_line Status.NoMemory []) (E.bytes err.new) }
-    ensures later { E.faults err.old ≤ E.faults err.new }
-{
-    match err.put(b"nomemory\n") {
-        Ok(()) => Status::NoMemory,
-        Err(_) => Status::NoMemory,
-    }
-}
-
-/// The line of a refusal.
-fn refusal(alloc: Global, status: Status, file: &str) -> Result<Text, NoMemory>
-    ensures { IfOk result (λ text. text ≡ refusal_line status file.now) }
-{
-    match status {
-        Status::Done => Text::copy_of(alloc, b""),
-        Status::Unmapped => Text::copy_of(alloc, b""),
-        Status::Differs => Text::copy_of(alloc, b""),
-        Status::NoMemory => Text::copy_of(alloc, b"nomemory\n"),
-        Status::Usage => Text::copy_of(alloc, b"usage\n"),
-        Status::WriteFault => Text::copy_of(alloc, b"writefault\n"),
-        Status::Improper => Text::copy_of(alloc, b"improper\n"),
-        Status::Unresolved => Text::copy_of(alloc, b"unresolved\n"),
-        Status::ReadFault => naming(alloc, b"readfault ", file, b"\n"),
-        Status::TooLong => naming(alloc, b"toolong ", file, b"\n"),
-        Status::BadText => naming(alloc, b"badtext ", file, b" 0 BadLine\n"),
-    }
-}
-
-fn naming(alloc: Global, head: &[u8], file: &str, tail: &[u8]) -> Result<Text, NoMemory>
-    ensures { IfOk result (λ text. text ≡ head.now ++ file.now ++ tail.now) }
-{
-    let mut line = Text::copy_of(alloc, head)?;
-    line.add(file.as_bytes())?;
-    line.add(tail)?;
-    Ok(line)
 }

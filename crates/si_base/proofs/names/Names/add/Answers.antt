@@ -1,5 +1,4 @@
-use Rattle.std.proofs.Common.{◌≡◌, ◌∙◌, ℕ, List, [], ◌∷◌, ◌++◌, vec_items, map, slice_get, Some, sym, ap, arith, rules, length, Contains}
-use Rattle.std.proofs.lemmas.List.{length-map}
+use Rattle.std.proofs.Common.{◌≡◌, [], ◌∷◌, ◌++◌, vec_items, map, sym, rules, Contains}
 use Rattle.si_base.proofs.NameLemmas.{grows, last_place}
 use Rattle.si_base.proofs.names.Names.add.Goals as goal
 

@@ -1,4 +1,4 @@
-use Rattle.std.proofs.Common.{vec_items, ◌∙◌, sym, true≢false, refl}
+use Rattle.std.proofs.Common.{vec_items, sym, true≢false, refl}
 use Rattle.si_base.proofs.NameLemmas.{found_at, not_there, there}
 use Rattle.si_base.proofs.names.Names.place.Goals as goal
 

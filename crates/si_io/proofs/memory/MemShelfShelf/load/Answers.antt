@@ -1,4 +1,4 @@
-use Rattle.std.proofs.Common.{◌≡◌, ℕ, ◌==◌, List, Option, Some, Bool, true, false, length, sym, ap, subst, ◌∙◌, refl, if◌then◌else◌, nat_lt}
+use Rattle.std.proofs.Common.{◌≡◌, ℕ, ◌==◌, List, Some, Bool, true, false, length, sym, ap, subst, ◌∙◌, refl, if◌then◌else◌, nat_lt}
 use Rattle.std.specs.List.{list_any}
 use Rattle.si_io.specs.Outside.{one_more}
 use Rattle.si_io.specs.Memory.{ShelfState, Loading, Exceeds, Gives, content_of, loading, loading_of, Answers, shelf_after, faults_after}
