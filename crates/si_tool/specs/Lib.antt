@@ -3,6 +3,7 @@ pub mod Searches
 pub mod Command
 pub mod Answer
 pub mod Read
+pub mod Writing
 pub mod ExitStatus
 pub mod Lines
 pub mod Parts

@@ -4,6 +4,7 @@
 #[cfg(test)]
 mod breach_tests;
 mod conflicts;
+mod cubes;
 pub mod distinct;
 mod lines;
 mod parts;
@@ -15,6 +16,7 @@ pub mod refusals;
 pub mod run;
 pub mod status;
 mod strict;
+mod sums;
 pub mod sure;
 pub mod synth;
 #[cfg(test)]
