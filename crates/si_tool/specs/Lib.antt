@@ -1,5 +1,3 @@
-pub mod Faults
-pub mod Searches
 pub mod Command
 pub mod Answer
 pub mod Read

@@ -1,0 +1,5 @@
+pub mod OutLemmas
+pub mod ForkLemmas
+pub mod LossLemmas
+pub mod ProperLemmas
+pub mod ConflictLemmas

@@ -1,0 +1,6 @@
+use Rattle.si_checks.specs.Searches.{ForksAt}
+use Rattle.si_checks.proofs.OutLemmas.{NoneWithin}
+use Rattle.si_checks.proofs.forks.first_fork_at.Given as goal
+
+abbrev pub invariant-loop-x : goal.invariant-loop-x
+invariant-loop-x l = NoneWithin l.arcs (ForksAt l.graph l.fn.s) (λ b. b.a) l.x-index

@@ -1,0 +1,58 @@
+//! Proper graphs without conflicts, that is, with complete state coding.
+
+ghost use Rattle.std.specs.Prelude.{◌≡◌, ℕ, IfOk, IfErr};
+ghost use Rattle.si_base.specs.Proper.{HasNoConflict};
+
+use crate::conflicts::first_conflict;
+use crate::proper::Proper;
+use si_base::ids::{NoMemory, StateId};
+use std::alloc::Global;
+
+/// A loan of a proper graph without conflicts.
+#[derive(Clone, Copy)]
+pub struct Distinct<'a> {
+    graph: &'a Proper,
+    ghost distinct: { HasNoConflict graph.now },
+}
+
+/// Why a graph isn't distinct.
+#[derive(Clone, Copy, PartialEq, Eq, Debug)]
+pub enum NotDistinct {
+    /// Want of memory.
+    NoMemory,
+    /// The states `p` and `q`, the earlier first, have one code and enable different non-input events.
+    Conflict { p: StateId, q: StateId },
+}
+
+impl<'a> Distinct<'a> {
+    ghost use Rattle.si_checks.specs.Faults.{ShowsConflict};
+
+    /// The graph where it has no conflict, or its first conflict.
+    pub fn make(alloc: Global, graph: &'a Proper) -> Result<Distinct<'a>, NotDistinct>
+        ensures same { IfOk result (λ d. d.graph.now ≡ graph.now) }
+        ensures distinct { IfOk result (λ d. HasNoConflict graph.now) }
+        ensures fault { IfErr result (ShowsConflict graph.now) }
+    {
+        match first_conflict(alloc, graph.coded()) {
+            Ok(None) => Ok(Distinct { graph }),
+            Ok(Some((p, q))) => Err(NotDistinct::Conflict { p, q }),
+            Err(NoMemory) => Err(NotDistinct::NoMemory),
+        }
+    }
+
+    /// The graph, of which it is known that it has no conflict.
+    pub fn known(graph: &'a Proper) -> Distinct<'a>
+        requires { HasNoConflict graph.now }
+        ensures { result.graph.now ≡ graph.now }
+    {
+        Distinct { graph }
+    }
+
+    /// The proper graph.
+    pub fn proper(&self) -> &Proper
+        ensures same { result.now ≡ self.now.graph.now }
+        ensures distinct { HasNoConflict self.now.graph.now }
+    {
+        self.graph
+    }
+}

@@ -1,0 +1,10 @@
+//! Checks of coded graphs: proper graphs, and proper graphs without conflicts.
+#![tactic(auto)]
+
+mod conflicts;
+pub mod distinct;
+mod forks;
+mod losses;
+pub mod proper;
+#[cfg(test)]
+mod tests;

@@ -1,0 +1,89 @@
+//! Proper graphs: deterministic, consistent, commutative and output-persistent.
+
+ghost use Rattle.std.specs.Prelude.{◌≡◌, ℕ, IfOk, IfErr};
+ghost use Rattle.si_base.specs.Proper.{IsProper};
+
+use crate::forks::{Fork, first_fork};
+use crate::losses::{Loss, first_loss};
+use si_base::ids::{Event, StateId};
+use si_graph::coded::Coded;
+use std::alloc::Global;
+use std::marker::Model;
+
+/// A proper graph with its codes.
+#[derive(Drop)]
+pub struct Proper {
+    coded: Coded,
+}
+
+impl Model for Proper {
+    ghost use Rattle.si_base.specs.Codes.{CodedGraph};
+    ghost use Rattle.si_base.specs.Proper.{IsProper};
+
+    ghost Value = { CodedGraph };
+
+    ghost view = { λ p. p.coded };
+
+    ghost invariant = { λ p. IsProper p.coded.graph };
+}
+
+/// Why a coded graph isn't proper.
+#[derive(Clone, Copy, PartialEq, Eq, Debug)]
+pub enum Improper {
+    /// Want of memory.
+    NoMemory,
+    /// The state `s` leads by `a` and then `c` to `w`, and by `c` and then `a` to another state `w2`.
+    Noncommutative {
+        s: StateId,
+        a: Event,
+        c: Event,
+        w: StateId,
+        w2: StateId,
+    },
+    /// At `s` the event `by` disables the enabled non-input event `lost`.
+    Nonpersistent {
+        s: StateId,
+        lost: Event,
+        by: Event,
+    },
+}
+
+impl Proper {
+    ghost use Rattle.si_checks.specs.Faults.{ShowsImproper};
+
+    /// The graph where it is proper, or the first breach of commutativity, or else of output persistency.
+    /// The coded graph comes back.
+    pub fn make(_alloc: Global, coded: Coded) -> Result<Proper, (Coded, Improper)>
+        ensures same { IfOk result (λ p. p ≡ coded) }
+        ensures proper { IfOk result (λ p. IsProper p.graph) }
+        ensures back { IfErr result (λ e. e.0 ≡ coded) }
+        ensures fault { IfErr result (λ e. ShowsImproper coded.graph e.1) }
+    {
+        let graph = coded.coded_graph();
+        if let Some(fork) = first_fork(graph) {
+            let Fork { s, a, c, w, w2 } = fork;
+            return Err((coded, Improper::Noncommutative { s, a, c, w, w2 }));
+        }
+        if let Some(loss) = first_loss(graph) {
+            let Loss { s, lost, by } = loss;
+            return Err((coded, Improper::Nonpersistent { s, lost, by }));
+        }
+        Ok(Proper { coded })
+    }
+
+    /// The coded graph.
+    pub fn coded(&self) -> &Coded
+        ensures same { result.now ≡ self.now }
+        ensures proper { IsProper self.now.graph }
+    {
+        &self.coded
+    }
+
+    /// The coded graph, of which it is no longer known that it is proper.
+    pub fn into_coded(self) -> Coded
+        ensures { result ≡ self }
+    {
+        let Proper { coded } = self;
+        coded
+    }
+}

@@ -1,5 +1,0 @@
-use Rattle.si_tool.proofs.ConflictLemmas.{other_key}
-use Rattle.si_tool.proofs.conflicts.first_of_code.Goals as goal
-
-pub returns-clause-others : goal.returns-clause-others
-returns-clause-others c = λ k apart. c.in_ok-insert.ensures.updates.2 k (other_key c.args.code k apart)

@@ -1,6 +1,0 @@
-use Rattle.si_tool.specs.Searches.{ForksAt}
-use Rattle.si_tool.proofs.OutLemmas.{NoneWithin}
-use Rattle.si_tool.proofs.forks.first_fork_at.Given as goal
-
-abbrev pub invariant-loop-x : goal.invariant-loop-x
-invariant-loop-x l = NoneWithin l.arcs (ForksAt l.graph l.fn.s) (λ b. b.a) l.x-index
