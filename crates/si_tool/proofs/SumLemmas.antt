@@ -11,9 +11,6 @@ use Rattle.si_base.specs.Words.{once}
 abbrev pub kept_from : (ℕ → Bool) → List ℕ → ℕ → List ℕ
 kept_from test xs i = map (λ p. p.1) (filter (λ p. test p.0) (enumerate_from i (drop i xs)))
 
-pub kept_skip : (test : ℕ → Bool) (xs : List ℕ) (i : ℕ) → i < length xs → test i ≡ false → kept_from test xs i ≡ kept_from test xs (i + 1)
-kept_skip test xs i within fails = rw (add-one, drop-cons xs i 0, fails) (rw add-one refl)
-
 pub kept_more : (test : ℕ → Bool) (xs : List ℕ) (i : ℕ) → i < length xs → test i ≡ true → kept_from test xs i ≡ get_or xs i 0 ∷ kept_from test xs (i + 1)
 kept_more test xs i within holds = rw (add-one, drop-cons xs i 0, holds) (rw add-one refl)
 

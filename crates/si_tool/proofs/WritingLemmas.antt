@@ -13,7 +13,7 @@ use Rattle.si_base.specs.Words.{line, text_of}
 use Rattle.si_base.specs.Graph.{is_driven, IsNonInput}
 use Rattle.si_base.specs.Codes.{CodedGraph, code}
 use Rattle.si_base.specs.Netlist.{SumGate}
-use Rattle.si_base.specs.NetlistText.{names_of, same_kind, name_of, literal_word, cube_words, more_cubes, gate_words, bits_from, word_if_any, netlist_text}
+use Rattle.si_base.specs.NetlistText.{names_of, name_of, literal_word, cube_words, more_cubes, gate_words, bits_from, word_if_any, netlist_text}
 use Rattle.si_base.specs.Cover.{full_cube_from, full_sum, full_netlist}
 use Rattle.si_tool.specs.Writing.{spaced, gate_lines_from}
 
@@ -59,22 +59,9 @@ literals_more signals code i x text within is =
 abbrev pub cubes_from : List Signal → List ℕ → ℕ → List ℕ
 cubes_from signals codes i = spaced (more_cubes signals (map (full_cube_from 0 signals) (drop i codes)))
 
-pub cubes_more : (signals : List Signal) (codes : List ℕ) (i : ℕ) (text : List ℕ) → i < length codes
-    → ((text ++ 32 ∷ 43 ∷ []) ++ spaced (cube_words signals (full_cube_from 0 signals (get_or codes i 0)))) ++ cubes_from signals codes (i + 1) ≡ text ++ cubes_from signals codes i
-cubes_more signals codes i text within =
-    rw (add-one, drop-cons codes i 0) (simp (flat_map-append, append_assoc))
-
 -- the names of a kind from the i-th signal on
 abbrev pub names_from : SigKind → List Signal → ℕ → List ℕ
 names_from kind signals i = spaced (names_of kind (drop i signals))
-
-pub names_skip : (kind : SigKind) (signals : List Signal) (i : ℕ) (x : Signal) → i < length signals → x ≡ get_or signals i x → same_kind kind x.kind ≡ false
-    → names_from kind signals (i + 1) ≡ names_from kind signals i
-names_skip kind signals i x within is other = rw (add-one, drop-cons signals i x, ← is) (rw other refl)
-
-pub names_more : (kind : SigKind) (signals : List Signal) (i : ℕ) (x : Signal) (text : List ℕ) → i < length signals → x ≡ get_or signals i x → same_kind kind x.kind ≡ true
-    → (text ++ 32 ∷ x.name) ++ names_from kind signals (i + 1) ≡ text ++ names_from kind signals i
-names_more kind signals i x text within is same = rw (add-one, drop-cons signals i x, ← is) (rw same (simp append_assoc))
 
 -- the digits from the i-th signal on
 bits_at : (signals : List Signal) (code i : ℕ) (x : Signal) (text : List ℕ) → i < length signals

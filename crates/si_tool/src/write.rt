@@ -17,7 +17,7 @@ use si_base::text::{Name, Text};
 use si_graph::coded::Coded;
 use std::alloc::Global;
 
-/// The text of the netlist.
+/// The text of the netlist of sums of full cubes, under the model's name. It fails only for want of memory.
 pub fn write_full(alloc: Global, model: &Name, graph: Distinct<'_>) -> Result<Text, NoMemory>
     ensures { IfOk result (λ text. text ≡ netlist_text (full_netlist model.now graph.entry.graph.now)) }
 {
