@@ -1,13 +1,11 @@
 -- The causes of a run's answers exclude each other, so told texts get the answer that they deserve.
-use Rattle.std.proofs.Common.{◌≡◌, ◌≢◌, ◌⊎◌, ℕ, ◌<◌, ◌≤◌, List, [], ◌∷◌, length, Option, Some, IfSome, refl, sym, ap, subst, ◌∙◌, arith, String, Global}
-use Rattle.si_base.specs.Graph.{StateGraph}
-use Rattle.si_base.specs.Limits.{max_text}
-use Rattle.si_base.specs.Codes.{CodedGraph, IsCoded}
+use Rattle.std.proofs.Common.{◌≡◌, ◌≢◌, ℕ, List, [], ◌∷◌, Option, IfSome, refl, sym, ap, subst, ◌∙◌, arith, String, Global}
+use Rattle.si_base.specs.Codes.{CodedGraph}
 use Rattle.si_base.specs.Proper.{IsProper}
 use Rattle.si_base.specs.StrictText.{IsGiven, Sg}
 use Rattle.si_base.proofs.Given.{given_unique}
 use Rattle.si_base.proofs.UniqueCodes.{conflict_unique}
-use Rattle.si_tool.specs.Command.{Asked, AsksSynth, Asks, AsksNothing, Asking, files_of}
+use Rattle.si_tool.specs.Command.{Asked, AsksSynth, Asks, AsksNothing, files_of}
 use Rattle.si_tool.specs.Answer.{IsBadText, IsImproper, IsUnresolved, IsSolvable, IsSound, IsTooLong, HasBadText, HasImproper, HasConflict, CanBeDone, IsOutput, Outputs, Deserve, Told, AreTold, AskingTold, Ends, AsDeserved, WithoutMemory, ByReadFault, ByWriteFault}
 use Rattle.si_tool.specs.declared.status.Status.{Status}
 use Rattle.si_tool.specs.declared.status.Status.TheVariants.{Done, NoMemory, Usage, ReadFault, WriteFault, TooLong, BadText, Improper, Unresolved, Unmapped, Differs}

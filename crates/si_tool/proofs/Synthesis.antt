@@ -1,18 +1,17 @@
 -- What the stages show together.
-use Rattle.std.proofs.Common.{◌≡◌, ℕ, zero, suc, ◌<◌, List, [], ◌∷◌, ◌++◌, Bool, true, false, not, length, map, filter, slice_get, Some, refl, sym, ap, subst, arith, cond}
+use Rattle.std.proofs.Common.{◌≡◌, ℕ, zero, suc, List, [], ◌∷◌, ◌++◌, false, not, filter, slice_get, Some, refl, sym, ap, subst}
 use Rattle.si_base.specs.declared.graph.Signal.{Signal}
 use Rattle.si_base.specs.declared.graph.SigKind.{SigKind}
 use Rattle.si_base.specs.declared.graph.SigKind.TheVariants.{Input, Output, Internal}
 use Rattle.si_base.specs.Graph.{StateGraph}
-use Rattle.si_base.specs.Codes.{CodedGraph, IsCoded, code}
+use Rattle.si_base.specs.Codes.{CodedGraph, IsCoded}
 use Rattle.si_base.specs.Proper.{IsProper, HasNoConflict}
 use Rattle.si_base.specs.System.{is_inserted, IsFor}
-use Rattle.si_base.specs.Netlist.{Netlist}
 use Rattle.si_base.specs.RightGates.{HasNoneInserted}
 use Rattle.si_base.specs.Cover.{full_netlist}
 use Rattle.si_base.specs.NetlistText.{netlist_text}
 use Rattle.si_base.specs.Behaviour.{Implements}
-use Rattle.si_base.specs.StrictText.{IsGiven, Sg, Spelling, signals_of}
+use Rattle.si_base.specs.StrictText.{IsGiven, Sg, signals_of}
 use Rattle.si_base.proofs.FullSums.{full_implements}
 use Rattle.si_tool.specs.Answer.{IsSynthesis}
 

@@ -1,5 +1,5 @@
 -- What the files of a command deserve, and the lines of refusals.
-use Rattle.std.specs.Prelude.{◌≡◌, ◌≢◌, ℕ, ◌<◌, ◌≤◌, ◌⊎◌, List, [], ◌∷◌, ◌++◌, length, codes, Option, Some, IfSome, String, Bool, true, false, IsTrue, Any, Contains, map}
+use Rattle.std.specs.Prelude.{◌≡◌, ℕ, ◌<◌, ◌≤◌, ◌⊎◌, List, [], ◌∷◌, length, codes, Option, Some, IfSome, String, Bool, true, false, IsTrue, Any, Contains}
 use Rattle.std.specs.declared.alloc.Global.{Global}
 use Rattle.si_io.specs.Outside.{Rose, Appends, AppendsPrefix}
 use Rattle.si_base.specs.Limits.{max_text}
@@ -12,7 +12,7 @@ use Rattle.si_base.specs.Cover.{full_netlist}
 use Rattle.si_base.specs.Words.{line}
 use Rattle.si_base.specs.StrictText.{IsStrictText, IsGiven, Sg}
 use Rattle.si_base.specs.NetlistText.{netlist_text}
-use Rattle.si_tool.specs.Command.{Asked, AsksSynth, files_of, Asks, AsksNothing, Asking}
+use Rattle.si_tool.specs.Command.{Asked, AsksSynth, files_of, Asking}
 use Rattle.si_tool.specs.declared.status.Status.{Status}
 use Rattle.si_tool.specs.declared.status.Status.TheVariants.{Done, NoMemory, Usage, ReadFault, WriteFault, TooLong, BadText, Improper, Unresolved, Unmapped, Differs}
 

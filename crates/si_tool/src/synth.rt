@@ -3,11 +3,11 @@
 ghost use Rattle.std.specs.Prelude.{◌≡◌, ℕ, IfOk, Err};
 ghost use Rattle.si_tool.specs.Answer.{IsBadText, IsImproper, IsUnresolved, IsSynthesis};
 
-use si_checks::distinct::{Distinct, NotDistinct};
-use si_checks::proper::{Improper, Proper};
 use crate::read::{NotRead, Sg, read_strict};
 use crate::write::write_full;
 use si_base::text::Text;
+use si_checks::distinct::{Distinct, NotDistinct};
+use si_checks::proper::{Improper, Proper};
 use si_graph::coded::{CodeFault, Coded};
 use std::alloc::Global;
 use thiserror::Error;

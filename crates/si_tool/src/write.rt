@@ -9,11 +9,11 @@ ghost use Rattle.si_base.specs.Cover.{full_netlist, full_sum};
 ghost use Rattle.si_tool.specs.Writing.{spaced, gate_lines_from};
 
 use crate::cubes::{add_sum, add_word};
-use si_checks::distinct::Distinct;
 use crate::sums::sum_codes;
 use si_base::graph::{SigKind, Signal};
 use si_base::ids::{Code, NoMemory, Sig};
 use si_base::text::{Name, Text};
+use si_checks::distinct::Distinct;
 use si_graph::coded::Coded;
 use std::alloc::Global;
 
