@@ -1,6 +1,6 @@
 //! A text as lines of words.
 
-ghost use Rattle.std.specs.Prelude.{◌≡◌, ℕ, List, [], ◌∷◌, ◌++◌, IfOk, MatchOption};
+ghost use Rattle.std.specs.Prelude.{◌≡◌, ◌==◌, ◌<◌, ◌*◌, ◌↔◌, ℕ, List, [], ◌∷◌, ◌++◌, IfOk, IsTrue, MatchOption, count_by, length};
 ghost use Rattle.si_tool.specs.Lines.{words_now, lines_now, words_between, lines_between};
 
 use std::alloc::{AllocError, Global};
@@ -15,6 +15,23 @@ pub fn lines_of<'a>(alloc: Global, text: &'a [u8]) -> Result<Vec<Vec<&'a [u8]>>,
         lines.push(pieces(alloc, *part, b' ')?)?;
     }
     Ok(lines)
+}
+
+/// The fewest bytes of a line of the strict form, with its line end: those of `.end`.
+const SHORTEST_LINE: usize = 5;
+
+/// Whether the text has more line ends than lines of that length would have.
+pub fn has_short_lines(text: &[u8]) -> bool
+    ensures { IsTrue result ↔ (length text.now < 5 * count_by (λ b. b == 10) text.now) }
+{
+    line_ends(text) > text.len() / SHORTEST_LINE
+}
+
+/// How many line ends the text has.
+fn line_ends(text: &[u8]) -> usize
+    ensures { result ≡ count_by (λ b. b == 10) text.now }
+{
+    text.iter().filter(|b| **b == b'\n').count()
 }
 
 /// What stands between the bytes of this value.

@@ -9,7 +9,7 @@ ghost use Rattle.si_base.specs.Codes.{IsConnected};
 ghost use Rattle.si_tool.specs.Answer.{IsBadText};
 ghost use Rattle.si_tool.specs.Read.{given_sg};
 
-use crate::lines::lines_of;
+use crate::lines::{has_short_lines, lines_of};
 use crate::parts::parts_of;
 use crate::strict::whole_of;
 use si_base::ids::{NoMemory, StateId};
@@ -87,6 +87,10 @@ pub fn read_strict(alloc: Global, text: &[u8]) -> Result<Sg, NotRead>
     ensures connected { IfOk result (λ g. IsConnected g.graph) }
     ensures bad { result ≡ Err NotRead.BadText → IsBadText text.now }
 {
+    // Such a text needs many times its length in memory where it is cut into lines.
+    if has_short_lines(text) {
+        return Err(NotRead::BadText);
+    }
     let lines = lines_of(alloc, text)?;
     let parts = parts_of(alloc, lines.as_slice())?;
     let whole = whole_of(alloc, &parts)?;

@@ -4,7 +4,11 @@ use Rattle.si_tool.specs.Lines.{lines_now}
 use Rattle.si_tool.specs.Parts.{spelling_of}
 use Rattle.si_tool.proofs.TextLemmas.{text_is}
 use Rattle.si_tool.proofs.GivenLemmas.{bad_lines, bad_parts, kept_within}
+use Rattle.si_tool.proofs.LengthLemmas.{no_short_lines}
 use Rattle.si_tool.proofs.read.read_strict.Goals as goal
+
+pub returns-then-has_short_lines-clause-bad : goal.returns-then-has_short_lines-clause-bad
+returns-then-has_short_lines-clause-bad c = λ _ strict. no_short_lines c.args.text.now strict.0 strict.1 strict.2 (c.has_short_lines.ensures.0 c.if-has_short_lines.true)
 
 pub returns-in_err-parts-clause-bad : goal.returns-in_err-parts-clause-bad
 returns-in_err-parts-clause-bad c = λ bad.
