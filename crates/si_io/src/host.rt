@@ -1,6 +1,7 @@
 //! Files of the host's file store, and its writers: the trusted edge. Nothing is told of their bytes.
 
-ghost use Rattle.std.specs.Prelude.{◌≡◌, ◌≢◌, ℕ, ◌+◌, ◌^◌, ◌<◌, ◌≤◌, List, Option, None, IfOk, Err, vec_len};
+ghost use Rattle.std.specs.Prelude.{◌≡◌, ◌≢◌, ℕ, ◌+◌, ◌^◌, ◌<◌, ◌≤◌, List, Option, None, IfOk, OnOk, Err, vec_len};
+ghost use Rattle.std.specs.Io.KnownBytes.{Appends};
 ghost use Rattle.si_io.specs.Outside.{Rose};
 
 use crate::shelf::{LoadFault, Shelf};
@@ -79,7 +80,8 @@ fn read_up_to<R: Read>(alloc: Global, reader: &mut R, limit: u64) -> Result<Vec<
     })
 }
 
-/// A writer of the host. It never answers `NoMemory`.
+/// A writer of the host. It never answers `NoMemory`. Of a writer that tells the bytes that it holds, a put that answers
+/// `Ok` appended the piece.
 #[derive(Drop)]
 pub struct HostSink<W> {
     writer: W,
@@ -102,13 +104,14 @@ impl<W: Write> Sink for HostSink<W> {
 
     fn put(&mut self, piece: &[u8]) -> Result<(), PutFault>
         ensures has_memory { result ≢ Err PutFault.NoMemory }
+        ensures written { OnOk result (Appends (W.contents self.old.writer) (W.contents self.new.writer) piece.now) }
         ensures failed { result ≡ Err PutFault.Failed → Rose self.old.faults self.new.faults }
         ensures later { self.old.faults ≤ self.new.faults }
     {
         let mut rest = piece;
         while !rest.is_empty() {
             match self.writer.write(rest) {
-                Ok(count) if count > 0 => rest = &rest[count..],
+                Ok(count) if count > 0 => rest = rest.split_at(count).1,
                 _ => {
                     self.faults = self.faults.saturating_add(1);
                     return Err(PutFault::Failed);

@@ -1,8 +1,14 @@
-use Rattle.std.proofs.Common.{◌≡◌, length}
+use Rattle.std.proofs.Common.{◌≡◌, ℕ, List, ◌++◌, length}
+use Rattle.std.specs.Io.KnownBytes.{Appends}
 use Rattle.si_io.proofs.host.HostSinkSink.put.Given as goal
 
 abbrev pub invariant-loop-rest : goal.invariant-loop-rest
-invariant-loop-rest g l = l.self.faults ≡ l.initial.self.faults
+invariant-loop-rest g l = record {
+  faults : l.self.faults ≡ l.initial.self.faults;
+  done : List ℕ;
+  parts : l.initial.rest ≡ done ++ l.rest;
+  written : Appends (g.W.Write.contents l.initial.self.writer) (g.W.Write.contents l.self.writer) done;
+}
 
 abbrev pub decreases-loop-rest : goal.decreases-loop-rest
 decreases-loop-rest g l = length l.rest
