@@ -1,0 +1,2 @@
+//! Cubes and sums.
+#![tactic(auto)]

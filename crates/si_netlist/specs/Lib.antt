@@ -1,0 +1,5 @@
+pub mod Names
+pub mod Sums
+pub mod NetlistFault
+pub mod NetlistValue
+pub mod Rows

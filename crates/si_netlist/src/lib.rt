@@ -1,0 +1,4 @@
+//! Netlists, their gates, and their text both ways.
+#![tactic(auto)]
+
+pub mod laws;
