@@ -3,3 +3,4 @@ pub mod Sums
 pub mod NetlistFault
 pub mod NetlistValue
 pub mod Rows
+pub mod Parts
