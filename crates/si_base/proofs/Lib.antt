@@ -11,3 +11,4 @@ pub mod Given
 pub mod Parity
 pub mod NameLemmas
 pub mod UniqueCodes
+pub mod LineLemmas

@@ -14,3 +14,6 @@ pub mod Cover
 pub mod EdgeOrder
 pub mod WellFormed
 pub mod RightGates
+pub mod Lines
+pub mod Faults
+pub mod TextFaults

@@ -3,10 +3,12 @@
 //! The definitions that every contract of the tool cites stand in this crate's `specs/`.
 #![tactic(auto)]
 
+pub mod fault;
 pub mod graph;
 pub mod ids;
 pub mod laws;
 pub mod limits;
+pub mod lines;
 pub mod names;
 pub mod order;
 pub mod sets;

@@ -1,0 +1,106 @@
+//! Faults of a text.
+
+ghost use Rattle.std.specs.Prelude.{◌≡◌};
+ghost use Rattle.si_base.specs.declared.fault.LineFault.TheVariants.{NoMemory};
+ghost use Rattle.si_base.specs.TextFaults.{ToldAt, kind_name};
+
+use std::alloc::{AllocError, AllocFailed};
+use thiserror::Error;
+
+/// What is wrong with a text.
+#[derive(Clone, Copy, PartialEq, Eq, Debug)]
+pub enum TextKind {
+    BadByte,
+    UnknownDirective,
+    BadName,
+    Repeated,
+    Dummy,
+    Toggle,
+    Undeclared,
+    BadEvent,
+    BadArcLine,
+    BadLine,
+    NoStateGraph,
+    NoMarking,
+    MarkingNotOne,
+    UnknownState,
+    NoEnd,
+    TooManySignals,
+    TooManyStates,
+    TooManyArcs,
+    TooManyCells,
+    TooManyPins,
+}
+
+/// A fault of a line.
+#[derive(Clone, Copy, PartialEq, Eq, Debug)]
+pub enum LineFault {
+    NoMemory,
+    Kind(TextKind),
+}
+
+impl From<AllocError> for LineFault {
+    ghost from_gives = { λ _ e. e ≡ NoMemory };
+
+    fn from(_e: AllocError) -> LineFault {
+        LineFault::NoMemory
+    }
+}
+
+impl<T: Drop> From<AllocFailed<T>> for LineFault {
+    ghost from_gives = { λ _ e. e ≡ NoMemory };
+
+    fn from(_e: AllocFailed<T>) -> LineFault {
+        LineFault::NoMemory
+    }
+}
+
+/// Why a text was not read.
+#[derive(Clone, Copy, PartialEq, Eq, Debug, Drop, Error)]
+pub enum TextFault {
+    #[error("no memory")]
+    NoMemory,
+    /// The first fault of the text, with the number of its line, from 1.
+    #[error("line {line}: {kind:?}")]
+    At { line: u64, kind: TextKind },
+}
+
+impl TextKind {
+    /// The word under which the kind prints.
+    pub fn name(self) -> &'static str
+        ensures { result.now ≡ kind_name self }
+    {
+        match self {
+            TextKind::BadByte => "BadByte",
+            TextKind::UnknownDirective => "UnknownDirective",
+            TextKind::BadName => "BadName",
+            TextKind::Repeated => "Repeated",
+            TextKind::Dummy => "Dummy",
+            TextKind::Toggle => "Toggle",
+            TextKind::Undeclared => "Undeclared",
+            TextKind::BadEvent => "BadEvent",
+            TextKind::BadArcLine => "BadArcLine",
+            TextKind::BadLine => "BadLine",
+            TextKind::NoStateGraph => "NoStateGraph",
+            TextKind::NoMarking => "NoMarking",
+            TextKind::MarkingNotOne => "MarkingNotOne",
+            TextKind::UnknownState => "UnknownState",
+            TextKind::NoEnd => "NoEnd",
+            TextKind::TooManySignals => "TooManySignals",
+            TextKind::TooManyStates => "TooManyStates",
+            TextKind::TooManyArcs => "TooManyArcs",
+            TextKind::TooManyCells => "TooManyCells",
+            TextKind::TooManyPins => "TooManyPins",
+        }
+    }
+}
+
+/// The fault of a line with its number.
+pub fn at_line(line: u64, fault: LineFault) -> TextFault
+    ensures { ToldAt fault line result }
+{
+    match fault {
+        LineFault::NoMemory => TextFault::NoMemory,
+        LineFault::Kind(kind) => TextFault::At { line, kind },
+    }
+}

@@ -1,0 +1,19 @@
+-- The literals of a cube that is kept as two codes.
+use Rattle.std.specs.Prelude.{◌≡◌, ℕ, ◌+◌, Bool, true, List, [], ◌∷◌, zero, suc, if◌then◌else◌}
+use Rattle.si_base.specs.declared.ids.Literal.{Literal}
+use Rattle.si_base.specs.Limits.{max_signals}
+use Rattle.si_base.specs.Bits.{bit}
+
+-- a literal for each of the next signals, from the i-th on, that the cube cares for: plain where its value is 1
+abbrev pub literals_from : ℕ → ℕ → ℕ → ℕ → List Literal
+literals_from zero i care value = []
+literals_from (suc count) i care value =
+    if bit care i then record { sig = i; plain = bit value i } ∷ literals_from count (i + 1) care value
+    else literals_from count (i + 1) care value
+
+unfoldable pub literals_of : ℕ → ℕ → List Literal
+literals_of care value = literals_from max_signals 0 care value
+
+-- each signal of value 1 is one that the cube cares for
+abbrev pub IsWithin : ℕ → ℕ → Type 0
+IsWithin care value = (i : ℕ) → bit value i ≡ true → bit care i ≡ true

@@ -1,0 +1,5 @@
+//! Cubes and sums.
+#![tactic(auto)]
+
+pub mod cube;
+pub mod sum;

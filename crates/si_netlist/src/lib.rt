@@ -1,0 +1,6 @@
+//! Netlists, their gates, and their text both ways.
+#![tactic(auto)]
+
+pub mod gate;
+pub mod laws;
+pub mod netlist;

@@ -1,0 +1,95 @@
+//! Netlists.
+
+ghost use Rattle.std.specs.Prelude.{◌≡◌, ℕ, ◌<◌, length, map};
+ghost use Rattle.si_base.specs.WellFormed.{IsNetlist};
+ghost use Rattle.si_base.specs.Graph.{IsNonInput};
+ghost use Rattle.si_base.specs.Netlist as base;
+ghost use Rattle.si_netlist.specs.Parts.{gate_seen};
+
+use crate::gate::{Gate, Insert};
+use si_base::graph::Signal;
+use si_base::ids::Code;
+use si_base::text::Name;
+use std::marker::Model;
+
+/// A netlist: a model name, signals with their start values, insertions, and a gate for each signal that isn't an
+/// input, in signal order.
+#[derive(Drop)]
+pub struct Netlist {
+    model: Name,
+    signals: Vec<Signal>,
+    start: Code,
+    inserts: Vec<Insert>,
+    gates: Vec<Gate>,
+}
+
+impl Model for Netlist {
+    ghost use Rattle.std.specs.Prelude.{map};
+    ghost use Rattle.si_base.specs.Netlist as base;
+    ghost use Rattle.si_base.specs.WellFormed.{IsNetlist};
+    ghost use Rattle.si_netlist.specs.Parts.{gate_seen};
+
+    ghost Value = { base.Netlist };
+
+    ghost view = { λ n. record { model = n.model; signals = n.signals.items; start = n.start; inserts = n.inserts.items; gates = map gate_seen n.gates.items } };
+
+    ghost invariant = { λ n. IsNetlist (record { model = n.model; signals = n.signals.items; start = n.start; inserts = n.inserts.items; gates = map gate_seen n.gates.items }) };
+}
+
+impl Netlist {
+    /// The netlist of these parts.
+    pub fn make(
+        model: Name,
+        signals: Vec<Signal>,
+        start: Code,
+        inserts: Vec<Insert>,
+        gates: Vec<Gate>,
+    ) -> Netlist
+        requires { IsNetlist (record { model = model; signals = signals.items; start = start; inserts = inserts.items; gates = map gate_seen gates.items }) }
+        ensures { result ≡ record { model = model; signals = signals.items; start = start; inserts = inserts.items; gates = map gate_seen gates.items } }
+    {
+        Netlist {
+            model,
+            signals,
+            start,
+            inserts,
+            gates,
+        }
+    }
+
+    /// The name of the model.
+    pub fn model(&self) -> &Name
+        ensures { result.now ≡ self.now.model }
+    {
+        &self.model
+    }
+
+    /// The signals in signal order, and what holds of each netlist.
+    pub fn signals(&self) -> &[Signal]
+        ensures signals { result.now ≡ self.now.signals }
+        ensures netlist { IsNetlist self.now }
+    {
+        self.signals.as_slice()
+    }
+
+    /// The value of each signal at the start.
+    pub fn start(&self) -> Code
+        ensures { result ≡ self.now.start }
+    {
+        self.start
+    }
+
+    /// The insertions, in their order.
+    pub fn inserts(&self) -> &[Insert]
+        ensures { result.now ≡ self.now.inserts }
+    {
+        self.inserts.as_slice()
+    }
+
+    /// The gates of the signals that aren't inputs, in signal order.
+    pub fn gates(&self) -> &[Gate]
+        ensures { map gate_seen result.now ≡ self.now.gates }
+    {
+        self.gates.as_slice()
+    }
+}
