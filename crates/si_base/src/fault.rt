@@ -32,7 +32,7 @@ pub enum TextKind {
     TooManyPins,
 }
 
-/// A fault of a line.
+/// Why a line was not read.
 #[derive(Clone, Copy, PartialEq, Eq, Debug)]
 pub enum LineFault {
     NoMemory,

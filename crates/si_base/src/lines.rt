@@ -1,4 +1,4 @@
-//! Lines and words.
+//! Lines of a text, and words of a line.
 
 ghost use Rattle.std.specs.Prelude.{take_while, ◌&&◌, ◌||◌, nat_lt, ◌≡◌, ℕ, ◌+◌, ◌<◌, ◌≤◌, ◌^◌, ◌∷◌, [], List, length, MatchOption, not, ◌==◌, slice_index, true, false};
 ghost use Rattle.std.specs.List.{enumerate_from, prefix_len, list_any};
@@ -6,12 +6,16 @@ ghost use Rattle.si_base.specs.Lines.{lines_of, words_in, before_comment, is_bla
 
 use std::marker::Model;
 
+/// A line without its line end.
 #[derive(Clone, Copy)]
 pub struct Line<'a> {
+    /// Counted from 1.
     pub number: u64,
     pub bytes: &'a [u8],
 }
 
+/// The lines of a text that weren't taken yet. Each line end ends a line, and what stands after the last is a line if it
+/// isn't empty. Contracts see the list of the lines left, each with its number.
 #[derive(Drop)]
 pub struct Lines<'a> {
     rest: &'a [u8],
@@ -31,6 +35,7 @@ impl<'a> Model for Lines<'a> {
 }
 
 impl<'a> Lines<'a> {
+    /// All lines of the text.
     pub fn new(text: &'a [u8]) -> Lines<'a>
         ensures { result ≡ enumerate_from 1 (lines_of text.now) }
     {
@@ -40,6 +45,7 @@ impl<'a> Lines<'a> {
         }
     }
 
+    /// Takes the next line; `None` exactly where none is left.
     pub fn next_line(&mut self) -> Option<Line<'a>>
         ensures { MatchOption result ((self.old ≡ []) × (self.new ≡ [])) (λ l. self.old ≡ (l.number, l.bytes.now) ∷ self.new) }
     {
@@ -90,6 +96,9 @@ fn plain_len(braces: bool, bytes: &[u8]) -> usize
     bytes.iter().take_while(|b| is_plain(braces, **b)).count()
 }
 
+/// The words of a line that weren't taken yet: the longest runs of bytes other than space, tab and CR, up to the comment
+/// that `#` begins. Where `braces` says so, `{` and `}` are words of one byte each. Contracts see the list of the words
+/// left.
 #[derive(Drop)]
 pub struct Words<'a> {
     rest: &'a [u8],
@@ -106,6 +115,7 @@ impl<'a> Model for Words<'a> {
 }
 
 impl<'a> Words<'a> {
+    /// All words of the line.
     pub fn new(line: &'a [u8], braces: bool) -> Words<'a>
         ensures { result ≡ words_in braces (before_comment line.now) }
     {
@@ -116,6 +126,7 @@ impl<'a> Words<'a> {
         }
     }
 
+    /// Takes the next word; `None` exactly where none is left.
     pub fn next_word(&mut self) -> Option<&'a [u8]>
         ensures { MatchOption result ((self.old ≡ []) × (self.new ≡ [])) (λ w. self.old ≡ w.now ∷ self.new) }
     {
@@ -146,7 +157,7 @@ fn has_bad(bytes: &[u8]) -> bool
     bytes.iter().any(|b| is_bad(*b))
 }
 
-/// Whether a byte before the comment is none that a text may have.
+/// Whether some byte before the comment is one that no text may have: below 32 but for tab and CR, or above 126.
 pub fn has_bad_byte(line: &[u8]) -> bool
     ensures { result ≡ bad line.now }
 {

@@ -1,7 +1,9 @@
 //! Each call once on its happy path, and a list of names that is full.
 
+use crate::fault::{LineFault, TextFault, TextKind, at_line};
 use crate::graph::Edge;
 use crate::ids::{Code, Event, Literal, Sig, StateId};
+use crate::lines::{Lines, Words, has_bad_byte};
 use crate::names::{AddFault, Names};
 use crate::sets::StateSet;
 use crate::text::{Name, Text};
@@ -87,5 +89,48 @@ fn rising_events_come_first(rt: HostRuntime) {
             sig: Sig(0),
             plain: false
         }
+    );
+}
+
+#[test]
+fn lines_and_words(rt: HostRuntime) -> Result<(), Fail> {
+    let mut lines = Lines::new(b"a {b}# c\n\n d");
+    let first = lines.next_line().ok_or("a line")?;
+    assert_eq!(rt; first.number, 1);
+    let mut words = Words::new(first.bytes, true);
+    assert_eq!(rt; words.next_word().ok_or("a word")?, b"a".as_slice());
+    assert_eq!(rt; words.next_word().ok_or("a word")?, b"{".as_slice());
+    assert_eq!(rt; words.next_word().ok_or("a word")?, b"b".as_slice());
+    assert_eq!(rt; words.next_word().ok_or("a word")?, b"}".as_slice());
+    assert!(rt; words.next_word().is_none());
+    assert!(rt;
+        Words::new(lines.next_line().ok_or("a line")?.bytes, true)
+            .next_word()
+            .is_none()
+    );
+    let third = lines.next_line().ok_or("a line")?;
+    assert_eq!(rt; third.number, 3);
+    assert_eq!(rt;
+        Words::new(third.bytes, false).next_word().ok_or("a word")?,
+        b"d".as_slice()
+    );
+    assert!(rt; lines.next_line().is_none());
+    assert!(rt; has_bad_byte(b"a\x01") && !has_bad_byte(b"a\t# \x01"));
+    Ok(())
+}
+
+#[test]
+fn faults_by_their_names(rt: HostRuntime) {
+    assert_eq!(rt; TextKind::MarkingNotOne.name(), "MarkingNotOne");
+    assert_eq!(rt; TextKind::BadLine.name(), "BadLine");
+    let at_three = at_line(3, LineFault::Kind(TextKind::NoEnd));
+    assert!(rt;
+        matches!(
+            at_three,
+            TextFault::At {
+                line: 3,
+                kind: TextKind::NoEnd
+            }
+        )
     );
 }
