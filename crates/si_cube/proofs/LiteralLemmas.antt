@@ -90,7 +90,7 @@ literals_from-filter kept (suc n) i care value other_care other_value cares valu
     refl (cares i (omega arith) (omega arith)) (λ there. ap (λ (b : Bool). record { sig = i; plain = b }) (values i there))
     (literals_from-filter kept n (i + 1) care value other_care other_value (λ k low high. cares k (omega arith) (omega arith)) values)
 
-and_parts : (a b : Bool) → (a && b) ≡ true → (a ≡ true) × (b ≡ true)
+pub and_parts : (a b : Bool) → (a && b) ≡ true → (a ≡ true) × (b ≡ true)
 and_parts true b h = (refl, h)
 and_parts false b h = absurd (true≢false (sym h))
 
@@ -131,7 +131,7 @@ masked_bit false true false within same = refl
 masked_bit false false true within same = within refl
 masked_bit false false false within same = refl
 
-below_width : (care k : ℕ) → care < 2 ^ 64 → bit care k ≡ true → k < 64
+pub below_width : (care k : ℕ) → care < 2 ^ 64 → bit care k ≡ true → k < 64
 below_width care k small there =
     elim (leb_tells 64 k) [
       | inl above ↦ absurd (true≢false (sym (rw (bit_at_above care 64 k small above.1) at there)))
@@ -154,7 +154,7 @@ covers_is care value code small within =
 
 -- ---- the cubes that calls make
 
-and_both : (a b : Bool) → a ≡ true → b ≡ true → (a && b) ≡ true
+pub and_both : (a b : Bool) → a ≡ true → b ≡ true → (a && b) ≡ true
 and_both a b ha hb = rw (ha, hb) refl
 
 both_true : (a b : Bool) → a ≡ true → b ≡ true → beq a b ≡ true
@@ -166,7 +166,7 @@ beq_swap true false = refl
 beq_swap false true = refl
 beq_swap false false = refl
 
-and_same : (a b : Bool) → a ≡ b → (a && b) ≡ a
+pub and_same : (a b : Bool) → a ≡ b → (a && b) ≡ a
 and_same true b same = sym same
 and_same false b same = refl
 

@@ -4,6 +4,7 @@ ghost use Rattle.std.specs.Prelude.{◌≡◌, ℕ, ◌<◌, ◌≤◌, ◌==◌
 ghost use Rattle.std.specs.List.{list_all};
 ghost use Rattle.si_base.specs.Limits.{max_signals};
 ghost use Rattle.si_base.specs.Netlist.{literal_value};
+ghost use Rattle.si_cube.specs.Cubes.{IsLeastAbove};
 ghost use Rattle.si_cube.specs.Literals.{full_literals};
 
 use si_base::ids::{Code, Sig};
@@ -53,7 +54,8 @@ impl Cube {
 
     /// The least cube that covers the code and what this cube covers: its literals that are true at the code.
     pub fn supercube(&self, code: Code) -> Cube
-        ensures { result ≡ filter (literal_value code) self.now }
+        ensures literals { result ≡ filter (literal_value code) self.now }
+        ensures least { IsLeastAbove self.now code result }
     {
         Cube {
             care: Code(self.care.0 & !(self.value.0 ^ code.0)),
