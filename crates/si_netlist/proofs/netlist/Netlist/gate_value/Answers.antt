@@ -1,38 +1,32 @@
-use Rattle.std.proofs.Common.{◌≡◌, ◌<◌, ◌≤◌, length, map, arith, ap, subst, sym, ◌∙◌}
-use Rattle.std.proofs.lemmas.List.{length-map}
-use Rattle.si_base.specs.Limits.{max_signals}
-use Rattle.si_base.specs.Graph.{IsNonInput}
-use Rattle.si_base.specs.Netlist.{Netlist, gate_place}
-use Rattle.si_netlist.specs.Parts.{gate_seen}
-use Rattle.si_netlist.proofs.GateLemmas.{gate_place-lt, within_signals, gate_value-at}
+use Rattle.std.proofs.Common.{◌≡◌, ◌<◌, length, arith, ap, subst, ◌∙◌}
+use Rattle.si_base.specs.Netlist.{Netlist}
+use Rattle.si_base.specs.WellFormed.{IsNetlist}
+use Rattle.si_netlist.proofs.GateLemmas.{gate_place-within, within_signals, gate_value-read}
 use Rattle.si_netlist.proofs.netlist.Netlist.gate_value.Goals as goal
 
 pub gate_place-requires : goal.gate_place-requires
 gate_place-requires c =
-    let here = subst (λ (n : Netlist). IsNonInput n.signals c.args.z) (sym c.self.view_is) c.requires in
-    rw c.deref.ensures.value (within_signals _ _ here)
+    rw (c.deref.ensures.value, ap (λ (n : Netlist). n.signals) c.self.view_is) (within_signals _ _ c.requires)
 
 pub index-requires : goal.index-requires
 index-requires c =
-    let here = subst (λ (n : Netlist). IsNonInput n.signals c.args.z) (sym c.self.view_is) c.requires in
-    let place : c.gate_place.result ≡ gate_place c.self.inside.signals.items c.args.z = rw (← c.deref.ensures.value) c.gate_place.ensures in
-    let below = gate_place-lt c.self.inside.signals.items c.args.z here in
-    let gates = length-map c.self.inside.gates.items gate_seen in
-    omega (arith, place, below, gates, c.self.invariant.gate_count, c.self.inside.gates.ok)
+    let netlist = subst IsNetlist c.self.view_is c.self.invariant in
+    let signals : c.deref.result.now ≡ c.args.self.now.signals = c.deref.ensures.value ∙ ap (λ (n : Netlist). n.signals) c.self.view_is in
+    let place = rw signals at c.gate_place.ensures in
+    let within = gate_place-within _ c.self.inside.gates.items _ netlist c.requires (ap (λ (n : Netlist). n.gates) c.self.view_is) in
+    omega (arith, place, within, c.self.inside.gates.ok)
 
 pub value-requires : goal.value-requires
 value-requires c =
-    let here = subst (λ (n : Netlist). IsNonInput n.signals c.args.z) (sym c.self.view_is) c.requires in
-    let within = within_signals c.self.inside.signals.items c.args.z here in
-    omega (arith, within, c.self.invariant.few)
+    let netlist = subst IsNetlist c.self.view_is c.self.invariant in
+    let within = within_signals c.args.self.now.signals c.args.z c.requires in
+    omega (arith, within, netlist.few)
 
 pub returns : goal.returns
 returns c =
-    let here = subst (λ (n : Netlist). IsNonInput n.signals c.args.z) (sym c.self.view_is) c.requires in
-    let place : c.gate_place.result ≡ gate_place c.self.inside.signals.items c.args.z = rw (← c.deref.ensures.value) c.gate_place.ensures in
-    let below = gate_place-lt c.self.inside.signals.items c.args.z here in
-    let gates = length-map c.self.inside.gates.items gate_seen in
-    let within : c.gate_place.result < length c.self.inside.gates.items = omega (arith, place, below, gates, c.self.invariant.gate_count) in
-    let gates_are = ap (λ (n : Netlist). n.gates) c.self.view_is in
-    let place_is = place ∙ ap (λ (n : Netlist). gate_place n.signals c.args.z) c.self.view_is in
-    c.value.ensures ∙ gate_value-at c.args.self.now c.self.inside.gates.items c.gate_place.result c.args.z c.args.code c.index.result.now gates_are place_is within c.index.ensures
+    let netlist = subst IsNetlist c.self.view_is c.self.invariant in
+    let gates = ap (λ (n : Netlist). n.gates) c.self.view_is in
+    let signals : c.deref.result.now ≡ c.args.self.now.signals = c.deref.ensures.value ∙ ap (λ (n : Netlist). n.signals) c.self.view_is in
+    let place = rw signals at c.gate_place.ensures in
+    let within : c.gate_place.result < length c.self.inside.gates.items = rw place (gate_place-within c.args.self.now _ _ netlist c.requires gates) in
+    c.value.ensures ∙ gate_value-read c.args.self.now _ _ _ _ _ gates place within c.index.ensures
