@@ -1,5 +1,5 @@
 -- The literals of a cube that is kept as two codes.
-use Rattle.std.specs.Prelude.{◌≡◌, ℕ, ◌+◌, Bool, true, List, [], ◌∷◌, zero, suc, if◌then◌else◌}
+use Rattle.std.specs.Prelude.{◌≡◌, ℕ, ◌+◌, true, List, [], ◌∷◌, zero, suc, if◌then◌else◌}
 use Rattle.si_base.specs.declared.ids.Literal.{Literal}
 use Rattle.si_base.specs.Limits.{max_signals}
 use Rattle.si_base.specs.Bits.{bit}
@@ -17,3 +17,8 @@ literals_of care value = literals_from max_signals 0 care value
 -- each signal of value 1 is one that the cube cares for
 abbrev pub IsWithin : ℕ → ℕ → Type 0
 IsWithin care value = (i : ℕ) → bit value i ≡ true → bit care i ≡ true
+
+-- a literal for each of the next signals, from the i-th on, each true at the code
+abbrev pub full_literals : ℕ → ℕ → ℕ → List Literal
+full_literals zero i code = []
+full_literals (suc count) i code = record { sig = i; plain = bit code i } ∷ full_literals count (i + 1) code

@@ -1,8 +1,13 @@
 //! Cubes: products of literals.
 
-ghost use Rattle.std.specs.Prelude.{◌≡◌, ℕ};
+ghost use Rattle.std.specs.Prelude.{◌≡◌, ℕ, ◌<◌, ◌≤◌, ◌==◌, not, filter};
+ghost use Rattle.std.specs.List.{list_all};
+ghost use Rattle.si_base.specs.Limits.{max_signals};
+ghost use Rattle.si_base.specs.Netlist.{literal_value};
+ghost use Rattle.si_cube.specs.Cubes.{IsLeastAbove};
+ghost use Rattle.si_cube.specs.Literals.{full_literals};
 
-use si_base::ids::Code;
+use si_base::ids::{Code, Sig};
 use std::marker::Model;
 
 /// A cube: the signals that it cares for, and their values. Contracts see it as the list of its literals, in signal
@@ -25,4 +30,48 @@ impl Model for Cube {
     ghost view = { λ c. literals_of c.care c.value };
 
     ghost invariant = { λ c. IsWithin c.care c.value };
+}
+
+impl Cube {
+    /// The full cube of a code: a literal for each of the first `signals` signals, true at the code.
+    pub fn of_code(code: Code, signals: usize) -> Cube
+        requires { signals ≤ max_signals }
+        ensures { result ≡ full_literals signals 0 code }
+    {
+        let care = ((1_u128 << signals) - 1) as u64;
+        Cube {
+            care: Code(care),
+            value: Code(code.0 & care),
+        }
+    }
+
+    /// Whether each of its literals is true at the code.
+    pub fn covers(&self, code: Code) -> bool
+        ensures { result ≡ list_all (literal_value code) self.now }
+    {
+        code.0 & self.care.0 == self.value.0
+    }
+
+    /// The least cube that covers the code and what this cube covers: its literals that are true at the code.
+    pub fn supercube(&self, code: Code) -> Cube
+        ensures literals { result ≡ filter (literal_value code) self.now }
+        ensures least { IsLeastAbove self.now code result }
+    {
+        Cube {
+            care: Code(self.care.0 & !(self.value.0 ^ code.0)),
+            value: Code(self.value.0 & code.0),
+        }
+    }
+
+    /// The cube without its literal of the signal.
+    pub fn drop_literal(&self, s: Sig) -> Cube
+        requires { s < max_signals }
+        ensures { result ≡ filter (λ l. not (l.sig == s)) self.now }
+    {
+        let others = !(1 << s.0);
+        Cube {
+            care: Code(self.care.0 & others),
+            value: Code(self.value.0 & others),
+        }
+    }
 }

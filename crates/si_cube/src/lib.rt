@@ -3,3 +3,5 @@
 
 pub mod cube;
 pub mod sum;
+#[cfg(test)]
+mod tests;

@@ -1,8 +1,10 @@
 //! Sums: disjunctions of cubes.
 
 ghost use Rattle.std.specs.Prelude.{◌≡◌, ℕ};
+ghost use Rattle.si_base.specs.Netlist.{sum_value};
 
 use crate::cube::Cube;
+use si_base::ids::Code;
 use std::marker::Model;
 
 /// A list of cubes. Contracts see it as the list of their lists of literals.
@@ -32,5 +34,12 @@ impl Sum {
         ensures { result.now ≡ self.now }
     {
         self.cubes.as_slice()
+    }
+
+    /// Whether one of its cubes covers the code.
+    pub fn value(&self, code: Code) -> bool
+        ensures { result ≡ sum_value code self.now }
+    {
+        self.cubes.iter().any(|cube| cube.covers(code))
     }
 }

@@ -3,12 +3,13 @@
 ghost use Rattle.std.specs.Prelude.{◌≡◌, ℕ, ◌<◌, length, map};
 ghost use Rattle.si_base.specs.WellFormed.{IsNetlist};
 ghost use Rattle.si_base.specs.Graph.{IsNonInput};
+ghost use Rattle.si_base.specs.Graph as graph;
 ghost use Rattle.si_base.specs.Netlist as base;
 ghost use Rattle.si_netlist.specs.Parts.{gate_seen};
 
 use crate::gate::{Gate, Insert};
-use si_base::graph::Signal;
-use si_base::ids::Code;
+use si_base::graph::{SigKind, Signal};
+use si_base::ids::{Code, Sig};
 use si_base::text::Name;
 use std::marker::Model;
 
@@ -91,5 +92,32 @@ impl Netlist {
         ensures { map gate_seen result.now ≡ self.now.gates }
     {
         self.gates.as_slice()
+    }
+
+    /// The value that the gate of a signal has at the code.
+    pub fn gate_value(&self, z: Sig, code: Code) -> bool
+        requires { IsNonInput self.now.signals z }
+        ensures { result ≡ base.gate_value self.now z code }
+    {
+        self.gates[gate_place(&self.signals, z)].value(z, code)
+    }
+}
+
+/// The place of a signal's gate: how many signals before it aren't inputs.
+fn gate_place(signals: &[Signal], z: Sig) -> usize
+    requires { z < length signals.now }
+    ensures { result ≡ base.gate_place signals.now z }
+{
+    let (before, _) = signals.split_at(z.0 as usize);
+    before.iter().filter(|x| is_driven(x.kind)).count()
+}
+
+/// Whether the circuit drives signals of the kind.
+fn is_driven(kind: SigKind) -> bool
+    ensures { result ≡ graph.is_driven kind }
+{
+    match kind {
+        SigKind::Input => false,
+        SigKind::Output | SigKind::Internal | SigKind::Inserted => true,
     }
 }
