@@ -1,0 +1,4 @@
+pub mod LawLemmas
+pub mod LawFitLemmas
+pub mod LawTextLemmas
+pub mod LawSumLemmas
