@@ -2,3 +2,4 @@ pub mod LawLemmas
 pub mod LawFitLemmas
 pub mod LawTextLemmas
 pub mod LawSumLemmas
+pub mod LawGateLemmas
