@@ -3,3 +3,5 @@ pub mod LawFitLemmas
 pub mod LawTextLemmas
 pub mod LawSumLemmas
 pub mod LawGateLemmas
+pub mod LawLineLemmas
+pub mod LawKindLemmas
