@@ -96,8 +96,7 @@ cell_gate signals words (Some (cell ∷ literals, sum)) is are none =
     let faults = both (pins_fault (names_in signals) (cell ∷ literals)) (sum_fault (names_in signals) sum) none in
     let there = pins_there (names_in signals) literals faults.0 in
     let read = sum_read signals None sum each.1 (good_after (names_in signals) [] sum faults.1) in
-    let few : length literals ≤ 4 = leb-true (length literals) 4 named.1 in
-    (
+    let few : length literals ≤ 4 = leb-true (length literals) 4 named.1 in (
       ap (λ (ws : List (List ℕ)). codes "cell" ∷ ws) (split ∙ sym (ap₂ (λ (x y : List (List ℕ)). cell ∷ x ++ codes ":" ∷ y) (literals_back signals literals there) read.0)),
       (named.0, omega (arith, map_keeps literals), All-from_recursion (λ (l : Literal). l.sig < length (names_in signals)) (map (literal_of (names_in signals)) literals) (literals_within (names_in signals) literals there), read.1),
     )

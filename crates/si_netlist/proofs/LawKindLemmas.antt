@@ -35,8 +35,8 @@ by_kind : (kind : SigKind) (i o n s a b c d : List (List ℕ)) → names_of kind
 by_kind kind i o n s a b c d ea eb ec ed =
     names_append kind (signals_of Input i ++ signals_of Output o ++ signals_of Internal n) (signals_of Inserted s)
     ∙ ap₂ (λ (x y : List (List ℕ)). x ++ y) (
-      names_append kind (signals_of Input i ++ signals_of Output o) (signals_of Internal n)
-      ∙ ap₂ (λ (x y : List (List ℕ)). x ++ y) (names_append kind (signals_of Input i) (signals_of Output o) ∙ ap₂ (λ (x y : List (List ℕ)). x ++ y) ea eb) ec) ed
+    names_append kind (signals_of Input i ++ signals_of Output o) (signals_of Internal n)
+    ∙ ap₂ (λ (x y : List (List ℕ)). x ++ y) (names_append kind (signals_of Input i) (signals_of Output o) ∙ ap₂ (λ (x y : List (List ℕ)). x ++ y) ea eb) ec) ed
 
 pub inputs_of : (i o n s : List (List ℕ)) → names_of Input (signals_by i o n s) ≡ i
 inputs_of i o n s = by_kind Input i o n s i [] [] [] (own Input Input i refl) (other Input Output o refl) (other Input Internal n refl) (other Input Inserted s refl) ∙ append-nil (i ++ [] ++ []) ∙ append-nil (i ++ []) ∙ append-nil i
@@ -66,8 +66,8 @@ pub all_names : (i o n s : List (List ℕ)) → names_in (signals_by i o n s) �
 all_names i o n s =
     map-append (λ (x : Signal). x.name) (signals_of Input i ++ signals_of Output o ++ signals_of Internal n) (signals_of Inserted s)
     ∙ join2 (
-      map-append (λ (x : Signal). x.name) (signals_of Input i ++ signals_of Output o) (signals_of Internal n)
-      ∙ join2 (map-append (λ (x : Signal). x.name) (signals_of Input i) (signals_of Output o) ∙ join2 (named Input i) (named Output o)) (named Internal n)) (named Inserted s)
+    map-append (λ (x : Signal). x.name) (signals_of Input i ++ signals_of Output o) (signals_of Internal n)
+    ∙ join2 (map-append (λ (x : Signal). x.name) (signals_of Input i) (signals_of Output o) ∙ join2 (named Input i) (named Output o)) (named Internal n)) (named Inserted s)
 
 -- ---- the driven signals
 drives : (k : SigKind) (xs : List (List ℕ)) → is_driven k ≡ true → filter (λ (x : Signal). is_driven x.kind) (signals_of k xs) ≡ signals_of k xs
@@ -85,8 +85,8 @@ pub driven_of : (i o n s : List (List ℕ)) → filter (λ (x : Signal). is_driv
 driven_of i o n s =
     filter-append (λ (x : Signal). is_driven x.kind) (signals_of Input i ++ signals_of Output o ++ signals_of Internal n) (signals_of Inserted s)
     ∙ join3 (
-      filter-append (λ (x : Signal). is_driven x.kind) (signals_of Input i ++ signals_of Output o) (signals_of Internal n)
-      ∙ join3 (filter-append (λ (x : Signal). is_driven x.kind) (signals_of Input i) (signals_of Output o) ∙ join3 (drives_not i) (drives Output o refl)) (drives Internal n refl)) (drives Inserted s refl)
+    filter-append (λ (x : Signal). is_driven x.kind) (signals_of Input i ++ signals_of Output o) (signals_of Internal n)
+    ∙ join3 (filter-append (λ (x : Signal). is_driven x.kind) (signals_of Input i) (signals_of Output o) ∙ join3 (drives_not i) (drives Output o refl)) (drives Internal n refl)) (drives Inserted s refl)
 
 -- ---- a netlist by its parts, and its lines
 abbrev pub netlist_by : List ℕ → List (List ℕ) → List (List ℕ) → List (List ℕ) → List (List ℕ) → ℕ → List Insertion → List Gate → Netlist

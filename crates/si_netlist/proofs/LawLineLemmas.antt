@@ -55,8 +55,7 @@ model_read (head ∷ name ∷ v ∷ vs) none dark = absurd cc
 model_read (head ∷ name ∷ []) none dark =
     let parts = and_parts (bytes_eq (codes ".model") head) (is_model_word name) (not-false _ (not_when _ BadLine none)) in
     let braces = and_parts (not (is_empty name) && not (bytes_eq (codes "{") name)) (not (bytes_eq (codes "}") name)) parts.1 in
-    let first = and_parts (not (is_empty name)) (not (bytes_eq (codes "{") name)) braces.0 in
-    (
+    let first = and_parts (not (is_empty name)) (not (bytes_eq (codes "{") name)) braces.0 in (
       ap (λ (h : List ℕ). h ∷ name ∷ []) (same_word (codes ".model") head parts.0),
       is_word name dark.1.0 (not-true _ first.0),
       (λ is. true≢false (sym ((bytes_eq-Decides (codes "{") name).1 (sym is)) ∙ not-true _ first.1)),
@@ -132,7 +131,7 @@ digit b between = elim (cases_Bool (b == 49)) [
       let low : 48 ≤ b = leb-true 48 b parts.0 in
       let high : b ≤ 49 = leb-true b 49 parts.1 in
       rw other (sym (only low high (apart b other)))
-    )
+      )
 ]
   where
     only : {b : ℕ} → 48 ≤ b → b ≤ 49 → (b ≡ 49 → ⊥) → b ≡ 48
@@ -213,8 +212,7 @@ lists_read name states (Some (up, down)) is are words =
     let facts = cut_facts (codes "down") states up down is in
     let last = and_parts (not (is_empty up) && not (is_empty down)) (not (stands_in down (codes "down"))) are in
     let some = and_parts (not (is_empty up)) (not (is_empty down)) last.0 in
-    let parts = split_words IsWord up (codes "down") down (subst (AllByRecursion IsWord) facts.0 words) in
-    (
+    let parts = split_words IsWord up (codes "down") down (subst (AllByRecursion IsWord) facts.0 words) in (
       ap (λ (ws : List (List ℕ)). codes ".insert" ∷ name ∷ codes "up" ∷ ws) facts.0,
       refl,
       record {
@@ -234,8 +232,7 @@ insert_read name (head ∷ w ∷ up ∷ states) none dark =
     let fourth = and_parts (bytes_eq (codes ".insert") head && bytes_eq name w && bytes_eq (codes "up") up) (not (list_any is_empty states)) fifth.0 in
     let third = and_parts (bytes_eq (codes ".insert") head && bytes_eq name w) (bytes_eq (codes "up") up) fourth.0 in
     let second = and_parts (bytes_eq (codes ".insert") head) (bytes_eq name w) third.0 in
-    let read = lists_read w states (cut_at (codes "down") states) refl fifth.1 (are_words states dark.1.1.1 (not-true _ fourth.1)) in
-    (
+    let read = lists_read w states (cut_at (codes "down") states) refl fifth.1 (are_words states dark.1.1.1 (not-true _ fourth.1)) in (
       ap₂ (λ (h u : List ℕ). h ∷ w ∷ u ∷ states) (same_word (codes ".insert") head second.0) (same_word (codes "up") up third.1) ∙ read.0,
       read.1 ∙ same_word name w second.1,
       read.2,

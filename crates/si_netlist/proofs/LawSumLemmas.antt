@@ -153,8 +153,7 @@ cube_read signals prior words cube good = elim (cases_Bool (is_one (codes "1") w
   | inl one ↦ (cube_back signals words cube (rw one refl), rw one (record { rising = rising_pairs 0 [] tt; there = All-nil _ }))
   | inr many ↦ (
       let are = some_literals words cube many in
-      let there = literals_there (names_in signals) prior words are good in
-      (
+      let there = literals_there (names_in signals) prior words are good in (
         cube_back signals words cube (rw many there),
         rw many (record {
           rising = rising_pairs 0 (map (literal_of (names_in signals)) words) (rises_all (names_in signals) prior words are good);

@@ -5,3 +5,4 @@ pub mod LawSumLemmas
 pub mod LawGateLemmas
 pub mod LawLineLemmas
 pub mod LawKindLemmas
+pub mod ReadLaw
