@@ -77,7 +77,7 @@ marked_or_not (b ∷ c ∷ bs) = longer (literal_name (b ∷ c ∷ bs)) (unmarke
     longer n is (inl same) = inl (is ∙ ap (λ (l : List ℕ). b ∷ l) same)
     longer n is (inr mark) = inr (rw is (ap (λ (l : List ℕ). b ∷ l) mark))
 
-name_at : (signals : List Signal) (k : ℕ) → k < length (map (λ (x : Signal). x.name) signals) → name_of signals k ≡ get_or (map (λ (x : Signal). x.name) signals) k []
+pub name_at : (signals : List Signal) (k : ℕ) → k < length (map (λ (x : Signal). x.name) signals) → name_of signals k ≡ get_or (map (λ (x : Signal). x.name) signals) k []
 name_at signals k within = ap (λ (o : Option (List ℕ)). unwrap_or o []) (sym (slice_get-map (λ (x : Signal). x.name) signals k) ∙ slice_get-get_or (map (λ (x : Signal). x.name) signals) k [] within)
 
 -- a word whose signal is there spells a literal that is written as that word

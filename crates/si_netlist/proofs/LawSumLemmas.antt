@@ -74,7 +74,7 @@ good_parts names prior (w ∷ ws) good = elim (cases_Bool (bytes_eq (codes "+") 
 ]
 
 -- ---- literals
-no_literal : (mark w : List ℕ) → is_literal mark ≡ false → bytes_eq mark w ≡ true → is_literal w ≡ true → ⊥
+pub no_literal : (mark w : List ℕ) → is_literal mark ≡ false → bytes_eq mark w ≡ true → is_literal w ≡ true → ⊥
 no_literal mark w none same is = true≢false (sym is ∙ sym (ap is_literal ((bytes_eq-Decides mark w).0 same)) ∙ none)
 
 pub not_mark : (w : List ℕ) → is_literal w ≡ true → is_mark w ≡ false

@@ -6,3 +6,4 @@ pub mod LawGateLemmas
 pub mod LawLineLemmas
 pub mod LawKindLemmas
 pub mod ReadLaw
+pub mod LawWrittenSumLemmas
