@@ -7,3 +7,5 @@ pub mod LawLineLemmas
 pub mod LawKindLemmas
 pub mod ReadLaw
 pub mod LawWrittenSumLemmas
+pub mod LawWrittenGateLemmas
+pub mod LawWrittenLineLemmas

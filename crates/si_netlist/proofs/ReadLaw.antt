@@ -20,7 +20,7 @@ use Rattle.si_netlist.proofs.LawLineLemmas.{AreNames, no_names, model_read, name
 use Rattle.si_netlist.proofs.LawKindLemmas.{signals_by, driven_by, netlist_by, lines_by, lines_are, gate_lines, inserted_of, driven_of, all_names, driven_names, kinds_in_order, each_named, pairs_named}
 
 -- ---- gate lines
-abbrev gates_in : List (List ℕ) → List (List ℕ) → List Gate
+abbrev pub gates_in : List (List ℕ) → List (List ℕ) → List Gate
 gates_in names lines = map (λ line. gate_of names (rest_of (words_of line))) lines
 
 gates_read : (signals driven : List Signal) (lines : List (List ℕ)) → Fits (map (gate_fault (names_in signals)) (names_in driven)) lines → (gate_lines signals driven (gates_in (names_in signals) lines) ≡ map words_of lines) × AllByRecursion (IsGate (length (names_in signals))) (gates_in (names_in signals) lines) × (length (gates_in (names_in signals) lines) ≡ length driven)
@@ -50,7 +50,7 @@ after_read signals driven (l ∷ ls) fit =
     last (k ∷ m ∷ ks) fits = absurd fits.1
 
 -- ---- `.insert` lines
-abbrev inserts_in : List (List ℕ) → List Insertion
+abbrev pub inserts_in : List (List ℕ) → List Insertion
 inserts_in lines = map (λ line. insertion_of (words_of line)) lines
 
 inserts_read : (inserted lines : List (List ℕ)) → Fits (map insert_fault inserted) lines → (map insert_line (inserts_in lines) ≡ map words_of lines) × (map (λ (i : Insertion). i.name) (inserts_in lines) ≡ inserted) × AllByRecursion IsInsertion (inserts_in lines)
@@ -85,7 +85,7 @@ is_netlist model i o n s start inserts gates word no_open no_close names start_f
     }
 
 -- ---- the lines behind the first six
-abbrev gates_at : List (List ℕ) → List (List ℕ) → List (List ℕ) → List (List ℕ) → List Gate
+abbrev pub gates_at : List (List ℕ) → List (List ℕ) → List (List ℕ) → List (List ℕ) → List Gate
 gates_at names behind s lines = gates_in names (take (length behind) (drop 1 (drop (length s) lines)))
 
 record Rest (signals driven : List Signal) (names behind s lines : List (List ℕ)) : Type 0 where
@@ -127,10 +127,10 @@ abbrev Reads : List (List ℕ) → Netlist → Type 0
 Reads lines netlist = IsNetlist netlist × (netlist_lines netlist ≡ map words_of lines)
 
 -- the netlist of the first six lines and those behind them
-abbrev with_rest : List ℕ → List (List ℕ) → List (List ℕ) → List (List ℕ) → List (List ℕ) → ℕ → List (List ℕ) → List (List ℕ) → Netlist
+abbrev pub with_rest : List ℕ → List (List ℕ) → List (List ℕ) → List (List ℕ) → List (List ℕ) → ℕ → List (List ℕ) → List (List ℕ) → Netlist
 with_rest model i o n s start lines gate_rows = netlist_by model i o n s start (inserts_in (take (length s) lines)) (gates_in (i ++ o ++ n ++ s) (take (length (o ++ n ++ s)) gate_rows))
 
-gate_rows_at : (l0 l1 l2 l3 l4 l5 : List ℕ) (lines : List (List ℕ)) (k : ℕ) → drop 1 (drop k lines) ≡ drop (7 + k) (l0 ∷ l1 ∷ l2 ∷ l3 ∷ l4 ∷ l5 ∷ lines)
+pub gate_rows_at : (l0 l1 l2 l3 l4 l5 : List ℕ) (lines : List (List ℕ)) (k : ℕ) → drop 1 (drop k lines) ≡ drop (7 + k) (l0 ∷ l1 ∷ l2 ∷ l3 ∷ l4 ∷ l5 ∷ lines)
 gate_rows_at l0 l1 l2 l3 l4 l5 lines k =
     let more : 7 + k ≡ suc (suc (suc (suc (suc (suc (k + 1)))))) = omega arith in
     rw more (drop-drop 1 k lines)
