@@ -9,3 +9,4 @@ pub mod ReadLaw
 pub mod LawWrittenSumLemmas
 pub mod LawWrittenGateLemmas
 pub mod LawWrittenLineLemmas
+pub mod WriteLaw
