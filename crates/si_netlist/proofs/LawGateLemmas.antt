@@ -23,9 +23,6 @@ use Rattle.si_netlist.proofs.LawLemmas.{literals_back}
 use Rattle.si_netlist.proofs.LawFitLemmas.{both, not_when}
 use Rattle.si_netlist.proofs.LawSumLemmas.{names_in, Good, good_after, sum_read, literals_within}
 
-Words : Type 0
-Words = List (List ℕ)
-
 next : (n : ℕ) → 1 + n ≡ suc n
 next n = omega arith
 

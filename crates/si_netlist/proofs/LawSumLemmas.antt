@@ -51,9 +51,6 @@ none_after names before [] good = refl
 none_after names before (w ∷ ws) good = rw good.0 (none_after names (before ++ w ∷ []) ws (subst (λ (o : Option (List ℕ)). Good names o ws) (sym (last_push before w)) good.1))
 
 -- ---- the parts between the words `+`
-abbrev plus : Option (List ℕ)
-plus = Some (codes "+")
-
 abbrev FirstGood : List (List ℕ) → Option (List ℕ) → List (List (List ℕ)) → Type 0
 FirstGood names prior [] = Unit {0}
 FirstGood names prior (p ∷ ps) = Good names prior p × AllByRecursion (Good names (Some (codes "+"))) ps

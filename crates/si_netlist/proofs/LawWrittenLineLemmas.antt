@@ -197,8 +197,7 @@ insert_good i is dark =
     let up = recursion_from_All Listed i.up is.words_up in
     let down = recursion_from_All Listed i.down is.words_down in
     let cut = cut_made (codes "down") i.up i.down (listed_unlike i.up up) in
-    let both : are_both_lists (Some (i.up, i.down)) ≡ true = and_from _ _ (and_from _ _ (not_from_false _ (not_empty i.up is.some_up)) (not_from_false _ (not_empty i.down is.some_down))) (not_from_false _ (none_down i.down (listed_unlike i.down down))) in
-    (
+    let both : are_both_lists (Some (i.up, i.down)) ≡ true = and_from _ _ (and_from _ _ (not_from_false _ (not_empty i.up is.some_up)) (not_from_false _ (not_empty i.down is.some_down))) (not_from_false _ (none_down i.down (listed_unlike i.down down))) in (
       rw (equals i.name, states_some i.up i.down up down, cut, both) refl,
       ap (insertion_with i.name) cut,
       (refl, (dark, (refl, dark_append i.up (codes "down" ∷ i.down) (listed_dark i.up up) (refl, listed_dark i.down down)))),

@@ -5,6 +5,7 @@ use Rattle.std.proofs.lemmas.List.Elements.{All-from_recursion, recursion_from_A
 use Rattle.std.specs.List.{AllByRecursion, zip, flat_map}
 use Rattle.si_base.specs.declared.graph.Signal.{Signal}
 use Rattle.si_base.specs.Graph.{is_driven, kind_place}
+use Rattle.si_base.specs.Limits.{max_signals}
 use Rattle.si_base.specs.Netlist.{Gate, Insertion, Netlist}
 use Rattle.si_base.specs.NetlistText.{netlist_lines, netlist_text, insert_line, gate_words, names_of, bits_from, word_if_any}
 use Rattle.si_base.specs.declared.graph.SigKind.TheVariants.{Inserted}
@@ -76,7 +77,7 @@ is_netlist model i o n s start inserts gates word no_open no_close names start_f
       names = All-from_recursion (λ (x : Signal). IsTrue (is_signal_name x.name)) (signals_by i o n s) (each_named (λ (w : List ℕ). IsTrue (is_signal_name w)) (signals_by i o n s) (recursion_from_All (λ (w : List ℕ). IsTrue (is_signal_name w)) (names_in (signals_by i o n s)) named.good));
       distinct = pairs_named (λ (x y : List ℕ). x ≢ y) (signals_by i o n s) named.distinct;
       kinds = kinds_in_order i o n s;
-      few = subst (λ (k : ℕ). k ≤ 64) many named.few;
+      few = subst (λ (k : ℕ). k ≤ max_signals) many named.few;
       start = start_fits;
       insert_names = insert_names ∙ sym (inserted_of i o n s);
       inserts = All-from_recursion IsInsertion inserts are_inserts;
@@ -126,7 +127,7 @@ rest_named signals driven names behind s lines all some fit =
 abbrev Reads : List (List ℕ) → Netlist → Type 0
 Reads lines netlist = IsNetlist netlist × (netlist_lines netlist ≡ map words_of lines)
 
--- the netlist of the first six lines and those behind them
+-- the netlist of what the first six lines spell, and of the lines behind them; the gates stand in the rows from `gate_rows` on
 abbrev pub with_rest : List ℕ → List (List ℕ) → List (List ℕ) → List (List ℕ) → List (List ℕ) → ℕ → List (List ℕ) → List (List ℕ) → Netlist
 with_rest model i o n s start lines gate_rows = netlist_by model i o n s start (inserts_in (take (length s) lines)) (gates_in (i ++ o ++ n ++ s) (take (length (o ++ n ++ s)) gate_rows))
 
