@@ -1,8 +1,7 @@
 -- Lines that have the forms due to them.
-use Rattle.std.proofs.Common.{◌≡◌, ℕ, ◌+◌, Bool, true, false, List, [], ◌∷◌, ◌++◌, length, map, take, drop, refl, ap, ◌∙◌, Option, Some, None, inl, inr}
-use Rattle.std.proofs.lemmas.Bool.{cases_Bool}
+use Rattle.std.proofs.Common.{◌≡◌, ℕ, ◌+◌, Bool, true, false, List, [], ◌∷◌, ◌++◌, length, map, take, drop, refl, Option, Some, None}
 use Rattle.si_base.specs.declared.fault.TextKind.{TextKind}
-use Rattle.si_base.specs.declared.fault.TextKind.TheVariants.{BadByte, BadLine, NoEnd}
+use Rattle.si_base.specs.declared.fault.TextKind.TheVariants.{BadByte, NoEnd}
 use Rattle.si_base.specs.Faults.{when, ◌otherwise◌, at_line}
 use Rattle.si_netlist.specs.NetlistFault.{Form, lines_fault, words_of, has_bad_byte_here}
 

@@ -1,24 +1,23 @@
 -- Words of a gate without fault spell a gate that is written as these words.
-use Rattle.std.proofs.Common.{if◌then◌else◌, zero, suc, ◌≡◌, ℕ, ◌+◌, ◌<◌, ◌≤◌, ◌&&◌, Bool, true, false, not, List, [], ◌∷◌, ◌++◌, length, map, take, drop, get_or, All, refl, sym, ap, ap₂, subst, ◌∙◌, inl, inr, arith, codes, bytes_eq, nat_lt, nat_le, Option, Some, None, is_none, cond}
-use Rattle.std.proofs.lemmas.Bool.{cases_Bool, true≢false, and_parts, not-true, not-false, ltb-true, leb-true}
+use Rattle.std.proofs.Common.{suc, ◌≡◌, ℕ, ◌+◌, ◌<◌, ◌≤◌, ◌&&◌, Bool, true, false, not, List, [], ◌∷◌, ◌++◌, length, map, take, drop, get_or, refl, sym, ap, ap₂, subst, ◌∙◌, inl, inr, arith, codes, bytes_eq, nat_lt, nat_le, Option, Some, None, is_none}
+use Rattle.std.proofs.lemmas.Bool.{cases_Bool, true≢false, and_parts, not-false, ltb-true, leb-true}
 use Rattle.std.proofs.lemmas.List.{drop_more, take-append-drop}
 use Rattle.std.proofs.lemmas.List.Elements.{All-from_recursion}
 use Rattle.std.proofs.lemmas.List.Sums.{prefix_len_stops}
 use Rattle.std.proofs.lemmas.Option.{some_pair_parts, none-some}
 use Rattle.std.proofs.lemmas.Slice.Eq.{bytes_eq-Decides}
-use Rattle.std.specs.List.{AllByRecursion, list_all, prefix_len}
+use Rattle.std.specs.List.{list_all, prefix_len}
 use Rattle.si_base.specs.declared.ids.Literal.{Literal}
 use Rattle.si_base.specs.declared.graph.Signal.{Signal}
-use Rattle.si_base.specs.declared.fault.TextKind.{TextKind}
 use Rattle.si_base.specs.declared.fault.TextKind.TheVariants.{BadLine, Undeclared}
-use Rattle.si_base.specs.Faults.{when, ◌otherwise◌, first_in}
-use Rattle.si_base.specs.Netlist.{Sum, Gate, SumGate, Gc, Cell}
-use Rattle.si_base.specs.NetlistText.{literal_word, sum_words, gate_words}
+use Rattle.si_base.specs.Faults.{when, first_in}
+use Rattle.si_base.specs.Netlist.{Gate, SumGate}
+use Rattle.si_base.specs.NetlistText.{gate_words}
 use Rattle.si_base.specs.Words.{is_signal_name}
-use Rattle.si_base.specs.WellFormed.{IsSum, IsGate}
+use Rattle.si_base.specs.WellFormed.{IsGate}
 use Rattle.si_netlist.specs.Sums.{is_literal, is_sum, len_before, cut_at}
 use Rattle.si_netlist.specs.NetlistFault.{place_in, is_gate, are_sums, are_pins, are_pins_and_sum, pin_fault, pins_fault, cell_fault, literals_fault, gate_fault, rest_of, sum_fault}
-use Rattle.si_netlist.specs.NetlistValue.{literal_of, sum_of, gc_of, instance_of, cell_of, gate_of}
+use Rattle.si_netlist.specs.NetlistValue.{literal_of, sum_of, gc_of, cell_of, gate_of}
 use Rattle.si_netlist.proofs.LawLemmas.{literals_back}
 use Rattle.si_netlist.proofs.LawFitLemmas.{both, not_when}
 use Rattle.si_netlist.proofs.LawSumLemmas.{names_in, Good, good_after, sum_read, literals_within}

@@ -1,7 +1,7 @@
 -- Signals in the order of their kinds, by their names.
-use Rattle.std.proofs.Common.{◌≡◌, ◌≢◌, ℕ, ◌+◌, ◌<◌, ◌≤◌, Bool, true, false, List, [], ◌∷◌, ◌++◌, length, map, filter, get_or, All, AllPairs, refl, sym, ap, ap₂, subst, ◌∙◌, arith, IsTrue, append_assoc, suc, zero}
+use Rattle.std.proofs.Common.{◌≡◌, ℕ, ◌<◌, ◌≤◌, true, false, List, [], ◌∷◌, ◌++◌, length, map, filter, get_or, AllPairs, refl, sym, ap, ap₂, subst, ◌∙◌, arith, append_assoc, codes}
 use Rattle.std.proofs.lemmas.List.{append-nil, length-map, map-append, get_or-map}
-use Rattle.std.proofs.lemmas.List.Elements.{All-from_recursion, recursion_from_All, All-append, filter-append}
+use Rattle.std.proofs.lemmas.List.Elements.{All-from_recursion, filter-append}
 use Rattle.std.proofs.lemmas.List.Kept.{AllPairs-cons}
 use Rattle.std.specs.List.{AllByRecursion, zip}
 use Rattle.si_base.specs.declared.graph.Signal.{Signal}
@@ -11,7 +11,6 @@ use Rattle.si_base.specs.Graph.{is_driven, kind_place}
 use Rattle.si_base.specs.Netlist.{Gate, Insertion, Netlist}
 use Rattle.si_base.specs.NetlistText.{same_kind, names_of, gate_words, bits_from, word_if_any, insert_line, netlist_lines}
 use Rattle.si_base.specs.StrictText.{signals_of}
-use Rattle.std.proofs.Common.{codes}
 use Rattle.si_netlist.proofs.LawSumLemmas.{names_in}
 
 abbrev pub signals_by : List (List ℕ) → List (List ℕ) → List (List ℕ) → List (List ℕ) → List Signal

@@ -1,16 +1,12 @@
 -- A literal's word, and the literal that it spells; cubes and sums by their words.
-use Rattle.std.proofs.Common.{◌≡◌, ℕ, ◌<◌, ◌==◌, Bool, true, false, List, [], ◌∷◌, ◌++◌, length, get_or, map, refl, sym, ap, ◌∙◌, bytes_eq, Option, Some, None, not, if◌then◌else◌, unwrap_or, inl, inr, ◌⊎◌, eqb-true, is_none, codes}
-use Rattle.std.proofs.lemmas.Bool.{true≢false, not-true}
+use Rattle.std.proofs.Common.{◌≡◌, ℕ, ◌<◌, ◌==◌, Bool, true, false, List, [], ◌∷◌, ◌++◌, length, get_or, map, refl, sym, ap, ◌∙◌, bytes_eq, Option, Some, None, not, if◌then◌else◌, unwrap_or, inl, inr, ◌⊎◌, eqb-true, is_none, codes, ap₂, arith, ◌+◌}
+use Rattle.std.proofs.lemmas.Bool.{true≢false, not-true, cases_Bool, and_parts}
 use Rattle.si_netlist.specs.NetlistFault.{place_in}
-use Rattle.si_netlist.specs.NetlistValue.{literal_of, cube_of}
-use Rattle.si_base.specs.NetlistText.{cube_words, more_cubes, sum_words}
-use Rattle.std.specs.List.{onto_first, AllByRecursion}
+use Rattle.si_netlist.specs.NetlistValue.{literal_of, cube_of, sum_of}
+use Rattle.si_base.specs.NetlistText.{cube_words, more_cubes, sum_words, literal_word, name_of}
+use Rattle.std.specs.List.{onto_first, AllByRecursion, list_all}
 use Rattle.std.proofs.lemmas.List.Splits.{length-slice_split}
-use Rattle.si_netlist.specs.Sums.{parts_at}
-use Rattle.si_netlist.specs.NetlistValue.{sum_of}
-use Rattle.std.proofs.Common.{ap₂, arith, ◌+◌}
-use Rattle.std.specs.List.{list_all}
-use Rattle.std.proofs.lemmas.Bool.{cases_Bool, and_parts}
+use Rattle.si_netlist.specs.Sums.{parts_at, literal_name, is_literal, is_cube, is_one}
 use Rattle.std.proofs.lemmas.List.{append-nil}
 use Rattle.std.proofs.lemmas.List.Quantifiers.{position-Some}
 use Rattle.std.proofs.lemmas.Option.{slice_get-get_or, slice_get-map}
@@ -18,8 +14,6 @@ use Rattle.std.proofs.lemmas.Slice.Eq.{bytes_eq-Decides}
 use Rattle.si_base.specs.declared.ids.Literal.{Literal}
 use Rattle.si_base.specs.declared.graph.Signal.{Signal}
 use Rattle.si_base.specs.Words.{is_signal_name, is_name_byte, is_letter}
-use Rattle.si_base.specs.NetlistText.{literal_word, name_of}
-use Rattle.si_netlist.specs.Sums.{literal_name, is_literal, is_cube, is_one}
 
 unmarked : (c b : ℕ) (bs : List ℕ) → literal_name (c ∷ (b ∷ bs)) ≡ c ∷ literal_name (b ∷ bs)
 unmarked c b bs = elim (cases_Bool (c == 39)) [ inl e ↦ rw e refl | inr e ↦ rw e refl ]

@@ -1,7 +1,7 @@
 -- The other lines of a netlist: words without fault are those that are written of what they spell.
-use Rattle.std.proofs.Common.{IsTrue, ◌||◌, if◌then◌else◌, zero, suc, ◌≡◌, ◌≢◌, ℕ, ◌+◌, ◌*◌, ◌/◌, ◌%◌, ◌^◌, ◌<◌, ◌≤◌, ◌==◌, ◌&&◌, Bool, true, false, not, List, [], ◌∷◌, ◌++◌, length, map, get_or, All, AllPairs, refl, sym, ap, ap₂, subst, ◌∙◌, inl, inr, ⊎_elim, arith, codes, bytes_eq, nat_le, Option, Some, None, eqb-true, append_assoc}
+use Rattle.std.proofs.Common.{IsTrue, ◌||◌, if◌then◌else◌, suc, ◌≡◌, ◌≢◌, ℕ, ◌+◌, ◌*◌, ◌/◌, ◌%◌, ◌^◌, ◌<◌, ◌≤◌, ◌==◌, ◌&&◌, Bool, true, false, not, List, [], ◌∷◌, ◌++◌, length, All, AllPairs, refl, sym, ap, ap₂, subst, ◌∙◌, inl, inr, arith, codes, bytes_eq, nat_le, Option, Some, None, eqb-true, append_assoc}
 use Rattle.std.proofs.Math.Nat.{pow-succ'}
-use Rattle.std.proofs.lemmas.Bool.{cases_Bool, true≢false, and_parts, or_parts, not-true, not-false, leb-true, leb-false, false_from_ne_true}
+use Rattle.std.proofs.lemmas.Bool.{cases_Bool, true≢false, and_parts, or_parts, not-true, not-false, leb-true, leb-false}
 use Rattle.std.proofs.lemmas.List.{nil_from_length, length_push, append-nil}
 use Rattle.std.proofs.lemmas.List.Elements.{All-from_recursion, All-push, All-nil}
 use Rattle.std.proofs.lemmas.List.Folds.{list_any_at}
@@ -13,16 +13,14 @@ use Rattle.std.specs.List.{AllByRecursion, list_all, list_any}
 use Rattle.si_base.specs.Bits.{bit}
 use Rattle.si_base.specs.Limits.{max_signals}
 use Rattle.si_base.specs.declared.graph.Signal.{Signal}
-use Rattle.si_base.specs.declared.fault.TextKind.{TextKind}
 use Rattle.si_base.specs.declared.fault.TextKind.TheVariants.{BadLine, BadName, Repeated, TooManySignals}
-use Rattle.si_base.specs.Faults.{when, ◌otherwise◌, first_after}
-use Rattle.si_base.specs.Netlist.{Insertion}
+use Rattle.si_base.specs.Faults.{when, first_after}
 use Rattle.si_base.specs.NetlistText.{insert_line, bits_from, word_if_any}
 use Rattle.si_base.specs.Words.{is_signal_name, is_between}
 use Rattle.si_base.specs.WellFormed.{IsWord, IsInsertion}
 use Rattle.si_netlist.specs.Names.{stands_in, name_fault}
-use Rattle.si_netlist.specs.Sums.{is_empty, is_one, cut_at}
-use Rattle.si_netlist.specs.NetlistFault.{model_fault, is_model_line, is_model_word, names_fault, is_start_line, start_fault, are_both_lists, is_insert_line, insert_fault, word_fault, rest_of}
+use Rattle.si_netlist.specs.Sums.{is_empty, cut_at}
+use Rattle.si_netlist.specs.NetlistFault.{model_fault, is_model_word, names_fault, start_fault, are_both_lists, insert_fault, word_fault, rest_of}
 use Rattle.si_netlist.specs.NetlistValue.{insertion_with, insertion_of, first_word, code_of_bits}
 use Rattle.si_netlist.proofs.LawTextLemmas.{IsDark}
 use Rattle.si_netlist.proofs.LawFitLemmas.{both, not_when}

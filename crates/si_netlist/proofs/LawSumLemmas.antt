@@ -1,8 +1,7 @@
 -- Sums: words without fault spell a sum that is written as these words, and a sum's words have no fault and spell it.
-use Rattle.std.proofs.Common.{if◌then◌else◌, zero, suc, ◌≡◌, ℕ, ◌+◌, ◌<◌, ◌≤◌, ◌&&◌, Bool, true, false, not, List, [], ◌∷◌, ◌++◌, length, map, All, AllPairs, refl, sym, ap, ap₂, subst, ◌∙◌, inl, inr, arith, codes, bytes_eq, Option, Some, None, is_none, unwrap_or, append_assoc}
+use Rattle.std.proofs.Common.{◌≡◌, ℕ, ◌+◌, ◌<◌, ◌≤◌, ◌&&◌, true, false, not, List, [], ◌∷◌, ◌++◌, length, map, AllPairs, refl, sym, ap, subst, ◌∙◌, inl, inr, arith, codes, bytes_eq, Option, Some, None, is_none, unwrap_or}
 use Rattle.std.proofs.lemmas.Bool.{cases_Bool, true≢false, and_parts, or_cases, not-true, not-false, ltb-true, false_from_ne_true}
-use Rattle.std.proofs.lemmas.List.{append-nil, length-map}
-use Rattle.std.proofs.lemmas.List.Elements.{All-from_recursion, recursion_from_All, All-nil}
+use Rattle.std.proofs.lemmas.List.Elements.{All-from_recursion, All-nil}
 use Rattle.std.proofs.lemmas.List.Kept.{AllPairs-cons}
 use Rattle.std.proofs.lemmas.List.Quantifiers.{position-Some}
 use Rattle.std.proofs.lemmas.Slice.Eq.{bytes_eq-Decides}
@@ -12,11 +11,10 @@ use Rattle.si_base.specs.declared.graph.Signal.{Signal}
 use Rattle.si_base.specs.declared.fault.TextKind.{TextKind}
 use Rattle.si_base.specs.declared.fault.TextKind.TheVariants.{BadLine, Undeclared}
 use Rattle.si_base.specs.Faults.{when, ◌otherwise◌, first_after}
-use Rattle.si_base.specs.Netlist.{Sum}
-use Rattle.si_base.specs.NetlistText.{literal_word, cube_words, sum_words}
+use Rattle.si_base.specs.NetlistText.{sum_words}
 use Rattle.si_base.specs.WellFormed.{IsCube, IsSum}
 use Rattle.si_netlist.specs.Sums.{is_literal, is_cube, is_sum, is_one, is_mark, literal_name, parts_at}
-use Rattle.si_netlist.specs.NetlistFault.{place_in, is_below, last_of, comes_after, literal_fault, sum_fault}
+use Rattle.si_netlist.specs.NetlistFault.{place_in, is_below, last_of, comes_after, literal_fault}
 use Rattle.si_netlist.specs.NetlistValue.{literal_of, cube_of, sum_of}
 use Rattle.si_netlist.proofs.LawLemmas.{cube_back, sum_back, PartIsGood}
 use Rattle.si_netlist.proofs.LawFitLemmas.{both, not_when}

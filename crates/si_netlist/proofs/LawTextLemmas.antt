@@ -1,10 +1,10 @@
 -- A text by its lines, and lines by their words, both ways.
-use Rattle.std.proofs.Common.{if◌then◌else◌, ◌≡◌, ℕ, ◌==◌, ◌≤◌, ◌<◌, ◌||◌, ◌&&◌, Bool, true, false, not, List, [], ◌∷◌, ◌++◌, map, flat_map, refl, sym, ap, ap₂, ◌∙◌, inl, inr, arith, eqb-true, append_assoc, nat_le}
-use Rattle.std.proofs.lemmas.Bool.{cases_Bool, true≢false, or_parts, and_parts, and_from, leb-true, le-leb, eqb-false, not-false}
+use Rattle.std.proofs.Common.{if◌then◌else◌, ◌≡◌, ℕ, ◌==◌, ◌≤◌, true, false, not, List, [], ◌∷◌, ◌++◌, map, flat_map, refl, ap, ap₂, ◌∙◌, inl, inr, arith, eqb-true, append_assoc, nat_le}
+use Rattle.std.proofs.lemmas.Bool.{cases_Bool, or_parts, and_parts, and_from, leb-true, le-leb, eqb-false, not-false}
 use Rattle.std.proofs.lemmas.List.Splits.{join_with_byte-slice_split}
-use Rattle.std.specs.List.{AllByRecursion, join_with_byte, list_all, list_any, slice_split, onto_first}
+use Rattle.std.specs.List.{AllByRecursion, join_with_byte, list_all, onto_first}
 use Rattle.si_base.specs.Words.{text_of, is_between}
-use Rattle.si_base.proofs.Given.{NoEnd, no_end_join, AreClean, LinesClean}
+use Rattle.si_base.proofs.Given.{NoEnd, no_end_join, LinesClean}
 use Rattle.si_netlist.specs.Sums.{is_empty}
 use Rattle.si_netlist.specs.NetlistFault.{words_of, ended, tail_of, onto_head, has_bad_byte_here}
 

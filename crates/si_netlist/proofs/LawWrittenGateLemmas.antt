@@ -1,24 +1,23 @@
 -- The words of a gate have no fault, spell that gate, and have bytes of words only.
-use Rattle.std.proofs.Common.{IsTrue, if◌then◌else◌, zero, suc, ◌≡◌, ◌≢◌, ℕ, ◌+◌, ◌<◌, ◌≤◌, ◌==◌, ◌&&◌, ◌||◌, Bool, true, false, not, List, [], ◌∷◌, ◌++◌, length, map, take, drop, get_or, All, AllPairs, refl, sym, ap, ap₂, subst, ◌∙◌, inl, inr, arith, codes, bytes_eq, nat_le, nat_lt, Option, Some, None, is_none, unwrap_or, append_assoc, eqb-true}
-use Rattle.std.proofs.lemmas.Bool.{cases_Bool, true≢false, and_parts, and_from, or_cases, or_right, not-true, not-false, lt-ltb, leb-true, le-leb, false_from_ne_true}
-use Rattle.std.proofs.lemmas.List.{append-nil, length-map, length-append, take_at, drop_at}
-use Rattle.std.proofs.lemmas.List.Elements.{All-from_recursion, recursion_from_All}
+use Rattle.std.proofs.Common.{if◌then◌else◌, suc, ◌≡◌, ℕ, ◌+◌, ◌<◌, ◌≤◌, ◌==◌, Bool, true, false, List, [], ◌∷◌, ◌++◌, length, map, drop, All, refl, sym, ap, ap₂, ◌∙◌, inl, inr, arith, codes, bytes_eq, nat_le, nat_lt, Option, Some, None, eqb-true}
+use Rattle.std.proofs.lemmas.Bool.{true≢false, and_parts, and_from, or_cases, lt-ltb, leb-true, le-leb, false_from_ne_true}
+use Rattle.std.proofs.lemmas.List.{length-map, length-append, take_at}
+use Rattle.std.proofs.lemmas.List.Elements.{recursion_from_All}
 use Rattle.std.proofs.lemmas.List.Folds.{list_all-append}
 use Rattle.std.proofs.lemmas.Slice.Eq.{bytes_eq-Decides}
-use Rattle.std.specs.List.{AllByRecursion, list_all, prefix_len}
+use Rattle.std.specs.List.{AllByRecursion, list_all}
 use Rattle.si_base.specs.declared.ids.Literal.{Literal}
 use Rattle.si_base.specs.declared.graph.Signal.{Signal}
-use Rattle.si_base.specs.declared.fault.TextKind.TheVariants.{BadLine, Undeclared}
-use Rattle.si_base.specs.Faults.{when, ◌otherwise◌, first_in}
+use Rattle.si_base.specs.Faults.{first_in}
 use Rattle.si_base.specs.Netlist.{Sum, Gate, SumGate, Gc, Cell}
 use Rattle.si_base.specs.NetlistText.{name_of, literal_word, cube_words, more_cubes, sum_words, gate_words}
 use Rattle.si_base.specs.Words.{is_signal_name, is_name_byte, is_letter, is_between}
 use Rattle.si_base.specs.WellFormed.{IsCube, IsSum, IsGate}
-use Rattle.si_netlist.specs.Sums.{is_literal, is_sum, is_mark, cut_at, len_before}
-use Rattle.si_netlist.specs.NetlistFault.{is_gate, are_pins, pin_fault, literals_fault, gate_fault, sum_fault, place_in}
-use Rattle.si_netlist.specs.NetlistValue.{gate_of, gc_of, cell_of, sum_of}
+use Rattle.si_netlist.specs.Sums.{cut_at, len_before}
+use Rattle.si_netlist.specs.NetlistFault.{is_gate, are_pins, pin_fault, literals_fault, gate_fault}
+use Rattle.si_netlist.specs.NetlistValue.{gate_of, gc_of, cell_of}
 use Rattle.si_netlist.proofs.LawTextLemmas.{IsDark}
-use Rattle.si_netlist.proofs.LawSumLemmas.{names_in, Good, none_after}
+use Rattle.si_netlist.proofs.LawSumLemmas.{names_in, none_after}
 use Rattle.si_netlist.proofs.LawLineLemmas.{AreNames}
 use Rattle.si_netlist.proofs.LawWrittenSumLemmas.{AreDark, dark_append, There, Unlike, literals_unlike, words_are_literals, literals_spelled, literal_place, good_name, CubeFits, cubes_fit, sum_good, sum_is, sum_spelled, sum_unlike, good_join}
 

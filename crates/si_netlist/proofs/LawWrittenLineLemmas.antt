@@ -1,7 +1,7 @@
 -- The other lines that are written have no fault, and spell what was written.
-use Rattle.std.proofs.Common.{IsTrue, if◌then◌else◌, zero, suc, ◌≡◌, ◌≢◌, ℕ, ◌+◌, ◌*◌, ◌%◌, ◌^◌, ◌<◌, ◌≤◌, ◌==◌, ◌&&◌, ◌||◌, Bool, true, false, not, List, [], ◌∷◌, ◌++◌, length, map, get_or, All, AllPairs, refl, sym, ap, ap₂, subst, ◌∙◌, inl, inr, arith, codes, bytes_eq, nat_le, Option, Some, None, eqb-true, eq-eqb, append_assoc}
-use Rattle.std.proofs.lemmas.Bool.{cases_Bool, true≢false, and_parts, and_from, or_from, or_parts, not-true, not-false, not_from_false, lt-leb, eqb-false, false_from_ne_true}
-use Rattle.std.proofs.lemmas.List.{append-nil, length-map, length-append, get_or_at, get_or_append_left, get_or-map, get_or_default}
+use Rattle.std.proofs.Common.{IsTrue, if◌then◌else◌, zero, suc, ◌≡◌, ◌≢◌, ℕ, ◌+◌, ◌*◌, ◌%◌, ◌^◌, ◌<◌, ◌≤◌, ◌==◌, Bool, true, false, List, [], ◌∷◌, ◌++◌, length, get_or, All, AllPairs, refl, sym, ap, subst, ◌∙◌, inl, inr, arith, codes, bytes_eq, nat_le, Some, None, eqb-true, eq-eqb, append_assoc}
+use Rattle.std.proofs.lemmas.Bool.{cases_Bool, true≢false, and_from, or_from, not_from_false, lt-leb, eqb-false, false_from_ne_true}
+use Rattle.std.proofs.lemmas.List.{length-map, length-append, get_or_at, get_or_append_left, get_or-map, get_or_default}
 use Rattle.std.proofs.lemmas.List.Elements.{recursion_from_All, All-map}
 use Rattle.std.proofs.lemmas.List.Folds.{Any-from_list_any}
 use Rattle.std.proofs.lemmas.Nat.Bits.{bit_at_lowest, bit_at-lt, same_from_bits_below}
@@ -18,7 +18,7 @@ use Rattle.si_base.specs.NetlistText.{insert_line, bits_from, word_if_any}
 use Rattle.si_base.specs.Words.{is_signal_name, is_between}
 use Rattle.si_base.specs.WellFormed.{IsWord, IsInsertion}
 use Rattle.si_netlist.specs.Names.{stands_in, name_fault}
-use Rattle.si_netlist.specs.Sums.{is_empty, cut_at}
+use Rattle.si_netlist.specs.Sums.{is_empty}
 use Rattle.si_netlist.specs.NetlistFault.{model_fault, is_model_word, names_fault, start_fault, insert_fault, are_both_lists}
 use Rattle.si_netlist.specs.NetlistValue.{insertion_with, insertion_of, first_word, code_of_bits}
 use Rattle.si_netlist.proofs.LawTextLemmas.{IsDark}

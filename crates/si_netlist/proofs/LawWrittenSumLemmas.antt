@@ -1,9 +1,8 @@
 -- The words of a sum have no fault, and spell that sum.
-use Rattle.std.proofs.Common.{IsTrue, if◌then◌else◌, zero, suc, ◌≡◌, ◌≢◌, ℕ, ◌+◌, ◌<◌, ◌≤◌, ◌&&◌, ◌||◌, Bool, true, false, not, List, [], ◌∷◌, ◌++◌, length, map, get_or, All, AllPairs, refl, sym, ap, ap₂, subst, ◌∙◌, inl, inr, arith, codes, bytes_eq, nat_le, nat_lt, Option, Some, None, is_none, unwrap_or, position, append_assoc}
-use Rattle.std.proofs.lemmas.Bool.{cases_Bool, true≢false, and_parts, and_from, or_cases, or_right, not-true, not-false, lt-ltb, leb-true, le-leb, false_from_ne_true, not_from_false}
-use Rattle.std.proofs.lemmas.List.{append-nil, length-map, get_or_default, length_push}
-use Rattle.std.proofs.lemmas.List.Elements.{All-from_recursion, recursion_from_All, All-get_or, All-head, All-tail}
-use Rattle.std.proofs.lemmas.List.Folds.{list_all-append}
+use Rattle.std.proofs.Common.{IsTrue, if◌then◌else◌, suc, ◌≡◌, ◌≢◌, ℕ, ◌+◌, ◌<◌, ◌≤◌, Bool, true, false, not, List, [], ◌∷◌, ◌++◌, length, map, get_or, All, AllPairs, refl, sym, ap, ap₂, subst, ◌∙◌, arith, codes, bytes_eq, Option, Some, None, unwrap_or, position}
+use Rattle.std.proofs.lemmas.Bool.{and_parts, and_from, or_right, lt-ltb, false_from_ne_true, not_from_false}
+use Rattle.std.proofs.lemmas.List.{append-nil, length_push}
+use Rattle.std.proofs.lemmas.List.Elements.{All-from_recursion, recursion_from_All, All-get_or}
 use Rattle.std.proofs.lemmas.List.Splits.{slice_split_at, slice_split_none}
 use Rattle.std.proofs.lemmas.List.Sums.{prefix_len_is}
 use Rattle.std.proofs.lemmas.Slice.Eq.{bytes_eq-Decides}
@@ -12,8 +11,8 @@ use Rattle.si_base.specs.declared.ids.Literal.{Literal}
 use Rattle.si_base.specs.declared.graph.Signal.{Signal}
 use Rattle.si_base.specs.Netlist.{Sum}
 use Rattle.si_base.specs.NetlistText.{name_of, literal_word, cube_words, more_cubes, sum_words}
-use Rattle.si_base.specs.Words.{is_signal_name, is_name_byte, is_letter, is_between}
-use Rattle.si_base.specs.WellFormed.{IsCube, IsSum}
+use Rattle.si_base.specs.Words.{is_signal_name}
+use Rattle.si_base.specs.WellFormed.{IsCube}
 use Rattle.si_netlist.specs.Sums.{is_literal, is_cube, is_sum, is_one, is_mark, literal_name, parts_at}
 use Rattle.si_netlist.specs.NetlistFault.{place_in, is_below, comes_after}
 use Rattle.si_netlist.specs.NetlistValue.{literal_of, cube_of, sum_of}

@@ -1,24 +1,22 @@
 -- A text without fault spells a netlist, and is that netlist's text.
-use Rattle.std.proofs.Common.{◌≡◌, ◌≢◌, ℕ, ◌+◌, ◌^◌, ◌<◌, ◌≤◌, Bool, true, false, List, [], ◌∷◌, ◌++◌, length, map, filter, take, drop, All, AllPairs, refl, sym, ap, ap₂, subst, ◌∙◌, arith, codes, None, IsTrue, suc, append_assoc}
+use Rattle.std.proofs.Common.{◌≡◌, ◌≢◌, ℕ, ◌+◌, ◌^◌, ◌<◌, ◌≤◌, List, [], ◌∷◌, ◌++◌, length, map, take, drop, refl, sym, ap, ap₂, subst, ◌∙◌, arith, codes, None, IsTrue, suc, append_assoc}
 use Rattle.std.proofs.lemmas.List.{length-map, drop-drop, take-append-drop, map-append}
 use Rattle.std.proofs.lemmas.List.Elements.{All-from_recursion, recursion_from_All}
-use Rattle.std.specs.List.{AllByRecursion, zip, flat_map}
+use Rattle.std.specs.List.{AllByRecursion}
 use Rattle.si_base.specs.declared.graph.Signal.{Signal}
-use Rattle.si_base.specs.Graph.{is_driven, kind_place}
 use Rattle.si_base.specs.Limits.{max_signals}
 use Rattle.si_base.specs.Netlist.{Gate, Insertion, Netlist}
-use Rattle.si_base.specs.NetlistText.{netlist_lines, netlist_text, insert_line, gate_words, names_of, bits_from, word_if_any}
-use Rattle.si_base.specs.declared.graph.SigKind.TheVariants.{Inserted}
+use Rattle.si_base.specs.NetlistText.{netlist_lines, netlist_text, insert_line}
 use Rattle.si_base.specs.Words.{text_of, is_signal_name}
 use Rattle.si_base.specs.WellFormed.{IsWord, IsGate, IsInsertion, IsNetlist}
-use Rattle.si_netlist.specs.NetlistFault.{Form, words_of, ended, tail_of, rest_of, due, due_in, due_after, netlist_fault, insert_fault, gate_fault, word_fault, model_fault, names_fault, start_fault, has_bad_byte_here}
+use Rattle.si_netlist.specs.NetlistFault.{Form, words_of, ended, tail_of, rest_of, due_in, netlist_fault, insert_fault, gate_fault, word_fault, start_fault}
 use Rattle.si_netlist.specs.NetlistValue.{gate_of, insertion_of, first_word, code_of_bits, netlist_of, netlist_of_lines}
 use Rattle.si_netlist.proofs.LawFitLemmas.{Fits, fits, fits_map}
-use Rattle.si_netlist.proofs.LawTextLemmas.{closed, text_back, lines_back, words_dark}
+use Rattle.si_netlist.proofs.LawTextLemmas.{text_back, lines_back, words_dark}
 use Rattle.si_netlist.proofs.LawSumLemmas.{names_in}
 use Rattle.si_netlist.proofs.LawGateLemmas.{gate_read}
 use Rattle.si_netlist.proofs.LawLineLemmas.{AreNames, no_names, model_read, names_read, start_read, insert_read, word_read}
-use Rattle.si_netlist.proofs.LawKindLemmas.{signals_by, driven_by, netlist_by, lines_by, lines_are, gate_lines, inserted_of, driven_of, all_names, driven_names, kinds_in_order, each_named, pairs_named}
+use Rattle.si_netlist.proofs.LawKindLemmas.{signals_by, driven_by, netlist_by, lines_are, gate_lines, inserted_of, driven_of, all_names, driven_names, kinds_in_order, each_named, pairs_named}
 
 -- ---- gate lines
 abbrev pub gates_in : List (List ℕ) → List (List ℕ) → List Gate

@@ -1,9 +1,9 @@
 -- The text of a netlist has no fault, and spells that netlist.
-use Rattle.std.proofs.Common.{◌≡◌, ◌≢◌, ℕ, ◌+◌, ◌^◌, ◌<◌, ◌≤◌, Bool, true, false, not, List, [], ◌∷◌, ◌++◌, length, map, filter, take, drop, get_or, All, AllPairs, refl, sym, ap, ap₂, subst, ◌∙◌, arith, codes, Option, None, IsTrue, suc, zero, append_assoc}
-use Rattle.std.proofs.lemmas.Bool.{true≢false, or_from, and_parts, leb-true, le-leb, not_from_true, and_from}
+use Rattle.std.proofs.Common.{◌≡◌, ◌≢◌, ℕ, ◌<◌, ◌≤◌, true, false, not, List, [], ◌∷◌, ◌++◌, length, map, take, drop, All, AllPairs, refl, sym, ap, ap₂, subst, ◌∙◌, arith, codes, None, suc, zero, append_assoc}
+use Rattle.std.proofs.lemmas.Bool.{or_from, and_parts, leb-true, le-leb, not_from_true, and_from}
 use Rattle.std.proofs.lemmas.List.{length-map, map-append, take_at, drop_at}
-use Rattle.std.proofs.lemmas.List.Elements.{All-from_recursion, recursion_from_All, All-filter}
-use Rattle.std.specs.List.{AllByRecursion, zip, list_all, list_any, slice_split, join_with_byte}
+use Rattle.std.proofs.lemmas.List.Elements.{recursion_from_All, All-filter}
+use Rattle.std.specs.List.{AllByRecursion, list_any, join_with_byte}
 use Rattle.si_base.specs.declared.graph.Signal.{Signal}
 use Rattle.si_base.specs.declared.graph.SigKind.{SigKind}
 use Rattle.si_base.specs.declared.graph.SigKind.TheVariants.{Input, Output, Internal, Inserted}
@@ -13,9 +13,9 @@ use Rattle.si_base.specs.NetlistText.{same_kind, names_of, netlist_lines, netlis
 use Rattle.si_base.specs.StrictText.{signals_of}
 use Rattle.si_base.specs.Words.{text_of, is_signal_name, is_between}
 use Rattle.si_base.specs.WellFormed.{IsGate, IsInsertion, IsNetlist}
-use Rattle.si_base.proofs.Given.{AreClean, LinesClean, IsClean, clean_word, words_without}
+use Rattle.si_base.proofs.Given.{AreClean, LinesClean, clean_word, words_without}
 use Rattle.si_base.proofs.Unsplit.{split-join}
-use Rattle.si_netlist.specs.NetlistFault.{Form, words_of, ended, tail_of, rest_of, due, due_in, due_after, lines_fault, netlist_fault, insert_fault, gate_fault, word_fault, model_fault, names_fault, start_fault, has_bad_byte_here}
+use Rattle.si_netlist.specs.NetlistFault.{Form, words_of, rest_of, due, due_in, lines_fault, netlist_fault, insert_fault, gate_fault, word_fault, has_bad_byte_here}
 use Rattle.si_netlist.specs.NetlistValue.{gate_of, insertion_of, first_word, code_of_bits, netlist_of, netlist_of_lines}
 use Rattle.si_netlist.proofs.LawFitLemmas.{Fits, no_fault}
 use Rattle.si_netlist.proofs.LawTextLemmas.{IsDark, ended_text, tail_text}
@@ -23,7 +23,7 @@ use Rattle.si_netlist.proofs.LawSumLemmas.{names_in}
 use Rattle.si_netlist.proofs.LawLineLemmas.{AreNames}
 use Rattle.si_netlist.proofs.LawKindLemmas.{signals_by, driven_by, netlist_by, lines_by, lines_are, gate_lines, inserted_of, driven_of, all_names, driven_names}
 use Rattle.si_netlist.proofs.LawWrittenSumLemmas.{AreDark}
-use Rattle.si_netlist.proofs.LawWrittenGateLemmas.{Written, gate_written, gate_line_good, dark_name}
+use Rattle.si_netlist.proofs.LawWrittenGateLemmas.{gate_written, gate_line_good, dark_name}
 use Rattle.si_netlist.proofs.LawWrittenLineLemmas.{model_good, names_good, front_names, signals_named, start_good, start_dark, start_spelled, insert_good}
 use Rattle.si_netlist.proofs.ReadLaw.{gates_in, inserts_in, with_rest, gate_rows_at}
 
