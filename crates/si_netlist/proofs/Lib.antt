@@ -1,1 +1,13 @@
 pub mod GateLemmas
+pub mod LawLemmas
+pub mod LawFitLemmas
+pub mod LawTextLemmas
+pub mod LawSumLemmas
+pub mod LawGateLemmas
+pub mod LawLineLemmas
+pub mod LawKindLemmas
+pub mod ReadLaw
+pub mod LawWrittenSumLemmas
+pub mod LawWrittenGateLemmas
+pub mod LawWrittenLineLemmas
+pub mod WriteLaw
