@@ -2,5 +2,10 @@
 #![tactic(auto)]
 
 pub mod gate;
+pub mod gate_lines;
+pub mod insertions;
 pub mod laws;
+pub mod lists;
 pub mod netlist;
+pub mod rows;
+pub mod words;
