@@ -4,3 +4,6 @@ pub mod RowLemmas
 pub mod HeaderLemmas
 pub mod PlaceLemmas
 pub mod LoopLemmas
+pub mod GateLineLemmas
+pub mod OrderLemmas
+pub mod CubeLemmas

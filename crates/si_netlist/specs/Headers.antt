@@ -1,8 +1,9 @@
 -- The first six lines of a netlist text, read.
 use Rattle.std.specs.Prelude.{ℕ, ◌≡◌, List, ◌++◌, length, drop}
+use Rattle.si_base.specs.Netlist.{Gate}
 use Rattle.si_netlist.specs.declared.rows.Header.{Header}
 use Rattle.si_netlist.specs.NetlistFault.{due_in, due_after, names_at, rest_of}
-use Rattle.si_netlist.specs.NetlistValue.{first_word, code_of_bits}
+use Rattle.si_netlist.specs.NetlistValue.{first_word, code_of_bits, gate_of}
 use Rattle.si_netlist.specs.Rows.{Left, fault_of}
 
 -- the model's name, by the words of its line
@@ -12,6 +13,10 @@ model_of words = first_word (rest_of words)
 -- the start code, by the words of its line
 abbrev pub start_of : List (List ℕ) → ℕ
 start_of words = code_of_bits (first_word (rest_of words))
+
+-- the gate, by the words of its line
+abbrev pub gate_in : List (List ℕ) → List (List ℕ) → Gate
+gate_in names words = gate_of names (rest_of words)
 
 -- the header has the parts that the lines spell, and the text's fault is that of the lines left
 pub record ReadsHeader (old new : Left) (names : List (List ℕ)) (header : Header) : Type 0 where

@@ -12,7 +12,7 @@ use si_base::names::Names;
 use crate::lists::place_of;
 use crate::words::{is_literal, is_signal_name, literal_name};
 
-fn is_one(word: &[u8], words: &[&[u8]]) -> bool
+pub fn is_one(word: &[u8], words: &[&[u8]]) -> bool
     ensures { result ≡ sums.is_one word.now (words_now words.now) }
 {
     match words {
