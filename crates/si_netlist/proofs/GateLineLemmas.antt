@@ -1,5 +1,5 @@
 -- What gate lines and insert lines without fault are made of.
-use Rattle.std.proofs.Common.{◌≡◌, ℕ, zero, suc, ◌+◌, ◌≤◌, ◌<◌, Bool, true, false, not, ◌&&◌, ◌||◌, List, [], ◌∷◌, ◌++◌, length, map, take, drop, get_or, refl, sym, ap, ◌∙◌, arith, Bor, Vec, Global, Result, Ok, Err, IfOk, Option, Some, None, codes, bytes_eq, is_none, inl, inr, nat_lt, position, unwrap_or}
+use Rattle.std.proofs.Common.{◌≡◌, ℕ, zero, suc, ◌+◌, ◌≤◌, ◌<◌, Bool, true, false, not, ◌&&◌, ◌||◌, List, [], ◌∷◌, ◌++◌, length, map, take, drop, get_or, refl, sym, ap, ◌∙◌, arith, Bor, Vec, Global, Result, Ok, Err, IfOk, Option, Some, None, codes, bytes_eq, is_none, inl, inr, nat_lt, position, unwrap_or, subst}
 use Rattle.std.specs.List.{list_all, slice_split, onto_first, prefix_len, AllByRecursion}
 use Rattle.std.proofs.lemmas.Bool.{cases_Bool, true≢false, and_parts, not-true}
 use Rattle.std.proofs.lemmas.List.{length-map, map_push, get_or-map, take_more}
@@ -14,6 +14,7 @@ use Rattle.si_netlist.specs.Reads.{words_now, parts_now}
 use Rattle.si_netlist.specs.Sums.{is_mark, is_literal, literal_name, parts_at, is_one, is_cube, cut_at, len_before}
 use Rattle.si_netlist.proofs.SumWordLemmas.{slice_split-map, last_pushed}
 use Rattle.si_netlist.proofs.FirstFaultLemmas.{take_word}
+use Rattle.si_netlist.proofs.OrderLemmas.{each_part}
 
 pub at_least_three : (name : List ℕ) (ws : List (Bor (List ℕ))) → is_insert_line name (words_now ws) ≡ true → 3 ≤ length ws
 at_least_three name [] form = absurd (true≢false (sym form))
@@ -58,3 +59,8 @@ pub part_order : (signals : List (List ℕ)) (ps : List (Bor (List (Bor (List �
 part_order signals [] i d within all = absurd (omega arith)
 part_order signals (p ∷ ps) zero d within all = all.0
 part_order signals (p ∷ ps) (suc i) d within all = part_order signals ps i d (omega arith) all.1
+
+pub part_order_of : (signals : List (List ℕ)) (words : List (List ℕ)) (ps : List (Bor (List (Bor (List ℕ))))) (i : ℕ) (d : Bor (List (Bor (List ℕ)))) → i < length ps → parts_now ps ≡ parts_at (codes "+") words → sum_fault signals words ≡ None → sum_fault signals (words_now (get_or ps i d).now) ≡ None
+part_order_of signals words ps i d within parts order =
+    let P : List (List (List ℕ)) → Type 0 = λ qs. AllByRecursion (λ q. sum_fault signals q ≡ None) qs in
+    part_order signals ps i d within (subst P (sym parts) (each_part signals words order))

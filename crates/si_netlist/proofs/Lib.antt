@@ -7,3 +7,4 @@ pub mod LoopLemmas
 pub mod GateLineLemmas
 pub mod OrderLemmas
 pub mod CubeLemmas
+pub mod SignalLemmas

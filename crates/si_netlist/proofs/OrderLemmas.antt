@@ -27,6 +27,17 @@ when_none : (b : Bool) (kind : TextKind) → when b kind ≡ None → b ≡ fals
 when_none true kind h = absurd cc
 when_none false kind h = refl
 
+abbrev some_cut : List (List ℕ) → List (List ℕ) → Option (List (List ℕ) × List (List ℕ))
+some_cut a b = Some (a, b)
+
+abbrev left_half : Option (List (List ℕ) × List (List ℕ)) → List (List ℕ)
+left_half None = []
+left_half (Some (a, b)) = a
+
+abbrev right_half : Option (List (List ℕ) × List (List ℕ)) → List (List ℕ)
+right_half None = []
+right_half (Some (a, b)) = b
+
 module _ (signals : List (List ℕ)) where
   -- the fault of a word after the one before it
   abbrev word_after : Option (List ℕ) → List ℕ → Option TextKind
@@ -105,7 +116,7 @@ module _ (signals : List (List ℕ)) where
   no_mark_is word good = elim (cases_Bool (is_mark word)) [ inl mark ↦ absurd (clash word mark good) | inr e ↦ e ]
     where
       only : (m w : List ℕ) → is_literal m ≡ false → bytes_eq m w ≡ true → is_literal w ≡ true → ⊥
-      only m w no e name = true≢false (sym name ∙ ap is_literal (sym ((bytes_eq-Decides m w).0 e)) ∙ no)
+      only m w none e name = true≢false (sym name ∙ ap is_literal (sym ((bytes_eq-Decides m w).0 e)) ∙ none)
 
       none_left : (w : List ℕ) → bytes_eq (codes "0") w ≡ false → bytes_eq (codes "1") w ≡ false → bytes_eq (codes "+") w ≡ false → bytes_eq (codes "|") w ≡ false → is_mark w ≡ true → ⊥
       none_left w a b c d mark = true≢false (sym mark ∙ rw (a, b, c, d) refl)
@@ -154,8 +165,17 @@ module _ (signals : List (List ℕ)) where
       pick zero (suc b) p q first later = first b (omega arith)
       pick (suc a) (suc b) p q first later = later a b (omega arith) (omega arith)
 
+  abbrev Cut : Type 0
+  Cut = List (List ℕ) × List (List ℕ)
+
+  abbrev cut_of : List (List ℕ) → List (List ℕ) → Option Cut
+  cut_of a b = Some (a, b)
+
+  abbrev SameCut : List (List ℕ) → List (List ℕ) → List (List ℕ) → List (List ℕ) → Type 0
+  SameCut a b c d = cut_of a b ≡ cut_of c d
+
   -- the words on both sides of a mark have no fault
-  pub cut_good : (mark : List ℕ) → is_mark mark ≡ true → (words a b : List (List ℕ)) → Some (a, b) ≡ cut_at mark words → sum_fault signals words ≡ None → (sum_fault signals a ≡ None) × (sum_fault signals b ≡ None)
+  pub cut_good : (mark : List ℕ) → is_mark mark ≡ true → (words a b : List (List ℕ)) → cut_of a b ≡ cut_at mark words → sum_fault signals words ≡ None → (sum_fault signals a ≡ None) × (sum_fault signals b ≡ None)
   cut_good mark is words a b cut good = elim (cases_Bool (nat_lt (len_before mark words) (length words))) [
     | inl within ↦
         let inside : position_or_len (bytes_eq mark) words < length words = ltb-true _ _ within in
@@ -163,20 +183,20 @@ module _ (signals : List (List ℕ)) where
         let whole = split_at_first (bytes_eq mark) words [] inside in
         let found : mark ≡ m = (bytes_eq-Decides mark m).0 (passes_at_first (bytes_eq mark) words [] inside) in
         let h : words_after None (before_first (bytes_eq mark) words ++ m ∷ after_first (bytes_eq mark) words) ≡ None = ap (words_after None) (sym whole) ∙ sym (sum_is words) ∙ good in
-        let here : Some (a, b) ≡ Some (before_first (bytes_eq mark) words, after_first (bytes_eq mark) words) = cut ∙ rw within refl in
+        let here : SameCut a b (before_first (bytes_eq mark) words) (after_first (bytes_eq mark) words) = cut ∙ rw within refl in
         let e = parts_same a b _ _ here in
         (sum_is a ∙ ap (words_after None) e.0 ∙ before_of None _ _ h, sum_is b ∙ ap (words_after None) e.1 ∙ after_of None _ _ m (ap is_mark (sym found) ∙ is) h)
     | inr past ↦ absurd (nowhere (cut ∙ rw past refl))
   ]
     where
-      parts_same : (x y z u : List (List ℕ)) → Some (x, y) ≡ Some (z, u) → (x ≡ z) × (y ≡ u)
-      parts_same x y z u e = (ap (λ o. (unwrap_or o (x, y)).0) e, ap (λ o. (unwrap_or o (x, y)).1) e)
+      parts_same : (x y z u : List (List ℕ)) → SameCut x y z u → (x ≡ z) × (y ≡ u)
+      parts_same x y z u e = (ap left_half e, ap right_half e)
 
-      nowhere : Some (a, b) ≡ None → ⊥
+      nowhere : cut_of a b ≡ None → ⊥
       nowhere e = cc
 
-pub cell_parts : (signals : List (List ℕ)) (cut : Option (List (List ℕ) × List (List ℕ))) (a b : List (List ℕ)) → Some (a, b) ≡ cut → are_pins_and_sum cut ≡ true → cell_fault signals cut ≡ None → (is_sum b ≡ true) × (sum_fault signals b ≡ None)
+pub cell_parts : (signals : List (List ℕ)) (cut : Option (List (List ℕ) × List (List ℕ))) (a b : List (List ℕ)) → some_cut a b ≡ cut → are_pins_and_sum cut ≡ true → cell_fault signals cut ≡ None → (is_sum b ≡ true) × (sum_fault signals b ≡ None)
 cell_parts signals cut a b e form order = ((and_parts (are_pins a) (is_sum b) (ap are_pins_and_sum e ∙ form)).1, later_none (pins_fault signals a) (sum_fault signals b) (ap (cell_fault signals) e ∙ order))
 
-pub sums_parts : (cut : Option (List (List ℕ) × List (List ℕ))) (a b : List (List ℕ)) → Some (a, b) ≡ cut → are_sums cut ≡ true → (is_sum a ≡ true) × (is_sum b ≡ true)
+pub sums_parts : (cut : Option (List (List ℕ) × List (List ℕ))) (a b : List (List ℕ)) → some_cut a b ≡ cut → are_sums cut ≡ true → (is_sum a ≡ true) × (is_sum b ≡ true)
 sums_parts cut a b e form = and_parts (is_sum a) (is_sum b) (ap are_sums e ∙ form)

@@ -1,10 +1,11 @@
 -- Lines of a netlist text, one taken from the front.
-use Rattle.std.proofs.Common.{◌≡◌, ℕ, zero, suc, ◌+◌, ◌<◌, ◌≤◌, ◌==◌, Bool, true, false, not, List, [], ◌∷◌, length, take, drop, refl, ap, ◌∙◌, arith, Some, None, inl, inr, add-one}
+use Rattle.std.proofs.Common.{◌≡◌, ℕ, zero, suc, ◌+◌, ◌<◌, ◌≤◌, ◌==◌, Bool, true, false, not, List, [], ◌∷◌, length, take, drop, refl, ap, ◌∙◌, arith, Some, None, inl, inr, add-one, if◌then◌else◌, ◌||◌}
 use Rattle.std.specs.List.{prefix_len}
 use Rattle.std.proofs.lemmas.Bool.{cases_Bool, cases_lt}
 use Rattle.si_base.specs.declared.fault.TextKind.{TextKind}
-use Rattle.si_base.specs.declared.fault.TextKind.TheVariants.{BadByte, NoEnd}
-use Rattle.si_netlist.specs.NetlistFault.{Form, ended, tail_of, lines_fault, has_bad_byte_here, words_of}
+use Rattle.si_base.specs.declared.fault.TextKind.TheVariants.{BadByte, NoEnd, BadLine}
+use Rattle.si_netlist.specs.NetlistFault.{Form, ended, tail_of, lines_fault, has_bad_byte_here, words_of, onto_head}
+use Rattle.si_netlist.specs.Sums.{is_empty}
 use Rattle.si_netlist.specs.Rows.{Left, fault_of, TakesLine}
 
 abbrev pub inside : ℕ → Bool
@@ -72,3 +73,18 @@ row_step form forms old new words takes good = rw (takes.lines, takes.tail, take
 -- a line that hasn't its form shows the fault
 pub row_fault : (form : Form) (forms : List Form) (old new : Left) (words : List (List ℕ)) (kind : TextKind) → TakesLine old new words → form words ≡ Some kind → fault_of (form ∷ forms) old ≡ Some (old.number, kind)
 row_fault form forms old new words kind takes bad = rw (takes.lines, takes.clean, ← takes.words_are, bad) refl
+
+-- where no line is due, whatever is left is a fault
+pub all_read : (rest : List ℕ) (number : ℕ) → rest ≡ [] → fault_of [] (left_of number rest) ≡ None
+all_read rest number e = rw e refl
+
+pub more_is_left : (rest : List ℕ) (number : ℕ) → (rest ≡ [] → ⊥) → fault_of [] (left_of number rest) ≡ Some (number, BadLine)
+more_is_left [] number some = absurd (some refl)
+more_is_left (b ∷ bs) number some = elim (cases_Bool (b == 10)) [
+  | inl ends ↦ rw ends refl
+  | inr goes ↦ rw goes (by_lines (ended bs))
+]
+  where
+    by_lines : (lines : List (List ℕ)) → lines_fault number [] (onto_head b lines) (if false || not (is_empty lines) then tail_of bs else b ∷ tail_of bs) ≡ Some (number, BadLine)
+    by_lines [] = refl
+    by_lines (l ∷ ls) = refl

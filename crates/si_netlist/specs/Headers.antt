@@ -1,6 +1,9 @@
 -- The first six lines of a netlist text, read.
-use Rattle.std.specs.Prelude.{ℕ, ◌≡◌, List, ◌++◌, length, drop}
+use Rattle.std.specs.Prelude.{ℕ, ◌≡◌, List, ◌++◌, length, take, drop, ◌-◌}
 use Rattle.si_base.specs.Netlist.{Gate}
+use Rattle.si_base.specs.declared.graph.Signal.{Signal}
+use Rattle.si_base.specs.declared.graph.SigKind.TheVariants.{Input, Output, Internal, Inserted}
+use Rattle.si_base.specs.StrictText.{signals_of}
 use Rattle.si_netlist.specs.declared.rows.Header.{Header}
 use Rattle.si_netlist.specs.NetlistFault.{due_in, due_after, names_at, rest_of}
 use Rattle.si_netlist.specs.NetlistValue.{first_word, code_of_bits, gate_of}
@@ -17,6 +20,14 @@ start_of words = code_of_bits (first_word (rest_of words))
 -- the gate, by the words of its line
 abbrev pub gate_in : List (List ℕ) → List (List ℕ) → Gate
 gate_in names words = gate_of names (rest_of words)
+
+-- the signals of names whose lists end at these places
+abbrev pub signals_by : List (List ℕ) → ℕ → ℕ → ℕ → List Signal
+signals_by names inputs outputs internals =
+    signals_of Input (take inputs names)
+    ++ signals_of Output (take (outputs - inputs) (drop inputs names))
+    ++ signals_of Internal (take (internals - outputs) (drop outputs names))
+    ++ signals_of Inserted (drop internals names)
 
 -- the header has the parts that the lines spell, and the text's fault is that of the lines left
 pub record ReadsHeader (old new : Left) (names : List (List ℕ)) (header : Header) : Type 0 where

@@ -4,6 +4,7 @@ ghost use Rattle.std.specs.Prelude.{◌≡◌, ℕ, ◌≤◌, ◌++◌, ◌-◌
 ghost use Rattle.si_base.specs.Limits.{max_signals};
 ghost use Rattle.si_base.specs.StrictText.{signals_of};
 ghost use Rattle.si_base.specs.TextFaults.{ToldBy, Gives};
+ghost use Rattle.si_netlist.specs.Headers.{signals_by};
 ghost use Rattle.si_netlist.specs.NetlistFault as netlist;
 ghost use Rattle.si_netlist.specs.NetlistFault.{Form, netlist_fault};
 ghost use Rattle.si_netlist.specs.NetlistValue.{netlist_of};
@@ -58,4 +59,48 @@ fn add_signals(
         signals.push(Signal { name, kind })?;
     }
     Ok(())
+}
+
+/// The signals of the four lists.
+fn signals_in(alloc: Global, names: &Names, header: &Header) -> Result<Vec<Signal>, NoMemory>
+    requires outputs { header.now.inputs ≤ header.now.outputs }
+    requires internals { header.now.outputs ≤ header.now.internals }
+    requires within { header.now.internals ≤ length names.now }
+    ensures { IfOk result (λ signals. signals.items ≡ signals_by names.now header.now.inputs header.now.outputs header.now.internals) }
+{
+    let mut signals = Vec::new(alloc);
+    let (inputs, outputs, internals) = (header.inputs, header.outputs, header.internals);
+    add_signals(alloc, &mut signals, names, 0, inputs, SigKind::Input)?;
+    add_signals(alloc, &mut signals, names, inputs, outputs, SigKind::Output)?;
+    add_signals(alloc, &mut signals, names, outputs, internals, SigKind::Internal)?;
+    add_signals(alloc, &mut signals, names, internals, names.len(), SigKind::Inserted)?;
+    Ok(signals)
+}
+
+/// The netlist that the text spells, or the first fault of the text.
+///
+/// It fails with `NoMemory` only for want of memory, and with `At` exactly where the text is no netlist's.
+pub fn read_netlist(alloc: Global, text: &[u8]) -> Result<Netlist, TextFault>
+    ensures gives { Gives (λ n. n) result (netlist_fault text.now) (netlist_of text.now) }
+{
+    let mut rows = Rows::new(text);
+    let Ok(mut names) = Names::new(alloc) else {
+        return Err(TextFault::NoMemory);
+    };
+    let header = read_header(alloc, &mut rows, &mut names)?;
+    let inserts = insert_rows(alloc, &mut rows, &names, header.internals)?;
+    word_row(alloc, &mut rows, b".gates")?;
+    let gates = gate_rows(alloc, &mut rows, &names, header.inputs)?;
+    word_row(alloc, &mut rows, b".end")?;
+    rows.finish()?;
+    let Ok(signals) = signals_in(alloc, &names, &header) else {
+        return Err(TextFault::NoMemory);
+    };
+    Ok(Netlist::make(
+        header.model,
+        signals,
+        header.start,
+        inserts,
+        gates,
+    ))
 }

@@ -1,6 +1,6 @@
 //! The lines of a netlist text.
 
-ghost use Rattle.std.specs.Prelude.{◌≡◌, ℕ, ◌+◌, ◌≤◌, ◌++◌, List, length, IfOk, OnOk, map, ◌==◌, not, ◌∷◌, []};
+ghost use Rattle.std.specs.Prelude.{◌≡◌, ℕ, ◌+◌, ◌≤◌, ◌++◌, List, length, IfOk, OnOk, map, ◌==◌, not, ◌∷◌, [], None};
 ghost use Rattle.std.specs.List.{prefix_len, list_any, list_all};
 ghost use Rattle.si_base.specs.Limits.{max_signals};
 ghost use Rattle.si_base.specs.TextFaults.{Tells, ToldBy};
@@ -100,6 +100,21 @@ impl<'a> Rows<'a> {
         self.rest = after;
         self.number = number + 1;
         Ok(words)
+    }
+
+    /// Whether nothing is left, where no more lines are due.
+    pub fn finish(&self) -> Result<(), TextFault>
+        ensures ok { OnOk result (fault_of [] self.now ≡ None) }
+        ensures err { ToldBy result (fault_of [] self.now) }
+    {
+        if self.rest.is_empty() {
+            Ok(())
+        } else {
+            Err(TextFault::At {
+                line: self.number,
+                kind: TextKind::BadLine,
+            })
+        }
     }
 
     /// The number of the next line.
