@@ -8,3 +8,5 @@ pub mod GateLineLemmas
 pub mod OrderLemmas
 pub mod CubeLemmas
 pub mod SignalLemmas
+pub mod ReadLaw
+pub mod ReaderLemmas

@@ -185,7 +185,7 @@ module _ (signals : List (List ℕ)) where
         let h : words_after None (before_first (bytes_eq mark) words ++ m ∷ after_first (bytes_eq mark) words) ≡ None = ap (words_after None) (sym whole) ∙ sym (sum_is words) ∙ good in
         let here : SameCut a b (before_first (bytes_eq mark) words) (after_first (bytes_eq mark) words) = cut ∙ rw within refl in
         let e = parts_same a b _ _ here in
-        (sum_is a ∙ ap (words_after None) e.0 ∙ before_of None _ _ h, sum_is b ∙ ap (words_after None) e.1 ∙ after_of None _ _ m (ap is_mark (sym found) ∙ is) h)
+        (sum_is a ∙ ap (words_after None) e.0 ∙ before_of None (before_first (bytes_eq mark) words) (m ∷ after_first (bytes_eq mark) words) h, sum_is b ∙ ap (words_after None) e.1 ∙ after_of None (before_first (bytes_eq mark) words) (after_first (bytes_eq mark) words) m (ap is_mark (sym found) ∙ is) h)
     | inr past ↦ absurd (nowhere (cut ∙ rw past refl))
   ]
     where

@@ -1,5 +1,5 @@
 -- Lines of a netlist text, one taken from the front.
-use Rattle.std.proofs.Common.{◌≡◌, ℕ, zero, suc, ◌+◌, ◌<◌, ◌≤◌, ◌==◌, Bool, true, false, not, List, [], ◌∷◌, length, take, drop, refl, ap, ◌∙◌, arith, Some, None, inl, inr, add-one, if◌then◌else◌, ◌||◌}
+use Rattle.std.proofs.Common.{◌≡◌, ℕ, zero, suc, ◌+◌, ◌<◌, ◌≤◌, ◌==◌, Bool, true, false, not, List, [], ◌∷◌, length, take, drop, refl, sym, ap, ◌∙◌, arith, Some, None, inl, inr, add-one, if◌then◌else◌, ◌||◌, eqb-true}
 use Rattle.std.specs.List.{prefix_len}
 use Rattle.std.proofs.lemmas.Bool.{cases_Bool, cases_lt}
 use Rattle.si_base.specs.declared.fault.TextKind.{TextKind}
@@ -88,3 +88,13 @@ more_is_left (b ∷ bs) number some = elim (cases_Bool (b == 10)) [
     by_lines : (lines : List (List ℕ)) → lines_fault number [] (onto_head b lines) (if false || not (is_empty lines) then tail_of bs else b ∷ tail_of bs) ≡ Some (number, BadLine)
     by_lines [] = refl
     by_lines (l ∷ ls) = refl
+
+pub nothing : (xs : List ℕ) → (length xs == 0) ≡ true → xs ≡ []
+nothing [] e = refl
+nothing (x ∷ xs) e = let none : length (x ∷ xs) ≡ 0 = eqb-true _ _ e in absurd (omega arith)
+
+pub something : (xs : List ℕ) → (length xs == 0) ≡ false → xs ≡ [] → ⊥
+something xs e is = clash (sym (rw is at e))
+  where
+    clash : false ≡ true → ⊥
+    clash h = cc
