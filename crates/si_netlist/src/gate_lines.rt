@@ -7,11 +7,12 @@ ghost use Rattle.si_netlist.specs.Sums as sums;
 ghost use Rattle.si_netlist.specs.NetlistFault as netlist;
 ghost use Rattle.si_netlist.specs.Reads.{words_now, both_now};
 
-use si_base::fault::TextKind;
-use si_base::names::Names;
 use crate::lists::place_of;
 use crate::words::{is_literal, is_signal_name, literal_name};
+use si_base::fault::TextKind;
+use si_base::names::Names;
 
+/// Whether the words are this word alone.
 pub fn is_one(word: &[u8], words: &[&[u8]]) -> bool
     ensures { result ≡ sums.is_one word.now (words_now words.now) }
 {
@@ -66,7 +67,10 @@ fn len_before(mark: &[u8], words: &[&[u8]]) -> usize
 }
 
 /// The words on both sides of the first that is the mark.
-pub fn cut_at<'s, 'a>(mark: &[u8], words: &'s [&'a [u8]]) -> Option<(&'s [&'a [u8]], &'s [&'a [u8]])>
+pub fn cut_at<'s, 'a>(
+    mark: &[u8],
+    words: &'s [&'a [u8]],
+) -> Option<(&'s [&'a [u8]], &'s [&'a [u8]])>
     ensures { option_map both_now result ≡ sums.cut_at mark.now (words_now words.now) }
 {
     let len = len_before(mark, words);
@@ -132,7 +136,7 @@ fn is_below(earlier: Option<u32>, later: Option<u32>) -> bool
     }
 }
 
-/// The place of the literal's signal.
+/// The place of the literal's signal, or `None` where it isn't declared.
 pub fn place_in(signals: &Names, word: &[u8]) -> Option<u32>
     ensures { result ≡ netlist.place_in signals.now word.now }
 {

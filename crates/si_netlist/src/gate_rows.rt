@@ -49,7 +49,9 @@ fn gate_row(
     }
 }
 
-/// A line for each signal from place `from` on.
+/// The gates of the lines that are due: one for each signal from place `from` on.
+///
+/// Fails with the first fault of these lines, and for want of memory.
 pub fn gate_rows(
     alloc: Global,
     rows: &mut Rows<'_>,

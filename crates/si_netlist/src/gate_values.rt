@@ -19,6 +19,7 @@ use si_cube::cube::Cube;
 use si_cube::sum::Sum;
 use std::alloc::{AllocError, Global};
 
+/// The literal of a word. A word of a line without fault has its signal declared.
 fn literal_of(signals: &Names, word: &[u8]) -> Literal
     requires { length signals.now ≤ max_signals }
     ensures literal { result ≡ value.literal_of signals.now word.now }
@@ -31,11 +32,8 @@ fn literal_of(signals: &Names, word: &[u8]) -> Literal
     }
 }
 
-fn literals_of(
-    alloc: Global,
-    signals: &Names,
-    words: &[&[u8]],
-) -> Result<Vec<Literal>, NoMemory>
+/// The literals of words, in their order.
+fn literals_of(alloc: Global, signals: &Names, words: &[&[u8]]) -> Result<Vec<Literal>, NoMemory>
     requires { length signals.now ≤ max_signals }
     ensures { IfOk result (λ literals. literals.items ≡ map (value.literal_of signals.now) (words_now words.now)) }
 {
@@ -46,6 +44,7 @@ fn literals_of(
     Ok(literals)
 }
 
+/// The cube of words whose signals rise.
 fn cube_of(signals: &Names, words: &[&[u8]]) -> Cube
     requires few { length signals.now ≤ max_signals }
     requires form { sums.is_cube (words_now words.now) ≡ true }
@@ -66,10 +65,7 @@ fn cube_of(signals: &Names, words: &[&[u8]]) -> Cube
 }
 
 /// The words between the words `+`.
-fn parts_of<'s, 'a>(
-    alloc: Global,
-    words: &'s [&'a [u8]],
-) -> Result<Vec<&'s [&'a [u8]]>, AllocError>
+fn parts_of<'s, 'a>(alloc: Global, words: &'s [&'a [u8]]) -> Result<Vec<&'s [&'a [u8]]>, AllocError>
     ensures { IfOk result (λ parts. parts_now parts.items ≡ sums.parts_at (codes "+") (words_now words.now)) }
 {
     words.split(|w| b"+".as_slice() == *w).collect(alloc)
@@ -150,7 +146,7 @@ fn cell_of(alloc: Global, signals: &Names, words: &[&[u8]]) -> Result<Gate, NoMe
     }
 }
 
-/// The gate that the words after the signal's name spell.
+/// The gate that the words after the signal's name spell. It fails only for want of memory.
 pub fn gate_of(alloc: Global, signals: &Names, words: &[&[u8]]) -> Result<Gate, NoMemory>
     requires few { length signals.now ≤ max_signals }
     requires form { netlist.is_gate (words_now words.now) ≡ true }

@@ -70,12 +70,7 @@ fn names_of(alloc: Global, words: &[&[u8]]) -> Result<Vec<Name>, NoMemory>
     Ok(names)
 }
 
-fn insert_with(
-    alloc: Global,
-    name: &[u8],
-    up: &[&[u8]],
-    down: &[&[u8]],
-) -> Result<Insert, NoMemory>
+fn insert_with(alloc: Global, name: &[u8], up: &[&[u8]], down: &[&[u8]]) -> Result<Insert, NoMemory>
     ensures { IfOk result (λ insert. insert ≡ record { name = name.now; up = words_now up.now; down = words_now down.now }) }
 {
     Ok(Insert {
@@ -115,7 +110,9 @@ fn insert_row(alloc: Global, rows: &mut Rows<'_>, name: &[u8]) -> Result<Insert,
     }
 }
 
-/// A line for each name from place `from` on.
+/// The insertions of the lines that are due: one for each name from place `from` on.
+///
+/// Fails with the first fault of these lines, and for want of memory.
 pub fn insert_rows(
     alloc: Global,
     rows: &mut Rows<'_>,

@@ -2,13 +2,15 @@
 #![tactic(auto)]
 
 pub mod gate;
-pub mod gate_lines;
-pub mod gate_rows;
-pub mod gate_values;
-pub mod insertions;
+mod gate_lines;
+mod gate_rows;
+mod gate_values;
+mod insertions;
 pub mod laws;
-pub mod lists;
+mod lists;
 pub mod netlist;
 pub mod reader;
-pub mod rows;
-pub mod words;
+#[cfg(test)]
+mod reader_tests;
+mod rows;
+mod words;

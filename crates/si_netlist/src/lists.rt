@@ -13,7 +13,7 @@ use si_base::fault::{LineFault, TextKind};
 use si_base::limits::MAX_SIGNALS;
 use si_base::names::Names;
 
-/// The place of a name.
+/// The place of a name, or `None` where it isn't there.
 pub fn place_of(names: &Names, name: &[u8]) -> Option<u32>
     ensures { result ≡ position (λ n. bytes_eq name.now n) names.now }
 {

@@ -72,8 +72,22 @@ fn signals_in(alloc: Global, names: &Names, header: &Header) -> Result<Vec<Signa
     let (inputs, outputs, internals) = (header.inputs, header.outputs, header.internals);
     add_signals(alloc, &mut signals, names, 0, inputs, SigKind::Input)?;
     add_signals(alloc, &mut signals, names, inputs, outputs, SigKind::Output)?;
-    add_signals(alloc, &mut signals, names, outputs, internals, SigKind::Internal)?;
-    add_signals(alloc, &mut signals, names, internals, names.len(), SigKind::Inserted)?;
+    add_signals(
+        alloc,
+        &mut signals,
+        names,
+        outputs,
+        internals,
+        SigKind::Internal,
+    )?;
+    add_signals(
+        alloc,
+        &mut signals,
+        names,
+        internals,
+        names.len(),
+        SigKind::Inserted,
+    )?;
     Ok(signals)
 }
 
@@ -96,11 +110,5 @@ pub fn read_netlist(alloc: Global, text: &[u8]) -> Result<Netlist, TextFault>
     let Ok(signals) = signals_in(alloc, &names, &header) else {
         return Err(TextFault::NoMemory);
     };
-    Ok(Netlist::make(
-        header.model,
-        signals,
-        header.start,
-        inserts,
-        gates,
-    ))
+    Ok(Netlist::make(header.model, signals, header.start, inserts, gates))
 }

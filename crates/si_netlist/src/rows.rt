@@ -55,7 +55,7 @@ fn has_bad_byte(line: &[u8]) -> bool
 }
 
 /// The words of a line between its blanks.
-pub fn words_of<'a>(alloc: Global, line: &'a [u8]) -> Result<Vec<&'a [u8]>, AllocError>
+fn words_of<'a>(alloc: Global, line: &'a [u8]) -> Result<Vec<&'a [u8]>, AllocError>
     ensures { IfOk result (λ v. words_now v.items ≡ netlist.words_of line.now) }
 {
     line.split(|b| *b == b' ').collect(alloc)
@@ -134,6 +134,7 @@ fn is_nothing(word: &[u8]) -> bool
     }
 }
 
+/// Whether two blanks stand together, or one at an end.
 pub fn has_empty(words: &[&[u8]]) -> bool
     ensures { result ≡ list_any is_empty (words_now words.now) }
 {
@@ -278,7 +279,13 @@ pub struct Header {
 }
 
 /// The first six lines: the names go into `names`.
-pub fn read_header(alloc: Global, rows: &mut Rows<'_>, names: &mut Names) -> Result<Header, TextFault>
+///
+/// Fails with the first fault of the text, where one of these lines shows it, and for want of memory.
+pub fn read_header(
+    alloc: Global,
+    rows: &mut Rows<'_>,
+    names: &mut Names,
+) -> Result<Header, TextFault>
     requires { names.old ≡ [] }
     ensures ok { IfOk result (λ header. ReadsHeader rows.old rows.new names.new header) }
     ensures err { ToldBy result (fault_of (netlist.due_in rows.old.lines) rows.old) }

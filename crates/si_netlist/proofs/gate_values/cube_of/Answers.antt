@@ -1,7 +1,4 @@
-use Rattle.std.proofs.Common.{◌∙◌, sym, ap, List, ℕ, Bor, ◌≡◌, ◌<◌, length, None, true}
-use Rattle.std.proofs.lemmas.List.{length-map}
-use Rattle.si_netlist.specs.NetlistValue.{cube_of}
-use Rattle.si_netlist.specs.Reads.{words_now}
+use Rattle.std.proofs.Common.{◌∙◌, sym}
 use Rattle.si_netlist.proofs.CubeLemmas.{none_of, in_none, in_more, rising_words, one_is}
 use Rattle.si_netlist.proofs.gate_values.cube_of.Goals as goal
 

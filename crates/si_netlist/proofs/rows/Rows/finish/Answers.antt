@@ -1,4 +1,4 @@
-use Rattle.std.proofs.Common.{sym, ◌∙◌, refl, List, ℕ, [], length, ◌≡◌, ap, arith}
+use Rattle.std.proofs.Common.{sym, ◌∙◌}
 use Rattle.si_netlist.proofs.RowLemmas.{all_read, more_is_left, nothing, something}
 use Rattle.si_netlist.proofs.rows.Rows.finish.Goals as goal
 
