@@ -2,5 +2,15 @@
 #![tactic(auto)]
 
 pub mod gate;
+mod gate_lines;
+mod gate_rows;
+mod gate_values;
+mod insertions;
 pub mod laws;
+mod lists;
 pub mod netlist;
+pub mod reader;
+#[cfg(test)]
+mod reader_tests;
+mod rows;
+mod words;
