@@ -4,3 +4,4 @@ pub mod NetlistFault
 pub mod NetlistValue
 pub mod Rows
 pub mod Parts
+pub mod Writing

@@ -4,3 +4,6 @@
 pub mod gate;
 pub mod laws;
 pub mod netlist;
+pub mod write;
+mod write_gates;
+mod write_sums;
