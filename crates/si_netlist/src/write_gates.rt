@@ -14,11 +14,7 @@ use si_base::ids::NoMemory;
 use si_base::text::Text;
 
 /// Adds a line for each gate and the signal that it drives.
-pub fn add_gate_lines(
-    text: &mut Text,
-    signals: &[Signal],
-    gates: &[Gate],
-) -> Result<(), NoMemory>
+pub fn add_gate_lines(text: &mut Text, signals: &[Signal], gates: &[Gate]) -> Result<(), NoMemory>
     ensures { OnOk result (text.new ≡ text.old ++ text_of (gate_lines signals.now signals.now (map gate_seen gates.now))) }
 {
     let mut gates = gates;
