@@ -22,3 +22,5 @@ pub mod OrderLemmas
 pub mod CubeLemmas
 pub mod SignalLemmas
 pub mod ReaderLemmas
+pub mod WritingLemmas
+pub mod LiteralLemmas

@@ -7,3 +7,4 @@ pub mod Parts
 pub mod Reads
 pub mod Headers
 pub mod RowValues
+pub mod Writing

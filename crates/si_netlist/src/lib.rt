@@ -14,3 +14,6 @@ pub mod reader;
 mod reader_tests;
 mod rows;
 mod words;
+pub mod write;
+mod write_gates;
+mod write_sums;
