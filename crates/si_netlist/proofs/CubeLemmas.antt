@@ -1,12 +1,10 @@
 -- Cubes, one literal after the other.
-use Rattle.std.proofs.Common.{◌≡◌, ℕ, zero, suc, ◌+◌, ◌≤◌, ◌<◌, ◌==◌, Bool, true, false, List, [], ◌∷◌, ◌++◌, length, map, take, get_or, refl, sym, ap, ◌∙◌, arith, Bor, None, codes, inl, inr, ◌⊎◌}
-use Rattle.std.specs.Int.{bit_at}
+use Rattle.std.proofs.Common.{◌≡◌, ℕ, zero, suc, ◌+◌, ◌≤◌, ◌<◌, Bool, true, false, List, [], ◌∷◌, ◌++◌, length, map, take, get_or, refl, sym, ap, ◌∙◌, arith, Bor, None, codes, inl, inr, ◌⊎◌}
 use Rattle.std.proofs.lemmas.Nat.Bits.{bit_at-zero}
 use Rattle.std.proofs.lemmas.Bool.{cases_Bool, and_parts, true≢false, false_from_ne_true}
 use Rattle.std.proofs.lemmas.List.{length-map, get_or-map}
 use Rattle.si_base.specs.declared.ids.Literal.{Literal}
 use Rattle.si_base.specs.Bits.{bit, IsSet}
-use Rattle.si_base.specs.Limits.{max_signals}
 use Rattle.si_cube.specs.Literals.{literals_from, literals_of, IsWithin}
 use Rattle.si_netlist.specs.NetlistValue.{literal_of, cube_of}
 use Rattle.si_netlist.specs.NetlistFault.{sum_fault}

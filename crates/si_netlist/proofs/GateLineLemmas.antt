@@ -1,18 +1,13 @@
 -- What gate lines and insert lines without fault are made of.
-use Rattle.std.proofs.Common.{◌≡◌, ℕ, zero, suc, ◌+◌, ◌≤◌, ◌<◌, Bool, true, false, not, ◌&&◌, ◌||◌, List, [], ◌∷◌, ◌++◌, length, map, take, drop, get_or, refl, sym, ap, ◌∙◌, arith, Bor, Vec, Global, Result, Ok, Err, IfOk, Option, Some, None, codes, bytes_eq, is_none, inl, inr, nat_lt, position, unwrap_or, subst}
-use Rattle.std.specs.List.{list_all, slice_split, onto_first, prefix_len, AllByRecursion}
-use Rattle.std.proofs.lemmas.Bool.{cases_Bool, true≢false, and_parts, not-true}
+use Rattle.std.proofs.Common.{◌≡◌, ℕ, zero, suc, ◌+◌, ◌≤◌, ◌<◌, true, ◌&&◌, List, [], ◌∷◌, ◌++◌, length, map, take, get_or, refl, sym, ap, ◌∙◌, arith, Bor, Vec, Global, Result, Ok, Err, IfOk, Some, None, codes, bytes_eq, inl, inr, subst}
+use Rattle.std.specs.List.{list_all, slice_split, AllByRecursion}
+use Rattle.std.proofs.lemmas.Bool.{cases_Bool, true≢false, and_parts}
 use Rattle.std.proofs.lemmas.List.{length-map, map_push, get_or-map, take_more}
-use Rattle.std.proofs.lemmas.Slice.Eq.{bytes_eq-Decides}
-use Rattle.si_base.specs.declared.fault.TextKind.{TextKind}
-use Rattle.si_base.specs.declared.fault.TextKind.TheVariants.{BadLine, Undeclared}
-use Rattle.si_base.specs.Faults.{when, ◌otherwise◌, first_after}
-use Rattle.si_base.specs.Words.{is_signal_name}
-use Rattle.si_netlist.specs.NetlistFault.{is_insert_line, gate_fault, literals_fault, is_gate, rest_of, literal_fault, comes_after, last_of, place_in, is_below, sum_fault}
-use Rattle.si_netlist.specs.NetlistValue.{literal_of}
+use Rattle.si_base.specs.declared.fault.TextKind.TheVariants.{BadLine}
+use Rattle.si_netlist.specs.NetlistFault.{is_insert_line, gate_fault, literals_fault, is_gate, rest_of, sum_fault}
 use Rattle.si_netlist.specs.Reads.{words_now, parts_now}
-use Rattle.si_netlist.specs.Sums.{is_mark, is_literal, literal_name, parts_at, is_one, is_cube, cut_at, len_before}
-use Rattle.si_netlist.proofs.SumWordLemmas.{slice_split-map, last_pushed}
+use Rattle.si_netlist.specs.Sums.{parts_at, is_cube}
+use Rattle.si_netlist.proofs.SumWordLemmas.{slice_split-map}
 use Rattle.si_netlist.proofs.FirstFaultLemmas.{take_word}
 use Rattle.si_netlist.proofs.OrderLemmas.{each_part}
 

@@ -1,9 +1,8 @@
 -- Lines of a netlist text, one for each of some names.
-use Rattle.std.proofs.Common.{◌≡◌, ℕ, suc, ◌+◌, ◌-◌, ◌<◌, ◌≤◌, List, [], ◌∷◌, ◌++◌, length, map, take, drop, refl, sym, ap, ◌∙◌, arith, slice_get, Option, Some, append_assoc, add-one, Result, Err, get_or}
+use Rattle.std.proofs.Common.{◌≡◌, ℕ, suc, ◌+◌, ◌-◌, ◌<◌, ◌≤◌, List, [], ◌∷◌, ◌++◌, length, map, take, drop, refl, sym, ap, ◌∙◌, arith, slice_get, Some, append_assoc, add-one, Result, Err}
 use Rattle.std.proofs.Math.Seq.{drop-cons}
 use Rattle.std.proofs.lemmas.List.{length-map, length-drop, drop_all, append-nil}
 use Rattle.std.proofs.lemmas.Option.{slice_get_within, get_or_from_slice_get}
-use Rattle.si_base.specs.declared.fault.TextKind.{TextKind}
 use Rattle.si_base.specs.declared.fault.TextFault.{TextFault}
 use Rattle.si_base.specs.TextFaults.{ToldBy, Shows}
 use Rattle.si_netlist.specs.NetlistFault.{Form, words_of}

@@ -1,5 +1,5 @@
 -- A whole netlist text, read.
-use Rattle.std.proofs.Common.{◌≡◌, ℕ, zero, suc, ◌+◌, ◌-◌, ◌<◌, ◌≤◌, List, [], ◌∷◌, ◌++◌, length, map, take, drop, refl, sym, ap, ◌∙◌, arith, Option, Some, None, codes, append_assoc, length-append, Result, Ok, Err, subst}
+use Rattle.std.proofs.Common.{◌≡◌, ℕ, zero, suc, ◌+◌, ◌-◌, List, [], ◌∷◌, ◌++◌, length, map, take, drop, refl, sym, ap, ◌∙◌, arith, Option, None, codes, append_assoc, length-append, Result, Err, subst}
 use Rattle.std.proofs.Math.Seq.{drop-append_seam, take-append_seam}
 use Rattle.std.proofs.lemmas.List.{length-map, drop_all}
 use Rattle.si_base.specs.declared.fault.TextKind.{TextKind}
@@ -13,7 +13,7 @@ use Rattle.si_base.specs.WellFormed.{IsNetlist}
 use Rattle.si_netlist.specs.declared.rows.Header.{Header}
 use Rattle.si_netlist.specs.Headers.{ReadsHeader, gate_in, signals_by}
 use Rattle.si_netlist.specs.NetlistFault.{Form, netlist_fault, due_in, due_after, insert_fault, word_fault, gate_fault, ended, tail_of, names_at, words_of}
-use Rattle.si_netlist.specs.NetlistValue.{netlist_of, netlist_of_lines, insertion_of, first_word, code_of_bits}
+use Rattle.si_netlist.specs.NetlistValue.{netlist_of, netlist_of_lines, insertion_of}
 use Rattle.si_netlist.specs.Rows.{Left, fault_of, TakesForm}
 use Rattle.si_netlist.specs.RowValues.{TakesAll}
 use Rattle.si_netlist.proofs.RowLemmas.{row_step}

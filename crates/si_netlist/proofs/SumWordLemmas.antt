@@ -1,5 +1,5 @@
 -- Words.
-use Rattle.std.proofs.Common.{◌≡◌, ℕ, ◌-◌, ◌≤◌, ◌==◌, Bool, true, false, List, [], ◌∷◌, ◌++◌, length, get_or, take, drop, map, refl, sym, ap, ◌∙◌, arith, position, bytes_eq, Option, Some, not, codes, inl, inr, Bor, Vec, Global, vec_items}
+use Rattle.std.proofs.Common.{◌≡◌, ℕ, ◌-◌, ◌≤◌, ◌==◌, Bool, true, false, List, [], ◌∷◌, ◌++◌, length, get_or, take, drop, map, refl, sym, ap, ◌∙◌, arith, position, bytes_eq, Option, Some, not, codes, inl, inr, Bor}
 use Rattle.si_netlist.specs.Reads.{words_now}
 use Rattle.si_base.specs.declared.fault.TextKind.{TextKind}
 use Rattle.si_netlist.specs.NetlistFault.{last_of, is_gate, literals_fault, gate_fault}

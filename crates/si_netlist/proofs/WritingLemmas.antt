@@ -1,7 +1,7 @@
 -- What the writers of a netlist's text have still to add, a step at a time.
-use Rattle.std.proofs.Common.{◌≡◌, ℕ, suc, ◌+◌, ◌-◌, ◌<◌, ◌==◌, Bool, true, false, List, [], ◌∷◌, ◌++◌, refl, sym, ap, ◌∙◌, IsTrue, length, get_or, drop, map, if◌then◌else◌, add-one, append_assoc, drop-cons, Some, slice_get, codes, arith, Result, OnOk, subst, inl, inr}
+use Rattle.std.proofs.Common.{◌≡◌, ℕ, ◌+◌, ◌<◌, ◌==◌, true, false, List, [], ◌∷◌, ◌++◌, refl, sym, ap, ◌∙◌, length, get_or, drop, map, if◌then◌else◌, add-one, append_assoc, drop-cons, Some, slice_get, codes, arith, Result, OnOk, subst, inl, inr}
 use Rattle.std.specs.List.{join_with_byte}
-use Rattle.std.proofs.lemmas.Option.{slice_get_read, get_or_from_slice_get, slice_get_cases}
+use Rattle.std.proofs.lemmas.Option.{slice_get_read, slice_get_cases}
 use Rattle.std.proofs.lemmas.Grind.{flat_map-append}
 use Rattle.std.proofs.lemmas.List.{append-nil}
 use Rattle.si_base.specs.declared.graph.Signal.{Signal}
@@ -9,12 +9,10 @@ use Rattle.si_base.specs.declared.graph.SigKind.{SigKind}
 use Rattle.si_base.specs.declared.graph.SigKind.TheVariants.{Input, Output, Internal, Inserted}
 use Rattle.si_base.specs.declared.ids.Literal.{Literal}
 use Rattle.si_base.specs.Bits.{bit}
-use Rattle.si_base.specs.Limits.{max_signals}
 use Rattle.si_base.specs.Words.{line, text_of}
 use Rattle.si_base.specs.Graph.{is_driven}
 use Rattle.si_base.specs.Netlist.{Sum, Gate, Insertion, Netlist}
-use Rattle.si_base.specs.NetlistText.{names_of, name_of, literal_word, cube_words, more_cubes, gate_words, bits_from, word_if_any, insert_line, netlist_text}
-use Rattle.si_cube.specs.Literals.{literals_from, literals_of}
+use Rattle.si_base.specs.NetlistText.{names_of, literal_word, more_cubes, gate_words, bits_from, word_if_any, insert_line, netlist_text}
 use Rattle.si_netlist.specs.Writing.{spaced, gate_lines}
 
 -- what a call leaves where it succeeds, written in another way

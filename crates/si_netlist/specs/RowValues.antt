@@ -1,6 +1,5 @@
 -- Lines of a netlist text that were taken, with the values that they spell.
-use Rattle.std.specs.Prelude.{ℕ, ◌≡◌, List, ◌++◌, length, map, take, drop, Option, None}
-use Rattle.si_base.specs.declared.fault.TextKind.{TextKind}
+use Rattle.std.specs.Prelude.{ℕ, ◌≡◌, List, ◌++◌, length, map, take, drop, None}
 use Rattle.si_netlist.specs.NetlistFault.{Form, words_of}
 use Rattle.si_netlist.specs.Rows.{Left, fault_of, TakesLine}
 

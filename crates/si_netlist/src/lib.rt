@@ -10,9 +10,9 @@ pub mod laws;
 mod lists;
 pub mod netlist;
 pub mod reader;
-#[cfg(test)]
-mod reader_tests;
 mod rows;
+#[cfg(test)]
+mod text_tests;
 mod words;
 pub mod write;
 mod write_gates;

@@ -1,15 +1,15 @@
 //! Writes the lines of gates.
 
 ghost use Rattle.std.specs.Prelude.{◌≡◌, ℕ, List, ◌∷◌, ◌++◌, OnOk, map};
-ghost use Rattle.si_base.specs.Graph.{is_driven as drives};
 ghost use Rattle.si_base.specs.Words.{line, text_of};
 ghost use Rattle.si_base.specs.NetlistText.{gate_words};
 ghost use Rattle.si_netlist.specs.Parts.{gate_seen};
 ghost use Rattle.si_netlist.specs.Writing.{spaced, gate_lines};
 
 use crate::gate::Gate;
+use crate::netlist::is_driven;
 use crate::write_sums::{add_literals, add_sum, add_word};
-use si_base::graph::{SigKind, Signal};
+use si_base::graph::Signal;
 use si_base::ids::NoMemory;
 use si_base::text::Text;
 
@@ -29,13 +29,6 @@ pub fn add_gate_lines(text: &mut Text, signals: &[Signal], gates: &[Gate]) -> Re
         gates = rest;
     }
     Ok(())
-}
-
-/// Whether the circuit drives signals of the kind.
-fn is_driven(kind: SigKind) -> bool
-    ensures { result ≡ drives kind }
-{
-    kind != SigKind::Input
 }
 
 /// Adds the line of a signal's gate.
