@@ -1,0 +1,2 @@
+//! The circuit beside its environment, one switching at a time.
+#![tactic(auto)]
