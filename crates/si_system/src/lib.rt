@@ -1,2 +1,8 @@
 //! The circuit beside its environment, one switching at a time.
 #![tactic(auto)]
+
+mod lists;
+pub mod replay;
+mod step;
+pub mod system;
+pub mod verdict;
