@@ -1,3 +1,4 @@
 pub mod GivenLemmas
 pub mod DifferenceLemmas
 pub mod StepLemmas
+pub mod OutcomeLemmas

@@ -42,25 +42,27 @@ pub fn replay(
     ensures same { MatchResult result (λ _. IsFor graph.now netlist.now) (λ e. ShowsDifference graph.now netlist.now e.place) }
     ensures outcome { IfOk result (λ outcome. IsOutcome graph.now.graph netlist.now (start graph.now.graph netlist.now) schedule.now.items outcome) }
 {
-    let system = System::start(graph, netlist)?;
-    Ok(outcome_of(system, schedule))
+    let mut system = System::start(graph, netlist)?;
+    Ok(outcome_of(&mut system, schedule))
 }
 
 /// The outcome of the schedule, from where the system stands.
-fn outcome_of(system: System<'_>, schedule: &Vec<Event>) -> Outcome
-    requires events { All (λ e. e.sig < length system.netlist.signals) schedule.now.items }
-    requires state { IsSome system.state.place }
-    ensures { IsOutcome system.coded.graph system.netlist system.state schedule.now.items result }
+fn outcome_of(system: &mut System<'_>, schedule: &Vec<Event>) -> Outcome
+    requires events { All (λ e. e.sig < length system.old.netlist.signals) schedule.now.items }
+    requires state { IsSome system.old.state.place }
+    ensures { IsOutcome system.old.coded.graph system.old.netlist system.old.state schedule.now.items result }
 {
-    let mut system = system;
     for (k, event) in schedule.iter().enumerate() {
         let verdict = system.fire(*event);
-        if verdict != Verdict::Done {
-            return Outcome::Differs {
-                step: k as u64 + 1,
-                event: *event,
-                verdict,
-            };
+        match verdict {
+            Verdict::Done => {}
+            _ => {
+                return Outcome::Differs {
+                    step: k as u64 + 1,
+                    event: *event,
+                    verdict,
+                };
+            }
         }
     }
     Outcome::Done {
