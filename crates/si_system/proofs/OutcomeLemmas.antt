@@ -36,5 +36,5 @@ first_differing g n x es k y e v z below is passes fired differs = record {
   passes = passes;
   next = z;
   fired = fired;
-  differs = differs
+  differs = differs;
 }

@@ -1,5 +1,5 @@
 -- Steps and lost excitations.
-use Rattle.std.proofs.Common.{◌≡◌, ℕ, ◌+◌, ◌<◌, ◌↔◌, Bool, true, false, not, List, length, get_or, refl, sym, ap, subst, subst₂, ◌∙◌, arith, slice_get, Option, Some, None, IsTrue, below_more}
+use Rattle.std.proofs.Common.{◌≡◌, ℕ, ◌+◌, ◌<◌, ◌↔◌, Bool, true, false, not, List, length, get_or, refl, sym, ap, subst, subst₂, ◌∙◌, slice_get, Option, Some, IsTrue, below_more}
 use Rattle.std.proofs.lemmas.Bool.{true≢false}
 use Rattle.std.proofs.lemmas.Option.{slice_get_within, slice_get-get_or}
 use Rattle.si_base.specs.declared.ids.Event.{Event}
@@ -35,7 +35,7 @@ read_of y e h m values s xs i d graph netlist same stands signals at within = re
   netlist_is = netlist;
   values_are = same;
   stands = stands;
-  named = named_at xs y.netlist.signals i e.sig d (signals ∙ ap (λ (n : Netlist). n.signals) netlist) at within
+  named = named_at xs y.netlist.signals i e.sig d (signals ∙ ap (λ (n : Netlist). n.signals) netlist) at within;
 }
 
 may_at : (g : StateGraph) (n : Netlist) (x : State) (e : Event) (h : StateGraph) (m : Netlist) (values s : ℕ) (signal : Signal) (place : Option ℕ) → IsReadAt g n x e h m values s signal
@@ -74,7 +74,7 @@ step_taken g n x e h m values s signal new place read old made may = record {
   named = read.named;
   old_value = ap (λ (k : ℕ). bit k e.sig) (sym read.values_are) ∙ old;
   new_values = made ∙ ap (λ (k : ℕ). flip k e.sig) read.values_are;
-  may = may_at g n x e h m values s signal place read may
+  may = may_at g n x e h m values s signal place read may;
 }
 
 -- what has the new value already makes no step

@@ -10,11 +10,7 @@ pub enum Verdict {
     /// The event was no step; nothing changed.
     Blocked,
     /// The step of a given non-input was taken, and the graph has no arc for it.
-    Astray {
-        sig: Sig,
-    },
+    Astray { sig: Sig },
     /// The step was taken, and the gate of another signal, the first such, was excited before it and isn't after it.
-    Lost {
-        sig: Sig,
-    },
+    Lost { sig: Sig },
 }

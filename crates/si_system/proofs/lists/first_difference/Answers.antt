@@ -1,4 +1,4 @@
-use Rattle.std.proofs.Common.{arith, ◌∙◌, ap, filter, not, List, ◌≡◌, min, length}
+use Rattle.std.proofs.Common.{arith, ◌∙◌, ap, filter, not, List}
 use Rattle.si_base.specs.declared.graph.Signal.{Signal}
 use Rattle.si_base.specs.Graph.{StateGraph}
 use Rattle.si_base.specs.System.{is_inserted}
@@ -16,8 +16,8 @@ pub returns-else-own-given-clause-difference : goal.returns-else-own-given-claus
 returns-else-own-given-clause-difference c =
     record {
       differs = ended_differs c.args.graph.now c.args.netlist.now _ _ c.min-both.result
-        (c.signals-own.ensures ∙ ap (λ (g : StateGraph). g.signals) c.coded_graph.ensures.same)
-        (c.given_signals-given.ensures ∙ ap (λ (xs : List Signal). filter (λ x. not (is_inserted x.kind)) xs) c.signals.ensures.signals)
-        c.if-own-given.false (omega arith);
-      before = λ j below. c.loop-k.invariant j (omega arith)
+          (c.signals-own.ensures ∙ ap (λ (g : StateGraph). g.signals) c.coded_graph.ensures.same)
+          (c.given_signals-given.ensures ∙ ap (λ (xs : List Signal). filter (λ x. not (is_inserted x.kind)) xs) c.signals.ensures.signals)
+          c.if-own-given.false (omega arith);
+      before = λ j below. c.loop-k.invariant j (omega arith);
     }

@@ -25,5 +25,5 @@ loop-k-preserved c =
       netlist = c.fire-verdict.ensures.netlist ∙ c.loop-k.invariant.netlist;
       place = done.1;
       passes = passes_next y.coded.graph y.netlist y.state c.args.schedule.now.items c.loop-k.k c.loop-k.system.state c.event-item.result c.fire-verdict.new.self.state
-        (omega arith) is c.loop-k.invariant.passes done
+          (omega arith) is c.loop-k.invariant.passes done;
     }
