@@ -5,4 +5,6 @@ mod lists;
 pub mod replay;
 mod step;
 pub mod system;
+#[cfg(test)]
+mod tests;
 pub mod verdict;
