@@ -1,0 +1,4 @@
+pub mod GivenLemmas
+pub mod DifferenceLemmas
+pub mod StepLemmas
+pub mod OutcomeLemmas
