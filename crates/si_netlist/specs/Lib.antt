@@ -4,3 +4,7 @@ pub mod NetlistFault
 pub mod NetlistValue
 pub mod Rows
 pub mod Parts
+pub mod Reads
+pub mod Headers
+pub mod RowValues
+pub mod Writing

@@ -113,7 +113,7 @@ fn gate_place(signals: &[Signal], z: Sig) -> usize
 }
 
 /// Whether the circuit drives signals of the kind.
-fn is_driven(kind: SigKind) -> bool
+pub(crate) fn is_driven(kind: SigKind) -> bool
     ensures { result ≡ graph.is_driven kind }
 {
     match kind {

@@ -61,15 +61,15 @@ pub unmet_new : (met now : ℕ → Bool) (x : ℕ) (xs : List ℕ) → met x ≡
 unmet_new met now x xs absent updates = rw absent (ap (λ (ys : List ℕ). x ∷ ys) (filter_filter (λ y. not (met y)) (λ y. not (y == x)) (λ y. not (now y)) (once (λ a b. a == b) xs) (λ y. new_at (y == x) (met y) (now y) (updates y ∙ ap (λ (b : Bool). cond b true (met y)) (same_at x y)))))
 
 -- a step of the walk at a number that is met already
-pub walk_again : (test met : ℕ → Bool) (xs : List ℕ) (i : ℕ) (done whole : List ℕ) → i < length xs → test i ≡ true → met (get_or xs i 0) ≡ true
-    → done ++ unmet met (kept_from test xs i) ≡ whole → done ++ unmet met (kept_from test xs (i + 1)) ≡ whole
-walk_again test met xs i done whole within holds here before =
-    ap (λ (ys : List ℕ). done ++ ys) (sym (ap (unmet met) (kept_more test xs i within holds) ∙ unmet_again met (get_or xs i 0) (kept_from test xs (i + 1)) here)) ∙ before
+pub walk_again : {A : Type 0} (make : ℕ → A) (test met : ℕ → Bool) (xs : List ℕ) (i : ℕ) (done whole : List A) → i < length xs → test i ≡ true → met (get_or xs i 0) ≡ true
+    → done ++ map make (unmet met (kept_from test xs i)) ≡ whole → done ++ map make (unmet met (kept_from test xs (i + 1))) ≡ whole
+walk_again {A} make test met xs i done whole within holds here before =
+    ap (λ (ys : List ℕ). done ++ map make ys) (sym (ap (unmet met) (kept_more test xs i within holds) ∙ unmet_again met (get_or xs i 0) (kept_from test xs (i + 1)) here)) ∙ before
 
 -- a step of the walk at a new number
-pub walk_new : (test met now : ℕ → Bool) (xs : List ℕ) (i : ℕ) (done whole : List ℕ) → i < length xs → test i ≡ true → met (get_or xs i 0) ≡ false
+pub walk_new : {A : Type 0} (make : ℕ → A) (test met now : ℕ → Bool) (xs : List ℕ) (i : ℕ) (done whole : List A) → i < length xs → test i ≡ true → met (get_or xs i 0) ≡ false
     → ((y : ℕ) → now y ≡ cond (is_eq (nat_cmp (get_or xs i 0) y)) true (met y))
-    → done ++ unmet met (kept_from test xs i) ≡ whole → (done ++ get_or xs i 0 ∷ []) ++ unmet now (kept_from test xs (i + 1)) ≡ whole
-walk_new test met now xs i done whole within holds absent updates before =
-    append_assoc done (get_or xs i 0 ∷ []) (unmet now (kept_from test xs (i + 1)))
-    ∙ ap (λ (ys : List ℕ). done ++ ys) (sym (ap (unmet met) (kept_more test xs i within holds) ∙ unmet_new met now (get_or xs i 0) (kept_from test xs (i + 1)) absent updates)) ∙ before
+    → done ++ map make (unmet met (kept_from test xs i)) ≡ whole → (done ++ make (get_or xs i 0) ∷ []) ++ map make (unmet now (kept_from test xs (i + 1))) ≡ whole
+walk_new {A} make test met now xs i done whole within holds absent updates before =
+    append_assoc done (make (get_or xs i 0) ∷ []) (map make (unmet now (kept_from test xs (i + 1))))
+    ∙ ap (λ (ys : List ℕ). done ++ map make ys) (sym (ap (unmet met) (kept_more test xs i within holds) ∙ unmet_new met now (get_or xs i 0) (kept_from test xs (i + 1)) absent updates)) ∙ before

@@ -1,5 +1,5 @@
 -- The graph of the parts of a text.
-use Rattle.std.proofs.Common.{◌≡◌, ◌≢◌, ℕ, ◌<◌, ◌≤◌, ◌↔◌, true, List, [], ◌∷◌, ◌++◌, map, length, get_or, slice_get, Some, All, AllPairs, Any, Contains, refl, sym, ap, ap₂, subst, ◌∙◌, arith, append_assoc}
+use Rattle.std.proofs.Common.{◌≡◌, ◌≢◌, ℕ, ◌<◌, ◌≤◌, ◌↔◌, true, List, [], ◌∷◌, ◌++◌, map, length, get_or, slice_get, Some, All, AllPairs, Any, Contains, refl, sym, ap, ap₂, subst, ◌∙◌, arith, append_assoc, IsTrue}
 use Rattle.std.specs.List.{AllZip}
 use Rattle.std.specs.List.Sorted.{IsStrictlySortedBy}
 use Rattle.std.proofs.lemmas.List.{append-nil, map-append, get_or-map, length-map}
@@ -12,7 +12,7 @@ use Rattle.si_base.specs.declared.graph.SigKind.TheVariants.{Input, Output, Inte
 use Rattle.si_base.specs.EdgeOrder.{edge_cmp}
 use Rattle.si_base.specs.Graph.{StateGraph, IsMadeOf, kind_place}
 use Rattle.si_base.specs.Limits.{max_arcs_read}
-use Rattle.si_base.specs.Words.{is_model_name, once}
+use Rattle.si_base.specs.Words.{is_model_name, is_signal_name, once}
 use Rattle.si_base.specs.StrictText.{Spelling, IsStrict, Spells, SpellsArc, signal_names, state_names, signals_of, same_arc}
 use Rattle.si_base.proofs.NameLemmas.{there}
 use Rattle.si_tool.specs.Strict.{AreSignalNames, AreArcLines, IsSpelledBy}
@@ -66,6 +66,14 @@ names_apart ins outs ints list is distinct i j d before within same =
     let inside : j < length (ins ++ outs ++ ints) = omega (arith, ap length names, length-map list name) in
     let at : (k : ℕ) → k < length list → get_or (ins ++ outs ++ ints) k d.name ≡ (get_or list k d).name = λ k h. ap (λ ns. get_or ns k d.name) (sym names) ∙ get_or-map name list k d d.name h in
     distinct i j d.name before inside (at i (omega arith) ∙ same ∙ sym (at j within))
+
+pub names_named : (ins outs ints : List (List ℕ)) (list : List Signal) → list ≡ all_signals ins outs ints → All (λ n. IsTrue (is_signal_name n)) (ins ++ outs ++ ints) → All (λ x. IsTrue (is_signal_name x.name)) list
+names_named ins outs ints list is named k d within =
+    let name : Signal → List ℕ = λ x. x.name in
+    let names : map name list ≡ ins ++ outs ++ ints = ap (map name) is ∙ names_of_all ins outs ints in
+    let inside : k < length (ins ++ outs ++ ints) = omega (arith, ap length names, length-map list name) in
+    let at : get_or (ins ++ outs ++ ints) k d.name ≡ (get_or list k d).name = ap (λ ns. get_or ns k d.name) (sym names) ∙ get_or-map name list k d d.name within in
+    subst (λ (n : List ℕ). IsTrue (is_signal_name n)) at (named k d.name inside)
 
 -- ---- what a strict spelling has
 pub strict_names : (x : Spelling) → IsStrict x → AreSignalNames (signal_names x)

@@ -1,7 +1,7 @@
 pub mod Command
 pub mod Answer
 pub mod Read
-pub mod Writing
+pub mod Spelled
 pub mod ExitStatus
 pub mod Lines
 pub mod Parts

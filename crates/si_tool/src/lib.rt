@@ -1,7 +1,7 @@
 //! The tool: from the words of a command line to the status.
 #![tactic(auto)]
 
-mod cubes;
+pub mod full;
 mod lines;
 mod parts;
 pub mod read;
@@ -14,4 +14,3 @@ pub mod sure;
 pub mod synth;
 #[cfg(test)]
 mod tests;
-pub mod write;

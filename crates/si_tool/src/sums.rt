@@ -1,23 +1,28 @@
 //! The sums of full cubes.
 
-ghost use Rattle.std.specs.Prelude.{◌≡◌, ℕ, ◌<◌, ◌==◌, IfOk, length};
-ghost use Rattle.si_base.specs.Words.{once};
-ghost use Rattle.si_base.specs.Cover.{required_codes};
+ghost use Rattle.std.specs.Prelude.{◌≡◌, ℕ, ◌-◌, ◌<◌, ◌≤◌, ◌^◌, IfOk, length};
+ghost use Rattle.si_base.specs.Limits.{max_signals};
+ghost use Rattle.si_base.specs.Cover.{full_cube_from, full_sum};
 
+use si_base::graph::Signal;
 use si_base::ids::{Code, NoMemory, Sig, StateId};
+use si_base::limits::MAX_SIGNALS;
+use si_cube::cube::Cube;
+use si_cube::sum::Sum;
 use si_graph::coded::Coded;
 use std::alloc::Global;
 use std::collections::BTreeSet;
 
-/// The codes of the states at which the signal's next value is 1: each code once, in state order.
-pub fn sum_codes(alloc: Global, coded: &Coded, z: Sig) -> Result<Vec<Code>, NoMemory>
+/// The sum of the full cubes of the states at which the signal's next value is 1: each cube once, in state order.
+pub fn sum_of(alloc: Global, coded: &Coded, z: Sig) -> Result<Sum, NoMemory>
     requires { z < length coded.now.graph.signals }
-    ensures { IfOk result (λ codes. codes.items ≡ once (λ a b. a == b) (required_codes coded.now z)) }
+    ensures { IfOk result (λ sum. sum ≡ full_sum coded.now z) }
 {
-    let states = coded.coded_graph().states();
+    let graph = coded.coded_graph();
+    let signals = graph.signals();
     let mut met = BTreeSet::new(alloc);
-    let mut codes = Vec::new(alloc);
-    for s in 0..states {
+    let mut cubes = Vec::new(alloc);
+    for s in 0..graph.states() {
         let s = StateId(s);
         if !coded.next_value(s, z) {
             continue;
@@ -26,7 +31,31 @@ pub fn sum_codes(alloc: Global, coded: &Coded, z: Sig) -> Result<Vec<Code>, NoMe
         if !met.insert(code)? {
             continue;
         }
-        codes.push(code)?;
+        cubes.push(full_cube(signals, code))?;
     }
-    Ok(codes)
+    Ok(Sum::new(cubes))
+}
+
+/// A literal for each signal, each true at the code.
+fn full_cube(signals: &[Signal], code: Code) -> Cube
+    requires few { length signals.now ≤ max_signals }
+    requires fits { code < 2 ^ length signals.now }
+    ensures { result ≡ full_cube_from 0 signals.now code }
+{
+    Cube {
+        care: all_ones(signals.len()),
+        value: code,
+    }
+}
+
+/// The value 1 for each of so many signals.
+fn all_ones(signals: usize) -> Code
+    requires { signals ≤ max_signals }
+    ensures { result ≡ 2 ^ signals - 1 }
+{
+    if signals == MAX_SIGNALS {
+        Code(u64::MAX)
+    } else {
+        Code((1 << signals) - 1)
+    }
 }

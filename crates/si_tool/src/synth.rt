@@ -3,8 +3,8 @@
 ghost use Rattle.std.specs.Prelude.{◌≡◌, ℕ, IfOk, Err};
 ghost use Rattle.si_tool.specs.Answer.{IsBadText, IsImproper, IsUnresolved, IsSynthesis};
 
+use crate::full::write_full;
 use crate::read::{NotRead, Sg, read_strict};
-use crate::write::write_full;
 use si_base::text::Text;
 use si_checks::distinct::{Distinct, NotDistinct};
 use si_checks::proper::{Improper, Proper};
@@ -58,7 +58,7 @@ pub fn synth(alloc: Global, text: &[u8]) -> Result<Text, NoNetlist>
         Err(NotDistinct::NoMemory) => return Err(NoNetlist::NoMemory),
         Err(NotDistinct::Conflict { .. }) => return Err(NoNetlist::Unresolved),
     };
-    match write_full(alloc, &model, distinct) {
+    match write_full(alloc, model, distinct) {
         Ok(text) => Ok(text),
         Err(_) => Err(NoNetlist::NoMemory),
     }

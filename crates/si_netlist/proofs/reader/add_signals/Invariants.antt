@@ -1,0 +1,6 @@
+use Rattle.std.proofs.Common.{◌≡◌, ◌++◌, ◌-◌, take, drop}
+use Rattle.si_base.specs.StrictText.{signals_of}
+use Rattle.si_netlist.proofs.reader.add_signals.Given as goal
+
+abbrev pub invariant-loop-k : goal.invariant-loop-k
+invariant-loop-k l = l.signals.items ≡ l.fn.signals.items ++ signals_of l.kind (take (l.k - l.from) (drop l.from l.names))

@@ -1,0 +1,74 @@
+//! Gate lines, read.
+
+ghost use Rattle.std.specs.Prelude.{◌≡◌, ℕ, ◌≤◌, List, length, IfOk, map, drop, ◌++◌, ◌∷◌};
+ghost use Rattle.si_base.specs.Limits.{max_signals};
+ghost use Rattle.si_base.specs.TextFaults.{ToldBy};
+ghost use Rattle.si_netlist.specs.Headers.{gate_in};
+ghost use Rattle.si_netlist.specs.NetlistFault as netlist;
+ghost use Rattle.si_netlist.specs.NetlistFault.{Form};
+ghost use Rattle.si_netlist.specs.Parts.{gate_seen};
+ghost use Rattle.si_netlist.specs.Reads.{words_now};
+ghost use Rattle.si_netlist.specs.RowValues.{TakesValue, TakesAll};
+ghost use Rattle.si_netlist.specs.Rows.{fault_of};
+
+use crate::gate::Gate;
+use crate::gate_lines::gate_kind;
+use crate::gate_values::gate_of;
+use crate::rows::Rows;
+use si_base::fault::TextFault;
+use si_base::names::Names;
+use std::alloc::Global;
+
+fn after_head<'s, 'a>(words: &'s [&'a [u8]]) -> &'s [&'a [u8]]
+    ensures { words_now result.now ≡ netlist.rest_of (words_now words.now) }
+{
+    match words {
+        [] => words,
+        [_, rest @ ..] => rest,
+    }
+}
+
+fn gate_row(
+    alloc: Global,
+    rows: &mut Rows<'_>,
+    signals: &Names,
+    name: &[u8],
+) -> Result<Gate, TextFault>
+    requires { length signals.now ≤ max_signals }
+    ensures ok { IfOk result (λ gate. TakesValue (netlist.gate_fault signals.now name.now) (gate_in signals.now) rows.old rows.new (gate_seen gate)) }
+    ensures err { (forms : List Form) → ToldBy result (fault_of (netlist.gate_fault signals.now name.now ∷ forms) rows.old) }
+{
+    let line = rows.number();
+    let words = rows.next_words(alloc)?;
+    if let Some(kind) = gate_kind(signals, name, &words) {
+        return Err(TextFault::At { line, kind });
+    }
+    match gate_of(alloc, signals, after_head(&words)) {
+        Ok(gate) => Ok(gate),
+        Err(_) => Err(TextFault::NoMemory),
+    }
+}
+
+/// The gates of the lines that are due: one for each signal from place `from` on.
+///
+/// Fails with the first fault of these lines, and for want of memory.
+pub fn gate_rows(
+    alloc: Global,
+    rows: &mut Rows<'_>,
+    signals: &Names,
+    from: u32,
+) -> Result<Vec<Gate>, TextFault>
+    requires room { from ≤ length signals.now }
+    requires few { length signals.now ≤ max_signals }
+    ensures ok { IfOk result (λ gates. TakesAll (map (netlist.gate_fault signals.now) (drop from signals.now)) (gate_in signals.now) rows.old rows.new (map gate_seen gates.items)) }
+    ensures err { (rest : List Form) → ToldBy result (fault_of (map (netlist.gate_fault signals.now) (drop from signals.now) ++ rest) rows.old) }
+{
+    let mut gates = Vec::new(alloc);
+    for k in from..signals.len() {
+        let gate = gate_row(alloc, rows, signals, signals.get(k))?;
+        let Ok(()) = gates.push(gate) else {
+            return Err(TextFault::NoMemory);
+        };
+    }
+    Ok(gates)
+}

@@ -1,0 +1,143 @@
+//! Writes the text of a netlist.
+
+ghost use Rattle.std.specs.Prelude.{◌≡◌, ℕ, ◌<◌, ◌≤◌, List, [], ◌∷◌, ◌++◌, IfOk, OnOk, length, codes, map, if◌then◌else◌};
+ghost use Rattle.si_base.specs.Words.{line, text_of};
+ghost use Rattle.si_base.specs.Limits.{max_signals};
+ghost use Rattle.si_base.specs.NetlistText.{netlist_text, same_kind as is_same_kind, names_of, word_if_any, bits_from, insert_line};
+ghost use Rattle.si_netlist.specs.Writing.{spaced};
+
+use crate::gate::Insert;
+use crate::netlist::Netlist;
+use crate::write_gates::add_gate_lines;
+use crate::write_sums::add_word;
+use si_base::graph::{SigKind, Signal};
+use si_base::ids::{Code, NoMemory, Sig};
+use si_base::text::{Name, Text};
+use std::alloc::Global;
+
+/// The text of a netlist. It fails only for want of memory.
+pub fn write_netlist(alloc: Global, netlist: &Netlist) -> Result<Text, NoMemory>
+    ensures { IfOk result (λ text. text ≡ netlist_text netlist.now) }
+{
+    let signals = netlist.signals();
+    let mut text = Text::copy_of(alloc, b".model")?;
+    add_word(&mut text, netlist.model().bytes())?;
+    text.add(b"\n")?;
+    add_names_line(&mut text, b".inputs", signals, SigKind::Input)?;
+    add_names_line(&mut text, b".outputs", signals, SigKind::Output)?;
+    add_names_line(&mut text, b".internal", signals, SigKind::Internal)?;
+    add_names_line(&mut text, b".inserted", signals, SigKind::Inserted)?;
+    add_start_line(&mut text, signals, netlist.start())?;
+    add_insert_lines(&mut text, netlist.inserts())?;
+    text.add(b".gates\n")?;
+    add_gate_lines(&mut text, signals, netlist.gates())?;
+    text.add(b".end\n")?;
+    Ok(text)
+}
+
+/// Adds a line of a word and the names of the signals of a kind.
+fn add_names_line(
+    text: &mut Text,
+    word: &[u8],
+    signals: &[Signal],
+    kind: SigKind,
+) -> Result<(), NoMemory>
+    ensures { OnOk result (text.new ≡ text.old ++ line (word.now ∷ names_of kind signals.now)) }
+{
+    text.add(word)?;
+    add_names(text, signals, kind)?;
+    text.add(b"\n")
+}
+
+/// Adds the names of the signals of a kind.
+fn add_names(text: &mut Text, signals: &[Signal], kind: SigKind) -> Result<(), NoMemory>
+    ensures { OnOk result (text.new ≡ text.old ++ spaced (names_of kind signals.now)) }
+{
+    for signal in signals {
+        if !same_kind(kind, signal.kind) {
+            continue;
+        }
+        add_word(text, signal.name.bytes())?;
+    }
+    Ok(())
+}
+
+/// Whether two kinds are the same.
+fn same_kind(a: SigKind, b: SigKind) -> bool
+    ensures { result ≡ is_same_kind a b }
+{
+    a == b
+}
+
+/// Adds the line of the signals' values at the start.
+fn add_start_line(text: &mut Text, signals: &[Signal], start: Code) -> Result<(), NoMemory>
+    requires { length signals.now ≤ max_signals }
+    ensures { OnOk result (text.new ≡ text.old ++ line (codes ".start" ∷ word_if_any (bits_from 0 signals.now start))) }
+{
+    text.add(b".start")?;
+    add_start(text, signals, start)?;
+    text.add(b"\n")
+}
+
+/// Adds the word of the signals' values, where there is a signal.
+fn add_start(text: &mut Text, signals: &[Signal], start: Code) -> Result<(), NoMemory>
+    requires { length signals.now ≤ max_signals }
+    ensures { OnOk result (text.new ≡ text.old ++ spaced (word_if_any (bits_from 0 signals.now start))) }
+{
+    if signals.is_empty() {
+        return Ok(());
+    }
+    text.add(b" ")?;
+    add_bits(text, signals, start)
+}
+
+/// Adds a digit for each signal: its value in the code.
+fn add_bits(text: &mut Text, signals: &[Signal], code: Code) -> Result<(), NoMemory>
+    requires { length signals.now ≤ max_signals }
+    ensures { OnOk result (text.new ≡ text.old ++ bits_from 0 signals.now code) }
+{
+    for i in 0..signals.len() {
+        text.add(digit(code.get(Sig(i as u8))))?;
+    }
+    Ok(())
+}
+
+/// The digit of a value.
+fn digit(value: bool) -> &'static [u8]
+    ensures { result.now ≡ (if value then 49 else 48) ∷ [] }
+{
+    if value { b"1" } else { b"0" }
+}
+
+/// Adds a line for each insertion.
+fn add_insert_lines(text: &mut Text, inserts: &[Insert]) -> Result<(), NoMemory>
+    ensures { OnOk result (text.new ≡ text.old ++ text_of (map insert_line inserts.now)) }
+{
+    for insert in inserts {
+        add_insert_line(text, insert)?;
+    }
+    Ok(())
+}
+
+/// Adds the line of an insertion.
+fn add_insert_line(text: &mut Text, insert: &Insert) -> Result<(), NoMemory>
+    ensures { OnOk result (text.new ≡ text.old ++ line (insert_line insert.now)) }
+{
+    text.add(b".insert")?;
+    add_word(text, insert.name.bytes())?;
+    add_word(text, b"up")?;
+    add_words(text, insert.up.as_slice())?;
+    add_word(text, b"down")?;
+    add_words(text, insert.down.as_slice())?;
+    text.add(b"\n")
+}
+
+/// Adds the words.
+fn add_words(text: &mut Text, words: &[Name]) -> Result<(), NoMemory>
+    ensures { OnOk result (text.new ≡ text.old ++ spaced words.now) }
+{
+    for word in words {
+        add_word(text, word.bytes())?;
+    }
+    Ok(())
+}

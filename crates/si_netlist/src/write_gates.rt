@@ -1,0 +1,75 @@
+//! Writes the lines of gates.
+
+ghost use Rattle.std.specs.Prelude.{◌≡◌, ℕ, List, ◌∷◌, ◌++◌, OnOk, map};
+ghost use Rattle.si_base.specs.Words.{line, text_of};
+ghost use Rattle.si_base.specs.NetlistText.{gate_words};
+ghost use Rattle.si_netlist.specs.Parts.{gate_seen};
+ghost use Rattle.si_netlist.specs.Writing.{spaced, gate_lines};
+
+use crate::gate::Gate;
+use crate::netlist::is_driven;
+use crate::write_sums::{add_literals, add_sum, add_word};
+use si_base::graph::Signal;
+use si_base::ids::NoMemory;
+use si_base::text::Text;
+
+/// Adds a line for each gate and the signal that it drives.
+pub fn add_gate_lines(text: &mut Text, signals: &[Signal], gates: &[Gate]) -> Result<(), NoMemory>
+    ensures { OnOk result (text.new ≡ text.old ++ text_of (gate_lines signals.now signals.now (map gate_seen gates.now))) }
+{
+    let mut gates = gates;
+    for signal in signals {
+        if !is_driven(signal.kind) {
+            continue;
+        }
+        let [gate, rest @ ..] = gates else {
+            return Ok(());
+        };
+        add_gate_line(text, signals, signal, gate)?;
+        gates = rest;
+    }
+    Ok(())
+}
+
+/// Adds the line of a signal's gate.
+fn add_gate_line(
+    text: &mut Text,
+    signals: &[Signal],
+    signal: &Signal,
+    gate: &Gate,
+) -> Result<(), NoMemory>
+    ensures { OnOk result (text.new ≡ text.old ++ line (signal.now.name ∷ gate_words signals.now (gate_seen gate.now))) }
+{
+    text.add(signal.name.bytes())?;
+    add_gate(text, signals, gate)?;
+    text.add(b"\n")
+}
+
+/// Adds the words of the gate.
+fn add_gate(text: &mut Text, signals: &[Signal], gate: &Gate) -> Result<(), NoMemory>
+    ensures { OnOk result (text.new ≡ text.old ++ spaced (gate_words signals.now (gate_seen gate.now))) }
+{
+    match gate {
+        Gate::Sum(sum) => {
+            add_word(text, b"sum")?;
+            add_sum(text, signals, sum)
+        }
+        Gate::Gc { set, reset } => {
+            add_word(text, b"gc")?;
+            add_sum(text, signals, set)?;
+            add_word(text, b"|")?;
+            add_sum(text, signals, reset)
+        }
+        Gate::Cell {
+            name,
+            literals,
+            sum,
+        } => {
+            add_word(text, b"cell")?;
+            add_word(text, name.bytes())?;
+            add_literals(text, signals, literals.as_slice())?;
+            add_word(text, b":")?;
+            add_sum(text, signals, sum)
+        }
+    }
+}

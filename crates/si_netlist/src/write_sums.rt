@@ -1,0 +1,108 @@
+//! Writes the words of sums.
+
+ghost use Rattle.std.specs.Prelude.{◌≡◌, ℕ, ◌≤◌, List, [], ◌∷◌, ◌++◌, OnOk, length, map, if◌then◌else◌};
+ghost use Rattle.si_base.specs.NetlistText.{name_of, cube_words, literal_word, more_cubes, sum_words};
+ghost use Rattle.si_netlist.specs.Writing.{spaced};
+
+use si_base::graph::Signal;
+use si_base::ids::{Literal, NoMemory, Sig};
+use si_base::limits::MAX_SIGNALS;
+use si_base::text::Text;
+use si_cube::cube::Cube;
+use si_cube::sum::Sum;
+
+/// Adds a blank and the word.
+pub fn add_word(text: &mut Text, word: &[u8]) -> Result<(), NoMemory>
+    ensures { OnOk result (text.new ≡ text.old ++ 32 ∷ word.now) }
+{
+    text.add(b" ")?;
+    text.add(word)
+}
+
+/// Adds the words of the sum.
+pub fn add_sum(text: &mut Text, signals: &[Signal], sum: &Sum) -> Result<(), NoMemory>
+    ensures { OnOk result (text.new ≡ text.old ++ spaced (sum_words signals.now sum.now)) }
+{
+    match sum.cubes() {
+        [] => add_word(text, b"0"),
+        [first, rest @ ..] => {
+            add_cube(text, signals, first)?;
+            add_more_cubes(text, signals, rest)
+        }
+    }
+}
+
+/// Adds the words of the cubes after the first, each cube after a `+`.
+fn add_more_cubes(text: &mut Text, signals: &[Signal], cubes: &[Cube]) -> Result<(), NoMemory>
+    ensures { OnOk result (text.new ≡ text.old ++ spaced (more_cubes signals.now cubes.now)) }
+{
+    for cube in cubes {
+        add_word(text, b"+")?;
+        add_cube(text, signals, cube)?;
+    }
+    Ok(())
+}
+
+/// Adds the words of the cube.
+fn add_cube(text: &mut Text, signals: &[Signal], cube: &Cube) -> Result<(), NoMemory>
+    ensures { OnOk result (text.new ≡ text.old ++ spaced (cube_words signals.now cube.now)) }
+{
+    if cube.care.0 == 0 {
+        return add_word(text, b"1");
+    }
+    add_cube_literals(text, signals, cube)
+}
+
+/// Adds the literals of the cube.
+fn add_cube_literals(text: &mut Text, signals: &[Signal], cube: &Cube) -> Result<(), NoMemory>
+    ensures { OnOk result (text.new ≡ text.old ++ spaced (map (literal_word signals.now) cube.now)) }
+{
+    for i in 0..MAX_SIGNALS {
+        let sig = Sig(i as u8);
+        if !cube.care.get(sig) {
+            continue;
+        }
+        let plain = cube.value.get(sig);
+        add_literal(text, signals, Literal { sig, plain })?;
+    }
+    Ok(())
+}
+
+/// Adds the literals.
+pub fn add_literals(
+    text: &mut Text,
+    signals: &[Signal],
+    literals: &[Literal],
+) -> Result<(), NoMemory>
+    ensures { OnOk result (text.new ≡ text.old ++ spaced (map (literal_word signals.now) literals.now)) }
+{
+    for literal in literals {
+        add_literal(text, signals, *literal)?;
+    }
+    Ok(())
+}
+
+/// Adds the literal.
+fn add_literal(text: &mut Text, signals: &[Signal], literal: Literal) -> Result<(), NoMemory>
+    ensures { OnOk result (text.new ≡ text.old ++ 32 ∷ literal_word signals.now literal) }
+{
+    add_word(text, signal_name(signals, literal.sig))?;
+    text.add(mark(literal.plain))
+}
+
+/// The name of a signal: empty where there is no such signal.
+fn signal_name(signals: &[Signal], z: Sig) -> &[u8]
+    ensures { result.now ≡ name_of signals.now z }
+{
+    match signals.get(z.0 as usize) {
+        Some(signal) => signal.name.bytes(),
+        None => b"",
+    }
+}
+
+/// What stands behind a name in a literal.
+fn mark(plain: bool) -> &'static [u8]
+    ensures { result.now ≡ (if plain then [] else 39 ∷ []) }
+{
+    if plain { b"" } else { b"'" }
+}
