@@ -2,3 +2,4 @@ pub mod GivenLemmas
 pub mod DifferenceLemmas
 pub mod StepLemmas
 pub mod OutcomeLemmas
+pub mod ScheduleLemmas

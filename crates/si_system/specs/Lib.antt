@@ -1,3 +1,5 @@
 pub mod Lists
 pub mod Verdict
 pub mod Outcome
+pub mod Events
+pub mod ScheduleText

@@ -1,8 +1,10 @@
 //! The circuit beside its environment, one switching at a time.
 #![tactic(auto)]
 
+mod event_words;
 mod lists;
 pub mod replay;
+pub mod schedule;
 mod step;
 pub mod system;
 #[cfg(test)]

@@ -1,0 +1,138 @@
+//! The reader of schedules.
+
+ghost use Rattle.std.specs.Prelude.{◌≡◌, ◌≢◌, ℕ, ◌<◌, ◌≤◌, ◌++◌, length, map, All, AllPairs, IfOk, OnOk, false};
+ghost use Rattle.si_base.specs.Faults.{when, ◌otherwise◌, first_in};
+ghost use Rattle.si_base.specs.Limits.{max_signals};
+ghost use Rattle.si_base.specs.Lines as text;
+ghost use Rattle.si_base.specs.TextFaults.{Tells, Gives};
+ghost use Rattle.si_base.specs.declared.fault.TextKind.TheVariants.{BadByte};
+ghost use Rattle.si_system.specs.Events.{event_fault};
+ghost use Rattle.si_system.specs.ScheduleText as schedule;
+ghost use Rattle.si_system.specs.ScheduleText.{signal_names, schedule_fault, schedule_of};
+
+use crate::event_words::{event_kind, event_of};
+use si_base::fault::{LineFault, TextFault, TextKind, at_line};
+use si_base::graph::Signal;
+use si_base::ids::{Event, NoMemory};
+use si_base::limits::MAX_SIGNALS;
+use si_base::lines::{Lines, Words, has_bad_byte};
+use si_base::names::Names;
+use si_netlist::netlist::Netlist;
+use std::alloc::Global;
+
+/// The names of the signals, in their order.
+fn names_of(alloc: Global, signals: &[Signal]) -> Result<Names, NoMemory>
+    requires distinct { AllPairs (λ x y. x.name ≢ y.name) signals.now }
+    requires few { length signals.now ≤ max_signals }
+    ensures { IfOk result (λ names. names ≡ signal_names signals.now) }
+{
+    let mut names = Names::new(alloc)?;
+    for signal in signals {
+        match names.add(signal.name.bytes(), MAX_SIGNALS as u32) {
+            Ok(_) => {}
+            // There is room for each signal, so that only want of memory is left.
+            Err(_) => return Err(NoMemory),
+        }
+    }
+    Ok(names)
+}
+
+/// Appends the events of a line, up to its first fault.
+fn read_line(names: &Names, line: &[u8], events: &mut Vec<Event>) -> Result<(), LineFault>
+    requires { length names.now ≤ max_signals }
+    ensures fault { Tells result (when (text.has_bad_byte line.now) BadByte otherwise first_in (event_fault names.now) (text.words_in false (text.before_comment line.now))) }
+    ensures value { OnOk result (events.new.items ≡ events.old.items ++ map (schedule.event_of names.now) (text.words_in false (text.before_comment line.now))) }
+{
+    if has_bad_byte(line) {
+        return Err(LineFault::Kind(TextKind::BadByte));
+    }
+    let mut words = Words::new(line, false);
+    while let Some(word) = words.next_word() {
+        if let Some(kind) = event_kind(names, word) {
+            return Err(LineFault::Kind(kind));
+        }
+        events.push(event_of(names, word))?;
+    }
+    Ok(())
+}
+
+/// The events of all lines of the text, in order.
+fn read_lines(alloc: Global, text: &[u8], names: &Names) -> Result<Vec<Event>, TextFault>
+    requires { length names.now ≤ max_signals }
+    ensures { Gives (λ v. v.items) result (schedule_fault names.now text.now) (schedule_of names.now text.now) }
+{
+    let mut events = Vec::new(alloc);
+    let mut lines = Lines::new(text);
+    while let Some(line) = lines.next_line() {
+        match read_line(names, line.bytes, &mut events) {
+            Ok(()) => {}
+            Err(fault) => return Err(at_line(line.number, fault)),
+        }
+    }
+    Ok(events)
+}
+
+/// The events of a schedule over the signals of the netlist: the words of all lines, in order. An event word is a
+/// signal name, then `+` or `-`, then nothing or `/` with one to nine digits; `#` begins a comment.
+///
+/// # Errors
+///
+/// `At` the line of the first fault: `BadByte` before the words of its line, else, at a word, `Toggle` for `~` in place
+/// of the sign, `BadEvent` for any other word that isn't an event, and `Undeclared` for a name that isn't a signal's.
+/// `NoMemory` only for want of memory.
+pub fn read_schedule(alloc: Global, text: &[u8], netlist: &Netlist) -> Result<Vec<Event>, TextFault>
+    ensures gives { Gives (λ v. v.items) result (schedule_fault (signal_names netlist.now.signals) text.now) (schedule_of (signal_names netlist.now.signals) text.now) }
+    ensures within { IfOk result (λ events. All (λ e. e.sig < length netlist.now.signals) events.items) }
+{
+    let Ok(names) = names_of(alloc, netlist.signals()) else {
+        return Err(TextFault::NoMemory);
+    };
+    read_lines(alloc, text, &names)
+}
+
+#[cfg(test)]
+mod tests {
+    use super::read_schedule;
+    use si_base::fault::{TextFault, TextKind};
+    use si_base::ids::{Event, Sig};
+    use si_netlist::reader::read_netlist;
+    use std::test::Fail;
+
+    const ELEMENT: &[u8] = b".model c2
+.inputs a b
+.outputs c
+.internal
+.inserted
+.start 000
+.gates
+c sum a b + b c + a c
+.end
+";
+
+    #[test]
+    fn schedules_and_their_faults(rt: HostRuntime) -> Result<(), Fail> {
+        let alloc = rt.alloc();
+        let netlist = read_netlist(alloc, ELEMENT)?;
+        let faults: [(&[u8], TextKind); 4] = [
+            (b"a*", TextKind::BadEvent),
+            (b"a~", TextKind::Toggle),
+            (b"d+", TextKind::Undeclared),
+            (b"\0", TextKind::BadByte),
+        ];
+        for (text, kind) in faults {
+            let fault = read_schedule(alloc, text, &netlist).err();
+            assert!(rt;
+                matches!(fault, Some(TextFault::At { line: 1, kind: of }) if of == kind),
+                "{kind:?}"
+            );
+        }
+        let events = read_schedule(alloc, b"a+ c+/2 # x", &netlist)?;
+        let rise = |place| Event {
+            sig: Sig(place),
+            up: true,
+        };
+        assert_eq!(rt; events.as_slice(), [rise(0), rise(2)].as_slice());
+        assert!(rt; read_schedule(alloc, b"", &netlist)?.is_empty());
+        Ok(())
+    }
+}
