@@ -6,7 +6,8 @@ use Rattle.si_base.specs.StrictText.{IsGiven, Sg}
 use Rattle.si_base.proofs.Given.{given_unique}
 use Rattle.si_base.proofs.UniqueCodes.{conflict_unique}
 use Rattle.si_tool.specs.Command.{Asked, AsksSynth, Asks, AsksNothing, files_of}
-use Rattle.si_tool.specs.Answer.{IsBadText, IsImproper, IsUnresolved, IsSolvable, IsSound, IsTooLong, HasBadText, HasImproper, HasConflict, CanBeDone, IsOutput, Outputs, Deserve, Told, AreTold, AskingTold, Ends, AsDeserved, WithoutMemory, ByReadFault, ByWriteFault}
+use Rattle.si_strict.specs.Read.{IsBadText}
+use Rattle.si_tool.specs.Answer.{IsImproper, IsUnresolved, IsSolvable, IsSound, IsTooLong, HasBadText, HasImproper, HasConflict, CanBeDone, IsOutput, Outputs, Deserve, Told, AreTold, AskingTold, Ends, AsDeserved, WithoutMemory, ByReadFault, ByWriteFault}
 use Rattle.si_tool.specs.declared.status.Status.{Status}
 use Rattle.si_tool.specs.declared.status.Status.TheVariants.{Done, NoMemory, Usage, ReadFault, WriteFault, TooLong, BadText, Improper, Unresolved, Unmapped, Differs}
 

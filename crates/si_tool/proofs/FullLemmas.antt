@@ -19,7 +19,7 @@ use Rattle.si_base.specs.StrictText.{IsGiven, Sg}
 use Rattle.si_base.proofs.Circuit.{code_fits}
 use Rattle.si_tool.specs.Spelled.{AreSpelled}
 use Rattle.si_tool.proofs.CubeLemmas.{full_is_cube}
-use Rattle.si_tool.proofs.WholeLemmas.{names_named}
+use Rattle.si_strict.proofs.WholeLemmas.{names_named}
 use Rattle.si_tool.proofs.Synthesis.{given_signals}
 
 -- ---- the name of the model

@@ -1,8 +1,8 @@
 pub mod Command
+pub mod Refusal
+pub mod Synthesis
+pub mod Replayed
 pub mod Answer
-pub mod Read
+pub mod Ending
 pub mod Spelled
 pub mod ExitStatus
-pub mod Lines
-pub mod Parts
-pub mod Strict

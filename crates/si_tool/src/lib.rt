@@ -2,13 +2,9 @@
 #![tactic(auto)]
 
 pub mod full;
-mod lines;
-mod parts;
-pub mod read;
 pub mod refusals;
 pub mod run;
 pub mod status;
-mod strict;
 mod sums;
 pub mod sure;
 pub mod synth;

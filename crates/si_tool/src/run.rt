@@ -4,7 +4,8 @@ ghost use Rattle.std.specs.Prelude.{◌≡◌, ◌≢◌, ◌⊎◌, ℕ, ◌+�
 ghost use Rattle.si_base.specs.Limits.{max_text};
 ghost use Rattle.si_io.specs.Outside.{Rose, Appends, AppendsPrefix};
 ghost use Rattle.si_tool.specs.Command.{Asked, AsksSynth, Asks, AsksNothing, files_of};
-ghost use Rattle.si_tool.specs.Answer.{IsShort, IsBadText, IsImproper, IsUnresolved, IsSynthesis, IsTooLong, HasBadText, HasImproper, HasConflict, Deserve, AreTold, AskingTold, ReadRose, Outputs, OutputsPart, Ends, PutsLine};
+ghost use Rattle.si_strict.specs.Read.{IsBadText};
+ghost use Rattle.si_tool.specs.Answer.{IsShort, IsImproper, IsUnresolved, IsSynthesis, IsTooLong, HasBadText, HasImproper, HasConflict, Deserve, AreTold, AskingTold, ReadRose, Outputs, OutputsPart, Ends, PutsLine};
 ghost use Rattle.si_tool.specs.declared.status.Status.{Status as Statuses};
 
 use crate::refusals::refuse;

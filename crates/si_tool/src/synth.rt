@@ -1,14 +1,15 @@
 //! From the text of a graph to the text of its netlist.
 
 ghost use Rattle.std.specs.Prelude.{◌≡◌, ℕ, IfOk, Err};
-ghost use Rattle.si_tool.specs.Answer.{IsBadText, IsImproper, IsUnresolved, IsSynthesis};
+ghost use Rattle.si_strict.specs.Read.{IsBadText};
+ghost use Rattle.si_tool.specs.Answer.{IsImproper, IsUnresolved, IsSynthesis};
 
 use crate::full::write_full;
-use crate::read::{NotRead, Sg, read_strict};
 use si_base::text::Text;
 use si_checks::distinct::{Distinct, NotDistinct};
 use si_checks::proper::{Improper, Proper};
 use si_graph::coded::{CodeFault, Coded};
+use si_strict::read::{NotRead, Sg, read_strict};
 use std::alloc::Global;
 use thiserror::Error;
 

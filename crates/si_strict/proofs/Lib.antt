@@ -1,0 +1,10 @@
+pub mod HeaderLemmas
+pub mod ArcLemmas
+pub mod TextLemmas
+pub mod OnceLemmas
+pub mod SignalLemmas
+pub mod StateLemmas
+pub mod EdgeLemmas
+pub mod WholeLemmas
+pub mod GivenLemmas
+pub mod LengthLemmas

@@ -1,0 +1,4 @@
+pub mod Read
+pub mod Lines
+pub mod Parts
+pub mod Strict

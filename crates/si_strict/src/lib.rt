@@ -1,0 +1,7 @@
+//! The strict form of the text of a state graph.
+#![tactic(auto)]
+
+mod lines;
+mod parts;
+pub mod read;
+mod strict;

@@ -1,0 +1,205 @@
+//! The parts of a strict text.
+
+ghost use Rattle.std.specs.Prelude.{◌≡◌, ℕ, List, [], ◌∷◌, ◌++◌, map, codes, Err, IfOk, MatchOption, ◌⊎◌, IsTrue, ◌↔◌};
+ghost use Rattle.si_base.specs.StrictText.{ArcLine, Spelling, arc_line};
+ghost use Rattle.si_strict.specs.Lines.{words_now, lines_now};
+ghost use Rattle.si_strict.specs.Parts.{arc_now, arcs_now, spelling_of, HeaderNames, header_now, header_lines, end_lines, all_lines, TakesList};
+
+use crate::lines::{split_first_line, split_last_line};
+use crate::read::NotRead;
+use std::alloc::Global;
+
+/// An arc line: a state, a signal with its direction, a state.
+#[derive(Clone, Copy)]
+pub struct Arc<'a> {
+    pub from: &'a [u8],
+    pub signal: &'a [u8],
+    pub up: bool,
+    pub to: &'a [u8],
+}
+
+/// What the lines before the arcs name.
+#[derive(Clone, Copy)]
+pub struct Header<'l, 'a> {
+    pub model: &'a [u8],
+    pub inputs: &'l [&'a [u8]],
+    pub outputs: &'l [&'a [u8]],
+    pub internals: &'l [&'a [u8]],
+}
+
+/// The parts of a text, as words of it.
+#[derive(Drop)]
+pub struct Parts<'l, 'a> {
+    pub header: Header<'l, 'a>,
+    pub arcs: Vec<Arc<'a>>,
+    pub marked: &'a [u8],
+}
+
+/// The parts that the lines of a text spell. `BadText` comes exactly where they spell none.
+pub fn parts_of<'l, 'a>(alloc: Global, lines: &'l [Vec<&'a [u8]>]) -> Result<Parts<'l, 'a>, NotRead>
+    ensures parts { IfOk result (λ parts. lines_now lines.now ≡ all_lines (spelling_of parts)) }
+    ensures bad { result ≡ Err NotRead.BadText → (x : Spelling) → lines_now lines.now ≡ all_lines x → ⊥ }
+{
+    let Some((header, rest)) = header_of(lines) else {
+        return Err(NotRead::BadText);
+    };
+    let Some((arc_lines, marked)) = ending_of(rest) else {
+        return Err(NotRead::BadText);
+    };
+    let arcs = arcs_of(alloc, arc_lines)?;
+    Ok(Parts {
+        header,
+        arcs,
+        marked,
+    })
+}
+
+/// What the lines before the arcs name, and the lines after them; `None` exactly where lines of that form don't come first.
+fn header_of<'l, 'a>(lines: &'l [Vec<&'a [u8]>]) -> Option<(Header<'l, 'a>, &'l [Vec<&'a [u8]>])>
+    ensures { MatchOption result ((h : HeaderNames) (rest : List (List (List ℕ))) → lines_now lines.now ≡ header_lines h rest → ⊥)
+        (λ r. lines_now lines.now ≡ header_lines (header_now r.0) (lines_now r.1.now)) }
+{
+    let (model, rest) = value_line(lines, b".model")?;
+    let (inputs, rest) = list_names(rest, b".inputs")?;
+    let (outputs, rest) = list_names(rest, b".outputs")?;
+    let (internals, rest) = list_names(rest, b".internal")?;
+    let (kind, rest) = value_line(rest, b".state")?;
+    if kind != b"graph".as_slice() {
+        return None;
+    }
+    let header = Header {
+        model,
+        inputs,
+        outputs,
+        internals,
+    };
+    Some((header, rest))
+}
+
+/// The word behind that head on the first line, and the lines after it.
+fn value_line<'l, 'a>(
+    lines: &'l [Vec<&'a [u8]>],
+    head: &[u8],
+) -> Option<(&'a [u8], &'l [Vec<&'a [u8]>])>
+    ensures { MatchOption result ((value : List ℕ) (rest : List (List (List ℕ))) → lines_now lines.now ≡ (head.now ∷ value ∷ []) ∷ rest → ⊥)
+        (λ r. lines_now lines.now ≡ (head.now ∷ r.0.now ∷ []) ∷ lines_now r.1.now) }
+{
+    let (words, rest) = split_first_line(lines)?;
+    let value = value_of(words, head)?;
+    Some((value, rest))
+}
+
+/// The word behind that head, if the words are these two.
+fn value_of<'a>(words: &[&'a [u8]], head: &[u8]) -> Option<&'a [u8]>
+    ensures { MatchOption result ((value : List ℕ) → words_now words.now ≡ head.now ∷ value ∷ [] → ⊥) (λ value. words_now words.now ≡ head.now ∷ value.now ∷ []) }
+{
+    match words_behind(words, head)? {
+        [value] => Some(*value),
+        _ => None,
+    }
+}
+
+/// The words behind that head, if it comes first.
+fn words_behind<'l, 'a>(words: &'l [&'a [u8]], head: &[u8]) -> Option<&'l [&'a [u8]]>
+    ensures { MatchOption result ((rest : List (List ℕ)) → words_now words.now ≡ head.now ∷ rest → ⊥) (λ rest. words_now words.now ≡ head.now ∷ words_now rest.now) }
+{
+    let (first, rest) = words.split_first()?;
+    if *first == head { Some(rest) } else { None }
+}
+
+/// Whether the words are just this one.
+fn is_only(words: &[&[u8]], word: &[u8]) -> bool
+    ensures { IsTrue result ↔ (words_now words.now ≡ word.now ∷ []) }
+{
+    match words_behind(words, word) {
+        Some([]) => true,
+        _ => false,
+    }
+}
+
+/// The names of a list line with that head and the lines after it; no names where the first line has another head.
+/// `None` exactly where there is no line, or it has the head and no name.
+fn list_names<'l, 'a>(
+    lines: &'l [Vec<&'a [u8]>],
+    head: &[u8],
+) -> Option<(&'l [&'a [u8]], &'l [Vec<&'a [u8]>])>
+    ensures { MatchOption result ((lines_now lines.now ≡ []) ⊎ ((rest : List (List (List ℕ))) × (lines_now lines.now ≡ (head.now ∷ []) ∷ rest)))
+        (λ r. TakesList head.now (lines_now lines.now) (words_now r.0.now) (lines_now r.1.now)) }
+{
+    let (words, rest) = split_first_line(lines)?;
+    match words_behind(words, head) {
+        None => Some((words.split_at(0).0, lines)),
+        Some([]) => None,
+        Some(names) => Some((names, rest)),
+    }
+}
+
+/// The lines of arcs and the marked state; `None` exactly where the lines don't end in the form of a text's last lines.
+fn ending_of<'l, 'a>(lines: &'l [Vec<&'a [u8]>]) -> Option<(&'l [Vec<&'a [u8]>], &'a [u8])>
+    ensures { MatchOption result ((front : List (List (List ℕ))) (marked : List ℕ) → lines_now lines.now ≡ front ++ end_lines marked → ⊥)
+        (λ r. lines_now lines.now ≡ lines_now r.0.now ++ end_lines r.1.now) }
+{
+    let (last, lines_to_end) = split_last_line(lines)?;
+    let (end, lines_to_marking) = split_last_line(lines_to_end)?;
+    let (marking, arc_lines) = split_last_line(lines_to_marking)?;
+    let word = value_of(marking, b".marking")?;
+    let marked = in_braces(word)?;
+    if is_only(end, b".end") && is_only(last, b"") {
+        Some((arc_lines, marked))
+    } else {
+        None
+    }
+}
+
+/// What stands between the braces, if the word is in braces.
+fn in_braces(word: &[u8]) -> Option<&[u8]>
+    ensures { MatchOption result ((inner : List ℕ) → word.now ≡ 123 ∷ inner ++ 125 ∷ [] → ⊥) (λ inner. word.now ≡ 123 ∷ inner.now ++ 125 ∷ []) }
+{
+    let (first, rest) = word.split_first()?;
+    let (last, inner) = rest.split_last()?;
+    if *first == b'{' && *last == b'}' {
+        Some(inner)
+    } else {
+        None
+    }
+}
+
+/// The arcs of these lines. `BadText` comes exactly where some line is no arc line.
+fn arcs_of<'l, 'a>(alloc: Global, lines: &'l [Vec<&'a [u8]>]) -> Result<Vec<Arc<'a>>, NotRead>
+    ensures arcs { IfOk result (λ arcs. lines_now lines.now ≡ map arc_line (arcs_now arcs.items)) }
+    ensures bad { result ≡ Err NotRead.BadText → (arcs : List ArcLine) → lines_now lines.now ≡ map arc_line arcs → ⊥ }
+{
+    let mut arcs = Vec::new(alloc);
+    for words in lines {
+        let Some(arc) = arc_of(words.as_slice()) else {
+            return Err(NotRead::BadText);
+        };
+        arcs.push(arc)?;
+    }
+    Ok(arcs)
+}
+
+/// The arc of a line, if the words are one.
+fn arc_of<'l, 'a>(words: &'l [&'a [u8]]) -> Option<Arc<'a>>
+    ensures { MatchOption result ((a : ArcLine) → words_now words.now ≡ arc_line a → ⊥) (λ a. words_now words.now ≡ arc_line (arc_now a)) }
+{
+    let [from, event, to] = words else {
+        return None;
+    };
+    let (sign, signal) = event.split_last()?;
+    match *sign {
+        b'+' => Some(Arc {
+            from: *from,
+            signal,
+            up: true,
+            to: *to,
+        }),
+        b'-' => Some(Arc {
+            from: *from,
+            signal,
+            up: false,
+            to: *to,
+        }),
+        _ => None,
+    }
+}

@@ -1,6 +1,0 @@
-use Rattle.std.proofs.Common.{◌≡◌, map, take}
-use Rattle.si_tool.specs.Lines.{words_now, lines_now, words_between}
-use Rattle.si_tool.proofs.lines.lines_of.Given as goal
-
-abbrev pub invariant-loop-part : goal.invariant-loop-part
-invariant-loop-part l = lines_now l.lines.items ≡ map (words_between 32) (take l.part-index (words_now l.part-items))
