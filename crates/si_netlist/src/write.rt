@@ -27,7 +27,7 @@ pub fn write_netlist(alloc: Global, netlist: &Netlist) -> Result<Text, NoMemory>
     add_names_line(&mut text, b".outputs", signals, SigKind::Output)?;
     add_names_line(&mut text, b".internal", signals, SigKind::Internal)?;
     add_names_line(&mut text, b".inserted", signals, SigKind::Inserted)?;
-    add_start_line(&mut text, signals, netlist.start())?;
+    add_values_line(&mut text, b".start", signals, netlist.start())?;
     add_insert_lines(&mut text, netlist.inserts())?;
     text.add(b".gates\n")?;
     add_gate_lines(&mut text, signals, netlist.gates())?;
@@ -69,26 +69,32 @@ fn same_kind(a: SigKind, b: SigKind) -> bool
     a == b
 }
 
-/// Adds the line of the signals' values at the start.
-fn add_start_line(text: &mut Text, signals: &[Signal], start: Code) -> Result<(), NoMemory>
+/// Adds a line of a word and the signals' values: a digit each, in their order, and the word alone where there is no
+/// signal.
+pub fn add_values_line(
+    text: &mut Text,
+    word: &[u8],
+    signals: &[Signal],
+    values: Code,
+) -> Result<(), NoMemory>
     requires { length signals.now ≤ max_signals }
-    ensures { OnOk result (text.new ≡ text.old ++ line (codes ".start" ∷ word_if_any (bits_from 0 signals.now start))) }
+    ensures { OnOk result (text.new ≡ text.old ++ line (word.now ∷ word_if_any (bits_from 0 signals.now values))) }
 {
-    text.add(b".start")?;
-    add_start(text, signals, start)?;
+    text.add(word)?;
+    add_values(text, signals, values)?;
     text.add(b"\n")
 }
 
 /// Adds the word of the signals' values, where there is a signal.
-fn add_start(text: &mut Text, signals: &[Signal], start: Code) -> Result<(), NoMemory>
+fn add_values(text: &mut Text, signals: &[Signal], values: Code) -> Result<(), NoMemory>
     requires { length signals.now ≤ max_signals }
-    ensures { OnOk result (text.new ≡ text.old ++ spaced (word_if_any (bits_from 0 signals.now start))) }
+    ensures { OnOk result (text.new ≡ text.old ++ spaced (word_if_any (bits_from 0 signals.now values))) }
 {
     if signals.is_empty() {
         return Ok(());
     }
     text.add(b" ")?;
-    add_bits(text, signals, start)
+    add_bits(text, signals, values)
 }
 
 /// Adds a digit for each signal: its value in the code.

@@ -55,12 +55,16 @@ IsDue content before now asked (refusal.ReadFault file) = Rose (before file) (no
 IsDue content before now asked refusal.WriteFault = ⊥
 IsDue content before now asked r = Told content (files_of asked) (λ texts. Deserves asked texts r)
 
+-- the refusal is due, and a file that it shows is one of the command's
+abbrev pub MayRefuse : (List ℕ → Option (List ℕ)) → (List ℕ → ℕ) → (List ℕ → ℕ) → Asked → Refusal → Type 0
+MayRefuse content before now asked r = IfSome (file_shown r) (Contains (files_of asked)) × IsDue content before now asked r
+
 -- the cause of a refusal
 abbrev pub IsCause : List (String Global) → (List ℕ → Option (List ℕ)) → (List ℕ → ℕ) → (List ℕ → ℕ) → Type 0 → Refusal → Type 0
 IsCause words content before now WriteFaults refusal.NoMemory = Unit {0}
 IsCause words content before now WriteFaults refusal.Usage = AsksNothing words
 IsCause words content before now WriteFaults refusal.WriteFault = WriteFaults
-IsCause words content before now WriteFaults r = Asking words (λ asked. IfSome (file_shown r) (Contains (files_of asked)) × IsDue content before now asked r)
+IsCause words content before now WriteFaults r = Asking words (λ asked. MayRefuse content before now asked r)
 
 -- a refusal of that status has its cause, and its line was put, or a prefix of it: the whole line unless the sink failed
 -- or memory was wanting

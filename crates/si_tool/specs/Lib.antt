@@ -1,8 +1,11 @@
 pub mod Command
+pub mod Asked
 pub mod Refusal
+pub mod Refused
 pub mod Synthesis
 pub mod Replayed
 pub mod Answer
 pub mod Ending
+pub mod Loads
 pub mod Spelled
 pub mod ExitStatus

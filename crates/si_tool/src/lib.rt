@@ -1,9 +1,14 @@
 //! The tool: from the words of a command line to the status.
 #![tactic(auto)]
 
+pub mod command;
 pub mod full;
+mod line;
+mod output;
 pub mod refusals;
+pub mod replayed;
 pub mod run;
+pub mod sound;
 pub mod status;
 mod sums;
 pub mod sure;

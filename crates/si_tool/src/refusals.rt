@@ -1,30 +1,165 @@
 //! Refusals, and the line that each puts on `err`.
 
-ghost use Rattle.std.specs.Prelude.{◌≡◌, ◌≢◌, ◌⊎◌, ℕ, ◌≤◌, List, [], ◌++◌, IfOk};
-ghost use Rattle.si_io.specs.Outside.{Rose, Appends, AppendsPrefix};
-ghost use Rattle.si_tool.specs.Answer.{refusal_line};
+ghost use Rattle.std.specs.Prelude.{◌≡◌, ◌⊎◌, ◌≤◌, IfOk};
+ghost use Rattle.si_io.specs.Outside.{Appends, AppendsPrefix};
+ghost use Rattle.si_tool.specs.Refused.{PutsRefusal};
+ghost use Rattle.si_tool.specs.Refusal.{refusal_line, seen, status_of, verdict_word as word_of_verdict};
+ghost use Rattle.si_tool.specs.Refusal as refusal;
 
+use crate::line::line_of;
 use crate::status::Status;
+use si_base::fault::TextKind;
 use si_base::ids::NoMemory;
-use si_base::text::Text;
+use si_base::text::{Name, Text};
 use si_io::sink::{PutFault, Sink};
+use si_system::verdict::Verdict;
 use std::alloc::Global;
 
-/// Puts the line of a refusal on `err`; `file` stands in the lines that show a file. The status is then the refusal's,
-/// or `NoMemory` where memory was wanting.
-pub fn refuse<E: Sink>(alloc: Global, status: Status, file: &str, err: &mut E) -> Status
-    requires { status ≢ Status.Done }
-    ensures status { (result ≡ status) ⊎ (result ≡ Status.NoMemory) }
-    ensures whole { (result ≡ Status.NoMemory) ⊎ (Appends (E.bytes err.old) (refusal_line result file.now) (E.bytes err.new) ⊎ Rose (E.faults err.old) (E.faults err.new)) }
-    ensures part { AppendsPrefix (E.bytes err.old) (refusal_line result file.now) (E.bytes err.new) }
+/// Why a command was not done, with what its line shows. Files have their names on the command line.
+#[derive(Drop)]
+pub enum Refusal<'w> {
+    /// Memory was wanting.
+    NoMemory,
+    /// The words match no command.
+    Usage,
+    /// The file could not be read.
+    ReadFault {
+        file: &'w str,
+    },
+    /// The output could not be written.
+    WriteFault,
+    /// The file is longer than the limit.
+    TooLong {
+        file: &'w str,
+    },
+    /// The first fault of a text; line 0 where no line is told.
+    BadText {
+        file: &'w str,
+        line: u64,
+        kind: TextKind,
+    },
+    /// The netlist isn't for the graph: the first place, from 1, at which their signals or start values differ.
+    ListsDiffer {
+        netlist: &'w str,
+        place: u32,
+    },
+    /// The graph isn't proper.
+    Improper,
+    /// The graph has a conflict that was not resolved.
+    Unresolved,
+    /// The first event of a replay, counted from 1, whose verdict isn't `Done`, with the name of the signal at fault.
+    Differs {
+        step: u64,
+        signal: Name,
+        verdict: Verdict,
+    },
+}
+
+impl From<NoMemory> for Refusal<'_> {
+    ghost use Rattle.std.specs.Prelude.{◌≡◌};
+    ghost use Rattle.si_tool.specs.declared.refusals.Refusal.TheVariants.{NoMemory};
+
+    ghost from_gives = { λ _ e. e ≡ NoMemory };
+
+    fn from(_e: NoMemory) -> Self {
+        Refusal::NoMemory
+    }
+}
+
+impl Refusal<'_> {
+    /// The status of a run that ends so.
+    pub fn status(&self) -> Status
+        ensures { result ≡ status_of (seen self.now) }
+    {
+        match self {
+            Refusal::NoMemory => Status::NoMemory,
+            Refusal::Usage => Status::Usage,
+            Refusal::ReadFault { .. } => Status::ReadFault,
+            Refusal::WriteFault => Status::WriteFault,
+            Refusal::TooLong { .. } => Status::TooLong,
+            Refusal::BadText { .. } => Status::BadText,
+            Refusal::ListsDiffer { .. } => Status::BadText,
+            Refusal::Improper => Status::Improper,
+            Refusal::Unresolved => Status::Unresolved,
+            Refusal::Differs { .. } => Status::Differs,
+        }
+    }
+
+    /// The line that it puts on `err`.
+    fn line(&self, alloc: Global) -> Result<Text, NoMemory>
+        ensures { IfOk result (λ text. text ≡ refusal_line (seen self.now)) }
+    {
+        match self {
+            Refusal::NoMemory => line_of(alloc, b"nomemory", &[]),
+            Refusal::Usage => line_of(alloc, b"usage", &[]),
+            Refusal::ReadFault { file } => line_of(alloc, b"readfault", &[file.as_bytes()]),
+            Refusal::WriteFault => line_of(alloc, b"writefault", &[]),
+            Refusal::TooLong { file } => line_of(alloc, b"toolong", &[file.as_bytes()]),
+            Refusal::BadText { file, line, kind } => bad_text(alloc, file, *line, *kind),
+            Refusal::ListsDiffer { netlist, place } => lists_differ(alloc, netlist, *place),
+            Refusal::Improper => line_of(alloc, b"improper", &[]),
+            Refusal::Unresolved => line_of(alloc, b"unresolved", &[]),
+            Refusal::Differs {
+                step,
+                signal,
+                verdict,
+            } => differs(alloc, *step, signal.bytes(), *verdict),
+        }
+    }
+}
+
+fn bad_text(alloc: Global, file: &str, line: u64, kind: TextKind) -> Result<Text, NoMemory>
+    ensures { IfOk result (λ text. text ≡ refusal_line (refusal.BadText file.now line kind)) }
+{
+    let Ok(line) = line.to_string(alloc) else {
+        return Err(NoMemory);
+    };
+    let words = [file.as_bytes(), line.as_bytes(), kind.name().as_bytes()];
+    line_of(alloc, b"badtext", &words)
+}
+
+fn lists_differ(alloc: Global, netlist: &str, place: u32) -> Result<Text, NoMemory>
+    ensures { IfOk result (λ text. text ≡ refusal_line (refusal.ListsDiffer netlist.now place)) }
+{
+    let Ok(place) = place.to_string(alloc) else {
+        return Err(NoMemory);
+    };
+    line_of(alloc, b"lists", &[netlist.as_bytes(), place.as_bytes()])
+}
+
+fn differs(alloc: Global, step: u64, signal: &[u8], verdict: Verdict) -> Result<Text, NoMemory>
+    ensures { IfOk result (λ text. text ≡ refusal_line (refusal.Differs step signal.now verdict)) }
+{
+    let Ok(step) = step.to_string(alloc) else {
+        return Err(NoMemory);
+    };
+    let words = [step.as_bytes(), signal, verdict_word(verdict)];
+    line_of(alloc, b"differs", &words)
+}
+
+/// The word under which a verdict prints.
+fn verdict_word(verdict: Verdict) -> &'static [u8]
+    ensures { result.now ≡ word_of_verdict verdict }
+{
+    match verdict {
+        Verdict::Done => b"done",
+        Verdict::Blocked => b"blocked",
+        Verdict::Astray { .. } => b"astray",
+        Verdict::Lost { .. } => b"lost",
+    }
+}
+
+/// Puts the line of a refusal on `err`. The status is then the refusal's, or `NoMemory` where memory was wanting.
+pub fn refuse<E: Sink>(alloc: Global, refusal: &Refusal<'_>, err: &mut E) -> Status
+    ensures puts { PutsRefusal (seen refusal.now) result (E.faults err.old) (E.faults err.new) (E.bytes err.old) (E.bytes err.new) }
     ensures later { E.faults err.old ≤ E.faults err.new }
 {
-    let Ok(line) = refusal(alloc, status, file) else {
+    let Ok(line) = refusal.line(alloc) else {
         return put_no_memory(err);
     };
     match err.put(line.bytes()) {
-        Ok(()) => status,
-        Err(PutFault::Failed) => status,
+        Ok(()) => refusal.status(),
+        Err(PutFault::Failed) => refusal.status(),
         Err(PutFault::NoMemory) => Status::NoMemory,
     }
 }
@@ -32,40 +167,11 @@ pub fn refuse<E: Sink>(alloc: Global, status: Status, file: &str, err: &mut E) -
 /// Puts the line of want of memory.
 fn put_no_memory<E: Sink>(err: &mut E) -> Status
     ensures status { result ≡ Status.NoMemory }
-    ensures part { AppendsPrefix (E.bytes err.old) (refusal_line Status.NoMemory []) (E.bytes err.new) }
+    ensures part { AppendsPrefix (E.bytes err.old) (refusal_line refusal.NoMemory) (E.bytes err.new) }
     ensures later { E.faults err.old ≤ E.faults err.new }
 {
     match err.put(b"nomemory\n") {
         Ok(()) => Status::NoMemory,
         Err(_) => Status::NoMemory,
     }
-}
-
-/// The line of a refusal.
-fn refusal(alloc: Global, status: Status, file: &str) -> Result<Text, NoMemory>
-    ensures { IfOk result (λ text. text ≡ refusal_line status file.now) }
-{
-    match status {
-        Status::Done => Text::copy_of(alloc, b""),
-        Status::Unmapped => Text::copy_of(alloc, b""),
-        Status::Differs => Text::copy_of(alloc, b""),
-        Status::NoMemory => Text::copy_of(alloc, b"nomemory\n"),
-        Status::Usage => Text::copy_of(alloc, b"usage\n"),
-        Status::WriteFault => Text::copy_of(alloc, b"writefault\n"),
-        Status::Improper => Text::copy_of(alloc, b"improper\n"),
-        Status::Unresolved => Text::copy_of(alloc, b"unresolved\n"),
-        Status::ReadFault => naming(alloc, b"readfault ", file, b"\n"),
-        Status::TooLong => naming(alloc, b"toolong ", file, b"\n"),
-        Status::BadText => naming(alloc, b"badtext ", file, b" 0 BadLine\n"),
-    }
-}
-
-/// A line that shows a file.
-fn naming(alloc: Global, head: &[u8], file: &str, tail: &[u8]) -> Result<Text, NoMemory>
-    ensures { IfOk result (λ text. text ≡ head.now ++ file.now ++ tail.now) }
-{
-    let mut line = Text::copy_of(alloc, head)?;
-    line.add(file.as_bytes())?;
-    line.add(tail)?;
-    Ok(line)
 }

@@ -2,13 +2,12 @@
 
 ghost use Rattle.std.specs.Prelude.{◌≡◌, ℕ, IfOk, Err};
 ghost use Rattle.si_strict.specs.Read.{IsBadText};
-ghost use Rattle.si_tool.specs.Answer.{IsImproper, IsUnresolved, IsSynthesis};
+ghost use Rattle.si_tool.specs.Synthesis.{IsImproper, IsUnresolved, IsSynthesis};
 
 use crate::full::write_full;
+use crate::sound::{NotProper, proper_of};
 use si_base::text::Text;
 use si_checks::distinct::{Distinct, NotDistinct};
-use si_checks::proper::{Improper, Proper};
-use si_graph::coded::{CodeFault, Coded};
 use si_strict::read::{NotRead, Sg, read_strict};
 use std::alloc::Global;
 use thiserror::Error;
@@ -42,17 +41,10 @@ pub fn synth(alloc: Global, text: &[u8]) -> Result<Text, NoNetlist>
         Err(NotRead::NoMemory) => return Err(NoNetlist::NoMemory),
         Err(NotRead::BadText) => return Err(NoNetlist::BadText),
     };
-    let coded = match Coded::make(alloc, graph) {
-        Ok(coded) => coded,
-        Err((_, CodeFault::NoMemory)) => return Err(NoNetlist::NoMemory),
-        Err((_, CodeFault::Nondeterministic { .. })) => return Err(NoNetlist::Improper),
-        Err((_, CodeFault::Inconsistent { .. })) => return Err(NoNetlist::Improper),
-    };
-    let proper = match Proper::make(alloc, coded) {
+    let proper = match proper_of(alloc, graph) {
         Ok(proper) => proper,
-        Err((_, Improper::NoMemory)) => return Err(NoNetlist::NoMemory),
-        Err((_, Improper::Noncommutative { .. })) => return Err(NoNetlist::Improper),
-        Err((_, Improper::Nonpersistent { .. })) => return Err(NoNetlist::Improper),
+        Err(NotProper::NoMemory) => return Err(NoNetlist::NoMemory),
+        Err(NotProper::Improper) => return Err(NoNetlist::Improper),
     };
     let distinct = match Distinct::make(alloc, &proper) {
         Ok(distinct) => distinct,

@@ -11,7 +11,7 @@ returns c =
     (rw c.signals-signals.ensures.signals at c.in_ok-add_names_line-2.ensures)
     (rw c.signals-signals.ensures.signals at c.in_ok-add_names_line-3.ensures)
     (rw c.signals-signals.ensures.signals at c.in_ok-add_names_line-4.ensures)
-    (rw (c.signals-signals.ensures.signals, c.start.ensures) at c.in_ok-add_start_line.ensures)
+    (rw (c.signals-signals.ensures.signals, c.start.ensures) at c.in_ok-add_values_line.ensures)
     (rw c.inserts.ensures at c.in_ok-add_insert_lines.ensures)
     c.in_ok-add-2.ensures.added
     (rw (c.gates.ensures, c.signals-signals.ensures.signals) at c.in_ok-add_gate_lines.ensures)

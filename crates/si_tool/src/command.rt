@@ -1,0 +1,41 @@
+//! What the words of a command line ask for.
+
+ghost use Rattle.std.specs.Prelude.{MatchOption};
+ghost use Rattle.si_tool.specs.Asked.{asked_now};
+ghost use Rattle.si_tool.specs.Command.{Asks, AsksNothing};
+
+/// A command, with the names of its files.
+#[derive(Clone, Copy)]
+pub enum Command<'w> {
+    /// The netlist of a graph.
+    Synth {
+        file: &'w str,
+    },
+    /// The end of a schedule over a netlist beside a graph.
+    Replay {
+        graph: &'w str,
+        netlist: &'w str,
+        schedule: &'w str,
+    },
+}
+
+/// The command that the words ask for, or `None` exactly where they ask for none.
+pub fn command_of(words: &[String]) -> Option<Command<'_>>
+    ensures { MatchOption result (AsksNothing words.now) (λ command. Asks words.now (asked_now command)) }
+{
+    match words {
+        [command, file, style] if command.as_str() == "synth" && style.as_str() == "complex" => {
+            Some(Command::Synth {
+                file: file.as_str(),
+            })
+        }
+        [command, graph, netlist, schedule] if command.as_str() == "replay" => {
+            Some(Command::Replay {
+                graph: graph.as_str(),
+                netlist: netlist.as_str(),
+                schedule: schedule.as_str(),
+            })
+        }
+        _ => None,
+    }
+}
