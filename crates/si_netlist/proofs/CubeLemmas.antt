@@ -7,9 +7,9 @@ use Rattle.si_base.specs.declared.ids.Literal.{Literal}
 use Rattle.si_base.specs.Bits.{bit, IsSet}
 use Rattle.si_cube.specs.Literals.{literals_from, literals_of, IsWithin}
 use Rattle.si_netlist.specs.NetlistValue.{literal_of, cube_of}
-use Rattle.si_netlist.specs.NetlistFault.{sum_fault}
-use Rattle.si_netlist.specs.Sums.{is_one, is_cube}
-use Rattle.si_netlist.specs.Reads.{words_now}
+use Rattle.si_words.specs.GateLines.{sum_fault}
+use Rattle.si_words.specs.Sums.{is_one, is_cube}
+use Rattle.si_words.specs.Reads.{words_now}
 use Rattle.si_netlist.proofs.GateLineLemmas.{take_mapped}
 use Rattle.si_netlist.proofs.OrderLemmas.{sig_at, rising, sum_is}
 

@@ -4,11 +4,13 @@ use Rattle.std.specs.List.{list_all, slice_split, AllByRecursion}
 use Rattle.std.proofs.lemmas.Bool.{cases_Bool, true≢false, and_parts}
 use Rattle.std.proofs.lemmas.List.{length-map, map_push, get_or-map, take_more}
 use Rattle.si_base.specs.declared.fault.TextKind.TheVariants.{BadLine}
-use Rattle.si_netlist.specs.NetlistFault.{is_insert_line, gate_fault, literals_fault, is_gate, rest_of, sum_fault}
-use Rattle.si_netlist.specs.Reads.{words_now, parts_now}
-use Rattle.si_netlist.specs.Sums.{parts_at, is_cube}
-use Rattle.si_netlist.proofs.SumWordLemmas.{slice_split-map}
-use Rattle.si_netlist.proofs.FirstFaultLemmas.{take_word}
+use Rattle.si_netlist.specs.NetlistFault.{is_insert_line}
+use Rattle.si_words.specs.Lines.{rest_of}
+use Rattle.si_words.specs.GateLines.{gate_fault, literals_fault, is_gate, sum_fault}
+use Rattle.si_words.specs.Reads.{words_now, parts_now}
+use Rattle.si_words.specs.Sums.{parts_at, is_cube}
+use Rattle.si_words.proofs.SumWordLemmas.{slice_split-map}
+use Rattle.si_words.proofs.FirstFaultLemmas.{take_word}
 use Rattle.si_netlist.proofs.OrderLemmas.{each_part}
 
 pub at_least_three : (name : List ℕ) (ws : List (Bor (List ℕ))) → is_insert_line name (words_now ws) ≡ true → 3 ≤ length ws

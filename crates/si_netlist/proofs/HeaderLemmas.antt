@@ -1,14 +1,15 @@
 -- The first six lines of a netlist text, one after the other.
 use Rattle.std.proofs.Common.{◌≡◌, ℕ, suc, List, [], ◌∷◌, ◌++◌, length, refl, sym, ap, ◌∙◌, Option, codes, subst}
 use Rattle.si_base.specs.declared.fault.TextKind.{TextKind}
-use Rattle.si_netlist.specs.NetlistFault.{Form, due_in, due_after, names_at, rest_of, words_of, model_fault, names_fault, start_fault}
-use Rattle.si_netlist.specs.RowValues.{TakesValue}
-use Rattle.si_netlist.specs.Rows.{Left, fault_of, AddsNames, TakesForm}
-use Rattle.si_netlist.proofs.RowLemmas.{row_step}
+use Rattle.si_netlist.specs.NetlistFault.{due_in, due_after, names_at, model_fault, start_fault}
+use Rattle.si_words.specs.Lines.{Form, rest_of, words_of, names_fault}
+use Rattle.si_words.specs.RowValues.{TakesValue}
+use Rattle.si_words.specs.Rows.{Left, fault_of, AddsNames, TakesForm}
+use Rattle.si_words.proofs.RowLemmas.{row_step}
 use Rattle.std.proofs.Common.{Result, Err}
 use Rattle.si_base.specs.declared.fault.TextFault.{TextFault}
 use Rattle.si_base.specs.TextFaults.{ToldBy, Shows}
-use Rattle.si_netlist.specs.declared.rows.Header.{Header}
+use Rattle.si_netlist.specs.declared.header.Header.{Header}
 use Rattle.si_netlist.specs.Headers.{ReadsHeader, model_of, start_of}
 
 abbrev pub from5 : List (List ℕ) → List (List ℕ) → List (List ℕ) → List (List ℕ) → List Form

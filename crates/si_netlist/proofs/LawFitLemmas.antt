@@ -3,7 +3,7 @@ use Rattle.std.proofs.Common.{◌≡◌, ℕ, ◌+◌, Bool, true, false, List, 
 use Rattle.si_base.specs.declared.fault.TextKind.{TextKind}
 use Rattle.si_base.specs.declared.fault.TextKind.TheVariants.{BadByte, NoEnd}
 use Rattle.si_base.specs.Faults.{when, ◌otherwise◌, at_line}
-use Rattle.si_netlist.specs.NetlistFault.{Form, lines_fault, words_of, has_bad_byte_here}
+use Rattle.si_words.specs.Lines.{Form, lines_fault, words_of, has_bad_byte_here}
 
 -- as many lines as forms, each without a bad byte and without a fault
 abbrev pub Fits : List Form → List (List ℕ) → Type 0

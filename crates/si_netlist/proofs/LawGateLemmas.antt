@@ -15,8 +15,9 @@ use Rattle.si_base.specs.Netlist.{Gate, SumGate}
 use Rattle.si_base.specs.NetlistText.{gate_words}
 use Rattle.si_base.specs.Words.{is_signal_name}
 use Rattle.si_base.specs.WellFormed.{IsGate}
-use Rattle.si_netlist.specs.Sums.{is_literal, is_sum, len_before, cut_at}
-use Rattle.si_netlist.specs.NetlistFault.{place_in, is_gate, are_sums, are_pins, are_pins_and_sum, pin_fault, pins_fault, cell_fault, literals_fault, gate_fault, rest_of, sum_fault}
+use Rattle.si_words.specs.Sums.{is_literal, is_sum, len_before, cut_at}
+use Rattle.si_words.specs.Lines.{rest_of}
+use Rattle.si_words.specs.GateLines.{place_in, is_gate, are_sums, are_pins, are_pins_and_sum, pin_fault, pins_fault, cell_fault, literals_fault, gate_fault, sum_fault}
 use Rattle.si_netlist.specs.NetlistValue.{literal_of, sum_of, gc_of, cell_of, gate_of}
 use Rattle.si_netlist.proofs.LawLemmas.{literals_back}
 use Rattle.si_netlist.proofs.LawFitLemmas.{both, not_when}

@@ -1,12 +1,12 @@
 -- A literal's word, and the literal that it spells; cubes and sums by their words.
 use Rattle.std.proofs.Common.{◌≡◌, ℕ, ◌<◌, ◌==◌, Bool, true, false, List, [], ◌∷◌, ◌++◌, length, get_or, map, refl, sym, ap, ◌∙◌, bytes_eq, Option, Some, None, not, if◌then◌else◌, unwrap_or, inl, inr, ◌⊎◌, eqb-true, is_none, codes, ap₂, arith, ◌+◌}
 use Rattle.std.proofs.lemmas.Bool.{true≢false, not-true, cases_Bool, and_parts}
-use Rattle.si_netlist.specs.NetlistFault.{place_in}
+use Rattle.si_words.specs.GateLines.{place_in}
 use Rattle.si_netlist.specs.NetlistValue.{literal_of, cube_of, sum_of}
 use Rattle.si_base.specs.NetlistText.{cube_words, more_cubes, sum_words, literal_word, name_of}
 use Rattle.std.specs.List.{onto_first, AllByRecursion, list_all}
 use Rattle.std.proofs.lemmas.List.Splits.{length-slice_split}
-use Rattle.si_netlist.specs.Sums.{parts_at, literal_name, is_literal, is_cube, is_one}
+use Rattle.si_words.specs.Sums.{parts_at, literal_name, is_literal, is_cube, is_one}
 use Rattle.std.proofs.lemmas.List.{append-nil}
 use Rattle.std.proofs.lemmas.List.Quantifiers.{position-Some}
 use Rattle.std.proofs.lemmas.Option.{slice_get-get_or, slice_get-map}

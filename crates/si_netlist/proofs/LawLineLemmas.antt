@@ -18,9 +18,10 @@ use Rattle.si_base.specs.Faults.{when, first_after}
 use Rattle.si_base.specs.NetlistText.{insert_line, bits_from, word_if_any}
 use Rattle.si_base.specs.Words.{is_signal_name, is_between}
 use Rattle.si_base.specs.WellFormed.{IsWord, IsInsertion}
-use Rattle.si_netlist.specs.Names.{stands_in, name_fault}
-use Rattle.si_netlist.specs.Sums.{is_empty, cut_at}
-use Rattle.si_netlist.specs.NetlistFault.{model_fault, is_model_word, names_fault, start_fault, are_both_lists, insert_fault, word_fault, rest_of}
+use Rattle.si_words.specs.Names.{stands_in, name_fault}
+use Rattle.si_words.specs.Sums.{is_empty, cut_at}
+use Rattle.si_netlist.specs.NetlistFault.{model_fault, is_model_word, start_fault, are_both_lists, insert_fault, word_fault}
+use Rattle.si_words.specs.Lines.{names_fault, rest_of}
 use Rattle.si_netlist.specs.NetlistValue.{insertion_with, insertion_of, first_word, code_of_bits}
 use Rattle.si_netlist.proofs.LawTextLemmas.{IsDark}
 use Rattle.si_netlist.proofs.LawFitLemmas.{both, not_when}

@@ -13,8 +13,8 @@ use Rattle.si_base.specs.declared.fault.TextKind.TheVariants.{BadLine, Undeclare
 use Rattle.si_base.specs.Faults.{when, ◌otherwise◌, first_after}
 use Rattle.si_base.specs.NetlistText.{sum_words}
 use Rattle.si_base.specs.WellFormed.{IsCube, IsSum}
-use Rattle.si_netlist.specs.Sums.{is_literal, is_cube, is_sum, is_one, is_mark, literal_name, parts_at}
-use Rattle.si_netlist.specs.NetlistFault.{place_in, is_below, last_of, comes_after, literal_fault}
+use Rattle.si_words.specs.Sums.{is_literal, is_cube, is_sum, is_one, is_mark, literal_name, parts_at}
+use Rattle.si_words.specs.GateLines.{place_in, is_below, last_of, comes_after, literal_fault}
 use Rattle.si_netlist.specs.NetlistValue.{literal_of, cube_of, sum_of}
 use Rattle.si_netlist.proofs.LawLemmas.{cube_back, sum_back, PartIsGood}
 use Rattle.si_netlist.proofs.LawFitLemmas.{both, not_when}

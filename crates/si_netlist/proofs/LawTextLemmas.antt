@@ -5,8 +5,8 @@ use Rattle.std.proofs.lemmas.List.Splits.{join_with_byte-slice_split}
 use Rattle.std.specs.List.{AllByRecursion, join_with_byte, list_all, onto_first}
 use Rattle.si_base.specs.Words.{text_of, is_between}
 use Rattle.si_base.proofs.Given.{NoEnd, no_end_join, LinesClean}
-use Rattle.si_netlist.specs.Sums.{is_empty}
-use Rattle.si_netlist.specs.NetlistFault.{words_of, ended, tail_of, onto_head, has_bad_byte_here}
+use Rattle.si_words.specs.Sums.{is_empty}
+use Rattle.si_words.specs.Lines.{words_of, ended, tail_of, onto_head, has_bad_byte_here}
 
 abbrev pub closed : List ℕ → List ℕ
 closed line = line ++ 10 ∷ []

@@ -13,8 +13,8 @@ use Rattle.si_base.specs.Netlist.{Sum, Gate, SumGate, Gc, Cell}
 use Rattle.si_base.specs.NetlistText.{name_of, literal_word, cube_words, more_cubes, sum_words, gate_words}
 use Rattle.si_base.specs.Words.{is_signal_name, is_name_byte, is_letter, is_between}
 use Rattle.si_base.specs.WellFormed.{IsCube, IsSum, IsGate}
-use Rattle.si_netlist.specs.Sums.{cut_at, len_before}
-use Rattle.si_netlist.specs.NetlistFault.{is_gate, are_pins, pin_fault, literals_fault, gate_fault}
+use Rattle.si_words.specs.Sums.{cut_at, len_before}
+use Rattle.si_words.specs.GateLines.{is_gate, are_pins, pin_fault, literals_fault, gate_fault}
 use Rattle.si_netlist.specs.NetlistValue.{gate_of, gc_of, cell_of}
 use Rattle.si_netlist.proofs.LawTextLemmas.{IsDark}
 use Rattle.si_netlist.proofs.LawSumLemmas.{names_in, none_after}

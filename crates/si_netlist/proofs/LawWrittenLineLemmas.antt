@@ -17,9 +17,10 @@ use Rattle.si_base.specs.Netlist.{Insertion}
 use Rattle.si_base.specs.NetlistText.{insert_line, bits_from, word_if_any}
 use Rattle.si_base.specs.Words.{is_signal_name, is_between}
 use Rattle.si_base.specs.WellFormed.{IsWord, IsInsertion}
-use Rattle.si_netlist.specs.Names.{stands_in, name_fault}
-use Rattle.si_netlist.specs.Sums.{is_empty}
-use Rattle.si_netlist.specs.NetlistFault.{model_fault, is_model_word, names_fault, start_fault, insert_fault, are_both_lists}
+use Rattle.si_words.specs.Names.{stands_in, name_fault}
+use Rattle.si_words.specs.Sums.{is_empty}
+use Rattle.si_netlist.specs.NetlistFault.{model_fault, is_model_word, start_fault, insert_fault, are_both_lists}
+use Rattle.si_words.specs.Lines.{names_fault}
 use Rattle.si_netlist.specs.NetlistValue.{insertion_with, insertion_of, first_word, code_of_bits}
 use Rattle.si_netlist.proofs.LawTextLemmas.{IsDark}
 use Rattle.si_netlist.proofs.LawSumLemmas.{names_in}

@@ -13,8 +13,8 @@ use Rattle.si_base.specs.Netlist.{Sum}
 use Rattle.si_base.specs.NetlistText.{name_of, literal_word, cube_words, more_cubes, sum_words}
 use Rattle.si_base.specs.Words.{is_signal_name}
 use Rattle.si_base.specs.WellFormed.{IsCube}
-use Rattle.si_netlist.specs.Sums.{is_literal, is_cube, is_sum, is_one, is_mark, literal_name, parts_at}
-use Rattle.si_netlist.specs.NetlistFault.{place_in, is_below, comes_after}
+use Rattle.si_words.specs.Sums.{is_literal, is_cube, is_sum, is_one, is_mark, literal_name, parts_at}
+use Rattle.si_words.specs.GateLines.{place_in, is_below, comes_after}
 use Rattle.si_netlist.specs.NetlistValue.{literal_of, cube_of, sum_of}
 use Rattle.si_netlist.proofs.LawLemmas.{name_at, abbrev_word, literal_is}
 use Rattle.si_netlist.proofs.LawTextLemmas.{IsDark}

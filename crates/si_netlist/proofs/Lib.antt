@@ -11,11 +11,7 @@ pub mod LawWrittenSumLemmas
 pub mod LawWrittenGateLemmas
 pub mod LawWrittenLineLemmas
 pub mod WriteLaw
-pub mod SumWordLemmas
-pub mod FirstFaultLemmas
-pub mod RowLemmas
 pub mod HeaderLemmas
-pub mod PlaceLemmas
 pub mod LoopLemmas
 pub mod GateLineLemmas
 pub mod OrderLemmas

@@ -5,10 +5,10 @@ use Rattle.std.proofs.lemmas.List.{length-map, length-drop, drop_all, append-nil
 use Rattle.std.proofs.lemmas.Option.{slice_get_within, get_or_from_slice_get}
 use Rattle.si_base.specs.declared.fault.TextFault.{TextFault}
 use Rattle.si_base.specs.TextFaults.{ToldBy, Shows}
-use Rattle.si_netlist.specs.NetlistFault.{Form, words_of}
-use Rattle.si_netlist.specs.Rows.{Left, fault_of}
-use Rattle.si_netlist.specs.RowValues.{TakesValue, TakesAll}
-use Rattle.si_netlist.proofs.RowLemmas.{row_step}
+use Rattle.si_words.specs.Lines.{Form, words_of}
+use Rattle.si_words.specs.Rows.{Left, fault_of}
+use Rattle.si_words.specs.RowValues.{TakesValue, TakesAll}
+use Rattle.si_words.proofs.RowLemmas.{row_step}
 
 module _ {V : Type 0} (form : List ℕ → Form) (spelled : List (List ℕ) → V) (names : List (List ℕ)) (from : ℕ) (old : Left) where
   abbrev value_at : List ℕ → V

@@ -7,10 +7,10 @@ use Rattle.std.proofs.lemmas.Slice.Eq.{bytes_eq-Decides}
 use Rattle.si_base.specs.declared.fault.TextKind.{TextKind}
 use Rattle.si_base.specs.declared.fault.TextKind.TheVariants.{BadLine, Undeclared}
 use Rattle.si_base.specs.Faults.{when, ◌otherwise◌, first_after}
-use Rattle.si_netlist.specs.NetlistFault.{literal_fault, comes_after, last_of, place_in, is_below, sum_fault, pins_fault, cell_fault, are_pins, are_pins_and_sum, are_sums}
+use Rattle.si_words.specs.GateLines.{literal_fault, comes_after, last_of, place_in, is_below, sum_fault, pins_fault, cell_fault, are_pins, are_pins_and_sum, are_sums}
 use Rattle.si_netlist.specs.NetlistValue.{literal_of}
-use Rattle.si_netlist.specs.Sums.{is_mark, is_literal, is_sum, parts_at, cut_at, len_before}
-use Rattle.si_netlist.proofs.SumWordLemmas.{last_pushed}
+use Rattle.si_words.specs.Sums.{is_mark, is_literal, is_sum, parts_at, cut_at, len_before}
+use Rattle.si_words.proofs.SumWordLemmas.{last_pushed}
 
 first_none : {A : Type 0} (a b : Option A) → (a otherwise b) ≡ None → a ≡ None
 first_none None b h = refl

@@ -9,7 +9,9 @@ use Rattle.si_base.specs.Netlist.{Gate, Insertion, Netlist}
 use Rattle.si_base.specs.NetlistText.{netlist_lines, netlist_text, insert_line}
 use Rattle.si_base.specs.Words.{text_of, is_signal_name}
 use Rattle.si_base.specs.WellFormed.{IsWord, IsGate, IsInsertion, IsNetlist}
-use Rattle.si_netlist.specs.NetlistFault.{Form, words_of, ended, tail_of, rest_of, due_in, netlist_fault, insert_fault, gate_fault, word_fault, start_fault}
+use Rattle.si_netlist.specs.NetlistFault.{due_in, netlist_fault, insert_fault, word_fault, start_fault}
+use Rattle.si_words.specs.Lines.{Form, words_of, ended, tail_of, rest_of}
+use Rattle.si_words.specs.GateLines.{gate_fault}
 use Rattle.si_netlist.specs.NetlistValue.{gate_of, insertion_of, first_word, code_of_bits, netlist_of, netlist_of_lines}
 use Rattle.si_netlist.proofs.LawFitLemmas.{Fits, fits, fits_map}
 use Rattle.si_netlist.proofs.LawTextLemmas.{text_back, lines_back, words_dark}

@@ -10,13 +10,15 @@ use Rattle.si_base.specs.Netlist.{Netlist, Insertion, Gate}
 use Rattle.si_base.specs.StrictText.{signals_of}
 use Rattle.si_base.specs.TextFaults.{Gives, Shows}
 use Rattle.si_base.specs.WellFormed.{IsNetlist}
-use Rattle.si_netlist.specs.declared.rows.Header.{Header}
+use Rattle.si_netlist.specs.declared.header.Header.{Header}
 use Rattle.si_netlist.specs.Headers.{ReadsHeader, gate_in, signals_by}
-use Rattle.si_netlist.specs.NetlistFault.{Form, netlist_fault, due_in, due_after, insert_fault, word_fault, gate_fault, ended, tail_of, names_at, words_of}
+use Rattle.si_netlist.specs.NetlistFault.{netlist_fault, due_in, due_after, insert_fault, word_fault, names_at}
+use Rattle.si_words.specs.Lines.{Form, ended, tail_of, words_of}
+use Rattle.si_words.specs.GateLines.{gate_fault}
 use Rattle.si_netlist.specs.NetlistValue.{netlist_of, netlist_of_lines, insertion_of}
-use Rattle.si_netlist.specs.Rows.{Left, fault_of, TakesForm}
-use Rattle.si_netlist.specs.RowValues.{TakesAll}
-use Rattle.si_netlist.proofs.RowLemmas.{row_step}
+use Rattle.si_words.specs.Rows.{Left, fault_of, TakesForm}
+use Rattle.si_words.specs.RowValues.{TakesAll}
+use Rattle.si_words.proofs.RowLemmas.{row_step}
 use Rattle.si_netlist.proofs.ReadLaw.{read_is_netlist}
 
 abbrev L : Type 0

@@ -15,7 +15,9 @@ use Rattle.si_base.specs.Words.{text_of, is_signal_name, is_between}
 use Rattle.si_base.specs.WellFormed.{IsGate, IsInsertion, IsNetlist}
 use Rattle.si_base.proofs.Given.{AreClean, LinesClean, clean_word, words_without}
 use Rattle.si_base.proofs.Unsplit.{split-join}
-use Rattle.si_netlist.specs.NetlistFault.{Form, words_of, rest_of, due, due_in, lines_fault, netlist_fault, insert_fault, gate_fault, word_fault, has_bad_byte_here}
+use Rattle.si_netlist.specs.NetlistFault.{due, due_in, netlist_fault, insert_fault, word_fault}
+use Rattle.si_words.specs.Lines.{Form, words_of, rest_of, lines_fault, has_bad_byte_here}
+use Rattle.si_words.specs.GateLines.{gate_fault}
 use Rattle.si_netlist.specs.NetlistValue.{gate_of, insertion_of, first_word, code_of_bits, netlist_of, netlist_of_lines}
 use Rattle.si_netlist.proofs.LawFitLemmas.{Fits, no_fault}
 use Rattle.si_netlist.proofs.LawTextLemmas.{IsDark, ended_text, tail_text}

@@ -4,10 +4,11 @@ use Rattle.si_base.specs.Netlist.{Gate}
 use Rattle.si_base.specs.declared.graph.Signal.{Signal}
 use Rattle.si_base.specs.declared.graph.SigKind.TheVariants.{Input, Output, Internal, Inserted}
 use Rattle.si_base.specs.StrictText.{signals_of}
-use Rattle.si_netlist.specs.declared.rows.Header.{Header}
-use Rattle.si_netlist.specs.NetlistFault.{due_in, due_after, names_at, rest_of}
+use Rattle.si_netlist.specs.declared.header.Header.{Header}
+use Rattle.si_netlist.specs.NetlistFault.{due_in, due_after, names_at}
+use Rattle.si_words.specs.Lines.{rest_of}
 use Rattle.si_netlist.specs.NetlistValue.{first_word, code_of_bits, gate_of}
-use Rattle.si_netlist.specs.Rows.{Left, fault_of}
+use Rattle.si_words.specs.Rows.{Left, fault_of}
 
 -- the model's name, by the words of its line
 abbrev pub model_of : List (List ℕ) → List ℕ

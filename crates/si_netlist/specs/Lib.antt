@@ -1,10 +1,5 @@
-pub mod Names
-pub mod Sums
 pub mod NetlistFault
 pub mod NetlistValue
-pub mod Rows
 pub mod Parts
-pub mod Reads
 pub mod Headers
-pub mod RowValues
 pub mod Writing

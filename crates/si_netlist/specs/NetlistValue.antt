@@ -4,8 +4,10 @@ use Rattle.si_base.specs.declared.ids.Literal.{Literal}
 use Rattle.si_base.specs.declared.graph.SigKind.TheVariants.{Input, Output, Internal, Inserted}
 use Rattle.si_base.specs.Netlist.{Sum, Gate, SumGate, Gc, Cell, Insertion, Netlist}
 use Rattle.si_base.specs.StrictText.{signals_of}
-use Rattle.si_netlist.specs.Sums.{is_one, literal_name, parts_at, cut_at}
-use Rattle.si_netlist.specs.NetlistFault.{place_in, words_of, ended, rest_of, names_at}
+use Rattle.si_words.specs.Sums.{is_one, literal_name, parts_at, cut_at}
+use Rattle.si_netlist.specs.NetlistFault.{names_at}
+use Rattle.si_words.specs.Lines.{words_of, ended, rest_of}
+use Rattle.si_words.specs.GateLines.{place_in}
 
 -- ---- gates
 abbrev pub literal_of : List (List ℕ) → List ℕ → Literal

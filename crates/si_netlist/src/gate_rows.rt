@@ -3,24 +3,24 @@
 ghost use Rattle.std.specs.Prelude.{◌≡◌, ℕ, ◌≤◌, List, length, IfOk, map, drop, ◌++◌, ◌∷◌};
 ghost use Rattle.si_base.specs.Limits.{max_signals};
 ghost use Rattle.si_base.specs.TextFaults.{ToldBy};
+ghost use Rattle.si_words.specs.GateLines.{gate_fault};
+ghost use Rattle.si_words.specs.Lines.{Form, rest_of};
+ghost use Rattle.si_words.specs.Reads.{words_now};
+ghost use Rattle.si_words.specs.RowValues.{TakesValue, TakesAll};
+ghost use Rattle.si_words.specs.Rows.{fault_of};
 ghost use Rattle.si_netlist.specs.Headers.{gate_in};
-ghost use Rattle.si_netlist.specs.NetlistFault as netlist;
-ghost use Rattle.si_netlist.specs.NetlistFault.{Form};
 ghost use Rattle.si_netlist.specs.Parts.{gate_seen};
-ghost use Rattle.si_netlist.specs.Reads.{words_now};
-ghost use Rattle.si_netlist.specs.RowValues.{TakesValue, TakesAll};
-ghost use Rattle.si_netlist.specs.Rows.{fault_of};
 
 use crate::gate::Gate;
-use crate::gate_lines::gate_kind;
 use crate::gate_values::gate_of;
-use crate::rows::Rows;
 use si_base::fault::TextFault;
 use si_base::names::Names;
+use si_words::gate_lines::gate_kind;
+use si_words::rows::Rows;
 use std::alloc::Global;
 
 fn after_head<'s, 'a>(words: &'s [&'a [u8]]) -> &'s [&'a [u8]]
-    ensures { words_now result.now ≡ netlist.rest_of (words_now words.now) }
+    ensures { words_now result.now ≡ rest_of (words_now words.now) }
 {
     match words {
         [] => words,
@@ -35,8 +35,8 @@ fn gate_row(
     name: &[u8],
 ) -> Result<Gate, TextFault>
     requires { length signals.now ≤ max_signals }
-    ensures ok { IfOk result (λ gate. TakesValue (netlist.gate_fault signals.now name.now) (gate_in signals.now) rows.old rows.new (gate_seen gate)) }
-    ensures err { (forms : List Form) → ToldBy result (fault_of (netlist.gate_fault signals.now name.now ∷ forms) rows.old) }
+    ensures ok { IfOk result (λ gate. TakesValue (gate_fault signals.now name.now) (gate_in signals.now) rows.old rows.new (gate_seen gate)) }
+    ensures err { (forms : List Form) → ToldBy result (fault_of (gate_fault signals.now name.now ∷ forms) rows.old) }
 {
     let line = rows.number();
     let words = rows.next_words(alloc)?;
@@ -60,8 +60,8 @@ pub fn gate_rows(
 ) -> Result<Vec<Gate>, TextFault>
     requires room { from ≤ length signals.now }
     requires few { length signals.now ≤ max_signals }
-    ensures ok { IfOk result (λ gates. TakesAll (map (netlist.gate_fault signals.now) (drop from signals.now)) (gate_in signals.now) rows.old rows.new (map gate_seen gates.items)) }
-    ensures err { (rest : List Form) → ToldBy result (fault_of (map (netlist.gate_fault signals.now) (drop from signals.now) ++ rest) rows.old) }
+    ensures ok { IfOk result (λ gates. TakesAll (map (gate_fault signals.now) (drop from signals.now)) (gate_in signals.now) rows.old rows.new (map gate_seen gates.items)) }
+    ensures err { (rest : List Form) → ToldBy result (fault_of (map (gate_fault signals.now) (drop from signals.now) ++ rest) rows.old) }
 {
     let mut gates = Vec::new(alloc);
     for k in from..signals.len() {

@@ -3,20 +3,20 @@
 ghost use Rattle.std.specs.Prelude.{◌≡◌, ℕ, ◌≤◌, ◌<◌, List, length, codes, IfOk, map, true, None};
 ghost use Rattle.std.specs.List.{list_all};
 ghost use Rattle.si_base.specs.Limits.{max_signals};
-ghost use Rattle.si_netlist.specs.NetlistFault as netlist;
+ghost use Rattle.si_words.specs.GateLines as gates;
+ghost use Rattle.si_words.specs.Reads.{words_now, parts_now};
+ghost use Rattle.si_words.specs.Sums as sums;
 ghost use Rattle.si_netlist.specs.NetlistValue as value;
 ghost use Rattle.si_netlist.specs.Parts.{gate_seen};
-ghost use Rattle.si_netlist.specs.Reads.{words_now, parts_now};
-ghost use Rattle.si_netlist.specs.Sums as sums;
 
 use crate::gate::Gate;
-use crate::gate_lines::{cut_at, is_one, place_in};
-use crate::words::literal_name;
 use si_base::ids::{Code, Literal, NoMemory, Sig};
 use si_base::names::Names;
 use si_base::text::Name;
 use si_cube::cube::Cube;
 use si_cube::sum::Sum;
+use si_words::gate_lines::{cut_at, is_one, place_in};
+use si_words::words::literal_name;
 use std::alloc::{AllocError, Global};
 
 /// The literal of a word. A word of a line without fault has its signal declared.
@@ -48,7 +48,7 @@ fn literals_of(alloc: Global, signals: &Names, words: &[&[u8]]) -> Result<Vec<Li
 fn cube_of(signals: &Names, words: &[&[u8]]) -> Cube
     requires few { length signals.now ≤ max_signals }
     requires form { sums.is_cube (words_now words.now) ≡ true }
-    requires order { netlist.sum_fault signals.now (words_now words.now) ≡ None }
+    requires order { gates.sum_fault signals.now (words_now words.now) ≡ None }
     ensures { result ≡ value.cube_of signals.now (words_now words.now) }
 {
     let mut care = Code(0);
@@ -74,7 +74,7 @@ fn parts_of<'s, 'a>(alloc: Global, words: &'s [&'a [u8]]) -> Result<Vec<&'s [&'a
 fn cubes_of(alloc: Global, signals: &Names, words: &[&[u8]]) -> Result<Vec<Cube>, NoMemory>
     requires few { length signals.now ≤ max_signals }
     requires form { list_all sums.is_cube (sums.parts_at (codes "+") (words_now words.now)) ≡ true }
-    requires order { netlist.sum_fault signals.now (words_now words.now) ≡ None }
+    requires order { gates.sum_fault signals.now (words_now words.now) ≡ None }
     ensures { IfOk result (λ cubes. cubes.items ≡ map (value.cube_of signals.now) (sums.parts_at (codes "+") (words_now words.now))) }
 {
     let parts = parts_of(alloc, words)?;
@@ -88,7 +88,7 @@ fn cubes_of(alloc: Global, signals: &Names, words: &[&[u8]]) -> Result<Vec<Cube>
 fn sum_of(alloc: Global, signals: &Names, words: &[&[u8]]) -> Result<Sum, NoMemory>
     requires few { length signals.now ≤ max_signals }
     requires form { sums.is_sum (words_now words.now) ≡ true }
-    requires order { netlist.sum_fault signals.now (words_now words.now) ≡ None }
+    requires order { gates.sum_fault signals.now (words_now words.now) ≡ None }
     ensures { IfOk result (λ sum. sum ≡ value.sum_of signals.now (words_now words.now)) }
 {
     if is_one(b"0", words) {
@@ -99,8 +99,8 @@ fn sum_of(alloc: Global, signals: &Names, words: &[&[u8]]) -> Result<Sum, NoMemo
 
 fn gc_of(alloc: Global, signals: &Names, words: &[&[u8]]) -> Result<Gate, NoMemory>
     requires few { length signals.now ≤ max_signals }
-    requires form { netlist.are_sums (sums.cut_at (codes "|") (words_now words.now)) ≡ true }
-    requires order { netlist.sum_fault signals.now (words_now words.now) ≡ None }
+    requires form { gates.are_sums (sums.cut_at (codes "|") (words_now words.now)) ≡ true }
+    requires order { gates.sum_fault signals.now (words_now words.now) ≡ None }
     ensures { IfOk result (λ gate. gate_seen gate ≡ value.gc_of signals.now (sums.cut_at (codes "|") (words_now words.now))) }
 {
     match cut_at(b"|", words) {
@@ -120,7 +120,7 @@ fn instance_of(
 ) -> Result<Gate, NoMemory>
     requires few { length signals.now ≤ max_signals }
     requires form { sums.is_sum (words_now sum.now) ≡ true }
-    requires order { netlist.sum_fault signals.now (words_now sum.now) ≡ None }
+    requires order { gates.sum_fault signals.now (words_now sum.now) ≡ None }
     ensures { IfOk result (λ gate. gate_seen gate ≡ value.instance_of signals.now (words_now pins.now) (value.sum_of signals.now (words_now sum.now))) }
 {
     let sum = sum_of(alloc, signals, sum)?;
@@ -136,8 +136,8 @@ fn instance_of(
 
 fn cell_of(alloc: Global, signals: &Names, words: &[&[u8]]) -> Result<Gate, NoMemory>
     requires few { length signals.now ≤ max_signals }
-    requires form { netlist.are_pins_and_sum (sums.cut_at (codes ":") (words_now words.now)) ≡ true }
-    requires order { netlist.cell_fault signals.now (sums.cut_at (codes ":") (words_now words.now)) ≡ None }
+    requires form { gates.are_pins_and_sum (sums.cut_at (codes ":") (words_now words.now)) ≡ true }
+    requires order { gates.cell_fault signals.now (sums.cut_at (codes ":") (words_now words.now)) ≡ None }
     ensures { IfOk result (λ gate. gate_seen gate ≡ value.cell_of signals.now (sums.cut_at (codes ":") (words_now words.now))) }
 {
     match cut_at(b":", words) {
@@ -149,8 +149,8 @@ fn cell_of(alloc: Global, signals: &Names, words: &[&[u8]]) -> Result<Gate, NoMe
 /// The gate that the words after the signal's name spell. It fails only for want of memory.
 pub fn gate_of(alloc: Global, signals: &Names, words: &[&[u8]]) -> Result<Gate, NoMemory>
     requires few { length signals.now ≤ max_signals }
-    requires form { netlist.is_gate (words_now words.now) ≡ true }
-    requires order { netlist.literals_fault signals.now (words_now words.now) ≡ None }
+    requires form { gates.is_gate (words_now words.now) ≡ true }
+    requires order { gates.literals_fault signals.now (words_now words.now) ≡ None }
     ensures { IfOk result (λ gate. gate_seen gate ≡ value.gate_of signals.now (words_now words.now)) }
 {
     let [kind, rest @ ..] = words else {

@@ -3,22 +3,22 @@
 ghost use Rattle.std.specs.Prelude.{◌≡◌, ℕ, ◌≤◌, List, length, codes, IfOk, map, drop, true, ◌++◌, ◌∷◌};
 ghost use Rattle.std.specs.List.{list_any};
 ghost use Rattle.si_base.specs.TextFaults.{ToldBy};
+ghost use Rattle.si_words.specs.Lines.{Form};
+ghost use Rattle.si_words.specs.Names.{stands_in};
+ghost use Rattle.si_words.specs.Reads.{words_now};
+ghost use Rattle.si_words.specs.RowValues.{TakesValue, TakesAll};
+ghost use Rattle.si_words.specs.Rows.{fault_of};
+ghost use Rattle.si_words.specs.Sums as sums;
 ghost use Rattle.si_netlist.specs.NetlistFault as netlist;
-ghost use Rattle.si_netlist.specs.NetlistFault.{Form};
 ghost use Rattle.si_netlist.specs.NetlistValue.{insertion_of};
-ghost use Rattle.si_netlist.specs.Names.{stands_in};
-ghost use Rattle.si_netlist.specs.Reads.{words_now};
-ghost use Rattle.si_netlist.specs.RowValues.{TakesValue, TakesAll};
-ghost use Rattle.si_netlist.specs.Rows.{fault_of};
-ghost use Rattle.si_netlist.specs.Sums as sums;
 
 use crate::gate::Insert;
-use crate::gate_lines::cut_at;
-use crate::rows::{Rows, has_empty};
 use si_base::fault::{TextFault, TextKind};
 use si_base::ids::NoMemory;
 use si_base::names::Names;
 use si_base::text::Name;
+use si_words::gate_lines::cut_at;
+use si_words::rows::{Rows, has_empty};
 use std::alloc::Global;
 
 fn are_none(words: &[&[u8]]) -> bool

@@ -2,18 +2,15 @@
 #![tactic(auto)]
 
 pub mod gate;
-mod gate_lines;
 mod gate_rows;
 mod gate_values;
+mod header;
 mod insertions;
 pub mod laws;
-mod lists;
 pub mod netlist;
 pub mod reader;
-mod rows;
 #[cfg(test)]
 mod text_tests;
-mod words;
 pub mod write;
 mod write_gates;
 mod write_sums;

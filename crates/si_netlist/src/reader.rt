@@ -4,25 +4,27 @@ ghost use Rattle.std.specs.Prelude.{◌≡◌, ℕ, ◌≤◌, ◌++◌, ◌-◌
 ghost use Rattle.si_base.specs.Limits.{max_signals};
 ghost use Rattle.si_base.specs.StrictText.{signals_of};
 ghost use Rattle.si_base.specs.TextFaults.{ToldBy, Gives};
+ghost use Rattle.si_words.specs.Lines.{Form};
+ghost use Rattle.si_words.specs.Reads.{words_now};
+ghost use Rattle.si_words.specs.Rows.{fault_of, TakesForm};
+ghost use Rattle.si_words.specs.Sums as sums;
 ghost use Rattle.si_netlist.specs.Headers.{signals_by};
 ghost use Rattle.si_netlist.specs.NetlistFault as netlist;
-ghost use Rattle.si_netlist.specs.NetlistFault.{Form, netlist_fault};
+ghost use Rattle.si_netlist.specs.NetlistFault.{netlist_fault};
 ghost use Rattle.si_netlist.specs.NetlistValue.{netlist_of};
-ghost use Rattle.si_netlist.specs.Reads.{words_now};
-ghost use Rattle.si_netlist.specs.Rows.{fault_of, TakesForm};
-ghost use Rattle.si_netlist.specs.Sums as sums;
 
 use crate::gate::{Gate, Insert};
-use crate::gate_lines::is_one;
 use crate::gate_rows::gate_rows;
+use crate::header::{Header, read_header};
 use crate::insertions::insert_rows;
 use crate::netlist::Netlist;
-use crate::rows::{Header, Rows, read_header};
 use si_base::fault::{TextFault, TextKind};
 use si_base::graph::{SigKind, Signal};
 use si_base::ids::NoMemory;
 use si_base::names::Names;
 use si_base::text::Name;
+use si_words::gate_lines::is_one;
+use si_words::rows::Rows;
 use std::alloc::Global;
 
 /// A line that is one word.

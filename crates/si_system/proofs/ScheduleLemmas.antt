@@ -16,7 +16,7 @@ use Rattle.si_base.specs.declared.ids.Event.{Event}
 use Rattle.si_base.specs.Faults.{when, ◌otherwise◌, first_in, at_line}
 use Rattle.si_base.specs.Lines.{Line, has_bad_byte, numbered}
 use Rattle.si_base.specs.TextFaults.{Gives}
-use Rattle.si_netlist.specs.Names.{stands_in}
+use Rattle.si_words.specs.Names.{stands_in}
 use Rattle.si_netlist.proofs.LawFitLemmas.{both, not_when}
 use Rattle.si_system.specs.Events.{event_fault, event_name, is_event_with}
 use Rattle.si_system.specs.ScheduleText.{signal_names, words, line_fault, event_of, schedule_fault, schedule_of}

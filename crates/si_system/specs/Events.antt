@@ -5,7 +5,7 @@ use Rattle.si_base.specs.Words.{is_between, is_name_byte, is_signal_name}
 use Rattle.si_base.specs.declared.fault.TextKind.{TextKind}
 use Rattle.si_base.specs.declared.fault.TextKind.TheVariants.{Toggle, BadEvent, Undeclared}
 use Rattle.si_base.specs.Faults.{when, ◌otherwise◌}
-use Rattle.si_netlist.specs.Names.{stands_in}
+use Rattle.si_words.specs.Names.{stands_in}
 
 -- an event word is a name and what stands after it
 abbrev pub event_name : List ℕ → List ℕ

@@ -1,49 +1,17 @@
 //! Event words: a signal name, then `+` or `-`, then nothing or `/` with one to nine digits.
 
-ghost use Rattle.std.specs.Prelude.{◌≡◌, ℕ, ◌≤◌, ◌==◌, ◌||◌, length, position, bytes_eq};
+ghost use Rattle.std.specs.Prelude.{◌≡◌, ℕ, ◌≤◌, ◌==◌, ◌||◌, length};
 ghost use Rattle.std.specs.List.{prefix_len, list_all};
 ghost use Rattle.si_base.specs.Limits.{max_signals};
 ghost use Rattle.si_base.specs.Words as words;
-ghost use Rattle.si_netlist.specs.Names.{stands_in};
 ghost use Rattle.si_system.specs.Events as event_words;
 ghost use Rattle.si_system.specs.ScheduleText as schedule;
 
 use si_base::fault::TextKind;
 use si_base::ids::{Event, Sig};
 use si_base::names::Names;
-
-fn is_letter(b: u8) -> bool
-    ensures { result ≡ words.is_letter b }
-{
-    b.is_ascii_alphabetic() || b == b'_'
-}
-
-fn is_name_byte(b: u8) -> bool
-    ensures { result ≡ words.is_name_byte b }
-{
-    is_letter(b)
-        || b.is_ascii_digit()
-        || b == b'.'
-        || b == b'['
-        || b == b']'
-        || b == b'<'
-        || b == b'>'
-}
-
-fn are_name_bytes(bytes: &[u8]) -> bool
-    ensures { result ≡ list_all words.is_name_byte bytes.now }
-{
-    bytes.iter().all(|b| is_name_byte(*b))
-}
-
-fn is_signal_name(word: &[u8]) -> bool
-    ensures { result ≡ words.is_signal_name word.now }
-{
-    match word {
-        [] => false,
-        [first, rest @ ..] => is_letter(*first) && are_name_bytes(rest),
-    }
-}
+use si_words::lists::{has, place_of};
+use si_words::words::{is_name_byte, is_signal_name};
 
 fn name_len(word: &[u8]) -> usize
     ensures within { result ≤ length word.now }
@@ -103,21 +71,6 @@ fn is_event(word: &[u8]) -> bool
                 && is_ending(rest)
         }
     }
-}
-
-/// The place of a name, or `None` where it isn't there.
-fn place_of(names: &Names, name: &[u8]) -> Option<u32>
-    ensures { result ≡ position (λ n. bytes_eq name.now n) names.now }
-{
-    // The names are distinct, so that the place is the first.
-    let _count = names.len();
-    names.place(name)
-}
-
-fn has(names: &Names, name: &[u8]) -> bool
-    ensures { result ≡ stands_in names.now name.now }
-{
-    names.place(name).is_some()
 }
 
 /// The fault of an event word, where these names are declared.

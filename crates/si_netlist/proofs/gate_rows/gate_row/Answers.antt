@@ -1,6 +1,6 @@
 use Rattle.std.proofs.Common.{ap, sym, ◌∙◌, List, ℕ, Bor, ◌≡◌, None}
-use Rattle.si_netlist.specs.NetlistFault.{is_gate, literals_fault, gate_fault}
-use Rattle.si_netlist.specs.Reads.{words_now}
+use Rattle.si_words.specs.GateLines.{is_gate, literals_fault, gate_fault}
+use Rattle.si_words.specs.Reads.{words_now}
 use Rattle.si_netlist.proofs.GateLineLemmas.{gate_parts}
 use Rattle.si_netlist.proofs.gate_rows.gate_row.Goals as goal
 

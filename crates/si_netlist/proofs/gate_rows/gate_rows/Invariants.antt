@@ -1,6 +1,6 @@
 use Rattle.std.proofs.Common.{map}
 use Rattle.si_netlist.specs.Headers.{gate_in}
-use Rattle.si_netlist.specs.NetlistFault.{gate_fault}
+use Rattle.si_words.specs.GateLines.{gate_fault}
 use Rattle.si_netlist.specs.Parts.{gate_seen}
 use Rattle.si_netlist.proofs.LoopLemmas.{Doing}
 use Rattle.si_netlist.proofs.gate_rows.gate_rows.Given as goal

@@ -2,8 +2,8 @@ use Rattle.std.proofs.Common.{ap, ◌∙◌, ◌++◌, ◌∷◌, [], List}
 use Rattle.std.specs.List.{list_all}
 use Rattle.si_base.specs.declared.ids.Literal.{Literal}
 use Rattle.si_netlist.specs.NetlistValue.{cube_of}
-use Rattle.si_netlist.specs.Reads.{words_now}
-use Rattle.si_netlist.specs.Sums.{is_cube}
+use Rattle.si_words.specs.Reads.{words_now}
+use Rattle.si_words.specs.Sums.{is_cube}
 use Rattle.si_netlist.proofs.GateLineLemmas.{take_parts, part_form, part_order_of}
 use Rattle.si_netlist.proofs.gate_values.cubes_of.Goals as goal
 

@@ -1,7 +1,7 @@
 use Rattle.std.proofs.Common.{◌≡◌, take, map, codes}
 use Rattle.si_netlist.specs.NetlistValue.{cube_of}
-use Rattle.si_netlist.specs.Reads.{words_now, parts_now}
-use Rattle.si_netlist.specs.Sums.{parts_at}
+use Rattle.si_words.specs.Reads.{words_now, parts_now}
+use Rattle.si_words.specs.Sums.{parts_at}
 use Rattle.si_netlist.proofs.gate_values.cubes_of.Given as goal
 
 abbrev pub invariant-loop-part : goal.invariant-loop-part

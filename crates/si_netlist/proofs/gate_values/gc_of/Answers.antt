@@ -1,5 +1,5 @@
 use Rattle.std.proofs.Common.{codes, refl}
-use Rattle.si_netlist.specs.Reads.{words_now}
+use Rattle.si_words.specs.Reads.{words_now}
 use Rattle.si_netlist.proofs.OrderLemmas.{cut_good, sums_parts}
 use Rattle.si_netlist.proofs.gate_values.gc_of.Goals as goal
 

@@ -1,6 +1,6 @@
 use Rattle.std.proofs.Common.{◌≡◌, take, map}
 use Rattle.si_netlist.specs.NetlistValue.{literal_of}
-use Rattle.si_netlist.specs.Reads.{words_now}
+use Rattle.si_words.specs.Reads.{words_now}
 use Rattle.si_netlist.proofs.gate_values.literals_of.Given as goal
 
 abbrev pub invariant-loop-word : goal.invariant-loop-word

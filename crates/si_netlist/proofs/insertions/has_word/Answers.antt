@@ -2,7 +2,7 @@ use Rattle.std.proofs.Common.{rules, tests, ◌∙◌, List, ℕ, bytes_eq}
 use Rattle.std.proofs.lemmas.Iterator.{YieldsList-from_slice}
 use Rattle.std.proofs.lemmas.Iterator.Search.{any_from_yields_List}
 use Rattle.std.specs.Borrow.{Bor}
-use Rattle.si_netlist.proofs.SumWordLemmas.{list_any-map}
+use Rattle.si_words.proofs.SumWordLemmas.{list_any-map}
 use Rattle.si_netlist.proofs.insertions.has_word.Goals as goal
 
 pub returns : goal.returns

@@ -1,6 +1,6 @@
 use Rattle.std.proofs.Common.{ap, sym, ◌∙◌, List, ℕ, Bor}
 use Rattle.si_netlist.specs.NetlistFault.{is_insert_line}
-use Rattle.si_netlist.specs.Reads.{words_now}
+use Rattle.si_words.specs.Reads.{words_now}
 use Rattle.si_netlist.proofs.GateLineLemmas.{at_least_three}
 use Rattle.si_netlist.proofs.insertions.insert_row.Goals as goal
 

@@ -1,5 +1,5 @@
 use Rattle.std.proofs.Common.{ap, ◌∙◌, List, ℕ, ◌++◌, ◌∷◌, []}
-use Rattle.si_netlist.proofs.FirstFaultLemmas.{takes}
+use Rattle.si_words.proofs.FirstFaultLemmas.{takes}
 use Rattle.si_netlist.proofs.insertions.names_of.Goals as goal
 
 pub loop-word-preserved : goal.loop-word-preserved

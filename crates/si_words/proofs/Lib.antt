@@ -1,0 +1,4 @@
+pub mod FirstFaultLemmas
+pub mod PlaceLemmas
+pub mod RowLemmas
+pub mod SumWordLemmas

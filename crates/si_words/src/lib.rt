@@ -1,0 +1,9 @@
+//! The words, lists of names, lines and gate lines that the tool's own texts are made of.
+#![tactic(auto)]
+
+pub mod gate_lines;
+pub mod lists;
+pub mod rows;
+#[cfg(test)]
+mod tests;
+pub mod words;

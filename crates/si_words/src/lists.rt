@@ -1,0 +1,76 @@
+//! Lists of signals.
+
+ghost use Rattle.std.specs.Prelude.{◌≡◌, ℕ, List, [], ◌∷◌, ◌++◌, OnOk, IfErr, position, bytes_eq, false, ◌<◌, ◌≤◌, length};
+ghost use Rattle.si_base.specs.Faults.{first_after};
+ghost use Rattle.si_base.specs.Limits.{max_signals};
+ghost use Rattle.si_base.specs.TextFaults.{Tells};
+ghost use Rattle.si_base.specs.declared.fault.LineFault.TheVariants.{NoMemory};
+ghost use Rattle.si_words.specs.Names.{name_fault, stands_in};
+ghost use Rattle.si_words.specs.Reads.{words_now};
+
+use crate::words::is_signal_name;
+use si_base::fault::{LineFault, TextKind};
+use si_base::limits::MAX_SIGNALS;
+use si_base::names::Names;
+
+/// The place of a name, or `None` where it isn't there.
+pub fn place_of(names: &Names, name: &[u8]) -> Option<u32>
+    ensures { result ≡ position (λ n. bytes_eq name.now n) names.now }
+{
+    // The names are distinct, so that the place is the first.
+    let _count = names.len();
+    names.place(name)
+}
+
+/// Whether the name is there.
+pub fn has(names: &Names, name: &[u8]) -> bool
+    ensures { result ≡ stands_in names.now name.now }
+{
+    names.place(name).is_some()
+}
+
+/// Puts a new name last.
+fn push(names: &mut Names, name: &[u8]) -> Result<(), LineFault>
+    requires new { stands_in names.old name.now ≡ false }
+    requires room { length names.old < max_signals }
+    ensures ok { OnOk result (names.new ≡ names.old ++ name.now ∷ []) }
+    ensures err { IfErr result (λ e. e ≡ NoMemory) }
+    ensures few { length names.new ≤ max_signals }
+{
+    match names.add(name, MAX_SIGNALS as u32) {
+        Ok(_) => Ok(()),
+        Err(_) => Err(LineFault::NoMemory),
+    }
+}
+
+/// The fault of a name after these.
+fn name_kind(names: &Names, name: &[u8]) -> Option<TextKind>
+    ensures { result ≡ name_fault names.now name.now }
+{
+    if !is_signal_name(name) {
+        Some(TextKind::BadName)
+    } else if has(names, name) {
+        Some(TextKind::Repeated)
+    } else if names.len() as usize >= MAX_SIGNALS {
+        Some(TextKind::TooManySignals)
+    } else {
+        None
+    }
+}
+
+/// Puts names last, up to the first fault.
+///
+/// Fails with that fault: a word that is no signal name, is there already, or is one too many; and for want of memory.
+pub fn add_names(names: &mut Names, words: &[&[u8]]) -> Result<(), LineFault>
+    ensures fault { Tells result (first_after name_fault names.old (words_now words.now)) }
+    ensures value { OnOk result (names.new ≡ names.old ++ words_now words.now) }
+    ensures few { length names.old ≤ max_signals → length names.new ≤ max_signals }
+{
+    for word in words {
+        if let Some(kind) = name_kind(names, *word) {
+            return Err(LineFault::Kind(kind));
+        }
+        push(names, *word)?;
+    }
+    Ok(())
+}

@@ -1,0 +1,85 @@
+//! Words, lists of names, lines and gate lines, by examples.
+
+use crate::gate_lines::{cut_at, gate_kind, is_one, place_in};
+use crate::lists::{add_names, has, place_of};
+use crate::rows::{Rows, has_empty, is_nothing, names_row};
+use crate::words::{is_literal, is_name_byte, is_signal_name, literal_name};
+use si_base::fault::{TextFault, TextKind};
+use si_base::names::Names;
+use std::test::Fail;
+
+#[test]
+fn words(rt: HostRuntime) {
+    assert!(rt; is_name_byte(b'7') && !is_name_byte(b'+'));
+    assert!(rt; is_signal_name(b"_x1[0]") && !is_signal_name(b"1x") && !is_signal_name(b""));
+    assert!(rt; is_literal(b"x'") && is_literal(b"x") && !is_literal(b"x''"));
+    assert!(rt; literal_name(b"x'") == b"x".as_slice());
+    assert!(rt; is_nothing(b"") && !is_nothing(b"x"));
+}
+
+#[test]
+fn lines_of_names(rt: HostRuntime) -> Result<(), Fail> {
+    let alloc = rt.alloc();
+    let mut names = Names::new(alloc)?;
+    let mut rows = Rows::new(b".inputs a b\n.outputs b\nx  y\n.end");
+    names_row(alloc, &mut rows, b".inputs", &mut names)?;
+    assert!(rt; has(&names, b"b") && !has(&names, b"c"));
+    assert!(rt; place_of(&names, b"b") == Some(1) && place_in(&names, b"a'") == Some(0));
+    let repeated = names_row(alloc, &mut rows, b".outputs", &mut names).err();
+    assert!(rt;
+        matches!(
+            repeated,
+            Some(TextFault::At {
+                line: 2,
+                kind: TextKind::Repeated
+            })
+        )
+    );
+    assert!(rt; rows.number() == 3);
+    assert!(rt; has_empty(&rows.next_words(alloc)?));
+    let open = rows.next_words(alloc).err();
+    assert!(rt;
+        matches!(
+            open,
+            Some(TextFault::At {
+                line: 4,
+                kind: TextKind::NoEnd
+            })
+        )
+    );
+    assert!(rt;
+        matches!(
+            rows.finish(),
+            Err(TextFault::At {
+                line: 4,
+                kind: TextKind::BadLine
+            })
+        )
+    );
+    assert!(rt; Rows::new(b"").finish().is_ok());
+    Ok(())
+}
+
+#[test]
+fn gate_lines(rt: HostRuntime) -> Result<(), Fail> {
+    let mut names = Names::new(rt.alloc())?;
+    let listed = [b"a".as_slice(), b"b".as_slice(), b"c".as_slice()];
+    assert!(rt; add_names(&mut names, &listed).is_ok());
+    let mut rows = Rows::new(b"c gc a b' | a'\nc sum b a\nc sum d\n");
+    let good = rows.next_words(rt.alloc())?;
+    assert!(rt; gate_kind(&names, b"c", &good).is_none());
+    assert!(rt; matches!(gate_kind(&names, b"b", &good), Some(TextKind::BadLine)));
+    assert!(rt;
+        cut_at(b"|", &good).is_some_and(|(set, reset)| set.len() == 4 && is_one(b"a'", reset))
+    );
+    let unordered = rows.next_words(rt.alloc())?;
+    assert!(rt; matches!(gate_kind(&names, b"c", &unordered), Some(TextKind::BadLine)));
+    let undeclared = rows.next_words(rt.alloc())?;
+    assert!(rt;
+        matches!(
+            gate_kind(&names, b"c", &undeclared),
+            Some(TextKind::Undeclared)
+        )
+    );
+    Ok(())
+}
