@@ -3,3 +3,4 @@ pub mod DifferenceLemmas
 pub mod StepLemmas
 pub mod OutcomeLemmas
 pub mod ScheduleLemmas
+pub mod UniqueOutcome

@@ -2,6 +2,7 @@
 #![tactic(auto)]
 
 mod event_words;
+pub mod laws;
 mod lists;
 pub mod replay;
 pub mod schedule;
