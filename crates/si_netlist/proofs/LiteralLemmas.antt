@@ -9,7 +9,7 @@ use Rattle.si_base.specs.Bits.{bit}
 use Rattle.si_base.specs.Limits.{max_signals}
 use Rattle.si_base.specs.NetlistText.{literal_word, cube_words}
 use Rattle.si_cube.specs.Literals.{literals_from, literals_of}
-use Rattle.si_netlist.specs.Writing.{spaced}
+use Rattle.si_words.specs.Writing.{spaced}
 
 -- the words of a cube's literals from signal i on
 pub literals_left : List Signal → ℕ → ℕ → ℕ → List ℕ

@@ -13,22 +13,9 @@ use Rattle.si_base.specs.Words.{line, text_of}
 use Rattle.si_base.specs.Graph.{is_driven}
 use Rattle.si_base.specs.Netlist.{Sum, Gate, Insertion, Netlist}
 use Rattle.si_base.specs.NetlistText.{names_of, literal_word, more_cubes, gate_words, bits_from, word_if_any, insert_line, netlist_text}
-use Rattle.si_netlist.specs.Writing.{spaced, gate_lines}
-
--- what a call leaves where it succeeds, written in another way
-pub left_as : {A E : Type 0} (r : Result A E) (new a b : List ℕ) → a ≡ b → OnOk r (new ≡ a) → OnOk r (new ≡ b)
-left_as r new a b e left = let P : List ℕ → Type 0 = λ t. OnOk r (new ≡ t) in subst P e left
-
--- words with blanks between them are the first word and the others, each with a blank before it
-pub joined_words : (w : List ℕ) (ws : List (List ℕ)) → join_with_byte 32 (w ∷ ws) ≡ w ++ spaced ws
-joined_words w [] = sym (append-nil w)
-joined_words w (v ∷ ws) = ap (λ (t : List ℕ). w ++ 32 ∷ t) (joined_words v ws)
-
-regrouped : (text a b c : List ℕ) → ((text ++ a) ++ b) ++ c ≡ text ++ ((a ++ b) ++ c)
-regrouped text a b c = simp append_assoc
-
-pub whole_line : (text w : List ℕ) (ws : List (List ℕ)) → ((text ++ w) ++ spaced ws) ++ 10 ∷ [] ≡ text ++ line (w ∷ ws)
-whole_line text w ws = regrouped text w (spaced ws) (10 ∷ []) ∙ ap (λ (t : List ℕ). text ++ (t ++ 10 ∷ [])) (sym (joined_words w ws))
+use Rattle.si_netlist.specs.Writing.{gate_lines}
+use Rattle.si_words.proofs.WritingLemmas.{left_as, joined_words, whole_line}
+use Rattle.si_words.specs.Writing.{spaced}
 
 pub start_word : (text : List ℕ) (signals : List Signal) (code : ℕ) → (length signals == 0) ≡ false
     → (text ++ 32 ∷ []) ++ bits_from 0 signals code ≡ text ++ spaced (word_if_any (bits_from 0 signals code))

@@ -1,14 +1,10 @@
 -- Parts of a netlist's text.
-use Rattle.std.specs.Prelude.{ℕ, List, ◌∷◌, map, filter, flat_map}
+use Rattle.std.specs.Prelude.{ℕ, List, ◌∷◌, map, filter}
 use Rattle.std.specs.List.{zip}
 use Rattle.si_base.specs.declared.graph.Signal.{Signal}
 use Rattle.si_base.specs.Graph.{is_driven}
 use Rattle.si_base.specs.Netlist.{Gate}
 use Rattle.si_base.specs.NetlistText.{gate_words}
-
--- words, each with a blank before it
-abbrev pub spaced : List (List ℕ) → List ℕ
-spaced words = flat_map (λ w. 32 ∷ w) words
 
 -- the lines of the gates, each with the next of the non-inputs among these signals
 abbrev pub gate_lines : List Signal → List Signal → List Gate → List (List (List ℕ))

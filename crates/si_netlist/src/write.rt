@@ -4,15 +4,15 @@ ghost use Rattle.std.specs.Prelude.{◌≡◌, ℕ, ◌<◌, ◌≤◌, List, []
 ghost use Rattle.si_base.specs.Words.{line, text_of};
 ghost use Rattle.si_base.specs.Limits.{max_signals};
 ghost use Rattle.si_base.specs.NetlistText.{netlist_text, same_kind as is_same_kind, names_of, word_if_any, bits_from, insert_line};
-ghost use Rattle.si_netlist.specs.Writing.{spaced};
+ghost use Rattle.si_words.specs.Writing.{spaced};
 
 use crate::gate::Insert;
 use crate::netlist::Netlist;
 use crate::write_gates::add_gate_lines;
-use crate::write_sums::add_word;
 use si_base::graph::{SigKind, Signal};
 use si_base::ids::{Code, NoMemory, Sig};
 use si_base::text::{Name, Text};
+use si_words::writing::add_word;
 use std::alloc::Global;
 
 /// The text of a netlist. It fails only for want of memory.

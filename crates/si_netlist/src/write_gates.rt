@@ -4,14 +4,16 @@ ghost use Rattle.std.specs.Prelude.{◌≡◌, ℕ, List, ◌∷◌, ◌++◌, O
 ghost use Rattle.si_base.specs.Words.{line, text_of};
 ghost use Rattle.si_base.specs.NetlistText.{gate_words};
 ghost use Rattle.si_netlist.specs.Parts.{gate_seen};
-ghost use Rattle.si_netlist.specs.Writing.{spaced, gate_lines};
+ghost use Rattle.si_netlist.specs.Writing.{gate_lines};
+ghost use Rattle.si_words.specs.Writing.{spaced};
 
 use crate::gate::Gate;
 use crate::netlist::is_driven;
-use crate::write_sums::{add_literals, add_sum, add_word};
+use crate::write_sums::{add_literals, add_sum};
 use si_base::graph::Signal;
 use si_base::ids::NoMemory;
 use si_base::text::Text;
+use si_words::writing::add_word;
 
 /// Adds a line for each gate and the signal that it drives.
 pub fn add_gate_lines(text: &mut Text, signals: &[Signal], gates: &[Gate]) -> Result<(), NoMemory>

@@ -2,7 +2,7 @@
 
 ghost use Rattle.std.specs.Prelude.{◌≡◌, ℕ, ◌≤◌, List, [], ◌∷◌, ◌++◌, OnOk, length, map, if◌then◌else◌};
 ghost use Rattle.si_base.specs.NetlistText.{name_of, cube_words, literal_word, more_cubes, sum_words};
-ghost use Rattle.si_netlist.specs.Writing.{spaced};
+ghost use Rattle.si_words.specs.Writing.{spaced};
 
 use si_base::graph::Signal;
 use si_base::ids::{Literal, NoMemory, Sig};
@@ -10,14 +10,7 @@ use si_base::limits::MAX_SIGNALS;
 use si_base::text::Text;
 use si_cube::cube::Cube;
 use si_cube::sum::Sum;
-
-/// Adds a blank and the word.
-pub fn add_word(text: &mut Text, word: &[u8]) -> Result<(), NoMemory>
-    ensures { OnOk result (text.new ≡ text.old ++ 32 ∷ word.now) }
-{
-    text.add(b" ")?;
-    text.add(word)
-}
+use si_words::writing::add_word;
 
 /// Adds the words of the sum.
 pub fn add_sum(text: &mut Text, signals: &[Signal], sum: &Sum) -> Result<(), NoMemory>

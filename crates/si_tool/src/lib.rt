@@ -3,7 +3,6 @@
 
 pub mod command;
 pub mod full;
-mod line;
 mod output;
 pub mod refusals;
 pub mod replayed;

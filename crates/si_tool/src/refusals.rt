@@ -1,18 +1,20 @@
 //! Refusals, and the line that each puts on `err`.
 
-ghost use Rattle.std.specs.Prelude.{◌≡◌, ◌⊎◌, ◌≤◌, IfOk};
-ghost use Rattle.si_io.specs.Outside.{Appends, AppendsPrefix};
+ghost use Rattle.std.specs.Prelude.{◌≡◌, ◌≤◌, ◌∷◌, IfOk};
+ghost use Rattle.si_base.specs.Words.{line};
+ghost use Rattle.si_io.specs.Outside.{AppendsPrefix};
 ghost use Rattle.si_tool.specs.Refused.{PutsRefusal};
 ghost use Rattle.si_tool.specs.Refusal.{refusal_line, seen, status_of, verdict_word as word_of_verdict};
 ghost use Rattle.si_tool.specs.Refusal as refusal;
+ghost use Rattle.si_words.specs.Reads.{words_now};
 
-use crate::line::line_of;
 use crate::status::Status;
 use si_base::fault::TextKind;
 use si_base::ids::NoMemory;
 use si_base::text::{Name, Text};
 use si_io::sink::{PutFault, Sink};
 use si_system::verdict::Verdict;
+use si_words::writing::add_line;
 use std::alloc::Global;
 
 /// Why a command was not done, with what its line shows. Files have their names on the command line.
@@ -106,6 +108,15 @@ impl Refusal<'_> {
             } => differs(alloc, *step, signal.bytes(), *verdict),
         }
     }
+}
+
+/// The line of these words.
+fn line_of(alloc: Global, first: &[u8], others: &[&[u8]]) -> Result<Text, NoMemory>
+    ensures { IfOk result (λ text. text ≡ line (first.now ∷ words_now others.now)) }
+{
+    let mut text = Text::copy_of(alloc, b"")?;
+    add_line(&mut text, first, others)?;
+    Ok(text)
 }
 
 fn bad_text(alloc: Global, file: &str, line: u64, kind: TextKind) -> Result<Text, NoMemory>

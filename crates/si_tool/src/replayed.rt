@@ -16,7 +16,7 @@ ghost use Rattle.si_tool.specs.Loads.{Departs, RefusesGraph, RefusesText, Refuse
 ghost use Rattle.si_tool.specs.Refusal.{seen};
 ghost use Rattle.si_tool.specs.Replayed.{IsReplay, replay_text, shown_signal as signal_at_fault};
 
-use crate::line::add_line;
+
 use crate::refusals::Refusal;
 use crate::sound::{NotProper, proper_of};
 use si_base::fault::{TextFault, TextKind};
@@ -31,6 +31,7 @@ use si_system::replay::{Outcome, replay};
 use si_system::schedule::read_schedule;
 use si_system::system::ListsDiffer;
 use si_system::verdict::Verdict;
+use si_words::writing::add_line;
 use std::alloc::Global;
 
 /// A text, with the name of its file.

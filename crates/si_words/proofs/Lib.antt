@@ -2,3 +2,4 @@ pub mod FirstFaultLemmas
 pub mod PlaceLemmas
 pub mod RowLemmas
 pub mod SumWordLemmas
+pub mod WritingLemmas

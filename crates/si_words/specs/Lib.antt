@@ -5,3 +5,4 @@ pub mod Lines
 pub mod GateLines
 pub mod Rows
 pub mod RowValues
+pub mod Writing

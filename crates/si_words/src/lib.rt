@@ -7,3 +7,4 @@ pub mod rows;
 #[cfg(test)]
 mod tests;
 pub mod words;
+pub mod writing;

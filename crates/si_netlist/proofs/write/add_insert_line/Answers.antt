@@ -1,6 +1,7 @@
 use Rattle.std.proofs.Common.{◌≡◌, ap, ◌∙◌}
 use Rattle.si_base.specs.Netlist.{Insertion}
-use Rattle.si_netlist.proofs.WritingLemmas.{left_as, insert_by_calls}
+use Rattle.si_netlist.proofs.WritingLemmas.{insert_by_calls}
+use Rattle.si_words.proofs.WritingLemmas.{left_as}
 use Rattle.si_netlist.proofs.write.add_insert_line.Goals as goal
 
 pub returns : goal.returns

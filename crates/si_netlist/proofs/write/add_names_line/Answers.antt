@@ -1,4 +1,4 @@
-use Rattle.si_netlist.proofs.WritingLemmas.{left_as, whole_line}
+use Rattle.si_words.proofs.WritingLemmas.{left_as, whole_line}
 use Rattle.si_netlist.proofs.write.add_names_line.Goals as goal
 
 pub returns : goal.returns

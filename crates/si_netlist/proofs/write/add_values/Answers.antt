@@ -1,4 +1,5 @@
-use Rattle.si_netlist.proofs.WritingLemmas.{left_as, start_word}
+use Rattle.si_netlist.proofs.WritingLemmas.{start_word}
+use Rattle.si_words.proofs.WritingLemmas.{left_as}
 use Rattle.std.proofs.Common.{sym}
 use Rattle.si_netlist.proofs.write.add_values.Goals as goal
 

@@ -1,6 +1,6 @@
 use Rattle.std.proofs.Common.{◌≡◌, ◌≢◌, ℕ, ◌<◌, ◌^◌, List, ◌++◌, ap, arith}
-use Rattle.si_netlist.specs.Writing.{spaced}
-use Rattle.si_netlist.proofs.WritingLemmas.{left_as}
+use Rattle.si_words.specs.Writing.{spaced}
+use Rattle.si_words.proofs.WritingLemmas.{left_as}
 use Rattle.si_netlist.proofs.LiteralLemmas.{cube_none, cube_some}
 use Rattle.si_netlist.proofs.write_sums.add_cube.Goals as goal
 

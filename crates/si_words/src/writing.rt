@@ -1,0 +1,36 @@
+//! Lines of words, as the tool writes them.
+
+ghost use Rattle.std.specs.Prelude.{◌≡◌, ◌∷◌, ◌++◌, OnOk};
+ghost use Rattle.si_base.specs.Words.{line};
+ghost use Rattle.si_words.specs.Reads.{words_now};
+ghost use Rattle.si_words.specs.Writing.{spaced};
+
+use si_base::ids::NoMemory;
+use si_base::text::Text;
+
+/// Adds a blank and the word.
+pub fn add_word(text: &mut Text, word: &[u8]) -> Result<(), NoMemory>
+    ensures { OnOk result (text.new ≡ text.old ++ 32 ∷ word.now) }
+{
+    text.add(b" ")?;
+    text.add(word)
+}
+
+/// Adds the words, each with a blank before it.
+fn add_words(text: &mut Text, words: &[&[u8]]) -> Result<(), NoMemory>
+    ensures { OnOk result (text.new ≡ text.old ++ spaced (words_now words.now)) }
+{
+    for word in words {
+        add_word(text, *word)?;
+    }
+    Ok(())
+}
+
+/// Adds the line of these words: one blank between them, and the line end.
+pub fn add_line(text: &mut Text, first: &[u8], others: &[&[u8]]) -> Result<(), NoMemory>
+    ensures { OnOk result (text.new ≡ text.old ++ line (first.now ∷ words_now others.now)) }
+{
+    text.add(first)?;
+    add_words(text, others)?;
+    text.add(b"\n")
+}
