@@ -1,5 +1,5 @@
 -- What the cause of a refusal says of its status.
-use Rattle.std.proofs.Common.{◌≡◌, ◌≢◌, ℕ, List, [], ◌∷◌, Option, Some, None, IfSome, refl, sym, subst, ◌∙◌, String, Global, Any, Contains}
+use Rattle.std.proofs.Common.{◌≡◌, ◌≢◌, ℕ, List, [], ◌∷◌, Option, Some, None, IfSome, refl, sym, ◌∙◌, String, Global, Any, Contains}
 use Rattle.si_io.specs.Outside.{Rose}
 use Rattle.si_tool.specs.Answer.{Deserves, DeserveRefusal}
 use Rattle.si_tool.specs.Command.{Asked, AsksNothing, files_of, Asking}
@@ -9,18 +9,20 @@ use Rattle.si_tool.specs.Refusal as refusal
 use Rattle.si_tool.specs.declared.status.Status.{Status}
 use Rattle.si_tool.specs.declared.status.Status.TheVariants as status
 
+pub some_map : (o : Option (List ℕ)) (P Q : List ℕ → Type 0) → ((text : List ℕ) → P text → Q text) → IfSome o P → IfSome o Q
+some_map None P Q f is = tt
+some_map (Some text) P Q f is = f text is
+
 -- what is so of told contents stays so
 pub told_map : (content : List ℕ → Option (List ℕ)) (files : List (List ℕ)) (P Q : List (List ℕ) → Type 0) → ((texts : List (List ℕ)) → P texts → Q texts) → Told content files P → Told content files Q
 told_map content [] P Q f told = f [] told
-told_map content (file ∷ files) P Q f told = go (content file) told
-  where
-    go : (o : Option (List ℕ)) → IfSome o (λ text. Told content files (λ texts. P (text ∷ texts))) → IfSome o (λ text. Told content files (λ texts. Q (text ∷ texts)))
-    go None _ = tt
-    go (Some text) is = told_map content files (λ texts. P (text ∷ texts)) (λ texts. Q (text ∷ texts)) (λ texts. f (text ∷ texts)) is
+told_map content (file ∷ files) P Q f told =
+    some_map (content file) (λ text. Told content files (λ texts. P (text ∷ texts))) (λ text. Told content files (λ texts. Q (text ∷ texts)))
+    (λ text is. told_map content files (λ texts. P (text ∷ texts)) (λ texts. Q (text ∷ texts)) (λ texts. f (text ∷ texts)) is) told
 
--- words that ask for one of the commands' files whose faults have risen
+-- what holds of a file holds of any of the files
 any_of : (files : List (List ℕ)) (file : List ℕ) (P : List ℕ → Type 0) → Contains files file → P file → Any P files
-any_of files file P (k, within, is) holds = (k, file, within, let Q : List ℕ → Type 0 = λ f. P f in subst Q (sym is) holds)
+any_of files file P (k, within, is) holds = (k, file, within, is, holds)
 
 -- ---- by the refusal
 usage_by : (words : List (String Global)) (content : List ℕ → Option (List ℕ)) (before now : List ℕ → ℕ) (W : Type 0) (r : Refusal) → status_of r ≡ status.Usage → IsCause words content before now W r → AsksNothing words

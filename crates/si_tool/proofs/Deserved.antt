@@ -46,17 +46,17 @@ one_result Passed status_at s t one other = one.status_is ∙ ap status_at (one_
 
 -- ---- the checks of a synthesis: length, form, properness, conflicts
 abbrev PassedSynth : List ℕ → ℕ → Type 0
-PassedSynth text 0 = IsShort text
-PassedSynth text 1 = IsStrictText text
-PassedSynth text 2 = (given : Sg) × IsGiven text given × IsProper given.graph
-PassedSynth text 3 = IsSolvable text
+PassedSynth text zero = IsShort text
+PassedSynth text (suc zero) = IsStrictText text
+PassedSynth text (suc (suc zero)) = (given : Sg) × IsGiven text given × IsProper given.graph
+PassedSynth text (suc (suc (suc zero))) = IsSolvable text
 PassedSynth text (suc (suc (suc (suc k)))) = ⊥
 
 abbrev synth_status : ℕ → Status
-synth_status 0 = status.TooLong
-synth_status 1 = status.BadText
-synth_status 2 = status.Improper
-synth_status 3 = status.Unresolved
+synth_status zero = status.TooLong
+synth_status (suc zero) = status.BadText
+synth_status (suc (suc zero)) = status.Improper
+synth_status (suc (suc (suc zero))) = status.Unresolved
 synth_status (suc (suc (suc (suc k)))) = status.Done
 
 strict_of_given : (text : List ℕ) (given : Sg) → IsGiven text given → IsStrictText text
@@ -86,21 +86,21 @@ synth_refused name text (TooLong file) s d is = record { place = 0; stops = reco
 synth_refused name text (BadText file line kind) s d is = record { place = 1; stops = record { before = go; here = d.1.3 }; status_is = is }
   where
     go : (j : ℕ) → j < 1 → PassedSynth text j
-    go 0 below = d.0.0
+    go zero below = d.0.0
     go (suc j) below = absurd (omega arith)
 synth_refused name text (ListsDiffer netlist place) s d is = absurd d.1
 synth_refused name text Improper s d is = record { place = 2; stops = record { before = go; here = λ passed. proper_not_improper text passed.0 d.1.given passed.1 d.1.given_is passed.2 d.1.improper }; status_is = is }
   where
     go : (j : ℕ) → j < 2 → PassedSynth text j
-    go 0 below = d.0.0
-    go 1 below = strict_of_given text d.1.given d.1.given_is
+    go zero below = d.0.0
+    go (suc zero) below = strict_of_given text d.1.given d.1.given_is
     go (suc (suc j)) below = absurd (omega arith)
 synth_refused name text Unresolved s d is = record { place = 3; stops = record { before = go; here = λ passed. solvable_not_unresolved text passed d.1 }; status_is = is }
   where
     go : (j : ℕ) → j < 3 → PassedSynth text j
-    go 0 below = d.0.0
-    go 1 below = strict_of_given text d.1.given d.1.sound.given_is
-    go 2 below = (d.1.given, d.1.sound.given_is, d.1.sound.proper)
+    go zero below = d.0.0
+    go (suc zero) below = strict_of_given text d.1.given d.1.sound.given_is
+    go (suc (suc zero)) below = (d.1.given, d.1.sound.given_is, d.1.sound.proper)
     go (suc (suc (suc j))) below = absurd (omega arith)
 synth_refused name text (Differs step signal verdict) s d is = absurd d.1
 
@@ -108,10 +108,10 @@ synth_done : (text : List ℕ) (s : Status) → IsShort text → IsSolvable text
 synth_done text s short can is = record { place = 4; stops = record { before = go; here = λ none. none }; status_is = is }
   where
     go : (j : ℕ) → j < 4 → PassedSynth text j
-    go 0 below = short
-    go 1 below = strict_of_given text can.given can.sound.given_is
-    go 2 below = (can.given, can.sound.given_is, can.sound.proper)
-    go 3 below = can
+    go zero below = short
+    go (suc zero) below = strict_of_given text can.given can.sound.given_is
+    go (suc (suc zero)) below = (can.given, can.sound.given_is, can.sound.proper)
+    go (suc (suc (suc zero))) below = can
     go (suc (suc (suc (suc j)))) below = absurd (omega arith)
 
 synth_deserved : (name text : List ℕ) (s : Status) → Deserve (AsksSynth name) (text ∷ []) s → StopsWith (PassedSynth text) synth_status s
@@ -131,19 +131,19 @@ record AreFor (graph netlist : List ℕ) : Type 0 where
   is_for : IsFor coded (netlist_of netlist)
 
 abbrev PassedReplay : List ℕ → List ℕ → List ℕ → ℕ → Type 0
-PassedReplay graph netlist schedule 0 = IsShort graph × IsShort netlist × IsShort schedule
-PassedReplay graph netlist schedule 1 = AreTexts graph netlist schedule
-PassedReplay graph netlist schedule 2 = (given : Sg) × IsGiven graph given × IsProper given.graph
-PassedReplay graph netlist schedule 3 = AreFor graph netlist
-PassedReplay graph netlist schedule 4 = (values : ℕ) × (state : ℕ) × HaveOutcome graph netlist schedule (outcome.Done values state)
+PassedReplay graph netlist schedule zero = IsShort graph × IsShort netlist × IsShort schedule
+PassedReplay graph netlist schedule (suc zero) = AreTexts graph netlist schedule
+PassedReplay graph netlist schedule (suc (suc zero)) = (given : Sg) × IsGiven graph given × IsProper given.graph
+PassedReplay graph netlist schedule (suc (suc (suc zero))) = AreFor graph netlist
+PassedReplay graph netlist schedule (suc (suc (suc (suc zero)))) = (values : ℕ) × (state : ℕ) × HaveOutcome graph netlist schedule (outcome.Done values state)
 PassedReplay graph netlist schedule (suc (suc (suc (suc (suc k))))) = ⊥
 
 abbrev replay_status : ℕ → Status
-replay_status 0 = status.TooLong
-replay_status 1 = status.BadText
-replay_status 2 = status.Improper
-replay_status 3 = status.BadText
-replay_status 4 = status.Differs
+replay_status zero = status.TooLong
+replay_status (suc zero) = status.BadText
+replay_status (suc (suc zero)) = status.Improper
+replay_status (suc (suc (suc zero))) = status.BadText
+replay_status (suc (suc (suc (suc zero)))) = status.Differs
 replay_status (suc (suc (suc (suc (suc k))))) = status.Done
 
 all_short : (n1 n2 n3 graph netlist schedule file : List ℕ) → IsShort graph × IsShort netlist × IsShort schedule → Deserves (AsksReplay n1 n2 n3) (graph ∷ netlist ∷ schedule ∷ []) (TooLong file) → ⊥
@@ -191,31 +191,31 @@ replay_refused n1 n2 n3 graph netlist schedule (TooLong file) s d is =
 replay_refused n1 n2 n3 graph netlist schedule (BadText file line kind) s d is = record { place = 1; stops = record { before = go; here = no_fault n1 n2 n3 graph netlist schedule file line kind d.1 }; status_is = is }
   where
     go : (j : ℕ) → j < 1 → PassedReplay graph netlist schedule j
-    go 0 below = (d.0.0, d.0.1.0, d.0.1.1.0)
+    go zero below = (d.0.0, d.0.1.0, d.0.1.1.0)
     go (suc j) below = absurd (omega arith)
 replay_refused n1 n2 n3 graph netlist schedule (ListsDiffer file place) s d is = record { place = 3; stops = record { before = go; here = λ are. for_no_difference graph netlist schedule place are d.1.1 }; status_is = is }
   where
     go : (j : ℕ) → j < 3 → PassedReplay graph netlist schedule j
-    go 0 below = (d.0.0, d.0.1.0, d.0.1.1.0)
-    go 1 below = texts_read graph netlist schedule d.1.1.given d.1.1.sound.read
-    go 2 below = proper_given graph netlist schedule d.1.1.given d.1.1.coded d.1.1.sound
+    go zero below = (d.0.0, d.0.1.0, d.0.1.1.0)
+    go (suc zero) below = texts_read graph netlist schedule d.1.1.given d.1.1.sound.read
+    go (suc (suc zero)) below = proper_given graph netlist schedule d.1.1.given d.1.1.coded d.1.1.sound
     go (suc (suc (suc j))) below = absurd (omega arith)
 replay_refused n1 n2 n3 graph netlist schedule Improper s d is =
     record { place = 2; stops = record { before = go; here = λ passed. proper_not_improper graph passed.0 d.1.given passed.1 d.1.read.given_is passed.2 d.1.improper }; status_is = is }
   where
     go : (j : ℕ) → j < 2 → PassedReplay graph netlist schedule j
-    go 0 below = (d.0.0, d.0.1.0, d.0.1.1.0)
-    go 1 below = texts_read graph netlist schedule d.1.given d.1.read
+    go zero below = (d.0.0, d.0.1.0, d.0.1.1.0)
+    go (suc zero) below = texts_read graph netlist schedule d.1.given d.1.read
     go (suc (suc j)) below = absurd (omega arith)
 replay_refused n1 n2 n3 graph netlist schedule Unresolved s d is = absurd d.1
 replay_refused n1 n2 n3 graph netlist schedule (Differs step signal verdict) s d is =
     record { place = 4; stops = record { before = go; here = λ done. absurd (let same = one_have graph netlist schedule _ _ done.2 d.1.outcome_is in cc) }; status_is = is }
   where
     go : (j : ℕ) → j < 4 → PassedReplay graph netlist schedule j
-    go 0 below = (d.0.0, d.0.1.0, d.0.1.1.0)
-    go 1 below = texts_read graph netlist schedule d.1.outcome_is.given d.1.outcome_is.sound.read
-    go 2 below = proper_given graph netlist schedule d.1.outcome_is.given d.1.outcome_is.coded d.1.outcome_is.sound
-    go 3 below = for_of graph netlist schedule _ d.1.outcome_is
+    go zero below = (d.0.0, d.0.1.0, d.0.1.1.0)
+    go (suc zero) below = texts_read graph netlist schedule d.1.outcome_is.given d.1.outcome_is.sound.read
+    go (suc (suc zero)) below = proper_given graph netlist schedule d.1.outcome_is.given d.1.outcome_is.coded d.1.outcome_is.sound
+    go (suc (suc (suc zero))) below = for_of graph netlist schedule _ d.1.outcome_is
     go (suc (suc (suc (suc j)))) below = absurd (omega arith)
 
 replay_done : (graph netlist schedule : List ℕ) (s : Status) → IsShort graph × IsShort netlist × IsShort schedule → (values state : ℕ) → HaveOutcome graph netlist schedule (outcome.Done values state)
@@ -223,11 +223,11 @@ replay_done : (graph netlist schedule : List ℕ) (s : Status) → IsShort graph
 replay_done graph netlist schedule s short values state have is = record { place = 5; stops = record { before = go; here = λ none. none }; status_is = is }
   where
     go : (j : ℕ) → j < 5 → PassedReplay graph netlist schedule j
-    go 0 below = short
-    go 1 below = texts_read graph netlist schedule have.given have.sound.read
-    go 2 below = proper_given graph netlist schedule have.given have.coded have.sound
-    go 3 below = for_of graph netlist schedule _ have
-    go 4 below = (values, state, have)
+    go zero below = short
+    go (suc zero) below = texts_read graph netlist schedule have.given have.sound.read
+    go (suc (suc zero)) below = proper_given graph netlist schedule have.given have.coded have.sound
+    go (suc (suc (suc zero))) below = for_of graph netlist schedule _ have
+    go (suc (suc (suc (suc zero)))) below = (values, state, have)
     go (suc (suc (suc (suc (suc j))))) below = absurd (omega arith)
 
 replay_deserved : (n1 n2 n3 graph netlist schedule : List ℕ) (s : Status) → Deserve (AsksReplay n1 n2 n3) (graph ∷ netlist ∷ schedule ∷ []) s → StopsWith (PassedReplay graph netlist schedule) replay_status s

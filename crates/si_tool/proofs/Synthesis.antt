@@ -13,7 +13,7 @@ use Rattle.si_base.specs.NetlistText.{netlist_text}
 use Rattle.si_base.specs.Behaviour.{Implements}
 use Rattle.si_base.specs.StrictText.{IsGiven, Sg, signals_of}
 use Rattle.si_base.proofs.FullSums.{full_implements}
-use Rattle.si_tool.specs.Answer.{IsSynthesis}
+use Rattle.si_tool.specs.Synthesis.{IsSynthesis}
 
 -- no signal of the list is inserted
 abbrev pub NoneInserted : List Signal → Type 0

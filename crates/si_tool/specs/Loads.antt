@@ -1,14 +1,19 @@
 -- What the refusal of a part of a command shows.
-use Rattle.std.specs.Prelude.{◌≡◌, ℕ, ◌<◌, List, length, Option, Some, IfSome}
+use Rattle.std.specs.Prelude.{◌≡◌, ℕ, ◌<◌, List, length, Option, Some, IfSome, slice_get}
 use Rattle.si_base.specs.Limits.{max_text}
+use Rattle.si_base.specs.NetlistText.{name_of}
+use Rattle.si_base.specs.declared.graph.Signal.{Signal}
 use Rattle.si_base.specs.declared.fault.TextKind.{TextKind}
 use Rattle.si_base.specs.declared.fault.TextKind.TheVariants.{BadLine}
 use Rattle.si_io.specs.Outside.{Rose}
 use Rattle.si_strict.specs.Read.{IsBadText}
+use Rattle.si_system.specs.declared.replay.Outcome.{Outcome}
+use Rattle.si_system.specs.declared.replay.Outcome.TheVariants as outcome
 use Rattle.si_system.specs.declared.verdict.Verdict.{Verdict}
 use Rattle.si_tool.specs.Answer.{Refuse}
 use Rattle.si_tool.specs.Command.{Asked}
 use Rattle.si_tool.specs.Refusal.{Refusal, NoMemory, ReadFault, TooLong, BadText, Differs}
+use Rattle.si_tool.specs.Replayed.{replay_text, shown_signal}
 
 -- a load of the file failed, or its content is longer than the limit
 abbrev pub RefusesLoad : List ℕ → Option (List ℕ) → ℕ → ℕ → Refusal → Type 0
@@ -39,3 +44,19 @@ abbrev pub Departs : ℕ → List ℕ → Verdict → Refusal → Type 0
 Departs step signal verdict NoMemory = Unit {0}
 Departs step signal verdict (Differs n name v) = (n ≡ step) × (name ≡ signal) × (v ≡ verdict)
 Departs step signal verdict refusal = ⊥
+
+-- an outcome that ends at a state has a name for it
+abbrev pub HasName : List (List ℕ) → Outcome → Type 0
+HasName states (outcome.Done values state) = state < length states
+HasName states (outcome.Differs step event verdict) = Unit {0}
+
+-- the text tells the end of a schedule of so many events
+abbrev pub TellsEnd : List Signal → ℕ → List (List ℕ) → Outcome → List ℕ → Type 0
+TellsEnd signals events states (outcome.Done values state) text = (name : List ℕ) × (slice_get states state ≡ Some name) × (text ≡ replay_text events signals values name)
+TellsEnd signals events states (outcome.Differs step event verdict) text = ⊥
+
+-- the refusal tells the event that departs from the graph
+abbrev pub TellsDeparture : List Signal → Outcome → Refusal → Type 0
+TellsDeparture signals (outcome.Done values state) NoMemory = Unit {0}
+TellsDeparture signals (outcome.Done values state) refusal = ⊥
+TellsDeparture signals (outcome.Differs step event verdict) refusal = Departs step (name_of signals (shown_signal event verdict)) verdict refusal

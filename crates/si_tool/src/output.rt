@@ -24,8 +24,8 @@ pub fn output<'w, H: Shelf>(
     command: Command<'w>,
     shelf: &mut H,
 ) -> Result<Text, Refusal<'w>>
-    ensures ok { IfOk result (λ text. Told (H.content shelf.old) (files_of (asked_now command)) (λ texts. IsOutput (asked_now command) texts text)) }
-    ensures err { IfErr result (λ r. MayRefuse (H.content shelf.old) (H.faults shelf.old) (H.faults shelf.new) (asked_now command) (seen r)) }
+    ensures ok { IfOk result (λ text. Told (H.content shelf.old) (files_of (asked_now command.entry)) (λ texts. IsOutput (asked_now command.entry) texts text)) }
+    ensures err { IfErr result (λ r. MayRefuse (H.content shelf.old) (H.faults shelf.old) (H.faults shelf.new) (asked_now command.entry) (seen r)) }
     ensures later { (n : List ℕ) → H.faults shelf.old n ≤ H.faults shelf.new n }
     ensures same { (n : List ℕ) → H.content shelf.new n ≡ H.content shelf.old n }
 {

@@ -1,6 +1,6 @@
 //! Refusals, and the line that each puts on `err`.
 
-ghost use Rattle.std.specs.Prelude.{◌≡◌, ◌≤◌, ◌∷◌, IfOk};
+ghost use Rattle.std.specs.Prelude.{◌≡◌, ◌≤◌, [], ◌∷◌, IfOk};
 ghost use Rattle.si_base.specs.Words.{line};
 ghost use Rattle.si_io.specs.Outside.{AppendsPrefix};
 ghost use Rattle.si_tool.specs.Refused.{PutsRefusal};
@@ -119,14 +119,27 @@ fn line_of(alloc: Global, first: &[u8], others: &[&[u8]]) -> Result<Text, NoMemo
     Ok(text)
 }
 
+/// The line of four words.
+fn line_of_four<'a>(
+    alloc: Global,
+    first: &[u8],
+    second: &'a [u8],
+    third: &'a [u8],
+    fourth: &'a [u8],
+) -> Result<Text, NoMemory>
+    ensures { IfOk result (λ text. text ≡ line (first.now ∷ second.now ∷ third.now ∷ fourth.now ∷ [])) }
+{
+    line_of(alloc, first, &[second, third, fourth])
+}
+
 fn bad_text(alloc: Global, file: &str, line: u64, kind: TextKind) -> Result<Text, NoMemory>
     ensures { IfOk result (λ text. text ≡ refusal_line (refusal.BadText file.now line kind)) }
 {
     let Ok(line) = line.to_string(alloc) else {
         return Err(NoMemory);
     };
-    let words = [file.as_bytes(), line.as_bytes(), kind.name().as_bytes()];
-    line_of(alloc, b"badtext", &words)
+    let (file, kind) = (file.as_bytes(), kind.name().as_bytes());
+    line_of_four(alloc, b"badtext", file, line.as_bytes(), kind)
 }
 
 fn lists_differ(alloc: Global, netlist: &str, place: u32) -> Result<Text, NoMemory>
@@ -144,8 +157,8 @@ fn differs(alloc: Global, step: u64, signal: &[u8], verdict: Verdict) -> Result<
     let Ok(step) = step.to_string(alloc) else {
         return Err(NoMemory);
     };
-    let words = [step.as_bytes(), signal, verdict_word(verdict)];
-    line_of(alloc, b"differs", &words)
+    let verdict = verdict_word(verdict);
+    line_of_four(alloc, b"differs", step.as_bytes(), signal, verdict)
 }
 
 /// The word under which a verdict prints.

@@ -12,7 +12,7 @@ ghost use Rattle.si_netlist.specs.NetlistValue.{netlist_of as spelled_netlist};
 ghost use Rattle.si_strict.specs.Read.{given_sg};
 ghost use Rattle.si_system.specs.ScheduleText.{signal_names, schedule_fault, schedule_of};
 ghost use Rattle.si_tool.specs.Command.{AsksReplay};
-ghost use Rattle.si_tool.specs.Loads.{Departs, RefusesGraph, RefusesText, RefusesTexts};
+ghost use Rattle.si_tool.specs.Loads.{Departs, HasName, RefusesGraph, RefusesText, RefusesTexts, TellsDeparture, TellsEnd};
 ghost use Rattle.si_tool.specs.Refusal.{seen};
 ghost use Rattle.si_tool.specs.Replayed.{IsReplay, replay_text, shown_signal as signal_at_fault};
 
@@ -22,6 +22,7 @@ use crate::sound::{NotProper, proper_of};
 use si_base::fault::{TextFault, TextKind};
 use si_base::graph::Signal;
 use si_base::ids::{Code, Event, NoMemory, Sig};
+use si_base::names::Names;
 use si_base::text::{Name, Text};
 use si_netlist::netlist::Netlist;
 use si_netlist::reader::read_netlist;
@@ -49,8 +50,8 @@ pub fn replay_texts<'w>(
     netlist: Loaded<'w, '_>,
     schedule: Loaded<'w, '_>,
 ) -> Result<Text, Refusal<'w>>
-    ensures ok { IfOk result (IsReplay graph.text.now netlist.text.now schedule.text.now) }
-    ensures err { IfErr result (λ r. RefusesTexts (AsksReplay graph.file.now netlist.file.now schedule.file.now) (graph.text.now ∷ netlist.text.now ∷ schedule.text.now ∷ []) (seen r)) }
+    ensures ok { IfOk result (IsReplay graph.entry.text.now netlist.entry.text.now schedule.entry.text.now) }
+    ensures err { IfErr result (λ r. RefusesTexts (AsksReplay graph.entry.file.now netlist.entry.file.now schedule.entry.file.now) (graph.entry.text.now ∷ netlist.entry.text.now ∷ schedule.entry.text.now ∷ []) (seen r)) }
 {
     let Sg {
         model: _,
@@ -65,15 +66,7 @@ pub fn replay_texts<'w>(
         Err(NotProper::Improper) => return Err(Refusal::Improper),
     };
     match replay(proper.coded(), &circuit, &events) {
-        Ok(Outcome::Done { values, state }) => {
-            let name = states.get(state.0);
-            Ok(end_text(alloc, events.len(), &circuit, values, name)?)
-        }
-        Ok(Outcome::Differs {
-            step,
-            event,
-            verdict,
-        }) => Err(departure(alloc, &circuit, step, event, verdict)),
+        Ok(outcome) => told(alloc, &outcome, &circuit, events.len(), &states),
         Err(ListsDiffer { place }) => Err(Refusal::ListsDiffer {
             netlist: netlist.file,
             place,
@@ -81,11 +74,37 @@ pub fn replay_texts<'w>(
     }
 }
 
+/// What is told of an outcome after so many events: the end of the schedule, or the event that departs from the graph.
+fn told(
+    alloc: Global,
+    outcome: &Outcome,
+    netlist: &Netlist,
+    events: usize,
+    states: &Names,
+) -> Result<Text, Refusal<'static>>
+    requires few { length netlist.now.signals ≤ max_signals }
+    requires state { HasName states.now outcome.now }
+    ensures ok { IfOk result (TellsEnd netlist.now.signals events states.now outcome.now) }
+    ensures err { IfErr result (λ r. TellsDeparture netlist.now.signals outcome.now (seen r)) }
+{
+    match outcome {
+        Outcome::Done { values, state } => {
+            let name = states.get(state.0);
+            Ok(end_text(alloc, events, netlist, *values, name)?)
+        }
+        Outcome::Differs {
+            step,
+            event,
+            verdict,
+        } => Err(departure(alloc, netlist, *step, event, verdict)),
+    }
+}
+
 /// The graph that the text gives.
 fn graph_in<'w>(alloc: Global, input: Loaded<'w, '_>) -> Result<Sg, Refusal<'w>>
-    ensures given { IfOk result (λ g. IsGiven input.text.now (given_sg g)) }
+    ensures given { IfOk result (λ g. IsGiven input.entry.text.now (given_sg g)) }
     ensures connected { IfOk result (λ g. IsConnected g.graph) }
-    ensures err { IfErr result (λ r. RefusesGraph input.file.now input.text.now (seen r)) }
+    ensures err { IfErr result (λ r. RefusesGraph input.entry.file.now input.entry.text.now (seen r)) }
 {
     match read_strict(alloc, input.text) {
         Ok(given) => Ok(given),
@@ -100,8 +119,8 @@ fn graph_in<'w>(alloc: Global, input: Loaded<'w, '_>) -> Result<Sg, Refusal<'w>>
 
 /// The netlist that the text spells.
 fn netlist_in<'w>(alloc: Global, input: Loaded<'w, '_>) -> Result<Netlist, Refusal<'w>>
-    ensures ok { IfOk result (λ n. (netlist_fault input.text.now ≡ None) × (n ≡ spelled_netlist input.text.now)) }
-    ensures err { IfErr result (λ r. RefusesText input.file.now (netlist_fault input.text.now) (seen r)) }
+    ensures ok { IfOk result (λ n. (netlist_fault input.entry.text.now ≡ None) × (n ≡ spelled_netlist input.entry.text.now)) }
+    ensures err { IfErr result (λ r. RefusesText input.entry.file.now (netlist_fault input.entry.text.now) (seen r)) }
 {
     match read_netlist(alloc, input.text) {
         Ok(netlist) => Ok(netlist),
@@ -115,9 +134,9 @@ fn schedule_in<'w>(
     input: Loaded<'w, '_>,
     netlist: &Netlist,
 ) -> Result<Vec<Event>, Refusal<'w>>
-    ensures ok { IfOk result (λ v. (schedule_fault (signal_names netlist.now.signals) input.text.now ≡ None) × (v.items ≡ schedule_of (signal_names netlist.now.signals) input.text.now)) }
+    ensures ok { IfOk result (λ v. (schedule_fault (signal_names netlist.now.signals) input.entry.text.now ≡ None) × (v.items ≡ schedule_of (signal_names netlist.now.signals) input.entry.text.now)) }
     ensures within { IfOk result (λ v. All (λ e. e.sig < length netlist.now.signals) v.items) }
-    ensures err { IfErr result (λ r. RefusesText input.file.now (schedule_fault (signal_names netlist.now.signals) input.text.now) (seen r)) }
+    ensures err { IfErr result (λ r. RefusesText input.entry.file.now (schedule_fault (signal_names netlist.now.signals) input.entry.text.now) (seen r)) }
 {
     match read_schedule(alloc, input.text, netlist) {
         Ok(events) => Ok(events),
@@ -140,31 +159,32 @@ fn departure(
     alloc: Global,
     netlist: &Netlist,
     step: u64,
-    event: Event,
-    verdict: Verdict,
+    event: &Event,
+    verdict: &Verdict,
 ) -> Refusal<'static>
-    ensures { Departs step (name_of netlist.now.signals (signal_at_fault event verdict)) verdict (seen result) }
+    ensures { Departs step (name_of netlist.now.signals (signal_at_fault event.now verdict.now)) verdict.now (seen result) }
 {
-    let name = name_in(netlist.signals(), shown_signal(event, verdict));
+    let shown = shown_signal(event, verdict);
+    let name = name_in(netlist.signals(), shown);
     match Name::copy_of(alloc, name) {
         Ok(signal) => Refusal::Differs {
             step,
             signal,
-            verdict,
+            verdict: *verdict,
         },
         Err(_) => Refusal::NoMemory,
     }
 }
 
 /// The signal whose excitation was lost, or else the event's.
-fn shown_signal(event: Event, verdict: Verdict) -> Sig
-    ensures { result ≡ signal_at_fault event verdict }
+fn shown_signal(event: &Event, verdict: &Verdict) -> Sig
+    ensures { result ≡ signal_at_fault event.now verdict.now }
 {
     match verdict {
         Verdict::Done => event.sig,
         Verdict::Blocked => event.sig,
-        Verdict::Astray { sig } => sig,
-        Verdict::Lost { sig } => sig,
+        Verdict::Astray { sig } => *sig,
+        Verdict::Lost { sig } => *sig,
     }
 }
 

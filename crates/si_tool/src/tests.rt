@@ -1,14 +1,20 @@
 //! The top call on worked examples, and where the outside fails.
 
-ghost use Rattle.std.specs.Prelude.{IfOk};
+ghost use Rattle.std.specs.Prelude.{◌≡◌, IfOk};
 ghost use Rattle.si_io.specs.Memory.{AreDistinct};
 
 use crate::run::run;
 use crate::status::Status;
 use crate::sure::run_in_memory;
-use si_base::ids::NoMemory;
+use si_base::ids::{Code, NoMemory};
 use si_base::text::{Name, Text};
+use si_graph::coded::Coded;
 use si_io::memory::{MemFile, MemShelf, MemSink, SinkFail, SureShelf, SureSink};
+use si_netlist::reader::read_netlist;
+use si_strict::read::read_strict;
+use si_system::schedule::read_schedule;
+use si_system::system::System;
+use si_system::verdict::Verdict;
 use std::alloc::{AllocError, Global};
 use std::process::Abort;
 use std::test::Fail;
@@ -115,34 +121,127 @@ s0 z+ s2
 .end
 ";
 
-fn words(alloc: Global, style: &str) -> Result<Vec<String>, AllocError> {
-    let mut words = Vec::new(alloc);
-    for word in ["synth", "graph.sg", style] {
-        words.push(String::from_str(alloc, word)?)?;
-    }
-    Ok(words)
+/// The read cycle of a VME bus controller.
+const VME: &[u8] = b".model vme
+.inputs DSr LDTACK
+.outputs D DTACK LDS
+.state graph
+s0 DSr+ s1
+s1 LDS+ s2
+s2 LDTACK+ s3
+s3 D+ s4
+s4 DTACK+ s5
+s5 DSr- s6
+s6 D- s7
+s7 DTACK- s8
+s7 LDS- s9
+s8 DSr+ s10
+s8 LDS- s11
+s9 DTACK- s11
+s9 LDTACK- s12
+s11 DSr+ s13
+s11 LDTACK- s0
+s12 DTACK- s0
+s10 LDS- s13
+s13 LDTACK- s1
+.marking {s0}
+.end
+";
+
+/// Its netlist with one inserted signal.
+const VME_NETLIST: &[u8] = b".model vme
+.inputs DSr LDTACK
+.outputs D DTACK LDS
+.internal
+.inserted csc0
+.start 000001
+.insert csc0 up s6 down s1
+.gates
+D sum LDTACK csc0'
+DTACK sum D
+LDS sum csc0' + D
+csc0 sum DSr' + LDTACK csc0
+.end
+";
+
+const VME_CYCLE: &[u8] = b"DSr+ csc0- LDS+ LDTACK+ D+ DTACK+ DSr- csc0+ D-";
+
+/// A gate with fewer literals than the sum of full cubes.
+const MAJORITY: &[u8] = b"c sum a b + b c + a c";
+
+/// The texts of a command's files.
+#[derive(Clone, Copy)]
+struct Texts<'t> {
+    graph: &'t [u8],
+    netlist: &'t [u8],
+    schedule: &'t [u8],
 }
 
-fn files(alloc: Global, text: &[u8]) -> Result<Vec<MemFile>, NoMemory>
+fn only(graph: &[u8]) -> Texts<'_> {
+    Texts {
+        graph,
+        netlist: b"",
+        schedule: b"",
+    }
+}
+
+fn words(alloc: Global, words: &[&str]) -> Result<Vec<String>, AllocError> {
+    let mut list = Vec::new(alloc);
+    for word in words {
+        list.push(String::from_str(alloc, word)?)?;
+    }
+    Ok(list)
+}
+
+fn file(alloc: Global, name: &[u8], text: &[u8]) -> Result<MemFile, NoMemory>
+    ensures { IfOk result (λ file. file.name ≡ name.now) }
+{
+    let name = Name::copy_of(alloc, name)?;
+    let content = Text::copy_of(alloc, text)?;
+    Ok(MemFile { name, content })
+}
+
+fn files(alloc: Global, texts: Texts<'_>) -> Result<Vec<MemFile>, NoMemory>
     ensures { IfOk result (λ files. AreDistinct files.items) }
 {
-    let name = Name::copy_of(alloc, b"graph.sg")?;
-    let content = Text::copy_of(alloc, text)?;
-    Ok(vec![in alloc; MemFile { name, content }]?)
+    let graph = file(alloc, b"graph.sg", texts.graph)?;
+    let netlist = file(alloc, b"c.net", texts.netlist)?;
+    let schedule = file(alloc, b"steps", texts.schedule)?;
+    Ok(vec![in alloc; graph, netlist, schedule]?)
 }
+
+/// The netlist of the C-element with other inputs and another gate.
+fn netlist_with(alloc: Global, inputs: &[u8], gate: &[u8]) -> Result<Text, NoMemory> {
+    let mut text = Text::copy_of(alloc, b".model c2\n.inputs ")?;
+    text.add(inputs)?;
+    text.add(b"\n.outputs c\n.internal\n.inserted\n.start 000\n.gates\n")?;
+    text.add(gate)?;
+    text.add(b"\n.end\n")?;
+    Ok(text)
+}
+
+const SYNTH: [&str; 3] = ["synth", "graph.sg", "complex"];
+
+const REPLAY: [&str; 4] = ["replay", "graph.sg", "c.net", "steps"];
 
 /// Runs over files that are told, and compares the status and all that was put.
 fn expect(
     rt: &impl Abort,
     alloc: Global,
-    style: &str,
-    text: &[u8],
+    command: &[&str],
+    texts: Texts<'_>,
     want: (Status, &[u8], &[u8]),
 ) -> Result<(), Fail> {
-    let mut shelf = SureShelf::new(files(alloc, text)?);
+    let mut shelf = SureShelf::new(files(alloc, texts)?);
     let mut out = SureSink::new(alloc);
     let mut err = SureSink::new(alloc);
-    let status = run_in_memory(alloc, &words(alloc, style)?, &mut shelf, &mut out, &mut err);
+    let status = run_in_memory(
+        alloc,
+        &words(alloc, command)?,
+        &mut shelf,
+        &mut out,
+        &mut err,
+    );
     assert_eq!(rt; status, want.0);
     assert_eq!(rt; out.bytes(), want.1);
     assert_eq!(rt; err.bytes(), want.2);
@@ -152,81 +251,157 @@ fn expect(
 #[test]
 fn netlists_of_full_cubes(rt: HostRuntime) -> Result<(), Fail> {
     let alloc = rt.alloc();
-    expect(
-        &rt,
-        alloc,
-        "complex",
-        C_ELEMENT,
-        (Status::Done, C_ELEMENT_NETLIST, b""),
-    )?;
-    expect(
-        &rt,
-        alloc,
-        "complex",
-        EQUAL_CODES,
-        (Status::Done, EQUAL_CODES_NETLIST, b""),
-    )?;
-    expect(
-        &rt,
-        alloc,
-        "complex",
-        INPUTS_ALONE,
-        (Status::Done, INPUTS_ALONE_NETLIST, b""),
-    )
+    let rows: [(&[u8], &[u8]); 3] = [
+        (C_ELEMENT, C_ELEMENT_NETLIST),
+        (EQUAL_CODES, EQUAL_CODES_NETLIST),
+        (INPUTS_ALONE, INPUTS_ALONE_NETLIST),
+    ];
+    for (graph, netlist) in rows {
+        expect(&rt, alloc, &SYNTH, only(graph), (Status::Done, netlist, b""))?;
+    }
+    Ok(())
 }
 
 #[test]
 fn refusals(rt: HostRuntime) -> Result<(), Fail> {
     let alloc = rt.alloc();
-    expect(
-        &rt,
-        alloc,
-        "complex",
-        CONFLICT,
-        (Status::Unresolved, b"", b"unresolved\n"),
-    )?;
-    expect(
-        &rt,
-        alloc,
-        "complex",
-        DISABLED_OUTPUT,
-        (Status::Improper, b"", b"improper\n"),
-    )?;
-    expect(
-        &rt,
-        alloc,
-        "complex",
-        b"",
-        (Status::BadText, b"", b"badtext graph.sg 0 BadLine\n"),
-    )?;
-    expect(
-        &rt,
-        alloc,
-        "gc",
-        C_ELEMENT,
-        (Status::Usage, b"", b"usage\n"),
-    )
+    let rows: [(&[u8], Status, &[u8]); 3] = [
+        (CONFLICT, Status::Unresolved, b"unresolved\n"),
+        (DISABLED_OUTPUT, Status::Improper, b"improper\n"),
+        (b"", Status::BadText, b"badtext graph.sg 0 BadLine\n"),
+    ];
+    for (graph, status, line) in rows {
+        expect(&rt, alloc, &SYNTH, only(graph), (status, b"", line))?;
+    }
+    let usage: (Status, &[u8], &[u8]) = (Status::Usage, b"", b"usage\n");
+    expect(&rt, alloc, &["synth", "graph.sg", "gc"], only(C_ELEMENT), usage)?;
+    expect(&rt, alloc, &["replay", "graph.sg", "c.net"], only(C_ELEMENT), usage)
+}
+
+#[test]
+fn ends_of_replays(rt: HostRuntime) -> Result<(), Fail> {
+    let alloc = rt.alloc();
+    let cycle = Texts {
+        graph: VME,
+        netlist: VME_NETLIST,
+        schedule: VME_CYCLE,
+    };
+    let end = b"done 9\nvalues 010111\nstate s7\n".as_slice();
+    expect(&rt, alloc, &REPLAY, cycle, (Status::Done, end, b""))?;
+    let majority = netlist_with(alloc, b"a b", MAJORITY)?;
+    let none = Texts {
+        graph: C_ELEMENT,
+        netlist: majority.bytes(),
+        schedule: b"",
+    };
+    let start = b"done 0\nvalues 000\nstate s0\n".as_slice();
+    expect(&rt, alloc, &REPLAY, none, (Status::Done, start, b""))?;
+    let inputs = Texts {
+        graph: INPUTS_ALONE,
+        netlist: INPUTS_ALONE_NETLIST,
+        schedule: b"a+ b+ # both are up\n\nb-/2",
+    };
+    let after = b"done 3\nvalues 10\nstate s1\n".as_slice();
+    expect(&rt, alloc, &REPLAY, inputs, (Status::Done, after, b""))
+}
+
+#[test]
+fn replays_that_differ(rt: HostRuntime) -> Result<(), Fail> {
+    let alloc = rt.alloc();
+    let rows: [(&[u8], &[u8], &[u8]); 3] = [
+        (b"c sum a", b"a+ c+", b"differs 2 c astray\n"),
+        (b"c sum a b'", b"a+ b+", b"differs 2 c lost\n"),
+        (MAJORITY, b"a+ c+", b"differs 2 c blocked\n"),
+    ];
+    for (gate, schedule, line) in rows {
+        let netlist = netlist_with(alloc, b"a b", gate)?;
+        let texts = Texts {
+            graph: C_ELEMENT,
+            netlist: netlist.bytes(),
+            schedule,
+        };
+        expect(&rt, alloc, &REPLAY, texts, (Status::Differs, b"", line))?;
+    }
+    Ok(())
+}
+
+#[test]
+fn faults_of_the_texts_of_a_replay(rt: HostRuntime) -> Result<(), Fail> {
+    let alloc = rt.alloc();
+    let good = netlist_with(alloc, b"a b", MAJORITY)?;
+    let exchanged = netlist_with(alloc, b"b a", b"c sum b a + b c + a c")?;
+    let (good, exchanged) = (good.bytes(), exchanged.bytes());
+    let rows: [(&[u8], &[u8], &[u8], &[u8]); 8] = [
+        (b"", b"", b"a*", b"badtext graph.sg 0 BadLine\n"),
+        (C_ELEMENT, b"", b"a*", b"badtext c.net 1 NoEnd\n"),
+        (C_ELEMENT, b".model c2\n.inputs a b a\n", b"a*", b"badtext c.net 2 Repeated\n"),
+        (C_ELEMENT, good, b"a*", b"badtext steps 1 BadEvent\n"),
+        (C_ELEMENT, good, b"a~", b"badtext steps 1 Toggle\n"),
+        (C_ELEMENT, good, b"d+", b"badtext steps 1 Undeclared\n"),
+        (C_ELEMENT, good, b"a+\n\0", b"badtext steps 2 BadByte\n"),
+        (C_ELEMENT, exchanged, b"a+", b"lists c.net 1\n"),
+    ];
+    for (graph, netlist, schedule, line) in rows {
+        let texts = Texts {
+            graph,
+            netlist,
+            schedule,
+        };
+        expect(&rt, alloc, &REPLAY, texts, (Status::BadText, b"", line))?;
+    }
+    let improper = Texts {
+        graph: DISABLED_OUTPUT,
+        netlist: good,
+        schedule: b"",
+    };
+    expect(&rt, alloc, &REPLAY, improper, (Status::Improper, b"", b"improper\n"))
+}
+
+#[test]
+fn an_event_that_is_no_step_changes_nothing(rt: HostRuntime) -> Result<(), Fail> {
+    let alloc = rt.alloc();
+    let given = read_strict(alloc, C_ELEMENT).ok().ok_or("no graph")?;
+    let graph = Coded::make(alloc, given.graph).ok().ok_or("no codes")?;
+    let text = netlist_with(alloc, b"a b", MAJORITY)?;
+    let netlist = read_netlist(alloc, text.bytes())?;
+    let events = read_schedule(alloc, b"c+", &netlist)?;
+    let mut system = System::start(&graph, &netlist).ok().ok_or("no system")?;
+    for event in &events {
+        assert_eq!(rt; system.fire(*event), Verdict::Blocked);
+    }
+    assert_eq!(rt; events.len(), 1);
+    assert_eq!(rt; system.values(), Code(0));
+    Ok(())
 }
 
 #[test]
 fn faults_of_the_outside(rt: HostRuntime) -> Result<(), Fail> {
     let alloc = rt.alloc();
-    let words = words(alloc, "complex")?;
+    let synth = words(alloc, &SYNTH)?;
+    let replay = words(alloc, &REPLAY)?;
     let mut err = SureSink::new(alloc);
 
-    let mut shelf = MemShelf::new(files(alloc, C_ELEMENT)?, vec![in alloc; 0]?);
+    let fails = vec![in alloc; 0, 4]?;
+    let mut shelf = MemShelf::new(files(alloc, only(C_ELEMENT))?, fails);
     let mut out = MemSink::new(alloc, vec![in alloc; SinkFail { call: 0, taken: 10 }]?);
     assert_eq!(rt;
-        run(alloc, &words, &mut shelf, &mut out, &mut err),
+        run(alloc, &synth, &mut shelf, &mut out, &mut err),
         Status::ReadFault
     );
     assert_eq!(rt; out.bytes().len(), 0);
     assert_eq!(rt;
-        run(alloc, &words, &mut shelf, &mut out, &mut err),
+        run(alloc, &synth, &mut shelf, &mut out, &mut err),
         Status::WriteFault
     );
     assert_eq!(rt; out.bytes(), b".model c2\n".as_slice());
-    assert_eq!(rt; err.bytes(), b"readfault graph.sg\nwritefault\n".as_slice());
+    assert_eq!(rt;
+        run(alloc, &replay, &mut shelf, &mut out, &mut err),
+        Status::ReadFault
+    );
+    assert_eq!(rt;
+        err.bytes(),
+        b"readfault graph.sg\nwritefault\nreadfault steps\n".as_slice()
+    );
     Ok(())
 }
 

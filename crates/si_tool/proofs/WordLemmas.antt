@@ -1,0 +1,19 @@
+-- Three words, and four.
+use Rattle.std.proofs.Common.{◌≡◌, ◌<◌, ◌≤◌, List, [], ◌∷◌, length, get_or, String, string_bytes, Global, arith}
+use Rattle.si_tool.specs.Command.{words_of}
+
+pub three_words : (words : List (String Global)) (a b c : String Global) → 3 ≤ length words → length words < 4 → a ≡ get_or words 0 a → b ≡ get_or words 1 b → c ≡ get_or words 2 c → words_of words ≡ string_bytes a ∷ string_bytes b ∷ string_bytes c ∷ []
+three_words [] a b c least most p q r = absurd (omega arith)
+three_words (x ∷ []) a b c least most p q r = absurd (omega arith)
+three_words (x ∷ y ∷ []) a b c least most p q r = absurd (omega arith)
+three_words (x ∷ y ∷ z ∷ []) a b c least most p q r = cc
+three_words (x ∷ y ∷ z ∷ u ∷ us) a b c least most p q r = absurd (omega arith)
+
+pub four_words : (words : List (String Global)) (a b c d : String Global) → 4 ≤ length words → length words < 5 → a ≡ get_or words 0 a → b ≡ get_or words 1 b → c ≡ get_or words 2 c → d ≡ get_or words 3 d
+    → words_of words ≡ string_bytes a ∷ string_bytes b ∷ string_bytes c ∷ string_bytes d ∷ []
+four_words [] a b c d least most p q r s = absurd (omega arith)
+four_words (x ∷ []) a b c d least most p q r s = absurd (omega arith)
+four_words (x ∷ y ∷ []) a b c d least most p q r s = absurd (omega arith)
+four_words (x ∷ y ∷ z ∷ []) a b c d least most p q r s = absurd (omega arith)
+four_words (x ∷ y ∷ z ∷ u ∷ []) a b c d least most p q r s = cc
+four_words (x ∷ y ∷ z ∷ u ∷ v ∷ us) a b c d least most p q r s = absurd (omega arith)
