@@ -22,6 +22,7 @@ use si_base::limits::{MAX_ARCS_READ, MAX_SIGNALS, MAX_STATES_READ};
 use si_base::names::{AddFault, Names};
 use si_base::text::Name;
 use si_graph::graph::Graph;
+use si_words::words::is_signal_name;
 use std::alloc::Global;
 
 /// A graph with a name for each state, not yet cut to its reachable states.
@@ -195,16 +196,6 @@ fn is_model_name(word: &[u8]) -> bool
     !word.is_empty() && are_word_bytes(word)
 }
 
-/// Whether the word is a signal name.
-fn is_signal_name(word: &[u8]) -> bool
-    ensures { result ≡ words.is_signal_name word.now }
-{
-    match word.split_first() {
-        Some((first, rest)) => is_letter(*first) && are_name_bytes(rest),
-        None => false,
-    }
-}
-
 /// Whether the word is a state name.
 fn is_state_name(word: &[u8]) -> bool
     ensures { IsTrue result ↔ IsStateName word.now }
@@ -221,33 +212,6 @@ fn are_word_bytes(bytes: &[u8]) -> bool
     ensures { result ≡ list_all words.is_word_byte bytes.now }
 {
     bytes.iter().all(|b| is_word_byte(*b))
-}
-
-/// Whether a signal name may have each byte behind its first.
-fn are_name_bytes(bytes: &[u8]) -> bool
-    ensures { result ≡ list_all words.is_name_byte bytes.now }
-{
-    bytes.iter().all(|b| is_name_byte(*b))
-}
-
-/// Whether the byte is a letter or `_`.
-fn is_letter(b: u8) -> bool
-    ensures { result ≡ words.is_letter b }
-{
-    b.is_ascii_uppercase() || b.is_ascii_lowercase() || b == b'_'
-}
-
-/// Whether a signal name may have the byte behind its first.
-fn is_name_byte(b: u8) -> bool
-    ensures { result ≡ words.is_name_byte b }
-{
-    is_letter(b)
-        || b.is_ascii_digit()
-        || b == b'.'
-        || b == b'['
-        || b == b']'
-        || b == b'<'
-        || b == b'>'
 }
 
 /// Whether the byte may stand in a word.
