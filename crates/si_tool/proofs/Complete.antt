@@ -1,5 +1,6 @@
 -- The texts of a command deserve one status, so told texts get the one that they deserve.
-use Rattle.std.proofs.Common.{◌≡◌, ◌≢◌, ℕ, List, [], ◌∷◌, Option, Some, IfSome, refl, sym, ap, subst, ◌∙◌, inl, inr, String, Global}
+use Rattle.std.proofs.Common.{◌≡◌, ◌≢◌, ℕ, List, [], ◌∷◌, Option, Some, IfSome, refl, sym, ap, subst, ◌∙◌, arith, ◌⊎◌, inl, inr, String, Global}
+use Rattle.si_io.specs.Outside.{Rose}
 use Rattle.si_tool.specs.Answer.{AreShort, Answers, CanBeDone, Deserve, DeserveRefusal, IsOutput}
 use Rattle.si_tool.specs.Command.{Asked, AsksSynth, AsksReplay, Asks, files_of}
 use Rattle.si_tool.specs.Ending.{Told, AreTold, AskingTold, Outputs, ReadRose, Refuses, Ends, AsDeserved, WithoutMemory, ByReadFault, ByWriteFault}
@@ -79,3 +80,16 @@ complete words content before now W Unresolved eb en eo ew old new refused done 
 complete words content before now W Unmapped eb en eo ew old new refused done asked texts status asks are deserved = absurd (mapped_refused words content before now W Unmapped eb en eo ew refused refl)
 complete words content before now W Differs eb en eo ew old new refused done asked texts status asks are deserved =
     refused_as words content _ W Differs asked texts status asks are deserved (texts_refused words content before now W Differs Differs eb en eo ew refused (λ e. cc) ((λ e. cc), (λ e. cc), (λ e. cc), (λ e. cc)) refl)
+
+-- ---- where no count of faults can rise
+never_rose : Rose 0 0 → ⊥
+never_rose rose = omega arith
+
+no_read_fault : (words : List (String Global)) → ReadRose words (λ _. 0) (λ _. 0) → ⊥
+no_read_fault words rose = never_rose rose.holds.4
+
+pub without_faults : (words : List (String Global)) (status result : Status) → Ends status result (ReadRose words (λ _. 0) (λ _. 0)) (Rose 0 0) → (result ≡ status) ⊎ (result ≡ NoMemory)
+without_faults words status result (AsDeserved is) = inl is
+without_faults words status result (WithoutMemory is) = inr is
+without_faults words status result (ByReadFault is rose) = absurd (no_read_fault words rose)
+without_faults words status result (ByWriteFault is rose) = absurd (never_rose rose)

@@ -1,5 +1,5 @@
 -- From the loads of a command's files to what their told texts deserve.
-use Rattle.std.proofs.Common.{◌≡◌, ℕ, ◌+◌, ◌-◌, ◌^◌, ◌<◌, ◌≤◌, min, List, [], ◌∷◌, length, Option, Some, None, IfSome, refl, sym, ap, subst, ◌∙◌, arith, inl, inr, lit<, Contains, option_map, ◌++◌, take}
+use Rattle.std.proofs.Common.{◌≡◌, ℕ, ◌+◌, ◌-◌, ◌^◌, ◌<◌, ◌≤◌, min, List, [], ◌∷◌, length, Option, Some, None, IfSome, refl, sym, ap, subst, ◌∙◌, arith, inl, inr, lit<, Contains, option_map, ◌++◌, take, Result, Err, IfErr}
 use Rattle.std.proofs.lemmas.List.{append-nil}
 use Rattle.si_base.specs.Limits.{max_text}
 use Rattle.si_base.specs.declared.fault.TextKind.{TextKind}
@@ -9,9 +9,10 @@ use Rattle.si_tool.specs.Command.{Asked, AsksSynth, AsksReplay, files_of}
 use Rattle.si_tool.proofs.Causes.{some_map, told_map}
 use Rattle.si_tool.specs.Ending.{Told, MayRefuse}
 use Rattle.si_tool.specs.Loads.{RefusesLoad, RefusesTexts}
-use Rattle.si_tool.specs.Refusal.{Refusal, NoMemory, Usage, ReadFault, WriteFault, TooLong, BadText, ListsDiffer, Improper, Unresolved, Differs, file_shown}
+use Rattle.si_tool.specs.Refusal.{Refusal, NoMemory, Usage, ReadFault, WriteFault, TooLong, BadText, ListsDiffer, Improper, Unresolved, Differs, file_shown, seen}
 use Rattle.si_tool.specs.Replayed.{HasTextFault, OfGraph, OfNetlist, OfSchedule, IsReplay}
 use Rattle.si_tool.specs.Synthesis.{IsSynthesis}
+use Rattle.si_tool.specs.declared.refusals.Refusal.{Refusal as RefusalMade}
 
 -- where the content is told, these are its bytes, and it is within the limit
 abbrev pub IsLoaded : Option (List ℕ) → List ℕ → Type 0
@@ -144,3 +145,13 @@ same_bytes (Some bytes) = ap Some (append-nil bytes)
 
 pub nothing_put : (old new : Option (List ℕ)) (piece : List ℕ) → new ≡ old → Appends old (take 0 piece) new
 nothing_put old new piece same = same ∙ sym (same_bytes old)
+
+-- ---- what a call hands on
+pub handed_on : {X : Type 0} (r : Result X RefusalMade) (x e : RefusalMade) (P : Refusal → Type 0) → r ≡ Err x → x ≡ e → P (seen e) → IfErr r (λ f. P (seen f))
+handed_on r x e P is from holds = rw (is, from) holds
+
+pub loaded_before : (o told : Option (List ℕ)) (bytes : List ℕ) → o ≡ told → IsLoaded o bytes → IsLoaded told bytes
+loaded_before o told bytes same loaded = let P : Option (List ℕ) → Type 0 = λ x. IsLoaded x bytes in subst P same loaded
+
+pub loaded_as : (o : Option (List ℕ)) (bytes slice : List ℕ) → slice ≡ bytes → IsLoaded o bytes → IsLoaded o slice
+loaded_as o bytes slice same loaded = let P : List ℕ → Type 0 = λ x. IsLoaded o x in subst P (sym same) loaded

@@ -86,10 +86,6 @@ schedule_due g n s a b c given net Improper is netlist due = absurd due
 schedule_due g n s a b c given net Unresolved is netlist due = absurd due
 schedule_due g n s a b c given net (Differs step signal verdict) is netlist due = absurd due
 
--- a call's refusal is handed on
-pub handed_on : {X : Type 0} (r : Result X RefusalMade) (x e : RefusalMade) (P : Refusal → Type 0) → r ≡ Err x → x ≡ e → P (seen e) → IfErr r (λ f. P (seen f))
-handed_on r x e P is from holds = rw (is, from) holds
-
 -- a proper graph with its codes is sound
 pub is_sound : (a : List ℕ) (given : Sg) (p : CodedGraph) → IsGiven a given → IsCoded p → p.graph ≡ given.graph → IsProper p.graph → IsSound a given p
 is_sound a given p is coded same proper = record { given_is = is; coded_is = coded; same_graph = same; proper = subst (λ (g : StateGraph). IsProper g) same proper }
@@ -129,6 +125,7 @@ have_difference a b c given p k net place read sound same netlist difference = r
 -- the text of the end
 is_end : (a b c : List ℕ) (given : Sg) (p k : CodedGraph) (net : Netlist) (events : List Event) (o : Outcome) (text : List ℕ) → AreRead a b c given → IsSound a given p → k ≡ p → net ≡ netlist_of b
     → events ≡ schedule_of (signal_names net.signals) c → IsFor k net → IsOutcome k.graph net (start k.graph net) events o → TellsEnd net.signals (length events) given.states o text → IsReplay a b c text
+unfolding have_outcome
 is_end a b c given p k net events (outcome.Done values state) text read sound same netlist are is_for out tells =
     record {
       values = values;

@@ -10,7 +10,7 @@ ghost use Rattle.si_tool.specs.Refusal.{seen};
 
 use crate::command::Command;
 use crate::refusals::Refusal;
-use crate::replayed::{Loaded, replay_texts};
+use crate::replayed::replay_texts;
 use crate::synth::{NoNetlist, synth};
 use si_base::fault::TextKind;
 use si_base::limits::MAX_TEXT;
@@ -99,19 +99,14 @@ fn replay_output<'w, H: Shelf>(
     let graph_text = load(alloc, graph, shelf)?;
     let netlist_text = load(alloc, netlist, shelf)?;
     let schedule_text = load(alloc, schedule, shelf)?;
-    replay_texts(
+    let text = replay_texts(
         alloc,
-        Loaded {
-            file: graph,
-            text: &graph_text,
-        },
-        Loaded {
-            file: netlist,
-            text: &netlist_text,
-        },
-        Loaded {
-            file: schedule,
-            text: &schedule_text,
-        },
-    )
+        graph,
+        graph_text.as_slice(),
+        netlist,
+        netlist_text.as_slice(),
+        schedule,
+        schedule_text.as_slice(),
+    )?;
+    Ok(text)
 }

@@ -35,31 +35,27 @@ use si_system::verdict::Verdict;
 use si_words::writing::add_line;
 use std::alloc::Global;
 
-/// A text, with the name of its file.
-#[derive(Clone, Copy)]
-pub struct Loaded<'w, 'a> {
-    pub file: &'w str,
-    pub text: &'a [u8],
-}
-
-/// Where the schedule ends, over the netlist beside the graph; or why it doesn't: the first fault of the texts in their
+/// Where the schedule ends, over the netlist beside the graph, of texts with the names of their files; or why it doesn't: the first fault of the texts in their
 /// order, a graph that isn't proper, a netlist that isn't for it, or the first event whose verdict isn't `Done`.
 pub fn replay_texts<'w>(
     alloc: Global,
-    graph: Loaded<'w, '_>,
-    netlist: Loaded<'w, '_>,
-    schedule: Loaded<'w, '_>,
+    graph_file: &'w str,
+    graph: &[u8],
+    netlist_file: &'w str,
+    netlist: &[u8],
+    schedule_file: &'w str,
+    schedule: &[u8],
 ) -> Result<Text, Refusal<'w>>
-    ensures ok { IfOk result (IsReplay graph.entry.text.now netlist.entry.text.now schedule.entry.text.now) }
-    ensures err { IfErr result (λ r. RefusesTexts (AsksReplay graph.entry.file.now netlist.entry.file.now schedule.entry.file.now) (graph.entry.text.now ∷ netlist.entry.text.now ∷ schedule.entry.text.now ∷ []) (seen r)) }
+    ensures ok { IfOk result (IsReplay graph.now netlist.now schedule.now) }
+    ensures err { IfErr result (λ r. RefusesTexts (AsksReplay graph_file.now netlist_file.now schedule_file.now) (graph.now ∷ netlist.now ∷ schedule.now ∷ []) (seen r)) }
 {
     let Sg {
         model: _,
         graph,
         states,
-    } = graph_in(alloc, graph)?;
-    let circuit = netlist_in(alloc, netlist)?;
-    let events = schedule_in(alloc, schedule, &circuit)?;
+    } = graph_in(alloc, graph_file, graph)?;
+    let circuit = netlist_in(alloc, netlist_file, netlist)?;
+    let events = schedule_in(alloc, schedule_file, schedule, &circuit)?;
     let proper = match proper_of(alloc, graph) {
         Ok(proper) => proper,
         Err(NotProper::NoMemory) => return Err(Refusal::NoMemory),
@@ -68,7 +64,7 @@ pub fn replay_texts<'w>(
     match replay(proper.coded(), &circuit, &events) {
         Ok(outcome) => told(alloc, &outcome, &circuit, events.len(), &states),
         Err(ListsDiffer { place }) => Err(Refusal::ListsDiffer {
-            netlist: netlist.file,
+            netlist: netlist_file,
             place,
         }),
     }
@@ -101,16 +97,16 @@ fn told(
 }
 
 /// The graph that the text gives.
-fn graph_in<'w>(alloc: Global, input: Loaded<'w, '_>) -> Result<Sg, Refusal<'w>>
-    ensures given { IfOk result (λ g. IsGiven input.entry.text.now (given_sg g)) }
+fn graph_in<'w>(alloc: Global, file: &'w str, text: &[u8]) -> Result<Sg, Refusal<'w>>
+    ensures given { IfOk result (λ g. IsGiven text.now (given_sg g)) }
     ensures connected { IfOk result (λ g. IsConnected g.graph) }
-    ensures err { IfErr result (λ r. RefusesGraph input.entry.file.now input.entry.text.now (seen r)) }
+    ensures err { IfErr result (λ r. RefusesGraph file.now text.now (seen r)) }
 {
-    match read_strict(alloc, input.text) {
+    match read_strict(alloc, text) {
         Ok(given) => Ok(given),
         Err(NotRead::NoMemory) => Err(Refusal::NoMemory),
         Err(NotRead::BadText) => Err(Refusal::BadText {
-            file: input.file,
+            file,
             line: 0,
             kind: TextKind::BadLine,
         }),
@@ -118,29 +114,34 @@ fn graph_in<'w>(alloc: Global, input: Loaded<'w, '_>) -> Result<Sg, Refusal<'w>>
 }
 
 /// The netlist that the text spells.
-fn netlist_in<'w>(alloc: Global, input: Loaded<'w, '_>) -> Result<Netlist, Refusal<'w>>
-    ensures ok { IfOk result (λ n. (netlist_fault input.entry.text.now ≡ None) × (n ≡ spelled_netlist input.entry.text.now)) }
-    ensures err { IfErr result (λ r. RefusesText input.entry.file.now (netlist_fault input.entry.text.now) (seen r)) }
+fn netlist_in<'w>(
+    alloc: Global,
+    file: &'w str,
+    text: &[u8],
+) -> Result<Netlist, Refusal<'w>>
+    ensures ok { IfOk result (λ n. (netlist_fault text.now ≡ None) × (n ≡ spelled_netlist text.now)) }
+    ensures err { IfErr result (λ r. RefusesText file.now (netlist_fault text.now) (seen r)) }
 {
-    match read_netlist(alloc, input.text) {
+    match read_netlist(alloc, text) {
         Ok(netlist) => Ok(netlist),
-        Err(fault) => Err(in_text(input.file, fault)),
+        Err(fault) => Err(in_text(file, fault)),
     }
 }
 
 /// The events that the text spells, over the signals of the netlist.
 fn schedule_in<'w>(
     alloc: Global,
-    input: Loaded<'w, '_>,
+    file: &'w str,
+    text: &[u8],
     netlist: &Netlist,
 ) -> Result<Vec<Event>, Refusal<'w>>
-    ensures ok { IfOk result (λ v. (schedule_fault (signal_names netlist.now.signals) input.entry.text.now ≡ None) × (v.items ≡ schedule_of (signal_names netlist.now.signals) input.entry.text.now)) }
+    ensures ok { IfOk result (λ v. (schedule_fault (signal_names netlist.now.signals) text.now ≡ None) × (v.items ≡ schedule_of (signal_names netlist.now.signals) text.now)) }
     ensures within { IfOk result (λ v. All (λ e. e.sig < length netlist.now.signals) v.items) }
-    ensures err { IfErr result (λ r. RefusesText input.entry.file.now (schedule_fault (signal_names netlist.now.signals) input.entry.text.now) (seen r)) }
+    ensures err { IfErr result (λ r. RefusesText file.now (schedule_fault (signal_names netlist.now.signals) text.now) (seen r)) }
 {
-    match read_schedule(alloc, input.text, netlist) {
+    match read_schedule(alloc, text, netlist) {
         Ok(events) => Ok(events),
-        Err(fault) => Err(in_text(input.file, fault)),
+        Err(fault) => Err(in_text(file, fault)),
     }
 }
 

@@ -1,4 +1,5 @@
 use Rattle.std.proofs.Common.{refl, inl, inr}
+use Rattle.si_tool.specs.Refusal.{refusal_line}
 use Rattle.si_tool.specs.Refusal as refusal
 use Rattle.si_tool.proofs.OutputLemmas.{nothing_put}
 use Rattle.si_tool.proofs.refusals.refuse.Goals as goal
@@ -17,6 +18,6 @@ returns-clause-puts g c = record {
   put = refusal.NoMemory;
   one_of = inr refl;
   status_is = refl;
-  part = (0, nothing_put _ _ _ (c.in-Err-NoMemory.ensures.no_memory (cc)));
+  part = (0, nothing_put _ _ (refusal_line refusal.NoMemory) (c.in-Err-NoMemory.ensures.no_memory (cc)));
   whole = inl refl;
 }
