@@ -1,15 +1,16 @@
 //! The top call on worked examples, and where the outside fails.
 
-ghost use Rattle.std.specs.Prelude.{◌≡◌, IfOk};
+ghost use Rattle.std.specs.Prelude.{◌≡◌, ◌<◌, All, IfOk, length};
 ghost use Rattle.si_io.specs.Memory.{AreDistinct};
 
 use crate::run::run;
 use crate::status::Status;
 use crate::sure::run_in_memory;
-use si_base::ids::{Code, NoMemory};
+use si_base::ids::{Code, Event, NoMemory};
 use si_base::text::{Name, Text};
 use si_graph::coded::Coded;
 use si_io::memory::{MemFile, MemShelf, MemSink, SinkFail, SureShelf, SureSink};
+use si_netlist::netlist::Netlist;
 use si_netlist::reader::read_netlist;
 use si_strict::read::read_strict;
 use si_system::schedule::read_schedule;
@@ -325,52 +326,94 @@ fn replays_that_differ(rt: HostRuntime) -> Result<(), Fail> {
     Ok(())
 }
 
+/// Replays, and expects the status and the line of a refusal.
+fn expect_line(
+    rt: &impl Abort,
+    alloc: Global,
+    texts: Texts<'_>,
+    status: Status,
+    line: &[u8],
+) -> Result<(), Fail> {
+    expect(rt, alloc, &REPLAY, texts, (status, b"", line))
+}
+
 #[test]
 fn faults_of_the_texts_of_a_replay(rt: HostRuntime) -> Result<(), Fail> {
     let alloc = rt.alloc();
-    let good = netlist_with(alloc, b"a b", MAJORITY)?;
-    let exchanged = netlist_with(alloc, b"b a", b"c sum b a + b c + a c")?;
-    let (good, exchanged) = (good.bytes(), exchanged.bytes());
-    let rows: [(&[u8], &[u8], &[u8], &[u8]); 8] = [
-        (b"", b"", b"a*", b"badtext graph.sg 0 BadLine\n"),
-        (C_ELEMENT, b"", b"a*", b"badtext c.net 1 NoEnd\n"),
-        (C_ELEMENT, b".model c2\n.inputs a b a\n", b"a*", b"badtext c.net 2 Repeated\n"),
-        (C_ELEMENT, good, b"a*", b"badtext steps 1 BadEvent\n"),
-        (C_ELEMENT, good, b"a~", b"badtext steps 1 Toggle\n"),
-        (C_ELEMENT, good, b"d+", b"badtext steps 1 Undeclared\n"),
-        (C_ELEMENT, good, b"a+\n\0", b"badtext steps 2 BadByte\n"),
-        (C_ELEMENT, exchanged, b"a+", b"lists c.net 1\n"),
+    let rows: [(&[u8], &[u8], &[u8]); 4] = [
+        (b"", b"", b"badtext graph.sg 0 BadLine\n"),
+        (C_ELEMENT, b"", b"badtext c.net 1 NoEnd\n"),
+        (C_ELEMENT, b".model c2\n.inputs a b a\n", b"badtext c.net 2 Repeated\n"),
+        (DISABLED_OUTPUT, C_ELEMENT_NETLIST, b"badtext steps 1 BadEvent\n"),
     ];
-    for (graph, netlist, schedule, line) in rows {
+    for (graph, netlist, line) in rows {
         let texts = Texts {
             graph,
             netlist,
-            schedule,
+            schedule: b"a*",
         };
-        expect(&rt, alloc, &REPLAY, texts, (Status::BadText, b"", line))?;
+        expect_line(&rt, alloc, texts, Status::BadText, line)?;
     }
     let improper = Texts {
         graph: DISABLED_OUTPUT,
-        netlist: good,
+        netlist: C_ELEMENT_NETLIST,
         schedule: b"",
     };
-    expect(&rt, alloc, &REPLAY, improper, (Status::Improper, b"", b"improper\n"))
+    expect_line(&rt, alloc, improper, Status::Improper, b"improper\n")
+}
+
+#[test]
+fn faults_of_schedules(rt: HostRuntime) -> Result<(), Fail> {
+    let alloc = rt.alloc();
+    let rows: [(&[u8], &[u8]); 5] = [
+        (b"a*", b"badtext steps 1 BadEvent\n"),
+        (b"a~", b"badtext steps 1 Toggle\n"),
+        (b"d+", b"badtext steps 1 Undeclared\n"),
+        (b"\0", b"badtext steps 1 BadByte\n"),
+        (b"a+\n\n \0", b"badtext steps 3 BadByte\n"),
+    ];
+    for (schedule, line) in rows {
+        let texts = Texts {
+            graph: C_ELEMENT,
+            netlist: C_ELEMENT_NETLIST,
+            schedule,
+        };
+        expect_line(&rt, alloc, texts, Status::BadText, line)?;
+    }
+    let exchanged = netlist_with(alloc, b"b a", b"c sum b a + b c + a c")?;
+    let texts = Texts {
+        graph: C_ELEMENT,
+        netlist: exchanged.bytes(),
+        schedule: b"a+",
+    };
+    expect_line(&rt, alloc, texts, Status::BadText, b"lists c.net 1\n")
+}
+
+/// What comes of the first event where the system starts, and the values after it.
+fn fired_at_start(
+    graph: &Coded,
+    netlist: &Netlist,
+    events: &Vec<Event>,
+) -> Option<(Verdict, Code)>
+    requires { All (λ e. e.sig < length netlist.now.signals) events.now.items }
+{
+    let Ok(mut system) = System::start(graph, netlist) else {
+        return None;
+    };
+    let event = events.first()?;
+    let verdict = system.fire(*event);
+    Some((verdict, system.values()))
 }
 
 #[test]
 fn an_event_that_is_no_step_changes_nothing(rt: HostRuntime) -> Result<(), Fail> {
     let alloc = rt.alloc();
-    let given = read_strict(alloc, C_ELEMENT).ok().ok_or("no graph")?;
+    let given = read_strict(alloc, C_ELEMENT)?;
     let graph = Coded::make(alloc, given.graph).ok().ok_or("no codes")?;
-    let text = netlist_with(alloc, b"a b", MAJORITY)?;
-    let netlist = read_netlist(alloc, text.bytes())?;
+    let netlist = read_netlist(alloc, C_ELEMENT_NETLIST)?;
     let events = read_schedule(alloc, b"c+", &netlist)?;
-    let mut system = System::start(&graph, &netlist).ok().ok_or("no system")?;
-    for event in &events {
-        assert_eq!(rt; system.fire(*event), Verdict::Blocked);
-    }
-    assert_eq!(rt; events.len(), 1);
-    assert_eq!(rt; system.values(), Code(0));
+    let blocked = (Verdict::Blocked, Code(0));
+    assert_eq!(rt; fired_at_start(&graph, &netlist, &events), Some(blocked));
     Ok(())
 }
 
