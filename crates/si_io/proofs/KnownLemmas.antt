@@ -1,5 +1,5 @@
 -- Bytes that are written or read one part after another.
-use Rattle.std.proofs.Common.{◌≡◌, ℕ, ◌+◌, ◌<◌, ◌≤◌, Bool, true, false, if◌then◌else◌, List, [], ◌++◌, Option, Some, None, IfSome, Result, Ok, Err, sym, ap, subst, ◌∙◌, append_assoc, append-nil, length, length-append, take, drop, arith}
+use Rattle.std.proofs.Common.{◌≡◌, ℕ, ◌+◌, ◌<◌, ◌≤◌, Bool, true, false, if◌then◌else◌, List, [], ◌++◌, Option, Some, None, IfSome, Result, Ok, Err, sym, ap, subst, ◌∙◌, append_assoc, append-nil, length, length-append, length-take, take, drop, arith}
 use Rattle.std.proofs.lemmas.List.{take-append-drop, take-append-le}
 use Rattle.std.proofs.Math.Seq.{take-append_seam, take-append-add}
 use Rattle.std.proofs.KnownBytes.{Appends-trans, Appends-kept, Consumes-trans}
@@ -53,3 +53,7 @@ consumed_same a b c bytes buffer n none before read =
 pub appended : (ok : Bool) (new old front rest : List ℕ) (n : ℕ) → ok ≡ true → n ≤ length front → new ≡ (if ok then old ++ take n (front ++ rest) else old) → new ≡ old ++ take n front
 appended true new old front rest n well within is = is ∙ ap (λ (l : List ℕ). old ++ l) (take-append-le n front rest within)
 appended false new old front rest n well within is = cc
+
+-- what was read and appended has room, where the part of the buffer that was lent for it has
+pub still_within : (new old front buffer : List ℕ) (n size limit : ℕ) → new ≡ old ++ take n front → length front ≡ length (take size buffer) → length old + size ≤ limit + 1 → length new ≤ limit + 1
+still_within new old front buffer n size limit joined lent room = omega (arith, ap length joined, length-append old (take n front), length-take n front, lent, length-take size buffer)

@@ -1,7 +1,6 @@
 use Rattle.std.proofs.Common.{◌≡◌, ℕ, is_ok, length-append, length-take, rules, arith}
 use Rattle.std.proofs.KnownBytes.{Consumes-nil, Consumes-trans, Consumes-kept}
-use Rattle.std.proofs.lemmas.Grind.{common_steps}
-use Rattle.si_io.proofs.KnownLemmas.{appended, content_at_end, content_beyond, consumed_same}
+use Rattle.si_io.proofs.KnownLemmas.{appended, still_within, content_at_end, content_beyond, consumed_same}
 use Rattle.si_io.proofs.reading.read_all.Goals as goal
 
 pub loop-chunk-init : goal.loop-chunk-init
@@ -16,7 +15,7 @@ pub loop-chunk-preserved : goal.loop-chunk-preserved
 loop-chunk-preserved g c =
     let joined = appended (is_ok c.extend_from_slice.result) _ _ _ _ _ (search rules) c.in-Ok.ensures.bound.0 c.extend_from_slice.ensures.items in
     record {
-      within = grind (arith, common_steps, c.in-Ok.ensures.bound.0);
+      within = omega (arith, c.extend_from_slice.new.self.ok.0, still_within _ _ _ _ _ _ c.args.limit joined c.read.auto.buf (omega arith));
       chunk = search rules;
       faults = search rules;
       consumed = rw joined (Consumes-trans _ _ _ _ _ c.loop-chunk.invariant.consumed c.in-Ok.ensures.bytes.0);
