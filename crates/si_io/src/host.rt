@@ -23,7 +23,8 @@ pub struct HostShelf<'a, R> {
 impl<'a, R: Files> HostShelf<'a, R> {
     /// The files that the runtime reaches.
     pub fn new(rt: &'a R) -> HostShelf<'a, R>
-        ensures { result.faults ≡ 0 }
+        ensures runtime { result.rt.now ≡ rt.now }
+        ensures faults { result.faults ≡ 0 }
     {
         HostShelf { rt, faults: 0 }
     }
@@ -60,9 +61,10 @@ pub struct HostSink<W> {
 }
 
 impl<W: Write> HostSink<W> {
-    /// A sink that writes to the writer, and flushes after each piece.
+    /// A sink that writes to the writer, and flushes after each piece. Nothing is written yet.
     pub fn new(writer: W) -> HostSink<W>
-        ensures { result.faults ≡ 0 }
+        ensures writer { result.writer ≡ writer }
+        ensures faults { result.faults ≡ 0 }
     {
         HostSink { writer, faults: 0 }
     }
