@@ -1,17 +1,19 @@
-//! The forms in memory, and the host's against a real file.
+//! The forms in memory, reading, and the host's forms against small readers and writers and a real file.
 
 ghost use Rattle.std.specs.Prelude.{IfOk};
 ghost use Rattle.si_io.specs.Memory.{AreDistinct};
 
 use crate::host::{HostShelf, HostSink};
 use crate::memory::{MemFile, MemShelf, MemSink, SinkFail, SureShelf, SureSink};
+use crate::reading::read_all;
 use crate::shelf::{LoadFault, Shelf};
 use crate::sink::{PutFault, Sink};
 use si_base::ids::NoMemory;
 use si_base::text::{Name, Text};
 use std::alloc::Global;
-use std::fs;
+use std::io::{Read, Write};
 use std::test::Fail;
+use std::{fs, io};
 
 fn one_file(alloc: Global) -> Result<Vec<MemFile>, NoMemory>
     ensures { IfOk result (λ files. AreDistinct files.items) }
@@ -60,6 +62,156 @@ fn sinks_in_memory(rt: HostRuntime) -> Result<(), Fail> {
     Ok(())
 }
 
+/// How a reader or a writer behaves: it takes at most `most` bytes a call, and its calls of these numbers, from 1, fail.
+#[derive(Clone, Copy)]
+struct Habit {
+    most: usize,
+    failing_call: u8,
+    failing_flush: u8,
+}
+
+/// One byte a call, and no faults.
+const ONE_AT_A_TIME: Habit = Habit {
+    most: 1,
+    failing_call: 0,
+    failing_flush: 0,
+};
+
+/// A reader of a text with a habit.
+#[derive(Drop)]
+struct SlowReader<'a> {
+    text: &'a [u8],
+    habit: Habit,
+    calls: u8,
+}
+
+impl Read for SlowReader<'_> {
+    fn read(&mut self, buf: &mut [u8]) -> io::Result<usize> {
+        self.calls = self.calls.saturating_add(1);
+        if self.calls == self.habit.failing_call {
+            return Err(io::Error::from(io::ErrorKind::BrokenPipe));
+        }
+        let count = self.habit.most.min(self.text.len()).min(buf.len());
+        let (front, rest) = self.text.split_at(count);
+        buf[..count].copy_from_slice(front);
+        self.text = rest;
+        Ok(count)
+    }
+}
+
+/// A writer with a habit, which keeps its bytes.
+#[derive(Drop)]
+struct SlowWriter {
+    bytes: Vec<u8>,
+    habit: Habit,
+    calls: u8,
+    flushes: u8,
+}
+
+impl Write for SlowWriter {
+    fn write(&mut self, buf: &[u8]) -> io::Result<usize> {
+        self.calls = self.calls.saturating_add(1);
+        if self.calls == self.habit.failing_call {
+            return Err(io::Error::from(io::ErrorKind::BrokenPipe));
+        }
+        let count = self.habit.most.min(buf.len());
+        self.bytes.extend_from_slice(&buf[..count])?;
+        Ok(count)
+    }
+
+    fn flush(&mut self) -> io::Result<()> {
+        self.flushes = self.flushes.saturating_add(1);
+        if self.flushes == self.habit.failing_flush {
+            return Err(io::Error::from(io::ErrorKind::BrokenPipe));
+        }
+        Ok(())
+    }
+}
+
+#[test]
+fn reading_up_to_a_limit(rt: HostRuntime) -> Result<(), Fail> {
+    let alloc = rt.alloc();
+    let all = Habit {
+        most: 9,
+        ..ONE_AT_A_TIME
+    };
+    let fails_at_second = Habit {
+        failing_call: 2,
+        ..ONE_AT_A_TIME
+    };
+    let long = Some(LoadFault::TooLong { taken: 3 });
+    let failed = Some(LoadFault::Failed);
+    for (habit, limit, answer, fault, faults_after) in [
+        (all, 5, "abcde", None, 0),
+        (all, 9, "abcde", None, 0),
+        (all, 2, "", long, 0),
+        (ONE_AT_A_TIME, 5, "abcde", None, 0),
+        (ONE_AT_A_TIME, 2, "", long, 0),
+        (fails_at_second, 5, "", failed, 1),
+    ] {
+        let mut reader = SlowReader {
+            text: b"abcde",
+            habit,
+            calls: 0,
+        };
+        let mut faults = 0;
+        let (bytes, got) = match read_all(alloc, &mut reader, limit, &mut faults) {
+            Ok(bytes) => (bytes, None),
+            Err(fault) => (Vec::new(alloc), Some(fault)),
+        };
+        assert_eq!(rt; bytes.as_slice(), answer.as_bytes());
+        assert_eq!(rt; got, fault);
+        assert_eq!(rt; faults, faults_after);
+    }
+    let mut text: &[u8] = b"abcde";
+    let mut faults = 0;
+    assert_eq!(rt; read_all(alloc, &mut text, 2, &mut faults).err(), long);
+    assert_eq!(rt; text, b"de".as_slice());
+    assert_eq!(rt;
+        read_all(alloc, &mut text, 2, &mut faults)?.as_slice(),
+        b"de".as_slice()
+    );
+    Ok(())
+}
+
+#[test]
+fn host_sinks_over_slow_writers(rt: HostRuntime) -> Result<(), Fail> {
+    let alloc = rt.alloc();
+    let nothing = Habit {
+        most: 0,
+        ..ONE_AT_A_TIME
+    };
+    let fails_at_second = Habit {
+        failing_call: 2,
+        ..ONE_AT_A_TIME
+    };
+    let fails_to_flush = Habit {
+        failing_flush: 1,
+        ..ONE_AT_A_TIME
+    };
+    let failed = Some(PutFault::Failed);
+    for (habit, fault, written, flushes) in [
+        (ONE_AT_A_TIME, None, "abc", 1),
+        (nothing, failed, "", 0),
+        (fails_at_second, failed, "a", 0),
+        (fails_to_flush, failed, "abc", 1),
+    ] {
+        let mut writer = SlowWriter {
+            bytes: Vec::new(alloc),
+            habit,
+            calls: 0,
+            flushes: 0,
+        };
+        {
+            let mut sink = HostSink::new(&mut writer);
+            assert_eq!(rt; sink.put(b"abc").err(), fault);
+        }
+        assert_eq!(rt; writer.bytes.as_slice(), written.as_bytes());
+        assert_eq!(rt; writer.flushes, flushes);
+    }
+    Ok(())
+}
+
 #[test]
 fn host_forms_on_a_file(rt: HostRuntime) -> Result<(), Fail> {
     let alloc = rt.alloc();
@@ -72,10 +224,12 @@ fn host_forms_on_a_file(rt: HostRuntime) -> Result<(), Fail> {
     let mut shelf = HostShelf::new(&rt);
     let whole = shelf.load(alloc, name, 10)?;
     assert_eq!(rt; whole.as_slice(), b"0123456789".as_slice());
-    assert_eq!(rt;
-        shelf.load(alloc, name, 9).err(),
-        Some(LoadFault::TooLong { taken: 10 })
-    );
+    for (limit, taken) in [(9, 10), (4, 5), (0, 1)] {
+        assert_eq!(rt;
+            shelf.load(alloc, name, limit).err(),
+            Some(LoadFault::TooLong { taken })
+        );
+    }
     fs::remove_file(&rt, name)?;
     assert_eq!(rt; shelf.load(alloc, name, 10).err(), Some(LoadFault::Failed));
     Ok(())
