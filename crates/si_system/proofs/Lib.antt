@@ -4,3 +4,4 @@ pub mod StepLemmas
 pub mod OutcomeLemmas
 pub mod ScheduleLemmas
 pub mod UniqueOutcome
+pub mod Examples

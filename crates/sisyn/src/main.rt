@@ -1,12 +1,9 @@
 //! `sisyn`: synthesises speed-independent circuits from state graphs.
 #![tactic(auto)]
 
-ghost use Rattle.std.specs.Prelude.{◌≢◌, Err};
-
 use si_io::host::{HostShelf, HostSink};
-use si_tool::refusals::refuse;
+use si_tool::refusals::{Refusal, refuse};
 use si_tool::run::run;
-use si_tool::status::Status;
 use std::env;
 use std::io::ErrorKind;
 use std::process::ExitCode;
@@ -20,23 +17,21 @@ fn main(rt: HostRuntime) -> ExitCode {
     let mut err = HostSink::new(rt.stderr());
     let status = match command_words(&rt) {
         Ok(words) => run(alloc, &words, &mut shelf, &mut out, &mut err),
-        Err(status) => refuse(alloc, status, "", &mut err),
+        Err(refusal) => refuse(alloc, &refusal, &mut err),
     };
     ExitCode::from(status.code())
 }
 
 /// The words of the command line without the program's name. Arguments that are no text match no command.
-fn command_words<R: Env + AllocGlobal>(rt: &R) -> Result<Vec<String>, Status>
-    ensures { result ≢ Err Status.Done }
-{
+fn command_words<R: Env + AllocGlobal>(rt: &R) -> Result<Vec<String>, Refusal<'static>> {
     match env::args(rt) {
         Ok(arguments) => match arguments.skip(1).collect(rt.alloc()) {
             Ok(words) => Ok(words),
-            Err(_) => Err(Status::NoMemory),
+            Err(_) => Err(Refusal::NoMemory),
         },
         Err(error) => match error.kind() {
-            ErrorKind::OutOfMemory => Err(Status::NoMemory),
-            _ => Err(Status::Usage),
+            ErrorKind::OutOfMemory => Err(Refusal::NoMemory),
+            _ => Err(Refusal::Usage),
         },
     }
 }
