@@ -1,11 +1,12 @@
 //! Lines of a text, read one after the other.
 
-ghost use Rattle.std.specs.Prelude.{◌≡◌, ℕ, ◌≤◌, ◌++◌, List, length, IfOk, OnOk, ◌==◌, not, ◌∷◌, [], None};
+ghost use Rattle.std.specs.Prelude.{◌≡◌, ℕ, ◌≤◌, ◌++◌, List, length, IfOk, OnOk, OnErr, ◌==◌, not, ◌∷◌, [], None};
 ghost use Rattle.std.specs.List.{prefix_len, list_any};
 ghost use Rattle.si_base.specs.Limits.{max_signals};
 ghost use Rattle.si_base.specs.TextFaults.{Tells, ToldBy};
 ghost use Rattle.si_words.specs.Lines as text_lines;
 ghost use Rattle.si_words.specs.Lines.{Form};
+ghost use Rattle.si_words.specs.Names.{AddsFirst};
 ghost use Rattle.si_words.specs.Reads.{words_now};
 ghost use Rattle.si_words.specs.Rows.{Left, fault_of, TakesLine, AddsNames};
 ghost use Rattle.si_words.specs.Sums.{is_empty};
@@ -68,10 +69,12 @@ impl<'a> Rows<'a> {
 
     /// The words of the next line.
     ///
-    /// Fails with the fault of the line, where it has a bad byte or no end, and for want of memory.
+    /// Fails with the fault of the line, where it has a bad byte or no end, and for want of memory. After a refusal the
+    /// lines are as before.
     pub fn next_words(&mut self, alloc: Global) -> Result<Vec<&'a [u8]>, TextFault>
         ensures ok { IfOk result (λ v. TakesLine self.old self.new (words_now v.items)) }
         ensures err { (form : Form) (forms : List Form) → ToldBy result (fault_of (form ∷ forms) self.old) }
+        ensures kept { OnErr result (self.new ≡ self.old) }
     {
         let rest = self.rest;
         let number = self.number;
@@ -143,6 +146,7 @@ pub fn has_empty(words: &[&[u8]]) -> bool
 fn take_names(words: &[&[u8]], head: &[u8], names: &mut Names) -> Result<(), LineFault>
     ensures fault { Tells result (text_lines.names_fault head.now names.old (words_now words.now)) }
     ensures value { OnOk result (names.new ≡ names.old ++ text_lines.rest_of (words_now words.now)) }
+    ensures kept { OnErr result (AddsFirst names.old names.new (text_lines.rest_of (words_now words.now))) }
     ensures few { length names.old ≤ max_signals → length names.new ≤ max_signals }
 {
     let [first, rest @ ..] = words else {
