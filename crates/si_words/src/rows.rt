@@ -8,7 +8,7 @@ ghost use Rattle.si_words.specs.Lines as text_lines;
 ghost use Rattle.si_words.specs.Lines.{Form};
 ghost use Rattle.si_words.specs.Names.{AddsFirst};
 ghost use Rattle.si_words.specs.Reads.{words_now};
-ghost use Rattle.si_words.specs.Rows.{Left, fault_of, TakesLine, AddsNames};
+ghost use Rattle.si_words.specs.Rows.{Left, fault_of, TakesLine, AddsNames, RefusesNames};
 ghost use Rattle.si_words.specs.Sums.{is_empty};
 
 use crate::lists::add_names;
@@ -160,7 +160,8 @@ fn take_names(words: &[&[u8]], head: &[u8], names: &mut Names) -> Result<(), Lin
 
 /// A list line, of the head and names: the names go behind those that are there.
 ///
-/// Fails with the fault of the line, and for want of memory.
+/// Fails with the fault of the line, and for want of memory. After a refusal all is as before, or the line is taken and
+/// its names before the faulty one are there.
 pub fn names_row(
     alloc: Global,
     rows: &mut Rows<'_>,
@@ -169,6 +170,7 @@ pub fn names_row(
 ) -> Result<(), TextFault>
     ensures ok { OnOk result (AddsNames (text_lines.names_fault head.now names.old) rows.old rows.new names.old names.new) }
     ensures err { (forms : List Form) → ToldBy result (fault_of (text_lines.names_fault head.now names.old ∷ forms) rows.old) }
+    ensures kept { OnErr result (RefusesNames rows.old rows.new names.old names.new) }
     ensures few { length names.old ≤ max_signals → length names.new ≤ max_signals }
 {
     let number = rows.number();
