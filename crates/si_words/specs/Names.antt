@@ -17,7 +17,7 @@ name_fault before name =
     otherwise when (stands_in before name) Repeated
     otherwise when (nat_le max_signals (length before)) TooManySignals
 
--- the first so many words went behind the old names, without a fault: the words after them have the fault of all
+-- some first words went behind the old names, without a fault: the words after them have the fault of all
 pub record AddsFirst (old new words : List (List ℕ)) : Type 0 where
   pub count : ℕ
   pub names_are : new ≡ old ++ take count words

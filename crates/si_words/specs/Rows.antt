@@ -35,13 +35,13 @@ pub record AddsNames (form : Form) (old new : Left) (names_old names_new : List 
   pub takes : TakesNames form old new added
   pub names_are : names_new ≡ names_old ++ added
 
--- one line was taken, and the first names after its head went behind the old ones
+-- one line was taken, and some first names after its head went behind the old ones
 pub record TakesFirst (old new : Left) (names_old names_new : List (List ℕ)) : Type 0 where
   pub words : List (List ℕ)
   pub takes : TakesLine old new words
   pub first : AddsFirst names_old names_new (rest_of words)
 
--- a line of names was refused: all is as before, or the line was taken and its names up to the fault went behind the old ones
+-- a line of names was refused: all is as before, or the line was taken and some first names of it went behind the old ones
 abbrev pub RefusesNames : Left → Left → List (List ℕ) → List (List ℕ) → Type 0
 RefusesNames old new names_old names_new = ((new ≡ old) × (names_new ≡ names_old)) ⊎ TakesFirst old new names_old names_new
 

@@ -1,9 +1,11 @@
 //! Lines of a text, read one after the other.
 
-ghost use Rattle.std.specs.Prelude.{◌≡◌, ℕ, ◌≤◌, ◌++◌, List, length, IfOk, OnOk, OnErr, ◌==◌, not, ◌∷◌, [], None};
+ghost use Rattle.std.specs.Prelude.{◌≡◌, ℕ, ◌≤◌, ◌++◌, List, length, IfOk, IfErr, OnOk, OnErr, ◌==◌, not, ◌∷◌, [], None};
 ghost use Rattle.std.specs.List.{prefix_len, list_any};
 ghost use Rattle.si_base.specs.Limits.{max_signals};
 ghost use Rattle.si_base.specs.TextFaults.{Tells, ToldBy};
+ghost use Rattle.si_base.specs.declared.fault.TextFault.TheVariants.{At};
+ghost use Rattle.si_base.specs.declared.fault.TextKind.TheVariants.{BadLine};
 ghost use Rattle.si_words.specs.Lines as text_lines;
 ghost use Rattle.si_words.specs.Lines.{Form};
 ghost use Rattle.si_words.specs.Names.{AddsFirst};
@@ -57,7 +59,7 @@ fn words_of<'a>(alloc: Global, line: &'a [u8]) -> Result<Vec<&'a [u8]>, AllocErr
 }
 
 impl<'a> Rows<'a> {
-    /// All lines of the text.
+    /// All lines of the text, numbered from 1.
     pub fn new(text: &'a [u8]) -> Rows<'a>
         ensures { result ≡ record { number = 1; lines = text_lines.ended text.now; tail = text_lines.tail_of text.now } }
     {
@@ -103,10 +105,11 @@ impl<'a> Rows<'a> {
 
     /// Whether nothing is left, where no more lines are due.
     ///
-    /// Fails with `BadLine` where something is left.
+    /// Fails with `BadLine` at the next line exactly where something is left.
     pub fn finish(&self) -> Result<(), TextFault>
         ensures ok { OnOk result (fault_of [] self.now ≡ None) }
         ensures err { ToldBy result (fault_of [] self.now) }
+        ensures at { IfErr result (λ e. e ≡ At self.now.number BadLine) }
     {
         if self.rest.is_empty() {
             Ok(())
@@ -161,7 +164,7 @@ fn take_names(words: &[&[u8]], head: &[u8], names: &mut Names) -> Result<(), Lin
 /// A list line, of the head and names: the names go behind those that are there.
 ///
 /// Fails with the fault of the line, and for want of memory. After a refusal all is as before, or the line is taken and
-/// its names before the faulty one are there.
+/// some first names of it are there, without a fault.
 pub fn names_row(
     alloc: Global,
     rows: &mut Rows<'_>,
