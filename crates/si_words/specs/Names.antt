@@ -1,11 +1,11 @@
 -- Names in the lists of signals.
-use Rattle.std.specs.Prelude.{ℕ, Bool, not, List, length, nat_le, bytes_eq, Option}
+use Rattle.std.specs.Prelude.{◌≡◌, ℕ, Bool, not, List, ◌++◌, length, take, drop, nat_le, bytes_eq, Option}
 use Rattle.std.specs.List.{list_any}
 use Rattle.si_base.specs.Limits.{max_signals}
 use Rattle.si_base.specs.Words.{is_signal_name}
 use Rattle.si_base.specs.declared.fault.TextKind.{TextKind}
 use Rattle.si_base.specs.declared.fault.TextKind.TheVariants.{BadName, Repeated, TooManySignals}
-use Rattle.si_base.specs.Faults.{when, ◌otherwise◌}
+use Rattle.si_base.specs.Faults.{when, ◌otherwise◌, first_after}
 
 abbrev pub stands_in : List (List ℕ) → List ℕ → Bool
 stands_in names name = list_any (λ n. bytes_eq name n) names
@@ -16,3 +16,9 @@ name_fault before name =
     when (not (is_signal_name name)) BadName
     otherwise when (stands_in before name) Repeated
     otherwise when (nat_le max_signals (length before)) TooManySignals
+
+-- some first words went behind the old names, without a fault: the words after them have the fault of all
+pub record AddsFirst (old new words : List (List ℕ)) : Type 0 where
+  pub count : ℕ
+  pub names_are : new ≡ old ++ take count words
+  pub fault_is : first_after name_fault old words ≡ first_after name_fault new (drop count words)

@@ -66,7 +66,7 @@ fn len_before(mark: &[u8], words: &[&[u8]]) -> usize
     count_before(mark, words)
 }
 
-/// The words on both sides of the first that is the mark.
+/// The words on both sides of the first that is the mark, or `None` where no word is.
 pub fn cut_at<'s, 'a>(
     mark: &[u8],
     words: &'s [&'a [u8]],
@@ -244,7 +244,7 @@ fn literals_kind(signals: &Names, words: &[&[u8]]) -> Option<TextKind>
     }
 }
 
-/// The fault of a gate line, None exactly where there is none.
+/// The fault of a gate line, or `None` exactly where there is none.
 pub fn gate_kind(signals: &Names, name: &[u8], words: &[&[u8]]) -> Option<TextKind>
     ensures { result ≡ gates.gate_fault signals.now name.now (words_now words.now) }
 {

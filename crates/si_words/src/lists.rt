@@ -1,11 +1,11 @@
 //! Lists of signals.
 
-ghost use Rattle.std.specs.Prelude.{◌≡◌, ℕ, List, [], ◌∷◌, ◌++◌, OnOk, IfErr, position, bytes_eq, false, ◌<◌, ◌≤◌, length};
+ghost use Rattle.std.specs.Prelude.{◌≡◌, ℕ, List, [], ◌∷◌, ◌++◌, OnOk, OnErr, IfErr, position, bytes_eq, false, ◌<◌, ◌≤◌, length};
 ghost use Rattle.si_base.specs.Faults.{first_after};
 ghost use Rattle.si_base.specs.Limits.{max_signals};
 ghost use Rattle.si_base.specs.TextFaults.{Tells};
 ghost use Rattle.si_base.specs.declared.fault.LineFault.TheVariants.{NoMemory};
-ghost use Rattle.si_words.specs.Names.{name_fault, stands_in};
+ghost use Rattle.si_words.specs.Names.{name_fault, stands_in, AddsFirst};
 ghost use Rattle.si_words.specs.Reads.{words_now};
 
 use crate::words::is_signal_name;
@@ -35,6 +35,7 @@ fn push(names: &mut Names, name: &[u8]) -> Result<(), LineFault>
     requires room { length names.old < max_signals }
     ensures ok { OnOk result (names.new ≡ names.old ++ name.now ∷ []) }
     ensures err { IfErr result (λ e. e ≡ NoMemory) }
+    ensures kept { OnErr result (names.new ≡ names.old) }
     ensures few { length names.new ≤ max_signals }
 {
     match names.add(name, MAX_SIGNALS as u32) {
@@ -61,9 +62,11 @@ fn name_kind(names: &Names, name: &[u8]) -> Option<TextKind>
 /// Puts names last, up to the first fault.
 ///
 /// Fails with that fault: a word that is no signal name, is there already, or is one too many; and for want of memory.
+/// After a refusal some first words are there, without a fault.
 pub fn add_names(names: &mut Names, words: &[&[u8]]) -> Result<(), LineFault>
     ensures fault { Tells result (first_after name_fault names.old (words_now words.now)) }
     ensures value { OnOk result (names.new ≡ names.old ++ words_now words.now) }
+    ensures kept { OnErr result (AddsFirst names.old names.new (words_now words.now)) }
     ensures few { length names.old ≤ max_signals → length names.new ≤ max_signals }
 {
     for word in words {

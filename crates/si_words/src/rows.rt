@@ -1,13 +1,16 @@
 //! Lines of a text, read one after the other.
 
-ghost use Rattle.std.specs.Prelude.{◌≡◌, ℕ, ◌≤◌, ◌++◌, List, length, IfOk, OnOk, ◌==◌, not, ◌∷◌, [], None};
+ghost use Rattle.std.specs.Prelude.{◌≡◌, ℕ, ◌≤◌, ◌++◌, List, length, IfOk, IfErr, OnOk, OnErr, ◌==◌, not, ◌∷◌, [], None};
 ghost use Rattle.std.specs.List.{prefix_len, list_any};
 ghost use Rattle.si_base.specs.Limits.{max_signals};
 ghost use Rattle.si_base.specs.TextFaults.{Tells, ToldBy};
+ghost use Rattle.si_base.specs.declared.fault.TextFault.TheVariants.{At};
+ghost use Rattle.si_base.specs.declared.fault.TextKind.TheVariants.{BadLine};
 ghost use Rattle.si_words.specs.Lines as text_lines;
 ghost use Rattle.si_words.specs.Lines.{Form};
+ghost use Rattle.si_words.specs.Names.{AddsFirst};
 ghost use Rattle.si_words.specs.Reads.{words_now};
-ghost use Rattle.si_words.specs.Rows.{Left, fault_of, TakesLine, AddsNames};
+ghost use Rattle.si_words.specs.Rows.{Left, fault_of, TakesLine, AddsNames, RefusesNames};
 ghost use Rattle.si_words.specs.Sums.{is_empty};
 
 use crate::lists::add_names;
@@ -56,7 +59,7 @@ fn words_of<'a>(alloc: Global, line: &'a [u8]) -> Result<Vec<&'a [u8]>, AllocErr
 }
 
 impl<'a> Rows<'a> {
-    /// All lines of the text.
+    /// All lines of the text, numbered from 1.
     pub fn new(text: &'a [u8]) -> Rows<'a>
         ensures { result ≡ record { number = 1; lines = text_lines.ended text.now; tail = text_lines.tail_of text.now } }
     {
@@ -68,10 +71,12 @@ impl<'a> Rows<'a> {
 
     /// The words of the next line.
     ///
-    /// Fails with the fault of the line, where it has a bad byte or no end, and for want of memory.
+    /// Fails with the fault of the line, where it has a bad byte or no end, and for want of memory. After a refusal the
+    /// lines are as before.
     pub fn next_words(&mut self, alloc: Global) -> Result<Vec<&'a [u8]>, TextFault>
         ensures ok { IfOk result (λ v. TakesLine self.old self.new (words_now v.items)) }
         ensures err { (form : Form) (forms : List Form) → ToldBy result (fault_of (form ∷ forms) self.old) }
+        ensures kept { OnErr result (self.new ≡ self.old) }
     {
         let rest = self.rest;
         let number = self.number;
@@ -100,10 +105,11 @@ impl<'a> Rows<'a> {
 
     /// Whether nothing is left, where no more lines are due.
     ///
-    /// Fails with `BadLine` where something is left.
+    /// Fails with `BadLine` at the next line exactly where something is left.
     pub fn finish(&self) -> Result<(), TextFault>
         ensures ok { OnOk result (fault_of [] self.now ≡ None) }
         ensures err { ToldBy result (fault_of [] self.now) }
+        ensures at { IfErr result (λ e. e ≡ At self.now.number BadLine) }
     {
         if self.rest.is_empty() {
             Ok(())
@@ -143,6 +149,7 @@ pub fn has_empty(words: &[&[u8]]) -> bool
 fn take_names(words: &[&[u8]], head: &[u8], names: &mut Names) -> Result<(), LineFault>
     ensures fault { Tells result (text_lines.names_fault head.now names.old (words_now words.now)) }
     ensures value { OnOk result (names.new ≡ names.old ++ text_lines.rest_of (words_now words.now)) }
+    ensures kept { OnErr result (AddsFirst names.old names.new (text_lines.rest_of (words_now words.now))) }
     ensures few { length names.old ≤ max_signals → length names.new ≤ max_signals }
 {
     let [first, rest @ ..] = words else {
@@ -156,7 +163,8 @@ fn take_names(words: &[&[u8]], head: &[u8], names: &mut Names) -> Result<(), Lin
 
 /// A list line, of the head and names: the names go behind those that are there.
 ///
-/// Fails with the fault of the line, and for want of memory.
+/// Fails with the fault of the line, and for want of memory. After a refusal all is as before, or the line is taken and
+/// some first names of it are there, without a fault.
 pub fn names_row(
     alloc: Global,
     rows: &mut Rows<'_>,
@@ -165,6 +173,7 @@ pub fn names_row(
 ) -> Result<(), TextFault>
     ensures ok { OnOk result (AddsNames (text_lines.names_fault head.now names.old) rows.old rows.new names.old names.new) }
     ensures err { (forms : List Form) → ToldBy result (fault_of (text_lines.names_fault head.now names.old ∷ forms) rows.old) }
+    ensures kept { OnErr result (RefusesNames rows.old rows.new names.old names.new) }
     ensures few { length names.old ≤ max_signals → length names.new ≤ max_signals }
 {
     let number = rows.number();

@@ -1,11 +1,13 @@
-//! Words, lists of names, lines and gate lines, by examples.
+//! Words, lists of names, lines that are read and written, and gate lines, by examples.
 
 use crate::gate_lines::{cut_at, gate_kind, is_one, place_in};
 use crate::lists::{add_names, has, place_of};
 use crate::rows::{Rows, has_empty, is_nothing, names_row};
 use crate::words::{is_literal, is_name_byte, is_signal_name, literal_name};
+use crate::writing::{add_line, add_word};
 use si_base::fault::{TextFault, TextKind};
 use si_base::names::Names;
+use si_base::text::Text;
 use std::test::Fail;
 
 #[test]
@@ -81,5 +83,15 @@ fn gate_lines(rt: HostRuntime) -> Result<(), Fail> {
             Some(TextKind::Undeclared)
         )
     );
+    Ok(())
+}
+
+#[test]
+fn written_lines(rt: HostRuntime) -> Result<(), Fail> {
+    let mut text = Text::copy_of(rt.alloc(), b"")?;
+    add_line(&mut text, b".inputs", &[b"a".as_slice(), b"b".as_slice()])?;
+    add_word(&mut text, b"c")?;
+    add_line(&mut text, b"", &[])?;
+    assert!(rt; text.bytes() == b".inputs a b\n c\n".as_slice());
     Ok(())
 }
