@@ -2,7 +2,8 @@
 
 ghost use Rattle.std.specs.Prelude.{◌≡◌, ℕ, List, [], ◌∷◌, ◌++◌, map, codes, Err, IfOk, MatchOption, ◌⊎◌, IsTrue, ◌↔◌};
 ghost use Rattle.si_base.specs.StrictText.{ArcLine, Spelling, arc_line};
-ghost use Rattle.si_strict.specs.Lines.{words_now, lines_now};
+ghost use Rattle.si_strict.specs.Lines.{lines_now};
+ghost use Rattle.si_words.specs.Reads.{words_now};
 ghost use Rattle.si_strict.specs.Parts.{arc_now, arcs_now, spelling_of, HeaderNames, header_now, header_lines, end_lines, all_lines, TakesList};
 
 use crate::lines::{split_first_line, split_last_line};
