@@ -3,7 +3,8 @@ use Rattle.std.proofs.Common.{◌≡◌, ℕ, ◌+◌, ◌<◌, List, [], ◌∷
 use Rattle.std.proofs.lemmas.List.{take_more, map_push, get_or-map, length-map}
 use Rattle.si_base.specs.StrictText.{ArcLine, arc_line}
 use Rattle.si_strict.specs.declared.parts.Arc.{Arc}
-use Rattle.si_strict.specs.Lines.{words_now, lines_now}
+use Rattle.si_strict.specs.Lines.{lines_now}
+use Rattle.si_words.specs.Reads.{words_now}
 use Rattle.si_strict.specs.Parts.{arc_now, arcs_now}
 
 pub arcs_more : (lines : List (Vec (Bor (List ℕ)) Global)) (arcs : List Arc) (v : Vec (Bor (List ℕ)) Global) (a : Arc) (i : ℕ) → map arc_line (arcs_now arcs) ≡ take i (lines_now lines) → i < length lines → v ≡ get_or lines i v → words_now v.items ≡ arc_line (arc_now a) → map arc_line (arcs_now (arcs ++ a ∷ [])) ≡ take (i + 1) (lines_now lines)

@@ -1,8 +1,20 @@
 -- The lines before the arcs and the lines after them are those of one spelling.
 use Rattle.std.proofs.Common.{◌≡◌, ℕ, ◌⊎◌, Bool, true, false, List, [], ◌∷◌, ◌++◌, map, refl, sym, ap, ap₂, ◌∙◌, codes, inl, inr, append_assoc}
+use Rattle.std.proofs.lemmas.Bool.{true≢false}
 use Rattle.std.proofs.lemmas.List.{same_from_push}
+use Rattle.std.proofs.lemmas.Slice.Eq.{bytes_eq-Decides}
 use Rattle.si_base.specs.StrictText.{Spelling, ArcLine, arc_line, list_line, sign}
+use Rattle.si_words.specs.Sums.{is_one}
 use Rattle.si_strict.specs.Parts.{HeaderNames, header_lines, end_lines, all_lines, BeginsOtherwise, TakesList}
+
+-- ---- one word alone
+alone : (word : List ℕ) (words : List (List ℕ)) → is_one word words ≡ true → words ≡ word ∷ []
+alone word [] one = absurd (true≢false (sym one))
+alone word (w ∷ []) one = ap (λ (v : List ℕ). v ∷ []) (sym ((bytes_eq-Decides word w).0 one))
+alone word (w ∷ v ∷ ws) one = absurd (true≢false (sym one))
+
+pub is_alone : (word : List ℕ) (words : List (List ℕ)) → words ≡ word ∷ [] → is_one word words ≡ true
+is_alone word words same = rw same ((bytes_eq-Decides word word).1 refl)
 
 -- ---- list lines
 past_list : (head other : List ℕ) (names : List (List ℕ)) (rest : List (List (List ℕ))) → (head ≡ other → ⊥) → BeginsOtherwise head rest → BeginsOtherwise head (list_line other names ++ rest)
@@ -110,8 +122,13 @@ ends_are lines f1 f2 f3 a b c front marked is_c is_b is_a same =
     let first = same_from_push f3 front a marking (sym is_a ∙ end.0) in
     (first.0, first.1, end.1, last.1)
 
-pub ends_from : (lines f1 f2 f3 : List (List (List ℕ))) (a b c : List (List ℕ)) → lines ≡ f1 ++ c ∷ [] → f1 ≡ f2 ++ b ∷ [] → f2 ≡ f3 ++ a ∷ [] → lines ≡ f3 ++ a ∷ b ∷ c ∷ []
+ends_from : (lines f1 f2 f3 : List (List (List ℕ))) (a b c : List (List ℕ)) → lines ≡ f1 ++ c ∷ [] → f1 ≡ f2 ++ b ∷ [] → f2 ≡ f3 ++ a ∷ [] → lines ≡ f3 ++ a ∷ b ∷ c ∷ []
 ends_from lines f1 f2 f3 a b c is_c is_b is_a = is_c ∙ ap (λ f. f ++ c ∷ []) (is_b ∙ ap (λ f. f ++ b ∷ []) is_a) ∙ sym (end_pushed f3 a b c)
+
+pub ends_with : (lines f1 f2 f3 : List (List (List ℕ))) (a b c : List (List ℕ)) (word marked : List ℕ) → lines ≡ f1 ++ c ∷ [] → f1 ≡ f2 ++ b ∷ [] → f2 ≡ f3 ++ a ∷ [] → a ≡ codes ".marking" ∷ word ∷ [] → word ≡ 123 ∷ marked ++ 125 ∷ [] → is_one (codes ".end") b ≡ true → is_one [] c ≡ true → lines ≡ f3 ++ end_lines marked
+ends_with lines f1 f2 f3 a b c word marked is_c is_b is_a marking braces end last =
+    let first : a ≡ codes ".marking" ∷ (123 ∷ marked ++ 125 ∷ []) ∷ [] = rw braces at marking in
+    rw (first, alone (codes ".end") b end, alone [] c last) at (ends_from lines f1 f2 f3 a b c is_c is_b is_a)
 
 same_marked : (m n : List ℕ) → 123 ∷ m ++ 125 ∷ [] ≡ 123 ∷ n ++ 125 ∷ [] → m ≡ n
 same_marked m n same = let e : m ++ 125 ∷ [] ≡ n ++ 125 ∷ [] = cc in (same_from_push m n 125 125 e).0

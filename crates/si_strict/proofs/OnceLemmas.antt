@@ -1,6 +1,5 @@
 -- The names of states in order of first appearance, one more at a time.
 use Rattle.std.proofs.Common.{◌≡◌, ℕ, zero, suc, ◌<◌, ◌≤◌, ◌⊎◌, ◌||◌, Bool, true, false, not, if◌then◌else◌, List, [], ◌∷◌, ◌++◌, filter, length, slice_get, Some, Contains, Any, bytes_eq, refl, sym, ap, ◌∙◌, arith, inl, inr, append_assoc}
-use Rattle.std.specs.List.{list_any}
 use Rattle.std.proofs.lemmas.Bool.{cases_Bool, true≢false, false_from_ne_true}
 use Rattle.std.proofs.lemmas.List.{append-nil, flat_map_more, length_push}
 use Rattle.std.proofs.lemmas.List.Elements.{filter-append}
@@ -10,12 +9,10 @@ use Rattle.si_base.specs.Words.{once}
 use Rattle.si_base.specs.StrictText.{ArcLine}
 use Rattle.si_base.proofs.Sorted.{In}
 use Rattle.si_base.proofs.Unique.{in_from_contains, contains_from_in}
+use Rattle.si_words.specs.Names.{stands_in}
 use Rattle.si_strict.specs.Strict.{ends_of, with_name}
 
 -- ---- a name among names
-abbrev has : List (List ℕ) → List ℕ → Bool
-has names n = list_any (bytes_eq n) names
-
 same_bytes : (n : List ℕ) → bytes_eq n n ≡ true
 same_bytes n = (bytes_eq-Decides n n).1 refl
 
@@ -28,33 +25,33 @@ bytes_swap n m = elim (cases_Bool (bytes_eq n m)) [
   | inr other ↦ other ∙ sym (false_from_ne_true (bytes_eq m n) (λ back. true≢false (sym ((bytes_eq-Decides n m).1 (sym (bytes_same m n back))) ∙ other)))
 ]
 
-in_has : (names : List (List ℕ)) (n : List ℕ) → In n names → has names n ≡ true
+in_has : (names : List (List ℕ)) (n : List ℕ) → In n names → stands_in names n ≡ true
 in_has [] n there = absurd there
 in_has (m ∷ names) n (inl same) = rw ((bytes_eq-Decides n m).1 same) refl
 in_has (m ∷ names) n (inr later) = elim (cases_Bool (bytes_eq n m)) [ inl yes' ↦ rw yes' refl | inr no' ↦ rw no' (in_has names n later) ]
 
-has_in : (names : List (List ℕ)) (n : List ℕ) → has names n ≡ true → In n names
+has_in : (names : List (List ℕ)) (n : List ℕ) → stands_in names n ≡ true → In n names
 has_in [] n there = cc
 has_in (m ∷ names) n there = elim (cases_Bool (bytes_eq n m)) [ inl same ↦ inl (bytes_same n m same) | inr other ↦ inr (has_in names n (rw other at there)) ]
 
-pub contains_has : (names : List (List ℕ)) (n : List ℕ) → Contains names n → has names n ≡ true
+pub contains_has : (names : List (List ℕ)) (n : List ℕ) → Contains names n → stands_in names n ≡ true
 contains_has names n (k, within, at) = in_has names n (in_from_contains names n k within at)
 
-pub has_contains : (names : List (List ℕ)) (n : List ℕ) → has names n ≡ true → Contains names n
+pub has_contains : (names : List (List ℕ)) (n : List ℕ) → stands_in names n ≡ true → Contains names n
 has_contains names n there = contains_from_in names n (has_in names n there)
 
 -- ---- one more name
 pub added : (old new : List (List ℕ)) (n : List ℕ) → (Contains old n → new ≡ old) → ((Contains old n → ⊥) → new ≡ old ++ n ∷ []) → new ≡ with_name old n
-added old new n present absent = elim (cases_Bool (has old n)) [
+added old new n present absent = elim (cases_Bool (stands_in old n)) [
   | inl there ↦ rw there (present (has_contains old n there))
   | inr not_there ↦ rw not_there (absent (λ is. true≢false (sym (contains_has old n is) ∙ not_there)))
 ]
 
 pub with_new : (old : List (List ℕ)) (n : List ℕ) → (Contains old n → ⊥) → with_name old n ≡ old ++ n ∷ []
-with_new old n absent = rw (false_from_ne_true (has old n) (λ there. absent (has_contains old n there))) refl
+with_new old n absent = rw (false_from_ne_true (stands_in old n) (λ there. absent (has_contains old n there))) refl
 
 pub with_name_longer : (names : List (List ℕ)) (n : List ℕ) → length names ≤ length (with_name names n)
-with_name_longer names n = elim (cases_Bool (has names n)) [ inl there ↦ rw there (omega arith) | inr not_there ↦ rw not_there (omega (arith, length_push names n)) ]
+with_name_longer names n = elim (cases_Bool (stands_in names n)) [ inl there ↦ rw there (omega arith) | inr not_there ↦ rw not_there (omega (arith, length_push names n)) ]
 
 get_before : (names : List (List ℕ)) (m : List ℕ) (i : ℕ) (n : List ℕ) → slice_get names i ≡ Some n → slice_get (names ++ m ∷ []) i ≡ Some n
 get_before [] m i n at = cc
@@ -62,17 +59,17 @@ get_before (x ∷ names) m zero n at = at
 get_before (x ∷ names) m (suc i) n at = get_before names m i n at
 
 pub get_with_name : (names : List (List ℕ)) (m : List ℕ) (i : ℕ) (n : List ℕ) → slice_get names i ≡ Some n → slice_get (with_name names m) i ≡ Some n
-get_with_name names m i n at = elim (cases_Bool (has names m)) [ inl there ↦ rw there at | inr not_there ↦ rw not_there (get_before names m i n at) ]
+get_with_name names m i n at = elim (cases_Bool (stands_in names m)) [ inl there ↦ rw there at | inr not_there ↦ rw not_there (get_before names m i n at) ]
 
 -- ---- each once
-has_filter : (x n : List ℕ) (names : List (List ℕ)) → bytes_eq n x ≡ false → has (filter (λ z. not (bytes_eq z x)) names) n ≡ has names n
+has_filter : (x n : List ℕ) (names : List (List ℕ)) → bytes_eq n x ≡ false → stands_in (filter (λ z. not (bytes_eq z x)) names) n ≡ stands_in names n
 has_filter x n [] other = refl
 has_filter x n (m ∷ names) other = elim (cases_Bool (bytes_eq m x)) [
   | inl same ↦ let apart : bytes_eq n m ≡ false = ap (bytes_eq n) (bytes_same m x same) ∙ other in rw (same, apart) (has_filter x n names other)
   | inr differs ↦ rw differs (ap (λ b. bytes_eq n m || b) (has_filter x n names other))
 ]
 
-has_once : (names : List (List ℕ)) (n : List ℕ) → has (once bytes_eq names) n ≡ has names n
+has_once : (names : List (List ℕ)) (n : List ℕ) → stands_in (once bytes_eq names) n ≡ stands_in names n
 has_once [] n = refl
 has_once (x ∷ names) n = elim (cases_Bool (bytes_eq n x)) [
   | inl same ↦ rw same refl
@@ -81,11 +78,11 @@ has_once (x ∷ names) n = elim (cases_Bool (bytes_eq n x)) [
 
 filter_with_name : (x y : List ℕ) (zs : List (List ℕ)) → filter (λ z. not (bytes_eq z x)) (with_name zs y) ≡ (if bytes_eq y x then filter (λ z. not (bytes_eq z x)) zs else with_name (filter (λ z. not (bytes_eq z x)) zs) y)
 filter_with_name x y zs = elim (cases_Bool (bytes_eq y x)) [
-  | inl same ↦ elim (cases_Bool (has zs y)) [
+  | inl same ↦ elim (cases_Bool (stands_in zs y)) [
     | inl there ↦ rw (same, there) refl
     | inr absent ↦ rw (same, absent) (filter-append p zs (y ∷ []) ∙ rw same (append-nil (filter p zs)))
   ]
-  | inr other ↦ elim (cases_Bool (has zs y)) [
+  | inr other ↦ elim (cases_Bool (stands_in zs y)) [
     | inl there ↦ rw (other, has_filter x y zs other, there) refl
     | inr absent ↦ rw (other, has_filter x y zs other, absent) (filter-append p zs (y ∷ []) ∙ rw other refl)
   ]
@@ -102,9 +99,9 @@ once_push (x ∷ xs) y =
     kept : List (List ℕ)
     kept = filter (λ z. not (bytes_eq z x)) (once bytes_eq xs)
 
-    put_first : (b : Bool) → bytes_eq y x ≡ b → x ∷ (if b then kept else with_name kept y) ≡ (if b || has kept y then x ∷ kept else (x ∷ kept) ++ y ∷ [])
+    put_first : (b : Bool) → bytes_eq y x ≡ b → x ∷ (if b then kept else with_name kept y) ≡ (if b || stands_in kept y then x ∷ kept else (x ∷ kept) ++ y ∷ [])
     put_first true same = refl
-    put_first false other = elim (cases_Bool (has kept y)) [ inl there ↦ rw there refl | inr absent ↦ rw absent refl ]
+    put_first false other = elim (cases_Bool (stands_in kept y)) [ inl there ↦ rw there refl | inr absent ↦ rw absent refl ]
 
 pub once_ends : (arcs : List ArcLine) (a : ArcLine) → once bytes_eq (ends_of (arcs ++ a ∷ [])) ≡ with_name (with_name (once bytes_eq (ends_of arcs)) a.from) a.to
 once_ends arcs a =

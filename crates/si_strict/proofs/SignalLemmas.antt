@@ -7,7 +7,7 @@ use Rattle.si_base.specs.declared.graph.SigKind.{SigKind}
 use Rattle.si_base.specs.declared.graph.Signal.{Signal}
 use Rattle.si_base.specs.Words.{is_signal_name}
 use Rattle.si_base.specs.StrictText.{signals_of}
-use Rattle.si_strict.specs.Lines.{words_now}
+use Rattle.si_words.specs.Reads.{words_now}
 use Rattle.si_strict.specs.Strict.{AreSignalNames, IsNextName}
 
 pub front_names : (xs ys : List (List ℕ)) → AreSignalNames (xs ++ ys) → AreSignalNames xs

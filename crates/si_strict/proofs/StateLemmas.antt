@@ -14,6 +14,7 @@ use Rattle.si_strict.specs.declared.parts.Arc.{Arc}
 use Rattle.si_strict.specs.declared.read.NotRead.TheVariants as read
 use Rattle.si_strict.specs.Read.{not_read_for}
 use Rattle.si_strict.specs.Parts.{arc_now, arcs_now}
+use Rattle.si_words.specs.Names.{stands_in}
 use Rattle.si_strict.specs.Strict.{ends_of, with_name, IsNamed, IsSpelledBy, AreArcLines}
 use Rattle.si_strict.proofs.OnceLemmas.{with_new, with_name_longer, get_with_name, once_ends, once_longer, contains_has}
 
@@ -77,7 +78,7 @@ too_many_to states now a b is full few =
     omega arith
 
 pub room_for : (states : List (List ℕ)) (n : List ℕ) → ((Contains states n → ⊥) × (max_states_read ≤ length states) → ⊥) → length states ≤ max_states_read → length (with_name states n) ≤ max_states_read
-room_for states n not_full few = elim (cases_Bool (list_any (bytes_eq n) states)) [
+room_for states n not_full few = elim (cases_Bool (stands_in states n)) [
   | inl there ↦ rw there few
   | inr absent ↦ rw absent (let new : Contains states n → ⊥ = λ is. true≢false (sym (contains_has states n is) ∙ absent) in elim (cases_lt (length states) max_states_read) [
     | inl room ↦ omega (arith, length_push states n)

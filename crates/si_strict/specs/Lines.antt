@@ -3,9 +3,7 @@ use Rattle.std.specs.Prelude.{◌==◌, ℕ, List, map, Vec}
 use Rattle.std.specs.List.{slice_split}
 use Rattle.std.specs.declared.alloc.Global.{Global}
 use Rattle.std.specs.Borrow.{Bor}
-
-abbrev pub words_now : List (Bor (List ℕ)) → List (List ℕ)
-words_now words = map (λ w. w.now) words
+use Rattle.si_words.specs.Reads.{words_now}
 
 abbrev pub lines_now : List (Vec (Bor (List ℕ)) Global) → List (List (List ℕ))
 lines_now lines = map (λ v. words_now v.items) lines

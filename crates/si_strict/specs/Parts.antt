@@ -1,7 +1,7 @@
 -- The parts of a text as the reader holds them, and the lines that spell them.
 use Rattle.std.specs.Prelude.{◌≡◌, ℕ, List, [], ◌∷◌, ◌++◌, map, codes}
 use Rattle.si_base.specs.StrictText.{ArcLine, Spelling, arc_line, list_line}
-use Rattle.si_strict.specs.Lines.{words_now}
+use Rattle.si_words.specs.Reads.{words_now}
 use Rattle.si_strict.specs.declared.parts.Arc.{Arc}
 use Rattle.si_strict.specs.declared.parts.Header.{Header}
 use Rattle.si_strict.specs.declared.parts.Parts.{Parts}

@@ -1,10 +1,10 @@
 -- What makes the parts of a text strict, one part at a time.
 use Rattle.std.specs.Prelude.{◌≡◌, ◌≢◌, ℕ, ◌<◌, ◌≤◌, List, [], ◌∷◌, ◌++◌, length, flat_map, IsTrue, All, AllPairs, Contains, Some, slice_get, bytes_eq, if◌then◌else◌}
-use Rattle.std.specs.List.{list_any}
 use Rattle.si_base.specs.declared.graph.Edge.{Edge}
 use Rattle.si_base.specs.Words.{is_signal_name, IsStateName, once}
 use Rattle.si_base.specs.Limits.{max_signals, max_states_read}
 use Rattle.si_base.specs.StrictText.{ArcLine}
+use Rattle.si_words.specs.Names.{stands_in}
 
 -- names of signals in the strict form
 pub record AreSignalNames (names : List (List ℕ)) : Type 0 where
@@ -24,7 +24,7 @@ ends_of arcs = flat_map (λ a. a.from ∷ a.to ∷ []) arcs
 
 -- the names with this one, last if it is new
 abbrev pub with_name : List (List ℕ) → List ℕ → List (List ℕ)
-with_name names name = if list_any (bytes_eq name) names then names else names ++ name ∷ []
+with_name names name = if stands_in names name then names else names ++ name ∷ []
 
 -- an arc line of well-formed state names and a known signal
 abbrev pub IsNamed : List (List ℕ) → ArcLine → Type 0

@@ -5,3 +5,5 @@ mod lines;
 mod parts;
 pub mod read;
 mod strict;
+#[cfg(test)]
+mod tests;

@@ -1,7 +1,8 @@
 //! A text as lines of words.
 
 ghost use Rattle.std.specs.Prelude.{◌≡◌, ◌==◌, ◌<◌, ◌*◌, ◌↔◌, ℕ, List, [], ◌∷◌, ◌++◌, IfOk, IsTrue, MatchOption, count_by, length};
-ghost use Rattle.si_strict.specs.Lines.{words_now, lines_now, words_between, lines_between};
+ghost use Rattle.si_strict.specs.Lines.{lines_now, words_between, lines_between};
+ghost use Rattle.si_words.specs.Reads.{words_now};
 
 use std::alloc::{AllocError, Global};
 

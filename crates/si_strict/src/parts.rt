@@ -1,12 +1,14 @@
 //! The parts of a strict text.
 
-ghost use Rattle.std.specs.Prelude.{◌≡◌, ℕ, List, [], ◌∷◌, ◌++◌, map, codes, Err, IfOk, MatchOption, ◌⊎◌, IsTrue, ◌↔◌};
+ghost use Rattle.std.specs.Prelude.{◌≡◌, ℕ, List, [], ◌∷◌, ◌++◌, map, codes, Err, IfOk, MatchOption, ◌⊎◌};
 ghost use Rattle.si_base.specs.StrictText.{ArcLine, Spelling, arc_line};
-ghost use Rattle.si_strict.specs.Lines.{words_now, lines_now};
+ghost use Rattle.si_strict.specs.Lines.{lines_now};
+ghost use Rattle.si_words.specs.Reads.{words_now};
 ghost use Rattle.si_strict.specs.Parts.{arc_now, arcs_now, spelling_of, HeaderNames, header_now, header_lines, end_lines, all_lines, TakesList};
 
 use crate::lines::{split_first_line, split_last_line};
 use crate::read::NotRead;
+use si_words::gate_lines::is_one;
 use std::alloc::Global;
 
 /// An arc line: a state, a signal with its direction, a state.
@@ -107,16 +109,6 @@ fn words_behind<'l, 'a>(words: &'l [&'a [u8]], head: &[u8]) -> Option<&'l [&'a [
     if *first == head { Some(rest) } else { None }
 }
 
-/// Whether the words are just this one.
-fn is_only(words: &[&[u8]], word: &[u8]) -> bool
-    ensures { IsTrue result ↔ (words_now words.now ≡ word.now ∷ []) }
-{
-    match words_behind(words, word) {
-        Some([]) => true,
-        _ => false,
-    }
-}
-
 /// The names of a list line with that head and the lines after it; no names where the first line has another head.
 /// `None` exactly where there is no line, or it has the head and no name.
 fn list_names<'l, 'a>(
@@ -144,7 +136,7 @@ fn ending_of<'l, 'a>(lines: &'l [Vec<&'a [u8]>]) -> Option<(&'l [Vec<&'a [u8]>],
     let (marking, arc_lines) = split_last_line(lines_to_marking)?;
     let word = value_of(marking, b".marking")?;
     let marked = in_braces(word)?;
-    if is_only(end, b".end") && is_only(last, b"") {
+    if is_one(b".end", end) && is_one(b"", last) {
         Some((arc_lines, marked))
     } else {
         None

@@ -10,7 +10,7 @@ ghost use Rattle.si_base.specs.Limits.{max_signals, max_states_read};
 ghost use Rattle.si_base.specs.StrictText.{IsStrict, Spells, state_names, signal_names, signals_of};
 ghost use Rattle.si_base.specs.Words as words;
 ghost use Rattle.si_base.specs.Words.{once, IsStateName};
-ghost use Rattle.si_strict.specs.Lines.{words_now};
+ghost use Rattle.si_words.specs.Reads.{words_now};
 ghost use Rattle.si_strict.specs.Parts.{arc_now, arcs_now, header_now, spelling_of};
 ghost use Rattle.si_strict.specs.Strict.{AreSignalNames, IsNextName, AreArcLines, IsNamed, IsSpelledBy, ends_of, with_name};
 

@@ -1,7 +1,8 @@
 use Rattle.std.proofs.Common.{◌≡◌, ℕ, ◌+◌, ◌<◌, ◌==◌, List, [], ◌∷◌, ◌++◌, map, take, get_or, length, sym, ap, ap₂, ◌∙◌, Vec, Global, Bor}
 use Rattle.std.proofs.lemmas.List.{take_more, map-append, get_or-map, length-map}
 use Rattle.std.specs.List.{slice_split}
-use Rattle.si_strict.specs.Lines.{words_now, lines_now}
+use Rattle.si_strict.specs.Lines.{lines_now}
+use Rattle.si_words.specs.Reads.{words_now}
 use Rattle.si_strict.proofs.lines.lines_of.Goals as goal
 
 lines_more : (lines : List (Vec (Bor (List ℕ)) Global)) (v : Vec (Bor (List ℕ)) Global) (parts : List (Bor (List ℕ))) (i : ℕ) (d : Bor (List ℕ)) (f : List ℕ → List (List ℕ)) → lines_now lines ≡ map f (take i (words_now parts)) → words_now v.items ≡ f (get_or parts i d).now → i < length parts → lines_now (lines ++ v ∷ []) ≡ map f (take (i + 1) (words_now parts))

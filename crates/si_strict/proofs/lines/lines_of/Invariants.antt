@@ -1,5 +1,6 @@
 use Rattle.std.proofs.Common.{◌≡◌, map, take}
-use Rattle.si_strict.specs.Lines.{words_now, lines_now, words_between}
+use Rattle.si_strict.specs.Lines.{lines_now, words_between}
+use Rattle.si_words.specs.Reads.{words_now}
 use Rattle.si_strict.proofs.lines.lines_of.Given as goal
 
 abbrev pub invariant-loop-part : goal.invariant-loop-part

@@ -1,5 +1,5 @@
 use Rattle.std.proofs.Common.{sym, ◌∙◌, ap}
-use Rattle.si_strict.specs.Lines.{words_now}
+use Rattle.si_words.specs.Reads.{words_now}
 use Rattle.si_strict.proofs.ArcLemmas.{arcs_more, arc_at}
 use Rattle.si_strict.proofs.parts.arcs_of.Goals as goal
 

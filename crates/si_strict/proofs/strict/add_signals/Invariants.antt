@@ -1,6 +1,6 @@
 use Rattle.std.proofs.Common.{◌≡◌, ◌++◌, take}
 use Rattle.si_base.specs.StrictText.{signals_of}
-use Rattle.si_strict.specs.Lines.{words_now}
+use Rattle.si_words.specs.Reads.{words_now}
 use Rattle.si_strict.specs.Strict.{AreSignalNames}
 use Rattle.si_strict.proofs.strict.add_signals.Given as goal
 
