@@ -71,6 +71,8 @@ fn same_kind(a: SigKind, b: SigKind) -> bool
 
 /// Adds a line of a word and the signals' values: a digit each, in their order, and the word alone where there is no
 /// signal.
+///
+/// It fails only for want of memory. The text may then end in a part of the line, and isn't to be used.
 pub fn add_values_line(
     text: &mut Text,
     word: &[u8],
