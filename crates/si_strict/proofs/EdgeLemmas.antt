@@ -1,9 +1,7 @@
 -- Arcs of a graph and the lines that spell them, as many of the one as of the other.
-use Rattle.std.proofs.Common.{◌≡◌, ◌≢◌, ℕ, ◌+◌, ◌<◌, ◌≤◌, ◌⊎◌, ◌↔◌, Bool, true, false, not, cond, List, [], ◌∷◌, map, filter, length, get_or, slice_get, Some, Contains, Any, All, AllPairs, bytes_eq, refl, sym, ap, ap₂, subst, ◌∙◌, arith, rules, inl, inr, Ordering, Less}
+use Rattle.std.proofs.Common.{◌≡◌, ◌≢◌, ℕ, ◌+◌, ◌<◌, ◌≤◌, ◌⊎◌, ◌↔◌, Bool, true, not, List, [], ◌∷◌, map, filter, length, get_or, slice_get, Some, Contains, Any, All, AllPairs, bytes_eq, refl, sym, ap, ap₂, subst, ◌∙◌, arith, inl, inr, Ordering, Less}
 use Rattle.std.specs.List.{AllZip, AllByRecursion}
 use Rattle.std.specs.List.Sorted.{IsStrictlySortedBy}
-use Rattle.std.specs.Cmp.{IsTotalOrder}
-use Rattle.std.specs.Cmp.Rules.{comparing}
 use Rattle.std.specs.Ordering.{ordering_reverse}
 use Rattle.std.proofs.lemmas.Bool.{cases_Bool, cases_order, true≢false, and_parts}
 use Rattle.std.proofs.lemmas.List.Elements.{Contains-get_or}
@@ -16,14 +14,11 @@ use Rattle.si_base.specs.Words.{once}
 use Rattle.si_base.specs.StrictText.{ArcLine, SpellsArc, same_arc}
 use Rattle.si_base.proofs.Steps.{beq-refl, beq-true}
 use Rattle.si_base.proofs.Sorted.{In}
-use Rattle.si_base.proofs.Unique.{in_from_contains, contains_from_in}
+use Rattle.si_base.proofs.Unique.{in_from_contains, contains_from_in, edges_total}
+use Rattle.si_base.proofs.UniqueText.{Distinct, in_filter, distinct_filter}
 use Rattle.si_strict.specs.Strict.{IsSpelledBy}
 
 -- ---- lists without repetition
-abbrev Apart : {K : Type 0} → List K → Type 0
-Apart [] = Unit {0}
-Apart (x ∷ xs) = (In x xs → ⊥) × Apart xs
-
 without : {B : Type 0} (ys : List B) (y : B) → In y ys → (rest : List B) × (length ys ≡ length rest + 1) × ((z : B) → In z ys → (z ≡ y) ⊎ In z rest)
 without [] y there = absurd there
 without (x ∷ ys) y (inl same) = (ys, omega arith, λ z there. elim there [ inl e ↦ inl (e ∙ sym same) | inr later ↦ inr later ])
@@ -32,7 +27,7 @@ without (x ∷ ys) y (inr later) =
     (x ∷ r.0, omega (arith, r.1), λ z there. elim there [ inl e ↦ inr (inl e) | inr deeper ↦ elim (r.2 z deeper) [ inl e ↦ inl e | inr kept ↦ inr (inr kept) ] ])
 
 -- a list without repetition is no longer than a list that has a partner of its own for each element
-not_longer : {A B : Type 0} (R : A → B → Type 0) → ((x z : A) (y : B) → R x y → R z y → x ≡ z) → (xs : List A) (ys : List B) → Apart xs → ((x : A) → In x xs → (y : B) × In y ys × R x y) → length xs ≤ length ys
+not_longer : {A B : Type 0} (R : A → B → Type 0) → ((x z : A) (y : B) → R x y → R z y → x ≡ z) → (xs : List A) (ys : List B) → Distinct xs → ((x : A) → In x xs → (y : B) × In y ys × R x y) → length xs ≤ length ys
 not_longer R one [] ys apart into = omega arith
 not_longer {A} R one (x ∷ xs) ys apart into =
     let first = into x (inl refl) in
@@ -44,33 +39,17 @@ not_longer {A} R one (x ∷ xs) ys apart into =
     let more = less.1 in
     omega arith
 
-in_filter : {K : Type 0} (p : K → Bool) (xs : List K) (a : K) → In a (filter p xs) → (p a ≡ true) × In a xs
-in_filter p [] a there = absurd there
-in_filter p (x ∷ xs) a there = by_test (p x) refl (in_filter p xs a) there
-  where
-    by_test : (b : Bool) → p x ≡ b → (In a (filter p xs) → (p a ≡ true) × In a xs) → In a (cond b (x ∷ filter p xs) (filter p xs)) → (p a ≡ true) × ((a ≡ x) ⊎ In a xs)
-    by_test true passes rest (inl same) = (ap p same ∙ passes, inl same)
-    by_test true passes rest (inr later) = let r = rest later in (r.0, inr r.1)
-    by_test false fails rest later = let r = rest later in (r.0, inr r.1)
-
 filter_in : {K : Type 0} (p : K → Bool) (xs : List K) (a : K) → p a ≡ true → In a xs → In a (filter p xs)
 filter_in p [] a passes there = absurd there
 filter_in {K} p (x ∷ xs) a passes (inl same) = rw (ap p (sym same) ∙ passes) (inl same)
 filter_in p (x ∷ xs) a passes (inr later) = elim (cases_Bool (p x)) [ inl yes' ↦ rw yes' (inr (filter_in p xs a passes later)) | inr no' ↦ rw no' (filter_in p xs a passes later) ]
 
-apart_filter : {K : Type 0} (p : K → Bool) (xs : List K) → Apart xs → Apart (filter p xs)
-apart_filter p [] apart = tt
-apart_filter p (x ∷ xs) apart = elim (cases_Bool (p x)) [
-  | inl passes ↦ rw passes ((λ there. apart.0 (in_filter p xs x there).1), apart_filter p xs apart.1)
-  | inr fails ↦ rw fails (apart_filter p xs apart.1)
-]
-
 module _ {K : Type 0} (same : K → K → Bool) (itself : (a : K) → same a a ≡ true) (equal : (a b : K) → same a b ≡ true → a ≡ b) where
-  once_apart : (xs : List K) → Apart (once same xs)
+  once_apart : (xs : List K) → Distinct (once same xs)
   once_apart [] = tt
   once_apart (x ∷ xs) = (
     (λ there. true≢false (sym (in_filter (λ y. not (same y x)) (once same xs) x there).0 ∙ ap not (itself x))),
-    apart_filter (λ y. not (same y x)) (once same xs) (once_apart xs),
+    distinct_filter (λ y. not (same y x)) (once same xs) (once_apart xs),
   )
 
   in_once : (xs : List K) (a : K) → In a (once same xs) → In a xs
@@ -87,9 +66,6 @@ module _ {K : Type 0} (same : K → K → Bool) (itself : (a : K) → same a a �
   ]
 
 -- ---- arcs in order
-edges_total : IsTotalOrder edge_cmp
-edges_total = search (comparing, rules) depth 9
-
 before_itself : (o : Ordering) → o ≡ ordering_reverse o → o ≡ Less → ⊥
 before_itself o same less = let e : Less ≡ ordering_reverse Less = sym less ∙ same ∙ ap ordering_reverse less in cc
 
@@ -98,7 +74,7 @@ in_order a [] all there = there
 in_order a (x ∷ xs) all (inl same) = before_itself (edge_cmp a a) (edges_total.antisymm a a) (ap (edge_cmp a) same ∙ all.0)
 in_order a (x ∷ xs) all (inr later) = in_order a xs all.1 later
 
-sorted_apart : (xs : List Edge) → IsStrictlySortedBy edge_cmp xs → Apart xs
+sorted_apart : (xs : List Edge) → IsStrictlySortedBy edge_cmp xs → Distinct xs
 unfolding IsStrictlySortedBy
 sorted_apart [] sorted = tt
 sorted_apart (x ∷ xs) sorted = (in_order x xs sorted.0, sorted_apart xs sorted.1)

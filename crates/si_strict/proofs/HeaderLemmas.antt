@@ -1,9 +1,10 @@
 -- The lines before the arcs and the lines after them are those of one spelling.
-use Rattle.std.proofs.Common.{◌≡◌, ℕ, ◌⊎◌, Bool, true, false, List, [], ◌∷◌, ◌++◌, map, refl, sym, ap, ap₂, ◌∙◌, codes, inl, inr, append_assoc}
+use Rattle.std.proofs.Common.{◌≡◌, ℕ, ◌⊎◌, true, List, [], ◌∷◌, ◌++◌, map, refl, sym, ap, ap₂, ◌∙◌, codes, inl, inr, append_assoc}
 use Rattle.std.proofs.lemmas.Bool.{true≢false}
 use Rattle.std.proofs.lemmas.List.{same_from_push}
 use Rattle.std.proofs.lemmas.Slice.Eq.{bytes_eq-Decides}
-use Rattle.si_base.specs.StrictText.{Spelling, ArcLine, arc_line, list_line, sign}
+use Rattle.si_base.specs.StrictText.{Spelling, ArcLine, arc_line, list_line}
+use Rattle.si_base.proofs.UniqueText.{same_arc}
 use Rattle.si_words.specs.Sums.{is_one}
 use Rattle.si_strict.specs.Parts.{HeaderNames, header_lines, end_lines, all_lines, BeginsOtherwise, TakesList}
 
@@ -141,22 +142,6 @@ end_same f g m n same =
     (sym is.0, sym (same_marked n m words))
 
 -- ---- arc lines
-same_sign : (a b : Bool) → sign a ≡ sign b → a ≡ b
-same_sign true true h = refl
-same_sign true false h = cc
-same_sign false true h = cc
-same_sign false false h = refl
-
-one_arc : (a b : ArcLine) → arc_line a ≡ arc_line b → a ≡ b
-one_arc a b same =
-    let from : a.from ≡ b.from = cc in
-    let to : a.to ≡ b.to = cc in
-    let event : a.signal ++ sign a.up ∷ [] ≡ b.signal ++ sign b.up ∷ [] = cc in
-    let parts = same_from_push a.signal b.signal (sign a.up) (sign b.up) event in
-    let one : List ℕ → List ℕ → ArcLine = λ f n. record { from = f; signal = n; up = a.up; to = a.to } in
-    let two : Bool → List ℕ → ArcLine = λ u t. record { from = b.from; signal = b.signal; up = u; to = t } in
-    ap₂ one from parts.0 ∙ ap₂ two (same_sign a.up b.up parts.1) to
-
 same_arcs : (xs ys : List ArcLine) → map arc_line xs ≡ map arc_line ys → xs ≡ ys
 same_arcs [] [] same = refl
 same_arcs [] (b ∷ ys) same = cc
@@ -164,7 +149,7 @@ same_arcs (a ∷ xs) [] same = cc
 same_arcs (a ∷ xs) (b ∷ ys) same =
     let head : arc_line a ≡ arc_line b = cc in
     let tails : map arc_line xs ≡ map arc_line ys = cc in
-    ap₂ (λ (l : ArcLine) (ls : List ArcLine). l ∷ ls) (one_arc a b head) (same_arcs xs ys tails)
+    ap₂ (λ (l : ArcLine) (ls : List ArcLine). l ∷ ls) (same_arc a b head) (same_arcs xs ys tails)
 
 -- ---- all lines
 abbrev header_of : Spelling → HeaderNames

@@ -5,16 +5,14 @@ use Rattle.si_base.specs.declared.graph.Edge.{Edge}
 use Rattle.si_base.specs.Graph.{same_event}
 use Rattle.si_base.proofs.Steps.{same_event-true}
 use Rattle.std.specs.Cmp.Rules.{comparing}
-use Rattle.std.specs.Cmp.{IsTotalOrder, IsEquivalence}
+use Rattle.std.specs.Cmp.{IsEquivalence}
 use Rattle.std.specs.Ordering.{eq_by_cmp}
 use Rattle.std.proofs.lemmas.List.Filters.{dedup_is}
 use Rattle.std.proofs.lemmas.List.Kept.{IsStrictlySortedBy-dedup, Contains-dedup, Contains-from_dedup}
 use Rattle.std.proofs.lemmas.List.Sorted.{Contains-permutation, IsPermutation-sym}
 use Rattle.si_base.specs.EdgeOrder.{edge_cmp}
+use Rattle.si_base.proofs.Unique.{edges_total}
 use Rattle.si_strict.proofs.strict.each_once.Goals as goal
-
-edges_total : IsTotalOrder edge_cmp
-edges_total = search (comparing, rules) depth 9
 
 abbrev same_edge : Edge → Edge → Bool
 same_edge x y = (x.from == y.from) && (same_event x.event y.event && (x.to == y.to))
