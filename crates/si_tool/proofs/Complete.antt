@@ -1,5 +1,5 @@
 -- The texts of a command deserve one status, so told texts get the one that they deserve.
-use Rattle.std.proofs.Common.{◌≡◌, ◌≢◌, ℕ, List, [], ◌∷◌, Option, Some, IfSome, refl, sym, ap, subst, ◌∙◌, arith, ◌⊎◌, inl, inr, String, Global}
+use Rattle.std.proofs.Common.{◌≡◌, ◌≢◌, ℕ, suc, length, List, [], ◌∷◌, Option, Some, IfSome, refl, sym, ap, subst, ◌∙◌, arith, ◌⊎◌, inl, inr, String, Global}
 use Rattle.si_io.specs.Outside.{Rose}
 use Rattle.si_tool.specs.Answer.{AreShort, Answers, CanBeDone, Deserve, DeserveRefusal, IsOutput}
 use Rattle.si_tool.specs.Command.{Asked, AsksSynth, AsksReplay, Asks, files_of}
@@ -29,16 +29,22 @@ at_texts words content asked texts P asks are told =
     let same : told.asked ≡ asked = one_asked words told.asked asked told.asks asks in
     at_told content (files_of asked) texts (P asked) are (subst (λ (a : Asked). Told content (files_of a) (P a)) same told.holds)
 
--- ---- told texts deserve one status
-one_status : (content : List ℕ → Option (List ℕ)) (asked : Asked) (texts : List (List ℕ)) (s t : Status) → AreTold content (files_of asked) texts → Deserve asked texts s → Deserve asked texts t → s ≡ t
-one_status content (AsksSynth f) [] s t are one other = absurd are
-one_status content (AsksSynth f) (text ∷ []) s t are one other = one_synth f text s t one other
-one_status content (AsksSynth f) (text ∷ x ∷ texts) s t are one other = absurd are.1
-one_status content (AsksReplay g n l) [] s t are one other = absurd are
-one_status content (AsksReplay g n l) (a ∷ []) s t are one other = absurd are.1
-one_status content (AsksReplay g n l) (a ∷ b ∷ []) s t are one other = absurd are.1.1
-one_status content (AsksReplay g n l) (a ∷ b ∷ c ∷ []) s t are one other = one_replay g n l a b c s t one other
-one_status content (AsksReplay g n l) (a ∷ b ∷ c ∷ x ∷ texts) s t are one other = absurd are.1.1.1
+-- ---- the texts of a command deserve one status
+as_many_texts : (content : List ℕ → Option (List ℕ)) (files texts : List (List ℕ)) → AreTold content files texts → length texts ≡ length files
+as_many_texts content [] [] are = refl
+as_many_texts content [] (text ∷ texts) are = absurd are
+as_many_texts content (file ∷ files) [] are = absurd are
+as_many_texts content (file ∷ files) (text ∷ texts) are = ap suc (as_many_texts content files texts are.1)
+
+pub one_status : (asked : Asked) (texts : List (List ℕ)) (s t : Status) → length texts ≡ length (files_of asked) → Deserve asked texts s → Deserve asked texts t → s ≡ t
+one_status (AsksSynth f) [] s t many one other = absurd (omega arith)
+one_status (AsksSynth f) (text ∷ []) s t many one other = one_synth f text s t one other
+one_status (AsksSynth f) (text ∷ x ∷ texts) s t many one other = absurd (omega arith)
+one_status (AsksReplay g n l) [] s t many one other = absurd (omega arith)
+one_status (AsksReplay g n l) (a ∷ []) s t many one other = absurd (omega arith)
+one_status (AsksReplay g n l) (a ∷ b ∷ []) s t many one other = absurd (omega arith)
+one_status (AsksReplay g n l) (a ∷ b ∷ c ∷ []) s t many one other = one_replay g n l a b c s t one other
+one_status (AsksReplay g n l) (a ∷ b ∷ c ∷ x ∷ texts) s t many one other = absurd (omega arith)
 
 can_be_done : (content : List ℕ → Option (List ℕ)) (asked : Asked) (texts : List (List ℕ)) (output : List ℕ) → AreTold content (files_of asked) texts → Answers asked texts output → CanBeDone asked texts
 can_be_done content (AsksSynth f) [] output are is = absurd are
@@ -54,7 +60,7 @@ can_be_done content (AsksReplay g n l) (a ∷ b ∷ c ∷ x ∷ texts) output ar
 refused_as : (words : List (String Global)) (content : List ℕ → Option (List ℕ)) (R W : Type 0) (s : Status) (asked : Asked) (texts : List (List ℕ)) (status : Status)
     → Asks words asked → AreTold content (files_of asked) texts → Deserve asked texts status → AskingTold words content (DeserveRefusal s) → Ends status s R W
 refused_as words content R W s asked texts status asks are deserved told =
-    AsDeserved (one_status content asked texts s status are (inr (at_texts words content asked texts (DeserveRefusal s) asks are told)) deserved)
+    AsDeserved (one_status asked texts s status (as_many_texts content (files_of asked) texts are) (inr (at_texts words content asked texts (DeserveRefusal s) asks are told)) deserved)
 
 -- what the causes of a run leave of its answer
 pub complete : (words : List (String Global)) (content : List ℕ → Option (List ℕ)) (before now : List ℕ → ℕ) (W : Type 0) (result : Status) (eb en : ℕ) (err_old err_new old new : Option (List ℕ))
@@ -64,7 +70,7 @@ pub complete : (words : List (String Global)) (content : List ℕ → Option (Li
     → Ends status result (ReadRose words before now) W
 complete words content before now W Done eb en eo ew old new refused done asked texts status asks are deserved =
     let told = at_texts words content asked texts (Outputs old new) asks are (done refl) in
-    AsDeserved (one_status content asked texts Done status are (inl (refl, told.is.0, can_be_done content asked texts told.output are told.is.1)) deserved)
+    AsDeserved (one_status asked texts Done status (as_many_texts content (files_of asked) texts are) (inl (refl, told.is.0, can_be_done content asked texts told.output are told.is.1)) deserved)
 complete words content before now W NoMemory eb en eo ew old new refused done asked texts status asks are deserved = WithoutMemory refl
 complete words content before now W Usage eb en eo ew old new refused done asked texts status asks are deserved = absurd (usage_refused words content before now W Usage eb en eo ew refused refl asked asks)
 complete words content before now W ReadFault eb en eo ew old new refused done asked texts status asks are deserved = ByReadFault refl (read_refused words content before now W ReadFault eb en eo ew refused refl)

@@ -1,5 +1,5 @@
 -- The texts of a replay, and where its schedule ends.
-use Rattle.std.proofs.Common.{◌≡◌, ℕ, ◌<◌, List, [], ◌∷◌, length, map, Option, Some, None, Result, Ok, Err, IfOk, IfErr, refl, sym, ap, subst, subst₂, ◌∙◌, arith}
+use Rattle.std.proofs.Common.{◌≡◌, ℕ, ◌<◌, List, [], ◌∷◌, length, map, Option, Some, None, Result, Ok, Err, IfOk, IfErr, refl, sym, ap, subst, subst₂, ◌∙◌, arith, ◌⊎◌, inl, inr}
 use Rattle.std.proofs.lemmas.List.{length-map}
 use Rattle.si_base.specs.declared.ids.Event.{Event}
 use Rattle.si_base.specs.declared.graph.Signal.{Signal}
@@ -15,18 +15,21 @@ use Rattle.si_base.specs.System.{State, IsFor, May, Fires, start}
 use Rattle.si_base.proofs.Circuit.{step_within}
 use Rattle.si_netlist.specs.NetlistFault.{netlist_fault}
 use Rattle.si_netlist.specs.NetlistValue.{netlist_of}
+use Rattle.si_system.proofs.OutcomeExists.{some_outcome}
 use Rattle.si_system.specs.Lists.{ShowsDifference}
 use Rattle.si_system.specs.Outcome.{Passes, IsOutcome}
 use Rattle.si_system.specs.ScheduleText.{signal_names, schedule_fault, schedule_of}
 use Rattle.si_system.specs.declared.replay.Outcome.{Outcome}
 use Rattle.si_system.specs.declared.replay.Outcome.TheVariants as outcome
 use Rattle.si_system.specs.declared.verdict.Verdict.{Verdict}
+use Rattle.si_tool.specs.Answer.{AreShort, Deserve}
 use Rattle.si_tool.specs.Command.{AsksReplay}
 use Rattle.si_tool.specs.Loads.{RefusesText, RefusesTexts, Departs, HasName, TellsEnd, TellsDeparture}
 use Rattle.si_tool.specs.Refusal.{Refusal, NoMemory, Usage, ReadFault, WriteFault, TooLong, BadText, ListsDiffer, Improper, Unresolved, Differs, seen}
-use Rattle.si_tool.specs.Replayed.{OfSchedule, AreRead, HaveDifference, HaveOutcome, HaveDeparture, IsReplay, events_over, replay_text, shown_signal}
+use Rattle.si_tool.specs.Replayed.{OfSchedule, AreRead, AreSound, HaveDifference, HaveOutcome, HaveDeparture, IsReplay, events_over, replay_text, shown_signal}
 use Rattle.si_tool.specs.Synthesis.{IsSound}
 use Rattle.si_tool.specs.declared.refusals.Refusal.{Refusal as RefusalMade}
+use Rattle.si_tool.specs.declared.status.Status.TheVariants as status
 
 may_within : (kind : SigKind) (g : StateGraph) (n : Netlist) (values s : ℕ) (e : Event) (t : ℕ) → IsGraph g → s < g.states → May kind g n values s e (Some t) → t < g.states
 may_within Input g n values s e t is inside may = (step_within g s e t is may.1.step).2
@@ -183,3 +186,17 @@ pub departs_told : {X : Type 0} (r : Result X RefusalMade) (g n s a b c : List �
     → IfErr r (λ x. TellsDeparture net.signals o (seen x)) → IfErr r (λ x. RefusesTexts (AsksReplay g n s) (a ∷ b ∷ c ∷ []) (seen x))
 departs_told (Ok text) g n s a b c net o have netlist due = tt
 departs_told (Err x) g n s a b c net o have netlist due = outcome_due g n s a b c net o (seen x) have netlist due
+
+-- ---- where nothing is refused, a replay ends or departs from the graph
+ends_so : (g n s a b c : List ℕ) (o : Outcome) → AreShort (a ∷ b ∷ c ∷ []) → HaveOutcome a b c o → Deserve (AsksReplay g n s) (a ∷ b ∷ c ∷ []) status.Done ⊎ Deserve (AsksReplay g n s) (a ∷ b ∷ c ∷ []) status.Differs
+ends_so g n s a b c (outcome.Done values state) short have = inl (inl (refl, short, (values, state, have)))
+ends_so g n s a b c (outcome.Differs step event verdict) short have =
+    let departs : HaveDeparture a b c step (name_of (netlist_of b).signals (shown_signal event verdict)) verdict = record { event = event; outcome_is = have; signal_is = refl } in
+    inr (inr (Differs step (name_of (netlist_of b).signals (shown_signal event verdict)) verdict, refl, (short, departs)))
+
+pub replay_ends : (g n s a b c : List ℕ) (given : Sg) (coded : CodedGraph) → AreShort (a ∷ b ∷ c ∷ []) → AreSound a b c given coded → IsFor coded (netlist_of b)
+    → Deserve (AsksReplay g n s) (a ∷ b ∷ c ∷ []) status.Done ⊎ Deserve (AsksReplay g n s) (a ∷ b ∷ c ∷ []) status.Differs
+replay_ends g n s a b c given coded short sound is_for =
+    let net = netlist_of b in
+    let some = some_outcome given.graph net (start given.graph net) (events_over b c) refl in
+    ends_so g n s a b c some.0 short (record { given = given; coded = coded; sound = sound; is_for = is_for; outcome_is = some.1 })

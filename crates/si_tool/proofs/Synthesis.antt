@@ -1,5 +1,6 @@
 -- What the stages show together.
-use Rattle.std.proofs.Common.{◌≡◌, ℕ, zero, suc, List, [], ◌∷◌, ◌++◌, false, not, filter, slice_get, Some, refl, sym, ap, subst}
+use Rattle.std.proofs.Common.{◌≡◌, ℕ, zero, suc, List, [], ◌∷◌, ◌++◌, false, not, filter, slice_get, get_or, Some, refl, sym, ap, subst, ◌∙◌}
+use Rattle.std.proofs.lemmas.Option.{slice_get-get_or}
 use Rattle.si_base.specs.declared.graph.Signal.{Signal}
 use Rattle.si_base.specs.declared.graph.SigKind.{SigKind}
 use Rattle.si_base.specs.declared.graph.SigKind.TheVariants.{Input, Output, Internal}
@@ -13,6 +14,8 @@ use Rattle.si_base.specs.NetlistText.{netlist_text}
 use Rattle.si_base.specs.Behaviour.{Implements}
 use Rattle.si_base.specs.StrictText.{IsGiven, Sg, signals_of}
 use Rattle.si_base.proofs.FullSums.{full_implements}
+use Rattle.si_strict.proofs.WholeLemmas.{names_named}
+use Rattle.si_sums.specs.Spelled.{AreSpelled}
 use Rattle.si_tool.specs.Synthesis.{IsSynthesis}
 
 -- no signal of the list is inserted
@@ -42,6 +45,14 @@ pub given_signals : (text : List ℕ) (sg : Sg) → IsGiven text sg → NoneInse
 given_signals text sg is =
     rw (is.cut.signals_stay, is.spells.signals_are)
     (none_of_both _ _ (none_of_both _ _ (none_of_kind Input is.parts.inputs refl) (none_of_kind Output is.parts.outputs refl)) (none_of_kind Internal is.parts.internals refl))
+
+-- what a text gives is spelled so
+pub given_spelled : (text : List ℕ) (sg : Sg) → IsGiven text sg → AreSpelled sg.model sg.graph.signals
+given_spelled text sg given = record {
+  model_name = rw given.model_is given.strict.model;
+  names = names_named given.parts.inputs given.parts.outputs given.parts.internals sg.graph.signals (given.cut.signals_stay ∙ given.spells.signals_are) given.strict.names;
+  none_inserted = λ k d within. given_signals text sg given k (get_or sg.graph.signals k d) (slice_get-get_or sg.graph.signals k d within);
+}
 
 -- the netlist of full sums has the model, the signals and the start of its graph
 model_of_full : (model : List ℕ) (c : CodedGraph) → (full_netlist model c).model ≡ model

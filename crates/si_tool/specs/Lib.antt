@@ -7,5 +7,4 @@ pub mod Replayed
 pub mod Answer
 pub mod Ending
 pub mod Loads
-pub mod Spelled
 pub mod ExitStatus

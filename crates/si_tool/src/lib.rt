@@ -2,14 +2,13 @@
 #![tactic(auto)]
 
 pub mod command;
-pub mod full;
+pub mod laws;
 mod output;
 pub mod refusals;
 pub mod replayed;
 pub mod run;
 pub mod sound;
 pub mod status;
-mod sums;
 pub mod sure;
 pub mod synth;
 #[cfg(test)]

@@ -4,11 +4,11 @@ ghost use Rattle.std.specs.Prelude.{◌≡◌, ℕ, IfOk, Err};
 ghost use Rattle.si_strict.specs.Read.{IsBadText};
 ghost use Rattle.si_tool.specs.Synthesis.{IsImproper, IsUnresolved, IsSynthesis};
 
-use crate::full::write_full;
 use crate::sound::{NotProper, proper_of};
 use si_base::text::Text;
 use si_checks::distinct::{Distinct, NotDistinct};
 use si_strict::read::{NotRead, Sg, read_strict};
+use si_sums::full::write_full;
 use std::alloc::Global;
 use thiserror::Error;
 

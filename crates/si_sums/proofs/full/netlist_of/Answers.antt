@@ -1,8 +1,8 @@
 use Rattle.std.proofs.Common.{◌≡◌, ◌∙◌, sym, subst}
 use Rattle.si_base.specs.Codes.{IsCoded}
 use Rattle.si_base.specs.WellFormed.{IsNetlist}
-use Rattle.si_tool.proofs.FullLemmas.{made_full, full_is_netlist}
-use Rattle.si_tool.proofs.full.netlist_of.Goals as goal
+use Rattle.si_sums.proofs.FullLemmas.{made_full, full_is_netlist}
+use Rattle.si_sums.proofs.full.netlist_of.Goals as goal
 
 pub make-requires : goal.make-requires
 make-requires c =

@@ -1,6 +1,6 @@
 use Rattle.std.proofs.Common.{length}
-use Rattle.si_tool.proofs.CubeLemmas.{within_ones, full_literals}
-use Rattle.si_tool.proofs.sums.full_cube.Goals as goal
+use Rattle.si_sums.proofs.CubeLemmas.{within_ones, full_literals}
+use Rattle.si_sums.proofs.sums.full_cube.Goals as goal
 
 pub invariant_of-result : goal.invariant_of-result
 invariant_of-result c = rw c.all_ones.ensures (within_ones (length c.args.signals.now) c.args.code c.requires.fits)

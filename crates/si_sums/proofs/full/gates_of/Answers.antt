@@ -3,8 +3,8 @@ use Rattle.std.proofs.lemmas.List.{map_push}
 use Rattle.si_base.specs.Graph.{StateGraph, IsNonInput}
 use Rattle.si_base.specs.Netlist.{Gate}
 use Rattle.si_netlist.specs.Parts.{gate_seen}
-use Rattle.si_tool.proofs.FullLemmas.{gates_skip, gates_more}
-use Rattle.si_tool.proofs.full.gates_of.Goals as goal
+use Rattle.si_sums.proofs.FullLemmas.{gates_skip, gates_more}
+use Rattle.si_sums.proofs.full.gates_of.Goals as goal
 
 pub loop-i-preserved-then-not-is_driven : goal.loop-i-preserved-then-not-is_driven
 loop-i-preserved-then-not-is_driven c =

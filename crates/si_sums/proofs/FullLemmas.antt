@@ -15,12 +15,9 @@ use Rattle.si_base.specs.Netlist.{Gate, SumGate, Insertion, Netlist}
 use Rattle.si_base.specs.NetlistText.{same_kind, names_of}
 use Rattle.si_base.specs.Cover.{full_cube_from, full_sum, required_codes, full_gates_from, full_netlist}
 use Rattle.si_base.specs.WellFormed.{IsWord, IsCube, IsSum, IsGate, IsInsertion, IsNetlist}
-use Rattle.si_base.specs.StrictText.{IsGiven, Sg}
 use Rattle.si_base.proofs.Circuit.{code_fits}
-use Rattle.si_tool.specs.Spelled.{AreSpelled}
-use Rattle.si_tool.proofs.CubeLemmas.{full_is_cube}
-use Rattle.si_strict.proofs.WholeLemmas.{names_named}
-use Rattle.si_tool.proofs.Synthesis.{given_signals}
+use Rattle.si_sums.specs.Spelled.{AreSpelled}
+use Rattle.si_sums.proofs.CubeLemmas.{full_is_cube}
 
 -- ---- the name of the model
 and_left : (a b : Bool) → (a && b) ≡ true → a ≡ true
@@ -106,14 +103,6 @@ pub made_full : (model : List ℕ) (c coded : CodedGraph) (graph : StateGraph) (
     → of_parts model signals start inserts gates ≡ full_netlist model c
 unfolding full_netlist
 made_full model c coded graph signals s start inserts gates coded_is graph_is signals_are s_is start_is none gates_are = rw (signals_are, start_is, s_is, none, gates_are, graph_is, coded_is) refl
-
--- what a text gives is spelled so
-pub given_spelled : (text : List ℕ) (sg : Sg) → IsGiven text sg → AreSpelled sg.model sg.graph.signals
-given_spelled text sg given = record {
-  model_name = rw given.model_is given.strict.model;
-  names = names_named given.parts.inputs given.parts.outputs given.parts.internals sg.graph.signals (given.cut.signals_stay ∙ given.spells.signals_are) given.strict.names;
-  none_inserted = λ k d within. given_signals text sg given k (get_or sg.graph.signals k d) (slice_get-get_or sg.graph.signals k d within);
-}
 
 -- ---- one gate after another
 gates_at : (c : CodedGraph) (i : ℕ) (x : Signal) → i < length c.graph.signals → slice_get c.graph.signals i ≡ Some x → full_gates_from c i (drop i c.graph.signals) ≡ full_gates_from c i (x ∷ drop (i + 1) c.graph.signals)

@@ -4,7 +4,7 @@ ghost use Rattle.std.specs.Prelude.{◌≡◌, ℕ, IfOk, map};
 ghost use Rattle.si_base.specs.Cover.{full_gates_from, full_netlist};
 ghost use Rattle.si_base.specs.NetlistText.{netlist_text};
 ghost use Rattle.si_netlist.specs.Parts.{gate_seen};
-ghost use Rattle.si_tool.specs.Spelled.{AreSpelled};
+ghost use Rattle.si_sums.specs.Spelled.{AreSpelled};
 
 use crate::sums::sum_of;
 use si_base::graph::Signal;

@@ -5,8 +5,8 @@ use Rattle.std.specs.Ordering.{nat_cmp}
 use Rattle.si_base.specs.Graph.{StateGraph}
 use Rattle.si_base.specs.Codes.{next_value}
 use Rattle.si_base.specs.Cover.{full_cube_from}
-use Rattle.si_tool.proofs.SumLemmas.{unmet_none, walk_again, walk_new}
-use Rattle.si_tool.proofs.sums.sum_of.Goals as goal
+use Rattle.si_sums.proofs.SumLemmas.{unmet_none, walk_again, walk_new}
+use Rattle.si_sums.proofs.sums.sum_of.Goals as goal
 
 pub loop-s-init : goal.loop-s-init
 loop-s-init c = rw c.new-cubes.ensures.items (ap (λ (codes : List ℕ). map (full_cube_from 0 c.args.coded.now.graph.signals) codes) (unmet_none _ _ (λ y. rw c.new-met.ensures.empty refl)))

@@ -1,0 +1,3 @@
+pub mod CubeLemmas
+pub mod SumLemmas
+pub mod FullLemmas

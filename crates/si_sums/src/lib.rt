@@ -1,0 +1,5 @@
+//! Gates that are sums of full cubes: one cube for each code at which a signal's next value is 1.
+#![tactic(auto)]
+
+pub mod full;
+mod sums;
