@@ -4,4 +4,5 @@ pub mod StepLemmas
 pub mod OutcomeLemmas
 pub mod ScheduleLemmas
 pub mod UniqueOutcome
+pub mod OutcomeExists
 pub mod Examples
