@@ -1,9 +1,9 @@
 -- What the cause of a refusal says of its status.
-use Rattle.std.proofs.Common.{◌≡◌, ◌≢◌, ℕ, List, [], ◌∷◌, Option, Some, None, IfSome, refl, sym, ◌∙◌, String, Global, Any, Contains}
+use Rattle.std.proofs.Common.{◌≡◌, ◌≢◌, ℕ, List, [], ◌∷◌, Option, Some, None, IfSome, sym, ◌∙◌, String, Global, Any, Contains}
 use Rattle.si_io.specs.Outside.{Rose}
 use Rattle.si_tool.specs.Answer.{Deserves, DeserveRefusal}
-use Rattle.si_tool.specs.Command.{Asked, AsksNothing, files_of, Asking}
-use Rattle.si_tool.specs.Ending.{Told, AskingTold, ReadRose, IsCause, MayRefuse, Refuses}
+use Rattle.si_tool.specs.Command.{AsksNothing, files_of}
+use Rattle.si_tool.specs.Ending.{Told, AskingTold, ReadRose, IsCause, Refuses}
 use Rattle.si_tool.specs.Refusal.{Refusal, status_of}
 use Rattle.si_tool.specs.Refusal as refusal
 use Rattle.si_tool.specs.declared.status.Status.{Status}

@@ -1,12 +1,12 @@
 -- The texts of a command deserve one status, so told texts get the one that they deserve.
-use Rattle.std.proofs.Common.{◌≡◌, ◌≢◌, ℕ, suc, length, List, [], ◌∷◌, Option, Some, IfSome, refl, sym, ap, subst, ◌∙◌, arith, ◌⊎◌, inl, inr, String, Global}
+use Rattle.std.proofs.Common.{◌≡◌, ◌≢◌, ℕ, suc, length, List, [], ◌∷◌, Option, IfSome, refl, sym, ap, subst, ◌∙◌, arith, ◌⊎◌, inl, inr, String, Global}
 use Rattle.si_io.specs.Outside.{Rose}
-use Rattle.si_tool.specs.Answer.{AreShort, Answers, CanBeDone, Deserve, DeserveRefusal, IsOutput}
+use Rattle.si_tool.specs.Answer.{Answers, CanBeDone, Deserve, DeserveRefusal}
 use Rattle.si_tool.specs.Command.{Asked, AsksSynth, AsksReplay, Asks, files_of}
 use Rattle.si_tool.specs.Ending.{Told, AreTold, AskingTold, Outputs, ReadRose, Refuses, Ends, AsDeserved, WithoutMemory, ByReadFault, ByWriteFault}
 use Rattle.si_tool.specs.declared.status.Status.{Status}
 use Rattle.si_tool.specs.declared.status.Status.TheVariants.{Done, NoMemory, Usage, ReadFault, WriteFault, TooLong, BadText, Improper, Unresolved, Unmapped, Differs}
-use Rattle.si_tool.proofs.Causes.{usage_refused, read_refused, write_refused, mapped_refused, texts_refused, IsOfTexts}
+use Rattle.si_tool.proofs.Causes.{usage_refused, read_refused, write_refused, mapped_refused, texts_refused}
 use Rattle.si_tool.proofs.Deserved.{one_synth, one_replay}
 
 -- ---- what is told of the files that the words name

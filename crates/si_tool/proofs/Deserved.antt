@@ -1,5 +1,5 @@
 -- The texts of a command deserve one status.
-use Rattle.std.proofs.Common.{◌≡◌, ℕ, zero, suc, ◌+◌, ◌<◌, ◌≤◌, List, [], ◌∷◌, length, Some, None, refl, sym, ap, subst, ◌∙◌, arith, inl, inr}
+use Rattle.std.proofs.Common.{◌≡◌, ℕ, zero, suc, ◌<◌, List, [], ◌∷◌, None, sym, ap, subst, ◌∙◌, arith, inl, inr}
 use Rattle.std.proofs.lemmas.Bool.{cases_order}
 use Rattle.si_base.specs.declared.fault.TextKind.{TextKind}
 use Rattle.si_base.specs.Codes.{CodedGraph}
@@ -10,7 +10,6 @@ use Rattle.si_base.proofs.Given.{given_unique}
 use Rattle.si_base.proofs.UniqueCodes.{conflict_unique}
 use Rattle.si_netlist.specs.NetlistFault.{netlist_fault}
 use Rattle.si_netlist.specs.NetlistValue.{netlist_of}
-use Rattle.si_strict.specs.Read.{IsBadText}
 use Rattle.si_system.specs.Outcome.{IsOutcome}
 use Rattle.si_system.specs.declared.replay.Outcome.{Outcome}
 use Rattle.si_system.specs.declared.replay.Outcome.TheVariants as outcome
@@ -18,8 +17,8 @@ use Rattle.si_system.proofs.UniqueOutcome.{one_outcome, for_not_different, diffe
 use Rattle.si_tool.specs.Answer.{IsShort, Deserve, Deserves}
 use Rattle.si_tool.specs.Command.{AsksSynth, AsksReplay}
 use Rattle.si_tool.specs.Refusal.{Refusal, NoMemory, Usage, ReadFault, WriteFault, TooLong, BadText, ListsDiffer, Improper, Unresolved, Differs, status_of}
-use Rattle.si_tool.specs.Replayed.{HasTextFault, OfGraph, OfNetlist, OfSchedule, AreRead, AreSound, AreUnsound, HaveDifference, HaveOutcome, HaveDeparture, fault_over, events_over}
-use Rattle.si_tool.specs.Synthesis.{IsImproper, IsUnresolved, IsSolvable, IsSound}
+use Rattle.si_tool.specs.Replayed.{HasTextFault, OfGraph, OfNetlist, OfSchedule, AreRead, AreSound, HaveDifference, HaveOutcome, fault_over, events_over}
+use Rattle.si_tool.specs.Synthesis.{IsUnresolved, IsSolvable, IsSound}
 use Rattle.si_tool.specs.declared.status.Status.{Status}
 use Rattle.si_tool.specs.declared.status.Status.TheVariants as status
 

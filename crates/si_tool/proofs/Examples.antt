@@ -1,7 +1,6 @@
 -- Words, refusal lines, texts of a replay and its end: the definitions at work.
 use Rattle.std.proofs.Common.{◌≡◌, ℕ, List, [], ◌∷◌, ◌++◌, Some, None, refl, true, false, codes, inr, inl, append_assoc, ap, ◌<◌, arith}
 use Rattle.std.specs.Prelude.{decimal}
-use Rattle.si_base.specs.declared.ids.Event.{Event}
 use Rattle.si_base.specs.declared.graph.Signal.{Signal}
 use Rattle.si_base.specs.declared.graph.SigKind.TheVariants.{Input, Output}
 use Rattle.si_base.specs.declared.fault.TextKind.TheVariants.{NoEnd, Repeated, Toggle, Undeclared}

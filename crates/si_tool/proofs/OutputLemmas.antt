@@ -1,5 +1,5 @@
 -- From the loads of a command's files to what their told texts deserve.
-use Rattle.std.proofs.Common.{◌≡◌, ℕ, ◌+◌, ◌-◌, ◌^◌, ◌<◌, ◌≤◌, min, List, [], ◌∷◌, length, Option, Some, None, IfSome, refl, sym, ap, subst, ◌∙◌, arith, inl, inr, lit<, Contains, option_map, ◌++◌, take, Result, Err, IfErr}
+use Rattle.std.proofs.Common.{◌≡◌, ℕ, ◌<◌, ◌≤◌, List, [], ◌∷◌, length, Option, Some, None, IfSome, refl, sym, ap, subst, ◌∙◌, arith, inl, inr, lit<, Contains, option_map, ◌++◌, take, Result, Err, IfErr}
 use Rattle.std.proofs.lemmas.List.{append-nil}
 use Rattle.si_base.specs.Limits.{max_text}
 use Rattle.si_base.specs.declared.fault.TextKind.{TextKind}
@@ -9,7 +9,7 @@ use Rattle.si_tool.specs.Command.{Asked, AsksSynth, AsksReplay, files_of}
 use Rattle.si_tool.proofs.Causes.{some_map, told_map}
 use Rattle.si_tool.specs.Ending.{Told, MayRefuse}
 use Rattle.si_tool.specs.Loads.{RefusesLoad, RefusesTexts}
-use Rattle.si_tool.specs.Refusal.{Refusal, NoMemory, Usage, ReadFault, WriteFault, TooLong, BadText, ListsDiffer, Improper, Unresolved, Differs, file_shown, seen}
+use Rattle.si_tool.specs.Refusal.{Refusal, NoMemory, Usage, ReadFault, WriteFault, TooLong, BadText, ListsDiffer, Improper, Unresolved, Differs, seen}
 use Rattle.si_tool.specs.Replayed.{HasTextFault, OfGraph, OfNetlist, OfSchedule, IsReplay}
 use Rattle.si_tool.specs.Synthesis.{IsSynthesis}
 use Rattle.si_tool.specs.declared.refusals.Refusal.{Refusal as RefusalMade}

@@ -1,5 +1,5 @@
 -- The texts of a replay, and where its schedule ends.
-use Rattle.std.proofs.Common.{◌≡◌, ℕ, ◌<◌, List, [], ◌∷◌, length, map, Option, Some, None, Result, Ok, Err, IfOk, IfErr, refl, sym, ap, subst, subst₂, ◌∙◌, arith, ◌⊎◌, inl, inr}
+use Rattle.std.proofs.Common.{◌≡◌, ℕ, ◌<◌, List, [], ◌∷◌, length, Option, Some, None, Result, Ok, Err, IfOk, IfErr, refl, sym, ap, subst, subst₂, ◌∙◌, arith, ◌⊎◌, inl, inr}
 use Rattle.std.proofs.lemmas.List.{length-map}
 use Rattle.si_base.specs.declared.ids.Event.{Event}
 use Rattle.si_base.specs.declared.graph.Signal.{Signal}
@@ -97,7 +97,7 @@ pub has_name : (a : List ℕ) (given : Sg) (p k : CodedGraph) (net : Netlist) (e
     → IsOutcome k.graph net (start k.graph net) events o → HasName given.states o
 has_name a given p k net events (outcome.Done values state) is same graph out =
     let there : IsOutcome given.graph net (start given.graph net) events (outcome.Done values state) =
-        subst (λ (g : StateGraph). IsOutcome g net (start g net) events (outcome.Done values state)) (ap (λ (c : CodedGraph). c.graph) same ∙ graph) out in
+    subst (λ (g : StateGraph). IsOutcome g net (start g net) events (outcome.Done values state)) (ap (λ (c : CodedGraph). c.graph) same ∙ graph) out in
     let inside : state < given.graph.states = ends_inside given.graph net events values state is.cut.graph there in
     let many = as_many_names a given is in
     omega arith

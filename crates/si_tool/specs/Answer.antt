@@ -7,7 +7,7 @@ use Rattle.si_strict.specs.Read.{IsBadText}
 use Rattle.si_system.specs.declared.replay.Outcome.TheVariants as outcome
 use Rattle.si_system.specs.declared.verdict.Verdict.{Verdict}
 use Rattle.si_tool.specs.Command.{Asked, AsksSynth, AsksReplay, files_of}
-use Rattle.si_tool.specs.Refusal.{Refusal, NoMemory, Usage, ReadFault, WriteFault, TooLong, BadText, ListsDiffer, Improper, Unresolved, Differs, status_of}
+use Rattle.si_tool.specs.Refusal.{Refusal, TooLong, BadText, ListsDiffer, Improper, Unresolved, Differs, status_of}
 use Rattle.si_tool.specs.Replayed.{HasTextFault, AreUnsound, HaveDifference, HaveOutcome, HaveDeparture, IsReplay}
 use Rattle.si_tool.specs.Synthesis.{IsImproper, IsUnresolved, IsSolvable, IsSynthesis}
 use Rattle.si_tool.specs.declared.status.Status.{Status}

@@ -40,11 +40,7 @@ pub fn output<'w, H: Shelf>(
 }
 
 /// The text of a file.
-fn load<'w, H: Shelf>(
-    alloc: Global,
-    file: &'w str,
-    shelf: &mut H,
-) -> Result<Vec<u8>, Refusal<'w>>
+fn load<'w, H: Shelf>(alloc: Global, file: &'w str, shelf: &mut H) -> Result<Vec<u8>, Refusal<'w>>
     ensures ok { IfOk result (λ v. IfSome (H.content shelf.old file.now) (λ text. (v.items ≡ text) × IsShort text)) }
     ensures err { IfErr result (λ r. RefusesLoad file.now (H.content shelf.old file.now) (H.faults shelf.old file.now) (H.faults shelf.new file.now) (seen r)) }
     ensures later { (n : List ℕ) → H.faults shelf.old n ≤ H.faults shelf.new n }

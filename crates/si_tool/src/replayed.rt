@@ -16,7 +16,6 @@ ghost use Rattle.si_tool.specs.Loads.{Departs, HasName, RefusesGraph, RefusesTex
 ghost use Rattle.si_tool.specs.Refusal.{seen};
 ghost use Rattle.si_tool.specs.Replayed.{IsReplay, replay_text, shown_signal as signal_at_fault};
 
-
 use crate::refusals::Refusal;
 use crate::sound::{NotProper, proper_of};
 use si_base::fault::{TextFault, TextKind};
@@ -114,11 +113,7 @@ fn graph_in<'w>(alloc: Global, file: &'w str, text: &[u8]) -> Result<Sg, Refusal
 }
 
 /// The netlist that the text spells.
-fn netlist_in<'w>(
-    alloc: Global,
-    file: &'w str,
-    text: &[u8],
-) -> Result<Netlist, Refusal<'w>>
+fn netlist_in<'w>(alloc: Global, file: &'w str, text: &[u8]) -> Result<Netlist, Refusal<'w>>
     ensures ok { IfOk result (λ n. (netlist_fault text.now ≡ None) × (n ≡ spelled_netlist text.now)) }
     ensures err { IfErr result (λ r. RefusesText file.now (netlist_fault text.now) (seen r)) }
 {

@@ -56,7 +56,7 @@ pub fn run<H: Shelf, O: Sink, E: Sink>(
     ensures err_kept { result ≡ Status.Done → E.bytes err.new ≡ E.bytes err.old }
     ensures err_line { result ≢ Status.Done
         → Refuses words.now.items (H.content shelf.old) (H.faults shelf.old) (H.faults shelf.new) (Rose (O.faults out.old) (O.faults out.new))
-            result (E.faults err.old) (E.faults err.new) (E.bytes err.old) (E.bytes err.new) }
+        result (E.faults err.old) (E.faults err.new) (E.bytes err.old) (E.bytes err.new) }
 
     // Contents stay, and counts never fall.
     ensures shelf_same { (n : List ℕ) → H.content shelf.new n ≡ H.content shelf.old n }
@@ -88,7 +88,7 @@ fn attempt<H: Shelf, O: Sink, E: Sink>(
     ensures err_kept { result ≡ Status.Done → E.bytes err.new ≡ E.bytes err.old }
     ensures refused { result ≢ Status.Done
         → Refuses words.now.items (H.content shelf.old) (H.faults shelf.old) (H.faults shelf.new) (Rose (O.faults out.old) (O.faults out.new))
-            result (E.faults err.old) (E.faults err.new) (E.bytes err.old) (E.bytes err.new) }
+        result (E.faults err.old) (E.faults err.new) (E.bytes err.old) (E.bytes err.new) }
     ensures shelf_same { (n : List ℕ) → H.content shelf.new n ≡ H.content shelf.old n }
     ensures shelf_later { (n : List ℕ) → H.faults shelf.old n ≤ H.faults shelf.new n }
     ensures out_later { O.faults out.old ≤ O.faults out.new }

@@ -258,7 +258,13 @@ fn netlists_of_full_cubes(rt: HostRuntime) -> Result<(), Fail> {
         (INPUTS_ALONE, INPUTS_ALONE_NETLIST),
     ];
     for (graph, netlist) in rows {
-        expect(&rt, alloc, &SYNTH, only(graph), (Status::Done, netlist, b""))?;
+        expect(
+            &rt,
+            alloc,
+            &SYNTH,
+            only(graph),
+            (Status::Done, netlist, b""),
+        )?;
     }
     Ok(())
 }
@@ -275,8 +281,20 @@ fn refusals(rt: HostRuntime) -> Result<(), Fail> {
         expect(&rt, alloc, &SYNTH, only(graph), (status, b"", line))?;
     }
     let usage: (Status, &[u8], &[u8]) = (Status::Usage, b"", b"usage\n");
-    expect(&rt, alloc, &["synth", "graph.sg", "gc"], only(C_ELEMENT), usage)?;
-    expect(&rt, alloc, &["replay", "graph.sg", "c.net"], only(C_ELEMENT), usage)
+    expect(
+        &rt,
+        alloc,
+        &["synth", "graph.sg", "gc"],
+        only(C_ELEMENT),
+        usage,
+    )?;
+    expect(
+        &rt,
+        alloc,
+        &["replay", "graph.sg", "c.net"],
+        only(C_ELEMENT),
+        usage,
+    )
 }
 
 #[test]
@@ -343,8 +361,16 @@ fn faults_of_the_texts_of_a_replay(rt: HostRuntime) -> Result<(), Fail> {
     let rows: [(&[u8], &[u8], &[u8]); 4] = [
         (b"", b"", b"badtext graph.sg 0 BadLine\n"),
         (C_ELEMENT, b"", b"badtext c.net 1 NoEnd\n"),
-        (C_ELEMENT, b".model c2\n.inputs a b a\n", b"badtext c.net 2 Repeated\n"),
-        (DISABLED_OUTPUT, C_ELEMENT_NETLIST, b"badtext steps 1 BadEvent\n"),
+        (
+            C_ELEMENT,
+            b".model c2\n.inputs a b a\n",
+            b"badtext c.net 2 Repeated\n",
+        ),
+        (
+            DISABLED_OUTPUT,
+            C_ELEMENT_NETLIST,
+            b"badtext steps 1 BadEvent\n",
+        ),
     ];
     for (graph, netlist, line) in rows {
         let texts = Texts {
@@ -390,11 +416,7 @@ fn faults_of_schedules(rt: HostRuntime) -> Result<(), Fail> {
 }
 
 /// What comes of the first event where the system starts, and the values after it.
-fn fired_at_start(
-    graph: &Coded,
-    netlist: &Netlist,
-    events: &Vec<Event>,
-) -> Option<(Verdict, Code)>
+fn fired_at_start(graph: &Coded, netlist: &Netlist, events: &Vec<Event>) -> Option<(Verdict, Code)>
     requires { All (λ e. e.sig < length netlist.now.signals) events.now.items }
 {
     let Ok(mut system) = System::start(graph, netlist) else {

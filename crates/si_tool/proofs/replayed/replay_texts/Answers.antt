@@ -38,14 +38,16 @@ pub returns-in-Ok-replay-clause-err : goal.returns-in-Ok-replay-clause-err
 returns-in-Ok-replay-clause-err c =
     departs_told c.told.result _ _ _ _ _ _ c.in_ok-circuit.circuit c.in-Ok-replay.outcome
     (have_outcome _ _ _ (given_sg c.in_ok-graph.field-0) c.in-Ok.proper c.coded.result.now c.in_ok-circuit.circuit c.in_ok-events.events.items c.in-Ok-replay.outcome
-      (are_read _ _ _ _ c.in_ok-circuit.circuit c.in_ok-events.events.items c.in_ok-graph.ensures.given c.in_ok-circuit.ensures.ok c.in_ok-events.ensures.ok)
-      (is_sound _ (given_sg c.in_ok-graph.field-0) c.in-Ok.proper c.in_ok-graph.ensures.given c.in-Ok.ensures.coded c.in-Ok.ensures.same c.in-Ok.ensures.proper)
-      c.coded.ensures.same c.in_ok-circuit.ensures.ok.1 c.in_ok-events.ensures.ok.1 c.in-Ok-replay.ensures.same c.in-Ok-replay.ensures.outcome)
+    (are_read _ _ _ _ c.in_ok-circuit.circuit c.in_ok-events.events.items c.in_ok-graph.ensures.given c.in_ok-circuit.ensures.ok c.in_ok-events.ensures.ok)
+    (is_sound _ (given_sg c.in_ok-graph.field-0) c.in-Ok.proper c.in_ok-graph.ensures.given c.in-Ok.ensures.coded c.in-Ok.ensures.same c.in-Ok.ensures.proper)
+    c.coded.ensures.same c.in_ok-circuit.ensures.ok.1 c.in_ok-events.ensures.ok.1 c.in-Ok-replay.ensures.same c.in-Ok-replay.ensures.outcome)
     c.in_ok-circuit.ensures.ok.1 c.told.ensures.err
 
 pub returns-clause-err : goal.returns-clause-err
-returns-clause-err c =
-    (refl, have_difference _ _ _ (given_sg c.in_ok-graph.field-0) c.in-Ok.proper c.coded.result.now c.in_ok-circuit.circuit _
+returns-clause-err c = (
+  refl,
+  have_difference _ _ _ (given_sg c.in_ok-graph.field-0) c.in-Ok.proper c.coded.result.now c.in_ok-circuit.circuit _
       (are_read _ _ _ _ c.in_ok-circuit.circuit c.in_ok-events.events.items c.in_ok-graph.ensures.given c.in_ok-circuit.ensures.ok c.in_ok-events.ensures.ok)
       (is_sound _ (given_sg c.in_ok-graph.field-0) c.in-Ok.proper c.in_ok-graph.ensures.given c.in-Ok.ensures.coded c.in-Ok.ensures.same c.in-Ok.ensures.proper)
-      c.coded.ensures.same c.in_ok-circuit.ensures.ok.1 c.in-Err.ensures.same)
+      c.coded.ensures.same c.in_ok-circuit.ensures.ok.1 c.in-Err.ensures.same,
+)
