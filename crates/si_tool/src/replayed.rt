@@ -34,8 +34,13 @@ use si_system::verdict::Verdict;
 use si_words::writing::add_line;
 use std::alloc::Global;
 
-/// Where the schedule ends, over the netlist beside the graph, of texts with the names of their files; or why it doesn't: the first fault of the texts in their
-/// order, a graph that isn't proper, a netlist that isn't for it, or the first event whose verdict isn't `Done`.
+/// The text that tells where the schedule ends, over the netlist beside the graph. A refusal shows the names of the
+/// texts' files.
+///
+/// # Errors
+///
+/// `BadText` with the first fault of the texts in their order, else `Improper`, else `ListsDiffer` with the first place,
+/// else `Differs` with the first event whose verdict isn't `Done`. `NoMemory` only for want of memory.
 pub fn replay_texts<'w>(
     alloc: Global,
     graph_file: &'w str,

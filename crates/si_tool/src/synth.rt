@@ -25,7 +25,12 @@ pub enum NoNetlist {
     Unresolved,
 }
 
-/// The text of the netlist of the graph that the text spells.
+/// The text of the netlist of the graph that the text spells: its sums of full cubes.
+///
+/// # Errors
+///
+/// `BadText` exactly where the text isn't in the strict form, else `Improper` exactly where the graph isn't proper, else
+/// `Unresolved` exactly where it has a conflict. `NoMemory` only for want of memory.
 pub fn synth(alloc: Global, text: &[u8]) -> Result<Text, NoNetlist>
     ensures netlist { IfOk result (IsSynthesis text.now) }
     ensures bad_text { result ≡ Err NoNetlist.BadText → IsBadText text.now }
