@@ -3,3 +3,4 @@ pub mod ForkLemmas
 pub mod LossLemmas
 pub mod ProperLemmas
 pub mod ConflictLemmas
+pub mod CodesExist
