@@ -44,7 +44,7 @@ number_bit (suc n) w i below = elim (cases_order i n) [
 ]
 
 -- ---- values that are the same at each state
-values_as : (g : StateGraph) (a : ℕ) (v w : ℕ → Bool) → IsGraph g → ((s : ℕ) → s < g.states → w s ≡ v s) → AreValues g a v → AreValues g a w
+pub values_as : (g : StateGraph) (a : ℕ) (v w : ℕ → Bool) → IsGraph g → ((s : ℕ) → s < g.states → w s ≡ v s) → AreValues g a v → AreValues g a w
 values_as g a v w is same are = record {
   rises = λ s t step. (same s (from s (rise a) t step) ∙ (are.rises s t step).0, same t (to s (rise a) t step) ∙ (are.rises s t step).1);
   falls = λ s t step. (same s (from s (fall a) t step) ∙ (are.falls s t step).0, same t (to s (fall a) t step) ∙ (are.falls s t step).1);

@@ -1,14 +1,13 @@
 -- Each strict text spells a graph.
-use Rattle.std.proofs.Common.{◌≡◌, ◌≢◌, ℕ, ◌<◌, ◌≤◌, ◌↔◌, ◌∙◌, List, [], ◌∷◌, map, length, get_or, slice_get, Some, All, AllPairs, Contains, bytes_eq, refl, sym, ap, subst, arith, inl, inr}
+use Rattle.std.proofs.Common.{◌≡◌, ◌≢◌, ℕ, ◌∙◌, List, [], ◌∷◌, map, length, get_or, slice_get, Some, AllPairs, Contains, refl, ap, arith, inl, inr}
 use Rattle.std.specs.List.{AllZip, slice_index_or}
 use Rattle.std.proofs.lemmas.List.{length-map}
 use Rattle.std.proofs.lemmas.List.Elements.{All-contains}
 use Rattle.std.proofs.lemmas.Option.{slice_get-get_or, slice_get_within}
 use Rattle.si_base.specs.declared.graph.Edge.{Edge}
 use Rattle.si_base.specs.declared.graph.Signal.{Signal}
-use Rattle.si_base.specs.declared.graph.SigKind.TheVariants.{Input, Output, Internal}
-use Rattle.si_base.specs.Graph.{StateGraph, IsGraph, IsMadeOf}
-use Rattle.si_base.specs.StrictText.{Spelling, ArcLine, IsStrict, IsStrictText, Spells, Sg, IsGiven, strict_text, signal_names, state_names, signals_of}
+use Rattle.si_base.specs.Graph.{StateGraph, IsMadeOf}
+use Rattle.si_base.specs.StrictText.{Spelling, ArcLine, IsStrict, IsStrictText, Spells, Sg, IsGiven, signal_names, state_names}
 use Rattle.si_base.proofs.Sorted.{In}
 use Rattle.si_base.proofs.Unique.{contains_from_in}
 use Rattle.si_base.proofs.UniqueText.{Distinct, once_distinct, one_index}
