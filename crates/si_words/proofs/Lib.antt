@@ -3,3 +3,4 @@ pub mod PlaceLemmas
 pub mod RowLemmas
 pub mod SumWordLemmas
 pub mod WritingLemmas
+pub mod NameLemmas

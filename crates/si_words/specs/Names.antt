@@ -1,10 +1,12 @@
 -- Names in the lists of signals.
-use Rattle.std.specs.Prelude.{◌≡◌, ℕ, Bool, not, List, ◌++◌, length, take, drop, nat_le, bytes_eq, Option}
+use Rattle.std.specs.Prelude.{◌≡◌, ℕ, Bool, not, List, ◌++◌, length, take, nat_le, bytes_eq, slice_get, Option, Some, None}
 use Rattle.std.specs.List.{list_any}
 use Rattle.si_base.specs.Limits.{max_signals}
 use Rattle.si_base.specs.Words.{is_signal_name}
 use Rattle.si_base.specs.declared.fault.TextKind.{TextKind}
 use Rattle.si_base.specs.declared.fault.TextKind.TheVariants.{BadName, Repeated, TooManySignals}
+use Rattle.si_base.specs.declared.fault.LineFault.{LineFault}
+use Rattle.si_base.specs.declared.fault.LineFault.TheVariants.{NoMemory, Kind}
 use Rattle.si_base.specs.Faults.{when, ◌otherwise◌, first_after}
 
 abbrev pub stands_in : List (List ℕ) → List ℕ → Bool
@@ -17,8 +19,20 @@ name_fault before name =
     otherwise when (stands_in before name) Repeated
     otherwise when (nat_le max_signals (length before)) TooManySignals
 
--- some first words went behind the old names, without a fault: the words after them have the fault of all
+-- some first words went behind the old names, none of them with a fault
 pub record AddsFirst (old new words : List (List ℕ)) : Type 0 where
   pub count : ℕ
   pub names_are : new ≡ old ++ take count words
-  pub fault_is : first_after name_fault old words ≡ first_after name_fault new (drop count words)
+  pub good : first_after name_fault old (take count words) ≡ None
+
+-- just those before the first word with a fault did, and its fault is of this kind
+pub record AddsUntil (kind : TextKind) (old new words : List (List ℕ)) : Type 0 where
+  pub first : AddsFirst old new words
+  pub word : List ℕ
+  pub next : slice_get words first.count ≡ Some word
+  pub fault_is : name_fault new word ≡ Some kind
+
+-- what stands behind the old names where words were refused: all before the word with the fault, or for want of memory some
+abbrev pub LeavesNames : LineFault → List (List ℕ) → List (List ℕ) → List (List ℕ) → Type 0
+LeavesNames NoMemory old new words = AddsFirst old new words
+LeavesNames (Kind kind) old new words = AddsUntil kind old new words

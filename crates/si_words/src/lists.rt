@@ -5,7 +5,7 @@ ghost use Rattle.si_base.specs.Faults.{first_after};
 ghost use Rattle.si_base.specs.Limits.{max_signals};
 ghost use Rattle.si_base.specs.TextFaults.{Tells};
 ghost use Rattle.si_base.specs.declared.fault.LineFault.TheVariants.{NoMemory};
-ghost use Rattle.si_words.specs.Names.{name_fault, stands_in, AddsFirst};
+ghost use Rattle.si_words.specs.Names.{name_fault, stands_in, LeavesNames};
 ghost use Rattle.si_words.specs.Reads.{words_now};
 
 use crate::words::is_signal_name;
@@ -62,11 +62,12 @@ fn name_kind(names: &Names, name: &[u8]) -> Option<TextKind>
 /// Puts names last, up to the first fault.
 ///
 /// Fails with that fault: a word that is no signal name, is there already, or is one too many; and for want of memory.
-/// After a refusal some first words are there, without a fault.
+/// After a fault just the words before the faulty one are there, and after want of memory some first words without a
+/// fault.
 pub fn add_names(names: &mut Names, words: &[&[u8]]) -> Result<(), LineFault>
     ensures fault { Tells result (first_after name_fault names.old (words_now words.now)) }
     ensures value { OnOk result (names.new ≡ names.old ++ words_now words.now) }
-    ensures kept { OnErr result (AddsFirst names.old names.new (words_now words.now)) }
+    ensures left { IfErr result (λ e. LeavesNames e names.old names.new (words_now words.now)) }
     ensures few { length names.old ≤ max_signals → length names.new ≤ max_signals }
 {
     for word in words {

@@ -8,9 +8,8 @@ ghost use Rattle.si_base.specs.declared.fault.TextFault.TheVariants.{At};
 ghost use Rattle.si_base.specs.declared.fault.TextKind.TheVariants.{BadLine};
 ghost use Rattle.si_words.specs.Lines as text_lines;
 ghost use Rattle.si_words.specs.Lines.{Form};
-ghost use Rattle.si_words.specs.Names.{AddsFirst};
 ghost use Rattle.si_words.specs.Reads.{words_now};
-ghost use Rattle.si_words.specs.Rows.{Left, fault_of, TakesLine, AddsNames, RefusesNames};
+ghost use Rattle.si_words.specs.Rows.{Left, fault_of, TakesLine, AddsNames, LeavesLine, RefusesNames};
 ghost use Rattle.si_words.specs.Sums.{is_empty};
 
 use crate::lists::add_names;
@@ -149,7 +148,7 @@ pub fn has_empty(words: &[&[u8]]) -> bool
 fn take_names(words: &[&[u8]], head: &[u8], names: &mut Names) -> Result<(), LineFault>
     ensures fault { Tells result (text_lines.names_fault head.now names.old (words_now words.now)) }
     ensures value { OnOk result (names.new ≡ names.old ++ text_lines.rest_of (words_now words.now)) }
-    ensures kept { OnErr result (AddsFirst names.old names.new (text_lines.rest_of (words_now words.now))) }
+    ensures left { IfErr result (λ e. LeavesLine e names.old names.new (words_now words.now)) }
     ensures few { length names.old ≤ max_signals → length names.new ≤ max_signals }
 {
     let [first, rest @ ..] = words else {
@@ -163,8 +162,9 @@ fn take_names(words: &[&[u8]], head: &[u8], names: &mut Names) -> Result<(), Lin
 
 /// A list line, of the head and names: the names go behind those that are there.
 ///
-/// Fails with the fault of the line, and for want of memory. After a refusal all is as before, or the line is taken and
-/// some first names of it are there, without a fault.
+/// Fails with the fault of the line, and for want of memory. After a refusal all is as before, where the line has a bad
+/// byte or no end; or the line is taken, and the names before the faulty one are there, or for want of memory some first
+/// names without a fault.
 pub fn names_row(
     alloc: Global,
     rows: &mut Rows<'_>,
@@ -173,7 +173,7 @@ pub fn names_row(
 ) -> Result<(), TextFault>
     ensures ok { OnOk result (AddsNames (text_lines.names_fault head.now names.old) rows.old rows.new names.old names.new) }
     ensures err { (forms : List Form) → ToldBy result (fault_of (text_lines.names_fault head.now names.old ∷ forms) rows.old) }
-    ensures kept { OnErr result (RefusesNames rows.old rows.new names.old names.new) }
+    ensures left { IfErr result (λ e. RefusesNames e rows.old rows.new names.old names.new) }
     ensures few { length names.old ≤ max_signals → length names.new ≤ max_signals }
 {
     let number = rows.number();

@@ -1,4 +1,4 @@
-use Rattle.std.proofs.Common.{refl}
+use Rattle.std.proofs.Common.{refl, arith}
 use Rattle.std.proofs.lemmas.Result.{err_from_is_err_and}
 use Rattle.si_netlist.proofs.HeaderLemmas.{failed, from1, at2, at3, at4, at5, at6, whole, formed}
 use Rattle.si_netlist.specs.NetlistFault.{names_at}
@@ -33,6 +33,10 @@ returns-in_err-names_row-4-clause-err c =
     let p = err_from_is_err_and c.from_residual-in_err-names_row-4.result c.from_residual-in_err-names_row-4.ensures.1 in
     let g = at5 _ _ _ _ _ _ _ _ _ (record { none = c.requires; m = (formed _ _ _ _ _ c.in_ok-model.ensures.ok); t1 = c.in_ok-names_row.ensures.ok; t2 = c.in_ok-names_row-2.ensures.ok }) c.in_ok-names_row-3.ensures.ok in
     failed c.from_residual-in_err-names_row-4.result _ _ _ _ p.1 p.2 g.1 (c.in_err-names_row-4.ensures.err g.0)
+
+pub returns-in_err-names_row-4-clause-few : goal.returns-in_err-names_row-4-clause-few
+returns-in_err-names_row-4-clause-few c =
+    c.in_err-names_row-4.ensures.few (c.in_ok-names_row-3.ensures.few (c.in_ok-names_row-2.ensures.few (c.in_ok-names_row.ensures.few (rw c.requires (omega arith)))))
 
 pub returns-in_err-start-clause-err : goal.returns-in_err-start-clause-err
 returns-in_err-start-clause-err c =

@@ -1,4 +1,4 @@
-use Rattle.std.proofs.Common.{◌≡◌, ◌++◌, ◌≤◌, length, take, drop}
+use Rattle.std.proofs.Common.{◌≡◌, ◌++◌, ◌≤◌, length, take, drop, None}
 use Rattle.si_base.specs.Limits.{max_signals}
 use Rattle.si_words.specs.Names.{name_fault}
 use Rattle.si_base.specs.Faults.{first_after}
@@ -9,5 +9,6 @@ abbrev pub invariant-loop-word : goal.invariant-loop-word
 invariant-loop-word l = record {
   fault : first_after name_fault l.names (drop l.word-index (words_now l.words)) ≡ first_after name_fault l.fn.names (words_now l.words);
   value : l.names ≡ l.fn.names ++ take l.word-index (words_now l.words);
+  good : first_after name_fault l.fn.names (take l.word-index (words_now l.words)) ≡ None;
   few : length l.fn.names ≤ max_signals → length l.names ≤ max_signals;
 }
