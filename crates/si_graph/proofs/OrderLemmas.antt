@@ -16,7 +16,7 @@ use Rattle.std.proofs.lemmas.Bool.Decides.{nat_tests}
 use Rattle.si_base.specs.declared.ids.Event.{Event}
 use Rattle.si_base.specs.declared.graph.Edge.{Edge}
 use Rattle.si_base.specs.EdgeOrder.{event_cmp, edge_cmp}
-use Rattle.si_base.specs.Graph.{StateGraph, Step, arc, enables, event_place}
+use Rattle.si_base.specs.Graph.{StateGraph, IsGraph, Step, arc, enables, event_place}
 use Rattle.si_base.specs.System.{IsLeastTarget}
 use Rattle.si_base.proofs.Steps.{step_from_enables}
 use Rattle.si_graph.specs.Arcs.{edge_at, no_edge, AreOut}
@@ -88,12 +88,13 @@ sorted_drop c (suc n) (x ∷ xs) is = sorted_drop c n xs is.1
 
 -- ---- the arcs out of a state
 -- what begins at the first arc from s on, up to the last from s, is the list of the arcs out of s
-pub out_between : (g : StateGraph) (s low count : ℕ) → IsStrictlySortedBy edge_cmp g.edges → low ≤ length g.edges → count ≤ length (drop low g.edges) → IsPartitionPoint (λ e. ltb e.from s ≡ true) (λ e. ltb e.from s ≡ false) g.edges low → IsPartitionPoint (λ e. leb e.from s ≡ true) (λ e. leb e.from s ≡ false) (drop low g.edges) count → AreOut g s (take count (drop low g.edges))
-out_between g s low count ordered low_in count_in cut_low cut_high =
+pub out_between : (g : StateGraph) (s low count : ℕ) → IsGraph g → low ≤ length g.edges → count ≤ length (drop low g.edges) → IsPartitionPoint (λ e. ltb e.from s ≡ true) (λ e. ltb e.from s ≡ false) g.edges low → IsPartitionPoint (λ e. leb e.from s ≡ true) (λ e. leb e.from s ≡ false) (drop low g.edges) count → AreOut g s (take count (drop low g.edges))
+out_between g s low count is low_in count_in cut_low cut_high =
     let left : length (drop low g.edges) + low ≡ length g.edges = omega (arith, length-drop low g.edges) in
     let taken : length (take count (drop low g.edges)) ≡ count = omega (arith, length-take count (drop low g.edges)) in
     let from : Edge → ℕ = λ x. x.from in
     record {
+      graph = is;
       exactly = λ a. (
         λ h. (
             let k : ℕ = h.0 in
@@ -119,7 +120,7 @@ out_between g s low count ordered low_in count_in cut_low cut_high =
             ] in
             (k - low, omega (arith, taken, below), get_or-take count (drop low g.edges) (k - low) a below ∙ at_drop)),
       );
-      ordered = sorted_take edge_cmp count (drop low g.edges) (sorted_drop edge_cmp low g.edges ordered);
+      ordered = sorted_take edge_cmp count (drop low g.edges) (sorted_drop edge_cmp low g.edges is.ordered);
     }
 
 pub ordered_rest : (edges : List Edge) (low : ℕ) → IsStrictlySortedBy edge_cmp edges → IsStrictlySortedBy edge_cmp (drop low edges)
