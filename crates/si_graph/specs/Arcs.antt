@@ -26,8 +26,12 @@ IsFirstPlace P low high None = (j : ℕ) → low ≤ j → j < high → P j → 
 IsFirstPlace P low high (Some k) = IsFirstFrom P low high k
 
 -- the place has an arc out of s
-abbrev pub IsOutOf : StateGraph → ℕ → ℕ → Type 0
-IsOutOf g s k = (edge_at g.edges k).from ≡ s
+abbrev pub IsOutOf : List Edge → ℕ → ℕ → Type 0
+IsOutOf edges s k = (edge_at edges k).from ≡ s
+
+-- the place has an arc into t
+abbrev pub IsInto : List Edge → ℕ → ℕ → Type 0
+IsInto edges t k = (edge_at edges k).to ≡ t
 
 -- the arcs out of s, in order
 pub record AreOut (g : StateGraph) (s : ℕ) (arcs : List Edge) : Type 0 where
