@@ -2,6 +2,7 @@
 
 ghost use Rattle.std.specs.Prelude.{Contains};
 ghost use Rattle.si_base.specs.Codes.{IsDeterministic};
+ghost use Rattle.si_base.specs.Graph.{IsGraph};
 ghost use Rattle.si_base.specs.Proper.{Forks, fork_place};
 ghost use Rattle.si_checks.specs.Searches.{IsFirstOrNone, IsOneOrNone, EndsApart, ForksAt, ForksBy};
 
@@ -32,11 +33,10 @@ impl Model for Fork {
 
 /// The first fork of a deterministic graph, if it has any.
 pub fn first_fork(graph: &Graph) -> Option<Fork>
-    requires { IsDeterministic graph.now }
+    requires graph { IsGraph graph.now }
+    requires deterministic { IsDeterministic graph.now }
     ensures { IsFirstOrNone fork_place (Forks graph.now) result }
 {
-    // What holds of each graph comes with its arcs: here, that each leaves one of its states.
-    let _all_arcs = graph.arcs();
     for s in 0..graph.states() {
         if let Some(fork) = first_fork_at(graph, StateId(s)) {
             return Some(fork);

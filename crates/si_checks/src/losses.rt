@@ -1,7 +1,7 @@
 //! The first breach of output persistency.
 
 ghost use Rattle.std.specs.Prelude.{IsTrue};
-ghost use Rattle.si_base.specs.Graph.{IsNonInput, enables};
+ghost use Rattle.si_base.specs.Graph.{IsGraph, IsNonInput, enables};
 ghost use Rattle.si_base.specs.Codes.{IsDeterministic};
 ghost use Rattle.si_base.specs.Proper.{Loses, loss_place};
 ghost use Rattle.si_checks.specs.Searches.{IsFirstOrNone, LosesAt, LosesOf};
@@ -30,11 +30,10 @@ impl Model for Loss {
 
 /// The first loss of a deterministic graph, if it has any.
 pub fn first_loss(graph: &Graph) -> Option<Loss>
-    requires { IsDeterministic graph.now }
+    requires graph { IsGraph graph.now }
+    requires deterministic { IsDeterministic graph.now }
     ensures { IsFirstOrNone loss_place (Loses graph.now) result }
 {
-    // What holds of each graph comes with its arcs: here, that each leaves one of its states.
-    let _all_arcs = graph.arcs();
     for s in 0..graph.states() {
         if let Some(loss) = first_loss_at(graph, StateId(s)) {
             return Some(loss);
@@ -48,8 +47,6 @@ fn first_loss_at(graph: &Graph, s: StateId) -> Option<Loss>
     requires { IsDeterministic graph.now }
     ensures { IsFirstOrNone loss_place (LosesAt graph.now s) result }
 {
-    // What holds of each graph comes with its arcs: here, that each event is of one of its signals.
-    let _all_arcs = graph.arcs();
     let arcs = graph.arcs_out(s);
     for x in arcs {
         if !graph.is_driven(x.event.sig) {

@@ -5,7 +5,7 @@ ghost use Rattle.si_base.specs.Proper.{IsProper};
 
 use crate::forks::{Fork, first_fork};
 use crate::losses::{Loss, first_loss};
-use si_base::ids::{Event, StateId};
+use si_base::ids::{Event, NoMemory, StateId};
 use si_graph::coded::Coded;
 use std::alloc::Global;
 use std::marker::Model;
@@ -59,7 +59,7 @@ impl Proper {
         ensures back { IfErr result (λ e. e.0 ≡ coded) }
         ensures fault { IfErr result (λ e. ShowsImproper coded.graph e.1) }
     {
-        let graph = coded.coded_graph();
+        let graph = coded.graph();
         if let Some(fork) = first_fork(graph) {
             let Fork { s, a, c, w, w2 } = fork;
             return Err((coded, Improper::Noncommutative { s, a, c, w, w2 }));
@@ -69,6 +69,23 @@ impl Proper {
             return Err((coded, Improper::Nonpersistent { s, lost, by }));
         }
         Ok(Proper { coded })
+    }
+
+    /// The graph, of which it is known that it is proper.
+    pub fn known(coded: Coded) -> Proper
+        requires { IsProper coded.graph }
+        ensures { result ≡ coded }
+    {
+        Proper { coded }
+    }
+
+    /// An equal graph. It fails only for want of memory.
+    pub fn copy(&self, alloc: Global) -> Result<Proper, NoMemory>
+        ensures { IfOk result (λ p. p ≡ self.now) }
+    {
+        Ok(Proper {
+            coded: self.coded.copy(alloc)?,
+        })
     }
 
     /// The coded graph.

@@ -18,7 +18,7 @@ pub fn sum_of(alloc: Global, coded: &Coded, z: Sig) -> Result<Sum, NoMemory>
     requires { z < length coded.now.graph.signals }
     ensures { IfOk result (λ sum. sum ≡ full_sum coded.now z) }
 {
-    let graph = coded.coded_graph();
+    let graph = coded.graph();
     let signals = graph.signals();
     let mut met = BTreeSet::new(alloc);
     let mut cubes = Vec::new(alloc);

@@ -44,9 +44,9 @@ pub(crate) fn first_difference(graph: &Coded, netlist: &Netlist) -> Option<usize
     ensures difference { MatchOption result (IsFor graph.now netlist.now) (IsFirstDifference graph.now netlist.now) }
     ensures within { IfSome result (λ k. k ≤ max_signals) }
 {
-    let own = graph.coded_graph().signals();
+    let own = graph.graph().signals();
     let given = given_signals(netlist.signals());
-    let code = graph.code(graph.coded_graph().start());
+    let code = graph.code(graph.graph().start());
     let start = netlist.start();
     let both = own.len().min(given.len());
     for k in 0..both {
