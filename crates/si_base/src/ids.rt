@@ -2,6 +2,7 @@
 
 ghost use Rattle.std.specs.Prelude.{◌≡◌, ℕ, ◌+◌, ◌<◌, ◌≤◌, ◌^◌, ◌↔◌, IsTrue, Bool};
 ghost use Rattle.si_base.specs.Bits.{bit, IsSet};
+ghost use Rattle.si_base.specs.Limits.{code_width};
 
 use std::alloc::{AllocError, AllocFailed};
 use std::marker::Model;
@@ -39,7 +40,7 @@ pub struct Event {
 
 /// A value for each signal: bit i is the value of signal i.
 #[derive(Clone, Copy, PartialEq, Eq, PartialOrd, Ord, Debug)]
-pub struct Code(pub u64);
+pub struct Code(pub u128);
 
 impl Model for Code {
     ghost Value = { ℕ };
@@ -52,7 +53,7 @@ impl Model for Code {
 impl Code {
     /// The value of a signal.
     pub fn get(self, s: Sig) -> bool
-        requires { s < 64 }
+        requires { s < code_width }
         ensures { result ≡ bit self s }
     {
         self.0 >> s.0 & 1 == 1
@@ -60,7 +61,7 @@ impl Code {
 
     /// The code with that value for the signal.
     pub fn set(self, s: Sig, v: bool) -> Code
-        requires { s < 64 }
+        requires { s < code_width }
         ensures { IsSet self s v result }
     {
         if self.get(s) == v {
