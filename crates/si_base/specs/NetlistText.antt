@@ -1,13 +1,14 @@
 -- The text of a netlist.
-use Rattle.std.specs.Prelude.{ℕ, ◌+◌, Bool, true, false, List, [], ◌∷◌, ◌++◌, map, filter, codes, slice_get, unwrap_or, option_map, if◌then◌else◌}
+use Rattle.std.specs.Prelude.{ℕ, ◌+◌, Bool, true, false, List, [], ◌∷◌, ◌++◌, map, filter, codes, if◌then◌else◌}
 use Rattle.std.specs.List.{zip}
 use Rattle.si_base.specs.declared.ids.Literal.{Literal}
 use Rattle.si_base.specs.declared.graph.Signal.{Signal}
 use Rattle.si_base.specs.declared.graph.SigKind.{SigKind}
 use Rattle.si_base.specs.declared.graph.SigKind.TheVariants.{Input, Output, Internal, Inserted}
 use Rattle.si_base.specs.Bits.{bit}
+use Rattle.si_base.specs.Bytes.{apostrophe, digit_zero, digit_one}
 use Rattle.si_base.specs.Words.{text_of}
-use Rattle.si_base.specs.Graph.{is_driven}
+use Rattle.si_base.specs.Graph.{is_driven, name_of}
 use Rattle.si_base.specs.Netlist.{Sum, Gate, SumGate, Gc, Cell, Insertion, Netlist}
 
 abbrev pub same_kind : SigKind → SigKind → Bool
@@ -20,12 +21,9 @@ same_kind _ _ = false
 abbrev pub names_of : SigKind → List Signal → List (List ℕ)
 names_of kind signals = map (λ x. x.name) (filter (λ x. same_kind kind x.kind) signals)
 
-abbrev pub name_of : List Signal → ℕ → List ℕ
-name_of signals z = unwrap_or (option_map (λ x. x.name) (slice_get signals z)) []
-
 -- a name, with a mark behind it for the complement
 abbrev pub literal_word : List Signal → Literal → List ℕ
-literal_word signals l = name_of signals l.sig ++ (if l.plain then [] else 39 ∷ [])
+literal_word signals l = name_of signals l.sig ++ (if l.plain then [] else apostrophe ∷ [])
 
 abbrev pub cube_words : List Signal → List Literal → List (List ℕ)
 cube_words signals [] = codes "1" ∷ []
@@ -48,7 +46,7 @@ gate_words signals (Cell name literals sum) = codes "cell" ∷ name ∷ map (lit
 -- the values of the signals from the i-th on
 abbrev pub bits_from : ℕ → List Signal → ℕ → List ℕ
 bits_from i [] values = []
-bits_from i (x ∷ xs) values = (if bit values i then 49 else 48) ∷ bits_from (i + 1) xs values
+bits_from i (x ∷ xs) values = (if bit values i then digit_one else digit_zero) ∷ bits_from (i + 1) xs values
 
 abbrev pub word_if_any : List ℕ → List (List ℕ)
 word_if_any [] = []
