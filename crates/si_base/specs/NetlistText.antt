@@ -8,7 +8,8 @@ use Rattle.si_base.specs.declared.graph.SigKind.TheVariants.{Input, Output, Inte
 use Rattle.si_base.specs.Bits.{bit}
 use Rattle.si_base.specs.Bytes.{apostrophe, digit_zero, digit_one}
 use Rattle.si_base.specs.Words.{text_of}
-use Rattle.si_base.specs.Graph.{is_driven, name_of}
+use Rattle.si_base.specs.Graph.{is_driven}
+pub use Rattle.si_base.specs.Graph.{name_of}
 use Rattle.si_base.specs.Netlist.{Sum, Gate, SumGate, Gc, Cell, Insertion, Netlist}
 
 abbrev pub same_kind : SigKind → SigKind → Bool

@@ -7,7 +7,8 @@ use Rattle.si_base.specs.declared.graph.SigKind.TheVariants.{Input, Output, Inte
 use Rattle.si_base.specs.Bytes.{plus, minus, opening_brace, closing_brace}
 use Rattle.si_base.specs.Words.{text_of, is_signal_name, is_model_name, IsStateName, once}
 use Rattle.si_base.specs.Graph.{StateGraph, IsGraph}
-use Rattle.si_base.specs.GivenGraph.{signals_of, Sg, IsGivenGraph}
+use Rattle.si_base.specs.GivenGraph.{IsGivenGraph}
+pub use Rattle.si_base.specs.GivenGraph.{signals_of, Sg}
 use Rattle.si_base.specs.Limits.{max_signals, max_states_read, max_arcs_read}
 
 -- an arc line: a state, a signal with a direction, a state
