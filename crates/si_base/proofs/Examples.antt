@@ -13,7 +13,7 @@ use Rattle.si_base.specs.Netlist.{Sum, SumGate, Netlist, gate_value}
 use Rattle.si_base.specs.System.{State, Fires}
 use Rattle.si_base.specs.Behaviour.{IsBisimilar}
 use Prim.Native.String.{String}
-use Rattle.si_base.specs.NetlistText.{netlist_text}
+use Rattle.si_base.specs.NetlistText.{Version1, netlist_text, netlist_text_in}
 use Rattle.si_base.specs.Cover.{full_netlist}
 use Rattle.si_base.specs.StrictText.{ArcLine, Spelling, strict_text, state_names}
 use mathlib.Core.Bool.{beq}
@@ -186,11 +186,14 @@ b_changes : parity (rise 0 ∷ rise 1 ∷ fall 0 ∷ []) ≡ 2
 b_changes = refl
 
 -- ---- the text of the netlist
-majority_text : netlist_text majority ≡ codes ".model c2\n.inputs a b\n.outputs c\n.internal\n.inserted\n.start 000\n.gates\nc sum a b + b c + a c\n.end\n"
+majority_text : netlist_text majority ≡ codes ".version 2\n.model c2\n.inputs a b\n.outputs c\n.internal\n.inserted\n.start 000\n.gates\nc sum a b + b c + a c\n.end\n"
 unfolding netlist_text
 majority_text = refl
 
-full_sums_text : netlist_text (full_netlist (codes "c2") coded) ≡ codes ".model c2\n.inputs a b\n.outputs c\n.internal\n.inserted\n.start 000\n.gates\nc sum a b c' + a b c + a' b c + a b' c\n.end\n"
+majority_in_version_1 : netlist_text_in Version1 majority ≡ codes ".model c2\n.inputs a b\n.outputs c\n.internal\n.inserted\n.start 000\n.gates\nc sum a b + b c + a c\n.end\n"
+majority_in_version_1 = refl
+
+full_sums_text : netlist_text (full_netlist (codes "c2") coded) ≡ codes ".version 2\n.model c2\n.inputs a b\n.outputs c\n.internal\n.inserted\n.start 000\n.gates\nc sum a b c' + a b c + a' b c + a b' c\n.end\n"
 unfolding netlist_text full_netlist
 full_sums_text = refl
 

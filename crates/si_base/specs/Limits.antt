@@ -9,6 +9,10 @@ code_width = 128
 abbrev pub max_signals : ℕ
 max_signals = 128
 
+-- the most signals of a netlist text of version 1
+abbrev pub max_signals_version_1 : ℕ
+max_signals_version_1 = 64
+
 -- the most states of a graph that is read
 abbrev pub max_states_read : ℕ
 max_states_read = 262144

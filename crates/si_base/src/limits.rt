@@ -6,6 +6,9 @@ pub const CODE_WIDTH: usize = 128;
 /// The most signals of a graph or a netlist, inserted ones included.
 pub const MAX_SIGNALS: usize = 128;
 
+/// The most signals of a netlist text of version 1.
+pub const MAX_SIGNALS_VERSION_1: usize = 64;
+
 /// The most states of a graph that is read.
 pub const MAX_STATES_READ: u32 = 262_144;
 
