@@ -1,5 +1,6 @@
 pub mod OutLemmas
 pub mod ForkLemmas
 pub mod LossLemmas
+pub mod SquareLemmas
 pub mod ProperLemmas
 pub mod ConflictLemmas

@@ -1,3 +1,4 @@
 pub mod Faults
 pub mod Lent
 pub mod Searches
+pub mod Squares

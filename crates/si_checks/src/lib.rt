@@ -1,10 +1,12 @@
 //! Checks of coded graphs: proper graphs, and proper graphs without conflicts.
 #![tactic(auto)]
 
+mod breaches;
 mod conflicts;
 pub mod distinct;
 mod forks;
 mod losses;
 pub mod proper;
+mod squares;
 #[cfg(test)]
 mod tests;
