@@ -95,7 +95,7 @@ module _ (g : StateGraph) (s : ℕ) (arcs : List Edge) (out : AreOut g s arcs) w
   pub out_signal : (n : ℕ) (a : Edge) → n < length arcs → a ≡ get_or arcs n a → a.event.sig < length g.signals
   out_signal n a within at = (step_within g s a.event a.to out.graph (out_item n a within at)).1
 
-  out_rises : (i j : ℕ) (d : Edge) → i < j → j < length arcs → event_place (get_or arcs i d).event ≤ event_place (get_or arcs j d).event
+  pub out_rises : (i j : ℕ) (d : Edge) → i < j → j < length arcs → event_place (get_or arcs i d).event ≤ event_place (get_or arcs j d).event
   out_rises i j d before within =
       no_fall (get_or arcs i d) (get_or arcs j d) (sorted_at edge_cmp arcs out.ordered i j d before within)
       (out_from i d (omega arith) ∙ sym (out_from j d within))

@@ -2,3 +2,4 @@ pub mod Faults
 pub mod Lent
 pub mod Searches
 pub mod Laws
+pub mod Squares

@@ -1,9 +1,9 @@
-//! The first breach of output persistency.
+//! The first breach of output persistency at a state.
 
 ghost use Rattle.std.specs.Prelude.{IsTrue};
-ghost use Rattle.si_base.specs.Graph.{IsGraph, IsNonInput, enables};
+ghost use Rattle.si_base.specs.Graph.{IsNonInput, enables};
 ghost use Rattle.si_base.specs.Codes.{IsDeterministic};
-ghost use Rattle.si_base.specs.Proper.{Loses, loss_place};
+ghost use Rattle.si_base.specs.Proper.{loss_place};
 ghost use Rattle.si_checks.specs.Searches.{IsFirstOrNone, LosesAt, LosesOf};
 
 use si_base::ids::{Event, StateId};
@@ -28,22 +28,8 @@ impl Model for Loss {
     ghost inverse = { λ b. record { s = b.s; lost = b.lost; by = b.by } };
 }
 
-/// The first loss of a deterministic graph, if it has any.
-pub fn first_loss(graph: &Graph) -> Option<Loss>
-    requires graph { IsGraph graph.now }
-    requires deterministic { IsDeterministic graph.now }
-    ensures { IsFirstOrNone loss_place (Loses graph.now) result }
-{
-    for s in 0..graph.states() {
-        if let Some(loss) = first_loss_at(graph, StateId(s)) {
-            return Some(loss);
-        }
-    }
-    None
-}
-
 /// The first loss at a state.
-fn first_loss_at(graph: &Graph, s: StateId) -> Option<Loss>
+pub fn first_loss_at(graph: &Graph, s: StateId) -> Option<Loss>
     requires { IsDeterministic graph.now }
     ensures { IsFirstOrNone loss_place (LosesAt graph.now s) result }
 {
