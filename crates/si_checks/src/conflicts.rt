@@ -42,11 +42,7 @@ fn first_of_code(
     ensures there { IfOk result (λ p. get nat_cmp firsts.new code ≡ Some p) }
     ensures others { OnOk result ((k : ℕ) → k ≢ code → get nat_cmp firsts.new k ≡ get nat_cmp firsts.old k) }
 {
-    if let Some(first) = firsts.get(&code) {
-        return Ok(*first);
-    }
-    firsts.insert(code, s)?;
-    Ok(s)
+    Ok(*firsts.entry(code)?.or_insert(s))
 }
 
 /// The pair that was found, unless the first state of this one is earlier.
