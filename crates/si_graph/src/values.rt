@@ -64,7 +64,7 @@ fn shifted(alloc: Global, changes: &[Code], start: Code) -> Result<Vec<Code>, No
 }
 
 /// A mask of the signals whose values in the two codes don't suit an arc by the event.
-fn wrong_at(from: Code, to: Code, event: Event) -> u64
+fn wrong_at(from: Code, to: Code, event: Event) -> u128
     requires { event.sig < max_signals }
     ensures { (a : ℕ) → (bit result a ≡ false) ↔ Suits from to event a }
 {
@@ -74,7 +74,7 @@ fn wrong_at(from: Code, to: Code, event: Event) -> u64
 }
 
 /// A mask of the signals whose values in the codes don't suit some arc.
-fn wrong_signals(arcs: &[Edge], codes: &[Code]) -> u64
+fn wrong_signals(arcs: &[Edge], codes: &[Code]) -> u128
     requires { All (HasPlaces codes.now) arcs.now }
     ensures { (a : ℕ) → (bit result a ≡ false) ↔ SuitAll arcs.now codes.now a }
 {
