@@ -7,7 +7,7 @@ use Rattle.si_base.specs.Order.{IsFirst}
 use Rattle.si_base.specs.Graph.{StateGraph, Step, event_place, IsGraph, IsNonInput, enables, same_event}
 use Rattle.si_base.specs.Codes.{IsDeterministic}
 use Rattle.si_base.specs.Proper.{IsPersistent, Loss, Loses, loss_place}
-use Rattle.si_base.proofs.Circuit.{step_within}
+use Rattle.si_base.proofs.StepFacts.{step_within}
 use Rattle.si_base.proofs.Steps.{step_from_enables, same_event-refl}
 use Rattle.si_graph.specs.Arcs.{AreOut}
 use Rattle.si_checks.specs.Searches.{IsFirstOrNone, LosesAt, LosesBelow, LosesOf}

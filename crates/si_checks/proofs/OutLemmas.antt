@@ -10,7 +10,7 @@ use Rattle.si_base.specs.declared.ids.Event.{Event}
 use Rattle.si_base.specs.declared.graph.Edge.{Edge}
 use Rattle.si_base.specs.EdgeOrder.{event_cmp, edge_cmp}
 use Rattle.si_base.specs.Graph.{StateGraph, Step, arc, event_place}
-use Rattle.si_base.proofs.Circuit.{step_within}
+use Rattle.si_base.proofs.StepFacts.{step_within}
 use Rattle.si_base.proofs.Sorted.{sorted_at, nat_same}
 use Rattle.si_graph.specs.Arcs.{AreOut}
 
