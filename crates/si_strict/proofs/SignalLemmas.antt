@@ -1,12 +1,9 @@
 -- Names of signals, one more at a time.
-use Rattle.std.proofs.Common.{◌≡◌, ◌≢◌, ℕ, ◌+◌, ◌<◌, List, [], ◌∷◌, ◌++◌, map, take, drop, length, get_or, All, IsTrue, refl, sym, ap, ap₂, subst, ◌∙◌, arith, append_assoc, Bor, Option, Some, None}
-use Rattle.std.proofs.lemmas.List.{append-nil, take_more, take-append-drop, take_at, get_or_append_left, get_or_push, get_or_default, length-append, length_push, length-map, get_or-map, map_push}
+use Rattle.std.proofs.Common.{◌≡◌, ◌≢◌, ℕ, ◌+◌, ◌<◌, List, [], ◌∷◌, ◌++◌, length, All, IsTrue, refl, sym, ap, subst, ◌∙◌, arith, append_assoc, Bor, Option, Some, None}
+use Rattle.std.proofs.lemmas.List.{append-nil, take_at, get_or_append_left, get_or_push, get_or_default, length-append, length_push}
 use Rattle.std.proofs.lemmas.List.Elements.{All-push, All-take, All-contains, Contains-push}
 use Rattle.std.proofs.lemmas.List.Quantifiers.{all_pairs_push}
-use Rattle.si_base.specs.declared.graph.SigKind.{SigKind}
-use Rattle.si_base.specs.declared.graph.Signal.{Signal}
 use Rattle.si_base.specs.Words.{is_signal_name}
-use Rattle.si_base.specs.StrictText.{signals_of}
 use Rattle.std.specs.Prelude.{IfSome}
 use Rattle.si_strict.specs.Lines.{words_between, words_in}
 use Rattle.si_strict.specs.Strict.{AreSignalNames, IsNextName}

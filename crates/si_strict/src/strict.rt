@@ -26,9 +26,10 @@ use si_graph::graph::Graph;
 use si_words::words::is_signal_name;
 use std::alloc::Global;
 
-/// A graph with a name for each state, not yet cut to its reachable states.
+/// A graph with its model's name and a name for each state, not yet cut to its reachable states.
 #[derive(Drop)]
 pub struct Whole {
+    pub model: Name,
     pub graph: Graph,
     pub states: Names,
 }
@@ -51,6 +52,7 @@ struct Arcs {
 pub fn whole_of(alloc: Global, parts: &Parts<'_>) -> Result<Whole, NotRead>
     ensures strict { IfOk result (λ _. IsStrict (spelling_of parts.now)) }
     ensures spells { IfOk result (λ whole. Spells (spelling_of parts.now) whole.graph) }
+    ensures model { IfOk result (λ whole. whole.model ≡ parts.now.header.model.now) }
     ensures states { IfOk result (λ whole. whole.states ≡ state_names (spelling_of parts.now)) }
     ensures bad { result ≡ Err NotRead.BadText → IsStrict (spelling_of parts.now) → ⊥ }
 {
@@ -68,7 +70,9 @@ pub fn whole_of(alloc: Global, parts: &Parts<'_>) -> Result<Whole, NotRead>
         return Err(NotRead::BadText);
     }
     let graph = Graph::make(alloc, signals.list, count, edges, StateId(start))?;
+    let model = Name::copy_of(alloc, parts.header.model)?;
     Ok(Whole {
+        model,
         graph,
         states: arcs.states,
     })

@@ -1,4 +1,4 @@
-use Rattle.std.proofs.Common.{◌≡◌, ◌+◌, ◌++◌, ℕ, List, Bor, Option, Some, None, length}
+use Rattle.std.proofs.Common.{◌≡◌, ◌++◌}
 use Rattle.si_base.specs.StrictText.{signals_of}
 use Rattle.si_strict.specs.Lines.{words_in}
 use Rattle.si_strict.specs.Strict.{AreSignalNames}
