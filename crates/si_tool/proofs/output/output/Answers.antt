@@ -1,0 +1,7 @@
+use Rattle.si_tool.proofs.output.output.Goals as goal
+
+pub returns-in-Synth-clause-ok : goal.returns-in-Synth-clause-ok
+returns-in-Synth-clause-ok g c = rw c.in-Synth.is c.synth_output.ensures.ok
+
+pub returns-in-Replay-clause-ok : goal.returns-in-Replay-clause-ok
+returns-in-Replay-clause-ok g c = rw c.in-Replay.is c.replay_output.ensures.ok
