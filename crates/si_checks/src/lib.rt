@@ -4,6 +4,7 @@
 mod conflicts;
 pub mod distinct;
 mod forks;
+pub mod laws;
 mod losses;
 pub mod proper;
 #[cfg(test)]

@@ -9,6 +9,7 @@ use crate::reading::read_all;
 use crate::shelf::{LoadFault, Shelf};
 use crate::sink::{PutFault, Sink};
 use si_base::ids::NoMemory;
+use si_base::limits::MAX_TEXT;
 use si_base::text::{Name, Text};
 use std::alloc::Global;
 use std::io::{Read, Write};
@@ -213,17 +214,22 @@ fn host_sinks_over_slow_writers(rt: HostRuntime) -> Result<(), Fail> {
 }
 
 #[test]
-fn host_forms_on_a_file(rt: HostRuntime) -> Result<(), Fail> {
+fn host_forms_on_files(rt: HostRuntime) -> Result<(), Fail> {
     let alloc = rt.alloc();
     let name = "si_io_host_forms.txt";
+    let other = "si_io_other_file.txt";
     {
         let mut sink = HostSink::new(fs::create(&rt, name)?);
         sink.put(b"01234")?;
         sink.put(b"56789")?;
+        let mut other_sink = HostSink::new(fs::create(&rt, other)?);
+        other_sink.put(b"abc")?;
     }
     let mut shelf = HostShelf::new(&rt);
-    let whole = shelf.load(alloc, name, 10)?;
-    assert_eq!(rt; whole.as_slice(), b"0123456789".as_slice());
+    for (file, content) in [(name, "0123456789"), (other, "abc"), (name, "0123456789")] {
+        let whole = shelf.load(alloc, file, 10)?;
+        assert_eq!(rt; whole.as_slice(), content.as_bytes());
+    }
     for (limit, taken) in [(9, 10), (4, 5), (0, 1)] {
         assert_eq!(rt;
             shelf.load(alloc, name, limit).err(),
@@ -232,5 +238,27 @@ fn host_forms_on_a_file(rt: HostRuntime) -> Result<(), Fail> {
     }
     fs::remove_file(&rt, name)?;
     assert_eq!(rt; shelf.load(alloc, name, 10).err(), Some(LoadFault::Failed));
+    assert_eq!(rt; shelf.load(alloc, other, 10)?.len(), 3);
+    fs::remove_file(&rt, other)?;
+    Ok(())
+}
+
+#[test]
+fn the_longest_text_is_loaded_and_no_longer_one(rt: HostRuntime) -> Result<(), Fail> {
+    let alloc = rt.alloc();
+    let name = "si_io_longest_text.txt";
+    let mut piece = vec![in alloc; b'x'; MAX_TEXT as usize]?;
+    HostSink::new(fs::create(&rt, name)?).put(&piece)?;
+    let mut shelf = HostShelf::new(&rt);
+    let loaded = shelf.load(alloc, name, MAX_TEXT)?;
+    assert!(rt; loaded.as_slice() == piece.as_slice());
+    piece.push(b'x')?;
+    HostSink::new(fs::create(&rt, name)?).put(&piece)?;
+    let taken = MAX_TEXT + 1;
+    assert_eq!(rt;
+        shelf.load(alloc, name, MAX_TEXT).err(),
+        Some(LoadFault::TooLong { taken })
+    );
+    fs::remove_file(&rt, name)?;
     Ok(())
 }

@@ -1,6 +1,5 @@
 pub mod Refusal
 pub mod Stages
-pub mod Laws
 pub mod Ending
 pub mod Command
 pub mod Loads
@@ -11,4 +10,5 @@ pub mod Replayed
 pub mod Outcomes
 pub mod Meaning
 pub mod Run
+pub mod Laws
 pub mod ExitStatus

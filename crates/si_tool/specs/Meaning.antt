@@ -5,14 +5,14 @@ use Rattle.si_tool.specs.Checks.{proper, without_conflict, matched}
 use Rattle.si_tool.specs.Command.{Asked, AsksSynth, AsksReplay, Asks, files_of}
 use Rattle.si_tool.specs.Ending.{Ending, NoMemory, Answered}
 use Rattle.si_tool.specs.Readings.{graph_in, netlist_in, schedule_in}
-use Rattle.si_tool.specs.Refusal.{FileRefusal, Refusal, Answer, Output, FileRefused, Refused}
+use Rattle.si_tool.specs.Refusal.{FileRefusal, TextRefusal, Answer, Output, FileRefused, TextRefused}
 use Rattle.si_tool.specs.Replayed.{replayed}
-use Rattle.si_tool.specs.Stages.{Stage, ◌>>=◌, each}
+use Rattle.si_tool.specs.Stages.{Stage, ◌>>=◌}
 use Rattle.si_tool.specs.Synthesis.{synthesised}
 
 -- ---- each command over the text of its file, or the texts of its files
 
-abbrev pub synth : (file text : List ℕ) → Stage Refusal (List ℕ)
+abbrev pub synth : (file text : List ℕ) → Stage TextRefusal (List ℕ)
 synth file text = do
   given ← graph_in file text
   coded ← proper given.graph
@@ -20,7 +20,8 @@ synth file text = do
   synthesised given coded
 
 -- each file with its text
-abbrev pub replay : (graph graph_text netlist netlist_text schedule schedule_text : List ℕ) → Stage Refusal (List ℕ)
+abbrev pub replay : (graph graph_text netlist netlist_text schedule schedule_text : List ℕ)
+    → Stage TextRefusal (List ℕ)
 replay graph graph_text netlist netlist_text schedule schedule_text = do
   given ← graph_in graph graph_text
   circuit ← netlist_in netlist netlist_text
@@ -30,29 +31,34 @@ replay graph graph_text netlist netlist_text schedule schedule_text = do
   replayed given circuit events
 
 -- what is asked for, over as many texts as it has files
-abbrev pub meaning : Asked → List (List ℕ) → Stage Refusal (List ℕ)
+abbrev pub meaning : Asked → List (List ℕ) → Stage TextRefusal (List ℕ)
 meaning (AsksSynth file) (text ∷ []) = synth file text
 meaning (AsksReplay g n s) (graph ∷ netlist ∷ schedule ∷ []) = replay g graph n netlist s schedule
 meaning asked texts = λ answer. ⊥
 
 -- ---- the same over files
 
--- the files load so, one after another, up to the first that can't be used; else the command comes to what it means over
--- their texts
-abbrev pub ComesTo : (load : List ℕ → Stage FileRefusal (List ℕ)) → Asked → Answer → Type 0
-ComesTo load asked (FileRefused refusal) = each load (files_of asked) (Err refusal)
-ComesTo load asked (Refused refusal) = (texts : List (List ℕ)) × each load (files_of asked) (Ok texts) × meaning asked texts (Err refusal)
-ComesTo load asked (Output text) = (texts : List (List ℕ)) × each load (files_of asked) (Ok texts) × meaning asked texts (Ok text)
+-- what the loads of files may come to
+abbrev pub Loading : Type 1
+Loading = List (List ℕ) → Stage FileRefusal (List (List ℕ))
+
+-- one of the files can't be used, or the command comes to what it means over their texts
+abbrev pub ComesTo : Loading → Asked → Answer → Type 0
+ComesTo loading asked (FileRefused refusal) = loading (files_of asked) (Err refusal)
+ComesTo loading asked (TextRefused refusal) =
+    (texts : List (List ℕ)) × loading (files_of asked) (Ok texts) × meaning asked texts (Err refusal)
+ComesTo loading asked (Output text) =
+    (texts : List (List ℕ)) × loading (files_of asked) (Ok texts) × meaning asked texts (Ok text)
 
 -- what the words ask for comes to this answer
-pub record WordsComeTo (words : List (String Global)) (load : List ℕ → Stage FileRefusal (List ℕ)) (answer : Answer) : Type 0 where
+pub record WordsComeTo (words : List (String Global)) (loading : Loading) (answer : Answer) : Type 0 where
   pub asked : Asked
   pub asks : Asks words asked
-  pub comes : ComesTo load asked answer
+  pub comes : ComesTo loading asked answer
 
--- a call that does the work of a command may stop so
-abbrev pub MayNotCome : (load : List ℕ → Stage FileRefusal (List ℕ)) → Asked → Ending → Type 0
-MayNotCome load asked NoMemory = Unit {0}
-MayNotCome load asked (Answered (FileRefused refusal)) = ComesTo load asked (FileRefused refusal)
-MayNotCome load asked (Answered (Refused refusal)) = ComesTo load asked (Refused refusal)
-MayNotCome load asked ending = ⊥
+-- a call that does the work of a command may stop so: with a refusal to which it comes, or memory was wanting
+abbrev pub MayStopCommand : Loading → Asked → Ending → Type 0
+MayStopCommand loading asked NoMemory = Unit {0}
+MayStopCommand loading asked (Answered (FileRefused refusal)) = ComesTo loading asked (FileRefused refusal)
+MayStopCommand loading asked (Answered (TextRefused refusal)) = ComesTo loading asked (TextRefused refusal)
+MayStopCommand loading asked ending = ⊥

@@ -20,7 +20,8 @@ pub enum Command<'w> {
 
 /// The command that the words ask for, or `None` exactly where they ask for none.
 pub fn command_of(words: &[String]) -> Option<Command<'_>>
-    ensures { MatchOption result (AsksNothing words.now) (λ command. Asks words.now (asked_now command)) }
+    ensures { MatchOption result (AsksNothing words.now)
+        (λ command. Asks words.now (asked_now command)) }
 {
     if let Some(command) = synth_of(words) {
         return Some(command);
@@ -33,7 +34,8 @@ pub fn command_of(words: &[String]) -> Option<Command<'_>>
 
 /// `synth F complex`.
 fn synth_of(words: &[String]) -> Option<Command<'_>>
-    ensures { MatchOption result ((file : List ℕ) → Asks words.now (AsksSynth file) → ⊥) (λ command. Asks words.now (asked_now command)) }
+    ensures { MatchOption result ((file : List ℕ) → Asks words.now (AsksSynth file) → ⊥)
+        (λ command. Asks words.now (asked_now command)) }
 {
     match words {
         [command, file, style] if command.as_str() == "synth" && style.as_str() == "complex" => {
@@ -47,7 +49,8 @@ fn synth_of(words: &[String]) -> Option<Command<'_>>
 
 /// `replay F NETLIST SCHEDULE`.
 fn replay_of(words: &[String]) -> Option<Command<'_>>
-    ensures { MatchOption result ((graph netlist schedule : List ℕ) → Asks words.now (AsksReplay graph netlist schedule) → ⊥) (λ command. Asks words.now (asked_now command)) }
+    ensures { MatchOption result ((graph netlist schedule : List ℕ) → Asks words.now (AsksReplay graph netlist schedule) → ⊥)
+        (λ command. Asks words.now (asked_now command)) }
 {
     match words {
         [command, graph, netlist, schedule] if command.as_str() == "replay" => {

@@ -1,6 +1,7 @@
 //! The tool: from the words of a command line to the status.
 #![tactic(auto)]
 
+pub mod breach;
 pub mod checks;
 pub mod command;
 pub mod laws;

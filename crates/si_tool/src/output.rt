@@ -1,12 +1,12 @@
 //! What a command puts on `out`.
 
 ghost use Rattle.std.specs.Prelude.{◌≡◌, ℕ, ◌≤◌, List, [], ◌∷◌, IfOk, IfErr, Ok};
-ghost use Rattle.si_tool.specs.Meaning.{ComesTo, MayNotCome};
-ghost use Rattle.si_tool.specs.Refusal.{Output};
 ghost use Rattle.si_tool.specs.Command.{AsksReplay, AsksSynth, asked_now};
-ghost use Rattle.si_tool.specs.Ending.{MayNotLoad, seen};
+ghost use Rattle.si_tool.specs.Ending.{MayStopLoading, ending_of};
+ghost use Rattle.si_tool.specs.Loads as stage;
 ghost use Rattle.si_tool.specs.Loads.{loads};
-ghost use Rattle.si_tool.specs.Stages.{each};
+ghost use Rattle.si_tool.specs.Meaning.{ComesTo, MayStopCommand};
+ghost use Rattle.si_tool.specs.Refusal.{Output};
 
 use crate::command::Command;
 use crate::refusals::Refusal;
@@ -23,8 +23,12 @@ pub fn output<'w, H: Shelf>(
     command: Command<'w>,
     shelf: &mut H,
 ) -> Result<Text, Refusal<'w>>
-    ensures ok { IfOk result (λ text. ComesTo (loads (H.content shelf.old) (H.faults shelf.old) (H.faults shelf.new)) (asked_now command.entry) (Output text)) }
-    ensures err { IfErr result (λ r. MayNotCome (loads (H.content shelf.old) (H.faults shelf.old) (H.faults shelf.new)) (asked_now command.entry) (seen r)) }
+    ensures ok { IfOk result (λ text. ComesTo
+        (loads (H.content shelf.old) (H.faults shelf.old) (H.faults shelf.new))
+        (asked_now command.entry) (Output text)) }
+    ensures err { IfErr result (λ r. MayStopCommand
+        (loads (H.content shelf.old) (H.faults shelf.old) (H.faults shelf.new))
+        (asked_now command.entry) (ending_of r)) }
     ensures later { (n : List ℕ) → H.faults shelf.old n ≤ H.faults shelf.new n }
     ensures same { (n : List ℕ) → H.content shelf.new n ≡ H.content shelf.old n }
 {
@@ -44,8 +48,12 @@ fn synth_output<'w, H: Shelf>(
     file: &'w str,
     shelf: &mut H,
 ) -> Result<Text, Refusal<'w>>
-    ensures ok { IfOk result (λ text. ComesTo (loads (H.content shelf.old) (H.faults shelf.old) (H.faults shelf.new)) (AsksSynth file.now) (Output text)) }
-    ensures err { IfErr result (λ r. MayNotCome (loads (H.content shelf.old) (H.faults shelf.old) (H.faults shelf.new)) (AsksSynth file.now) (seen r)) }
+    ensures ok { IfOk result (λ text. ComesTo
+        (loads (H.content shelf.old) (H.faults shelf.old) (H.faults shelf.new))
+        (AsksSynth file.now) (Output text)) }
+    ensures err { IfErr result (λ r. MayStopCommand
+        (loads (H.content shelf.old) (H.faults shelf.old) (H.faults shelf.new))
+        (AsksSynth file.now) (ending_of r)) }
     ensures later { (n : List ℕ) → H.faults shelf.old n ≤ H.faults shelf.new n }
     ensures same { (n : List ℕ) → H.content shelf.new n ≡ H.content shelf.old n }
 {
@@ -61,8 +69,12 @@ fn replay_output<'w, H: Shelf>(
     schedule: &'w str,
     shelf: &mut H,
 ) -> Result<Text, Refusal<'w>>
-    ensures ok { IfOk result (λ text. ComesTo (loads (H.content shelf.old) (H.faults shelf.old) (H.faults shelf.new)) (AsksReplay graph.now netlist.now schedule.now) (Output text)) }
-    ensures err { IfErr result (λ r. MayNotCome (loads (H.content shelf.old) (H.faults shelf.old) (H.faults shelf.new)) (AsksReplay graph.now netlist.now schedule.now) (seen r)) }
+    ensures ok { IfOk result (λ text. ComesTo
+        (loads (H.content shelf.old) (H.faults shelf.old) (H.faults shelf.new))
+        (AsksReplay graph.now netlist.now schedule.now) (Output text)) }
+    ensures err { IfErr result (λ r. MayStopCommand
+        (loads (H.content shelf.old) (H.faults shelf.old) (H.faults shelf.new))
+        (AsksReplay graph.now netlist.now schedule.now) (ending_of r)) }
     ensures later { (n : List ℕ) → H.faults shelf.old n ≤ H.faults shelf.new n }
     ensures same { (n : List ℕ) → H.content shelf.new n ≡ H.content shelf.old n }
 {
@@ -72,8 +84,10 @@ fn replay_output<'w, H: Shelf>(
 
 /// The text of a file.
 fn load<'w, H: Shelf>(alloc: Global, file: &'w str, shelf: &mut H) -> Result<Vec<u8>, Refusal<'w>>
-    ensures ok { IfOk result (λ v. loads (H.content shelf.old) (H.faults shelf.old) (H.faults shelf.new) file.now (Ok v.items)) }
-    ensures err { IfErr result (λ r. MayNotLoad (loads (H.content shelf.old) (H.faults shelf.old) (H.faults shelf.new) file.now) (seen r)) }
+    ensures ok { IfOk result (λ v. stage.load (H.content shelf.old) (H.faults shelf.old)
+        (H.faults shelf.new) file.now (Ok (record { text = v.items; counts = H.faults shelf.new }))) }
+    ensures err { IfErr result (λ r. MayStopLoading (stage.load (H.content shelf.old)
+        (H.faults shelf.old) (H.faults shelf.new) file.now) (ending_of r)) }
     ensures later { (n : List ℕ) → H.faults shelf.old n ≤ H.faults shelf.new n }
     ensures same { (n : List ℕ) → H.content shelf.new n ≡ H.content shelf.old n }
 {
@@ -91,8 +105,12 @@ fn load_one<'w, H: Shelf>(
     file: &'w str,
     shelf: &mut H,
 ) -> Result<Vec<u8>, Refusal<'w>>
-    ensures ok { IfOk result (λ v. each (loads (H.content shelf.old) (H.faults shelf.old) (H.faults shelf.new)) (file.now ∷ []) (Ok (v.items ∷ []))) }
-    ensures err { IfErr result (λ r. MayNotLoad (each (loads (H.content shelf.old) (H.faults shelf.old) (H.faults shelf.new)) (file.now ∷ [])) (seen r)) }
+    ensures ok { IfOk result (λ v.
+        loads (H.content shelf.old) (H.faults shelf.old) (H.faults shelf.new)
+        (file.now ∷ []) (Ok (v.items ∷ []))) }
+    ensures err { IfErr result (λ r. MayStopLoading
+        (loads (H.content shelf.old) (H.faults shelf.old) (H.faults shelf.new)
+        (file.now ∷ [])) (ending_of r)) }
     ensures later { (n : List ℕ) → H.faults shelf.old n ≤ H.faults shelf.new n }
     ensures same { (n : List ℕ) → H.content shelf.new n ≡ H.content shelf.old n }
 {
@@ -106,8 +124,12 @@ fn load_two<'w, H: Shelf>(
     other: &'w str,
     shelf: &mut H,
 ) -> Result<(Vec<u8>, Vec<u8>), Refusal<'w>>
-    ensures ok { IfOk result (λ t. each (loads (H.content shelf.old) (H.faults shelf.old) (H.faults shelf.new)) (one.now ∷ other.now ∷ []) (Ok (t.0.items ∷ t.1.items ∷ []))) }
-    ensures err { IfErr result (λ r. MayNotLoad (each (loads (H.content shelf.old) (H.faults shelf.old) (H.faults shelf.new)) (one.now ∷ other.now ∷ [])) (seen r)) }
+    ensures ok { IfOk result (λ t.
+        loads (H.content shelf.old) (H.faults shelf.old) (H.faults shelf.new)
+        (one.now ∷ other.now ∷ []) (Ok (t.0.items ∷ t.1.items ∷ []))) }
+    ensures err { IfErr result (λ r. MayStopLoading
+        (loads (H.content shelf.old) (H.faults shelf.old) (H.faults shelf.new)
+        (one.now ∷ other.now ∷ [])) (ending_of r)) }
     ensures later { (n : List ℕ) → H.faults shelf.old n ≤ H.faults shelf.new n }
     ensures same { (n : List ℕ) → H.content shelf.new n ≡ H.content shelf.old n }
 {
@@ -124,8 +146,12 @@ fn load_three<'w, H: Shelf>(
     three: &'w str,
     shelf: &mut H,
 ) -> Result<(Vec<u8>, Vec<u8>, Vec<u8>), Refusal<'w>>
-    ensures ok { IfOk result (λ t. each (loads (H.content shelf.old) (H.faults shelf.old) (H.faults shelf.new)) (one.now ∷ two.now ∷ three.now ∷ []) (Ok (t.0.items ∷ t.1.items ∷ t.2.items ∷ []))) }
-    ensures err { IfErr result (λ r. MayNotLoad (each (loads (H.content shelf.old) (H.faults shelf.old) (H.faults shelf.new)) (one.now ∷ two.now ∷ three.now ∷ [])) (seen r)) }
+    ensures ok { IfOk result (λ t.
+        loads (H.content shelf.old) (H.faults shelf.old) (H.faults shelf.new)
+        (one.now ∷ two.now ∷ three.now ∷ []) (Ok (t.0.items ∷ t.1.items ∷ t.2.items ∷ []))) }
+    ensures err { IfErr result (λ r. MayStopLoading
+        (loads (H.content shelf.old) (H.faults shelf.old) (H.faults shelf.new)
+        (one.now ∷ two.now ∷ three.now ∷ [])) (ending_of r)) }
     ensures later { (n : List ℕ) → H.faults shelf.old n ≤ H.faults shelf.new n }
     ensures same { (n : List ℕ) → H.content shelf.new n ≡ H.content shelf.old n }
 {

@@ -28,6 +28,7 @@ returns-in-Ok-eq0-clause-load g c = record {
   failed = search rules;
   too_long = search rules;
   really_too_long = search rules;
+  without_fault = search rules;
 }
 
 pub returns-in-Ok-eq0-clause-whole : goal.returns-in-Ok-eq0-clause-whole
@@ -49,6 +50,7 @@ returns-clause-load g c = record {
   failed = search rules;
   too_long = λ taken told. let same : c.len-2.result ≡ taken = cc told in omega arith;
   really_too_long = λ taken told. content_beyond _ _ _ _ c.loop-chunk.invariant.consumed (omega arith);
+  without_fault = λ taken told. search rules;
 }
 
 pub returns-clause-part : goal.returns-clause-part
