@@ -121,7 +121,7 @@ command_or_fault content before now asked (FileRefused r) is =
           let fault_is = fault.is in
           let same : r ≡ ReadFault fault.file = cc in
           inr (record { file = fault.file; named = fault.named; rose = fault.rose; is = ap FileRefused same })
-        )
+          )
     ]
 
 -- ---- told files come to some answer

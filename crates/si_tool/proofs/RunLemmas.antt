@@ -64,10 +64,10 @@ complete words content before now out err result ends answer deserve = by ends.e
     by (Answered a) may is = elim (comes_as words content before now a answer may.0 deserve) [
       | inl same ↦ AsDeserved (is ∙ ap answer_status same)
       | inr fault ↦ ByReadFault (is ∙ ap answer_status fault.is) (record {
-          asked = may.0.asked;
-          asks = may.0.asks;
-          rose = (fault.named.0, fault.file, fault.named.1, fault.named.2, fault.rose);
-        })
+        asked = may.0.asked;
+        asks = may.0.asks;
+        rose = (fault.named.0, fault.file, fault.named.1, fault.named.2, fault.rose);
+      })
     ]
 
 -- ---- what a status shows
