@@ -1,5 +1,6 @@
 -- A command comes to one answer: by its texts, and by its files where they are told.
-use Rattle.std.proofs.Common.{◌≡◌, ℕ, List, [], ◌∷◌, length, None, Result, Ok, Err, Contains, refl, ap, subst, arith, ◌⊎◌, inl, inr}
+use Rattle.std.proofs.Common.{◌≡◌, ℕ, List, [], ◌∷◌, length, None, Result, Ok, Err, Contains, refl, ap, subst, arith}
+use Rattle.std.proofs.Common.{◌⊎◌, inl, inr}
 use Rattle.si_base.specs.Codes.{CodedGraph}
 use Rattle.si_base.specs.StrictText.{IsGiven, Sg}
 use Rattle.si_base.specs.System.{IsFor}
@@ -136,4 +137,5 @@ command_some content asked told none = all_some content (files_of asked) told go
 
     go : (a : Result (List (List ℕ)) FileRefusal) → loads_well content (files_of asked) a → ⊥
     go (Err u) is = none (FileRefused u) is
-    go (Ok texts) is = meaning_some asked texts (as_many (load_well content) (files_of asked) texts is) (no_answer texts is)
+    go (Ok texts) is =
+        meaning_some asked texts (as_many (load_well content) (files_of asked) texts is) (no_answer texts is)

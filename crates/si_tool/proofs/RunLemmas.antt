@@ -3,11 +3,13 @@ use Rattle.std.proofs.Common.{◌≡◌, ◌≢◌, ℕ, zero, suc, List, [], �
 use Rattle.std.proofs.Common.{◌∙◌, arith, ◌⊎◌, inl, inr, codes, String, Global, bytes_eq, if◌then◌else◌}
 use Rattle.si_io.specs.Outside.{Rose, Appends, AppendsPrefix}
 use Rattle.si_tool.specs.Command.{Asked, AsksSynth, AsksReplay, Asks, AsksNothing, words_for, files_of}
-use Rattle.si_tool.specs.Ending.{Ending, NoMemory, Usage, WriteFault, Answered, IsRefusal, status_of, line_of, ending_of}
+use Rattle.si_tool.specs.Ending.{Ending, NoMemory, Usage, WriteFault, Answered, IsRefusal, status_of, line_of}
+use Rattle.si_tool.specs.Ending.{ending_of}
 use Rattle.si_tool.specs.Laws.{ShowsCause}
 use Rattle.si_tool.specs.Loads.{Contents, Counts, AreTold, loads, loads_well, no_faults}
 use Rattle.si_tool.specs.Meaning.{Loading, ComesTo, MayStopCommand, WordsComeTo}
-use Rattle.si_tool.specs.Refusal.{FileRefusal, TextRefusal, Answer, Output, FileRefused, TextRefused, ReadFault, TooLong}
+use Rattle.si_tool.specs.Refusal.{FileRefusal, TextRefusal, Answer, Output, FileRefused, TextRefused, ReadFault}
+use Rattle.si_tool.specs.Refusal.{TooLong}
 use Rattle.si_tool.specs.Refusal.{Improper, answer_status, text_status}
 use Rattle.si_tool.specs.Run.{Change, IsKept, IsUnwritten, IsDone, MayEnd, Ends, PutsLine, PutsDue, Deserve, ReadRose}
 use Rattle.si_tool.specs.Run.{IsDue, AsDeserved, WithoutMemory, ByReadFault, ByWriteFault}
@@ -157,7 +159,8 @@ module _ (words : List (String Global)) (loading : Loading) (out : Change) where
   never_unmapped e is = cc
 
   -- where a run isn't done, `out` is as it was, or has a prefix of the output where a fault was counted
-  by_kept : (e : Ending) → MayEnd words loading out e → status_of e ≢ status.Done → IsKept out ⊎ IsUnwritten words loading out
+  by_kept : (e : Ending) → MayEnd words loading out e → status_of e ≢ status.Done
+      → IsKept out ⊎ IsUnwritten words loading out
   by_kept NoMemory may other = may
   by_kept Usage may other = inl may.1
   by_kept WriteFault may other = inr may
@@ -197,7 +200,8 @@ shows_cause words content before now out err result ends = record {
     rose = read_rose content before now (files_of fault.1.asked) fault.0 fault.1.comes;
   });
   too_long = λ is. by_long words loading out ends.ending ends.may (at status.TooLong is);
-  refused = λ q is. rw ends.puts.status_is (by_refused words loading out ends.ending q ends.may (sym is ∙ ends.puts.status_is));
+  refused = λ q is. rw ends.puts.status_is (by_refused words loading out ends.ending q ends.may
+      (sym is ∙ ends.puts.status_is));
   write_fault = λ is. by_unwritten words loading out ends.ending ends.may (at status.WriteFault is);
   unmapped = λ is. never_unmapped words loading out ends.ending (at status.Unmapped is);
   out_refused = λ other. by_kept words loading out ends.ending ends.may (λ is. other (ends.puts.status_is ∙ is));
@@ -223,7 +227,8 @@ ends_silent words loading out err result ends done = by ends.ending (sym ends.pu
   where
     by : (e : Ending) → status_of e ≡ status.Done → AppendsPrefix err.old (line_of e) err.new → err.new ≡ err.old
     by (Answered (Output text)) is part =
-        put_nothing err.old err.new (subst (λ (piece : List ℕ). Appends err.old piece err.new) (take_nothing part.0) part.1)
+        put_nothing err.old err.new (subst (λ (piece : List ℕ). Appends err.old piece err.new)
+        (take_nothing part.0) part.1)
     by (Answered (FileRefused (ReadFault file))) is part = cc
     by (Answered (FileRefused (TooLong file))) is part = cc
     by (Answered (TextRefused r)) is part = absurd ((of_texts r).not_done is)
@@ -238,7 +243,8 @@ unwritten_not : (words : List (String Global)) (loading : Loading) (out : Change
 unwritten_not words loading out now unwritten = (let rose = unwritten.rose in never_rose out.before (rw now at rose))
 
 pub due_without : (words : List (String Global)) (deserved result : Status)
-    → IsDue deserved result (ReadRose words no_faults no_faults) (Rose 0 0) → (result ≡ deserved) ⊎ (result ≡ status.NoMemory)
+    → IsDue deserved result (ReadRose words no_faults no_faults) (Rose 0 0) → (result ≡ deserved) ⊎
+    (result ≡ status.NoMemory)
 due_without words deserved result (AsDeserved is) = inl is
 due_without words deserved result (WithoutMemory is) = inr is
 due_without words deserved result (ByReadFault is rose) = absurd (never_rose 0 rose.rose.4)
@@ -276,7 +282,8 @@ ends_as_put words loading out err result due is may due_put = record {
   ending = due_put.ending;
   may = elim due_put.one_of [
     | inl same ↦ subst (λ (e : Ending). MayEnd words loading out e) (sym same) may
-    | inr want ↦ subst (λ (e : Ending). MayEnd words loading out e) (sym want) (without_memory words loading out due is may)
+    | inr want ↦ subst (λ (e : Ending). MayEnd words loading out e) (sym want)
+        (without_memory words loading out due is may)
   ];
   puts = due_put.puts;
 }

@@ -46,12 +46,15 @@ Loading = List (List ℕ) → Stage FileRefusal (List (List ℕ))
 abbrev pub ComesTo : Loading → Asked → Answer → Type 0
 ComesTo loading asked (FileRefused refusal) = loading (files_of asked) (Err refusal)
 ComesTo loading asked (TextRefused refusal) =
-    (texts : List (List ℕ)) × loading (files_of asked) (Ok texts) × meaning asked texts (Err refusal)
+    (texts : List (List ℕ)) × loading (files_of asked) (Ok texts)
+    × meaning asked texts (Err refusal)
 ComesTo loading asked (Output text) =
-    (texts : List (List ℕ)) × loading (files_of asked) (Ok texts) × meaning asked texts (Ok text)
+    (texts : List (List ℕ)) × loading (files_of asked) (Ok texts)
+    × meaning asked texts (Ok text)
 
 -- what the words ask for comes to this answer
-pub record WordsComeTo (words : List (String Global)) (loading : Loading) (answer : Answer) : Type 0 where
+pub record WordsComeTo (words : List (String Global)) (loading : Loading)
+    (answer : Answer) : Type 0 where
   pub asked : Asked
   pub asks : Asks words asked
   pub comes : ComesTo loading asked answer
@@ -59,6 +62,8 @@ pub record WordsComeTo (words : List (String Global)) (loading : Loading) (answe
 -- a call that does the work of a command may stop so: with a refusal to which it comes, or memory was wanting
 abbrev pub MayStopCommand : Loading → Asked → Ending → Type 0
 MayStopCommand loading asked NoMemory = Unit {0}
-MayStopCommand loading asked (Answered (FileRefused refusal)) = ComesTo loading asked (FileRefused refusal)
-MayStopCommand loading asked (Answered (TextRefused refusal)) = ComesTo loading asked (TextRefused refusal)
+MayStopCommand loading asked (Answered (FileRefused refusal)) =
+    ComesTo loading asked (FileRefused refusal)
+MayStopCommand loading asked (Answered (TextRefused refusal)) =
+    ComesTo loading asked (TextRefused refusal)
 MayStopCommand loading asked ending = ⊥

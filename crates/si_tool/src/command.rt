@@ -49,7 +49,8 @@ fn synth_of(words: &[String]) -> Option<Command<'_>>
 
 /// `replay F NETLIST SCHEDULE`.
 fn replay_of(words: &[String]) -> Option<Command<'_>>
-    ensures { MatchOption result ((graph netlist schedule : List ℕ) → Asks words.now (AsksReplay graph netlist schedule) → ⊥)
+    ensures { MatchOption result
+        ((graph netlist schedule : List ℕ) → Asks words.now (AsksReplay graph netlist schedule) → ⊥)
         (λ command. Asks words.now (asked_now command)) }
 {
     match words {

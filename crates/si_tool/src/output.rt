@@ -84,10 +84,12 @@ fn replay_output<'w, H: Shelf>(
 
 /// The text of a file.
 fn load<'w, H: Shelf>(alloc: Global, file: &'w str, shelf: &mut H) -> Result<Vec<u8>, Refusal<'w>>
-    ensures ok { IfOk result (λ v. stage.load (H.content shelf.old) (H.faults shelf.old)
-        (H.faults shelf.new) file.now (Ok (record { text = v.items; counts = H.faults shelf.new }))) }
-    ensures err { IfErr result (λ r. MayStopLoading (stage.load (H.content shelf.old)
-        (H.faults shelf.old) (H.faults shelf.new) file.now) (ending_of r)) }
+    ensures ok { IfOk result (λ v.
+        stage.load (H.content shelf.old) (H.faults shelf.old) (H.faults shelf.new) file.now
+        (Ok (record { text = v.items; counts = H.faults shelf.new }))) }
+    ensures err { IfErr result (λ r. MayStopLoading
+        (stage.load (H.content shelf.old) (H.faults shelf.old) (H.faults shelf.new) file.now)
+        (ending_of r)) }
     ensures later { (n : List ℕ) → H.faults shelf.old n ≤ H.faults shelf.new n }
     ensures same { (n : List ℕ) → H.content shelf.new n ≡ H.content shelf.old n }
 {
