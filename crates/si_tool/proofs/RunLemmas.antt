@@ -7,12 +7,13 @@ use Rattle.si_tool.specs.Ending.{Ending, NoMemory, Usage, WriteFault, Answered, 
 use Rattle.si_tool.specs.Ending.{ending_of}
 use Rattle.si_tool.specs.Laws.{ShowsCause}
 use Rattle.si_tool.specs.Loads.{Contents, Counts, AreTold, loads, loads_well, no_faults}
-use Rattle.si_tool.specs.Meaning.{Loading, ComesTo, MayStopCommand, WordsComeTo}
-use Rattle.si_tool.specs.Refusal.{FileRefusal, TextRefusal, Answer, Output, FileRefused, TextRefused, ReadFault}
+use Rattle.si_tool.specs.Meaning.{LoadStage, ComesTo, MayStopCommand, WordsComeTo}
+use Rattle.si_tool.specs.Refusal.{TextRefusal, Answer, Output, FileRefused, TextRefused, ReadFault}
 use Rattle.si_tool.specs.Refusal.{TooLong}
 use Rattle.si_tool.specs.Refusal.{Improper, answer_status, text_status}
-use Rattle.si_tool.specs.Run.{Change, IsKept, IsUnwritten, IsDone, MayEnd, Ends, PutsLine, PutsDue, Deserve, ReadRose}
-use Rattle.si_tool.specs.Run.{IsDue, AsDeserved, WithoutMemory, ByReadFault, ByWriteFault}
+use Rattle.si_tool.specs.Run.{SinkChange, IsKept, IsCutShort, IsDone, MayEnd, Ends, PutsDue, Deserve}
+use Rattle.si_tool.specs.Run.{ReadRose}
+use Rattle.si_tool.specs.Run.{IsDeservedUnlessFault, AsDeserved, WithoutMemory, ByReadFault, ByWriteFault}
 use Rattle.si_tool.specs.declared.refusals.Refusal.{Refusal}
 use Rattle.si_tool.specs.declared.refusals.Refusal.TheVariants as made
 use Rattle.si_tool.specs.declared.status.Status.{Status}
@@ -52,14 +53,14 @@ comes_as words content before now a b come deserve =
     ]
 
 -- what is deserved comes, want of memory and faults aside
-pub complete : (words : List (String Global)) (content : Contents) (before now : Counts) (out err : Change)
+pub complete : (words : List (String Global)) (content : Contents) (before now : Counts) (out err : SinkChange)
     (result : Status) → Ends words (loads content before now) out err result → (answer : Answer)
     → Deserve words content answer
-    → IsDue (answer_status answer) result (ReadRose words before now) (Rose out.before out.now)
+    → IsDeservedUnlessFault (answer_status answer) result (ReadRose words before now) (Rose out.before out.now)
 complete words content before now out err result ends answer deserve = by ends.ending ends.may ends.puts.status_is
   where
     by : (e : Ending) → MayEnd words (loads content before now) out e → result ≡ status_of e
-        → IsDue (answer_status answer) result (ReadRose words before now) (Rose out.before out.now)
+        → IsDeservedUnlessFault (answer_status answer) result (ReadRose words before now) (Rose out.before out.now)
     by NoMemory may is = WithoutMemory is
     by Usage may is = absurd (may.0 deserve.asked deserve.asks)
     by WriteFault may is = ByWriteFault is may.rose
@@ -104,7 +105,7 @@ of_texts r = record {
   not_unmapped = λ e. cc;
 }
 
-module _ (words : List (String Global)) (loading : Loading) (out : Change) where
+module _ (words : List (String Global)) (loading : LoadStage) (out : SinkChange) where
   pub by_done : (e : Ending) → MayEnd words loading out e → status_of e ≡ status.Done → IsDone words loading out
   by_done (Answered (Output text)) may is = record { output = text; comes = may.0; written = may.1 }
   by_done (Answered (FileRefused (ReadFault file))) may is = cc
@@ -134,7 +135,7 @@ module _ (words : List (String Global)) (loading : Loading) (out : Change) where
   by_long e may is = cc
 
   by_unwritten : (e : Ending) → MayEnd words loading out e → status_of e ≡ status.WriteFault
-      → IsUnwritten words loading out
+      → IsCutShort words loading out
   by_unwritten WriteFault may is = may
   by_unwritten (Answered (FileRefused (ReadFault file))) may is = cc
   by_unwritten (Answered (FileRefused (TooLong file))) may is = cc
@@ -160,7 +161,7 @@ module _ (words : List (String Global)) (loading : Loading) (out : Change) where
 
   -- where a run isn't done, `out` is as it was, or has a prefix of the output where a fault was counted
   by_kept : (e : Ending) → MayEnd words loading out e → status_of e ≢ status.Done
-      → IsKept out ⊎ IsUnwritten words loading out
+      → IsKept out ⊎ IsCutShort words loading out
   by_kept NoMemory may other = may
   by_kept Usage may other = inl may.1
   by_kept WriteFault may other = inr may
@@ -175,12 +176,12 @@ module _ (words : List (String Global)) (loading : Loading) (out : Change) where
   by_unasked WriteFault may nothing = absurd (nothing may.comes.asked may.comes.asks)
   by_unasked (Answered a) may nothing = absurd (nothing may.0.asked may.0.asks)
 
-pub ends_done : (words : List (String Global)) (loading : Loading) (out err : Change) (result : Status)
+pub ends_done : (words : List (String Global)) (loading : LoadStage) (out err : SinkChange) (result : Status)
     → Ends words loading out err result → result ≡ status.Done → IsDone words loading out
 ends_done words loading out err result ends is =
     by_done words loading out ends.ending ends.may (sym ends.puts.status_is ∙ is)
 
-pub ends_unasked : (words : List (String Global)) (loading : Loading) (out err : Change) (result : Status)
+pub ends_unasked : (words : List (String Global)) (loading : LoadStage) (out err : SinkChange) (result : Status)
     → Ends words loading out err result → AsksNothing words → (result ≡ status.Usage) ⊎ (result ≡ status.NoMemory)
 ends_unasked words loading out err result ends nothing =
     elim (by_unasked words loading out ends.ending ends.may nothing) [
@@ -188,7 +189,7 @@ ends_unasked words loading out err result ends nothing =
       | inr memory ↦ inr (ends.puts.status_is ∙ memory)
     ]
 
-pub shows_cause : (words : List (String Global)) (content : Contents) (before now : Counts) (out err : Change)
+pub shows_cause : (words : List (String Global)) (content : Contents) (before now : Counts) (out err : SinkChange)
     (result : Status) → Ends words (loads content before now) out err result
     → ShowsCause words content before now out result
 shows_cause words content before now out err result ends = record {
@@ -207,7 +208,7 @@ shows_cause words content before now out err result ends = record {
   out_refused = λ other. by_kept words loading out ends.ending ends.may (λ is. other (ends.puts.status_is ∙ is));
 }
   where
-    loading : Loading
+    loading : LoadStage
     loading = loads content before now
 
     at : (s : Status) → result ≡ s → status_of ends.ending ≡ s
@@ -221,7 +222,7 @@ take_nothing : (k : ℕ) → take {A = ℕ} k [] ≡ []
 take_nothing zero = refl
 take_nothing (suc k) = refl
 
-pub ends_silent : (words : List (String Global)) (loading : Loading) (out err : Change) (result : Status)
+pub ends_silent : (words : List (String Global)) (loading : LoadStage) (out err : SinkChange) (result : Status)
     → Ends words loading out err result → result ≡ status.Done → err.new ≡ err.old
 ends_silent words loading out err result ends done = by ends.ending (sym ends.puts.status_is ∙ done) ends.puts.part
   where
@@ -238,28 +239,28 @@ ends_silent words loading out err result ends done = by ends.ending (sym ends.pu
 never_rose : (before : ℕ) → Rose before 0 → ⊥
 never_rose before rose = omega arith
 
-unwritten_not : (words : List (String Global)) (loading : Loading) (out : Change) → out.now ≡ 0
-    → IsUnwritten words loading out → ⊥
+unwritten_not : (words : List (String Global)) (loading : LoadStage) (out : SinkChange) → out.now ≡ 0
+    → IsCutShort words loading out → ⊥
 unwritten_not words loading out now unwritten = (let rose = unwritten.rose in never_rose out.before (rw now at rose))
 
 pub due_without : (words : List (String Global)) (deserved result : Status)
-    → IsDue deserved result (ReadRose words no_faults no_faults) (Rose 0 0) → (result ≡ deserved) ⊎
+    → IsDeservedUnlessFault deserved result (ReadRose words no_faults no_faults) (Rose 0 0) → (result ≡ deserved) ⊎
     (result ≡ status.NoMemory)
 due_without words deserved result (AsDeserved is) = inl is
 due_without words deserved result (WithoutMemory is) = inr is
 due_without words deserved result (ByReadFault is rose) = absurd (never_rose 0 rose.rose.4)
 due_without words deserved result (ByWriteFault is rose) = absurd (never_rose 0 rose)
 
-pub never_unread : (words : List (String Global)) (content : Contents) (out : Change) (result : Status)
+pub never_unread : (words : List (String Global)) (content : Contents) (out : SinkChange) (result : Status)
     → ShowsCause words content no_faults no_faults out result → result ≢ status.ReadFault
 never_unread words content out result shows is = never_rose 0 (shows.read_rose is).rose.4
 
-pub never_unwritten : (words : List (String Global)) (content : Contents) (before now : Counts) (out : Change)
+pub never_unwritten : (words : List (String Global)) (content : Contents) (before now : Counts) (out : SinkChange)
     (result : Status) → out.now ≡ 0 → ShowsCause words content before now out result → result ≢ status.WriteFault
 never_unwritten words content before now out result none shows is =
     unwritten_not words (loads content before now) out none (shows.write_fault is)
 
-pub always_kept : (words : List (String Global)) (content : Contents) (before now : Counts) (out : Change)
+pub always_kept : (words : List (String Global)) (content : Contents) (before now : Counts) (out : SinkChange)
     (result : Status) → out.now ≡ 0 → ShowsCause words content before now out result → result ≢ status.Done → IsKept out
 always_kept words content before now out result none shows other = elim (shows.out_refused other) [
   | inl kept ↦ kept
@@ -267,7 +268,7 @@ always_kept words content before now out result none shows other = elim (shows.o
 ]
 
 -- ---- from what is due to how the run ends
-without_memory : (words : List (String Global)) (loading : Loading) (out : Change) (e : Ending) → IsRefusal e
+without_memory : (words : List (String Global)) (loading : LoadStage) (out : SinkChange) (e : Ending) → IsRefusal e
     → MayEnd words loading out e → MayEnd words loading out NoMemory
 without_memory words loading out NoMemory is may = may
 without_memory words loading out Usage is may = inl may.1
@@ -276,7 +277,8 @@ without_memory words loading out (Answered (Output text)) is may = absurd is
 without_memory words loading out (Answered (FileRefused u)) is may = inl may.1
 without_memory words loading out (Answered (TextRefused r)) is may = inl may.1
 
-pub ends_as_put : (words : List (String Global)) (loading : Loading) (out err : Change) (result : Status) (due : Ending)
+pub ends_as_put : (words : List (String Global)) (loading : LoadStage) (out err : SinkChange) (result : Status)
+    (due : Ending)
     → IsRefusal due → MayEnd words loading out due → PutsDue due err result → Ends words loading out err result
 ends_as_put words loading out err result due is may due_put = record {
   ending = due_put.ending;
@@ -292,7 +294,7 @@ pub refusal_ends : (r : Refusal) → IsRefusal (ending_of r)
 refusal_ends (made.Improper breach) = tt
 refusal_ends r = tt
 
-pub ends_written : (words : List (String Global)) (loading : Loading) (out err : Change) (output : List ℕ)
+pub ends_written : (words : List (String Global)) (loading : LoadStage) (out err : SinkChange) (output : List ℕ)
     → WordsComeTo words loading (Output output) → Appends out.old output out.new → err.new ≡ err.old
     → Ends words loading out err status.Done
 ends_written words loading out err output comes written kept = record {
@@ -306,7 +308,7 @@ ends_written words loading out err output comes written kept = record {
 }
 
 -- a call that stops before the output is there
-pub stops_run : (words : List (String Global)) (loading : Loading) (out : Change) (asked : Asked) (e : Ending)
+pub stops_run : (words : List (String Global)) (loading : LoadStage) (out : SinkChange) (asked : Asked) (e : Ending)
     → Asks words asked → IsKept out → MayStopCommand loading asked e → MayEnd words loading out e
 stops_run words loading out asked NoMemory asks kept may = inl kept
 stops_run words loading out asked (Answered (FileRefused u)) asks kept may =

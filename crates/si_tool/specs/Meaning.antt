@@ -38,12 +38,12 @@ meaning asked texts = λ answer. ⊥
 
 -- ---- the same over files
 
--- what the loads of files may come to
-abbrev pub Loading : Type 1
-Loading = List (List ℕ) → Stage FileRefusal (List (List ℕ))
+-- what the loads of a list of files may come to
+abbrev pub LoadStage : Type 1
+LoadStage = List (List ℕ) → Stage FileRefusal (List (List ℕ))
 
 -- one of the files can't be used, or the command comes to what it means over their texts
-abbrev pub ComesTo : Loading → Asked → Answer → Type 0
+abbrev pub ComesTo : LoadStage → Asked → Answer → Type 0
 ComesTo loading asked (FileRefused refusal) = loading (files_of asked) (Err refusal)
 ComesTo loading asked (TextRefused refusal) =
     (texts : List (List ℕ)) × loading (files_of asked) (Ok texts)
@@ -53,14 +53,14 @@ ComesTo loading asked (Output text) =
     × meaning asked texts (Ok text)
 
 -- what the words ask for comes to this answer
-pub record WordsComeTo (words : List (String Global)) (loading : Loading)
+pub record WordsComeTo (words : List (String Global)) (loading : LoadStage)
     (answer : Answer) : Type 0 where
   pub asked : Asked
   pub asks : Asks words asked
   pub comes : ComesTo loading asked answer
 
 -- a call that does the work of a command may stop so: with a refusal to which it comes, or memory was wanting
-abbrev pub MayStopCommand : Loading → Asked → Ending → Type 0
+abbrev pub MayStopCommand : LoadStage → Asked → Ending → Type 0
 MayStopCommand loading asked NoMemory = Unit {0}
 MayStopCommand loading asked (Answered (FileRefused refusal)) =
     ComesTo loading asked (FileRefused refusal)
