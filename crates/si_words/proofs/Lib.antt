@@ -1,3 +1,4 @@
+pub mod EventLemmas
 pub mod FirstFaultLemmas
 pub mod PlaceLemmas
 pub mod RowLemmas
