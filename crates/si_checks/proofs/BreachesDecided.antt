@@ -18,7 +18,8 @@ use Rattle.si_checks.proofs.ValuesDecided.{consistent_or_first}
 module _ (g : StateGraph) where
   -- an arc between the same states by the same event
   moved : (x : Edge) (s : ℕ) (e : Event) → Contains g.edges x → x.from ≡ s → x.event ≡ e → Step g s e x.to
-  moved x s e there from event = subst (λ (y : Edge). Contains g.edges y) (ap₂ (λ (n : ℕ) (f : Event). arc n f x.to) from event) there
+  moved x s e there from event =
+      subst (λ (y : Edge). Contains g.edges y) (ap₂ (λ (n : ℕ) (f : Event). arc n f x.to) from event) there
 
   -- ---- splits
   abbrev split_of : Edge × Edge → Split
@@ -29,27 +30,33 @@ module _ (g : StateGraph) where
   AreSplit p = (p.1.from ≡ p.0.from) × ((p.1.event ≡ p.0.event) × (p.0.to < p.1.to))
 
   are_split : (p : Edge × Edge) → Decided (AreSplit p)
-  are_split p = decide.both (cases_eq p.1.from p.0.from) (decide.both (decide.equal_events p.1.event p.0.event) (decide.less p.0.to p.1.to))
+  are_split p =
+      decide.both (cases_eq p.1.from p.0.from)
+      (decide.both (decide.equal_events p.1.event p.0.event) (decide.less p.0.to p.1.to))
 
   split_from : (p : Edge × Edge) → Contains (pairs g.edges g.edges) p → AreSplit p → Splits g (split_of p)
   split_from p there is =
       let arcs = of_pairs g.edges g.edges p there in
       record { one = arcs.0; other = moved p.1 p.0.from p.0.event arcs.1 is.0 is.1.0; apart = is.1.1 }
 
-  split_found : (b : Split) → Splits g b → (p : Edge × Edge) × Contains (pairs g.edges g.edges) p × AreSplit p × (split_of p ≡ b)
+  split_found : (b : Split) → Splits g b
+      → (p : Edge × Edge) × Contains (pairs g.edges g.edges) p × AreSplit p × (split_of p ≡ b)
   split_found b is =
       let one = arc b.s b.e b.t in
       let other = arc b.s b.e b.u in
       ((one, other), in_pairs g.edges g.edges one other is.one is.other, (refl, (refl, is.apart)), refl)
 
   pub first_split : (found : Option Split) × IsFirstOrNone split_place (Splits g) found
-  first_split = first_candidate split_place (Splits g) split_of AreSplit are_split (pairs g.edges g.edges) split_from split_found
+  first_split =
+      first_candidate split_place (Splits g) split_of AreSplit are_split (pairs g.edges g.edges) split_from split_found
 
   no_split : ((b : Split) → Splits g b → ⊥) → IsDeterministic g
   no_split none s e t u one other = elim (cases_order t u) [
     | inl same ↦ same
-    | inr (inl less) ↦ absurd (none (record { s = s; e = e; t = t; u = u }) (record { one = one; other = other; apart = less }))
-    | inr (inr more) ↦ absurd (none (record { s = s; e = e; t = u; u = t }) (record { one = other; other = one; apart = more }))
+    | inr (inl less) ↦ absurd (none (record { s = s; e = e; t = t; u = u })
+        (record { one = one; other = other; apart = less }))
+    | inr (inr more) ↦ absurd (none (record { s = s; e = e; t = u; u = t })
+        (record { one = other; other = one; apart = more }))
   ]
 
   -- ---- forks
@@ -82,13 +89,23 @@ module _ (g : StateGraph) where
 
   are_fork : (k : Square) → Decided (AreFork k)
   are_fork k =
-      let begin : Decided (Begin k) = decide.both (cases_eq k.1.0.from k.0.0.from) (decide.less (event_place k.0.0.event) (event_place k.1.0.event)) in
+      let begin : Decided (Begin k) = decide.both (cases_eq k.1.0.from k.0.0.from)
+      (decide.less (event_place k.0.0.event) (event_place k.1.0.event)) in
       let one = follow k.0.0 k.0.1 k.1.0.event in
       let other = follow k.1.0 k.1.1 k.0.0.event in
       let apart : Decided (k.0.1.to ≢ k.1.1.to) = decide.not (cases_eq k.0.1.to k.1.1.to) in
       elim (decide.both begin (decide.both one (decide.both other apart))) [
-        | inl is ↦ inl (record { from = is.0.0; order = is.0.1; one_from = is.1.0.0; one_event = is.1.0.1; other_from = is.1.1.0.0; other_event = is.1.1.0.1; apart = is.1.1.1 })
-        | inr is_not ↦ inr (λ is. is_not ((is.from, is.order), ((is.one_from, is.one_event), ((is.other_from, is.other_event), is.apart))))
+        | inl is ↦ inl (record {
+          from = is.0.0;
+          order = is.0.1;
+          one_from = is.1.0.0;
+          one_event = is.1.0.1;
+          other_from = is.1.1.0.0;
+          other_event = is.1.1.0.1;
+          apart = is.1.1.1;
+        })
+        | inr is_not ↦ inr (λ is. is_not
+            ((is.from, is.order), ((is.one_from, is.one_event), ((is.other_from, is.other_event), is.apart))))
       ]
 
   abbrev ways : List (Edge × Edge)
@@ -102,7 +119,11 @@ module _ (g : StateGraph) where
       record {
         order = is.order;
         one = (k.0.0.to, one.0, moved k.0.1 k.0.0.to k.1.0.event one.1 is.one_from is.one_event);
-        other = (k.1.0.to, moved k.1.0 k.0.0.from k.1.0.event other.0 is.from refl, moved k.1.1 k.1.0.to k.0.0.event other.1 is.other_from is.other_event);
+        other = (
+          k.1.0.to,
+          moved k.1.0 k.0.0.from k.1.0.event other.0 is.from refl,
+          moved k.1.1 k.1.0.to k.0.0.event other.1 is.other_from is.other_event,
+        );
         apart = is.apart;
       }
 
@@ -116,7 +137,15 @@ module _ (g : StateGraph) where
       let other = in_pairs g.edges g.edges z q is.other.1 is.other.2 in (
         ((x, y), (z, q)),
         in_pairs ways ways (x, y) (z, q) one other,
-        record { from = refl; order = is.order; one_from = refl; one_event = refl; other_from = refl; other_event = refl; apart = is.apart },
+        record {
+          from = refl;
+          order = is.order;
+          one_from = refl;
+          one_event = refl;
+          other_from = refl;
+          other_event = refl;
+          apart = is.apart;
+        },
         refl,
       )
 
@@ -156,24 +185,33 @@ module _ (g : StateGraph) where
         after = (p.1.to, step, λ still. true≢false (sym still ∙ is.gone));
       }
 
-  loss_found : (b : Loss) → Loses g b → (p : Edge × Edge) × Contains (pairs g.edges g.edges) p × AreLoss p × (loss_of p ≡ b)
+  loss_found : (b : Loss) → Loses g b
+      → (p : Edge × Edge) × Contains (pairs g.edges g.edges) p × AreLoss p × (loss_of p ≡ b)
   loss_found b is =
       let to = step_from_enables g b.s b.lost is.enabled in
       let x = arc b.s b.lost to.0 in
       let y = arc b.s b.by is.after.0 in (
         (x, y),
         in_pairs g.edges g.edges x y to.1 is.after.1,
-        record { from = refl; non_input = is.non_input; by_another = is.by_another; gone = false_from_ne_true (enables g is.after.0 b.lost) is.after.2 },
+        record {
+          from = refl;
+          non_input = is.non_input;
+          by_another = is.by_another;
+          gone = false_from_ne_true (enables g is.after.0 b.lost) is.after.2;
+        },
         refl,
       )
 
   pub first_loss : (found : Option Loss) × IsFirstOrNone loss_place (Loses g) found
-  first_loss = first_candidate loss_place (Loses g) loss_of AreLoss are_loss (pairs g.edges g.edges) loss_from loss_found
+  first_loss =
+      first_candidate loss_place (Loses g) loss_of AreLoss are_loss (pairs g.edges g.edges) loss_from loss_found
 
 -- ---- all four
 module _ (g : StateGraph) (is : IsGraph g) (connected : IsConnected g) where
-  after_forks : IsDeterministic g → IsConsistent g → IsCommutative g → (found : Option Loss) → IsFirstOrNone loss_place (Loses g) found → ProperOrBreach g
-  after_forks deterministic consistent commutative (Some b) first = HasLoss deterministic consistent commutative b first
+  after_forks : IsDeterministic g → IsConsistent g → IsCommutative g → (found : Option Loss)
+      → IsFirstOrNone loss_place (Loses g) found → ProperOrBreach g
+  after_forks deterministic consistent commutative (Some b) first =
+      HasLoss deterministic consistent commutative b first
   after_forks deterministic consistent commutative None none = AllHold (record {
     deterministic = deterministic;
     consistent = consistent;
@@ -181,9 +219,12 @@ module _ (g : StateGraph) (is : IsGraph g) (connected : IsConnected g) where
     persistent = no_loss_persists g none;
   })
 
-  after_values : IsDeterministic g → IsConsistent g → (found : Option Fork) → IsFirstOrNone fork_place (Forks g) found → ProperOrBreach g
+  after_values : IsDeterministic g → IsConsistent g → (found : Option Fork)
+      → IsFirstOrNone fork_place (Forks g) found → ProperOrBreach g
   after_values deterministic consistent (Some b) first = HasFork deterministic consistent b first
-  after_values deterministic consistent None none = let loss = first_loss g in after_forks deterministic consistent (no_fork_commutes g deterministic none) loss.0 loss.1
+  after_values deterministic consistent None none =
+      let loss = first_loss g in
+      after_forks deterministic consistent (no_fork_commutes g deterministic none) loss.0 loss.1
 
   after_splits : (found : Option Split) → IsFirstOrNone split_place (Splits g) found → ProperOrBreach g
   after_splits (Some b) first = HasSplit b first

@@ -47,13 +47,15 @@ driven signals z = elim (cases_lt z (length signals)) [
       let at : slice_get signals z ≡ Some x = slice_get-get_or signals z (record { name = []; kind = Input }) within in
       elim (cases_Bool (is_driven x.kind)) [
         | inl is ↦ inl (x, at, is)
-        | inr is_not ↦ inr (λ (y, also, is). true≢false (sym is ∙ ap (λ (w : Signal). is_driven w.kind) (same_Some y x (sym also ∙ at)) ∙ is_not))
+        | inr is_not ↦ inr (λ (y, also, is).
+            true≢false (sym is ∙ ap (λ (w : Signal). is_driven w.kind) (same_Some y x (sym also ∙ at)) ∙ is_not))
       ])
   | inr past ↦ inr (λ (y, at, is). absurd (omega (arith, slice_get_within signals z y at)))
 ]
 
 -- ---- lists
-pub some_of : {A : Type 0} (R : A → Type 0) → ((x : A) → Decided (R x)) → (xs : List A) → Decided ((x : A) × Contains xs x × R x)
+pub some_of : {A : Type 0} (R : A → Type 0) → ((x : A) → Decided (R x)) → (xs : List A)
+    → Decided ((x : A) × Contains xs x × R x)
 some_of R decided [] = inr (λ (x, there, is). Contains-nil x there)
 some_of R decided (x ∷ xs) = elim (decided x) [
   | inl is ↦ inl (x, Contains-here x xs, is)
@@ -66,7 +68,8 @@ some_of R decided (x ∷ xs) = elim (decided x) [
   ]
 ]
 
-pub all_of : {A : Type 0} (R : A → Type 0) → ((x : A) → Decided (R x)) → (xs : List A) → Decided ((x : A) → Contains xs x → R x)
+pub all_of : {A : Type 0} (R : A → Type 0) → ((x : A) → Decided (R x)) → (xs : List A)
+    → Decided ((x : A) → Contains xs x → R x)
 all_of R decided [] = inl (λ x there. absurd (Contains-nil x there))
 all_of R decided (x ∷ xs) = elim (decided x) [
   | inr is_not ↦ inr (λ all. is_not (all x (Contains-here x xs)))
@@ -98,16 +101,19 @@ abbrev pub pairs : {A B : Type 0} → List A → List B → List (A × B)
 pairs [] ys = []
 pairs (x ∷ xs) ys = map (λ y. (x, y)) ys ++ pairs xs ys
 
-pub in_pairs : {A B : Type 0} (xs : List A) (ys : List B) (x : A) (y : B) → Contains xs x → Contains ys y → Contains (pairs xs ys) (x, y)
+pub in_pairs : {A B : Type 0} (xs : List A) (ys : List B) (x : A) (y : B) → Contains xs x → Contains ys y
+    → Contains (pairs xs ys) (x, y)
 in_pairs [] ys x y one other = absurd (Contains-nil x one)
 in_pairs {A} {B} (z ∷ xs) ys x y one other =
     let with_z : B → A × B = λ w. (z, w) in
     elim (Contains-cons_cases z xs x one) [
-      | inl same ↦ Contains-append_left (map with_z ys) (pairs xs ys) (x, y) (subst (λ (v : A). Contains (map with_z ys) (v, y)) same (Contains-map with_z ys y other))
+      | inl same ↦ Contains-append_left (map with_z ys) (pairs xs ys) (x, y)
+          (subst (λ (v : A). Contains (map with_z ys) (v, y)) same (Contains-map with_z ys y other))
       | inr later ↦ Contains-append_right (map with_z ys) (pairs xs ys) (x, y) (in_pairs xs ys x y later other)
     ]
 
-pub of_pairs : {A B : Type 0} (xs : List A) (ys : List B) (p : A × B) → Contains (pairs xs ys) p → Contains xs p.0 × Contains ys p.1
+pub of_pairs : {A B : Type 0} (xs : List A) (ys : List B) (p : A × B) → Contains (pairs xs ys) p
+    → Contains xs p.0 × Contains ys p.1
 of_pairs [] ys p there = absurd (Contains-nil p there)
 of_pairs {A} {B} (z ∷ xs) ys p there =
     let with_z : B → A × B = λ w. (z, w) in
@@ -119,14 +125,21 @@ of_pairs {A} {B} (z ∷ xs) ys p there =
     ]
 
 -- ---- candidates
-module _ {K A : Type 0} (place : A → List ℕ) (P : A → Type 0) (f : K → A) (Q : K → Type 0) (decided : (k : K) → Decided (Q k)) where
+module _ {K A : Type 0} (place : A → List ℕ) (P : A → Type 0) (f : K → A) (Q : K → Type 0)
+    (decided : (k : K) → Decided (Q k)) where
   -- what the candidates of the list come to
   record AreFound (ks : List K) (xs : List A) : Type 0 where
     sound : (x : A) → Contains xs x → (k : K) × Contains ks k × Q k × (f k ≡ x)
     whole : (k : K) → Contains ks k → Q k → Contains xs (f k)
 
   found_by : (ks : List K) → (xs : List A) × AreFound ks xs
-  found_by [] = ([], record { sound = λ x there. absurd (Contains-nil x there); whole = λ k there is. absurd (Contains-nil k there) })
+  found_by [] = (
+    [],
+    record {
+      sound = λ x there. absurd (Contains-nil x there);
+      whole = λ k there is. absurd (Contains-nil k there);
+    },
+  )
   found_by (k ∷ ks) =
       let rest = found_by ks in
       let are = rest.1 in
@@ -157,7 +170,8 @@ module _ {K A : Type 0} (place : A → List ℕ) (P : A → Type 0) (f : K → A
       ]
 
   -- the first that has P, where each that does is one of the candidates
-  pub first_candidate : (ks : List K) → ((k : K) → Contains ks k → Q k → P (f k)) → ((x : A) → P x → (k : K) × Contains ks k × Q k × (f k ≡ x)) → (found : Option A) × IsFirstOrNone place P found
+  pub first_candidate : (ks : List K) → ((k : K) → Contains ks k → Q k → P (f k))
+      → ((x : A) → P x → (k : K) × Contains ks k × Q k × (f k ≡ x)) → (found : Option A) × IsFirstOrNone place P found
   first_candidate ks sound whole =
       let r = found_by ks in
       let are = r.1 in

@@ -18,7 +18,8 @@ before_more (x ∷ xs) (y ∷ ys) [] one other = other
 before_more (x ∷ xs) (y ∷ ys) (z ∷ zs) (inl less) (inl also) = inl (omega arith)
 before_more (x ∷ xs) (y ∷ ys) (z ∷ zs) (inl less) (inr also) = inl (omega (arith, also.0))
 before_more (x ∷ xs) (y ∷ ys) (z ∷ zs) (inr tied) (inl also) = inl (omega (arith, tied.0))
-before_more (x ∷ xs) (y ∷ ys) (z ∷ zs) (inr tied) (inr also) = inr (tied.0 ∙ also.0, before_more xs ys zs tied.1 also.1)
+before_more (x ∷ xs) (y ∷ ys) (z ∷ zs) (inr tied) (inr also) =
+    inr (tied.0 ∙ also.0, before_more xs ys zs tied.1 also.1)
 
 before_or_not : (xs ys : List ℕ) → Before xs ys ⊎ (Before xs ys → ⊥)
 before_or_not [] ys = inr (λ before. before)
@@ -29,7 +30,10 @@ before_or_not (x ∷ xs) (y ∷ ys) = elim (cases_order x y) [
     | inr not_before ↦ inr (λ before. elim before [ inl less ↦ absurd (omega arith) | inr tied ↦ not_before tied.1 ])
   ]
   | inr (inl less) ↦ inl (inl less)
-  | inr (inr more) ↦ inr (λ before. elim before [ inl less ↦ absurd (omega arith) | inr tied ↦ absurd (omega (arith, tied.0)) ])
+  | inr (inr more) ↦ inr (λ before. elim before [
+    | inl less ↦ absurd (omega arith)
+    | inr tied ↦ absurd (omega (arith, tied.0))
+  ])
 ]
 
 -- of two places of one length neither of which is before the other
@@ -38,14 +42,18 @@ same_place [] [] size not_before not_after = refl
 same_place [] (y ∷ ys) size not_before not_after = absurd (omega arith)
 same_place (x ∷ xs) [] size not_before not_after = absurd (omega arith)
 same_place (x ∷ xs) (y ∷ ys) size not_before not_after = elim (cases_order x y) [
-  | inl same ↦ ap₂ (λ (n : ℕ) (ns : List ℕ). n ∷ ns) same (same_place xs ys (omega arith) (λ before. not_before (inr (same, before))) (λ before. not_after (inr (sym same, before))))
+  | inl same ↦ ap₂ (λ (n : ℕ) (ns : List ℕ). n ∷ ns) same
+      (same_place xs ys (omega arith) (λ before. not_before (inr (same, before)))
+      (λ before. not_after (inr (sym same, before))))
   | inr (inl less) ↦ absurd (not_before (inl less))
   | inr (inr more) ↦ absurd (not_after (inl more))
 ]
 
 -- two firsts stand at one place
-pub firsts_at_one_place : {A : Type 0} (place : A → List ℕ) (P : A → Type 0) (x y : A) → length (place x) ≡ length (place y) → IsFirst place P x → IsFirst place P y → place x ≡ place y
-firsts_at_one_place place P x y size is also = same_place (place x) (place y) size (also.none_before x is.holds) (is.none_before y also.holds)
+pub firsts_at_one_place : {A : Type 0} (place : A → List ℕ) (P : A → Type 0) (x y : A)
+    → length (place x) ≡ length (place y) → IsFirst place P x → IsFirst place P y → place x ≡ place y
+firsts_at_one_place place P x y size is also =
+    same_place (place x) (place y) size (also.none_before x is.holds) (is.none_before y also.holds)
 
 -- ---- the first of a list
 module _ {A : Type 0} (place : A → List ℕ) where
@@ -54,7 +62,8 @@ module _ {A : Type 0} (place : A → List ℕ) where
   IsFirstIn xs None = (y : A) → Contains xs y → ⊥
   IsFirstIn xs (Some x) = Contains xs x × ((y : A) → Contains xs y → Before (place y) (place x) → ⊥)
 
-  with_first : (x : A) (xs : List A) (found : Option A) → IsFirstIn xs found → (first : Option A) × IsFirstIn (x ∷ xs) first
+  with_first : (x : A) (xs : List A) (found : Option A) → IsFirstIn xs found
+      → (first : Option A) × IsFirstIn (x ∷ xs) first
   with_first x xs None none = (
     Some x,
     (
@@ -93,10 +102,12 @@ module _ {A : Type 0} (place : A → List ℕ) where
   first_in (x ∷ xs) = let rest = first_in xs in with_first x xs rest.0 rest.1
 
   -- the first that has P, where a list has just those that do
-  module _ (P : A → Type 0) (xs : List A) (sound : (x : A) → Contains xs x → P x) (whole : (x : A) → P x → Contains xs x) where
+  module _ (P : A → Type 0) (xs : List A) (sound : (x : A) → Contains xs x → P x)
+      (whole : (x : A) → P x → Contains xs x) where
     first_by : (found : Option A) → IsFirstIn xs found → IsFirstOrNone place P found
     first_by None none = λ x is. none x (whole x is)
-    first_by (Some x) is = record { holds = sound x is.0; none_before = λ y also before. is.1 y (whole y also) before }
+    first_by (Some x) is =
+        record { holds = sound x is.0; none_before = λ y also before. is.1 y (whole y also) before }
 
     pub first_or_none : (found : Option A) × IsFirstOrNone place P found
     first_or_none = let r = first_in xs in (r.0, first_by r.0 r.1)

@@ -10,7 +10,8 @@ use Rattle.si_graph.proofs.OrderLemmas.{event_from_place}
 use Rattle.si_checks.proofs.FirstLemmas.{firsts_at_one_place}
 
 -- ---- the first is one
-pub one_split : (g : StateGraph) (a b : Split) → IsFirst split_place (Splits g) a → IsFirst split_place (Splits g) b → a ≡ b
+pub one_split : (g : StateGraph) (a b : Split) → IsFirst split_place (Splits g) a → IsFirst split_place (Splits g) b
+    → a ≡ b
 one_split g a b is also =
     let place : split_place a ≡ split_place b = firsts_at_one_place split_place (Splits g) a b refl is also in
     let state : a.s ≡ b.s = cc in
@@ -28,12 +29,14 @@ one_without_values g a b is also = elim (cases_order a b) [
 ]
 
 -- in a deterministic graph the two orders of two events have one end each
-one_end : (g : StateGraph) (s : ℕ) (a c : Event) (w v : ℕ) → IsDeterministic g → (t : ℕ) × Step g s a t × Step g t c w → (t : ℕ) × Step g s a t × Step g t c v → w ≡ v
+one_end : (g : StateGraph) (s : ℕ) (a c : Event) (w v : ℕ) → IsDeterministic g
+    → (t : ℕ) × Step g s a t × Step g t c w → (t : ℕ) × Step g s a t × Step g t c v → w ≡ v
 one_end g s a c w v deterministic (t, first, then_w) (u, also, then_v) =
     let middle : u ≡ t = deterministic s a u t also first in
     deterministic t c w v then_w (subst (λ (n : ℕ). Step g n c v) middle then_v)
 
-pub one_fork : (g : StateGraph) (a b : Fork) → IsDeterministic g → IsFirst fork_place (Forks g) a → IsFirst fork_place (Forks g) b → a ≡ b
+pub one_fork : (g : StateGraph) (a b : Fork) → IsDeterministic g → IsFirst fork_place (Forks g) a
+    → IsFirst fork_place (Forks g) b → a ≡ b
 one_fork g a b deterministic is also =
     let place : fork_place a ≡ fork_place b = firsts_at_one_place fork_place (Forks g) a b refl is also in
     let state : a.s ≡ b.s = cc in
@@ -58,7 +61,8 @@ one_loss g a b is also =
     let same_by : a.by ≡ b.by = event_from_place a.by b.by by in
     λ i. record { s = state i; lost = same_lost i; by = same_by i }
 
-pub one_conflict : (c : CodedGraph) (a b : ℕ × ℕ) → IsFirst pair_place (IsConflict c) a → IsFirst pair_place (IsConflict c) b → a ≡ b
+pub one_conflict : (c : CodedGraph) (a b : ℕ × ℕ) → IsFirst pair_place (IsConflict c) a
+    → IsFirst pair_place (IsConflict c) b → a ≡ b
 one_conflict c a b is also =
     let place : pair_place a ≡ pair_place b = firsts_at_one_place pair_place (IsConflict c) a b refl is also in
     let first : a.0 ≡ b.0 = cc in
@@ -67,7 +71,8 @@ one_conflict c a b is also =
 
 -- ---- what a breach shows
 pub split_breaches : (g : StateGraph) (b : Split) → Splits g b → IsDeterministic g → ⊥
-split_breaches g b is deterministic = (let same : b.t ≡ b.u = deterministic b.s b.e b.t b.u is.one is.other in absurd (omega (arith, is.apart)))
+split_breaches g b is deterministic =
+    (let same : b.t ≡ b.u = deterministic b.s b.e b.t b.u is.one is.other in absurd (omega (arith, is.apart)))
 
 pub no_values_breach : (g : StateGraph) (a : ℕ) → IsFirstWithoutValues g a → IsConsistent g → ⊥
 no_values_breach g a is consistent = is.none (consistent a is.within)
@@ -79,4 +84,5 @@ fork_breaches g b is commutative =
     is.apart (commutative b.s b.a b.c one.0 b.w other.0 b.w2 one.1 one.2 other.1 other.2)
 
 pub loss_breaches : (g : StateGraph) (b : Loss) → Loses g b → IsPersistent g → ⊥
-loss_breaches g b is persistent = let after = is.after in after.2 (persistent b.s b.lost b.by after.0 is.non_input is.enabled after.1 is.by_another)
+loss_breaches g b is persistent =
+    let after = is.after in after.2 (persistent b.s b.lost b.by after.0 is.non_input is.enabled after.1 is.by_another)

@@ -21,10 +21,11 @@ module _ (g : StateGraph) (a : ℕ) (w : ℕ → Bool) where
 
   suits : (x : Edge) → Decided (Suits x)
   suits x = elim (cases_eq x.event.sig a) [
-    | inl own ↦ elim (decide.both (decide.same_value (w x.from) (not x.event.up)) (decide.same_value (w x.to) x.event.up)) [
-      | inl turned ↦ inl (record { own = λ _. turned; other = λ none. absurd (none own) })
-      | inr not_turned ↦ inr (λ is. not_turned (is.own own))
-    ]
+    | inl own ↦ elim (decide.both (decide.same_value (w x.from) (not x.event.up))
+        (decide.same_value (w x.to) x.event.up)) [
+          | inl turned ↦ inl (record { own = λ _. turned; other = λ none. absurd (none own) })
+          | inr not_turned ↦ inr (λ is. not_turned (is.own own))
+        ]
     | inr other ↦ elim (decide.same_value (w x.to) (w x.from)) [
       | inl kept ↦ inl (record { own = λ same. absurd (other same); other = λ _. kept })
       | inr not_kept ↦ inr (λ is. not_kept (is.other other))
@@ -69,7 +70,8 @@ module _ (g : StateGraph) (a : ℕ) (w : ℕ → Bool) where
   suit_from : AreValues g a w → (x : Edge) → Contains g.edges x → Suits x
   suit_from are x there = record {
     own = λ own.
-        let step : Step g x.from (record { sig = a; up = x.event.up }) x.to = subst (λ (n : ℕ). Step g x.from (record { sig = n; up = x.event.up }) x.to) own there in
+        let step : Step g x.from (record { sig = a; up = x.event.up }) x.to =
+        subst (λ (n : ℕ). Step g x.from (record { sig = n; up = x.event.up }) x.to) own there in
         let old = old_value g a w x.from x.to x.event.up are step in
         (old, turns g a w x.from x.to x.event.up are step ∙ ap not old ∙ twice x.event.up);
     other = λ other. are.keeps x.from x.to x.event other there;
@@ -100,13 +102,16 @@ module _ (g : StateGraph) (is : IsGraph g) (connected : IsConnected g) where
   abbrev values_after : ℕ → Bool → ℕ → Bool
   values_after a first s = turn (turned_at a s (cases_lt s g.states)) first
 
-  follow : (a : ℕ) (v : ℕ → Bool) → AreValues g a v → (s : ℕ) (o : (s < g.states) ⊎ (g.states ≤ s)) → s < g.states → turn (turned_at a s o) (v g.start) ≡ v s
+  follow : (a : ℕ) (v : ℕ → Bool) → AreValues g a v → (s : ℕ) (o : (s < g.states) ⊎ (g.states ≤ s)) → s < g.states
+      → turn (turned_at a s o) (v g.start) ≡ v s
   unfolding turned_at
-  follow a v are s (inl below) within = sym (values_along g a v g.start (connected s below).0 s are (connected s below).1)
+  follow a v are s (inl below) within =
+      sym (values_along g a v g.start (connected s below).0 s are (connected s below).1)
   follow a v are s (inr past) within = absurd (omega arith)
 
   values_follow : (a : ℕ) (v : ℕ → Bool) → AreValues g a v → AreValues g a (values_after a (v g.start))
-  values_follow a v are = values_as g a v (values_after a (v g.start)) is (λ s within. follow a v are s (cases_lt s g.states) within) are
+  values_follow a v are =
+      values_as g a v (values_after a (v g.start)) is (λ s within. follow a v are s (cases_lt s g.states) within) are
 
   pub has_values : (a : ℕ) → Decided (HasValues g a)
   has_values a = elim (are_values g a (values_after a true)) [
@@ -121,7 +126,8 @@ module _ (g : StateGraph) (is : IsGraph g) (connected : IsConnected g) where
   ]
 
   -- the first n signals have values, or there is a first without
-  first_below : (n : ℕ) → n ≤ length g.signals → ((a : ℕ) → a < n → HasValues g a) ⊎ ((a : ℕ) × IsFirstWithoutValues g a)
+  first_below : (n : ℕ) → n ≤ length g.signals
+      → ((a : ℕ) → a < n → HasValues g a) ⊎ ((a : ℕ) × IsFirstWithoutValues g a)
   first_below zero within = inl (λ a below. absurd (omega arith))
   first_below (suc n) within = elim (first_below n (omega arith)) [
     | inr first ↦ inr first

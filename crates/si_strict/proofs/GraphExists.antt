@@ -34,7 +34,8 @@ all_apart names distinct i j d before inside same =
 abbrev HasNames : List (List ℕ) → List (List ℕ) → ArcLine → Type 0
 HasNames names states l = Contains states l.from × Contains names l.signal × Contains states l.to
 
-arc_for : (names states : List (List ℕ)) (l : ArcLine) → HasNames names states l → (e : Edge) × IsSpelledBy names states l e
+arc_for : (names states : List (List ℕ)) (l : ArcLine) → HasNames names states l
+    → (e : Edge) × IsSpelledBy names states l e
 arc_for names states l has =
     let from = place_of states l.from has.0 in
     let signal = place_of names l.signal has.1 in
@@ -43,7 +44,9 @@ arc_for names states l has =
       record { from = from.1; signal = signal.1; up = refl; to = to.1 },
     )
 
-arcs_for : (names states : List (List ℕ)) (lines : List ArcLine) → ((l : ArcLine) → In l lines → HasNames names states l) → (edges : List Edge) × AllZip (IsSpelledBy names states) lines edges
+arcs_for : (names states : List (List ℕ)) (lines : List ArcLine)
+    → ((l : ArcLine) → In l lines → HasNames names states l)
+    → (edges : List Edge) × AllZip (IsSpelledBy names states) lines edges
 arcs_for names states [] has = ([], tt)
 arcs_for names states (l ∷ lines) has =
     let first = arc_for names states l (has l (inl refl)) in
@@ -68,9 +71,12 @@ module _ (x : Spelling) (is : IsStrict x) where
   has_names l there =
       let at = contains_from_in x.arcs l there in
       let named = All-contains (IsNamed names_of) x.arcs l is.arcs at in
-      (marked_there x.arcs l.from (at.0, l, at.1, at.2, inl refl), named.2, marked_there x.arcs l.to (at.0, l, at.1, at.2, inr refl))
+      let from = marked_there x.arcs l.from (at.0, l, at.1, at.2, inl refl) in
+      let to = marked_there x.arcs l.to (at.0, l, at.1, at.2, inr refl) in
+      (from, named.2, to)
 
-  spelled_by : (edges ordered : List Edge) → AllZip (IsSpelledBy names_of states_of) x.arcs edges → AreOrdered edges ordered → (g : StateGraph) × Spells x g
+  spelled_by : (edges ordered : List Edge) → AllZip (IsSpelledBy names_of states_of) x.arcs edges
+      → AreOrdered edges ordered → (g : StateGraph) × Spells x g
   spelled_by edges ordered are once =
       let good : AreSignalNames names_of = strict_names x is in
       let lines : AreArcLines names_of x.arcs = strict_arcs x is in
@@ -83,17 +89,26 @@ module _ (x : Spelling) (is : IsStrict x) where
         start_is = refl;
         graph = record {
           few_states = omega (arith, is.states);
-          few_signals = omega (arith, is.signals, length-map list_of (λ (s : Signal). s.name), ap length (names_of_all x.inputs x.outputs x.internals));
+          few_signals =
+              let names = names_of_all x.inputs x.outputs x.internals in
+              omega (arith, is.signals, length-map list_of (λ (s : Signal). s.name), ap length names);
           few_edges = omega (arith, count, is.few_arcs);
-          within = within x names_of states_of list_of edges ordered refl refl good refl apart are lines once.sorted once.same (length states_of) refl;
+          within =
+              within x names_of states_of list_of edges ordered refl refl good refl apart are lines once.sorted
+              once.same (length states_of) refl;
           starts = slice_get_within states_of start.0 x.marked start.1;
           kinds = kinds_in_order x.inputs x.outputs x.internals list_of refl;
-          names = distinct_names x names_of states_of list_of edges ordered refl refl good refl apart are lines once.sorted once.same;
+          names =
+              distinct_names x names_of states_of list_of edges ordered refl refl good refl apart are lines
+              once.sorted once.same;
           ordered = once.sorted;
         };
         arcs = λ a. ((λ there. there), (λ there. there));
-      } in
-      (g, spells x names_of states_of list_of edges ordered refl refl good refl apart are lines once.sorted once.same (length states_of) start.0 g refl start.1 made)
+      } in (
+        g,
+        spells x names_of states_of list_of edges ordered refl refl good refl apart are lines once.sorted once.same
+            (length states_of) start.0 g refl start.1 made,
+      )
 
   some_graph : (g : StateGraph) × Spells x g
   some_graph =

@@ -11,3 +11,4 @@ pub mod LengthLemmas
 pub mod OrderedLemmas
 pub mod CutExists
 pub mod GraphExists
+pub mod WordLemmas
