@@ -1,7 +1,7 @@
 //! Faults of a text.
 
 ghost use Rattle.std.specs.Prelude.{◌≡◌};
-ghost use Rattle.si_base.specs.declared.fault.LineFault.TheVariants.{NoMemory};
+ghost use Rattle.si_base.specs.declared.fault.LineFault.TheVariants.{NoMemory, Kind};
 ghost use Rattle.si_base.specs.declared.fault.TextFault.TheVariants as text;
 ghost use Rattle.si_base.specs.TextFaults.{ToldAt, kind_name};
 
@@ -62,6 +62,14 @@ impl From<ids::NoMemory> for LineFault {
 
     fn from(_e: ids::NoMemory) -> LineFault {
         LineFault::NoMemory
+    }
+}
+
+impl From<TextKind> for LineFault {
+    ghost from_gives = { λ kind e. e ≡ Kind kind };
+
+    fn from(kind: TextKind) -> LineFault {
+        LineFault::Kind(kind)
     }
 }
 

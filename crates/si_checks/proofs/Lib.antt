@@ -1,6 +1,7 @@
 pub mod OutLemmas
 pub mod ForkLemmas
 pub mod LossLemmas
+pub mod SquareLemmas
 pub mod ProperLemmas
 pub mod ConflictLemmas
 pub mod CodesExist

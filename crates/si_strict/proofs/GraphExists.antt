@@ -128,9 +128,6 @@ some_given text (x, is, same) =
         text_is = same;
         whole = whole.0;
         spells = whole.1;
-        kept = cut.0;
-        cut = cut.2;
-        model_is = refl;
-        states_are = refl;
+        given = record { kept = cut.0; cut = cut.2; model_is = refl; states_are = refl };
       },
     )

@@ -14,8 +14,10 @@ returns-clause-given c = record {
   text_is = c.in_ok-whole.ensures.whole.text_is;
   whole = c.in_ok-whole.whole.graph;
   spells = c.in_ok-whole.ensures.whole.spells;
-  kept = c.in_ok-cut.cut.kept.items;
-  cut = c.in_ok-cut.ensures.cut;
-  model_is = c.in_ok-whole.ensures.whole.model_is;
-  states_are = rw (c.in_ok-whole.ensures.whole.states_are, c.as_slice.ensures.value) at c.in_ok-states.ensures;
+  given = record {
+    kept = c.in_ok-cut.cut.kept.items;
+    cut = c.in_ok-cut.ensures.cut;
+    model_is = c.in_ok-whole.ensures.whole.model_is;
+    states_are = rw (c.in_ok-whole.ensures.whole.states_are, c.as_slice.ensures.value) at c.in_ok-states.ensures;
+  };
 }
