@@ -32,7 +32,8 @@ pub record AddsUntil (kind : TextKind) (old new words : List (List ℕ)) : Type 
   pub next : slice_get words first.count ≡ Some word
   pub fault_is : name_fault new word ≡ Some kind
 
--- what stands behind the old names where words were refused: all before the word with the fault, or for want of memory some
+-- what stands behind the old names where words were refused:
+-- all before the word with the fault, or for want of memory some
 abbrev pub LeavesNames : LineFault → List (List ℕ) → List (List ℕ) → List (List ℕ) → Type 0
 LeavesNames NoMemory old new words = AddsFirst old new words
 LeavesNames (Kind kind) old new words = AddsUntil kind old new words

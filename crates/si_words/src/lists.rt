@@ -62,8 +62,8 @@ fn name_kind(names: &Names, name: &[u8]) -> Option<TextKind>
 /// Puts names last, up to the first fault.
 ///
 /// Fails with that fault: a word that is no signal name, is there already, or is one too many; and for want of memory.
-/// After a fault just the words before the faulty one are there, and after want of memory some first words without a
-/// fault.
+/// After a fault just the words before the faulty one are there, and after want of memory some first
+/// words without a fault.
 pub fn add_names(names: &mut Names, words: &[&[u8]]) -> Result<(), LineFault>
     ensures fault { Tells result (first_after name_fault names.old (words_now words.now)) }
     ensures value { OnOk result (names.new ≡ names.old ++ words_now words.now) }
