@@ -84,16 +84,18 @@ module _ (g : StateGraph) (is : IsGraph g) where
     size : length marks ≡ g.states
     exact : (t : ℕ) → IsIn marks t ↔ IsReachable g t
 
+  -- from marked states arcs lead to marked states alone, and so do walks
+  marked_along : (marks : List Bool) → ((a : Edge) → Contains g.edges a → IsIn marks a.from → IsIn marks a.to)
+      → (es : List Event) (s t : ℕ) → IsIn marks s → Walk g s es t → IsIn marks t
+  marked_along marks into [] s t here walk = subst (IsIn marks) walk here
+  marked_along marks into (e ∷ es) s t here (u, step, walk) =
+      marked_along marks into es u t (into (arc s e u) step here) walk
+
   closed : (marks : List Bool) → AreReached marks
       → ((a : Edge) → Contains g.edges a → IsIn marks a.from → IsIn marks a.to) → AreReachable marks
   closed marks are into = record {
     size = are.size;
-    exact = Explores-end g marks (record {
-      begun = are.begun;
-      sound = are.sound;
-      closed = λ s inside. inr (λ e t step. into (arc s e t) step inside);
-      queued = λ t there. absurd (Contains-nil t there);
-    });
+    exact = λ t. (are.sound t, λ walk. marked_along marks into walk.0 g.start t are.begun walk.1);
   }
 
   spread : (n : ℕ) (marks : List Bool) → unmarked marks < n → AreReached marks
