@@ -5,14 +5,15 @@ use Rattle.std.proofs.lemmas.Bool.{cases_Bool, true≢false}
 use Rattle.std.proofs.lemmas.List.{length-replicate, get_or_past}
 use Rattle.std.proofs.lemmas.List.Elements.{All-contains, Contains-get_or}
 use Rattle.std.proofs.lemmas.List.Sums.{sum_by-set}
+use Rattle.si_base.specs.declared.ids.Event.{Event}
 use Rattle.si_base.specs.declared.graph.Edge.{Edge}
-use Rattle.si_base.specs.Graph.{StateGraph, IsReachable, IsGraph, IsMadeOf, IsCut, arc}
+use Rattle.si_base.specs.Graph.{Walk, StateGraph, IsReachable, IsGraph, IsMadeOf, IsCut, arc}
 use Rattle.si_base.proofs.Circuit.{step_within}
 use Rattle.si_graph.specs.Reach.{IsIn, unmarked}
 use Rattle.si_graph.specs.Renaming.{Renames}
 use Rattle.si_graph.proofs.ArcFacts.{IsInside}
 use Rattle.si_graph.proofs.CutLemmas.{new_arcs, new_arcs_few, new_arcs_inside, start_within, made_is_cut}
-use Rattle.si_graph.proofs.MarkLemmas.{Explores-end, stays_in, in_cases, is_set, reachable-step}
+use Rattle.si_graph.proofs.MarkLemmas.{stays_in, in_cases, is_set, reachable-step}
 use Rattle.si_graph.proofs.MemberLemmas.{Contains-cons_cases, Contains-here, Contains-there, Contains-nil}
 use Rattle.si_graph.proofs.RenamingLemmas.{Renames-marked, Renames-unmarked}
 use Rattle.si_strict.proofs.OrderedLemmas.{arcs_in_order}
@@ -84,16 +85,18 @@ module _ (g : StateGraph) (is : IsGraph g) where
     size : length marks ≡ g.states
     exact : (t : ℕ) → IsIn marks t ↔ IsReachable g t
 
+  -- from marked states arcs lead to marked states alone, and so do walks
+  marked_along : (marks : List Bool) → ((a : Edge) → Contains g.edges a → IsIn marks a.from → IsIn marks a.to)
+      → (es : List Event) (s t : ℕ) → IsIn marks s → Walk g s es t → IsIn marks t
+  marked_along marks into [] s t here walk = subst (IsIn marks) walk here
+  marked_along marks into (e ∷ es) s t here (u, step, walk) =
+      marked_along marks into es u t (into (arc s e u) step here) walk
+
   closed : (marks : List Bool) → AreReached marks
       → ((a : Edge) → Contains g.edges a → IsIn marks a.from → IsIn marks a.to) → AreReachable marks
   closed marks are into = record {
     size = are.size;
-    exact = Explores-end g marks (record {
-      begun = are.begun;
-      sound = are.sound;
-      closed = λ s inside. inr (λ e t step. into (arc s e t) step inside);
-      queued = λ t there. absurd (Contains-nil t there);
-    });
+    exact = λ t. (are.sound t, λ walk. marked_along marks into walk.0 g.start t are.begun walk.1);
   }
 
   spread : (n : ℕ) (marks : List Bool) → unmarked marks < n → AreReached marks

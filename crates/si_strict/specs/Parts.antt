@@ -31,7 +31,12 @@ pub record HeaderNames : Type 0 where
   pub internals : List (List ℕ)
 
 abbrev pub header_now : Header → HeaderNames
-header_now h = record { model = h.model.now; inputs = words_in h.inputs; outputs = words_in h.outputs; internals = words_in h.internals }
+header_now h = record {
+  model = h.model.now;
+  inputs = words_in h.inputs;
+  outputs = words_in h.outputs;
+  internals = words_in h.internals;
+}
 
 -- the lines before the arcs, and the rest
 abbrev pub header_lines : HeaderNames → List (List (List ℕ)) → List (List (List ℕ))

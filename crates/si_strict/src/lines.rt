@@ -33,7 +33,8 @@ fn line_ends(text: &[u8]) -> usize
 
 /// The first line, and the lines after it.
 pub fn split_first_line<'l, 'a>(lines: &'l [&'a [u8]]) -> Option<(&'a [u8], &'l [&'a [u8]])>
-    ensures { MatchOption result (lines_now lines.now ≡ []) (λ r. lines_now lines.now ≡ words_between 32 r.0.now ∷ lines_now r.1.now) }
+    ensures { MatchOption result (lines_now lines.now ≡ [])
+        (λ r. lines_now lines.now ≡ words_between 32 r.0.now ∷ lines_now r.1.now) }
 {
     let (first, rest) = lines.split_first()?;
     Some((*first, rest))
@@ -41,7 +42,8 @@ pub fn split_first_line<'l, 'a>(lines: &'l [&'a [u8]]) -> Option<(&'a [u8], &'l 
 
 /// The last line, and the lines before it.
 pub fn split_last_line<'l, 'a>(lines: &'l [&'a [u8]]) -> Option<(&'a [u8], &'l [&'a [u8]])>
-    ensures { MatchOption result (lines_now lines.now ≡ []) (λ r. lines_now lines.now ≡ lines_now r.1.now ++ words_between 32 r.0.now ∷ []) }
+    ensures { MatchOption result (lines_now lines.now ≡ [])
+        (λ r. lines_now lines.now ≡ lines_now r.1.now ++ words_between 32 r.0.now ∷ []) }
 {
     let (last, front) = lines.split_last()?;
     Some((*last, front))
@@ -69,7 +71,8 @@ pub fn split_word<'a>(line: &'a [u8]) -> (&'a [u8], Option<&'a [u8]>)
 
 /// The word of a line that has just one.
 pub fn only_word<'a>(line: &'a [u8]) -> Option<&'a [u8]>
-    ensures { MatchOption result ((word : List ℕ) → words_between 32 line.now ≡ word ∷ [] → ⊥) (λ word. words_between 32 line.now ≡ word.now ∷ []) }
+    ensures { MatchOption result ((word : List ℕ) → words_between 32 line.now ≡ word ∷ [] → ⊥)
+        (λ word. words_between 32 line.now ≡ word.now ∷ []) }
 {
     let (word, rest) = split_word(line);
     match rest {

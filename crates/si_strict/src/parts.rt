@@ -18,7 +18,8 @@ pub struct Arc<'a> {
     pub to: &'a [u8],
 }
 
-/// What the lines before the arcs name: of a list line what stands behind its head, `None` where it is left out.
+/// What the lines before the arcs name: of a list line what stands behind its head, `None` where it
+/// is left out.
 #[derive(Clone, Copy)]
 pub struct Header<'a> {
     pub model: &'a [u8],
@@ -88,7 +89,8 @@ fn value_line<'l, 'a>(lines: &'l [&'a [u8]], head: &[u8]) -> Option<(&'a [u8], &
 
 /// The word behind that head, if the line is these two.
 fn value_of<'a>(line: &'a [u8], head: &[u8]) -> Option<&'a [u8]>
-    ensures { MatchOption result ((value : List ℕ) → words_between 32 line.now ≡ head.now ∷ value ∷ [] → ⊥) (λ value. words_between 32 line.now ≡ head.now ∷ value.now ∷ []) }
+    ensures { MatchOption result ((value : List ℕ) → words_between 32 line.now ≡ head.now ∷ value ∷ [] → ⊥)
+        (λ value. words_between 32 line.now ≡ head.now ∷ value.now ∷ []) }
 {
     match behind(line, head)? {
         Some(rest) => only_word(rest),
@@ -98,7 +100,8 @@ fn value_of<'a>(line: &'a [u8], head: &[u8]) -> Option<&'a [u8]>
 
 /// What stands behind that head, if it is the first word of the line.
 fn behind<'a>(line: &'a [u8], head: &[u8]) -> Option<Option<&'a [u8]>>
-    ensures { MatchOption result ((rest : List (List ℕ)) → words_between 32 line.now ≡ head.now ∷ rest → ⊥) (λ rest. words_between 32 line.now ≡ head.now ∷ words_in rest) }
+    ensures { MatchOption result ((rest : List (List ℕ)) → words_between 32 line.now ≡ head.now ∷ rest → ⊥)
+        (λ rest. words_between 32 line.now ≡ head.now ∷ words_in rest) }
 {
     let (first, rest) = split_word(line);
     if first == head { Some(rest) } else { None }
@@ -168,7 +171,8 @@ fn arcs_of<'l, 'a>(alloc: Global, lines: &'l [&'a [u8]]) -> Result<Vec<Arc<'a>>,
 
 /// The arc of a line, if its words are one.
 fn arc_of<'a>(line: &'a [u8]) -> Option<Arc<'a>>
-    ensures { MatchOption result ((a : ArcLine) → words_between 32 line.now ≡ arc_line a → ⊥) (λ a. words_between 32 line.now ≡ arc_line (arc_now a)) }
+    ensures { MatchOption result ((a : ArcLine) → words_between 32 line.now ≡ arc_line a → ⊥)
+        (λ a. words_between 32 line.now ≡ arc_line (arc_now a)) }
 {
     let (from, after_from) = split_word(line);
     let (event, after_event) = split_word(after_from?);

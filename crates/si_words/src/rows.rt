@@ -179,9 +179,9 @@ fn take_names(words: &[&[u8]], head: &[u8], limit: u32, names: &mut Names) -> Re
 
 /// A list line, of the head and names: the names go behind those that are there, up to `limit` names.
 ///
-/// Fails with the fault of the line, and for want of memory. After a refusal all is as before, where the line has a bad
-/// byte or no end; or the line is taken, and the names before the faulty one are there, or for want of memory some first
-/// names without a fault.
+/// Fails with the fault of the line, and for want of memory. After a refusal all is as before, where
+/// the line has a bad byte or no end; or the line is taken, and the names before the faulty one are
+/// there, or for want of memory some first names without a fault.
 pub fn names_row(
     alloc: Global,
     rows: &mut Rows<'_>,
