@@ -40,7 +40,7 @@ right_half (Some (a, b)) = b
 
 module _ (signals : List (List ℕ)) where
   -- the fault of a word after the one before it
-  abbrev word_after : Option (List ℕ) → List ℕ → Option TextKind
+  abbrev pub word_after : Option (List ℕ) → List ℕ → Option TextKind
   word_after prior word =
       when (not (is_mark word) && is_none (place_in signals word)) Undeclared
       otherwise when (not (is_mark word) && not (comes_after signals prior word)) BadLine
@@ -57,7 +57,7 @@ module _ (signals : List (List ℕ)) where
   sum_is words = by_last [] words
 
   -- after a mark, as after nothing
-  after_mark : (mark : List ℕ) (words : List (List ℕ)) → is_mark mark ≡ true → words_after (Some mark) words ≡ words_after None words
+  pub after_mark : (mark : List ℕ) (words : List (List ℕ)) → is_mark mark ≡ true → words_after (Some mark) words ≡ words_after None words
   after_mark mark [] is = refl
   after_mark mark (w ∷ ws) is = rw is refl
 
@@ -112,7 +112,7 @@ module _ (signals : List (List ℕ)) where
       at (Some i) None less = absurd (true≢false (sym less))
       at None p less = absurd (true≢false (sym less))
 
-  no_mark_is : (word : List ℕ) → is_literal word ≡ true → is_mark word ≡ false
+  pub no_mark_is : (word : List ℕ) → is_literal word ≡ true → is_mark word ≡ false
   no_mark_is word good = elim (cases_Bool (is_mark word)) [ inl mark ↦ absurd (clash word mark good) | inr e ↦ e ]
     where
       only : (m w : List ℕ) → is_literal m ≡ false → bytes_eq m w ≡ true → is_literal w ≡ true → ⊥
