@@ -79,11 +79,11 @@ module _ (signals : List (List ℕ)) (words : List (Bor (List ℕ))) where
     form = refl;
     told = refl;
     built = λ e. record {
-        literals = none_of;
-        next_is = refl;
-        below = λ j on. absurd (true≢false (sym on ∙ rw (bit_at-zero j) refl));
-        within = λ j on. absurd (true≢false (sym on ∙ rw (bit_at-zero j) refl));
-      };
+      literals = none_of;
+      next_is = refl;
+      below = λ j on. absurd (true≢false (sym on ∙ rw (bit_at-zero j) refl));
+      within = λ j on. absurd (true≢false (sym on ∙ rw (bit_at-zero j) refl));
+    };
   }
 
   module _ (i : ℕ) (d : Bor (List ℕ)) (inside : i < length words) where
@@ -150,18 +150,18 @@ module _ (signals : List (List ℕ)) (words : List (Bor (List ℕ))) where
             form = form_more so_far.form form;
             told = go_on so_far.told (good_word signals (last_of (take i (words_now words))) word next l.sig form sig_is b.next_is above);
             built = λ e. record {
-                literals = take_mapped (literal_of signals) words i d (literals_of care value) (literals_of care2 value2) inside b.literals
-                    (pushed l.sig care value care2 value2 l.plain small s t before ∙ ap (λ (x : Literal). literals_of care value ++ x ∷ []) is);
-                next_is = rw last_is (l.sig, sig_is, no_mark_is signals word form, more);
-                below = λ j on. elim (same_or_not j l.sig) [
-                  | inl e ↦ omega arith
-                  | inr ne ↦ (let earlier = before j (sym (s.others j ne) ∙ on) in omega arith)
-                ];
-                within = λ j on. elim (same_or_not j l.sig) [
-                  | inl e ↦ rw e s.there
-                  | inr ne ↦ s.others j ne ∙ b.within j (sym (t.others j ne) ∙ on)
-                ];
-              };
+              literals = take_mapped (literal_of signals) words i d (literals_of care value) (literals_of care2 value2) inside b.literals
+                  (pushed l.sig care value care2 value2 l.plain small s t before ∙ ap (λ (x : Literal). literals_of care value ++ x ∷ []) is);
+              next_is = rw last_is (l.sig, sig_is, no_mark_is signals word form, more);
+              below = λ j on. elim (same_or_not j l.sig) [
+                | inl e ↦ omega arith
+                | inr ne ↦ (let earlier = before j (sym (s.others j ne) ∙ on) in omega arith)
+              ];
+              within = λ j on. elim (same_or_not j l.sig) [
+                | inl e ↦ rw e s.there
+                | inr ne ↦ s.others j ne ∙ b.within j (sym (t.others j ne) ∙ on)
+              ];
+            };
           }
         where
           same_or_not : (a b : ℕ) → (a ≡ b) ⊎ (a ≡ b → ⊥)

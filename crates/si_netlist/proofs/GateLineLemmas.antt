@@ -2,7 +2,7 @@
 use Rattle.std.proofs.Common.{◌≡◌, ℕ, ◌+◌, ◌≤◌, ◌<◌, true, List, [], ◌∷◌, ◌++◌, length, map, take, drop, get_or, MatchResult, false, refl, sym, ap, ◌∙◌, arith, Bor, Vec, Global, Result, Ok, Err, IfOk, Some, None, codes, bytes_eq}
 use Rattle.std.specs.List.{slice_split}
 use Rattle.std.proofs.lemmas.Bool.{true≢false}
-use Rattle.std.proofs.lemmas.List.{length-map, map_push, get_or-map, take_more}
+use Rattle.std.proofs.lemmas.List.{map_push}
 use Rattle.si_base.specs.declared.fault.TextKind.TheVariants.{BadLine}
 use Rattle.si_netlist.specs.NetlistFault.{is_insert_line}
 use Rattle.si_netlist.specs.Headers.{gate_in}
@@ -46,10 +46,3 @@ parts_ok words (Ok v) kept = both v.items ∙ ap (map words_now) kept ∙ slice_
     both : (ps : List (Bor (List (Bor (List ℕ))))) → parts_now ps ≡ map words_now (map (λ p. p.now) ps)
     both [] = refl
     both (p ∷ ps) = ap (λ l. words_now p.now ∷ l) (both ps)
-
-pub take_parts : {B : Type 0} (f : List (List ℕ) → B) (ps : List (Bor (List (Bor (List ℕ))))) (i : ℕ) (d : Bor (List (Bor (List ℕ)))) (before new : List B) → i < length ps → before ≡ map f (take i (parts_now ps)) → new ≡ before ++ f (words_now (get_or ps i d).now) ∷ [] → new ≡ map f (take (i + 1) (parts_now ps))
-take_parts f ps i d before new within so_far is =
-    let inside : i < length (parts_now ps) = rw length-map within in
-    let part : get_or (parts_now ps) i (words_now d.now) ≡ words_now (get_or ps i d).now = get_or-map (λ (p : Bor (List (Bor (List ℕ)))). words_now p.now) ps i d (words_now d.now) within in
-    let longer : take (i + 1) (parts_now ps) ≡ take i (parts_now ps) ++ words_now (get_or ps i d).now ∷ [] = take_more (parts_now ps) i (words_now d.now) inside ∙ ap (λ (q : List (List ℕ)). take i (parts_now ps) ++ q ∷ []) part in
-    is ∙ ap (λ b. b ++ f (words_now (get_or ps i d).now) ∷ []) so_far ∙ sym (ap (map f) longer ∙ map_push f (take i (parts_now ps)) (words_now (get_or ps i d).now))

@@ -50,13 +50,13 @@ module _ (signals : List (List ℕ)) where
   parts_fault prior [] = refl
   parts_fault prior (w ∷ ws) = elim (cases_Bool (bytes_eq (codes "+") w)) [
     | inl plus ↦ ap (λ (o : Option TextKind). o otherwise words_after signals (Some w) ws) (mark_good prior w (plus_is w plus))
-      ∙ after_mark signals w ws (plus_is w plus)
-      ∙ parts_fault None ws
-      ∙ alone (slice_split (bytes_eq (codes "+")) ws)
-      ∙ ap (by_parts prior) (sym (split_plus w ws plus))
+        ∙ after_mark signals w ws (plus_is w plus)
+        ∙ parts_fault None ws
+        ∙ alone (slice_split (bytes_eq (codes "+")) ws)
+        ∙ ap (by_parts prior) (sym (split_plus w ws plus))
     | inr other ↦ ap (λ (o : Option TextKind). word_after signals prior w otherwise o) (parts_fault (Some w) ws)
-      ∙ sym (onto prior w (slice_split (bytes_eq (codes "+")) ws))
-      ∙ ap (by_parts prior) (sym (split_other w ws other))
+        ∙ sym (onto prior w (slice_split (bytes_eq (codes "+")) ws))
+        ∙ ap (by_parts prior) (sym (split_other w ws other))
   ]
 
   pub sum_by_cubes : (ws : List (List ℕ)) → sum_fault signals ws ≡ first_in (sum_fault signals) (parts_at (codes "+") ws)
