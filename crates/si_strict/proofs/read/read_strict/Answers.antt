@@ -36,8 +36,10 @@ returns-clause-given c = record {
   text_is = text_is c.args.text.now (spelling_of c.in_ok-parts.parts) (sym c.in_ok-lines.ensures ∙ sym (ap lines_now c.as_slice.ensures.value) ∙ c.in_ok-parts.ensures.parts);
   whole = c.in_ok-whole.whole.graph;
   spells = c.in_ok-whole.ensures.spells;
-  kept = c.in_ok-cut.cut.kept.items;
-  cut = c.in_ok-cut.ensures.cut;
-  model_is = c.in_ok-model.ensures;
-  states_are = rw (c.in_ok-whole.ensures.states, c.as_slice-2.ensures.value) at c.in_ok-states.ensures;
+  given = record {
+      kept = c.in_ok-cut.cut.kept.items;
+      cut = c.in_ok-cut.ensures.cut;
+      model_is = c.in_ok-model.ensures;
+      states_are = rw (c.in_ok-whole.ensures.states, c.as_slice-2.ensures.value) at c.in_ok-states.ensures;
+    };
 }
