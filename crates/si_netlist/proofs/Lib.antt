@@ -16,6 +16,9 @@ pub mod LoopLemmas
 pub mod GateLineLemmas
 pub mod OrderLemmas
 pub mod CubeLemmas
+pub mod CubeReading
+pub mod PartLemmas
+pub mod SumReading
 pub mod SignalLemmas
 pub mod ReaderLemmas
 pub mod WritingLemmas

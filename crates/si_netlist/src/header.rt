@@ -58,10 +58,7 @@ fn model_row(alloc: Global, rows: &mut Rows<'_>) -> Result<Name, TextFault>
             kind: TextKind::BadLine,
         });
     }
-    match Name::copy_of(alloc, second_word(&words)) {
-        Ok(name) => Ok(name),
-        Err(_) => Err(TextFault::NoMemory),
-    }
+    Ok(Name::copy_of(alloc, second_word(&words))?)
 }
 
 fn are_bits(bytes: &[u8]) -> bool

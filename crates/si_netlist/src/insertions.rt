@@ -104,10 +104,7 @@ fn insert_row(alloc: Global, rows: &mut Rows<'_>, name: &[u8]) -> Result<Insert,
             kind: TextKind::BadLine,
         });
     }
-    match insert_of(alloc, &words) {
-        Ok(insert) => Ok(insert),
-        Err(_) => Err(TextFault::NoMemory),
-    }
+    Ok(insert_of(alloc, &words)?)
 }
 
 /// The insertions of the lines that are due: one for each name from place `from` on.
@@ -126,9 +123,7 @@ pub fn insert_rows(
     let mut inserts = Vec::new(alloc);
     for k in from..names.len() {
         let insert = insert_row(alloc, rows, names.get(k))?;
-        let Ok(()) = inserts.push(insert) else {
-            return Err(TextFault::NoMemory);
-        };
+        inserts.push(insert)?;
     }
     Ok(inserts)
 }

@@ -116,17 +116,13 @@ pub fn read_netlist(alloc: Global, text: &[u8]) -> Result<Netlist, TextFault>
 {
     let mut rows = Rows::new(text);
     let limit = take_version(&mut rows);
-    let Ok(mut names) = Names::new(alloc) else {
-        return Err(TextFault::NoMemory);
-    };
+    let mut names = Names::new(alloc)?;
     let header = read_header(alloc, &mut rows, limit, &mut names)?;
     let inserts = insert_rows(alloc, &mut rows, &names, header.internals)?;
     word_row(alloc, &mut rows, b".gates")?;
     let gates = gate_rows(alloc, &mut rows, &names, header.inputs)?;
     word_row(alloc, &mut rows, b".end")?;
     rows.finish()?;
-    let Ok(signals) = signals_in(alloc, &names, &header) else {
-        return Err(TextFault::NoMemory);
-    };
+    let signals = signals_in(alloc, &names, &header)?;
     Ok(Netlist::make(header.model, signals, header.start, inserts, gates))
 }

@@ -94,9 +94,7 @@ impl<'a> Rows<'a> {
             });
         }
         let (_, after) = rest.split_at(len + 1);
-        let Ok(words) = words_of(alloc, line) else {
-            return Err(TextFault::NoMemory);
-        };
+        let words = words_of(alloc, line)?;
         self.rest = after;
         self.number = number + 1;
         Ok(words)
