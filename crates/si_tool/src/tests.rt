@@ -312,9 +312,8 @@ fn handshakes(alloc: Global, rounds: u32) -> Result<Text, Fail> {
         b".model rounds\n.inputs a\n.outputs z\n.state graph\n",
     )?;
     for round in 0..rounds {
-        let next = if rounds - round == 1 { 0 } else { round + 1 };
         let here = round.to_string(alloc)?;
-        let next = next.to_string(alloc)?;
+        let next = ((round + 1) % rounds).to_string(alloc)?;
         add_arc(&mut text, (b"p", &here), b" a+ ", (b"q", &here))?;
         add_arc(&mut text, (b"q", &here), b" z+ ", (b"r", &here))?;
         add_arc(&mut text, (b"r", &here), b" a- ", (b"t", &here))?;
