@@ -38,6 +38,7 @@ s7 c- s0
 .end
 ";
 
+/// Its netlist in version 1 of the text, which is read.
 const C_ELEMENT_NETLIST: &[u8] = b".model c2
 .inputs a b
 .outputs c
@@ -256,6 +257,9 @@ fn netlist_with(alloc: Global, inputs: &[u8], gate: &[u8]) -> Result<Text, NoMem
     Ok(text)
 }
 
+/// The first line of a netlist that is written.
+const VERSION: &[u8] = b".version 2\n";
+
 const SYNTH: [&str; 3] = ["synth", "graph.sg", "complex"];
 
 const REPLAY: [&str; 4] = ["replay", "graph.sg", "c.net", "steps"];
@@ -293,13 +297,10 @@ fn netlists_of_full_cubes(rt: HostRuntime) -> Result<(), Fail> {
         (INPUTS_ALONE, INPUTS_ALONE_NETLIST),
     ];
     for (graph, netlist) in rows {
-        expect(
-            &rt,
-            alloc,
-            &SYNTH,
-            only(graph),
-            (Status::Done, netlist, b""),
-        )?;
+        let mut written = Text::copy_of(alloc, VERSION)?;
+        written.add(netlist)?;
+        let want = (Status::Done, written.bytes(), b"".as_slice());
+        expect(&rt, alloc, &SYNTH, only(graph), want)?;
     }
     Ok(())
 }
@@ -343,7 +344,8 @@ fn a_text_of_over_100_000_bytes(rt: HostRuntime) -> Result<(), Fail> {
     let alloc = rt.alloc();
     let text = handshakes(alloc, 2000)?;
     assert!(rt; text.bytes().len() > 100_000);
-    let netlist: &[u8] = b".model rounds
+    let netlist: &[u8] = b".version 2
+.model rounds
 .inputs a
 .outputs z
 .internal
@@ -549,7 +551,7 @@ fn faults_of_the_outside(rt: HostRuntime) -> Result<(), Fail> {
         run(alloc, &synth, &mut shelf, &mut out, &mut err),
         Status::WriteFault
     );
-    assert_eq!(rt; out.bytes(), b".model c2\n".as_slice());
+    assert_eq!(rt; out.bytes(), b".version 2".as_slice());
     assert_eq!(rt;
         run(alloc, &replay, &mut shelf, &mut out, &mut err),
         Status::ReadFault
