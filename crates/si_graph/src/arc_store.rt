@@ -25,9 +25,10 @@ impl Model for EdgeId {
 
 /// The arcs among the states of a graph, in the order of source, event and target, each once.
 ///
-/// Each arc is linked to the next one out of its source and to the next one into its target. Since the arcs are in order,
-/// those out of a state also stand together. A walk follows the order of arcs: out of a state it is that of events, then
-/// targets, and into a state that of sources, then events.
+/// Each arc is linked to the next one out of its source and to the next one into its target.
+/// Since the arcs are in order, those out of a state also stand together. A walk follows the order
+/// of arcs: out of a state it is that of events, then targets, and into a state that of sources,
+/// then events.
 #[derive(Drop)]
 pub struct ArcStore {
     states: u32,
