@@ -66,16 +66,17 @@ fn lines_of_names(rt: HostRuntime) -> Result<(), Fail> {
     Ok(())
 }
 
+const B_FALLS: Event = Event {
+    sig: Sig(1),
+    up: false,
+};
+
 #[test]
 fn event_words(rt: HostRuntime) -> Result<(), Fail> {
     let mut names = Names::new(rt.alloc())?;
     assert!(rt; add_names(&mut names, 2, &[b"a".as_slice(), b"b".as_slice()]).is_ok());
-    let falls = Event {
-        sig: Sig(1),
-        up: false,
-    };
-    assert_eq!(rt; read_event(&names, b"b-"), Ok(falls));
-    assert_eq!(rt; read_event(&names, b"b-/123456789"), Ok(falls));
+    assert_eq!(rt; read_event(&names, b"b-"), Ok(B_FALLS));
+    assert_eq!(rt; read_event(&names, b"b-/123456789"), Ok(B_FALLS));
     assert_eq!(rt; read_event(&names, b"a+").map(|e| e.up), Ok(true));
     for word in [
         b"b-/".as_slice(),
