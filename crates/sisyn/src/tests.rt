@@ -3,9 +3,6 @@
 ghost use Rattle.std.specs.Prelude.{◌≡◌, ◌<◌, All, IfOk, length};
 ghost use Rattle.si_io.specs.Memory.{AreDistinct};
 
-use crate::run::run;
-use crate::status::Status;
-use crate::sure::run_in_memory;
 use si_base::ids::{Code, Event, NoMemory};
 use si_base::text::{Name, Text};
 use si_graph::coded::Coded;
@@ -16,6 +13,9 @@ use si_strict::read::read_strict;
 use si_system::schedule::read_schedule;
 use si_system::system::System;
 use si_system::verdict::Verdict;
+use si_tool::run::run;
+use si_tool::status::Status;
+use si_tool::sure::run_in_memory;
 use std::alloc::{AllocError, Global};
 use std::process::Abort;
 use std::test::Fail;
