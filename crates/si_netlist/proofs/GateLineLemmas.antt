@@ -1,10 +1,8 @@
 -- What gate lines and insert lines without fault are made of.
 use Rattle.std.proofs.Common.{◌≡◌, ℕ, ◌+◌, ◌≤◌, ◌<◌, true, List, [], ◌∷◌, ◌++◌, length, map, take, drop, get_or, MatchResult, false, refl, sym, ap, ◌∙◌, arith, Bor, Vec, Global, Result, Ok, Err, IfOk, Some, None, codes, bytes_eq}
 use Rattle.std.specs.List.{slice_split}
-use Rattle.std.proofs.lemmas.Bool.{true≢false}
 use Rattle.std.proofs.lemmas.List.{map_push}
 use Rattle.si_base.specs.declared.fault.TextKind.TheVariants.{BadLine}
-use Rattle.si_netlist.specs.NetlistFault.{is_insert_line}
 use Rattle.si_netlist.specs.Headers.{gate_in}
 use Rattle.si_netlist.specs.NetlistValue.{gate_of}
 use Rattle.si_netlist.specs.Parts.{gate_seen}
@@ -16,12 +14,6 @@ use Rattle.si_words.specs.Reads.{words_now, parts_now}
 use Rattle.si_words.specs.Sums.{parts_at}
 use Rattle.si_words.proofs.SumWordLemmas.{slice_split-map}
 use Rattle.si_words.proofs.FirstFaultLemmas.{take_word}
-
-pub at_least_three : (name : List ℕ) (ws : List (Bor (List ℕ))) → is_insert_line name (words_now ws) ≡ true → 3 ≤ length ws
-at_least_three name [] form = absurd (true≢false (sym form))
-at_least_three name (a ∷ []) form = absurd (true≢false (sym form))
-at_least_three name (a ∷ b ∷ []) form = absurd (true≢false (sym form))
-at_least_three name (a ∷ b ∷ c ∷ ws) form = omega arith
 
 -- the line of a gate, by its head and the words behind it
 pub gate_read_line : (signals : List (List ℕ)) (name : List ℕ) (words tail : List (Bor (List ℕ))) (d : Bor (List ℕ)) (read : Result Gate TextKind) → 1 ≤ length words → tail ≡ drop 1 words → bytes_eq name (get_or words 0 d).now ≡ true

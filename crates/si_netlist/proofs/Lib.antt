@@ -14,6 +14,7 @@ pub mod WriteLaw
 pub mod HeaderLemmas
 pub mod LoopLemmas
 pub mod GateLineLemmas
+pub mod InsertLineLemmas
 pub mod OrderLemmas
 pub mod CubeLemmas
 pub mod CubeReading
