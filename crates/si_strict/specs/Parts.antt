@@ -5,6 +5,7 @@ use Rattle.si_strict.specs.Lines.{words_in}
 use Rattle.si_strict.specs.declared.parts.Arc.{Arc}
 use Rattle.si_strict.specs.declared.parts.Header.{Header}
 use Rattle.si_strict.specs.declared.parts.Parts.{Parts}
+use Rattle.si_base.specs.Bytes.{opening_brace, closing_brace}
 
 abbrev pub arc_now : Arc → ArcLine
 arc_now a = record { from = a.from.now; signal = a.signal.now; up = a.up; to = a.to.now }
@@ -46,7 +47,7 @@ header_lines h rest = (codes ".model" ∷ h.model ∷ [])
 
 -- the lines after the arcs, and what stands behind the last line end: one empty word
 abbrev pub end_lines : List ℕ → List (List (List ℕ))
-end_lines marked = (codes ".marking" ∷ (123 ∷ marked ++ 125 ∷ []) ∷ []) ∷ (codes ".end" ∷ []) ∷ ([] ∷ []) ∷ []
+end_lines marked = (codes ".marking" ∷ (opening_brace ∷ marked ++ closing_brace ∷ []) ∷ []) ∷ (codes ".end" ∷ []) ∷ ([] ∷ []) ∷ []
 
 -- the lines that a text of these parts is cut into
 abbrev pub all_lines : Spelling → List (List (List ℕ))
