@@ -61,7 +61,8 @@ impl From<NoMemory> for CodeFault {
 impl Coded {
     ghost use Rattle.si_graph.specs.Faults.{ShowsUncoded};
 
-    /// The graph with its codes, or the first breach of determinism, or else of consistency. The graph comes back.
+    /// The graph with its codes, or the first breach of determinism, or else of consistency (the book's consistent state
+    /// assignment). The graph comes back.
     pub fn make(alloc: Global, graph: Graph) -> Result<Coded, (Graph, CodeFault)>
         requires { IsConnected graph }
         ensures same { IfOk result (λ c. c.graph ≡ graph) }
@@ -138,7 +139,8 @@ impl Coded {
         self.codes[s.0 as usize]
     }
 
-    /// The next value of a signal: 1 if it is about to rise, or if it is 1 and not about to fall.
+    /// The next value of a signal: 1 if it is about to rise, or if it is 1 and not about to fall (the book's next-state
+    /// function).
     pub fn next_value(&self, s: StateId, z: Sig) -> bool
         requires state { s < self.now.graph.states }
         requires signal { z < length self.now.graph.signals }
