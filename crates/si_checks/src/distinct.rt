@@ -18,7 +18,7 @@ pub struct Distinct<'a> {
 /// Why a graph isn't distinct.
 #[derive(Clone, Copy, PartialEq, Eq, Debug)]
 pub enum NotDistinct {
-    /// Want of memory.
+    /// Out of memory.
     NoMemory,
     /// The states `p` and `q`, the earlier first, have one code and enable different non-input events.
     Conflict { p: StateId, q: StateId },

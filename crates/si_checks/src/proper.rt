@@ -32,7 +32,7 @@ impl Model for Proper {
 /// Why a coded graph isn't proper.
 #[derive(Clone, Copy, PartialEq, Eq, Debug)]
 pub enum Improper {
-    /// Want of memory.
+    /// Out of memory.
     NoMemory,
     /// The state `s` leads by `a` and then `c` to `w`, and by `c` and then `a` to another state `w2`.
     Noncommutative {
@@ -75,7 +75,7 @@ impl Proper {
         Proper { coded }
     }
 
-    /// An equal graph. It fails only for want of memory.
+    /// An equal graph. It fails only where memory runs out.
     pub fn copy(&self, alloc: Global) -> Result<Proper, NoMemory>
         ensures { IfOk result (λ p. p ≡ self.now) }
     {

@@ -48,7 +48,7 @@ impl Model for ArcStore {
 }
 
 impl ArcStore {
-    /// The store of these arcs. It fails only for want of memory.
+    /// The store of these arcs. It fails only where memory runs out.
     pub fn build(alloc: Global, states: u32, edges: Vec<Edge>) -> Result<ArcStore, NoMemory>
         requires few { length edges.items < 2 ^ 32 }
         requires within { All (λ a. (a.from < states) × (a.to < states)) edges.items }
@@ -73,7 +73,7 @@ impl ArcStore {
         })
     }
 
-    /// An equal store. It fails only for want of memory.
+    /// An equal store. It fails only where memory runs out.
     pub fn copy(&self, alloc: Global) -> Result<ArcStore, NoMemory>
         ensures { IfOk result (λ store. store ≡ self.now) }
     {

@@ -32,7 +32,7 @@ impl Model for Coded {
 /// Why a graph has no codes.
 #[derive(Clone, Copy, PartialEq, Eq, Debug)]
 pub enum CodeFault {
-    /// Want of memory.
+    /// Out of memory.
     NoMemory,
     /// The state `s` leads by `e` to both `t` and `u`.
     Nondeterministic {
@@ -84,7 +84,7 @@ impl Coded {
         Coded { graph, codes }
     }
 
-    /// An equal graph with the same codes. It fails only for want of memory.
+    /// An equal graph with the same codes. It fails only where memory runs out.
     pub fn copy(&self, alloc: Global) -> Result<Coded, NoMemory>
         ensures { IfOk result (λ c. c ≡ self.now) }
     {

@@ -37,7 +37,7 @@ fn gate_row(
 
 /// The gates of the lines that are due: one for each signal from place `from` on.
 ///
-/// Fails with the first fault of these lines, and for want of memory.
+/// Fails with the first fault of these lines, and where memory runs out.
 pub fn gate_rows(
     alloc: Global,
     rows: &mut Rows<'_>,

@@ -104,7 +104,7 @@ fn insert_row(alloc: Global, rows: &mut Rows<'_>, name: &[u8]) -> Result<Insert,
 
 /// The insertions of the lines that are due: one for each name from place `from` on.
 ///
-/// Fails with the first fault of these lines, and for want of memory.
+/// Fails with the first fault of these lines, and where memory runs out.
 pub fn insert_rows(
     alloc: Global,
     rows: &mut Rows<'_>,

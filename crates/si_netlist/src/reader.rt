@@ -110,7 +110,7 @@ fn signals_in(alloc: Global, names: &Names, header: &Header) -> Result<Vec<Signa
 /// The netlist that the text spells, or the first fault of the text. A text whose first line is `.version 2` is read as
 /// one of version 2, any other as one of version 1, which may name 64 signals.
 ///
-/// It fails with `NoMemory` only for want of memory, and with `At` exactly where the text is no netlist's.
+/// It fails with `NoMemory` only where memory runs out, and with `At` exactly where the text is no netlist's.
 pub fn read_netlist(alloc: Global, text: &[u8]) -> Result<Netlist, TextFault>
     ensures gives { Gives (λ n. n) result (netlist_fault text.now) (netlist_of text.now) }
 {

@@ -51,7 +51,7 @@ comes_as words content before now a b come deserve =
       | inr fault ↦ inr fault
     ]
 
--- what is deserved comes, want of memory and faults aside
+-- what is deserved comes, unless memory runs out or a fault comes
 pub complete : (words : List (String Global)) (content : Contents) (before now : Counts) (out err : SinkChange)
     (result : Status) → Ends words (loads content before now) out err result → (answer : Answer)
     → Deserve words content answer

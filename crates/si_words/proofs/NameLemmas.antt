@@ -18,7 +18,7 @@ until limit old before ws i d kind within so_far good here = record {
   fault_is = here;
 }
 
--- for want of memory some first words stand there
+-- where memory ran out some first words stand there
 pub some_left : {X : Type 0} (result : Result X LineFault) (limit : ℕ) (fault : LineFault) (old new words : List (List ℕ)) → result ≡ Err fault → fault ≡ NoMemory → AddsFirst limit old new words → IfErr result (λ e. LeavesNames limit e old new words)
 some_left {X} result limit fault old new words is want first =
     let Left : LineFault → Type 0 = λ e. LeavesNames limit e old new words in
