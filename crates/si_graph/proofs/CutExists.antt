@@ -16,7 +16,7 @@ use Rattle.si_graph.proofs.CutLemmas.{new_arcs, new_arcs_few, new_arcs_inside, s
 use Rattle.si_graph.proofs.MarkLemmas.{stays_in, in_cases, is_set, reachable-step}
 use Rattle.si_graph.proofs.MemberLemmas.{Contains-cons_cases, Contains-here, Contains-there, Contains-nil}
 use Rattle.si_graph.proofs.RenamingLemmas.{Renames-marked, Renames-unmarked}
-use Rattle.si_strict.proofs.OrderedLemmas.{arcs_in_order}
+use Rattle.si_graph.proofs.ArcsInOrder.{arcs_in_order}
 
 -- ---- marks of the reachable states
 -- an arc leads out of the marked states
