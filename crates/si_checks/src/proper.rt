@@ -34,7 +34,8 @@ impl Model for Proper {
 pub enum Improper {
     /// Want of memory.
     NoMemory,
-    /// The state `s` leads by `a` and then `c` to `w`, and by `c` and then `a` to another state `w2`.
+    /// The state `s` leads by `a` and then `c` to `w`, and by `c` and then `a` to another state
+    /// `w2`.
     Noncommutative {
         s: StateId,
         a: Event,
@@ -53,7 +54,8 @@ pub enum Improper {
 impl Proper {
     ghost use Rattle.si_checks.specs.Faults.{ShowsImproper};
 
-    /// The graph where it is proper, or the first breach of commutativity, or else of output persistency.
+    /// The graph where it is proper, or the first breach of commutativity, or else of output
+    /// persistency.
     /// The coded graph comes back.
     pub fn make(_alloc: Global, coded: Coded) -> Result<Proper, (Coded, Improper)>
         ensures same { IfOk result (λ p. p ≡ coded) }
