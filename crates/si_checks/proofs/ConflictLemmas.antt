@@ -38,17 +38,28 @@ cases_same true false = inr (λ same. cc)
 cases_same false true = inr (λ same. cc)
 cases_same false false = inl refl
 
-agrees : (g : StateGraph) (p q : ℕ) → (Differ g p q → ⊥) → (e : Event) → IsNonInput g.signals e.sig → enables g p e ≡ enables g q e
+agrees : (g : StateGraph) (p q : ℕ) → (Differ g p q → ⊥) → (e : Event) → IsNonInput g.signals e.sig
+    → enables g p e ≡ enables g q e
 agrees g p q same e non_input = elim (cases_same (enables g p e) (enables g q e)) [
   | inl equal ↦ equal
   | inr differ ↦ absurd (same (record { event = e; non_input = non_input; differ = differ }))
 ]
 
-conflict_from : (c : CodedGraph) (p q : ℕ) → p < q → q < c.graph.states → code c p ≡ code c q → Differ c.graph p q → IsConflict c (p, q)
-conflict_from c p q order within same differ = record { order = order; within = within; same_code = same; event = differ.event; non_input = differ.non_input; differ = differ.differ }
+conflict_from : (c : CodedGraph) (p q : ℕ) → p < q → q < c.graph.states → code c p ≡ code c q
+    → Differ c.graph p q → IsConflict c (p, q)
+conflict_from c p q order within same differ = record {
+  order = order;
+  within = within;
+  same_code = same;
+  event = differ.event;
+  non_input = differ.non_input;
+  differ = differ.differ;
+}
 
 -- ---- what one state enables and another doesn't
-pub more_found : (g : StateGraph) (p q : ℕ) (arcs : List Edge) (out : AreOut g p arcs) (n : ℕ) (a : Edge) → n < length arcs → a ≡ get_or arcs n a → IsNonInput g.signals a.event.sig → false ≡ enables g q a.event → EnablesMore g p q
+pub more_found : (g : StateGraph) (p q : ℕ) (arcs : List Edge) (out : AreOut g p arcs) (n : ℕ) (a : Edge)
+    → n < length arcs → a ≡ get_or arcs n a → IsNonInput g.signals a.event.sig
+    → false ≡ enables g q a.event → EnablesMore g p q
 more_found g p q arcs out n a within at non_input not_there = record {
   event = a.event;
   non_input = non_input;
@@ -56,21 +67,32 @@ more_found g p q arcs out n a within at non_input not_there = record {
   not_there = sym not_there;
 }
 
-pub none_more : (g : StateGraph) (p q : ℕ) (arcs : List Edge) (out : AreOut g p arcs) (n : ℕ) → length arcs ≤ n → ((k : ℕ) (d : Edge) → k < n → IsNonInput g.signals (get_or arcs k d).event.sig → enables g q (get_or arcs k d).event ≡ true) → EnablesMore g p q → ⊥
+pub none_more : (g : StateGraph) (p q : ℕ) (arcs : List Edge) (out : AreOut g p arcs) (n : ℕ)
+    → length arcs ≤ n → ((k : ℕ) (d : Edge) → k < n → IsNonInput g.signals (get_or arcs k d).event.sig
+    → enables g q (get_or arcs k d).event ≡ true) → EnablesMore g p q → ⊥
 none_more g p q arcs out n count all more =
     let found = step_from_enables g p more.event more.here in
     let a = arc p more.event found.0 in
     let place = out_place g p arcs out more.event found.0 found.1 in
     let NonInput : Edge → Type 0 = λ b. IsNonInput g.signals b.event.sig in
     let Enabled : Edge → Type 0 = λ b. enables g q b.event ≡ true in
-    let there = subst Enabled place.2 (all place.0 a (omega (arith, place.1)) (subst NonInput (sym place.2) more.non_input)) in
+    let there =
+    subst Enabled place.2 (all place.0 a (omega (arith, place.1)) (subst NonInput (sym place.2) more.non_input)) in
     true≢false (sym there ∙ more.not_there)
 
 pub more_differs : (g : StateGraph) (p q : ℕ) → EnablesMore g p q → Differ g p q
-more_differs g p q more = record { event = more.event; non_input = more.non_input; differ = λ same. true≢false (sym more.here ∙ same ∙ more.not_there) }
+more_differs g p q more = record {
+  event = more.event;
+  non_input = more.non_input;
+  differ = λ same. true≢false (sym more.here ∙ same ∙ more.not_there);
+}
 
 pub less_differs : (g : StateGraph) (p q : ℕ) → EnablesMore g q p → Differ g p q
-less_differs g p q more = record { event = more.event; non_input = more.non_input; differ = λ same. true≢false (sym more.here ∙ sym same ∙ more.not_there) }
+less_differs g p q more = record {
+  event = more.event;
+  non_input = more.non_input;
+  differ = λ same. true≢false (sym more.here ∙ sym same ∙ more.not_there);
+}
 
 pub none_differ : (g : StateGraph) (p q : ℕ) → (EnablesMore g p q → ⊥) → (EnablesMore g q p → ⊥) → Differ g p q → ⊥
 none_differ g p q more less is = elim (cases_Bool (enables g p is.event)) [
@@ -99,12 +121,14 @@ after_first c n p r at same = elim (cases_lt r p) [
 ]
 
 -- where n agrees with p, a state in conflict with n is in conflict with p
-older : (c : CodedGraph) (n p r : ℕ) → IsAt c n p → (Differ c.graph p n → ⊥) → IsConflict c (r, n) → IsConflictBelow c n (p, r)
+older : (c : CodedGraph) (n p r : ℕ) → IsAt c n p → (Differ c.graph p n → ⊥) → IsConflict c (r, n)
+    → IsConflictBelow c n (p, r)
 older c n p r at same is =
     let le : p ≤ r = after_first c n p r at is.same_code in
     let P : ℕ → Type 0 = λ x. Differ c.graph x n in
     let less : p < r = elim (cases_eq p r) [
-      | inl equal ↦ absurd (same (subst P (sym equal) (record { event = is.event; non_input = is.non_input; differ = is.differ })))
+      | inl equal ↦ absurd
+          (same (subst P (sym equal) (record { event = is.event; non_input = is.non_input; differ = is.differ })))
       | inr other ↦ omega arith
     ] in
     let below : r < n = is.order in
@@ -116,7 +140,8 @@ older c n p r at same is =
     }
 
 -- a conflict of the first n + 1 states is one of the first n, or with n
-cases_new : (c : CodedGraph) (n : ℕ) (pair : ℕ × ℕ) → IsConflictBelow c (n + 1) pair → IsConflictBelow c n pair ⊎ ((pair.1 ≡ n) × IsConflict c (pair.0, n))
+cases_new : (c : CodedGraph) (n : ℕ) (pair : ℕ × ℕ) → IsConflictBelow c (n + 1) pair
+    → IsConflictBelow c n pair ⊎ ((pair.1 ≡ n) × IsConflict c (pair.0, n))
 cases_new c n pair is = elim (cases_eq pair.1 n) [
   | inl same ↦ (let P : ℕ → Type 0 = λ x. IsConflict c (pair.0, x) in inr (same, subst P same is.conflict))
   | inr other ↦ (let below : pair.1 < n + 1 = is.below in inl (record { conflict = is.conflict; below = omega arith }))
@@ -125,7 +150,8 @@ cases_new c n pair is = elim (cases_eq pair.1 n) [
 wider : (c : CodedGraph) (n : ℕ) (pair : ℕ × ℕ) → IsConflictBelow c n pair → IsConflictBelow c (n + 1) pair
 wider c n pair is = let below : pair.1 < n = is.below in record { conflict = is.conflict; below = omega arith }
 
-pub keep_found : (c : CodedGraph) (n p : ℕ) (found : Option (ℕ × ℕ)) → IsAt c n p → (Differ c.graph p n → ⊥) → IsFirstOrNone pair_place (IsConflictBelow c n) found → IsFirstOrNone pair_place (IsConflictBelow c (n + 1)) found
+pub keep_found : (c : CodedGraph) (n p : ℕ) (found : Option (ℕ × ℕ)) → IsAt c n p → (Differ c.graph p n → ⊥)
+    → IsFirstOrNone pair_place (IsConflictBelow c n) found → IsFirstOrNone pair_place (IsConflictBelow c (n + 1)) found
 keep_found c n p None at same none = λ pair is. elim (cases_new c n pair is) [
   | inl old ↦ none pair old
   | inr new ↦ none (p, pair.0) (older c n p pair.0 at same new.1)
@@ -146,7 +172,9 @@ keep_found c n p (Some f) at same first = record {
 }
 
 -- no conflict of the first n states that starts before p comes before (p, n)
-pair_first : (c : CodedGraph) (n p : ℕ) → IsAt c n p → Differ c.graph p n → ((pair : ℕ × ℕ) → IsConflictBelow c n pair → pair.0 ≤ p → ⊥) → IsFirst pair_place (IsConflictBelow c (n + 1)) (p, n)
+pair_first : (c : CodedGraph) (n p : ℕ) → IsAt c n p → Differ c.graph p n
+    → ((pair : ℕ × ℕ) → IsConflictBelow c n pair → pair.0 ≤ p → ⊥)
+    → IsFirst pair_place (IsConflictBelow c (n + 1)) (p, n)
 pair_first c n p at differ none =
     let apart : p ≢ n = λ same. differ.differ (ap (λ x. enables c.graph x differ.event) same) in
     let less : p < n = omega (arith, at.le) in
@@ -166,7 +194,9 @@ pair_first c n p at differ none =
       ];
     }
 
-pub take_pair : (c : CodedGraph) (n p : ℕ) (found : Option (ℕ × ℕ)) (r : ℕ × ℕ) → IsAt c n p → Differ c.graph p n → IsFirstOrNone pair_place (IsConflictBelow c n) found → Keeps found (p, n) r → IsFirst pair_place (IsConflictBelow c (n + 1)) r
+pub take_pair : (c : CodedGraph) (n p : ℕ) (found : Option (ℕ × ℕ)) (r : ℕ × ℕ) → IsAt c n p
+    → Differ c.graph p n → IsFirstOrNone pair_place (IsConflictBelow c n) found → Keeps found (p, n) r
+    → IsFirst pair_place (IsConflictBelow c (n + 1)) r
 take_pair c n p None r at differ none keeps =
     let P : ℕ × ℕ → Type 0 = λ x. IsFirst pair_place (IsConflictBelow c (n + 1)) x in
     subst P (sym keeps) (pair_first c n p at differ (λ pair is le. none pair is))
@@ -174,7 +204,8 @@ take_pair c n p (Some f) r at differ first keeps =
     let P : ℕ × ℕ → Type 0 = λ x. IsFirst pair_place (IsConflictBelow c (n + 1)) x in
     let below : f.1 < n = first.holds.below in
     elim (cases_lt p f.0) [
-      | inl less ↦ subst P (sym (keeps.1 less)) (pair_first c n p at differ (λ pair is le. first.none_before pair is (inl (omega arith))))
+      | inl less ↦ subst P (sym (keeps.1 less))
+          (pair_first c n p at differ (λ pair is le. first.none_before pair is (inl (omega arith))))
       | inr above ↦ subst P (sym (keeps.0 above)) (record {
         holds = wider c n f first.holds;
         none_before = λ pair is before. elim (cases_new c n pair is) [
@@ -190,11 +221,13 @@ take_pair c n p (Some f) r at differ first keeps =
     ]
 
 -- all states have been looked at
-pub all_states : (c : CodedGraph) (n : ℕ) (found : Option (ℕ × ℕ)) → c.graph.states ≤ n → IsFirstOrNone pair_place (IsConflictBelow c n) found → IsFirstOrNone pair_place (IsConflict c) found
+pub all_states : (c : CodedGraph) (n : ℕ) (found : Option (ℕ × ℕ)) → c.graph.states ≤ n
+    → IsFirstOrNone pair_place (IsConflictBelow c n) found → IsFirstOrNone pair_place (IsConflict c) found
 all_states c n None all none = λ pair is. none pair (record { conflict = is; below = omega (arith, is.within) })
 all_states c n (Some f) all first = record {
   holds = first.holds.conflict;
-  none_before = λ pair is before. first.none_before pair (record { conflict = is; below = omega (arith, is.within) }) before;
+  none_before =
+      λ pair is before. first.none_before pair (record { conflict = is; below = omega (arith, is.within) }) before;
 }
 
 -- ---- the first states of the codes
@@ -205,18 +238,26 @@ other_key k q apart = elim (cases_order k q) [
   | inr (inr more) ↦ rw (← nat_cmp_is k q Greater more) refl
 ]
 
-pub first_at : (c : CodedGraph) (n p : ℕ) (old : Option ℕ) → n < c.graph.states → p ≡ unwrap_or old n → IsFirstOfCodeBelow c n (code c n) old → IsAt c n p
-first_at c n p None within is none = let P : ℕ → Type 0 = λ x. IsAt c n x in subst P (sym is) (record { within = within; le = omega arith; first = record { has_code = refl; first = none } })
-first_at c n p (Some r) within is first = let P : ℕ → Type 0 = λ x. IsAt c n x in subst P (sym is) (record { within = within; le = omega (arith, first.0); first = first.1 })
+pub first_at : (c : CodedGraph) (n p : ℕ) (old : Option ℕ) → n < c.graph.states → p ≡ unwrap_or old n
+    → IsFirstOfCodeBelow c n (code c n) old → IsAt c n p
+first_at c n p None within is none =
+    let P : ℕ → Type 0 = λ x. IsAt c n x in
+    subst P (sym is) (record { within = within; le = omega arith; first = record { has_code = refl; first = none } })
+first_at c n p (Some r) within is first =
+    let P : ℕ → Type 0 = λ x. IsAt c n x in
+    subst P (sym is) (record { within = within; le = omega (arith, first.0); first = first.1 })
 
-one_more : (c : CodedGraph) (n k : ℕ) (old : Option ℕ) → (k ≡ code c n → ⊥) → IsFirstOfCodeBelow c n k old → IsFirstOfCodeBelow c (n + 1) k old
+one_more : (c : CodedGraph) (n k : ℕ) (old : Option ℕ) → (k ≡ code c n → ⊥) → IsFirstOfCodeBelow c n k old
+    → IsFirstOfCodeBelow c (n + 1) k old
 one_more c n k None other none = λ r below. elim (cases_eq r n) [
   | inl same ↦ (λ is. other (sym is ∙ ap (λ x. code c x) same))
   | inr apart ↦ none r (omega arith)
 ]
 one_more c n k (Some p) other first = (omega (arith, first.0), first.1)
 
-pub firsts_more : (c : CodedGraph) (n p : ℕ) (old new : ℕ → Option ℕ) → IsAt c n p → new (code c n) ≡ Some p → ((k : ℕ) → k ≢ code c n → new k ≡ old k) → ((k : ℕ) → IsFirstOfCodeBelow c n k (old k)) → (k : ℕ) → IsFirstOfCodeBelow c (n + 1) k (new k)
+pub firsts_more : (c : CodedGraph) (n p : ℕ) (old new : ℕ → Option ℕ) → IsAt c n p → new (code c n) ≡ Some p
+    → ((k : ℕ) → k ≢ code c n → new k ≡ old k) → ((k : ℕ) → IsFirstOfCodeBelow c n k (old k)) → (k : ℕ)
+    → IsFirstOfCodeBelow c (n + 1) k (new k)
 firsts_more c n p old new at here others firsts k =
     let P : Option ℕ → Type 0 = λ o. IsFirstOfCodeBelow c (n + 1) k o in
     elim (cases_eq k (code c n)) [

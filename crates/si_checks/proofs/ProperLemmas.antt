@@ -13,7 +13,8 @@ use Rattle.si_checks.proofs.LossLemmas.{no_loss_persists, loss_within}
 use Rattle.si_checks.proofs.SearchLemmas.{found_of_all}
 
 pub deterministic : (c : CodedGraph) (g : StateGraph) → IsCoded c → g ≡ c.graph → IsDeterministic g
-deterministic c g coded same = let P : StateGraph → Type 0 = λ h. IsDeterministic h in subst P (sym same) coded.deterministic
+deterministic c g coded same =
+    let P : StateGraph → Type 0 = λ h. IsDeterministic h in subst P (sym same) coded.deterministic
 
 -- a coded graph without a breach is proper
 pub proper : (c : CodedGraph) (g : StateGraph) → IsCoded c → g ≡ c.graph → IsFirstBreach g None → IsProper c.graph
@@ -31,10 +32,18 @@ pub shows : (g : StateGraph) (breach : Breach) → IsFirstBreach g (Some breach)
 shows g (AsFork b) first = first
 shows g (AsLoss b) first = first
 
-pub none_at_end : (g : StateGraph) (n : ℕ) → IsGraph g → IsDeterministic g → g.states ≤ n → ((b : Fork) → Forks g b → b.s < n → ⊥) → IsFirstOrNone loss_place (LosesBelow g n) None → IsFirstBreach g None
-none_at_end g n is det all no_fork no_loss =
-    (no_fork_commutes g det (λ b forks. no_fork b forks (fork_within g n is all b forks)), no_loss_persists g (found_of_all (Loses g) (λ b. b.s) (λ b. b.lost) (λ b. b.by) n None (loss_within g n is all) no_loss))
+pub none_at_end : (g : StateGraph) (n : ℕ) → IsGraph g → IsDeterministic g → g.states ≤ n
+    → ((b : Fork) → Forks g b → b.s < n → ⊥) → IsFirstOrNone loss_place (LosesBelow g n) None → IsFirstBreach g None
+none_at_end g n is det all no_fork no_loss = (
+  no_fork_commutes g det (λ b forks. no_fork b forks (fork_within g n is all b forks)),
+  no_loss_persists g
+      (found_of_all (Loses g) (λ b. b.s) (λ b. b.lost) (λ b. b.by) n None (loss_within g n is all) no_loss),
+)
 
-pub loss_at_end : (g : StateGraph) (n : ℕ) (b : Loss) → IsGraph g → IsDeterministic g → g.states ≤ n → ((b : Fork) → Forks g b → b.s < n → ⊥) → IsFirstOrNone loss_place (LosesBelow g n) (Some b) → IsFirstBreach g (Some (AsLoss b))
-loss_at_end g n b is det all no_fork first =
-    (no_fork_commutes g det (λ b forks. no_fork b forks (fork_within g n is all b forks)), found_of_all (Loses g) (λ x. x.s) (λ x. x.lost) (λ x. x.by) n (Some b) (loss_within g n is all) first)
+pub loss_at_end : (g : StateGraph) (n : ℕ) (b : Loss) → IsGraph g → IsDeterministic g → g.states ≤ n
+    → ((b : Fork) → Forks g b → b.s < n → ⊥) → IsFirstOrNone loss_place (LosesBelow g n) (Some b)
+    → IsFirstBreach g (Some (AsLoss b))
+loss_at_end g n b is det all no_fork first = (
+  no_fork_commutes g det (λ b forks. no_fork b forks (fork_within g n is all b forks)),
+  found_of_all (Loses g) (λ x. x.s) (λ x. x.lost) (λ x. x.by) n (Some b) (loss_within g n is all) first,
+)

@@ -19,7 +19,8 @@ use Rattle.si_checks.proofs.OutLemmas.{event_same, out_from, out_arc, out_rises,
 
 -- ---- one pair
 module _ (g : StateGraph) (x y : Edge) where
-  pub both_stay : (w w2 : ℕ) → IsDeterministic g → IsLeastTarget g x.to y.event w → IsLeastTarget g y.to x.event w2 → w ≡ w2 → ClosesSquare g x y
+  pub both_stay : (w w2 : ℕ) → IsDeterministic g → IsLeastTarget g x.to y.event w → IsLeastTarget g y.to x.event w2
+      → w ≡ w2 → ClosesSquare g x y
   both_stay w w2 det one other same = record {
     meets = λ v v2 to_v to_v2. det x.to y.event v w to_v one.step ∙ same ∙ det y.to x.event w2 v2 other.step to_v2;
     one_stays = λ _. enables-step g y.to x.event w2 other.step;
@@ -27,8 +28,10 @@ module _ (g : StateGraph) (x y : Edge) where
   }
 
   -- where the one's event can't follow the other's, it has to be an input's
-  pub other_gone : (r : Bool) → IsTrue r ↔ IsNonInput g.signals y.event.sig → (IsTrue (enables g x.to y.event) → ⊥) → (IsNonInput g.signals x.event.sig → IsTrue (enables g y.to x.event)) → IsTrue (not r) ↔ ClosesSquare g x y
-  other_gone true driven gone stays = (λ never. absurd (true≢false (sym never)), λ closes. absurd (gone (closes.other_stays (driven.0 refl))))
+  pub other_gone : (r : Bool) → IsTrue r ↔ IsNonInput g.signals y.event.sig → (IsTrue (enables g x.to y.event) → ⊥)
+      → (IsNonInput g.signals x.event.sig → IsTrue (enables g y.to x.event)) → IsTrue (not r) ↔ ClosesSquare g x y
+  other_gone true driven gone stays =
+      (λ never. absurd (true≢false (sym never)), λ closes. absurd (gone (closes.other_stays (driven.0 refl))))
   other_gone false driven gone stays = (
     λ _. record {
       meets = λ w w2 one other. absurd (gone (enables-step g x.to y.event w one));
@@ -38,8 +41,10 @@ module _ (g : StateGraph) (x y : Edge) where
     λ _. refl,
   )
 
-  pub one_gone : (r : Bool) → IsTrue r ↔ IsNonInput g.signals x.event.sig → (IsTrue (enables g y.to x.event) → ⊥) → (IsNonInput g.signals y.event.sig → IsTrue (enables g x.to y.event)) → IsTrue (not r) ↔ ClosesSquare g x y
-  one_gone true driven gone stays = (λ never. absurd (true≢false (sym never)), λ closes. absurd (gone (closes.one_stays (driven.0 refl))))
+  pub one_gone : (r : Bool) → IsTrue r ↔ IsNonInput g.signals x.event.sig → (IsTrue (enables g y.to x.event) → ⊥)
+      → (IsNonInput g.signals y.event.sig → IsTrue (enables g x.to y.event)) → IsTrue (not r) ↔ ClosesSquare g x y
+  one_gone true driven gone stays =
+      (λ never. absurd (true≢false (sym never)), λ closes. absurd (gone (closes.one_stays (driven.0 refl))))
   one_gone false driven gone stays = (
     λ _. record {
       meets = λ w w2 one other. absurd (gone (enables-step g y.to x.event w2 other));
@@ -52,15 +57,20 @@ module _ (g : StateGraph) (x y : Edge) where
 -- ---- the arcs out of a state
 -- the first n arcs close squares with all later ones
 abbrev pub CloseBefore : StateGraph → List Edge → ℕ → Type 0
-CloseBefore g arcs n = (i j : ℕ) (d : Edge) → i < n → i < j → j < length arcs → ClosesSquare g (get_or arcs i d) (get_or arcs j d)
+CloseBefore g arcs n = (i j : ℕ) (d : Edge) → i < n → i < j → j < length arcs
+    → ClosesSquare g (get_or arcs i d) (get_or arcs j d)
 
 module _ (g : StateGraph) (s : ℕ) (arcs : List Edge) (out : AreOut g s arcs) where
-  pub close_more : (n : ℕ) (x : Edge) → n < length arcs → x ≡ get_or arcs n x → CloseBefore g arcs n → All (ClosesSquare g x) (drop (n + 1) arcs) → CloseBefore g arcs (n + 1)
+  pub close_more : (n : ℕ) (x : Edge) → n < length arcs → x ≡ get_or arcs n x → CloseBefore g arcs n
+      → All (ClosesSquare g x) (drop (n + 1) arcs) → CloseBefore g arcs (n + 1)
   close_more n x within at before later i j d below less inside = elim (cases_eq i n) [
     | inl same ↦ (
-        let is : x ≡ get_or arcs i d = at ∙ get_or_default arcs n x d within ∙ ap (λ (k : ℕ). get_or arcs k d) (sym same) in
-        let moved : get_or (drop (n + 1) arcs) (j - (n + 1)) d ≡ get_or arcs j d = get_or-drop (n + 1) arcs (j - (n + 1)) d ∙ ap (λ (k : ℕ). get_or arcs k d) (omega arith) in
-        let both : ClosesSquare g x (get_or (drop (n + 1) arcs) (j - (n + 1)) d) = later (j - (n + 1)) d (omega (arith, length-drop (n + 1) arcs)) in
+        let is : x ≡ get_or arcs i d =
+        at ∙ get_or_default arcs n x d within ∙ ap (λ (k : ℕ). get_or arcs k d) (sym same) in
+        let moved : get_or (drop (n + 1) arcs) (j - (n + 1)) d ≡ get_or arcs j d =
+        get_or-drop (n + 1) arcs (j - (n + 1)) d ∙ ap (λ (k : ℕ). get_or arcs k d) (omega arith) in
+        let both : ClosesSquare g x (get_or (drop (n + 1) arcs) (j - (n + 1)) d) =
+        later (j - (n + 1)) d (omega (arith, length-drop (n + 1) arcs)) in
         let P : Edge → Type 0 = λ z. ClosesSquare g z (get_or arcs j d) in
         subst P is (rw moved at both))
     | inr other ↦ before i j d (omega arith) less inside
@@ -73,9 +83,15 @@ module _ (g : StateGraph) (s : ℕ) (arcs : List Edge) (out : AreOut g s arcs) w
       let x_is : get_or arcs i.0 x ≡ x = i.2 in
       let y_is : get_or arcs j.0 x ≡ y = get_or_default arcs j.0 x y j.1 ∙ j.2 in
       let less : i.0 < j.0 = elim (cases_order i.0 j.0) [
-        | inl same ↦ absurd (omega (arith, order, ap (λ (z : Edge). event_place z.event) (sym x_is ∙ ap (λ (k : ℕ). get_or arcs k x) same ∙ y_is)))
+        | inl same ↦ absurd (omega (
+          arith,
+          order,
+          ap (λ (z : Edge). event_place z.event) (sym x_is ∙ ap (λ (k : ℕ). get_or arcs k x) same ∙ y_is),
+        ))
         | inr (inl before_it) ↦ before_it
-        | inr (inr after_it) ↦ (let rises = rw (x_is, y_is) at (out_rises g s arcs out j.0 i.0 x after_it i.1) in absurd (omega arith))
+        | inr (inr after_it) ↦ (
+            let rises = rw (x_is, y_is) at (out_rises g s arcs out j.0 i.0 x after_it i.1) in
+            absurd (omega arith))
       ] in
       rw (x_is, y_is) at (before i.0 j.0 x (omega (arith, i.1)) less j.1)
 
@@ -86,7 +102,8 @@ module _ (g : StateGraph) (s : ℕ) (arcs : List Edge) (out : AreOut g s arcs) w
       rw (get_or-drop n arcs k d) (out_signal g s arcs out (n + k) y inside (get_or_default arcs (n + k) d y inside))
 
   -- a later arc has a later event
-  later_event : IsDeterministic g → (i j : ℕ) (d : Edge) → i < j → j < length arcs → event_place (get_or arcs i d).event < event_place (get_or arcs j d).event
+  later_event : IsDeterministic g → (i j : ℕ) (d : Edge) → i < j → j < length arcs
+      → event_place (get_or arcs i d).event < event_place (get_or arcs j d).event
   later_event det i j d less within =
       let x = get_or arcs i d in
       let y = get_or arcs j d in
@@ -94,16 +111,19 @@ module _ (g : StateGraph) (s : ℕ) (arcs : List Edge) (out : AreOut g s arcs) w
       elim (cases_eq (event_place x.event) (event_place y.event)) [
         | inl tied ↦ (
             let event : x.event ≡ y.event = event_same x.event y.event tied in
-            let to_x : Step g s x.event x.to = out_item g s arcs out i x (omega arith) (get_or_default arcs i d x (omega arith)) in
+            let to_x : Step g s x.event x.to =
+            out_item g s arcs out i x (omega arith) (get_or_default arcs i d x (omega arith)) in
             let to_y : Step g s y.event y.to = out_item g s arcs out j y within (get_or_default arcs j d y within) in
             let moved : Step g s y.event x.to = subst (λ (e : Event). Step g s e x.to) event to_x in
-            let from : x.from ≡ y.from = out_from g s arcs out i d (omega arith) ∙ sym (out_from g s arcs out j d within) in
+            let from : x.from ≡ y.from =
+            out_from g s arcs out i d (omega arith) ∙ sym (out_from g s arcs out j d within) in
             let lower = to_lt x y (sorted_at edge_cmp arcs out.ordered i j d less within) from event in
             absurd (omega (arith, det s y.event x.to y.to moved to_y)))
         | inr other ↦ omega arith
       ]
 
-  pub each_closes : IsDeterministic g → (n : ℕ) (x : Edge) → n < length arcs → x ≡ get_or arcs n x → ClosesSquares g s → All (ClosesSquare g x) (drop (n + 1) arcs)
+  pub each_closes : IsDeterministic g → (n : ℕ) (x : Edge) → n < length arcs → x ≡ get_or arcs n x → ClosesSquares g s
+      → All (ClosesSquare g x) (drop (n + 1) arcs)
   each_closes det n x within at closes k d below =
       let j : ℕ = (n + 1) + k in
       let inside : j < length arcs = omega (arith, length-drop (n + 1) arcs) in
@@ -131,6 +151,10 @@ no_loss g s closes b is =
     let u = loses.after.0 in
     elim (cases_order (event_place b.lost) (event_place b.by)) [
       | inl tied ↦ loses.by_another (event_same b.lost b.by tied)
-      | inr (inl less) ↦ (let square = closes (arc b.s b.lost t.0) (arc b.s b.by u) t.1 loses.after.1 is.at is.at less in loses.after.2 (square.one_stays loses.non_input))
-      | inr (inr more) ↦ (let square = closes (arc b.s b.by u) (arc b.s b.lost t.0) loses.after.1 t.1 is.at is.at more in loses.after.2 (square.other_stays loses.non_input))
+      | inr (inl less) ↦ (
+          let square = closes (arc b.s b.lost t.0) (arc b.s b.by u) t.1 loses.after.1 is.at is.at less in
+          loses.after.2 (square.one_stays loses.non_input))
+      | inr (inr more) ↦ (
+          let square = closes (arc b.s b.by u) (arc b.s b.lost t.0) loses.after.1 t.1 is.at is.at more in
+          loses.after.2 (square.other_stays loses.non_input))
     ]

@@ -17,8 +17,10 @@ told_breach (AsLoss b) = Nonpersistent b.s b.lost b.by
 
 abbrev pub ShowsImproper : StateGraph → Improper → Type 0
 ShowsImproper g NoProper = Unit {0}
-ShowsImproper g (Noncommutative s a c w w2) = IsFirst fork_place (Forks g) (record { s = s; a = a; c = c; w = w; w2 = w2 })
-ShowsImproper g (Nonpersistent s lost by) = IsCommutative g × IsFirst loss_place (Loses g) (record { s = s; lost = lost; by = by })
+ShowsImproper g (Noncommutative s a c w w2) =
+    IsFirst fork_place (Forks g) (record { s = s; a = a; c = c; w = w; w2 = w2 })
+ShowsImproper g (Nonpersistent s lost by) =
+    IsCommutative g × IsFirst loss_place (Loses g) (record { s = s; lost = lost; by = by })
 
 abbrev pub ShowsConflict : CodedGraph → NotDistinct → Type 0
 ShowsConflict c NoDistinct = Unit {0}

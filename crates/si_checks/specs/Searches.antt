@@ -18,7 +18,8 @@ IsOneOrNone P None = (x : _) → P x → ⊥
 IsOneOrNone P (Some x) = P x
 
 -- t leads by c, and u by a, to two different states
-pub record EndsApart (g : StateGraph) (t : ℕ) (c : Event) (u : ℕ) (a : Event) (ends : ℕ × ℕ) : Type 0 where
+pub record EndsApart (g : StateGraph) (t : ℕ) (c : Event) (u : ℕ) (a : Event)
+    (ends : ℕ × ℕ) : Type 0 where
   pub one : Step g t c ends.0
   pub other : Step g u a ends.1
   pub apart : ends.0 ≢ ends.1
@@ -29,7 +30,8 @@ pub record IsAt {A : Type 0} (state : A → ℕ) (P : A → Type 0) (s : ℕ) (b
   pub at : state b ≡ s
 
 -- and what has the event e too
-pub record IsBy {A : Type 0} (state : A → ℕ) (event : A → Event) (P : A → Type 0) (s : ℕ) (e : Event) (b : A) : Type 0 where
+pub record IsBy {A : Type 0} (state : A → ℕ) (event : A → Event) (P : A → Type 0) (s : ℕ)
+    (e : Event) (b : A) : Type 0 where
   pub holds : P b
   pub at : state b ≡ s
   pub by : event b ≡ e
@@ -75,7 +77,8 @@ pub record Differ (g : StateGraph) (p q : ℕ) : Type 0 where
   pub non_input : IsNonInput g.signals event.sig
   pub differ : enables g p event ≢ enables g q event
 
--- of a pair that may have been found and another the one that starts earlier, the found one where both start at one state
+-- of a pair that may have been found and another the one that starts earlier, the found one where
+-- both start at one state
 abbrev pub Keeps : Option (ℕ × ℕ) → ℕ × ℕ → ℕ × ℕ → Type 0
 Keeps None pair r = r ≡ pair
 Keeps (Some best) pair r = (best.0 ≤ pair.0 → r ≡ best) × (pair.0 < best.0 → r ≡ pair)

@@ -14,8 +14,8 @@ use std::collections::BTreeMap;
 
 /// The first two states of equal code that enable different non-input events.
 ///
-/// States are compared with the first state of their code alone: if two states are a conflict, one of them differs from
-/// that state, so the first conflict has the first state of a code.
+/// States are compared with the first state of their code alone: if two states are a conflict, one
+/// of them differs from that state, so the first conflict has the first state of a code.
 pub fn first_conflict(alloc: Global, coded: &Coded) -> Result<Option<(StateId, StateId)>, NoMemory>
     ensures { IfOk result (IsFirstOrNone pair_place (IsConflict coded.now)) }
 {
@@ -40,7 +40,8 @@ fn first_of_code(
 ) -> Result<StateId, NoMemory>
     ensures found { IfOk result (λ p. p ≡ unwrap_or (get nat_cmp firsts.old code) s) }
     ensures there { IfOk result (λ p. get nat_cmp firsts.new code ≡ Some p) }
-    ensures others { OnOk result ((k : ℕ) → k ≢ code → get nat_cmp firsts.new k ≡ get nat_cmp firsts.old k) }
+    ensures others { OnOk result
+        ((k : ℕ) → k ≢ code → get nat_cmp firsts.new k ≡ get nat_cmp firsts.old k) }
 {
     Ok(*firsts.entry(code)?.or_insert(s))
 }

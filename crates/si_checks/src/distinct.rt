@@ -20,7 +20,8 @@ pub struct Distinct<'a> {
 pub enum NotDistinct {
     /// Out of memory.
     NoMemory,
-    /// The states `p` and `q`, the earlier first, have one code and enable different non-input events.
+    /// The states `p` and `q`, the earlier first, have one code and enable different non-input
+    /// events.
     Conflict { p: StateId, q: StateId },
 }
 

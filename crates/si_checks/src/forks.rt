@@ -10,7 +10,8 @@ use si_base::ids::{Event, StateId};
 use si_graph::graph::Graph;
 use std::marker::Model;
 
-/// A state `s` that leads by `a` and then `c` to `w`, and by `c` and then `a` to another state `w2`.
+/// A state `s` that leads by `a` and then `c` to `w`, and by `c` and then `a` to another state
+/// `w2`.
 #[derive(Clone, Copy)]
 pub struct Fork {
     pub s: StateId,
@@ -68,7 +69,8 @@ fn first_fork_by(graph: &Graph, x: Edge) -> Option<Fork>
     None
 }
 
-/// The two states to which the targets of two arcs lead by the other arc's event, where these states differ.
+/// The two states to which the targets of two arcs lead by the other arc's event, where these
+/// states differ.
 fn ends_apart(graph: &Graph, x: Edge, y: Edge) -> Option<(StateId, StateId)>
     requires { IsDeterministic graph.now }
     ensures { IsOneOrNone (EndsApart graph.now x.to y.event y.to x.event) result }

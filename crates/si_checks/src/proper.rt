@@ -34,7 +34,8 @@ impl Model for Proper {
 pub enum Improper {
     /// Out of memory.
     NoMemory,
-    /// The state `s` leads by `a` and then `c` to `w`, and by `c` and then `a` to another state `w2`.
+    /// The state `s` leads by `a` and then `c` to `w`, and by `c` and then `a` to another state
+    /// `w2`.
     Noncommutative {
         s: StateId,
         a: Event,
@@ -53,8 +54,9 @@ pub enum Improper {
 impl Proper {
     ghost use Rattle.si_checks.specs.Faults.{ShowsImproper};
 
-    /// The graph where it is proper, or the first breach of commutativity, or else of output persistency: the book's
-    /// conditions for a speed-independent circuit, but that an input may be disabled. The coded graph comes back.
+    /// The graph where it is proper, or the first breach of commutativity, or else of output
+    /// persistency: the book's conditions for a speed-independent circuit, but that an input may
+    /// be disabled. The coded graph comes back.
     pub fn make(_alloc: Global, coded: Coded) -> Result<Proper, (Coded, Improper)>
         ensures same { IfOk result (λ p. p ≡ coded) }
         ensures proper { IfOk result (λ p. IsProper p.graph) }

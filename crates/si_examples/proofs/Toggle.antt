@@ -33,11 +33,18 @@ falls = record {
   named = refl;
   old_value = refl;
   new_values = refl;
-  may = (record { gate = (record { name = codes "a"; kind = Output }, refl, refl); differs = λ same. cc }, record { step = (0, lit< tt, refl); least = λ u step. leb-true 1 u (one_target u step) });
+  may = (
+    record {
+      gate = (record { name = codes "a"; kind = Output }, refl, refl);
+      differs = λ same. cc;
+    },
+    record { step = (0, lit< tt, refl); least = λ u step. leb-true 1 u (one_target u step) },
+  );
 }
   where
     one_target : (u : ℕ) → Step toggle 0 (fall 0) u → nat_le 1 u ≡ true
-    one_target u step = all_arcs (λ a. not ((a.from == 0) && same_event a.event (fall 0)) || nat_le 1 a.to) toggle 0 (fall 0) u refl step
+    one_target u step = all_arcs (λ a. not ((a.from == 0) && same_event a.event (fall 0)) || nat_le 1 a.to)
+        toggle 0 (fall 0) u refl step
 
 no_other : (z : ℕ) → Loses constant 1 0 0 z → ⊥
 no_other zero loses = loses.other refl

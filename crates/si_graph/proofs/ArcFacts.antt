@@ -20,7 +20,9 @@ abbrev pub edge_eq : Edge → Edge → Bool
 edge_eq x y = eqb x.from y.from && ((eqb x.event.sig y.event.sig && beq x.event.up y.event.up) && eqb x.to y.to)
 
 pub edge_eq_equiv : IsEquivalence edge_eq
-edge_eq_equiv = and_equiv (on_equiv (λ a. a.from) nat_eq_equiv) (and_equiv (and_equiv (on_equiv (λ a. a.event.sig) nat_eq_equiv) (on_equiv (λ a. a.event.up) bool_eq_equiv)) (on_equiv (λ a. a.to) nat_eq_equiv))
+edge_eq_equiv = and_equiv (on_equiv (λ a. a.from) nat_eq_equiv)
+    (and_equiv (and_equiv (on_equiv (λ a. a.event.sig) nat_eq_equiv) (on_equiv (λ a. a.event.up) bool_eq_equiv))
+    (on_equiv (λ a. a.to) nat_eq_equiv))
 
 is_eq-then : (o p : Ordering) → is_eq (ordering_then o p) ≡ (is_eq o && is_eq p)
 is_eq-then Less p = refl

@@ -15,11 +15,13 @@ is_first P low high k first below = record {
   none_before = first.none_before;
 }
 
-none_at_end : (P : ℕ → Type 0) (low high k : ℕ) → IsFirstOrEnd P low high k → high ≤ k → (j : ℕ) → low ≤ j → j < high → P j → ⊥
+none_at_end : (P : ℕ → Type 0) (low high k : ℕ) → IsFirstOrEnd P low high k → high ≤ k → (j : ℕ)
+    → low ≤ j → j < high → P j → ⊥
 none_at_end P low high k first past j from below = first.none_before j from (omega arith)
 
 -- what stands at such a place is the first that has P, and the end stands for none
-pub place_of : (P : ℕ → Type 0) (low high k : ℕ) (r : Option ℕ) → IsFirstOrEnd P low high k → MatchOption r (high ≤ k) (λ j. (j ≡ k) × (j < high)) → IsFirstPlace P low high r
+pub place_of : (P : ℕ → Type 0) (low high k : ℕ) (r : Option ℕ) → IsFirstOrEnd P low high k
+    → MatchOption r (high ≤ k) (λ j. (j ≡ k) × (j < high)) → IsFirstPlace P low high r
 place_of P low high k None first past = none_at_end P low high k first past
 place_of P low high k (Some j) first is =
     let First : ℕ → Type 0 = λ n. IsFirstFrom P low high n in
@@ -34,7 +36,8 @@ at_itself P high k up_to holds = record {
   none_before = λ j from before is. absurd (omega arith);
 }
 
-from_one_less : (P : ℕ → Type 0) (low high k : ℕ) → (P low → ⊥) → IsFirstOrEnd P (low + 1) high k → IsFirstOrEnd P low high k
+from_one_less : (P : ℕ → Type 0) (low high k : ℕ) → (P low → ⊥) → IsFirstOrEnd P (low + 1) high k
+    → IsFirstOrEnd P low high k
 from_one_less P low high k none first = record {
   from = omega (arith, first.from);
   up_to = first.up_to;
@@ -47,37 +50,46 @@ from_one_less P low high k none first = record {
 
 module _ (end_of : Edge → ℕ) (states : ℕ) (edges : List Edge) where
   -- ---- no arc is linked yet
-  pub linked_none : (count : ℕ) → count ≡ length edges → AreLinked end_of states edges count (replicate states count) (replicate count count)
+  pub linked_none : (count : ℕ) → count ≡ length edges
+      → AreLinked end_of states edges count (replicate states count) (replicate count count)
   linked_none count is = record {
     heads_count = length-replicate states count;
     nexts_count = length-replicate count count ∙ is;
-    heads_are = λ s within. rw (get_or-replicate states s count 0 within) (at_itself (λ j. end_of (edge_at edges j) ≡ s) (length edges) count (omega arith) (λ below. absurd (omega arith)));
+    heads_are = λ s within. rw (get_or-replicate states s count 0 within) (at_itself (λ j. end_of (edge_at edges j) ≡ s)
+        (length edges) count (omega arith) (λ below. absurd (omega arith)));
     nexts_are = λ k from within. absurd (omega arith);
   }
 
   -- ---- one more arc, in front of the others
-  pub linked_more : (k s : ℕ) (heads nexts : List ℕ) → AreLinked end_of states edges (k + 1) heads nexts → k < length edges → s ≡ end_of (edge_at edges k) → s < states
+  pub linked_more : (k s : ℕ) (heads nexts : List ℕ) → AreLinked end_of states edges (k + 1) heads nexts
+      → k < length edges → s ≡ end_of (edge_at edges k) → s < states
       → AreLinked end_of states edges k (set heads s k) (set nexts k (get_or heads s 0))
   linked_more k s heads nexts linked within is below = record {
     heads_count = length-set heads s k ∙ linked.heads_count;
     nexts_count = length-set nexts k (get_or heads s 0) ∙ linked.nexts_count;
     heads_are = λ t there. elim (cases_eq t s) [
-      | inl same ↦ rw (same, get_or-set_same heads s k 0 (omega (arith, linked.heads_count))) (at_itself (λ j. end_of (edge_at edges j) ≡ s) (length edges) k (omega arith) (λ _. sym is))
-      | inr other ↦ rw (get_or-set_other heads s t k 0 other) (from_one_less (λ j. end_of (edge_at edges j) ≡ t) k (length edges) (get_or heads t 0) (λ at. other (sym at ∙ sym is)) (linked.heads_are t there))
+      | inl same ↦ rw (same, get_or-set_same heads s k 0 (omega (arith, linked.heads_count)))
+          (at_itself (λ j. end_of (edge_at edges j) ≡ s) (length edges) k (omega arith) (λ _. sym is))
+      | inr other ↦ rw (get_or-set_other heads s t k 0 other) (from_one_less (λ j. end_of (edge_at edges j) ≡ t) k
+          (length edges) (get_or heads t 0) (λ at. other (sym at ∙ sym is)) (linked.heads_are t there))
     ];
     nexts_are = λ j from inside. elim (cases_eq j k) [
-      | inl same ↦ rw (same, get_or-set_same nexts k (get_or heads s 0) 0 (omega (arith, linked.nexts_count))) (first_next)
+      | inl same ↦
+          rw (same, get_or-set_same nexts k (get_or heads s 0) 0 (omega (arith, linked.nexts_count))) (first_next)
       | inr other ↦ rw (get_or-set_other nexts k j (get_or heads s 0) 0 other) (linked.nexts_are j (omega arith) inside)
     ];
   }
     where
-      first_next : IsFirstOrEnd (λ j. end_of (edge_at edges j) ≡ end_of (edge_at edges k)) (k + 1) (length edges) (get_or heads s 0)
+      first_next : IsFirstOrEnd (λ j. end_of (edge_at edges j) ≡ end_of (edge_at edges k)) (k + 1)
+          (length edges) (get_or heads s 0)
       first_next =
-          let P : ℕ → Type 0 = λ t. IsFirstOrEnd (λ j. end_of (edge_at edges j) ≡ t) (k + 1) (length edges) (get_or heads s 0) in
+          let P : ℕ → Type 0 =
+          λ t. IsFirstOrEnd (λ j. end_of (edge_at edges j) ≡ t) (k + 1) (length edges) (get_or heads s 0) in
           subst P is (linked.heads_are s below)
 
   -- ---- the first place of any state, also of one that isn't there
-  pub head_is : (heads nexts : List ℕ) (s last : ℕ) → AreLinked end_of states edges 0 heads nexts → last ≡ length edges → All (λ a. end_of a < states) edges
+  pub head_is : (heads nexts : List ℕ) (s last : ℕ) → AreLinked end_of states edges 0 heads nexts → last ≡ length edges
+      → All (λ a. end_of a < states) edges
       → IsFirstOrEnd (λ j. end_of (edge_at edges j) ≡ s) 0 (length edges) (get_or heads s last)
   head_is heads nexts s last linked is within = elim (cases_lt s states) [
     | inl below ↦ rw (get_or_default heads s last 0 (omega (arith, linked.heads_count))) (linked.heads_are s below)

@@ -26,7 +26,8 @@ past_idle : (g : StateGraph) (a : ℕ) → IsGraph g → length g.signals ≤ a 
 past_idle g a is past s e t step own = let within = step_within g s e t is step in omega (arith, within.1)
 
 -- codes that suit all arcs at a signal are values of it
-suited_values : (g : StateGraph) (codes : List ℕ) (a : ℕ) → TellsValues g codes → SuitAll g.edges codes a → AreValues g a (λ s. bit (slice_index codes s) a)
+suited_values : (g : StateGraph) (codes : List ℕ) (a : ℕ) → TellsValues g codes → SuitAll g.edges codes a
+    → AreValues g a (λ s. bit (slice_index codes s) a)
 suited_values g codes a tells suit = record {
   rises = λ s t step. let suits = at s (rise a) t step in (suits.before refl, suits.after refl);
   falls = λ s t step. let suits = at s (fall a) t step in (suits.before refl, suits.after refl);
@@ -35,10 +36,12 @@ suited_values g codes a tells suit = record {
 }
   where
     at : (s : ℕ) (e : Event) (t : ℕ) → Step g s e t → Suits (slice_index codes s) (slice_index codes t) e a
-    at s e t step = All-contains (λ (x : Edge). Suits (slice_index codes x.from) (slice_index codes x.to) x.event a) g.edges (arc s e t) suit step
+    at s e t step = All-contains (λ (x : Edge). Suits (slice_index codes x.from) (slice_index codes x.to) x.event a)
+        g.edges (arc s e t) suit step
 
 -- and where it has values, the codes suit all arcs
-values_suit : (g : StateGraph) (codes : List ℕ) (a : ℕ) → IsGraph g → TellsValues g codes → HasValues g a → SuitAll g.edges codes a
+values_suit : (g : StateGraph) (codes : List ℕ) (a : ℕ) → IsGraph g → TellsValues g codes → HasValues g a
+    → SuitAll g.edges codes a
 values_suit g codes a is tells has k d within =
     let x = get_or g.edges k d in
     let v = has.0 in
@@ -50,7 +53,8 @@ values_suit g codes a is tells has k d within =
     λ same. subst (λ (n : ℕ). Step g x.from (record { sig = n; up = x.event.up }) x.to) same step in
     record {
       before = λ same. from ∙ old_value g a v x.from x.to x.event.up has.1 (own same);
-      after = λ same. to ∙ turns g a v x.from x.to x.event.up has.1 (own same) ∙ ap not (old_value g a v x.from x.to x.event.up has.1 (own same)) ∙ twice x.event.up;
+      after = λ same. to ∙ turns g a v x.from x.to x.event.up has.1 (own same)
+          ∙ ap not (old_value g a v x.from x.to x.event.up has.1 (own same)) ∙ twice x.event.up;
       kept = λ other. to ∙ has.1.keeps x.from x.to x.event other step ∙ sym from;
     }
   where
@@ -58,7 +62,9 @@ values_suit g codes a is tells has k d within =
     twice true = refl
     twice false = refl
 
-pub coded_from : (g : StateGraph) (codes : List ℕ) → IsGraph g → IsConnected g → IsDeterministic g → length codes ≡ g.states → TellsValues g codes → ((a : ℕ) → SuitAll g.edges codes a) → IsCoded (record { graph = g; codes = codes })
+pub coded_from : (g : StateGraph) (codes : List ℕ) → IsGraph g → IsConnected g → IsDeterministic g
+    → length codes ≡ g.states → TellsValues g codes → ((a : ℕ) → SuitAll g.edges codes a)
+    → IsCoded (record { graph = g; codes = codes })
 coded_from g codes is connected deterministic count tells suit = record {
   graph_is = is;
   connected = connected;
@@ -67,12 +73,15 @@ coded_from g codes is connected deterministic count tells suit = record {
   values = λ a within. suited_values g codes a tells (suit a);
   no_more = λ k d within.
       let below : k < g.states = omega (arith, count) in
-      let fits : slice_index codes k < 2 ^ length g.signals = fits_from_bits (slice_index codes k) (length g.signals) (λ i past. tells i (λ n. false) (idle_values g i (past_idle g i is past)) k below) in
+      let fits : slice_index codes k < 2 ^ length g.signals =
+      fits_from_bits (slice_index codes k) (length g.signals)
+      (λ i past. tells i (λ n. false) (idle_values g i (past_idle g i is past)) k below) in
       let P : ℕ → Type 0 = λ n. n < 2 ^ length g.signals in
       subst P (get_or_default codes k 0 d within) fits;
 }
 
-pub first_without : (g : StateGraph) (codes : List ℕ) (a : ℕ) → IsGraph g → TellsValues g codes → IsFirstUnsuited g.edges codes a → IsFirstWithoutValues g a
+pub first_without : (g : StateGraph) (codes : List ℕ) (a : ℕ) → IsGraph g → TellsValues g codes
+    → IsFirstUnsuited g.edges codes a → IsFirstWithoutValues g a
 first_without g codes a is tells first = record {
   within = elim (cases_lt a (length g.signals)) [
     | inl below ↦ below

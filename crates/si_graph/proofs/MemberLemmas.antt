@@ -26,7 +26,8 @@ module _ {X : Type 0} where
     ]
   ]
 
-  pub Contains-from_filter : (p : X → Bool) (xs : List X) (y : X) → Contains (filter p xs) y → Contains xs y × (p y ≡ true)
+  pub Contains-from_filter : (p : X → Bool) (xs : List X) (y : X) → Contains (filter p xs) y
+      → Contains xs y × (p y ≡ true)
   Contains-from_filter p [] y there = absurd (Contains-nil y there)
   Contains-from_filter p (x ∷ xs) y there = elim (cases_Bool (p x)) [
     | inl yes_x ↦ elim (Contains-cons_cases x (filter p xs) y (rw yes_x at there)) [

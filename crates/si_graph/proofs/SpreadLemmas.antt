@@ -38,7 +38,8 @@ along_push [] e = refl
 along_push (f ∷ es) e = ap (λ k. flip k f.sig) (along_push es e) ∙ flip_swap (parity es) e.sig f.sig
 
 -- the change of a state that s leads to
-pub change_more : (g : StateGraph) (s t change : ℕ) (e : Event) → IsChange g s change → Step g s e t → IsChange g t (flip change e.sig)
+pub change_more : (g : StateGraph) (s t change : ℕ) (e : Event) → IsChange g s change → Step g s e t
+    → IsChange g t (flip change e.sig)
 change_more g s t change e is step = record {
   events = is.events ++ e ∷ [];
   walk = Walk-push g is.events g.start s t e is.walk step;
@@ -52,32 +53,38 @@ in_below reached s there = elim (cases_lt s (length reached)) [
   | inr past ↦ absurd (true≢false (sym there ∙ get_or_past reached s false past))
 ]
 
-leads_more : (g : StateGraph) (reached : List Bool) (s u : ℕ) → s < length reached → LeadsInto g u reached → LeadsInto g u (slice_set reached s true)
+leads_more : (g : StateGraph) (reached : List Bool) (s u : ℕ) → s < length reached → LeadsInto g u reached
+    → LeadsInto g u (slice_set reached s true)
 leads_more g reached s u within into e t step = stays_in reached s t within (into e t step)
 
-pub spread_more : (g : StateGraph) (reached : List Bool) (changes waiting rest : List ℕ) (s change : ℕ) (reached' : List Bool) (changes' waiting' : List ℕ)
+pub spread_more : (g : StateGraph) (reached : List Bool) (changes waiting rest : List ℕ) (s change : ℕ)
+    (reached' : List Bool) (changes' waiting' : List ℕ)
     → s < g.states → IsChange g s change → AreSpread g reached changes (waiting ++ rest)
     → reached' ≡ slice_set reached s true
     → changes' ≡ (if slice_index_or reached s false then changes else slice_set changes s change)
     → waiting' ≡ (if slice_index_or reached s false then waiting else waiting ++ s ∷ [])
     → AreSpread g reached' changes' (waiting' ++ rest) × (left_to_do reached' waiting' ≤ left_to_do reached waiting)
-spread_more g reached changes waiting rest s change reached' changes' waiting' within is spread reached_is changes_is waiting_is = elim (cases_Bool (slice_index_or reached s false)) [
-  | inl known ↦ (
-      let r : reached' ≡ reached = reached_is ∙ ap (slice_set reached s) (sym known) ∙ set-get_or reached s false in
-      let k : changes' ≡ changes = rw known at changes_is in
-      let w : waiting' ≡ waiting = rw known at waiting_is in
-      rw (r, k, w) (spread, omega arith))
-  | inr fresh ↦ (
-      let k : changes' ≡ slice_set changes s change = rw fresh at changes_is in
-      let w : waiting' ≡ waiting ++ s ∷ [] = rw fresh at waiting_is in
-      rw (reached_is, k, w) (added fresh, less fresh))
-]
+spread_more g reached changes waiting rest s change reached' changes' waiting' within is spread
+    reached_is changes_is waiting_is =
+    elim (cases_Bool (slice_index_or reached s false)) [
+      | inl known ↦ (
+          let r : reached' ≡ reached = reached_is ∙ ap (slice_set reached s) (sym known) ∙ set-get_or reached s false in
+          let k : changes' ≡ changes = rw known at changes_is in
+          let w : waiting' ≡ waiting = rw known at waiting_is in
+          rw (r, k, w) (spread, omega arith))
+      | inr fresh ↦ (
+          let k : changes' ≡ slice_set changes s change = rw fresh at changes_is in
+          let w : waiting' ≡ waiting ++ s ∷ [] = rw fresh at waiting_is in
+          rw (reached_is, k, w) (added fresh, less fresh))
+    ]
   where
     in_range : s < length reached
     in_range = omega (arith, spread.size)
 
-    less : slice_index_or reached s false ≡ false → left_to_do (slice_set reached s true) (waiting ++ s ∷ []) ≤ left_to_do reached waiting
-    less fresh = omega (arith, length_push waiting s, rw fresh at (sum_by-set (λ x. cond (not x) 1 0) reached s true false in_range))
+    less : slice_index_or reached s false ≡ false
+        → left_to_do (slice_set reached s true) (waiting ++ s ∷ []) ≤ left_to_do reached waiting
+    less fresh = omega
+        (arith, length_push waiting s, rw fresh at (sum_by-set (λ x. cond (not x) 1 0) reached s true false in_range))
 
     apart : slice_index_or reached s false ≡ false → (t : ℕ) → IsIn reached t → t ≢ s
     apart fresh t there same = true≢false (sym there ∙ ap (λ n. slice_index_or reached n false) same ∙ fresh)
@@ -97,7 +104,8 @@ spread_more g reached changes waiting rest s change reached' changes' waiting' w
       | inr late ↦ inl (Contains-append_right waiting rest t late)
     ]
 
-    added : slice_index_or reached s false ≡ false → AreSpread g (slice_set reached s true) (slice_set changes s change) ((waiting ++ s ∷ []) ++ rest)
+    added : slice_index_or reached s false ≡ false
+        → AreSpread g (slice_set reached s true) (slice_set changes s change) ((waiting ++ s ∷ []) ++ rest)
     added fresh = record {
       size = length-set reached s true ∙ spread.size;
       count = length-set changes s change ∙ spread.count;
@@ -120,20 +128,24 @@ spread_more g reached changes waiting rest s change reached' changes' waiting' w
     }
 
 -- ---- the arcs out of a state
-pub step_out : (g : StateGraph) (s : ℕ) (arcs : List Edge) (i : ℕ) (x : Edge) → AreOut g s arcs → i < length arcs → x ≡ get_or arcs i x → Step g s x.event x.to
+pub step_out : (g : StateGraph) (s : ℕ) (arcs : List Edge) (i : ℕ) (x : Edge) → AreOut g s arcs → i < length arcs
+    → x ≡ get_or arcs i x → Step g s x.event x.to
 step_out g s arcs i x out within at =
     let both = (out.exactly x).0 (i, within, sym at) in
     subst (λ (n : ℕ). Step g n x.event x.to) both.1 both.0
 
-pub into_more : (arcs : List Edge) (i : ℕ) (x : Edge) (reached reached' : List Bool) → i < length arcs → x ≡ get_or arcs i x → x.to < length reached → reached' ≡ slice_set reached x.to true
+pub into_more : (arcs : List Edge) (i : ℕ) (x : Edge) (reached reached' : List Bool) → i < length arcs
+    → x ≡ get_or arcs i x → x.to < length reached → reached' ≡ slice_set reached x.to true
     → All (λ a. IsIn reached a.to) (take i arcs) → All (λ a. IsIn reached' a.to) (take (i + 1) arcs)
 into_more arcs i x reached reached' within at below is into =
     rw is (All-more (λ (a : Edge). IsIn (slice_set reached x.to true) a.to) arcs i x within
-    (All-weaker (λ (a : Edge). IsIn reached a.to) (λ (a : Edge). IsIn (slice_set reached x.to true) a.to) (λ a there. stays_in reached x.to a.to below there) (take i arcs) into)
+    (All-weaker (λ (a : Edge). IsIn reached a.to) (λ (a : Edge). IsIn (slice_set reached x.to true) a.to)
+    (λ a there. stays_in reached x.to a.to below there) (take i arcs) into)
     (subst (λ (a : Edge). IsIn (slice_set reached x.to true) a.to) at (get_or-set_same reached x.to true false below)))
 
 -- once its arcs were followed a state doesn't wait any more
-pub spread_done : (g : StateGraph) (reached : List Bool) (changes waiting : List ℕ) (s : ℕ) (arcs : List Edge) (n : ℕ) → AreOut g s arcs → length arcs ≤ n → All (λ a. IsIn reached a.to) (take n arcs)
+pub spread_done : (g : StateGraph) (reached : List Bool) (changes waiting : List ℕ) (s : ℕ) (arcs : List Edge) (n : ℕ)
+    → AreOut g s arcs → length arcs ≤ n → All (λ a. IsIn reached a.to) (take n arcs)
     → AreSpread g reached changes (waiting ++ s ∷ []) → AreSpread g reached changes waiting
 spread_done g reached changes waiting s arcs n out all into spread = record {
   size = spread.size;
@@ -154,14 +166,18 @@ spread_done g reached changes waiting s arcs n out all into spread = record {
     each = rw (take_all n arcs all) at into
 
     own : LeadsInto g s reached
-    own e t step = All-contains (λ (a : Edge). IsIn reached a.to) arcs (arc s e t) each ((out.exactly (arc s e t)).1 (step, refl))
+    own e t step =
+        All-contains (λ (a : Edge). IsIn reached a.to) arcs (arc s e t) each ((out.exactly (arc s e t)).1 (step, refl))
 
 -- ---- at the end
-all_reached : (g : StateGraph) (reached : List Bool) → ((s : ℕ) → IsIn reached s → LeadsInto g s reached) → (es : List Event) (s t : ℕ) → IsIn reached s → Walk g s es t → IsIn reached t
+all_reached : (g : StateGraph) (reached : List Bool) → ((s : ℕ) → IsIn reached s → LeadsInto g s reached)
+    → (es : List Event) (s t : ℕ) → IsIn reached s → Walk g s es t → IsIn reached t
 all_reached g reached closed [] s t here walk = subst (λ (x : ℕ). IsIn reached x) walk here
-all_reached g reached closed (e ∷ es) s t here walk = all_reached g reached closed es walk.0 t (closed s here e walk.0 walk.1) walk.2
+all_reached g reached closed (e ∷ es) s t here walk =
+    all_reached g reached closed es walk.0 t (closed s here e walk.0 walk.1) walk.2
 
-pub spread_over : (g : StateGraph) (reached : List Bool) (changes waiting : List ℕ) → IsConnected g → AreSpread g reached changes waiting → waiting ≡ [] → AreChanges g changes
+pub spread_over : (g : StateGraph) (reached : List Bool) (changes waiting : List ℕ) → IsConnected g
+    → AreSpread g reached changes waiting → waiting ≡ [] → AreChanges g changes
 spread_over g reached changes waiting connected spread none = record {
   count = spread.count;
   changes_are = λ s within. let walk = connected s within in

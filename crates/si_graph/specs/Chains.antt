@@ -1,4 +1,5 @@
--- Arcs in two chains each: the arcs out of its source, and the arcs into its target, linked by their places.
+-- Arcs in two chains each: the arcs out of its source, and the arcs into its target, linked by
+-- their places.
 use Rattle.std.specs.Prelude.{◌≡◌, ℕ, ◌+◌, ◌<◌, ◌≤◌, ◌^◌, List, length, All, slice_index}
 use Rattle.std.specs.List.Sorted.{IsStrictlySortedBy}
 use Rattle.si_base.specs.declared.graph.Edge.{Edge}
@@ -18,13 +19,17 @@ pub record IsFirstOrEnd (P : ℕ → Type 0) (low high k : ℕ) : Type 0 where
   pub holds : k < high → P k
   pub none_before : (j : ℕ) → low ≤ j → j < k → P j → ⊥
 
--- the places of the arcs from `low` on are linked by the state `end_of` an arc: heads has the first place of each state,
--- nexts has for each place the next one of its state, and the number of arcs ends a chain
-pub record AreLinked (end_of : Edge → ℕ) (states : ℕ) (edges : List Edge) (low : ℕ) (heads nexts : List ℕ) : Type 0 where
+-- the places of the arcs from `low` on are linked by the state `end_of` an arc: heads has the first
+-- place of each state, nexts has for each place the next one of its state, and the number of arcs
+-- ends a chain
+pub record AreLinked (end_of : Edge → ℕ) (states : ℕ) (edges : List Edge) (low : ℕ)
+    (heads nexts : List ℕ) : Type 0 where
   pub heads_count : length heads ≡ states
   pub nexts_count : length nexts ≡ length edges
-  pub heads_are : (s : ℕ) → s < states → IsFirstOrEnd (λ j. end_of (edge_at edges j) ≡ s) low (length edges) (slice_index heads s)
-  pub nexts_are : (k : ℕ) → low ≤ k → k < length edges → IsFirstOrEnd (λ j. end_of (edge_at edges j) ≡ end_of (edge_at edges k)) (k + 1) (length edges) (slice_index nexts k)
+  pub heads_are : (s : ℕ) → s < states
+      → IsFirstOrEnd (λ j. end_of (edge_at edges j) ≡ s) low (length edges) (slice_index heads s)
+  pub nexts_are : (k : ℕ) → low ≤ k → k < length edges → IsFirstOrEnd (λ j. end_of (edge_at edges j)
+      ≡ end_of (edge_at edges k)) (k + 1) (length edges) (slice_index nexts k)
 
 -- the two states of an arc
 abbrev pub source : Edge → ℕ
@@ -39,7 +44,8 @@ pub record AreStored (states : ℕ) (edges : List Edge) : Type 0 where
   pub within : All (λ a. (a.from < states) × (a.to < states)) edges
   pub ordered : IsStrictlySortedBy edge_cmp edges
 
--- the arcs are stored, each linked to the next one out of its source and to the next one into its target
+-- the arcs are stored, each linked to the next one out of its source and to the next one into its
+-- target
 pub record AreChained (states : ℕ) (edges : List Edge) (out into : Chain) : Type 0 where
   pub stored : AreStored states edges
   pub out_linked : AreLinked source states edges 0 out.heads.items out.nexts.items

@@ -21,7 +21,8 @@ abbrev pub LeadsInto : StateGraph → ℕ → List Bool → Type 0
 LeadsInto g s reached = (e : Event) (t : ℕ) → Step g s e t → IsIn reached t
 
 -- the changes of the states that were reached; those whose arcs weren't followed yet are waiting
-pub record AreSpread (g : StateGraph) (reached : List Bool) (changes waiting : List ℕ) : Type 0 where
+pub record AreSpread (g : StateGraph) (reached : List Bool)
+    (changes waiting : List ℕ) : Type 0 where
   pub size : length reached ≡ g.states
   pub count : length changes ≡ g.states
   pub begun : IsIn reached g.start
@@ -29,6 +30,7 @@ pub record AreSpread (g : StateGraph) (reached : List Bool) (changes waiting : L
   pub waiting_reached : (s : ℕ) → Contains waiting s → IsIn reached s
   pub followed : (s : ℕ) → IsIn reached s → Contains waiting s ⊎ LeadsInto g s reached
 
--- how much is left to do: each state that wasn't reached is reached and followed, each that waits is followed
+-- how much is left to do: each state that wasn't reached is reached and followed, each that waits
+-- is followed
 abbrev pub left_to_do : List Bool → List ℕ → ℕ
 left_to_do reached waiting = 2 * unmarked reached + length waiting

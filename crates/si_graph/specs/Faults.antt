@@ -8,5 +8,6 @@ use Rattle.si_graph.specs.declared.coded.CodeFault.TheVariants.{NoMemory, Nondet
 
 abbrev pub ShowsUncoded : StateGraph → CodeFault → Type 0
 ShowsUncoded g NoMemory = Unit {0}
-ShowsUncoded g (Nondeterministic s e t u) = IsFirst split_place (Splits g) (record { s = s; e = e; t = t; u = u })
+ShowsUncoded g (Nondeterministic s e t u) =
+    IsFirst split_place (Splits g) (record { s = s; e = e; t = t; u = u })
 ShowsUncoded g (Inconsistent a) = IsDeterministic g × IsFirstWithoutValues g a

@@ -9,11 +9,16 @@ pub record Renames (marks : List Bool) (bound : ℕ) (kept places : List ℕ) : 
   pub members : (t : ℕ) → Contains kept t ↔ ((t < bound) × IsIn marks t)
   pub few : length kept ≤ bound
   pub size : length places ≡ bound
-  pub places_are : (t : ℕ) → t < bound → IsIn marks t → slice_get kept (slice_index places t) ≡ Some t
+  pub places_are : (t : ℕ) → t < bound → IsIn marks t
+      → slice_get kept (slice_index places t) ≡ Some t
 
 -- the arc between the places of its states
 abbrev pub renamed : List ℕ → Edge → Edge
-renamed places a = record { from = slice_index places a.from; event = a.event; to = slice_index places a.to }
+renamed places a = record {
+  from = slice_index places a.from;
+  event = a.event;
+  to = slice_index places a.to;
+}
 
 -- the arc leaves a marked state
 abbrev pub leaves_marked : List Bool → Edge → Bool

@@ -13,9 +13,11 @@ IsStartCode g start = (a : ℕ) (v : ℕ → Bool) → AreValues g a v → bit s
 
 -- wherever a signal has values, the codes tell them
 abbrev pub TellsValues : StateGraph → List ℕ → Type 0
-TellsValues g codes = (a : ℕ) (v : ℕ → Bool) → AreValues g a v → (s : ℕ) → s < g.states → bit (slice_index codes s) a ≡ v s
+TellsValues g codes = (a : ℕ) (v : ℕ → Bool) → AreValues g a v → (s : ℕ) → s < g.states
+    → bit (slice_index codes s) a ≡ v s
 
--- the values of signal a in the codes from and to suit an arc by the event: its own event switches it, and others keep it
+-- the values of signal a in the codes from and to suit an arc by the event: its own event switches
+-- it, and others keep it
 pub record Suits (from to : ℕ) (e : Event) (a : ℕ) : Type 0 where
   pub before : e.sig ≡ a → bit from a ≡ not e.up
   pub after : e.sig ≡ a → bit to a ≡ e.up
@@ -27,7 +29,8 @@ HasPlaces codes x = (x.from < length codes) × (x.event.sig < code_width) × (x.
 
 -- the codes suit each of the arcs at signal a
 abbrev pub SuitAll : List Edge → List ℕ → ℕ → Type 0
-SuitAll arcs codes a = All (λ x. Suits (slice_index codes x.from) (slice_index codes x.to) x.event a) arcs
+SuitAll arcs codes a =
+    All (λ x. Suits (slice_index codes x.from) (slice_index codes x.to) x.event a) arcs
 
 -- a is the first signal at which the codes don't suit each of the arcs
 pub record IsFirstUnsuited (arcs : List Edge) (codes : List ℕ) (a : ℕ) : Type 0 where

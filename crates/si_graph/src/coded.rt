@@ -12,7 +12,8 @@ use si_base::ids::{Code, Event, NoMemory, Sig, StateId};
 use std::alloc::Global;
 use std::marker::Model;
 
-/// A deterministic and consistent graph, each state of which is reachable, with the codes of its states.
+/// A deterministic and consistent graph, each state of which is reachable, with the codes of its
+/// states.
 #[derive(Drop)]
 pub struct Coded {
     graph: Graph,
@@ -61,8 +62,8 @@ impl From<NoMemory> for CodeFault {
 impl Coded {
     ghost use Rattle.si_graph.specs.Faults.{ShowsUncoded};
 
-    /// The graph with its codes, or the first breach of determinism, or else of consistency (the book's consistent state
-    /// assignment). The graph comes back.
+    /// The graph with its codes, or the first breach of determinism, or else of consistency (the
+    /// book's consistent state assignment). The graph comes back.
     pub fn make(alloc: Global, graph: Graph) -> Result<Coded, (Graph, CodeFault)>
         requires { IsConnected graph }
         ensures same { IfOk result (λ c. c.graph ≡ graph) }
@@ -96,7 +97,8 @@ impl Coded {
     /// The codes of the states, or the first breach of determinism, or else of consistency.
     fn codes_of(alloc: Global, graph: &Graph) -> Result<Vec<Code>, CodeFault>
         requires { IsConnected graph.now }
-        ensures coded { IfOk result (λ codes. IsCoded (record { graph = graph.now; codes = codes.items })) }
+        ensures coded { IfOk result
+            (λ codes. IsCoded (record { graph = graph.now; codes = codes.items })) }
         ensures fault { IfErr result (ShowsUncoded graph.now) }
     {
         if let Some((one, other)) = first_split(graph) {

@@ -12,7 +12,9 @@ use si_base::graph::Edge;
 ///
 /// Arcs are ordered by source, event and target, so the first such arcs are neighbours.
 pub fn first_split(graph: &Graph) -> Option<(Edge, Edge)>
-    ensures { MatchOption result (IsDeterministic graph.now) (λ arcs. IsFirst split_place (Splits graph.now) (record { s = arcs.0.from; e = arcs.0.event; t = arcs.0.to; u = arcs.1.to })) }
+    ensures { MatchOption result (IsDeterministic graph.now)
+        (λ arcs. IsFirst split_place (Splits graph.now)
+        (record { s = arcs.0.from; e = arcs.0.event; t = arcs.0.to; u = arcs.1.to })) }
 {
     let arcs = graph.arcs();
     for k in 1..arcs.len() {

@@ -39,7 +39,8 @@ pub(crate) fn renamed_arcs(
 ) -> Result<Vec<Edge>, NoMemory>
     requires within { All (λ a. (a.from < length set.now) × (a.to < length set.now)) arcs.now }
     requires places { length places.now ≡ length set.now }
-    ensures { IfOk result (λ v. v.items ≡ map (renamed places.now) (filter (leaves_marked set.now) arcs.now)) }
+    ensures { IfOk result
+        (λ v. v.items ≡ map (renamed places.now) (filter (leaves_marked set.now) arcs.now)) }
 {
     let mut out = Vec::new(alloc);
     for arc in arcs {

@@ -1,4 +1,5 @@
-//! Each call once on its happy path, on a toggling signal with a state that isn't reachable, and walks on the C-element.
+//! Each call once on its happy path, on a toggling signal with a state that isn't reachable, and
+//! walks on the C-element.
 
 ghost use Rattle.std.specs.Prelude.{◌≡◌, IfOk, length};
 
@@ -24,7 +25,8 @@ const FALL: Event = Event {
     up: false,
 };
 
-/// The state 0 leads by `a+` to 2, and 2 by `a-` to 0, or by `a+` where `last_up` says so; the state 1 leads to both.
+/// The state 0 leads by `a+` to 2, and 2 by `a-` to 0, or by `a+` where `last_up` says so; the
+/// state 1 leads to both.
 fn toggle(alloc: Global, last_up: bool) -> Result<Graph, NoMemory> {
     let last = Event {
         sig: Sig(0),

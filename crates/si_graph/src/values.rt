@@ -57,7 +57,8 @@ fn changed(start: Code, change: Code) -> Code
 
 /// The codes of all states, from that of the start and their changes.
 fn shifted(alloc: Global, changes: &[Code], start: Code) -> Result<Vec<Code>, NoMemory>
-    ensures { IfOk result (λ codes. codes.items ≡ map (λ change. bit_xor change start) changes.now) }
+    ensures { IfOk result
+        (λ codes. codes.items ≡ map (λ change. bit_xor change start) changes.now) }
 {
     let codes = changes.iter().map(|change| changed(start, *change));
     Ok(codes.collect(alloc)?)
@@ -90,7 +91,8 @@ fn wrong_signals(arcs: &[Edge], codes: &[Code]) -> u128
 /// The first signal whose values in the codes don't suit some arc.
 pub fn first_wrong(arcs: &[Edge], codes: &[Code]) -> Option<Sig>
     requires { All (HasPlaces codes.now) arcs.now }
-    ensures { MatchOption result ((a : ℕ) → SuitAll arcs.now codes.now a) (IsFirstUnsuited arcs.now codes.now) }
+    ensures { MatchOption result ((a : ℕ) → SuitAll arcs.now codes.now a)
+        (IsFirstUnsuited arcs.now codes.now) }
 {
     let wrong = wrong_signals(arcs, codes);
     if wrong == 0 {

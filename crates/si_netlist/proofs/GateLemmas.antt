@@ -12,11 +12,13 @@ use Rattle.si_netlist.specs.declared.gate.Gate.{Gate}
 use Rattle.si_netlist.specs.Parts.{gate_seen}
 
 -- one more signal
-count_step : (p : Signal → Bool) (x : Signal) (xs : List Signal) (driven : Bool) → p x ≡ driven → length (filter p (x ∷ xs)) ≡ (if driven then 1 else 0) + length (filter p xs)
+count_step : (p : Signal → Bool) (x : Signal) (xs : List Signal) (driven : Bool) → p x ≡ driven
+    → length (filter p (x ∷ xs)) ≡ (if driven then 1 else 0) + length (filter p xs)
 count_step p x xs true e = rw e (omega arith)
 count_step p x xs false e = rw e (omega arith)
 
-pub gate_place-length : (xs : List Signal) (z : ℕ) → gate_place xs z ≡ length (filter (λ x. is_driven x.kind) (take z xs))
+pub gate_place-length : (xs : List Signal) (z : ℕ)
+    → gate_place xs z ≡ length (filter (λ x. is_driven x.kind) (take z xs))
 gate_place-length [] zero = refl
 gate_place-length [] (suc z) = refl
 gate_place-length (x ∷ xs) zero = refl
@@ -28,7 +30,8 @@ pub gate_place-count_by : (xs : List Signal) (z : ℕ) → gate_place xs z ≡ c
 gate_place-count_by xs z = gate_place-length xs z ∙ length-filter (λ x. is_driven x.kind) (take z xs)
 
 -- the place of a non-input is below their number
-place_of_driven : (xs : List Signal) (z : ℕ) (x : Signal) → slice_get xs z ≡ Some x → is_driven x.kind ≡ true → gate_place xs z < length (filter (λ y. is_driven y.kind) xs)
+place_of_driven : (xs : List Signal) (z : ℕ) (x : Signal) → slice_get xs z ≡ Some x → is_driven x.kind ≡ true
+    → gate_place xs z < length (filter (λ y. is_driven y.kind) xs)
 place_of_driven [] z x here driven = cc
 place_of_driven (y ∷ xs) zero x here driven =
     let same : y ≡ x = cc in
@@ -39,23 +42,28 @@ place_of_driven (y ∷ xs) (suc z) x here driven =
     let rest = place_of_driven xs z x here driven in
     omega (arith, step, rest)
 
-pub gate_place-lt : (xs : List Signal) (z : ℕ) → IsNonInput xs z → gate_place xs z < length (filter (λ x. is_driven x.kind) xs)
+pub gate_place-lt : (xs : List Signal) (z : ℕ) → IsNonInput xs z
+    → gate_place xs z < length (filter (λ x. is_driven x.kind) xs)
 gate_place-lt xs z there = place_of_driven xs z there.0 there.1 there.2
 
 pub within_signals : (xs : List Signal) (z : ℕ) → IsNonInput xs z → z < length xs
 within_signals xs z there = slice_get_within xs z there.0 there.1
 
 -- the gate of a non-input is there
-pub gate_place-within : (n : Netlist) (gates : List Gate) (z : ℕ) → IsNetlist n → IsNonInput n.signals z → map gate_seen gates ≡ n.gates
+pub gate_place-within : (n : Netlist) (gates : List Gate) (z : ℕ) → IsNetlist n → IsNonInput n.signals z
+    → map gate_seen gates ≡ n.gates
     → gate_place n.signals z < length gates
 gate_place-within n gates z netlist there same =
     let below = gate_place-lt n.signals z there in
     omega (arith, below, netlist.gate_count, length-map gates gate_seen, ap length same)
 
 -- the value of the gate that is read at its place
-pub gate_value-read : (n : Netlist) (gates : List Gate) (place z values : ℕ) (gate : Gate) → map gate_seen gates ≡ n.gates → place ≡ gate_place n.signals z
+pub gate_value-read : (n : Netlist) (gates : List Gate) (place z values : ℕ) (gate : Gate)
+    → map gate_seen gates ≡ n.gates → place ≡ gate_place n.signals z
     → place < length gates → gate ≡ get_or gates place gate → value_of (gate_seen gate) z values ≡ gate_value n z values
 gate_value-read n gates place z values gate same at within is =
-    let there : slice_get gates place ≡ Some gate = slice_get-get_or gates place gate within ∙ ap (λ (g : Gate). Some g) (sym is) in
-    let seen : slice_get n.gates (gate_place n.signals z) ≡ Some (gate_seen gate) = rw (← same, ← at) (slice_get-map gate_seen gates place ∙ ap (option_map gate_seen) there) in
+    let there : slice_get gates place ≡ Some gate =
+    slice_get-get_or gates place gate within ∙ ap (λ (g : Gate). Some g) (sym is) in
+    let seen : slice_get n.gates (gate_place n.signals z) ≡ Some (gate_seen gate) =
+    rw (← same, ← at) (slice_get-map gate_seen gates place ∙ ap (option_map gate_seen) there) in
     rw seen refl

@@ -20,7 +20,8 @@ pub not_when : (c : Bool) (k : TextKind) → when c k ≡ None → c ≡ false
 not_when false k h = refl
 not_when true k h = absurd cc
 
-here_then : (n : ℕ) (o : Option TextKind) (later : Option (ℕ × TextKind)) → (at_line n o otherwise later) ≡ None → (o ≡ None) × (later ≡ None)
+here_then : (n : ℕ) (o : Option TextKind) (later : Option (ℕ × TextKind)) → (at_line n o otherwise later) ≡ None
+    → (o ≡ None) × (later ≡ None)
 here_then n None later h = (refl, h)
 here_then n (Some k) later h = absurd cc
 
@@ -28,7 +29,8 @@ never : (n : ℕ) (c : Bool) (k : TextKind) → at_line n (when c k otherwise So
 never n true k h = cc
 never n false k h = cc
 
-pub fits : (n : ℕ) (forms : List Form) (lines : List (List ℕ)) (tail : List ℕ) → lines_fault n forms lines tail ≡ None → (tail ≡ []) × Fits forms lines
+pub fits : (n : ℕ) (forms : List Form) (lines : List (List ℕ)) (tail : List ℕ) → lines_fault n forms lines tail ≡ None
+    → (tail ≡ []) × Fits forms lines
 fits n [] [] [] none = (refl, tt)
 fits n [] [] (b ∷ t) none = absurd cc
 fits n [] (l ∷ ls) tail none = absurd cc
@@ -39,13 +41,15 @@ fits n (f ∷ fs) (l ∷ ls) tail none =
     let later = fits (n + 1) fs ls tail parts.1 in
     (later.0, ((not_when _ _ line.0, line.1), later.1))
 
-pub no_fault : (n : ℕ) (forms : List Form) (lines : List (List ℕ)) → Fits forms lines → lines_fault n forms lines [] ≡ None
+pub no_fault : (n : ℕ) (forms : List Form) (lines : List (List ℕ)) → Fits forms lines
+    → lines_fault n forms lines [] ≡ None
 no_fault n [] [] fit = refl
 no_fault n [] (l ∷ ls) fit = absurd fit
 no_fault n (f ∷ fs) [] fit = absurd fit
 no_fault n (f ∷ fs) (l ∷ ls) fit = rw (fit.0.0, fit.0.1) (no_fault (n + 1) fs ls fit.1)
 
-pub fits_map : {X : Type 0} (f : X → Form) (xs : List X) (gs : List Form) (lines : List (List ℕ)) → Fits (map f xs ++ gs) lines → Fits (map f xs) (take (length xs) lines) × Fits gs (drop (length xs) lines)
+pub fits_map : {X : Type 0} (f : X → Form) (xs : List X) (gs : List Form) (lines : List (List ℕ))
+    → Fits (map f xs ++ gs) lines → Fits (map f xs) (take (length xs) lines) × Fits gs (drop (length xs) lines)
 fits_map f [] gs lines fit = (tt, fit)
 fits_map f (x ∷ xs) gs [] fit = absurd fit
 fits_map f (x ∷ xs) gs (l ∷ ls) fit =

@@ -19,7 +19,8 @@ text_back (b ∷ bs) none = elim (cases_Bool (b == 10)) [
   | inr goes ↦ rw goes (longer (ended bs) (tail_of bs) (rw goes at none) (text_back bs))
 ]
   where
-    longer : (lines : List (List ℕ)) (tail : List ℕ) → (if not (is_empty lines) then tail else b ∷ tail) ≡ [] → (tail ≡ [] → bs ≡ flat_map closed lines) → b ∷ bs ≡ flat_map closed (onto_head b lines)
+    longer : (lines : List (List ℕ)) (tail : List ℕ) → (if not (is_empty lines) then tail else b ∷ tail) ≡ []
+        → (tail ≡ [] → bs ≡ flat_map closed lines) → b ∷ bs ≡ flat_map closed (onto_head b lines)
     longer [] tail none go = absurd cc
     longer (l ∷ ls) tail none go = ap (λ (cs : List ℕ). b ∷ cs) (go none)
 
@@ -39,13 +40,17 @@ pub tail_line : (line rest : List ℕ) → NoEnd line → tail_of (line ++ 10 �
 tail_line [] rest clean = refl
 tail_line (b ∷ bs) rest clean = rw (clean.0, ended_line bs rest clean.1) (tail_line bs rest clean.1)
 
-pub ended_text : (lines : List (List (List ℕ))) → LinesClean lines → ended (text_of lines) ≡ map (join_with_byte 32) lines
+pub ended_text : (lines : List (List (List ℕ))) → LinesClean lines
+    → ended (text_of lines) ≡ map (join_with_byte 32) lines
 ended_text [] clean = refl
-ended_text (ws ∷ lines) clean = ap ended (append_assoc (join_with_byte 32 ws) (10 ∷ []) (text_of lines)) ∙ ended_line (join_with_byte 32 ws) (text_of lines) (no_end_join ws clean.0) ∙ ap (λ (ls : List (List ℕ)). join_with_byte 32 ws ∷ ls) (ended_text lines clean.1)
+ended_text (ws ∷ lines) clean = ap ended (append_assoc (join_with_byte 32 ws) (10 ∷ []) (text_of lines))
+    ∙ ended_line (join_with_byte 32 ws) (text_of lines) (no_end_join ws clean.0)
+    ∙ ap (λ (ls : List (List ℕ)). join_with_byte 32 ws ∷ ls) (ended_text lines clean.1)
 
 pub tail_text : (lines : List (List (List ℕ))) → LinesClean lines → tail_of (text_of lines) ≡ []
 tail_text [] clean = refl
-tail_text (ws ∷ lines) clean = ap tail_of (append_assoc (join_with_byte 32 ws) (10 ∷ []) (text_of lines)) ∙ tail_line (join_with_byte 32 ws) (text_of lines) (no_end_join ws clean.0) ∙ tail_text lines clean.1
+tail_text (ws ∷ lines) clean = ap tail_of (append_assoc (join_with_byte 32 ws) (10 ∷ []) (text_of lines))
+    ∙ tail_line (join_with_byte 32 ws) (text_of lines) (no_end_join ws clean.0) ∙ tail_text lines clean.1
 
 -- ---- bytes of words
 abbrev pub IsDark : List ℕ → Type 0
@@ -58,7 +63,8 @@ dark_byte b good other =
     let apart : b ≡ 32 → ⊥ = eqb-false b 32 other in
     and_from _ _ (le-leb 33 b (omega arith)) parts.1
 
-onto_dark : (b : ℕ) (parts : List (List ℕ)) → is_between 33 126 b ≡ true → AllByRecursion IsDark parts → AllByRecursion IsDark (onto_first b parts)
+onto_dark : (b : ℕ) (parts : List (List ℕ)) → is_between 33 126 b ≡ true → AllByRecursion IsDark parts
+    → AllByRecursion IsDark (onto_first b parts)
 onto_dark b [] dark all = (rw dark refl, tt)
 onto_dark b (p ∷ ps) dark all = (rw dark all.0, all.1)
 

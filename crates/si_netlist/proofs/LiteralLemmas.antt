@@ -15,7 +15,8 @@ use Rattle.si_words.specs.Writing.{spaced}
 pub literals_left : List Signal → ℕ → ℕ → ℕ → List ℕ
 literals_left signals care value i = spaced (map (literal_word signals) (literals_from (code_width - i) i care value))
 
-pub literals_left_all : (signals : List Signal) (care value : ℕ) → literals_left signals care value 0 ≡ spaced (map (literal_word signals) (literals_of care value))
+pub literals_left_all : (signals : List Signal) (care value : ℕ)
+    → literals_left signals care value 0 ≡ spaced (map (literal_word signals) (literals_of care value))
 unfolding literals_left literals_of
 literals_left_all signals care value = refl
 
@@ -23,14 +24,16 @@ pub literals_left_none : (signals : List Signal) (care value : ℕ) → literals
 unfolding literals_left
 literals_left_none signals care value = refl
 
-pub literals_skip : (signals : List Signal) (care value i : ℕ) → i < code_width → bit care i ≡ false → literals_left signals care value (i + 1) ≡ literals_left signals care value i
+pub literals_skip : (signals : List Signal) (care value i : ℕ) → i < code_width → bit care i ≡ false
+    → literals_left signals care value (i + 1) ≡ literals_left signals care value i
 unfolding literals_left
 literals_skip signals care value i within absent =
     let more : code_width - i ≡ suc (code_width - (i + 1)) = omega arith in
     rw more (rw absent refl)
 
 pub literals_more : (signals : List Signal) (care value i : ℕ) (text : List ℕ) → i < code_width → bit care i ≡ true
-    → (text ++ 32 ∷ literal_word signals (record { sig = i; plain = bit value i })) ++ literals_left signals care value (i + 1) ≡ text ++ literals_left signals care value i
+    → (text ++ 32 ∷ literal_word signals (record { sig = i; plain = bit value i }))
+    ++ literals_left signals care value (i + 1) ≡ text ++ literals_left signals care value i
 unfolding literals_left
 literals_more signals care value i text within here =
     let more : code_width - i ≡ suc (code_width - (i + 1)) = omega arith in
@@ -41,7 +44,8 @@ unfolding literals_of
 none_of_zero value = refl
 
 -- a cube that cares for nothing has the word 1
-pub cube_none : (signals : List Signal) (care value : ℕ) (text : List ℕ) → care ≡ 0 → text ++ 32 ∷ 49 ∷ [] ≡ text ++ spaced (cube_words signals (literals_of care value))
+pub cube_none : (signals : List Signal) (care value : ℕ) (text : List ℕ) → care ≡ 0
+    → text ++ 32 ∷ 49 ∷ [] ≡ text ++ spaced (cube_words signals (literals_of care value))
 cube_none signals care value text none = rw (none, none_of_zero value) refl
 
 no_bit : (n i care value j : ℕ) → literals_from n i care value ≡ [] → i ≤ j → j < i + n → bit care j ≡ false
@@ -65,13 +69,16 @@ zero_from_test b small other =
 cares_for_none : (care value : ℕ) → care < 2 ^ code_width → literals_of care value ≡ [] → care ≡ 0
 unfolding literals_of
 cares_for_none care value small none =
-    same_from_bits_below code_width care 0 small (lit< tt) (λ i within. zero_from_test (bit_at care i) (bit_at-lt care i) (no_bit code_width 0 care value i none (omega arith) (omega arith)) ∙ sym (bit_at-zero i))
+    same_from_bits_below code_width care 0 small (lit< tt) (λ i within. zero_from_test (bit_at care i)
+    (bit_at-lt care i) (no_bit code_width 0 care value i none (omega arith) (omega arith)) ∙ sym (bit_at-zero i))
 
-words_of_some : (signals : List Signal) (cube : List Literal) → cube ≢ [] → map (literal_word signals) cube ≡ cube_words signals cube
+words_of_some : (signals : List Signal) (cube : List Literal) → cube ≢ []
+    → map (literal_word signals) cube ≡ cube_words signals cube
 words_of_some signals [] some = absurd (some refl)
 words_of_some signals (l ∷ ls) some = refl
 
 -- a cube that cares for some signal has the words of its literals
 pub cube_some : (signals : List Signal) (care value : ℕ) → care < 2 ^ code_width → care ≢ 0
     → map (literal_word signals) (literals_of care value) ≡ cube_words signals (literals_of care value)
-cube_some signals care value small some = words_of_some signals (literals_of care value) (λ none. some (cares_for_none care value small none))
+cube_some signals care value small some =
+    words_of_some signals (literals_of care value) (λ none. some (cares_for_none care value small none))

@@ -20,15 +20,18 @@ module _ (signals : List (List ℕ)) where
   words_after prior [] = None
   words_after prior (w ∷ ws) = word_after prior w otherwise words_after (Some w) ws
 
-  by_last : (before words : List (List ℕ)) → first_after (literal_fault signals) before words ≡ words_after (last_of before) words
+  by_last : (before words : List (List ℕ))
+      → first_after (literal_fault signals) before words ≡ words_after (last_of before) words
   by_last before [] = refl
-  by_last before (w ∷ ws) = ap (λ (o : Option TextKind). word_after (last_of before) w otherwise o) (by_last (before ++ w ∷ []) ws ∙ ap (λ (l : Option (List ℕ)). words_after l ws) (last_pushed before w))
+  by_last before (w ∷ ws) = ap (λ (o : Option TextKind). word_after (last_of before) w otherwise o)
+      (by_last (before ++ w ∷ []) ws ∙ ap (λ (l : Option (List ℕ)). words_after l ws) (last_pushed before w))
 
   pub sum_is : (words : List (List ℕ)) → sum_fault signals words ≡ words_after None words
   sum_is words = by_last [] words
 
   -- after a mark, as after nothing
-  pub after_mark : (mark : List ℕ) (words : List (List ℕ)) → is_mark mark ≡ true → words_after (Some mark) words ≡ words_after None words
+  pub after_mark : (mark : List ℕ) (words : List (List ℕ)) → is_mark mark ≡ true
+      → words_after (Some mark) words ≡ words_after None words
   after_mark mark [] is = refl
   after_mark mark (w ∷ ws) is = rw is refl
 
@@ -38,7 +41,8 @@ module _ (signals : List (List ℕ)) where
       only : (m w : List ℕ) → is_literal m ≡ false → bytes_eq m w ≡ true → is_literal w ≡ true → ⊥
       only m w none e name = true≢false (sym name ∙ ap is_literal (sym ((bytes_eq-Decides m w).0 e)) ∙ none)
 
-      none_left : (w : List ℕ) → bytes_eq (codes "0") w ≡ false → bytes_eq (codes "1") w ≡ false → bytes_eq (codes "+") w ≡ false → bytes_eq (codes "|") w ≡ false → is_mark w ≡ true → ⊥
+      none_left : (w : List ℕ) → bytes_eq (codes "0") w ≡ false → bytes_eq (codes "1") w ≡ false
+          → bytes_eq (codes "+") w ≡ false → bytes_eq (codes "|") w ≡ false → is_mark w ≡ true → ⊥
       none_left w a b c d mark = true≢false (sym mark ∙ rw (a, b, c, d) refl)
 
       clash : (w : List ℕ) → is_mark w ≡ true → is_literal w ≡ true → ⊥
@@ -48,7 +52,10 @@ module _ (signals : List (List ℕ)) where
           | inl e ↦ only (codes "1") w refl e name
           | inr b ↦ elim (cases_Bool (bytes_eq (codes "+") w)) [
             | inl e ↦ only (codes "+") w refl e name
-            | inr c ↦ elim (cases_Bool (bytes_eq (codes "|") w)) [ inl e ↦ only (codes "|") w refl e name | inr d ↦ none_left w a b c d mark ]
+            | inr c ↦ elim (cases_Bool (bytes_eq (codes "|") w)) [
+              | inl e ↦ only (codes "|") w refl e name
+              | inr d ↦ none_left w a b c d mark
+            ]
           ]
         ]
       ]

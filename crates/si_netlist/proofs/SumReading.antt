@@ -30,9 +30,11 @@ module _ (signals : List (List ℕ)) where
   alone [] = refl
   alone (p ∷ ps) = ap (λ (o : Option TextKind). o otherwise first_in (sum_fault signals) ps) (sym (sum_is signals p))
 
-  onto : (prior : Option (List ℕ)) (w : List ℕ) (ps : List (List (List ℕ))) → by_parts prior (onto_first w ps) ≡ (word_after signals prior w otherwise by_parts (Some w) ps)
+  onto : (prior : Option (List ℕ)) (w : List ℕ) (ps : List (List (List ℕ)))
+      → by_parts prior (onto_first w ps) ≡ (word_after signals prior w otherwise by_parts (Some w) ps)
   onto prior w [] = otherwise_none _
-  onto prior w (p ∷ ps) = otherwise_assoc (word_after signals prior w) (words_after signals (Some w) p) (first_in (sum_fault signals) ps)
+  onto prior w (p ∷ ps) =
+      otherwise_assoc (word_after signals prior w) (words_after signals (Some w) p) (first_in (sum_fault signals) ps)
 
   plus_is : (w : List ℕ) → bytes_eq (codes "+") w ≡ true → is_mark w ≡ true
   plus_is w e = let same : codes "+" ≡ w = (bytes_eq-Decides (codes "+") w).0 e in rw (← same) refl
@@ -40,16 +42,20 @@ module _ (signals : List (List ℕ)) where
   mark_good : (prior : Option (List ℕ)) (mark : List ℕ) → is_mark mark ≡ true → word_after signals prior mark ≡ None
   mark_good prior mark is = rw is refl
 
-  split_plus : (w : List ℕ) (ws : List (List ℕ)) → bytes_eq (codes "+") w ≡ true → slice_split (bytes_eq (codes "+")) (w ∷ ws) ≡ [] ∷ slice_split (bytes_eq (codes "+")) ws
+  split_plus : (w : List ℕ) (ws : List (List ℕ)) → bytes_eq (codes "+") w ≡ true
+      → slice_split (bytes_eq (codes "+")) (w ∷ ws) ≡ [] ∷ slice_split (bytes_eq (codes "+")) ws
   split_plus w ws plus = rw plus refl
 
-  split_other : (w : List ℕ) (ws : List (List ℕ)) → bytes_eq (codes "+") w ≡ false → slice_split (bytes_eq (codes "+")) (w ∷ ws) ≡ onto_first w (slice_split (bytes_eq (codes "+")) ws)
+  split_other : (w : List ℕ) (ws : List (List ℕ)) → bytes_eq (codes "+") w ≡ false
+      → slice_split (bytes_eq (codes "+")) (w ∷ ws) ≡ onto_first w (slice_split (bytes_eq (codes "+")) ws)
   split_other w ws other = rw other refl
 
-  parts_fault : (prior : Option (List ℕ)) (ws : List (List ℕ)) → words_after signals prior ws ≡ by_parts prior (slice_split (bytes_eq (codes "+")) ws)
+  parts_fault : (prior : Option (List ℕ)) (ws : List (List ℕ))
+      → words_after signals prior ws ≡ by_parts prior (slice_split (bytes_eq (codes "+")) ws)
   parts_fault prior [] = refl
   parts_fault prior (w ∷ ws) = elim (cases_Bool (bytes_eq (codes "+") w)) [
-    | inl plus ↦ ap (λ (o : Option TextKind). o otherwise words_after signals (Some w) ws) (mark_good prior w (plus_is w plus))
+    | inl plus ↦ ap (λ (o : Option TextKind). o otherwise words_after signals (Some w) ws)
+        (mark_good prior w (plus_is w plus))
         ∙ after_mark signals w ws (plus_is w plus)
         ∙ parts_fault None ws
         ∙ alone (slice_split (bytes_eq (codes "+")) ws)
@@ -59,13 +65,18 @@ module _ (signals : List (List ℕ)) where
         ∙ ap (by_parts prior) (sym (split_other w ws other))
   ]
 
-  pub sum_by_cubes : (ws : List (List ℕ)) → sum_fault signals ws ≡ first_in (sum_fault signals) (parts_at (codes "+") ws)
+  pub sum_by_cubes : (ws : List (List ℕ))
+      → sum_fault signals ws ≡ first_in (sum_fault signals) (parts_at (codes "+") ws)
   sum_by_cubes ws = sum_is signals ws ∙ parts_fault None ws ∙ alone (slice_split (bytes_eq (codes "+")) ws)
 
   -- ---- two sums with a mark between them
-  both_sides : (prior : Option (List ℕ)) (xs ys : List (List ℕ)) (mark : List ℕ) → is_mark mark ≡ true → words_after signals prior (xs ++ mark ∷ ys) ≡ (words_after signals prior xs otherwise words_after signals None ys)
+  both_sides : (prior : Option (List ℕ)) (xs ys : List (List ℕ)) (mark : List ℕ)
+      → is_mark mark ≡ true → words_after signals prior (xs ++ mark ∷ ys)
+      ≡ (words_after signals prior xs otherwise words_after signals None ys)
   both_sides prior [] ys mark is = rw (mark_good prior mark is) (after_mark signals mark ys is)
-  both_sides prior (x ∷ xs) ys mark is = ap (λ (o : Option TextKind). word_after signals prior x otherwise o) (both_sides (Some x) xs ys mark is) ∙ sym (otherwise_assoc (word_after signals prior x) (words_after signals (Some x) xs) (words_after signals None ys))
+  both_sides prior (x ∷ xs) ys mark is =
+      ap (λ (o : Option TextKind). word_after signals prior x otherwise o) (both_sides (Some x) xs ys mark is) ∙ sym
+      (otherwise_assoc (word_after signals prior x) (words_after signals (Some x) xs) (words_after signals None ys))
 
   abbrev pub cut_of : List (List ℕ) → List (List ℕ) → Option (List (List ℕ) × List (List ℕ))
   cut_of a b = Some (a, b)
@@ -78,18 +89,22 @@ module _ (signals : List (List ℕ)) where
   right_half None = []
   right_half (Some (a, b)) = b
 
-  pub cut_told : (mark : List ℕ) → is_mark mark ≡ true → (words a b : List (List ℕ)) → cut_of a b ≡ cut_at mark words → sum_fault signals words ≡ (sum_fault signals a otherwise sum_fault signals b)
+  pub cut_told : (mark : List ℕ) → is_mark mark ≡ true → (words a b : List (List ℕ)) → cut_of a b ≡ cut_at mark words
+      → sum_fault signals words ≡ (sum_fault signals a otherwise sum_fault signals b)
   cut_told mark is words a b cut = elim (cases_Bool (nat_lt (len_before mark words) (length words))) [
     | inl within ↦
         let inside : position_or_len (bytes_eq mark) words < length words = ltb-true _ _ within in
         let m = get_or words (position_or_len (bytes_eq mark) words) [] in
         let found : mark ≡ m = (bytes_eq-Decides mark m).0 (passes_at_first (bytes_eq mark) words [] inside) in
-        let here : cut_of a b ≡ cut_of (before_first (bytes_eq mark) words) (after_first (bytes_eq mark) words) = cut ∙ rw within refl in
+        let here : cut_of a b ≡ cut_of (before_first (bytes_eq mark) words) (after_first (bytes_eq mark) words) =
+        cut ∙ rw within refl in
         let left : before_first (bytes_eq mark) words ≡ a = ap left_half (sym here) in
         let right : after_first (bytes_eq mark) words ≡ b = ap right_half (sym here) in
         sum_is signals words ∙ ap (words_after signals None) (split_at_first (bytes_eq mark) words [] inside)
-        ∙ both_sides None (before_first (bytes_eq mark) words) (after_first (bytes_eq mark) words) m (ap is_mark (sym found) ∙ is)
-        ∙ ap (λ (x : List (List ℕ)). words_after signals None x otherwise words_after signals None (after_first (bytes_eq mark) words)) left
+        ∙ both_sides None (before_first (bytes_eq mark) words) (after_first (bytes_eq mark) words) m
+        (ap is_mark (sym found) ∙ is)
+        ∙ ap (λ (x : List (List ℕ)). words_after signals None x
+        otherwise words_after signals None (after_first (bytes_eq mark) words)) left
         ∙ ap (λ (y : List (List ℕ)). words_after signals None a otherwise words_after signals None y) right
         ∙ ap (λ (o : Option TextKind). o otherwise words_after signals None b) (sym (sum_is signals a))
         ∙ ap (λ (o : Option TextKind). sum_fault signals a otherwise o) (sym (sum_is signals b))
@@ -100,10 +115,13 @@ module _ (signals : List (List ℕ)) where
       nowhere e = cc
 
 -- ---- what a sum is by its parts, where it isn't the word `0` alone
-pub sum_form : (words : List (List ℕ)) (parts : List (List (List ℕ))) (good : Bool) → is_one (codes "0") words ≡ false → parts ≡ parts_at (codes "+") words → list_all is_cube parts ≡ good → is_sum words ≡ good
+pub sum_form : (words : List (List ℕ)) (parts : List (List (List ℕ))) (good : Bool) → is_one (codes "0") words ≡ false
+    → parts ≡ parts_at (codes "+") words → list_all is_cube parts ≡ good → is_sum words ≡ good
 sum_form words parts good many are all = rw many (ap (list_all is_cube) (sym are) ∙ all)
 
-pub sum_value_is : (signals : List (List ℕ)) (words : List (List ℕ)) (parts : List (List (List ℕ))) → is_one (codes "0") words ≡ false → parts ≡ parts_at (codes "+") words → map (cube_of signals) parts ≡ sum_of signals words
+pub sum_value_is : (signals : List (List ℕ)) (words : List (List ℕ)) (parts : List (List (List ℕ)))
+    → is_one (codes "0") words ≡ false → parts ≡ parts_at (codes "+") words
+    → map (cube_of signals) parts ≡ sum_of signals words
 sum_value_is signals words parts many are = ap (map (cube_of signals)) are ∙ rw many refl
 
 -- ---- a generalised C-element, by its two sums
@@ -114,14 +132,19 @@ module _ (signals words a b : List (List ℕ)) (cut : cut_of signals a b ≡ cut
   gc_told : sum_fault signals words ≡ (sum_fault signals a otherwise sum_fault signals b)
   gc_told = cut_told signals (codes "|") refl words a b cut
 
-  pub set_bad : (kind : TextKind) → (is_sum a ≡ true) × (sum_fault signals a ≡ Some kind) → is_sum b ≡ true → (are_sums (cut_at (codes "|") words) ≡ true) × (sum_fault signals words ≡ Some kind)
+  pub set_bad : (kind : TextKind) → (is_sum a ≡ true) × (sum_fault signals a ≡ Some kind) → is_sum b ≡ true
+      → (are_sums (cut_at (codes "|") words) ≡ true) × (sum_fault signals words ≡ Some kind)
   set_bad kind set reset = (gc_form set.0 reset, gc_told ∙ rw set.1 refl)
 
-  pub reset_bad : (kind : TextKind) → (is_sum a ≡ true) → (sum_fault signals a ≡ None) → (is_sum b ≡ true) × (sum_fault signals b ≡ Some kind) → (are_sums (cut_at (codes "|") words) ≡ true) × (sum_fault signals words ≡ Some kind)
+  pub reset_bad : (kind : TextKind) → (is_sum a ≡ true) → (sum_fault signals a ≡ None)
+      → (is_sum b ≡ true) × (sum_fault signals b ≡ Some kind)
+      → (are_sums (cut_at (codes "|") words) ≡ true) × (sum_fault signals words ≡ Some kind)
   reset_bad kind set good reset = (gc_form set reset.0, gc_told ∙ rw (good, reset.1) refl)
 
-  pub gc_good : (set reset : Sum) → (is_sum a ≡ true) × (sum_fault signals a ≡ None) × (set ≡ sum_of signals a) → (is_sum b ≡ true) × (sum_fault signals b ≡ None) × (reset ≡ sum_of signals b)
-      → (are_sums (cut_at (codes "|") words) ≡ true) × (sum_fault signals words ≡ None) × (Gc set reset ≡ gc_of signals (cut_at (codes "|") words))
+  pub gc_good : (set reset : Sum) → (is_sum a ≡ true) × (sum_fault signals a ≡ None) × (set ≡ sum_of signals a)
+      → (is_sum b ≡ true) × (sum_fault signals b ≡ None) × (reset ≡ sum_of signals b)
+      → (are_sums (cut_at (codes "|") words) ≡ true) × (sum_fault signals words ≡ None)
+      × (Gc set reset ≡ gc_of signals (cut_at (codes "|") words))
   gc_good set reset one other = (
     gc_form one.0 other.0,
     gc_told ∙ rw (one.1, other.1) refl,

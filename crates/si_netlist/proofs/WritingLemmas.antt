@@ -43,11 +43,13 @@ inserts_from inserts i = text_of (map insert_line (drop i inserts))
 
 -- the digits from the i-th signal on
 bits_at : (signals : List Signal) (code i : ℕ) (x : Signal) (text : List ℕ) → i < length signals
-    → (text ++ (if bit code i then 49 else 48) ∷ []) ++ bits_from (i + 1) (drop (i + 1) signals) code ≡ text ++ bits_from i (drop i signals) code
+    → (text ++ (if bit code i then 49 else 48) ∷ []) ++ bits_from (i + 1) (drop (i + 1) signals) code
+    ≡ text ++ bits_from i (drop i signals) code
 bits_at signals code i x text within = rw (add-one, drop-cons signals i x) (rw add-one (simp append_assoc))
 
 pub bits_more : (signals : List Signal) (code i : ℕ) (text : List ℕ) → i < length signals
-    → (text ++ (if bit code i then 49 else 48) ∷ []) ++ bits_from (i + 1) (drop (i + 1) signals) code ≡ text ++ bits_from i (drop i signals) code
+    → (text ++ (if bit code i then 49 else 48) ∷ []) ++ bits_from (i + 1) (drop (i + 1) signals) code
+    ≡ text ++ bits_from i (drop i signals) code
 bits_more signals code i text within =
     elim (slice_get_cases signals i).1 [
       | inl there ↦ bits_at signals code i there.0 text within
@@ -58,74 +60,99 @@ bits_more signals code i text within =
 abbrev pub gates_from : List Signal → ℕ → List Gate → List ℕ
 gates_from signals i gates = text_of (gate_lines signals (drop i signals) gates)
 
-pub gates_skip : (signals : List Signal) (i : ℕ) (x : Signal) (gates : List Gate) → i < length signals → x ≡ get_or signals i x → is_driven x.kind ≡ false
+pub gates_skip : (signals : List Signal) (i : ℕ) (x : Signal) (gates : List Gate) → i < length signals
+    → x ≡ get_or signals i x → is_driven x.kind ≡ false
     → gates_from signals (i + 1) gates ≡ gates_from signals i gates
 gates_skip signals i x gates within is input =
     let at : slice_get signals i ≡ Some x = slice_get_read signals (length signals) i x refl within is in
     rw (add-one, drop-cons signals i x, ← is) (rw input refl)
 
-pub gates_more : (signals : List Signal) (i : ℕ) (x : Signal) (gate : Gate) (rest : List Gate) (text : List ℕ) → i < length signals → x ≡ get_or signals i x → is_driven x.kind ≡ true
-    → (text ++ line (x.name ∷ gate_words signals gate)) ++ gates_from signals (i + 1) rest ≡ text ++ gates_from signals i (gate ∷ rest)
+pub gates_more : (signals : List Signal) (i : ℕ) (x : Signal) (gate : Gate) (rest : List Gate) (text : List ℕ)
+    → i < length signals → x ≡ get_or signals i x → is_driven x.kind ≡ true
+    → (text ++ line (x.name ∷ gate_words signals gate)) ++ gates_from signals (i + 1) rest
+    ≡ text ++ gates_from signals i (gate ∷ rest)
 gates_more signals i x gate rest text within is driven =
     rw (add-one, drop-cons signals i x, ← is) (rw driven (simp append_assoc))
 
-seven_parts : (text a b c d e f g : List ℕ) → ((((((text ++ a) ++ b) ++ c) ++ d) ++ e) ++ f) ++ g ≡ text ++ ((a ++ (b ++ (c ++ (d ++ (e ++ f))))) ++ g)
+seven_parts : (text a b c d e f g : List ℕ)
+    → ((((((text ++ a) ++ b) ++ c) ++ d) ++ e) ++ f) ++ g ≡ text ++ ((a ++ (b ++ (c ++ (d ++ (e ++ f))))) ++ g)
 seven_parts text a b c d e f g = simp append_assoc
 
 insert_words : (name up down : List ℕ) (ups downs : List (List ℕ))
-    → spaced (name ∷ up ∷ (ups ++ down ∷ downs)) ≡ 32 ∷ (name ++ 32 ∷ (up ++ (spaced ups ++ 32 ∷ (down ++ spaced downs))))
-insert_words name up down ups downs = ap (λ (t : List ℕ). 32 ∷ (name ++ 32 ∷ (up ++ t))) (flat_map-append (λ (w : List ℕ). 32 ∷ w) ups (down ∷ downs))
+    → spaced (name ∷ up ∷ (ups ++ down ∷ downs))
+    ≡ 32 ∷ (name ++ 32 ∷ (up ++ (spaced ups ++ 32 ∷ (down ++ spaced downs))))
+insert_words name up down ups downs =
+    ap (λ (t : List ℕ). 32 ∷ (name ++ 32 ∷ (up ++ t))) (flat_map-append (λ (w : List ℕ). 32 ∷ w) ups (down ∷ downs))
 
 -- the words of an insertion, each as it is written
 pub insert_whole : (text : List ℕ) (i : Insertion)
-    → ((((((text ++ codes ".insert") ++ 32 ∷ i.name) ++ 32 ∷ codes "up") ++ spaced i.up) ++ 32 ∷ codes "down") ++ spaced i.down) ++ 10 ∷ [] ≡ text ++ line (insert_line i)
+    → ((((((text ++ codes ".insert") ++ 32 ∷ i.name) ++ 32 ∷ codes "up") ++ spaced i.up) ++ 32 ∷ codes "down")
+    ++ spaced i.down) ++ 10 ∷ [] ≡ text ++ line (insert_line i)
 insert_whole text i =
     let words : List (List ℕ) = i.name ∷ codes "up" ∷ (i.up ++ codes "down" ∷ i.down) in
-    seven_parts text (codes ".insert") (32 ∷ i.name) (32 ∷ codes "up") (spaced i.up) (32 ∷ codes "down") (spaced i.down) (10 ∷ [])
-    ∙ ap (λ (t : List ℕ). text ++ ((codes ".insert" ++ t) ++ 10 ∷ [])) (sym (insert_words i.name (codes "up") (codes "down") i.up i.down))
+    seven_parts text (codes ".insert") (32 ∷ i.name) (32 ∷ codes "up") (spaced i.up) (32 ∷ codes "down")
+    (spaced i.down) (10 ∷ [])
+    ∙ ap (λ (t : List ℕ). text ++ ((codes ".insert" ++ t) ++ 10 ∷ []))
+    (sym (insert_words i.name (codes "up") (codes "down") i.up i.down))
     ∙ ap (λ (t : List ℕ). text ++ (t ++ 10 ∷ [])) (sym (joined_words (codes ".insert") words))
 
 -- the same, by the texts that the calls leave one after another
 pub insert_by_calls : (i : Insertion) (text head named rising up falling down : List ℕ)
-    → head ≡ text ++ codes ".insert" → named ≡ head ++ 32 ∷ i.name → rising ≡ named ++ 32 ∷ codes "up" → up ≡ rising ++ spaced i.up
-    → falling ≡ up ++ 32 ∷ codes "down" → down ≡ falling ++ spaced i.down → down ++ 10 ∷ [] ≡ text ++ line (insert_line i)
-insert_by_calls i text head named rising up falling down e1 e2 e3 e4 e5 e6 = rw (e6, e5, e4, e3, e2, e1) (insert_whole text i)
+    → head ≡ text ++ codes ".insert" → named ≡ head ++ 32 ∷ i.name → rising ≡ named ++ 32 ∷ codes "up"
+    → up ≡ rising ++ spaced i.up
+    → falling ≡ up ++ 32 ∷ codes "down" → down ≡ falling ++ spaced i.down
+    → down ++ 10 ∷ [] ≡ text ++ line (insert_line i)
+insert_by_calls i text head named rising up falling down e1 e2 e3 e4 e5 e6 =
+    rw (e6, e5, e4, e3, e2, e1) (insert_whole text i)
 
-text_of_parts : (inserts gates : List (List (List ℕ))) (g e : List (List ℕ)) → text_of ((inserts ++ g ∷ gates) ++ e ∷ []) ≡ (text_of inserts ++ (line g ++ text_of gates)) ++ line e
+text_of_parts : (inserts gates : List (List (List ℕ))) (g e : List (List ℕ))
+    → text_of ((inserts ++ g ∷ gates) ++ e ∷ []) ≡ (text_of inserts ++ (line g ++ text_of gates)) ++ line e
 text_of_parts inserts gates g e =
     flat_map-append line (inserts ++ g ∷ gates) (e ∷ [])
     ∙ ap (λ (t : List ℕ). text_of (inserts ++ g ∷ gates) ++ t) (append-nil (line e))
     ∙ ap (λ (t : List ℕ). t ++ line e) (flat_map-append line inserts (g ∷ gates))
 
-ten_parts : (m i o n s t a b c d : List ℕ) → ((((((((m ++ i) ++ o) ++ n) ++ s) ++ t) ++ a) ++ b) ++ c) ++ d ≡ m ++ (i ++ (o ++ (n ++ (s ++ (t ++ ((a ++ (b ++ c)) ++ d))))))
+ten_parts : (m i o n s t a b c d : List ℕ) → ((((((((m ++ i) ++ o) ++ n) ++ s) ++ t) ++ a) ++ b) ++ c) ++ d
+    ≡ m ++ (i ++ (o ++ (n ++ (s ++ (t ++ ((a ++ (b ++ c)) ++ d))))))
 ten_parts m i o n s t a b c d = simp append_assoc
 
 together : (m i o n s t : List ℕ) (inserts gates : List (List (List ℕ))) (g e : List (List ℕ))
-    → ((((((((m ++ i) ++ o) ++ n) ++ s) ++ t) ++ text_of inserts) ++ line g) ++ text_of gates) ++ line e ≡ m ++ (i ++ (o ++ (n ++ (s ++ (t ++ text_of ((inserts ++ g ∷ gates) ++ e ∷ []))))))
+    → ((((((((m ++ i) ++ o) ++ n) ++ s) ++ t) ++ text_of inserts) ++ line g) ++ text_of gates) ++ line e
+    ≡ m ++ (i ++ (o ++ (n ++ (s ++ (t ++ text_of ((inserts ++ g ∷ gates) ++ e ∷ []))))))
 together m i o n s t inserts gates g e =
     ten_parts m i o n s t (text_of inserts) (line g) (text_of gates) (line e)
     ∙ ap (λ (r : List ℕ). m ++ (i ++ (o ++ (n ++ (s ++ (t ++ r)))))) (sym (text_of_parts inserts gates g e))
 
 -- the lines one after another, each as it is written
 pub whole_text : (n : Netlist)
-    → (((((((((((codes ".version 2\n.model" ++ 32 ∷ n.model) ++ 10 ∷ []) ++ line (codes ".inputs" ∷ names_of Input n.signals)) ++ line (codes ".outputs" ∷ names_of Output n.signals))
-    ++ line (codes ".internal" ∷ names_of Internal n.signals)) ++ line (codes ".inserted" ∷ names_of Inserted n.signals))
-    ++ line (codes ".start" ∷ word_if_any (bits_from 0 n.signals n.start))) ++ text_of (map insert_line n.inserts)) ++ line (codes ".gates" ∷ []))
+    → (((((((((((codes ".version 2\n.model" ++ 32 ∷ n.model) ++ 10 ∷ [])
+    ++ line (codes ".inputs" ∷ names_of Input n.signals)) ++ line (codes ".outputs" ∷ names_of Output n.signals))
+    ++ line (codes ".internal" ∷ names_of Internal n.signals))
+    ++ line (codes ".inserted" ∷ names_of Inserted n.signals))
+    ++ line (codes ".start" ∷ word_if_any (bits_from 0 n.signals n.start))) ++ text_of (map insert_line n.inserts))
+    ++ line (codes ".gates" ∷ []))
     ++ text_of (gate_lines n.signals n.signals n.gates)) ++ line (codes ".end" ∷ []))
     ≡ netlist_text n
 unfolding netlist_text
-whole_text n = together (codes ".version 2\n" ++ line (codes ".model" ∷ n.model ∷ [])) (line (codes ".inputs" ∷ names_of Input n.signals)) (line (codes ".outputs" ∷ names_of Output n.signals))
+whole_text n = together (codes ".version 2\n" ++ line (codes ".model" ∷ n.model ∷ []))
+    (line (codes ".inputs" ∷ names_of Input n.signals)) (line (codes ".outputs" ∷ names_of Output n.signals))
     (line (codes ".internal" ∷ names_of Internal n.signals)) (line (codes ".inserted" ∷ names_of Inserted n.signals))
     (line (codes ".start" ∷ word_if_any (bits_from 0 n.signals n.start)))
     (map insert_line n.inserts) (gate_lines n.signals n.signals n.gates) (codes ".gates" ∷ []) (codes ".end" ∷ [])
 
 -- the same, by the texts that the calls leave one after another
-pub text_by_calls : (n : Netlist) (word named ended inputs outputs internal inserted started inserts headed gated all : List ℕ)
+pub text_by_calls : (n : Netlist)
+    (word named ended inputs outputs internal inserted started inserts headed gated all : List ℕ)
     → word ≡ codes ".version 2\n.model" → named ≡ word ++ 32 ∷ n.model → ended ≡ named ++ 10 ∷ []
-    → inputs ≡ ended ++ line (codes ".inputs" ∷ names_of Input n.signals) → outputs ≡ inputs ++ line (codes ".outputs" ∷ names_of Output n.signals)
-    → internal ≡ outputs ++ line (codes ".internal" ∷ names_of Internal n.signals) → inserted ≡ internal ++ line (codes ".inserted" ∷ names_of Inserted n.signals)
-    → started ≡ inserted ++ line (codes ".start" ∷ word_if_any (bits_from 0 n.signals n.start)) → inserts ≡ started ++ text_of (map insert_line n.inserts)
-    → headed ≡ inserts ++ line (codes ".gates" ∷ []) → gated ≡ headed ++ text_of (gate_lines n.signals n.signals n.gates) → all ≡ gated ++ line (codes ".end" ∷ [])
+    → inputs ≡ ended ++ line (codes ".inputs" ∷ names_of Input n.signals)
+    → outputs ≡ inputs ++ line (codes ".outputs" ∷ names_of Output n.signals)
+    → internal ≡ outputs ++ line (codes ".internal" ∷ names_of Internal n.signals)
+    → inserted ≡ internal ++ line (codes ".inserted" ∷ names_of Inserted n.signals)
+    → started ≡ inserted ++ line (codes ".start" ∷ word_if_any (bits_from 0 n.signals n.start))
+    → inserts ≡ started ++ text_of (map insert_line n.inserts)
+    → headed ≡ inserts ++ line (codes ".gates" ∷ [])
+    → gated ≡ headed ++ text_of (gate_lines n.signals n.signals n.gates) → all ≡ gated ++ line (codes ".end" ∷ [])
     → all ≡ netlist_text n
-text_by_calls n word named ended inputs outputs internal inserted started inserts headed gated all e1 e2 e3 e4 e5 e6 e7 e8 e9 e10 e11 e12 =
+text_by_calls n word named ended inputs outputs internal inserted started inserts headed gated all e1 e2 e3 e4 e5
+    e6 e7 e8 e9 e10 e11 e12 =
     rw (e12, e11, e10, e9, e8, e7, e6, e5, e4, e3, e2, e1) (whole_text n)

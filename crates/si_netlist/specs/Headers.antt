@@ -31,7 +31,8 @@ signals_by names inputs outputs internals =
     ++ signals_of Inserted (drop internals names)
 
 -- the header has the parts that the lines spell, and the text's fault is that of the lines left
-pub record ReadsHeader (limit : ℕ) (old new : Left) (names : List (List ℕ)) (header : Header) : Type 0 where
+pub record ReadsHeader (limit : ℕ) (old new : Left) (names : List (List ℕ))
+    (header : Header) : Type 0 where
   pub inputs : List (List ℕ)
   pub outputs : List (List ℕ)
   pub internals : List (List ℕ)
@@ -40,7 +41,8 @@ pub record ReadsHeader (limit : ℕ) (old new : Left) (names : List (List ℕ)) 
   pub inputs_are : header.inputs ≡ length inputs
   pub outputs_are : header.outputs ≡ length (inputs ++ outputs)
   pub internals_are : header.internals ≡ length (inputs ++ outputs ++ internals)
-  pub fault : fault_of (due_in limit old.lines) old ≡ fault_of (due_after inputs outputs internals inserted) new
+  pub fault : fault_of (due_in limit old.lines) old
+      ≡ fault_of (due_after inputs outputs internals inserted) new
   pub model_at : header.model ≡ first_word (names_at 0 old.lines)
   pub inputs_at : inputs ≡ names_at 1 old.lines
   pub outputs_at : outputs ≡ names_at 2 old.lines

@@ -15,7 +15,8 @@ use Rattle.si_words.specs.GateLines.{gate_fault}
 
 -- any word but a lone brace
 abbrev pub is_model_word : List ℕ → Bool
-is_model_word word = not (is_empty word) && not (bytes_eq (codes "{") word) && not (bytes_eq (codes "}") word)
+is_model_word word = not (is_empty word) && not (bytes_eq (codes "{") word)
+    && not (bytes_eq (codes "}") word)
 
 -- ---- the lines, each by its words
 
@@ -29,7 +30,8 @@ model_fault words = when (not (is_model_line words)) BadLine
 -- a bit for each signal; with no signal no word for them
 abbrev pub is_start_line : ℕ → List (List ℕ) → Bool
 is_start_line signals (head ∷ []) = bytes_eq (codes ".start") head && (signals == 0)
-is_start_line signals (head ∷ bits ∷ []) = bytes_eq (codes ".start") head && not (is_empty bits) && (length bits == signals) && list_all (is_between digit_zero digit_one) bits
+is_start_line signals (head ∷ bits ∷ []) = bytes_eq (codes ".start") head && not (is_empty bits)
+    && (length bits == signals) && list_all (is_between digit_zero digit_one) bits
 is_start_line signals _ = false
 
 abbrev pub start_fault : ℕ → List (List ℕ) → Option TextKind
@@ -38,10 +40,13 @@ start_fault signals words = when (not (is_start_line signals words)) BadLine
 -- two lists of states, and one word `down` between them
 abbrev pub are_both_lists : Option (List (List ℕ) × List (List ℕ)) → Bool
 are_both_lists None = false
-are_both_lists (Some (up, down)) = not (is_empty up) && not (is_empty down) && not (stands_in down (codes "down"))
+are_both_lists (Some (up, down)) =
+    not (is_empty up) && not (is_empty down) && not (stands_in down (codes "down"))
 
 abbrev pub is_insert_line : List ℕ → List (List ℕ) → Bool
-is_insert_line name (head ∷ w ∷ up ∷ states) = bytes_eq (codes ".insert") head && bytes_eq name w && bytes_eq (codes "up") up && not (list_any is_empty states) && are_both_lists (cut_at (codes "down") states)
+is_insert_line name (head ∷ w ∷ up ∷ states) =
+    bytes_eq (codes ".insert") head && bytes_eq name w && bytes_eq (codes "up") up
+    && not (list_any is_empty states) && are_both_lists (cut_at (codes "down") states)
 is_insert_line name _ = false
 
 abbrev pub insert_fault : List ℕ → List (List ℕ) → Option TextKind
@@ -61,7 +66,8 @@ abbrev pub due_after : List (List ℕ) → List (List ℕ) → List (List ℕ) �
 due_after inputs outputs internals inserted =
     map insert_fault inserted
     ++ word_fault (codes ".gates")
-    ∷ map (gate_fault (inputs ++ outputs ++ internals ++ inserted)) (outputs ++ internals ++ inserted)
+    ∷ map (gate_fault (inputs ++ outputs ++ internals ++ inserted))
+    (outputs ++ internals ++ inserted)
     ++ word_fault (codes ".end") ∷ []
 
 -- the forms of the lines, in order, where so many signals may be named
@@ -76,7 +82,8 @@ due limit inputs outputs internals inserted =
     ∷ due_after inputs outputs internals inserted
 
 abbrev pub due_in : ℕ → List (List ℕ) → List Form
-due_in limit lines = due limit (names_at 1 lines) (names_at 2 lines) (names_at 3 lines) (names_at 4 lines)
+due_in limit lines =
+    due limit (names_at 1 lines) (names_at 2 lines) (names_at 3 lines) (names_at 4 lines)
 
 -- lines of which the first is `.version 2` are of version 2, any others of version 1
 abbrev pub version_at : Left → Version
@@ -94,4 +101,5 @@ abbrev pub body : List ℕ → Left
 body text = after_version (version_of text) (all_lines text)
 
 unfoldable pub netlist_fault : List ℕ → Option (ℕ × TextKind)
-netlist_fault text = fault_of (due_in (most_signals (version_of text)) (body text).lines) (body text)
+netlist_fault text =
+    fault_of (due_in (most_signals (version_of text)) (body text).lines) (body text)

@@ -12,13 +12,17 @@ use Rattle.si_words.specs.GateLines.{place_in}
 
 -- ---- gates
 abbrev pub literal_of : List (List ℕ) → List ℕ → Literal
-literal_of names word = record { sig = unwrap_or (place_in names word) 0; plain = bytes_eq word (literal_name word) }
+literal_of names word = record {
+  sig = unwrap_or (place_in names word) 0;
+  plain = bytes_eq word (literal_name word);
+}
 
 abbrev pub cube_of : List (List ℕ) → List (List ℕ) → List Literal
 cube_of names words = if is_one (codes "1") words then [] else map (literal_of names) words
 
 abbrev pub sum_of : List (List ℕ) → List (List ℕ) → Sum
-sum_of names words = if is_one (codes "0") words then [] else map (cube_of names) (parts_at (codes "+") words)
+sum_of names words = if is_one (codes "0") words then []
+    else map (cube_of names) (parts_at (codes "+") words)
 
 abbrev pub gc_of : List (List ℕ) → Option (List (List ℕ) × List (List ℕ)) → Gate
 gc_of names None = SumGate []
@@ -70,10 +74,12 @@ netlist_of_lines lines =
     let names = inputs ++ outputs ++ internals ++ inserted in
     record {
       model = first_word (names_at 0 lines);
-      signals = signals_of Input inputs ++ signals_of Output outputs ++ signals_of Internal internals ++ signals_of Inserted inserted;
+      signals = signals_of Input inputs ++ signals_of Output outputs
+          ++ signals_of Internal internals ++ signals_of Inserted inserted;
       start = code_of_bits (first_word (names_at 5 lines));
       inserts = map (λ line. insertion_of (words_of line)) (take (length inserted) (drop 6 lines));
-      gates = map (λ line. gate_of names (rest_of (words_of line))) (take (length (outputs ++ internals ++ inserted)) (drop (7 + length inserted) lines));
+      gates = map (λ line. gate_of names (rest_of (words_of line)))
+          (take (length (outputs ++ internals ++ inserted)) (drop (7 + length inserted) lines));
     }
 
 unfoldable pub netlist_of : List ℕ → Netlist

@@ -4,8 +4,10 @@ use Rattle.si_base.specs.declared.fault.TextKind.{TextKind}
 use Rattle.si_netlist.specs.NetlistFault.{is_insert_line}
 use Rattle.si_netlist.specs.NetlistValue.{insertion_of}
 
--- nothing where the words haven't the form; else the first fault of their literals, or what they spell where there is none
-abbrev pub Reads : {X Y : Type 0} → (X → Y) → Bool → Option TextKind → Y → Option (Result X TextKind) → Type 0
+-- nothing where the words haven't the form; else the first fault of their literals, or what they
+-- spell where there is none
+abbrev pub Reads : {X Y : Type 0} → (X → Y) → Bool → Option TextKind → Y
+    → Option (Result X TextKind) → Type 0
 Reads view form fault value None = form ≡ false
 Reads view form fault value (Some (Err kind)) = (form ≡ true) × (fault ≡ Some kind)
 Reads view form fault value (Some (Ok x)) = (form ≡ true) × (fault ≡ None) × (view x ≡ value)

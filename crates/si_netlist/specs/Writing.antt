@@ -8,4 +8,5 @@ use Rattle.si_base.specs.NetlistText.{gate_words}
 
 -- the lines of the gates, each with the next of the non-inputs among these signals
 abbrev pub gate_lines : List Signal → List Signal → List Gate → List (List (List ℕ))
-gate_lines all signals gates = map (λ p. p.0.name ∷ gate_words all p.1) (zip (filter (λ x. is_driven x.kind) signals) gates)
+gate_lines all signals gates =
+    map (λ p. p.0.name ∷ gate_words all p.1) (zip (filter (λ x. is_driven x.kind) signals) gates)

@@ -28,7 +28,8 @@ use std::alloc::{AllocError, Global};
 /// The literal of a word.
 fn read_literal(signals: &Names, word: &[u8]) -> Option<Result<Literal, TextKind>>
     requires { length signals.now ≤ max_signals }
-    ensures read { Reads (λ l. l) (sums.is_literal word.now) (gates.pin_fault signals.now word.now) (value.literal_of signals.now word.now) result }
+    ensures read { Reads (λ l. l) (sums.is_literal word.now) (gates.pin_fault signals.now word.now)
+        (value.literal_of signals.now word.now) result }
     ensures within { IfSome result (λ read. IfOk read (λ l. l.sig < max_signals)) }
 {
     let name = literal_name(word);
@@ -47,7 +48,9 @@ fn read_literal(signals: &Names, word: &[u8]) -> Option<Result<Literal, TextKind
 /// The cube of words: `1`, or literals whose signals rise.
 fn read_cube(signals: &Names, words: &[&[u8]]) -> Option<Result<Cube, TextKind>>
     requires { length signals.now ≤ max_signals }
-    ensures { Reads (λ cube. cube) (sums.is_cube (words_now words.now)) (gates.sum_fault signals.now (words_now words.now)) (value.cube_of signals.now (words_now words.now)) result }
+    ensures { Reads (λ cube. cube) (sums.is_cube (words_now words.now))
+        (gates.sum_fault signals.now (words_now words.now))
+        (value.cube_of signals.now (words_now words.now)) result }
 {
     let mut care = Code(0);
     let mut value = Code(0);
@@ -95,7 +98,8 @@ fn first_fault(earlier: Option<TextKind>, later: TextKind) -> TextKind
 
 /// The words between the words `+`.
 fn parts_of<'s, 'a>(alloc: Global, words: &'s [&'a [u8]]) -> Result<Vec<&'s [&'a [u8]]>, AllocError>
-    ensures { IfOk result (λ parts. parts_now parts.items ≡ sums.parts_at (codes "+") (words_now words.now)) }
+    ensures { IfOk result
+        (λ parts. parts_now parts.items ≡ sums.parts_at (codes "+") (words_now words.now)) }
 {
     words.split(|w| b"+".as_slice() == *w).collect(alloc)
 }
@@ -107,7 +111,9 @@ fn read_sum(
     words: &[&[u8]],
 ) -> Result<Option<Result<Sum, TextKind>>, NoMemory>
     requires { length signals.now ≤ max_signals }
-    ensures { IfOk result (Reads (λ sum. sum) (sums.is_sum (words_now words.now)) (gates.sum_fault signals.now (words_now words.now)) (value.sum_of signals.now (words_now words.now))) }
+    ensures { IfOk result (Reads (λ sum. sum) (sums.is_sum (words_now words.now))
+        (gates.sum_fault signals.now (words_now words.now))
+        (value.sum_of signals.now (words_now words.now))) }
 {
     if is_one(b"0", words) {
         return Ok(Some(Ok(Sum::new(Vec::new(alloc)))));
@@ -141,7 +147,9 @@ fn read_sum_gate(
     words: &[&[u8]],
 ) -> Result<Option<Result<Gate, TextKind>>, NoMemory>
     requires { length signals.now ≤ max_signals }
-    ensures { IfOk result (Reads gate_seen (sums.is_sum (words_now words.now)) (gates.sum_fault signals.now (words_now words.now)) (base.SumGate (value.sum_of signals.now (words_now words.now)))) }
+    ensures { IfOk result (Reads gate_seen (sums.is_sum (words_now words.now))
+        (gates.sum_fault signals.now (words_now words.now))
+        (base.SumGate (value.sum_of signals.now (words_now words.now)))) }
 {
     match read_sum(alloc, signals, words)? {
         None => Ok(None),
@@ -157,7 +165,10 @@ fn read_gc(
     words: &[&[u8]],
 ) -> Result<Option<Result<Gate, TextKind>>, NoMemory>
     requires { length signals.now ≤ max_signals }
-    ensures { IfOk result (Reads gate_seen (gates.are_sums (sums.cut_at (codes "|") (words_now words.now))) (gates.sum_fault signals.now (words_now words.now)) (value.gc_of signals.now (sums.cut_at (codes "|") (words_now words.now)))) }
+    ensures { IfOk result
+        (Reads gate_seen (gates.are_sums (sums.cut_at (codes "|") (words_now words.now)))
+        (gates.sum_fault signals.now (words_now words.now))
+        (value.gc_of signals.now (sums.cut_at (codes "|") (words_now words.now)))) }
 {
     let Some((set, reset)) = cut_at(b"|", words) else {
         return Ok(None);
@@ -182,7 +193,10 @@ fn read_literals(
     words: &[&[u8]],
 ) -> Result<Option<Result<Vec<Literal>, TextKind>>, NoMemory>
     requires { length signals.now ≤ max_signals }
-    ensures { IfOk result (Reads (λ literals. literals.items) (list_all sums.is_literal (words_now words.now)) (first_in (gates.pin_fault signals.now) (words_now words.now)) (map (value.literal_of signals.now) (words_now words.now))) }
+    ensures { IfOk result
+        (Reads (λ literals. literals.items) (list_all sums.is_literal (words_now words.now))
+        (first_in (gates.pin_fault signals.now) (words_now words.now))
+        (map (value.literal_of signals.now) (words_now words.now))) }
 {
     let mut literals = Vec::new(alloc);
     let mut fault = None;
@@ -212,7 +226,10 @@ fn read_cell(
     words: &[&[u8]],
 ) -> Result<Option<Result<Gate, TextKind>>, NoMemory>
     requires { length signals.now ≤ max_signals }
-    ensures { IfOk result (Reads gate_seen (gates.are_pins_and_sum (sums.cut_at (codes ":") (words_now words.now))) (gates.cell_fault signals.now (sums.cut_at (codes ":") (words_now words.now))) (value.cell_of signals.now (sums.cut_at (codes ":") (words_now words.now)))) }
+    ensures { IfOk result
+        (Reads gate_seen (gates.are_pins_and_sum (sums.cut_at (codes ":") (words_now words.now)))
+        (gates.cell_fault signals.now (sums.cut_at (codes ":") (words_now words.now)))
+        (value.cell_of signals.now (sums.cut_at (codes ":") (words_now words.now)))) }
 {
     let Some((pins, sum)) = cut_at(b":", words) else {
         return Ok(None);
@@ -247,7 +264,9 @@ fn read_gate(
     words: &[&[u8]],
 ) -> Result<Option<Result<Gate, TextKind>>, NoMemory>
     requires { length signals.now ≤ max_signals }
-    ensures { IfOk result (Reads gate_seen (gates.is_gate (words_now words.now)) (gates.literals_fault signals.now (words_now words.now)) (value.gate_of signals.now (words_now words.now))) }
+    ensures { IfOk result (Reads gate_seen (gates.is_gate (words_now words.now))
+        (gates.literals_fault signals.now (words_now words.now))
+        (value.gate_of signals.now (words_now words.now))) }
 {
     let [kind, rest @ ..] = words else {
         return Ok(None);
@@ -271,7 +290,10 @@ pub fn read_gate_line(
     words: &[&[u8]],
 ) -> Result<Result<Gate, TextKind>, NoMemory>
     requires { length signals.now ≤ max_signals }
-    ensures { IfOk result (λ read. MatchResult read (λ gate. (gates.gate_fault signals.now name.now (words_now words.now) ≡ None) × (gate_seen gate ≡ gate_in signals.now (words_now words.now))) (λ kind. gates.gate_fault signals.now name.now (words_now words.now) ≡ Some kind)) }
+    ensures { IfOk result (λ read. MatchResult read
+        (λ gate. (gates.gate_fault signals.now name.now (words_now words.now) ≡ None)
+        × (gate_seen gate ≡ gate_in signals.now (words_now words.now)))
+        (λ kind. gates.gate_fault signals.now name.now (words_now words.now) ≡ Some kind)) }
 {
     let [head, rest @ ..] = words else {
         return Ok(Err(TextKind::BadLine));

@@ -24,8 +24,10 @@ fn gate_row(
     name: &[u8],
 ) -> Result<Gate, TextFault>
     requires { length signals.now ≤ max_signals }
-    ensures ok { IfOk result (λ gate. TakesValue (gate_fault signals.now name.now) (gate_in signals.now) rows.old rows.new (gate_seen gate)) }
-    ensures err { (forms : List Form) → ToldBy result (fault_of (gate_fault signals.now name.now ∷ forms) rows.old) }
+    ensures ok { IfOk result (λ gate. TakesValue (gate_fault signals.now name.now)
+        (gate_in signals.now) rows.old rows.new (gate_seen gate)) }
+    ensures err { (forms : List Form)
+        → ToldBy result (fault_of (gate_fault signals.now name.now ∷ forms) rows.old) }
 {
     let line = rows.number();
     let words = rows.next_words(alloc)?;
@@ -46,8 +48,11 @@ pub fn gate_rows(
 ) -> Result<Vec<Gate>, TextFault>
     requires room { from ≤ length signals.now }
     requires few { length signals.now ≤ max_signals }
-    ensures ok { IfOk result (λ gates. TakesAll (map (gate_fault signals.now) (drop from signals.now)) (gate_in signals.now) rows.old rows.new (map gate_seen gates.items)) }
-    ensures err { (rest : List Form) → ToldBy result (fault_of (map (gate_fault signals.now) (drop from signals.now) ++ rest) rows.old) }
+    ensures ok { IfOk result
+        (λ gates. TakesAll (map (gate_fault signals.now) (drop from signals.now))
+        (gate_in signals.now) rows.old rows.new (map gate_seen gates.items)) }
+    ensures err { (rest : List Form) → ToldBy result
+        (fault_of (map (gate_fault signals.now) (drop from signals.now) ++ rest) rows.old) }
 {
     let mut gates = Vec::new(alloc);
     for k in from..signals.len() {

@@ -47,8 +47,10 @@ fn second_word<'a>(words: &[&'a [u8]]) -> &'a [u8]
 }
 
 fn model_row(alloc: Global, rows: &mut Rows<'_>) -> Result<Name, TextFault>
-    ensures ok { IfOk result (λ name. TakesValue netlist.model_fault model_of rows.old rows.new name) }
-    ensures err { (forms : List Form) → ToldBy result (fault_of (netlist.model_fault ∷ forms) rows.old) }
+    ensures ok { IfOk result
+        (λ name. TakesValue netlist.model_fault model_of rows.old rows.new name) }
+    ensures err { (forms : List Form)
+        → ToldBy result (fault_of (netlist.model_fault ∷ forms) rows.old) }
 {
     let line = rows.number();
     let words = rows.next_words(alloc)?;
@@ -97,8 +99,10 @@ fn code_of(bits: &[u8]) -> Code
 
 fn start_row(alloc: Global, rows: &mut Rows<'_>, signals: usize) -> Result<Code, TextFault>
     requires { signals ≤ max_signals }
-    ensures ok { IfOk result (λ code. TakesValue (netlist.start_fault signals) start_of rows.old rows.new code) }
-    ensures err { (forms : List Form) → ToldBy result (fault_of (netlist.start_fault signals ∷ forms) rows.old) }
+    ensures ok { IfOk result
+        (λ code. TakesValue (netlist.start_fault signals) start_of rows.old rows.new code) }
+    ensures err { (forms : List Form)
+        → ToldBy result (fault_of (netlist.start_fault signals ∷ forms) rows.old) }
 {
     let line = rows.number();
     let words = rows.next_words(alloc)?;
@@ -111,8 +115,8 @@ fn start_row(alloc: Global, rows: &mut Rows<'_>, signals: usize) -> Result<Code,
     Ok(code_of(second_word(&words)))
 }
 
-/// What the first six lines say besides the names: the model's name, the start code, and how many names stand up to the
-/// end of each list.
+/// What the first six lines say besides the names: the model's name, the start code, and how many
+/// names stand up to the end of each list.
 #[derive(Drop)]
 pub struct Header {
     pub model: Name,
@@ -124,7 +128,8 @@ pub struct Header {
 
 /// The first six lines after that of the version: the names, at most `limit`, go into `names`.
 ///
-/// Fails with the first fault of the text, where one of these lines shows it, and where memory runs out.
+/// Fails with the first fault of the text, where one of these lines shows it, and where memory
+/// runs out.
 pub fn read_header(
     alloc: Global,
     rows: &mut Rows<'_>,

@@ -78,7 +78,8 @@ fn names_of(alloc: Global, words: &[&[u8]]) -> Result<Vec<Name>, NoMemory>
 }
 
 fn insert_with(alloc: Global, name: &[u8], up: &[&[u8]], down: &[&[u8]]) -> Result<Insert, NoMemory>
-    ensures { IfOk result (λ insert. insert ≡ record { name = name.now; up = words_now up.now; down = words_now down.now }) }
+    ensures { IfOk result (λ insert. insert
+        ≡ record { name = name.now; up = words_now up.now; down = words_now down.now }) }
 {
     Ok(Insert {
         name: Name::copy_of(alloc, name)?,
@@ -88,8 +89,10 @@ fn insert_with(alloc: Global, name: &[u8], up: &[&[u8]], down: &[&[u8]]) -> Resu
 }
 
 fn insert_row(alloc: Global, rows: &mut Rows<'_>, name: &[u8]) -> Result<Insert, TextFault>
-    ensures ok { IfOk result (λ insert. TakesValue (netlist.insert_fault name.now) insertion_of rows.old rows.new insert) }
-    ensures err { (forms : List Form) → ToldBy result (fault_of (netlist.insert_fault name.now ∷ forms) rows.old) }
+    ensures ok { IfOk result (λ insert. TakesValue (netlist.insert_fault name.now) insertion_of
+        rows.old rows.new insert) }
+    ensures err { (forms : List Form)
+        → ToldBy result (fault_of (netlist.insert_fault name.now ∷ forms) rows.old) }
 {
     let line = rows.number();
     let words = rows.next_words(alloc)?;
@@ -112,8 +115,10 @@ pub fn insert_rows(
     from: u32,
 ) -> Result<Vec<Insert>, TextFault>
     requires { from ≤ length names.now }
-    ensures ok { IfOk result (λ inserts. TakesAll (map netlist.insert_fault (drop from names.now)) insertion_of rows.old rows.new inserts.items) }
-    ensures err { (rest : List Form) → ToldBy result (fault_of (map netlist.insert_fault (drop from names.now) ++ rest) rows.old) }
+    ensures ok { IfOk result (λ inserts. TakesAll (map netlist.insert_fault (drop from names.now))
+        insertion_of rows.old rows.new inserts.items) }
+    ensures err { (rest : List Form) → ToldBy result
+        (fault_of (map netlist.insert_fault (drop from names.now) ++ rest) rows.old) }
 {
     let mut inserts = Vec::new(alloc);
     for k in from..names.len() {

@@ -12,8 +12,8 @@ use si_base::ids::{Code, Sig};
 use si_base::text::Name;
 use std::marker::Model;
 
-/// A netlist: a model name, signals with their start values, insertions, and a gate for each signal that isn't an
-/// input, in signal order.
+/// A netlist: a model name, signals with their start values, insertions, and a gate for each signal
+/// that isn't an input, in signal order.
 #[derive(Drop)]
 pub struct Netlist {
     model: Name,
@@ -31,9 +31,21 @@ impl Model for Netlist {
 
     ghost Value = { base.Netlist };
 
-    ghost view = { λ n. record { model = n.model; signals = n.signals.items; start = n.start; inserts = n.inserts.items; gates = map gate_seen n.gates.items } };
+    ghost view = { λ n. record {
+      model = n.model;
+      signals = n.signals.items;
+      start = n.start;
+      inserts = n.inserts.items;
+      gates = map gate_seen n.gates.items;
+    } };
 
-    ghost invariant = { λ n. IsNetlist (record { model = n.model; signals = n.signals.items; start = n.start; inserts = n.inserts.items; gates = map gate_seen n.gates.items }) };
+    ghost invariant = { λ n. IsNetlist (record {
+      model = n.model;
+      signals = n.signals.items;
+      start = n.start;
+      inserts = n.inserts.items;
+      gates = map gate_seen n.gates.items;
+    }) };
 }
 
 impl Netlist {
@@ -45,8 +57,20 @@ impl Netlist {
         inserts: Vec<Insert>,
         gates: Vec<Gate>,
     ) -> Netlist
-        requires { IsNetlist (record { model = model; signals = signals.items; start = start; inserts = inserts.items; gates = map gate_seen gates.items }) }
-        ensures { result ≡ record { model = model; signals = signals.items; start = start; inserts = inserts.items; gates = map gate_seen gates.items } }
+        requires { IsNetlist (record {
+          model = model;
+          signals = signals.items;
+          start = start;
+          inserts = inserts.items;
+          gates = map gate_seen gates.items;
+        }) }
+        ensures { result ≡ record {
+          model = model;
+          signals = signals.items;
+          start = start;
+          inserts = inserts.items;
+          gates = map gate_seen gates.items;
+        } }
     {
         Netlist {
             model,

@@ -44,7 +44,8 @@ fn take_version(rows: &mut Rows<'_>) -> u32
 /// A line that is one word.
 fn word_row(alloc: Global, rows: &mut Rows<'_>, word: &[u8]) -> Result<(), TextFault>
     ensures ok { OnOk result (TakesForm (netlist.word_fault word.now) rows.old rows.new) }
-    ensures err { (forms : List Form) → ToldBy result (fault_of (netlist.word_fault word.now ∷ forms) rows.old) }
+    ensures err { (forms : List Form)
+        → ToldBy result (fault_of (netlist.word_fault word.now ∷ forms) rows.old) }
 {
     let line = rows.number();
     let words = rows.next_words(alloc)?;
@@ -68,7 +69,8 @@ fn add_signals(
 ) -> Result<(), NoMemory>
     requires order { from ≤ to }
     requires within { to ≤ length names.now }
-    ensures { OnOk result (signals.new.items ≡ signals.old.items ++ signals_of kind (take (to - from) (drop from names.now))) }
+    ensures { OnOk result (signals.new.items
+        ≡ signals.old.items ++ signals_of kind (take (to - from) (drop from names.now))) }
 {
     for k in from..to {
         let name = Name::copy_of(alloc, names.get(k))?;
@@ -82,7 +84,8 @@ fn signals_in(alloc: Global, names: &Names, header: &Header) -> Result<Vec<Signa
     requires outputs { header.now.inputs ≤ header.now.outputs }
     requires internals { header.now.outputs ≤ header.now.internals }
     requires within { header.now.internals ≤ length names.now }
-    ensures { IfOk result (λ signals. signals.items ≡ signals_by names.now header.now.inputs header.now.outputs header.now.internals) }
+    ensures { IfOk result (λ signals. signals.items
+        ≡ signals_by names.now header.now.inputs header.now.outputs header.now.internals) }
 {
     let mut signals = Vec::new(alloc);
     let (inputs, outputs, internals) = (header.inputs, header.outputs, header.internals);
@@ -107,10 +110,12 @@ fn signals_in(alloc: Global, names: &Names, header: &Header) -> Result<Vec<Signa
     Ok(signals)
 }
 
-/// The netlist that the text spells, or the first fault of the text. A text whose first line is `.version 2` is read as
-/// one of version 2, any other as one of version 1, which may name 64 signals.
+/// The netlist that the text spells, or the first fault of the text. A text whose first line is
+/// `.version 2` is read as one of version 2, any other as one of version 1, which may name 64
+/// signals.
 ///
-/// It fails with `NoMemory` only where memory runs out, and with `At` exactly where the text is no netlist's.
+/// It fails with `NoMemory` only where memory runs out, and with `At` exactly where the text is no
+/// netlist's.
 pub fn read_netlist(alloc: Global, text: &[u8]) -> Result<Netlist, TextFault>
     ensures gives { Gives (λ n. n) result (netlist_fault text.now) (netlist_of text.now) }
 {

@@ -66,7 +66,8 @@ map0 cell C2 a b : a b + a map0 + b map0
 .end
 ";
 
-/// Generalised C-elements, sums without literals and without cubes, a cell without pins, and no signal at all.
+/// Generalised C-elements, sums without literals and without cubes, a cell without pins, and no
+/// signal at all.
 const ODD: &[u8] = b".model {#}
 .inputs a
 .outputs x y z

@@ -70,10 +70,11 @@ fn same_kind(a: SigKind, b: SigKind) -> bool
     a == b
 }
 
-/// Adds a line of a word and the signals' values: a digit each, in their order, and the word alone where there is no
-/// signal.
+/// Adds a line of a word and the signals' values: a digit each, in their order, and the word alone
+/// where there is no signal.
 ///
-/// It fails only where memory runs out. The text may then end in a part of the line, and isn't to be used.
+/// It fails only where memory runs out. The text may then end in a part of the line, and isn't to be
+/// used.
 pub fn add_values_line(
     text: &mut Text,
     word: &[u8],
@@ -81,7 +82,8 @@ pub fn add_values_line(
     values: Code,
 ) -> Result<(), NoMemory>
     requires { length signals.now ≤ max_signals }
-    ensures { OnOk result (text.new ≡ text.old ++ line (word.now ∷ word_if_any (bits_from 0 signals.now values))) }
+    ensures { OnOk result
+        (text.new ≡ text.old ++ line (word.now ∷ word_if_any (bits_from 0 signals.now values))) }
 {
     text.add(word)?;
     add_values(text, signals, values)?;
@@ -91,7 +93,8 @@ pub fn add_values_line(
 /// Adds the word of the signals' values, where there is a signal.
 fn add_values(text: &mut Text, signals: &[Signal], values: Code) -> Result<(), NoMemory>
     requires { length signals.now ≤ max_signals }
-    ensures { OnOk result (text.new ≡ text.old ++ spaced (word_if_any (bits_from 0 signals.now values))) }
+    ensures { OnOk result
+        (text.new ≡ text.old ++ spaced (word_if_any (bits_from 0 signals.now values))) }
 {
     if signals.is_empty() {
         return Ok(());

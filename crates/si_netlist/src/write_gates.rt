@@ -16,7 +16,8 @@ use si_words::writing::add_word;
 
 /// Adds a line for each gate and the signal that it drives.
 pub fn add_gate_lines(text: &mut Text, signals: &[Signal], gates: &[Gate]) -> Result<(), NoMemory>
-    ensures { OnOk result (text.new ≡ text.old ++ text_of (gate_lines signals.now signals.now (map gate_seen gates.now))) }
+    ensures { OnOk result (text.new
+        ≡ text.old ++ text_of (gate_lines signals.now signals.now (map gate_seen gates.now))) }
 {
     let mut gates = gates;
     for signal in signals {
@@ -39,7 +40,8 @@ fn add_gate_line(
     signal: &Signal,
     gate: &Gate,
 ) -> Result<(), NoMemory>
-    ensures { OnOk result (text.new ≡ text.old ++ line (signal.now.name ∷ gate_words signals.now (gate_seen gate.now))) }
+    ensures { OnOk result (text.new
+        ≡ text.old ++ line (signal.now.name ∷ gate_words signals.now (gate_seen gate.now))) }
 {
     text.add(signal.name.bytes())?;
     add_gate(text, signals, gate)?;
@@ -48,7 +50,8 @@ fn add_gate_line(
 
 /// Adds the words of the gate.
 fn add_gate(text: &mut Text, signals: &[Signal], gate: &Gate) -> Result<(), NoMemory>
-    ensures { OnOk result (text.new ≡ text.old ++ spaced (gate_words signals.now (gate_seen gate.now))) }
+    ensures { OnOk result
+        (text.new ≡ text.old ++ spaced (gate_words signals.now (gate_seen gate.now))) }
 {
     match gate {
         Gate::Sum(sum) => {

@@ -49,7 +49,8 @@ fn add_cube(text: &mut Text, signals: &[Signal], cube: &Cube) -> Result<(), NoMe
 
 /// Adds the literals of the cube.
 fn add_cube_literals(text: &mut Text, signals: &[Signal], cube: &Cube) -> Result<(), NoMemory>
-    ensures { OnOk result (text.new ≡ text.old ++ spaced (map (literal_word signals.now) cube.now)) }
+    ensures { OnOk result
+        (text.new ≡ text.old ++ spaced (map (literal_word signals.now) cube.now)) }
 {
     for i in 0..CODE_WIDTH {
         let sig = Sig(i as u8);
@@ -68,7 +69,8 @@ pub fn add_literals(
     signals: &[Signal],
     literals: &[Literal],
 ) -> Result<(), NoMemory>
-    ensures { OnOk result (text.new ≡ text.old ++ spaced (map (literal_word signals.now) literals.now)) }
+    ensures { OnOk result
+        (text.new ≡ text.old ++ spaced (map (literal_word signals.now) literals.now)) }
 {
     for literal in literals {
         add_literal(text, signals, *literal)?;

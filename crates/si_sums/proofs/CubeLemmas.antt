@@ -31,29 +31,38 @@ none_above : (m n i code : ℕ) → n ≤ i → literals_from m i (2 ^ n - 1) co
 none_above zero n i code above = refl
 none_above (suc m) n i code above = rw (zero_above n i above) (none_above m n (i + 1) code (omega arith))
 
-full_from : (m n i code : ℕ) (xs : List Signal) → length xs ≤ m → i + length xs ≡ n → literals_from m i (2 ^ n - 1) code ≡ full_cube_from i xs code
+full_from : (m n i code : ℕ) (xs : List Signal) → length xs ≤ m → i + length xs ≡ n
+    → literals_from m i (2 ^ n - 1) code ≡ full_cube_from i xs code
 full_from m n i code [] few ends = none_above m n i code (omega arith)
 full_from zero n i code (x ∷ xs) few ends = absurd (omega arith)
 full_from (suc m) n i code (x ∷ xs) few ends =
     let here : bit (2 ^ n - 1) i ≡ true = one_below n i (omega arith) in
-    rw here (ap (λ (ls : List Literal). record { sig = i; plain = bit code i } ∷ ls) (full_from m n (i + 1) code xs (omega arith) (omega arith)))
+    rw here (ap (λ (ls : List Literal). record { sig = i; plain = bit code i } ∷ ls)
+    (full_from m n (i + 1) code xs (omega arith) (omega arith)))
 
-pub full_literals : (signals : List Signal) (code : ℕ) → length signals ≤ code_width → literals_of (2 ^ length signals - 1) code ≡ full_cube_from 0 signals code
+pub full_literals : (signals : List Signal) (code : ℕ) → length signals ≤ code_width
+    → literals_of (2 ^ length signals - 1) code ≡ full_cube_from 0 signals code
 unfolding literals_of
 full_literals signals code few = full_from code_width (length signals) 0 code signals few (omega arith)
 
 -- ---- the order of the literals
 all_after : (j i code : ℕ) (xs : List Signal) → j < i → All (λ l. j < l.sig) (full_cube_from i xs code)
 all_after j i code [] before = All-nil (λ (l : Literal). j < l.sig)
-all_after j i code (x ∷ xs) before = All-cons (λ (l : Literal). j < l.sig) (record { sig = i; plain = bit code i }) (full_cube_from (i + 1) xs code) before (all_after j (i + 1) code xs (omega arith))
+all_after j i code (x ∷ xs) before = All-cons (λ (l : Literal). j < l.sig) (record { sig = i; plain = bit code i })
+    (full_cube_from (i + 1) xs code) before (all_after j (i + 1) code xs (omega arith))
 
 all_below : (n i code : ℕ) (xs : List Signal) → i + length xs ≤ n → All (λ l. l.sig < n) (full_cube_from i xs code)
 all_below n i code [] few = All-nil (λ (l : Literal). l.sig < n)
-all_below n i code (x ∷ xs) few = All-cons (λ (l : Literal). l.sig < n) (record { sig = i; plain = bit code i }) (full_cube_from (i + 1) xs code) (omega arith) (all_below n (i + 1) code xs (omega arith))
+all_below n i code (x ∷ xs) few = All-cons (λ (l : Literal). l.sig < n) (record { sig = i; plain = bit code i })
+    (full_cube_from (i + 1) xs code) (omega arith) (all_below n (i + 1) code xs (omega arith))
 
 rises : (i code : ℕ) (xs : List Signal) → AllPairs (λ k l. k.sig < l.sig) (full_cube_from i xs code)
 rises i code [] = λ j k d before within. absurd (omega arith)
-rises i code (x ∷ xs) = AllPairs-cons (λ (k l : Literal). k.sig < l.sig) (record { sig = i; plain = bit code i }) (full_cube_from (i + 1) xs code) (all_after i (i + 1) code xs (omega arith)) (rises (i + 1) code xs)
+rises i code (x ∷ xs) = AllPairs-cons (λ (k l : Literal). k.sig < l.sig) (record { sig = i; plain = bit code i })
+    (full_cube_from (i + 1) xs code) (all_after i (i + 1) code xs (omega arith)) (rises (i + 1) code xs)
 
 pub full_is_cube : (signals : List Signal) (code : ℕ) → IsCube (length signals) (full_cube_from 0 signals code)
-full_is_cube signals code = record { rising = rises 0 code signals; there = all_below (length signals) 0 code signals (omega arith) }
+full_is_cube signals code = record {
+  rising = rises 0 code signals;
+  there = all_below (length signals) 0 code signals (omega arith);
+}

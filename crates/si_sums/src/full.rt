@@ -17,10 +17,12 @@ use si_netlist::netlist::Netlist;
 use si_netlist::write::write_netlist;
 use std::alloc::Global;
 
-/// The text of the netlist of sums of full cubes, with the model's name. It fails only where memory runs out.
+/// The text of the netlist of sums of full cubes, with the model's name. It fails only where memory
+/// runs out.
 pub fn write_full(alloc: Global, model: Name, graph: Distinct<'_>) -> Result<Text, NoMemory>
     requires { AreSpelled model (lent_graph graph).graph.signals }
-    ensures { IfOk result (λ text. text ≡ netlist_text (full_netlist model (lent_graph graph.entry))) }
+    ensures { IfOk result
+        (λ text. text ≡ netlist_text (full_netlist model (lent_graph graph.entry))) }
 {
     let netlist = netlist_of(alloc, model, graph)?;
     write_netlist(alloc, &netlist)
@@ -41,7 +43,8 @@ pub fn netlist_of(alloc: Global, model: Name, graph: Distinct<'_>) -> Result<Net
 
 /// A sum of full cubes for each signal that isn't an input.
 fn gates_of(alloc: Global, coded: &Coded) -> Result<Vec<Gate>, NoMemory>
-    ensures { IfOk result (λ gates. map gate_seen gates.items ≡ full_gates_from coded.now 0 coded.now.graph.signals) }
+    ensures { IfOk result
+        (λ gates. map gate_seen gates.items ≡ full_gates_from coded.now 0 coded.now.graph.signals) }
 {
     let graph = coded.graph();
     let mut gates = Vec::new(alloc);

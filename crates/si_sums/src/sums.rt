@@ -12,7 +12,8 @@ use si_graph::coded::Coded;
 use std::alloc::Global;
 use std::collections::BTreeSet;
 
-/// The sum of the full cubes of the states at which the signal's next value is 1: each cube once, in state order.
+/// The sum of the full cubes of the states at which the signal's next value is 1: each cube once,
+/// in state order.
 pub fn sum_of(alloc: Global, coded: &Coded, z: Sig) -> Result<Sum, NoMemory>
     requires { z < length coded.now.graph.signals }
     ensures { IfOk result (λ sum. sum ≡ full_sum coded.now z) }

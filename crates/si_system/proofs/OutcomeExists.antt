@@ -37,7 +37,8 @@ none_below_more P k none isnt u below holds = elim (cases_lt u k) [
   | inr larger ↦ let same : u ≡ k = omega arith in isnt (subst P same holds)
 ]
 
-first_below : (P : ℕ → Type 0) → ((u : ℕ) → Decided (P u)) → (k : ℕ) → ((z : ℕ) × IsFirst P z) ⊎ ((u : ℕ) → u < k → P u → ⊥)
+first_below : (P : ℕ → Type 0) → ((u : ℕ) → Decided (P u)) → (k : ℕ)
+    → ((z : ℕ) × IsFirst P z) ⊎ ((u : ℕ) → u < k → P u → ⊥)
 first_below P decide zero = inr (λ u below holds. absurd (omega arith))
 first_below P decide (suc k) = elim (first_below P decide k) [
   | inl found ↦ inl found
@@ -66,7 +67,8 @@ tested_arc s e t a is =
 step_decided : (g : StateGraph) (s : ℕ) (e : Event) (t : ℕ) → Decided (Step g s e t)
 step_decided g s e t = elim (cases_Bool (list_any (is_arc s e t) g.edges)) [
   | inl passes ↦ inl (step_of passes)
-  | inr fails ↦ inr (λ step. true≢false (sym (list_any_at (is_arc s e t) g.edges step.0 (arc s e t) step.1 (ap (is_arc s e t) step.2 ∙ arc_test s e t)) ∙ fails))
+  | inr fails ↦ inr (λ step. true≢false (sym (list_any_at (is_arc s e t) g.edges step.0 (arc s e t) step.1
+      (ap (is_arc s e t) step.2 ∙ arc_test s e t)) ∙ fails))
 ]
   where
     step_of : list_any (is_arc s e t) g.edges ≡ true → Step g s e t
@@ -90,7 +92,8 @@ some_least_target g s e t step = elim (first_below (λ u. Step g s e u) (step_de
 
 some_following : (g : StateGraph) (s : ℕ) (e : Event) → (place : Option ℕ) × Follows g s e place
 some_following g s e = elim (cases_Bool (enables g s e)) [
-  | inl enabled ↦ let step = step_from_enables g s e enabled in let target = some_least_target g s e step.0 step.1 in (Some target.0, target.1)
+  | inl enabled ↦ let step = step_from_enables g s e enabled in let target = some_least_target g s e step.0 step.1 in
+      (Some target.0, target.1)
   | inr isnt ↦ (None, λ enabled. true≢false (sym enabled ∙ isnt))
 ]
 
@@ -113,7 +116,8 @@ excited_decided n values z = elim (slice_get_cases n.signals z).1 [
   | inr past ↦ inr (λ is. let e : Some is.gate.0 ≡ None = sym is.gate.1 ∙ past.1 in cc)
 ]
   where
-    undriven : (x y : Signal) → slice_get n.signals z ≡ Some x → slice_get n.signals z ≡ Some y → is_driven x.kind ≡ false → is_driven y.kind ≡ true → ⊥
+    undriven : (x y : Signal) → slice_get n.signals z ≡ Some x → slice_get n.signals z ≡ Some y
+        → is_driven x.kind ≡ false → is_driven y.kind ≡ true → ⊥
     undriven x y at also isnt is =
         let same : x ≡ y = cc in
         true≢false (sym is ∙ ap (λ (s : Signal). is_driven s.kind) (sym same) ∙ isnt)
@@ -131,7 +135,8 @@ loses_decided n before after fired z = elim (cases_eq z fired) [
 ]
 
 -- ---- whether an event is a step
-may_decided : (kind : SigKind) (g : StateGraph) (n : Netlist) (values s : ℕ) (e : Event) → ((place : Option ℕ) × May kind g n values s e place) ⊎ ((place : Option ℕ) → May kind g n values s e place → ⊥)
+may_decided : (kind : SigKind) (g : StateGraph) (n : Netlist) (values s : ℕ) (e : Event)
+    → ((place : Option ℕ) × May kind g n values s e place) ⊎ ((place : Option ℕ) → May kind g n values s e place → ⊥)
 may_decided Input g n values s e = elim (cases_Bool (enables g s e)) [
   | inl enabled ↦ let place = some_following g s e in inl (place.0, (enabled, place.1))
   | inr isnt ↦ inr (λ place is. true≢false (sym is.0 ∙ isnt))
@@ -156,7 +161,10 @@ is_step_decided g n x e = from x.place refl
     at s signal read = elim (same_or_not (bit x.values e.sig) (not e.up)) [
       | inr differs ↦ inr (λ step. differs step.1.old_value)
       | inl old ↦ elim (may_decided signal.kind g n x.values s e) [
-        | inl (place, is) ↦ inl (record { values = flip x.values e.sig; place = place }, step_taken g n x e g n x.values s signal (flip x.values e.sig) place read old refl is)
+        | inl (place, is) ↦ inl (
+          record { values = flip x.values e.sig; place = place },
+          step_taken g n x e g n x.values s signal (flip x.values e.sig) place read old refl is,
+        )
         | inr none ↦ inr (no_step g n x e g n x.values s signal read none)
       ]
     ]
@@ -164,7 +172,13 @@ is_step_decided g n x e = from x.place refl
     from : (place : Option ℕ) → x.place ≡ place → Decided (IsStep g n x e)
     from None astray = inr (λ step. let h : Some step.1.at ≡ None = sym step.1.not_astray ∙ astray in cc)
     from (Some s) stands = elim (slice_get_cases n.signals e.sig).1 [
-      | inl there ↦ at s there.0 (record { graph_is = refl; netlist_is = refl; values_are = refl; stands = stands; named = there.2 })
+      | inl there ↦ at s there.0 (record {
+        graph_is = refl;
+        netlist_is = refl;
+        values_are = refl;
+        stands = stands;
+        named = there.2;
+      })
       | inr past ↦ inr (λ step. let h : Some step.1.signal ≡ None = sym step.1.named ∙ past.1 in cc)
     ]
 
@@ -172,15 +186,17 @@ is_step_decided g n x e = from x.place refl
 placed : (x : State) (s : ℕ) → x.place ≡ Some s → IsSome x.place
 placed x s stands = subst (λ (p : Option ℕ). IsSome p) (sym stands) refl
 
-pub some_verdict : (g : StateGraph) (n : Netlist) (x : State) (e : Event) → (v : Verdict) × (y : State) × IsVerdict g n x e v y
+pub some_verdict : (g : StateGraph) (n : Netlist) (x : State) (e : Event)
+    → (v : Verdict) × (y : State) × IsVerdict g n x e v y
 some_verdict g n x e = elim (is_step_decided g n x e) [
   | inr none ↦ (Blocked, x, (none, refl))
   | inl (y, fires) ↦ elim (place_of y) [
     | inl astray ↦ (Astray e.sig, y, (fires, astray, refl))
-    | inr stands ↦ elim (first_below (Loses n x.values y.values e.sig) (loses_decided n x.values y.values e.sig) (length n.signals)) [
-      | inl (z, lost) ↦ (Lost z, y, (fires, stands, record { loses = lost.holds; first = lost.first }))
-      | inr none ↦ (Done, y, (fires, stands, λ z lost. none z (lost_within n x.values y.values e.sig z lost) lost))
-    ]
+    | inr stands ↦ elim (first_below (Loses n x.values y.values e.sig)
+        (loses_decided n x.values y.values e.sig) (length n.signals)) [
+          | inl (z, lost) ↦ (Lost z, y, (fires, stands, record { loses = lost.holds; first = lost.first }))
+          | inr none ↦ (Done, y, (fires, stands, λ z lost. none z (lost_within n x.values y.values e.sig z lost) lost))
+        ]
   ]
 ]
   where
@@ -192,8 +208,10 @@ some_verdict g n x e = elim (is_step_decided g n x e) [
     place_of y = from y y.place refl
 
 -- an outcome with one more event in front that passes
-one_before : (g : StateGraph) (n : Netlist) (x : State) (e : Event) (es : List Event) (y : State) (o : Outcome) → IsVerdict g n x e Done y → IsOutcome g n y es o → (p : Outcome) × IsOutcome g n x (e ∷ es) p
-one_before g n x e es y (outcome.Done values state) done is = (outcome.Done values state, (is.0, (y, done, is.1), is.2, is.3))
+one_before : (g : StateGraph) (n : Netlist) (x : State) (e : Event) (es : List Event) (y : State) (o : Outcome)
+    → IsVerdict g n x e Done y → IsOutcome g n y es o → (p : Outcome) × IsOutcome g n x (e ∷ es) p
+one_before g n x e es y (outcome.Done values state) done is =
+    (outcome.Done values state, (is.0, (y, done, is.1), is.2, is.3))
 one_before g n x e es y (outcome.Differs step f v) done first = (
   outcome.Differs (step + 1) f v,
   record {
@@ -210,7 +228,8 @@ one_before g n x e es y (outcome.Differs step f v) done first = (
 )
 
 -- the first event doesn't pass
-at_once : (g : StateGraph) (n : Netlist) (x : State) (e : Event) (es : List Event) (v : Verdict) (y : State) → IsVerdict g n x e v y → v ≢ Done → (o : Outcome) × IsOutcome g n x (e ∷ es) o
+at_once : (g : StateGraph) (n : Netlist) (x : State) (e : Event) (es : List Event) (v : Verdict) (y : State)
+    → IsVerdict g n x e v y → v ≢ Done → (o : Outcome) × IsOutcome g n x (e ∷ es) o
 at_once g n x e es v y fired differs = (
   outcome.Differs 1 e v,
   record {
@@ -226,14 +245,16 @@ at_once g n x e es v y fired differs = (
   },
 )
 
-after_first : (g : StateGraph) (n : Netlist) (x : State) (e : Event) (es : List Event) (v : Verdict) (y : State) → IsVerdict g n x e v y → ((z : State) → IsSome z.place → (o : Outcome) × IsOutcome g n z es o)
+after_first : (g : StateGraph) (n : Netlist) (x : State) (e : Event) (es : List Event) (v : Verdict) (y : State)
+    → IsVerdict g n x e v y → ((z : State) → IsSome z.place → (o : Outcome) × IsOutcome g n z es o)
     → (o : Outcome) × IsOutcome g n x (e ∷ es) o
 after_first g n x e es Blocked y fired rest = at_once g n x e es Blocked y fired (λ same. cc)
 after_first g n x e es (Astray sig) y fired rest = at_once g n x e es (Astray sig) y fired (λ same. cc)
 after_first g n x e es (Lost sig) y fired rest = at_once g n x e es (Lost sig) y fired (λ same. cc)
 after_first g n x e es Done y fired rest = (let o = rest y fired.1 in one_before g n x e es y o.0 fired o.1)
 
-pub some_outcome : (g : StateGraph) (n : Netlist) (x : State) (schedule : List Event) → IsSome x.place → (o : Outcome) × IsOutcome g n x schedule o
+pub some_outcome : (g : StateGraph) (n : Netlist) (x : State) (schedule : List Event) → IsSome x.place
+    → (o : Outcome) × IsOutcome g n x schedule o
 some_outcome g n x [] stands = from x.place refl stands
   where
     from : (place : Option ℕ) → x.place ≡ place → IsSome place → (o : Outcome) × IsOutcome g n x [] o

@@ -23,34 +23,45 @@ use Rattle.si_words.specs.Events.{event_fault, event_name, event_sign, sign_faul
 use Rattle.si_system.specs.ScheduleText.{signal_names, words, line_fault, schedule_fault, schedule_of}
 
 -- the name of a signal is none of those before it
-pub fresh : (signals : List Signal) (i : ℕ) (d : Signal) → AllPairs (λ (x y : Signal). x.name ≢ y.name) signals → i < length signals → ¬ Contains (take i (signal_names signals)) (get_or signals i d).name
+pub fresh : (signals : List Signal) (i : ℕ) (d : Signal) → AllPairs (λ (x y : Signal). x.name ≢ y.name) signals
+    → i < length signals → ¬ Contains (take i (signal_names signals)) (get_or signals i d).name
 fresh signals i d distinct within (k, inside, at) =
     let short : k < min i (length (signal_names signals)) = rw (← length-take i (signal_names signals)) inside in
     let before : k < i = omega arith in
     let here : get_or (take i (signal_names signals)) k (get_or signals i d).name ≡ (get_or signals k d).name =
-    get_or-take i (signal_names signals) k (get_or signals i d).name before ∙ get_or-map (λ (x : Signal). x.name) signals k d (get_or signals i d).name (omega arith) in
+    get_or-take i (signal_names signals) k (get_or signals i d).name before
+    ∙ get_or-map (λ (x : Signal). x.name) signals k d (get_or signals i d).name (omega arith) in
     distinct k i d before within (sym here ∙ at)
 
 -- one more name
-pub one_more : (signals : List Signal) (i : ℕ) (d : Signal) → i < length signals → take (i + 1) (signal_names signals) ≡ take i (signal_names signals) ++ (get_or signals i d).name ∷ []
+pub one_more : (signals : List Signal) (i : ℕ) (d : Signal) → i < length signals
+    → take (i + 1) (signal_names signals) ≡ take i (signal_names signals) ++ (get_or signals i d).name ∷ []
 one_more signals i d within =
-    take_more (signal_names signals) i (get_or signals i d).name (rw length-map within) ∙ ap (λ (n : List ℕ). take i (signal_names signals) ++ n ∷ []) (get_or-map (λ (x : Signal). x.name) signals i d (get_or signals i d).name within)
+    take_more (signal_names signals) i (get_or signals i d).name (rw length-map within)
+    ∙ ap (λ (n : List ℕ). take i (signal_names signals) ++ n ∷ [])
+    (get_or-map (λ (x : Signal). x.name) signals i d (get_or signals i d).name within)
 
-pub grows : (signals : List Signal) (i : ℕ) (d : Signal) (name : List ℕ) (old new : List (List ℕ)) → AllPairs (λ (x y : Signal). x.name ≢ y.name) signals → i < length signals → old ≡ take i (signal_names signals) → name ≡ (get_or signals i d).name → (¬ Contains old name → new ≡ old ++ name ∷ []) → new ≡ take (i + 1) (signal_names signals)
+pub grows : (signals : List Signal) (i : ℕ) (d : Signal) (name : List ℕ) (old new : List (List ℕ))
+    → AllPairs (λ (x y : Signal). x.name ≢ y.name) signals → i < length signals → old ≡ take i (signal_names signals)
+    → name ≡ (get_or signals i d).name → (¬ Contains old name → new ≡ old ++ name ∷ [])
+    → new ≡ take (i + 1) (signal_names signals)
 grows signals i d name old new distinct within is named added =
     let new_name : ¬ Contains old name = rw (is, named) (fresh signals i d distinct within) in
     added new_name ∙ rw (is, named) (sym (one_more signals i d within))
 
 -- ---- the signal of an event without fault is one of the names
-place_within : (names : List (List ℕ)) (name : List ℕ) → stands_in names name ≡ true → unwrap_or (position (λ n. bytes_eq name n) names) 0 < length names
+place_within : (names : List (List ℕ)) (name : List ℕ) → stands_in names name ≡ true
+    → unwrap_or (position (λ n. bytes_eq name n) names) 0 < length names
 place_within names name stands = elim (cases_lt (position_or_len (λ n. bytes_eq name n) names) (length names)) [
   | inl within ↦ grind arith
   | inr past ↦
       let (k, n, inside, at, same) = Any-from_list_any (λ n. bytes_eq name n) names stands in
-      absurd (true≢false (sym same ∙ ap (λ x. bytes_eq name x) (sym at) ∙ fails_before_first (λ x. bytes_eq name x) names k n (omega arith)))
+      absurd (true≢false (sym same ∙ ap (λ x. bytes_eq name x) (sym at)
+      ∙ fails_before_first (λ x. bytes_eq name x) names k n (omega arith)))
 ]
 
-stands : (names : List (List ℕ)) (word : List ℕ) → event_fault names word ≡ None → stands_in names (event_name word) ≡ true
+stands : (names : List (List ℕ)) (word : List ℕ) → event_fault names word ≡ None
+    → stands_in names (event_name word) ≡ true
 stands names word none =
     let later = (both (when (not (is_signal_name (event_name word))) BadEvent) _ none).1 in
     let last = (both (sign_fault (event_sign word)) _ later).1 in
@@ -60,26 +71,38 @@ stands names word none =
     shown true e = refl
     shown false e = absurd (true≢false e)
 
-words_within : (names ws : List (List ℕ)) → first_in (event_fault names) ws ≡ None → All (λ (e : Event). e.sig < length names) (map (event_of names) ws)
+words_within : (names ws : List (List ℕ)) → first_in (event_fault names) ws ≡ None
+    → All (λ (e : Event). e.sig < length names) (map (event_of names) ws)
 words_within names [] none = All-nil (λ (e : Event). e.sig < length names)
 words_within names (w ∷ ws) none =
     let parts = both (event_fault names w) _ none in
-    All-cons (λ (e : Event). e.sig < length names) (event_of names w) (map (event_of names) ws) (place_within names (event_name w) (stands names w parts.0)) (words_within names ws parts.1)
+    All-cons (λ (e : Event). e.sig < length names) (event_of names w) (map (event_of names) ws)
+    (place_within names (event_name w) (stands names w parts.0)) (words_within names ws parts.1)
 
 -- a line and the lines after it have no fault where both have none
-line_none : (n : ℕ) (fault : Option TextKind) (later : Option (ℕ × TextKind)) → (at_line n fault otherwise later) ≡ None → (fault ≡ None) × (later ≡ None)
+line_none : (n : ℕ) (fault : Option TextKind) (later : Option (ℕ × TextKind)) → (at_line n fault otherwise later) ≡ None
+    → (fault ≡ None) × (later ≡ None)
 line_none n None later none = (refl, none)
 line_none n (Some kind) later none = absurd cc
 
-lines_within : (names : List (List ℕ)) (lines : List Line) → first_in (line_fault names) lines ≡ None → All (λ (e : Event). e.sig < length names) (map (event_of names) (flat_map words lines))
+lines_within : (names : List (List ℕ)) (lines : List Line) → first_in (line_fault names) lines ≡ None
+    → All (λ (e : Event). e.sig < length names) (map (event_of names) (flat_map words lines))
 lines_within names [] none = All-nil (λ (e : Event). e.sig < length names)
 lines_within names (line ∷ lines) none =
-    let parts = line_none line.0 (when (has_bad_byte line.1) BadByte otherwise first_in (event_fault names) (words line)) _ none in
+    let parts = line_none line.0
+    (when (has_bad_byte line.1) BadByte otherwise first_in (event_fault names) (words line)) _ none in
     let here = (both (when (has_bad_byte line.1) BadByte) _ parts.0).1 in
-    rw (flat_map-cons words line lines, map-append (event_of names) (words line) (flat_map words lines)) (All-append (λ (e : Event). e.sig < length names) (map (event_of names) (words line)) (map (event_of names) (flat_map words lines)) (words_within names (words line) here) (lines_within names lines parts.1))
+    rw (flat_map-cons words line lines, map-append (event_of names) (words line) (flat_map words lines))
+    (All-append (λ (e : Event). e.sig < length names) (map (event_of names) (words line))
+    (map (event_of names) (flat_map words lines)) (words_within names (words line) here)
+    (lines_within names lines parts.1))
 
-pub within : {X : Type 0} (view : X → List Event) (signals : List Signal) (names : List (List ℕ)) (text : List ℕ) (r : Result X TextFault) → names ≡ signal_names signals → Gives view r (schedule_fault names text) (schedule_of names text) → IfOk r (λ x. All (λ (e : Event). e.sig < length signals) (view x))
+pub within : {X : Type 0} (view : X → List Event) (signals : List Signal)
+    (names : List (List ℕ)) (text : List ℕ) (r : Result X TextFault) → names ≡ signal_names signals
+    → Gives view r (schedule_fault names text) (schedule_of names text)
+    → IfOk r (λ x. All (λ (e : Event). e.sig < length signals) (view x))
 within view signals names text (Ok x) named gives =
     let count : length names ≡ length signals = ap length named ∙ length-map signals (λ (x : Signal). x.name) in
-    rw gives.1 (subst (λ n. All (λ (e : Event). e.sig < n) (schedule_of names text)) count (lines_within names (numbered text) gives.0))
+    rw gives.1 (subst (λ n. All (λ (e : Event). e.sig < n) (schedule_of names text)) count
+    (lines_within names (numbered text) gives.0))
 within view signals names text (Err e) named gives = tt

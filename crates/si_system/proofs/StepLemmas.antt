@@ -13,23 +13,29 @@ use Rattle.si_system.specs.Verdict.{System, IsStep, Loses}
 pub lost_within : (n : Netlist) (before after fired z : ℕ) → Loses n before after fired z → z < length n.signals
 lost_within n before after fired z lost = slice_get_within n.signals z lost.was_excited.gate.0 lost.was_excited.gate.1
 
-pub none_lost_more : (n : Netlist) (before after fired k : ℕ) (found : Bool) → (IsTrue found ↔ Loses n before after fired k) → found ≡ false
+pub none_lost_more : (n : Netlist) (before after fired k : ℕ) (found : Bool)
+    → (IsTrue found ↔ Loses n before after fired k) → found ≡ false
     → ((u : ℕ) → u < k → Loses n before after fired u → ⊥) → (u : ℕ) → u < k + 1 → Loses n before after fired u → ⊥
-none_lost_more n before after fired k found both isnt none = below_more _ _ none (λ lost. true≢false (sym (both.1 lost) ∙ isnt))
+none_lost_more n before after fired k found both isnt none =
+    below_more _ _ none (λ lost. true≢false (sym (both.1 lost) ∙ isnt))
 
 -- what is read of a system at x: the graph, the netlist, the values and the state, and the signal of an event
-pub record IsReadAt (g : StateGraph) (n : Netlist) (x : State) (e : Event) (h : StateGraph) (m : Netlist) (values s : ℕ) (signal : Signal) : Type 0 where
+pub record IsReadAt (g : StateGraph) (n : Netlist) (x : State) (e : Event) (h : StateGraph) (m : Netlist) (values s : ℕ)
+    (signal : Signal) : Type 0 where
   pub graph_is : h ≡ g
   pub netlist_is : m ≡ n
   pub values_are : values ≡ x.values
   pub stands : x.place ≡ Some s
   pub named : slice_get n.signals e.sig ≡ Some signal
 
-named_at : (xs ys : List Signal) (i j : ℕ) (d : Signal) → xs ≡ ys → i ≡ j → j < length ys → slice_get ys j ≡ Some (get_or xs i d)
+named_at : (xs ys : List Signal) (i j : ℕ) (d : Signal) → xs ≡ ys → i ≡ j → j < length ys
+    → slice_get ys j ≡ Some (get_or xs i d)
 named_at xs ys i j d same at within = rw (same, at) (slice_get-get_or ys j d within)
 
-pub read_of : (y : System) (e : Event) (h : StateGraph) (m : Netlist) (values s : ℕ) (xs : List Signal) (i : ℕ) (d : Signal) → h ≡ y.coded.graph → m ≡ y.netlist → values ≡ y.state.values
-    → y.state.place ≡ Some s → xs ≡ m.signals → i ≡ e.sig → e.sig < length y.netlist.signals → IsReadAt y.coded.graph y.netlist y.state e h m values s (get_or xs i d)
+pub read_of : (y : System) (e : Event) (h : StateGraph) (m : Netlist) (values s : ℕ) (xs : List Signal) (i : ℕ)
+    (d : Signal) → h ≡ y.coded.graph → m ≡ y.netlist → values ≡ y.state.values
+    → y.state.place ≡ Some s → xs ≡ m.signals → i ≡ e.sig → e.sig < length y.netlist.signals
+    → IsReadAt y.coded.graph y.netlist y.state e h m values s (get_or xs i d)
 read_of y e h m values s xs i d graph netlist same stands signals at within = record {
   graph_is = graph;
   netlist_is = netlist;
@@ -38,14 +44,16 @@ read_of y e h m values s xs i d graph netlist same stands signals at within = re
   named = named_at xs y.netlist.signals i e.sig d (signals ∙ ap (λ (n : Netlist). n.signals) netlist) at within;
 }
 
-may_at : (g : StateGraph) (n : Netlist) (x : State) (e : Event) (h : StateGraph) (m : Netlist) (values s : ℕ) (signal : Signal) (place : Option ℕ) → IsReadAt g n x e h m values s signal
+may_at : (g : StateGraph) (n : Netlist) (x : State) (e : Event) (h : StateGraph) (m : Netlist) (values s : ℕ)
+    (signal : Signal) (place : Option ℕ) → IsReadAt g n x e h m values s signal
     → May signal.kind h m values s e place → May signal.kind g n x.values s e place
 may_at g n x e h m values s signal place read may =
     subst (λ (k : ℕ). May signal.kind g n k s e place) read.values_are
     (subst (λ (k : Netlist). May signal.kind g k values s e place) read.netlist_is
     (subst (λ (k : StateGraph). May signal.kind k m values s e place) read.graph_is may))
 
-may_read : (g : StateGraph) (n : Netlist) (x : State) (e : Event) (h : StateGraph) (m : Netlist) (values s : ℕ) (signal : Signal) (place : Option ℕ) → IsReadAt g n x e h m values s signal
+may_read : (g : StateGraph) (n : Netlist) (x : State) (e : Event) (h : StateGraph) (m : Netlist) (values s : ℕ)
+    (signal : Signal) (place : Option ℕ) → IsReadAt g n x e h m values s signal
     → May signal.kind g n x.values s e place → May signal.kind h m values s e place
 may_read g n x e h m values s signal place read may =
     subst (λ (k : StateGraph). May signal.kind k m values s e place) (sym read.graph_is)
@@ -53,7 +61,8 @@ may_read g n x e h m values s signal place read may =
     (subst (λ (k : ℕ). May signal.kind g n k s e place) (sym read.values_are) may))
 
 -- a signal that may not switch makes no step
-pub no_step : (g : StateGraph) (n : Netlist) (x : State) (e : Event) (h : StateGraph) (m : Netlist) (values s : ℕ) (signal : Signal) → IsReadAt g n x e h m values s signal
+pub no_step : (g : StateGraph) (n : Netlist) (x : State) (e : Event) (h : StateGraph) (m : Netlist) (values s : ℕ)
+    (signal : Signal) → IsReadAt g n x e h m values s signal
     → ((place : Option ℕ) → May signal.kind h m values s e place → ⊥) → IsStep g n x e → ⊥
 no_step g n x e h m values s signal read none step =
     let y = step.0 in
@@ -64,8 +73,10 @@ no_step g n x e h m values s signal read none step =
     none y.place (may_read g n x e h m values s signal y.place read may)
 
 -- a signal that may switch makes a step
-pub step_taken : (g : StateGraph) (n : Netlist) (x : State) (e : Event) (h : StateGraph) (m : Netlist) (values s : ℕ) (signal : Signal) (new : ℕ) (place : Option ℕ)
-    → IsReadAt g n x e h m values s signal → bit values e.sig ≡ not e.up → new ≡ flip values e.sig → May signal.kind h m values s e place
+pub step_taken : (g : StateGraph) (n : Netlist) (x : State) (e : Event) (h : StateGraph) (m : Netlist) (values s : ℕ)
+    (signal : Signal) (new : ℕ) (place : Option ℕ)
+    → IsReadAt g n x e h m values s signal → bit values e.sig ≡ not e.up → new ≡ flip values e.sig
+    → May signal.kind h m values s e place
     → Fires g n x e (record { values = new; place = place })
 step_taken g n x e h m values s signal new place read old made may = record {
   at = s;
@@ -78,7 +89,8 @@ step_taken g n x e h m values s signal new place read old made may = record {
 }
 
 -- what has the new value already makes no step
-pub no_step_again : (g : StateGraph) (n : Netlist) (x : State) (e : Event) → bit x.values e.sig ≡ e.up → IsStep g n x e → ⊥
+pub no_step_again : (g : StateGraph) (n : Netlist) (x : State) (e : Event)
+    → bit x.values e.sig ≡ e.up → IsStep g n x e → ⊥
 no_step_again g n x e new step = same_not e.up (sym new ∙ step.1.old_value)
   where
     same_not : (b : Bool) → b ≡ not b → ⊥

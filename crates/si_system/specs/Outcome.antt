@@ -16,7 +16,8 @@ Passes g n x [] y = x ≡ y
 Passes g n x (e ∷ es) y = (z : State) × IsVerdict g n x e Done z × Passes g n z es y
 
 -- the verdict of e, the event number step counted from 1, is the first that isn't Done
-pub record IsFirstDiffering (g : StateGraph) (n : Netlist) (x : State) (schedule : List Event) (step : ℕ) (e : Event) (verdict : Verdict) : Type 0 where
+pub record IsFirstDiffering (g : StateGraph) (n : Netlist) (x : State) (schedule : List Event)
+    (step : ℕ) (e : Event) (verdict : Verdict) : Type 0 where
   pub before : List Event
   pub after : List Event
   pub cut : schedule ≡ before ++ e ∷ after
@@ -29,5 +30,7 @@ pub record IsFirstDiffering (g : StateGraph) (n : Netlist) (x : State) (schedule
 
 -- the schedule has that outcome from x
 abbrev pub IsOutcome : StateGraph → Netlist → State → List Event → Outcome → Type 0
-IsOutcome g n x schedule (outcome.Done values state) = (y : State) × Passes g n x schedule y × (y.values ≡ values) × (y.place ≡ Some state)
-IsOutcome g n x schedule (outcome.Differs step e verdict) = IsFirstDiffering g n x schedule step e verdict
+IsOutcome g n x schedule (outcome.Done values state) =
+    (y : State) × Passes g n x schedule y × (y.values ≡ values) × (y.place ≡ Some state)
+IsOutcome g n x schedule (outcome.Differs step e verdict) =
+    IsFirstDiffering g n x schedule step e verdict

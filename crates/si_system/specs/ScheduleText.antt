@@ -15,7 +15,8 @@ abbrev pub words : Line → List (List ℕ)
 words line = words_in false (before_comment line.1)
 
 abbrev pub line_fault : List (List ℕ) → Line → Option (ℕ × TextKind)
-line_fault names line = at_line line.0 (when (has_bad_byte line.1) BadByte otherwise first_in (event_fault names) (words line))
+line_fault names line = at_line line.0
+    (when (has_bad_byte line.1) BadByte otherwise first_in (event_fault names) (words line))
 
 -- the first fault, where these are the names of the netlist's signals
 abbrev pub schedule_fault : List (List ℕ) → List ℕ → Option (ℕ × TextKind)

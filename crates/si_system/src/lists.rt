@@ -28,10 +28,11 @@ fn is_same(one: &Signal, other: &Signal) -> bool
     one.name.bytes() == other.name.bytes() && one.kind == other.kind
 }
 
-/// The first place, from 0, at which the graph's signals with their values at its start differ from the given signals
-/// of the netlist with theirs; `None` exactly where they are the same.
+/// The first place, from 0, at which the graph's signals with their values at its start differ from
+/// the given signals of the netlist with theirs; `None` exactly where they are the same.
 pub(crate) fn first_difference(graph: &Coded, netlist: &Netlist) -> Option<usize>
-    ensures difference { MatchOption result (IsFor graph.now netlist.now) (IsFirstDifference graph.now netlist.now) }
+    ensures difference { MatchOption result (IsFor graph.now netlist.now)
+        (IsFirstDifference graph.now netlist.now) }
     ensures within { IfSome result (λ k. k ≤ max_signals) }
 {
     let own = graph.graph().signals();

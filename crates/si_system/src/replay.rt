@@ -28,7 +28,8 @@ pub enum Outcome {
     },
 }
 
-/// Fires the events of the schedule one after another, from the start on, up to the first whose verdict isn't `Done`.
+/// Fires the events of the schedule one after another, from the start on, up to the first whose
+/// verdict isn't `Done`.
 ///
 /// # Errors
 ///
@@ -39,8 +40,10 @@ pub fn replay(
     schedule: &Vec<Event>,
 ) -> Result<Outcome, ListsDiffer>
     requires { All (λ e. e.sig < length netlist.now.signals) schedule.now.items }
-    ensures same { MatchResult result (λ _. IsFor graph.now netlist.now) (λ e. ShowsDifference graph.now netlist.now e.place) }
-    ensures outcome { IfOk result (λ outcome. IsOutcome graph.now.graph netlist.now (start graph.now.graph netlist.now) schedule.now.items outcome) }
+    ensures same { MatchResult result (λ _. IsFor graph.now netlist.now)
+        (λ e. ShowsDifference graph.now netlist.now e.place) }
+    ensures outcome { IfOk result (λ outcome. IsOutcome graph.now.graph netlist.now
+        (start graph.now.graph netlist.now) schedule.now.items outcome) }
 {
     let mut system = System::start(graph, netlist)?;
     Ok(outcome_of(&mut system, schedule))
@@ -50,7 +53,8 @@ pub fn replay(
 fn outcome_of(system: &mut System<'_>, schedule: &Vec<Event>) -> Outcome
     requires events { All (λ e. e.sig < length system.old.netlist.signals) schedule.now.items }
     requires state { IsSome system.old.state.place }
-    ensures { IsOutcome system.old.coded.graph system.old.netlist system.old.state schedule.now.items result }
+    ensures { IsOutcome system.old.coded.graph system.old.netlist system.old.state
+        schedule.now.items result }
 {
     for (k, event) in schedule.iter().enumerate() {
         let verdict = system.fire(*event);

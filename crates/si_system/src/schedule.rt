@@ -39,8 +39,10 @@ fn names_of(alloc: Global, signals: &[Signal]) -> Result<Names, NoMemory>
 /// Appends the events of a line, up to its first fault.
 fn read_line(names: &Names, line: &[u8], events: &mut Vec<Event>) -> Result<(), LineFault>
     requires { length names.now ≤ max_signals }
-    ensures fault { Tells result (when (text.has_bad_byte line.now) BadByte otherwise first_in (event_fault names.now) (text.words_in false (text.before_comment line.now))) }
-    ensures value { OnOk result (events.new.items ≡ events.old.items ++ map (event_of names.now) (text.words_in false (text.before_comment line.now))) }
+    ensures fault { Tells result (when (text.has_bad_byte line.now) BadByte otherwise first_in
+        (event_fault names.now) (text.words_in false (text.before_comment line.now))) }
+    ensures value { OnOk result (events.new.items ≡ events.old.items
+        ++ map (event_of names.now) (text.words_in false (text.before_comment line.now))) }
 {
     if has_bad_byte(line) {
         return Err(LineFault::Kind(TextKind::BadByte));
@@ -55,7 +57,8 @@ fn read_line(names: &Names, line: &[u8], events: &mut Vec<Event>) -> Result<(), 
 /// The events of all lines of the text, in order.
 fn read_lines(alloc: Global, text: &[u8], names: &Names) -> Result<Vec<Event>, TextFault>
     requires { length names.now ≤ max_signals }
-    ensures { Gives (λ v. v.items) result (schedule_fault names.now text.now) (schedule_of names.now text.now) }
+    ensures { Gives (λ v. v.items) result (schedule_fault names.now text.now)
+        (schedule_of names.now text.now) }
 {
     let mut events = Vec::new(alloc);
     let mut lines = Lines::new(text);
@@ -65,17 +68,22 @@ fn read_lines(alloc: Global, text: &[u8], names: &Names) -> Result<Vec<Event>, T
     Ok(events)
 }
 
-/// The events of a schedule over the signals of the netlist: the words of all lines, in order. An event word is a
-/// signal name, then `+` or `-`, then nothing or `/` with one to nine digits; `#` begins a comment.
+/// The events of a schedule over the signals of the netlist: the words of all lines, in order. An
+/// event word is a signal name, then `+` or `-`, then nothing or `/` with one to nine digits; `#`
+/// begins a comment.
 ///
 /// # Errors
 ///
-/// `At` the line of the first fault: `BadByte` before the words of its line, else, at a word, `Toggle` for `~` in place
-/// of the sign, `BadEvent` for any other word that isn't an event, and `Undeclared` for a name that isn't a signal's.
+/// `At` the line of the first fault: `BadByte` before the words of its line, else, at a word,
+/// `Toggle` for `~` in place of the sign, `BadEvent` for any other word that isn't an event, and
+/// `Undeclared` for a name that isn't a signal's.
 /// `NoMemory` only where memory runs out.
 pub fn read_schedule(alloc: Global, text: &[u8], netlist: &Netlist) -> Result<Vec<Event>, TextFault>
-    ensures gives { Gives (λ v. v.items) result (schedule_fault (signal_names netlist.now.signals) text.now) (schedule_of (signal_names netlist.now.signals) text.now) }
-    ensures within { IfOk result (λ events. All (λ e. e.sig < length netlist.now.signals) events.items) }
+    ensures gives { Gives (λ v. v.items) result
+        (schedule_fault (signal_names netlist.now.signals) text.now)
+        (schedule_of (signal_names netlist.now.signals) text.now) }
+    ensures within { IfOk result
+        (λ events. All (λ e. e.sig < length netlist.now.signals) events.items) }
 {
     let names = names_of(alloc, netlist.signals())?;
     read_lines(alloc, text, &names)

@@ -11,14 +11,17 @@ use si_graph::coded::Coded;
 use si_netlist::netlist::Netlist;
 use std::marker::Model;
 
-/// The graph's signals with their values at its start aren't the netlist's signals that aren't inserted with theirs.
+/// The graph's signals with their values at its start aren't the netlist's signals that aren't
+/// inserted with theirs.
 #[derive(Clone, Copy, PartialEq, Eq, Debug)]
 pub struct ListsDiffer {
-    /// The first place, from 1, at which name, kind or value differ, or at which one of the lists has ended.
+    /// The first place, from 1, at which name, kind or value differ, or at which one of the lists
+    /// has ended.
     pub place: u32,
 }
 
-/// A netlist beside an environment that fires only inputs which the graph enables. One signal switches at a time.
+/// A netlist beside an environment that fires only inputs which the graph enables. One signal
+/// switches at a time.
 #[derive(Drop)]
 pub struct System<'a> {
     graph: &'a Coded,
@@ -32,7 +35,11 @@ impl<'a> Model for System<'a> {
 
     ghost Value = { verdict.System };
 
-    ghost view = { λ s. record { coded = s.graph.now; netlist = s.netlist.now; state = record { values = s.values; place = s.state } } };
+    ghost view = { λ s. record {
+      coded = s.graph.now;
+      netlist = s.netlist.now;
+      state = record { values = s.values; place = s.state };
+    } };
 }
 
 impl<'a> System<'a> {
@@ -45,11 +52,16 @@ impl<'a> System<'a> {
     ///
     /// # Errors
     ///
-    /// `ListsDiffer` exactly where the signals of the graph with their values at its start differ from the netlist's
-    /// signals that aren't inserted with theirs.
+    /// `ListsDiffer` exactly where the signals of the graph with their values at its start differ
+    /// from the netlist's signals that aren't inserted with theirs.
     pub fn start(graph: &'a Coded, netlist: &'a Netlist) -> Result<System<'a>, ListsDiffer>
-        ensures same { MatchResult result (λ _. IsFor graph.now netlist.now) (λ e. ShowsDifference graph.now netlist.now e.place) }
-        ensures system { IfOk result (λ system. system ≡ record { coded = graph.now; netlist = netlist.now; state = start graph.now.graph netlist.now }) }
+        ensures same { MatchResult result (λ _. IsFor graph.now netlist.now)
+            (λ e. ShowsDifference graph.now netlist.now e.place) }
+        ensures system { IfOk result (λ system. system ≡ record {
+          coded = graph.now;
+          netlist = netlist.now;
+          state = start graph.now.graph netlist.now;
+        }) }
     {
         match first_difference(graph, netlist) {
             None => Ok(System {
@@ -81,7 +93,10 @@ impl<'a> System<'a> {
     /// The values and the place to which the event leads; `None` exactly where it is no step.
     fn next(&self, e: Event) -> Option<(Code, Option<StateId>)>
         requires { e.sig < length self.now.netlist.signals }
-        ensures { MatchOption result (IsStep self.now.coded.graph self.now.netlist self.now.state e → ⊥) (λ y. Fires self.now.coded.graph self.now.netlist self.now.state e (record { values = y.0; place = y.1 })) }
+        ensures { MatchOption result
+            (IsStep self.now.coded.graph self.now.netlist self.now.state e → ⊥)
+            (λ y. Fires self.now.coded.graph self.now.netlist self.now.state e
+            (record { values = y.0; place = y.1 })) }
     {
         let sig = e.sig;
         let signals = self.netlist.signals();
@@ -108,7 +123,8 @@ impl<'a> System<'a> {
         requires { e.sig < length self.old.netlist.signals }
         ensures graph { self.new.coded ≡ self.old.coded }
         ensures netlist { self.new.netlist ≡ self.old.netlist }
-        ensures verdict { IsVerdict self.old.coded.graph self.old.netlist self.old.state e result self.new.state }
+        ensures verdict { IsVerdict self.old.coded.graph self.old.netlist
+            self.old.state e result self.new.state }
     {
         let fired = e.sig;
         let Some((values, state)) = self.next(e) else {

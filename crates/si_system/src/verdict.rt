@@ -11,6 +11,7 @@ pub enum Verdict {
     Blocked,
     /// The step of a given non-input was taken, and the graph has no arc for it.
     Astray { sig: Sig },
-    /// The step was taken, and the gate of another signal, the first such, was excited before it and isn't after it.
+    /// The step was taken, and the gate of another signal, the first such, was excited before it
+    /// and isn't after it.
     Lost { sig: Sig },
 }

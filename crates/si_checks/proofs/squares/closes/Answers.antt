@@ -8,7 +8,8 @@ returns-in-Some-Some c =
     let here = c.in-Some-Some in
     let one = rw here.is-0 at c.succ-one.ensures in
     let other = rw here.is-1 at c.succ-other.ensures in (
-      λ same. both_stay c.args.graph.now c.args.x.now c.args.y.now here.w here.w2 c.requires.deterministic one other (eqb-true here.w here.w2 (sym c.eq.ensures ∙ same)),
+      λ same. both_stay c.args.graph.now c.args.x.now c.args.y.now here.w here.w2 c.requires.deterministic one other
+          (eqb-true here.w here.w2 (sym c.eq.ensures ∙ same)),
       λ closes. c.eq.ensures ∙ eq-eqb here.w here.w2 (closes.meets here.w here.w2 one.step other.step),
     )
 
@@ -23,5 +24,6 @@ pub returns-in-None-Some : goal.returns-in-None-Some
 returns-in-None-Some c =
     let gone = rw c.in-None-Some.is-0 at c.succ-one.ensures in
     let other = rw c.in-None-Some.is-1 at c.succ-other.ensures in
-    other_gone c.args.graph.now c.args.x.now c.args.y.now c.is_driven-in-None-Some.result c.is_driven-in-None-Some.ensures gone
+    other_gone c.args.graph.now c.args.x.now c.args.y.now c.is_driven-in-None-Some.result
+    c.is_driven-in-None-Some.ensures gone
     (λ _. enables-step c.args.graph.now c.args.y.now.to c.args.x.now.event c.in-None-Some.field-0-1 other.step)

@@ -5,11 +5,17 @@ use Rattle.si_base.specs.Graph.{arc, rise, fall}
 use Rattle.si_graph.proofs.tests.toggle.Goals as goal
 
 abbrev arcs : Bool → List Edge
-arcs up = arc 2 (record { sig = 0; up = up }) 0 ∷ arc 0 (rise 0) 2 ∷ arc 1 (rise 0) 2 ∷ arc 1 (fall 0) 0 ∷ arc 0 (rise 0) 2 ∷ []
+arcs up = arc 2 (record { sig = 0; up = up }) 0 ∷ arc 0 (rise 0) 2 ∷ arc 1 (rise 0) 2
+    ∷ arc 1 (fall 0) 0 ∷ arc 0 (rise 0) 2 ∷ []
 
 within : (up : Bool) → All (λ a. (a.from < 3) × (a.event.sig < 1) × (a.to < 3)) (arcs up)
-within up = All-from_recursion (λ (a : Edge). (a.from < 3) × (a.event.sig < 1) × (a.to < 3)) (arcs up)
-    ((lit< tt, lit< tt, lit< tt), ((lit< tt, lit< tt, lit< tt), ((lit< tt, lit< tt, lit< tt), ((lit< tt, lit< tt, lit< tt), ((lit< tt, lit< tt, lit< tt), tt)))))
+within up = All-from_recursion (λ (a : Edge). (a.from < 3) × (a.event.sig < 1) × (a.to < 3)) (arcs up) (
+  (lit< tt, lit< tt, lit< tt),
+  (
+    (lit< tt, lit< tt, lit< tt),
+    ((lit< tt, lit< tt, lit< tt), ((lit< tt, lit< tt, lit< tt), ((lit< tt, lit< tt, lit< tt), tt))),
+  ),
+)
 
 pub make-requires-clause-within : goal.make-requires-clause-within
 make-requires-clause-within c = rw (c.in_ok-edges.ensures.items, c.in_ok-signals.ensures.items) (within c.args.last_up)

@@ -5,4 +5,6 @@ use Rattle.si_netlist.proofs.GateLineLemmas.{parts_ok}
 use Rattle.si_netlist.proofs.gate_reader.parts_of.Goals as goal
 
 pub returns : goal.returns
-returns c = parts_ok c.args.words.now c.collect.result (map_from_collect _ c.collect.ensures.ran (YieldsList-from_slice_split _ (λ (w : Bor (List ℕ)). bytes_eq (codes "+") w.now) c.args.words.now c.split.ensures.rest c.split.ensures.done c.split.ensures.closure (λ x r q k. search (rules, tests))))
+returns c = parts_ok c.args.words.now c.collect.result (map_from_collect _ c.collect.ensures.ran
+    (YieldsList-from_slice_split _ (λ (w : Bor (List ℕ)). bytes_eq (codes "+") w.now) c.args.words.now
+    c.split.ensures.rest c.split.ensures.done c.split.ensures.closure (λ x r q k. search (rules, tests))))

@@ -6,4 +6,5 @@ use Rattle.si_netlist.proofs.PartLemmas.{InParts}
 use Rattle.si_netlist.proofs.gate_reader.read_literals.Given as goal
 
 abbrev pub invariant-loop-word : goal.invariant-loop-word
-invariant-loop-word l = InParts is_literal (pin_fault l.signals) (literal_of l.signals) (words_now l.words) l.word-index l.literals.items l.fault
+invariant-loop-word l = InParts is_literal (pin_fault l.signals) (literal_of l.signals)
+    (words_now l.words) l.word-index l.literals.items l.fault

@@ -9,5 +9,6 @@ use Rattle.si_netlist.proofs.gate_reader.read_sum.Given as goal
 abbrev pub invariant-loop-part : goal.invariant-loop-part
 invariant-loop-part l = record {
   parts : parts_now l.part-items ≡ parts_at (codes "+") (words_now l.words);
-  read : InParts is_cube (sum_fault l.signals) (cube_of l.signals) (parts_now l.part-items) l.part-index l.cubes.items l.fault;
+  read : InParts is_cube (sum_fault l.signals) (cube_of l.signals)
+      (parts_now l.part-items) l.part-index l.cubes.items l.fault;
 }

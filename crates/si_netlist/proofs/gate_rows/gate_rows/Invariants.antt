@@ -6,4 +6,5 @@ use Rattle.si_netlist.proofs.LoopLemmas.{Doing}
 use Rattle.si_netlist.proofs.gate_rows.gate_rows.Given as goal
 
 abbrev pub invariant-loop-k : goal.invariant-loop-k
-invariant-loop-k l = Doing (gate_fault l.signals) (gate_in l.signals) l.signals l.from l.fn.rows l.k l.rows (map gate_seen l.gates.items)
+invariant-loop-k l =
+    Doing (gate_fault l.signals) (gate_in l.signals) l.signals l.from l.fn.rows l.k l.rows (map gate_seen l.gates.items)

@@ -7,4 +7,6 @@ use Rattle.si_sums.proofs.SumLemmas.{kept_from, unmet}
 use Rattle.si_sums.proofs.sums.sum_of.Given as goal
 
 abbrev pub invariant-loop-s : goal.invariant-loop-s
-invariant-loop-s l = l.cubes.items ++ map (full_cube_from 0 l.coded.graph.signals) (unmet (λ y. contains nat_cmp l.met y) (kept_from (λ s. next_value l.coded s l.z) l.coded.codes l.s)) ≡ full_sum l.coded l.z
+invariant-loop-s l =
+    l.cubes.items ++ map (full_cube_from 0 l.coded.graph.signals) (unmet (λ y. contains nat_cmp l.met y)
+    (kept_from (λ s. next_value l.coded s l.z) l.coded.codes l.s)) ≡ full_sum l.coded l.z

@@ -6,8 +6,10 @@ use Rattle.si_system.proofs.schedule.read_line.Given as goal
 
 abbrev pub invariant-loop-word : goal.invariant-loop-word
 invariant-loop-word l = record {
-  fault : first_in (event_fault l.names) l.words ≡ first_in (event_fault l.names) (words_in false (before_comment l.line));
-  value : l.events.items ++ map (event_of l.names) l.words ≡ l.fn.events.items ++ map (event_of l.names) (words_in false (before_comment l.line));
+  fault : first_in (event_fault l.names) l.words
+      ≡ first_in (event_fault l.names) (words_in false (before_comment l.line));
+  value : l.events.items ++ map (event_of l.names) l.words
+      ≡ l.fn.events.items ++ map (event_of l.names) (words_in false (before_comment l.line));
 }
 
 abbrev pub decreases-loop-word : goal.decreases-loop-word

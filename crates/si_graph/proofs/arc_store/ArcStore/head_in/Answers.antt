@@ -8,5 +8,7 @@ pub returns : goal.returns
 returns c =
     let edges = c.self.inside.edges.items in
     let chained = c.self.invariant in
-    let head = head_is target c.self.inside.states edges _ _ c.args.t _ chained.into_linked chained.into_end (λ k d within. (chained.stored.within k d within).1) in
-    rw (← c.self.view_is) (place_of (IsInto edges c.args.t) 0 (length edges) _ c.at.result (rw c.head.ensures head) (rw (← c.self.view_is) at c.at.ensures))
+    let head = head_is target c.self.inside.states edges _ _ c.args.t _ chained.into_linked chained.into_end
+    (λ k d within. (chained.stored.within k d within).1) in
+    rw (← c.self.view_is) (place_of (IsInto edges c.args.t) 0 (length edges) _ c.at.result (rw c.head.ensures head)
+    (rw (← c.self.view_is) at c.at.ensures))

@@ -15,7 +15,8 @@ JoinsBelow states a = (a.from < states) × (a.to < states)
 pub build-requires-clause-within : goal.build-requires-clause-within
 build-requires-clause-within c =
     let is = dedup_is _ _ _ c.dedup.ensures.filtered in
-    rw is (All-dedup _ (JoinsBelow c.args.states) _ (All-permutation (JoinsBelow c.args.states) _ _ c.sort_unstable.ensures.permutation (λ k d below. let both = c.requires.within k d below in (both.0, both.2))))
+    rw is (All-dedup _ (JoinsBelow c.args.states) _ (All-permutation (JoinsBelow c.args.states) _ _
+    c.sort_unstable.ensures.permutation (λ k d below. let both = c.requires.within k d below in (both.0, both.2))))
 
 pub build-requires-clause-ordered : goal.build-requires-clause-ordered
 build-requires-clause-ordered c =
@@ -30,7 +31,8 @@ invariant_of-result c =
       few_states = c.requires.few_states;
       few_signals = c.requires.few_signals;
       few_edges = omega (arith, c.dedup.ensures.bound, c.sort_unstable.ensures.len, c.requires.few_edges);
-      within = rw is (All-dedup _ inside _ (All-permutation inside _ _ c.sort_unstable.ensures.permutation c.requires.within));
+      within = rw is
+          (All-dedup _ inside _ (All-permutation inside _ _ c.sort_unstable.ensures.permutation c.requires.within));
       starts = c.requires.start;
       kinds = c.requires.kinds;
       names = c.requires.names;
@@ -48,7 +50,8 @@ returns c =
       start_is = refl;
       graph = invariant_of-result c;
       arcs = λ a. (
-        λ there. Contains-permutation _ _ a (IsPermutation-sym _ _ moved) (Contains-from_dedup _ _ a (rw edges at there)),
+        λ there. Contains-permutation _ _ a (IsPermutation-sym _ _ moved)
+            (Contains-from_dedup _ _ a (rw edges at there)),
         λ there. rw edges (Contains-dedup edge_eq_equiv edge_eq-true _ a (Contains-permutation _ _ a moved there)),
       );
     }

@@ -11,9 +11,11 @@ gate_place-requires c =
 pub index-requires : goal.index-requires
 index-requires c =
     let netlist = subst IsNetlist c.self.view_is c.self.invariant in
-    let signals : c.deref.result.now ≡ c.args.self.now.signals = c.deref.ensures.value ∙ ap (λ (n : Netlist). n.signals) c.self.view_is in
+    let signals : c.deref.result.now ≡ c.args.self.now.signals =
+    c.deref.ensures.value ∙ ap (λ (n : Netlist). n.signals) c.self.view_is in
     let place = rw signals at c.gate_place.ensures in
-    let within = gate_place-within _ c.self.inside.gates.items _ netlist c.requires (ap (λ (n : Netlist). n.gates) c.self.view_is) in
+    let within = gate_place-within _ c.self.inside.gates.items _ netlist c.requires
+    (ap (λ (n : Netlist). n.gates) c.self.view_is) in
     omega (arith, place, within, c.self.inside.gates.ok)
 
 pub value-requires : goal.value-requires
@@ -26,7 +28,9 @@ pub returns : goal.returns
 returns c =
     let netlist = subst IsNetlist c.self.view_is c.self.invariant in
     let gates = ap (λ (n : Netlist). n.gates) c.self.view_is in
-    let signals : c.deref.result.now ≡ c.args.self.now.signals = c.deref.ensures.value ∙ ap (λ (n : Netlist). n.signals) c.self.view_is in
+    let signals : c.deref.result.now ≡ c.args.self.now.signals =
+    c.deref.ensures.value ∙ ap (λ (n : Netlist). n.signals) c.self.view_is in
     let place = rw signals at c.gate_place.ensures in
-    let within : c.gate_place.result < length c.self.inside.gates.items = rw place (gate_place-within c.args.self.now _ _ netlist c.requires gates) in
+    let within : c.gate_place.result < length c.self.inside.gates.items =
+    rw place (gate_place-within c.args.self.now _ _ netlist c.requires gates) in
     c.value.ensures ∙ gate_value-read c.args.self.now _ _ _ _ _ gates place within c.index.ensures

@@ -14,16 +14,22 @@ get-requires c =
 pub returns-in_err-place : goal.returns-in_err-place
 returns-in_err-place c =
     let y : System = c.args.self.now in
-    let read = read_of y c.args.e c.self.inside.graph.now.graph c.self.inside.netlist.now c.values-values.result c.in_ok-s.s c.signals-signals.result.now c.sig.inside.0 c.index-signals-sig.result
-    (ap (λ (s : System). s.coded.graph) c.self.view_is) (ap (λ (s : System). s.netlist) c.self.view_is) c.values-values.ensures (sym c.state.ensures ∙ c.in_ok-s.was)
+    let read = read_of y c.args.e c.self.inside.graph.now.graph c.self.inside.netlist.now c.values-values.result
+    c.in_ok-s.s c.signals-signals.result.now c.sig.inside.0 c.index-signals-sig.result
+    (ap (λ (s : System). s.coded.graph) c.self.view_is) (ap (λ (s : System). s.netlist) c.self.view_is)
+    c.values-values.ensures (sym c.state.ensures ∙ c.in_ok-s.was)
     c.signals-signals.ensures.signals c.sig.view_is c.requires in
-    rw c.from_residual-in_err-place.ensures (no_step y.coded.graph y.netlist y.state c.args.e _ _ _ c.in_ok-s.s _ read c.in_err-place.ensures)
+    rw c.from_residual-in_err-place.ensures
+    (no_step y.coded.graph y.netlist y.state c.args.e _ _ _ c.in_ok-s.s _ read c.in_err-place.ensures)
 
 pub returns : goal.returns
 returns c =
     let y : System = c.args.self.now in
-    let read = read_of y c.args.e c.self.inside.graph.now.graph c.self.inside.netlist.now c.values-values.result c.in_ok-s.s c.signals-signals.result.now c.sig.inside.0 c.index-signals-sig.result
-    (ap (λ (s : System). s.coded.graph) c.self.view_is) (ap (λ (s : System). s.netlist) c.self.view_is) c.values-values.ensures (sym c.state.ensures ∙ c.in_ok-s.was)
+    let read = read_of y c.args.e c.self.inside.graph.now.graph c.self.inside.netlist.now c.values-values.result
+    c.in_ok-s.s c.signals-signals.result.now c.sig.inside.0 c.index-signals-sig.result
+    (ap (λ (s : System). s.coded.graph) c.self.view_is) (ap (λ (s : System). s.netlist) c.self.view_is)
+    c.values-values.ensures (sym c.state.ensures ∙ c.in_ok-s.was)
     c.signals-signals.ensures.signals c.sig.view_is c.requires in
     step_taken y.coded.graph y.netlist y.state c.args.e _ _ _ c.in_ok-s.s _ c.flip.result c.in_ok-place.place read
-    (not_from_differs _ _ (λ same. beq_false _ _ c.if-get-e.false (c.get.ensures ∙ same))) c.flip.ensures c.in_ok-place.ensures
+    (not_from_differs _ _ (λ same. beq_false _ _ c.if-get-e.false (c.get.ensures ∙ same))) c.flip.ensures
+    c.in_ok-place.ensures
