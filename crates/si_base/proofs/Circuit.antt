@@ -1,63 +1,27 @@
 -- A netlist whose gates have the next values of a proper graph without conflicts loses no excitation and follows the graph.
-use Rattle.std.proofs.Common.{◌≡◌, ◌≢◌, ℕ, ◌⊎◌, ◌<◌, ◌≤◌, ◌==◌, ◌^◌, ◌&&◌, ◌||◌, not, Bool, true, false, List, [], ◌∷◌, refl, sym, ap, subst, subst₂, ◌∙◌, IsTrue, arith, length, Option, Some, None, IsSome, inl, inr}
-use Rattle.std.proofs.lemmas.Bool.{true≢false, cases_Bool, cases_eq, cases_lt}
-use Rattle.std.proofs.lemmas.Nat.Bits.{bit_at_above}
+use Rattle.std.proofs.Common.{◌≡◌, ◌≢◌, ℕ, ◌<◌, ◌&&◌, ◌||◌, not, Bool, true, false, List, [], ◌∷◌, refl, sym, ap, subst, subst₂, ◌∙◌, IsTrue, arith, length, Option, Some, None, IsSome, inl, inr}
+use Rattle.std.proofs.lemmas.Bool.{true≢false, cases_Bool}
 use Rattle.std.proofs.lemmas.Option.{slice_get_within, slice_get_cases}
 use Rattle.si_base.specs.declared.ids.Event.{Event}
-use Rattle.si_base.specs.declared.graph.Edge.{Edge}
 use Rattle.si_base.specs.declared.graph.Signal.{Signal}
 use Rattle.si_base.specs.declared.graph.SigKind.{SigKind}
 use Rattle.si_base.specs.declared.graph.SigKind.TheVariants.{Input, Output, Internal, Inserted}
 use Rattle.si_base.specs.Bits.{bit, flip}
-use Rattle.si_base.specs.Graph.{StateGraph, Step, arc, rise, fall, enables, is_driven, IsNonInput, IsGraph}
-use Rattle.si_base.specs.Codes.{CodedGraph, code, IsCoded, AreValues}
+use Rattle.si_base.specs.Graph.{StateGraph, Step, rise, fall, enables, is_driven, IsNonInput}
+use Rattle.si_base.specs.Codes.{CodedGraph, code, IsCoded}
 use Rattle.si_base.specs.Proper.{IsProper, IsPersistent}
 use Rattle.si_base.specs.Netlist.{Netlist, IsExcited}
 use Rattle.si_base.specs.System.{State, Fires, Runs, IsReached, start, IsLeastTarget, Follows, May, is_inserted}
 use Rattle.si_base.specs.Behaviour.{IsBisimilar, IsHidden, LosesNoExcitation, HasNoSilentCycle, Implements}
 use Rattle.si_base.specs.RightGates.{GivesNextValues, IsRight}
-use Rattle.si_base.proofs.BitFacts.{flip-same, flip-other, same_codes}
 use Rattle.si_base.proofs.Steps.{enables-step, step_from_enables}
+pub use Rattle.si_base.proofs.StepFacts.{step_within, turns, old_value, code_fits, code_of_step}
 
 -- a system state stands for a state of the graph: its values are the code
 pub record Stands (c : CodedGraph) (x : State) (s : ℕ) : Type 0 where
   pub there : s < c.graph.states
   pub place : x.place ≡ Some s
   pub values : x.values ≡ code c s
-
--- a step has its parts in range
-pub step_within : (g : StateGraph) (s : ℕ) (e : Event) (t : ℕ) → IsGraph g → Step g s e t → (s < g.states) × (e.sig < length g.signals) × (t < g.states)
-step_within g s e t is step =
-    let P : Edge → Type 0 = λ a. (a.from < g.states) × (a.event.sig < length g.signals) × (a.to < g.states) in
-    subst P step.2 (is.within step.0 (arc s e t) step.1)
-
-pub turns : (g : StateGraph) (a : ℕ) (v : ℕ → Bool) (s t : ℕ) (up : Bool) → AreValues g a v → Step g s (record { sig = a; up = up }) t → v t ≡ not (v s)
-turns g a v s t true are step = let h = are.rises s t step in rw (h.0, h.1) refl
-turns g a v s t false are step = let h = are.falls s t step in rw (h.0, h.1) refl
-
-pub code_fits : (c : CodedGraph) (s : ℕ) → IsCoded c → s < c.graph.states → code c s < 2 ^ length c.graph.signals
-code_fits c s is there =
-    let within : s < length c.codes = omega (arith, is.count) in
-    is.no_more s 0 within
-
-no_bit : (k n i : ℕ) → k < 2 ^ n → n ≤ i → bit k i ≡ false
-no_bit k n i small above = ap (λ (x : ℕ). x == 1) (bit_at_above k n i small above)
-
-bit_of_step : (c : CodedGraph) (s : ℕ) (e : Event) (t i : ℕ) → IsCoded c → Step c.graph s e t → ((i ≡ e.sig) ⊎ (i ≡ e.sig → ⊥)) → bit (code c t) i ≡ bit (flip (code c s) e.sig) i
-bit_of_step c s e t i is step (inl same) =
-    let parts = step_within c.graph s e t is.graph_is step in
-    let P : ℕ → Type 0 = λ k. bit (code c t) k ≡ bit (flip (code c s) e.sig) k in
-    subst P (sym same) (turns c.graph e.sig (λ a. bit (code c a) e.sig) s t e.up (is.values e.sig parts.1) step ∙ sym (flip-same (code c s) e.sig))
-bit_of_step c s e t i is step (inr other) =
-    let parts = step_within c.graph s e t is.graph_is step in
-    elim (cases_lt i (length c.graph.signals)) [
-      | inl below ↦ (is.values i below).keeps s t e (λ same. other (sym same)) step ∙ sym (flip-other (code c s) e.sig i other)
-      | inr above ↦ no_bit _ _ i (code_fits c t is parts.2) above ∙ sym (no_bit _ _ i (code_fits c s is parts.0) above) ∙ sym (flip-other (code c s) e.sig i other)
-    ]
-
--- a step flips the bit of its signal
-pub code_of_step : (c : CodedGraph) (s : ℕ) (e : Event) (t : ℕ) → IsCoded c → Step c.graph s e t → code c t ≡ flip (code c s) e.sig
-code_of_step c s e t is step = same_codes (code c t) (flip (code c s) e.sig) (λ i. bit_of_step c s e t i is step (cases_eq i e.sig))
 
 -- a gate that differs from its signal shows that the signal's event is enabled
 excited_up : (gate r f b : Bool) → gate ≡ (r || (b && not f)) → gate ≢ b → b ≡ false → r ≡ true
@@ -170,10 +134,6 @@ may_step c n Input s e t given enabled excited least = (enabled, least)
 may_step c n Output s e t given enabled excited least = (excited refl, least)
 may_step c n Internal s e t given enabled excited least = (excited refl, least)
 may_step c n Inserted s e t given enabled excited least = absurd (true≢false given)
-
-pub old_value : (g : StateGraph) (a : ℕ) (v : ℕ → Bool) (s t : ℕ) (up : Bool) → AreValues g a v → Step g s (record { sig = a; up = up }) t → v s ≡ not up
-old_value g a v s t true are step = (are.rises s t step).0
-old_value g a v s t false are step = (are.falls s t step).0
 
 -- a step of the graph is a step of the system
 pub step_fires : (c : CodedGraph) (n : Netlist) (x : State) (s t : ℕ) (e : Event) → IsCoded c → IsRight c n → Stands c x s → Step c.graph s e t → (z : State) × Fires c.graph n x e z × (z.place ≡ Some t)

@@ -4,15 +4,16 @@ use Rattle.si_base.specs.declared.ids.Event.{Event}
 use Rattle.si_base.specs.declared.ids.Literal.{Literal}
 use Rattle.si_base.specs.declared.graph.Signal.{Signal}
 use Rattle.si_base.specs.declared.graph.SigKind.TheVariants.{Input, Output}
-use Rattle.si_base.specs.Bits.{bit}
+use Rattle.si_base.specs.Bits.{bit, ones}
+use Rattle.si_base.specs.Bytes.{line_feed, space, first_visible, hash, apostrophe, plus, minus, dot, slash, digit_zero, digit_one, digit_nine, less_sign, greater_sign, at_sign, first_capital, last_capital, opening_bracket, closing_bracket, underscore, first_small, last_small, opening_brace, closing_brace, tilde}
 use Rattle.si_base.specs.Graph.{StateGraph, Step, IsReachable, arc, rise, fall, enables, same_event}
-use Rattle.si_base.specs.Codes.{CodedGraph, code, next_value, AreValues}
+use Rattle.si_base.specs.Codes.{CodedGraph, code, next_value, AreValues, parity}
 use Rattle.si_base.specs.Proper.{IsConflict}
 use Rattle.si_base.specs.Netlist.{Sum, SumGate, Netlist, gate_value}
 use Rattle.si_base.specs.System.{State, Fires}
 use Rattle.si_base.specs.Behaviour.{IsBisimilar}
 use Prim.Native.String.{String}
-use Rattle.si_base.specs.NetlistText.{netlist_text}
+use Rattle.si_base.specs.NetlistText.{Version1, netlist_text, netlist_text_in}
 use Rattle.si_base.specs.Cover.{full_netlist}
 use Rattle.si_base.specs.StrictText.{ArcLine, Spelling, strict_text, state_names}
 use mathlib.Core.Bool.{beq}
@@ -167,12 +168,32 @@ pulses_conflict = record {
   differ = λ h. true≢false' (sym h);
 }
 
+-- ---- bytes and codes
+bytes_by_name : (space ∷ hash ∷ apostrophe ∷ plus ∷ minus ∷ dot ∷ slash ∷ at_sign ∷ underscore ∷ []) ≡ codes " #'+-./@_"
+bytes_by_name = refl
+
+bounds_by_name : (first_visible ∷ digit_zero ∷ digit_one ∷ digit_nine ∷ first_capital ∷ last_capital ∷ first_small ∷ last_small ∷ tilde ∷ []) ≡ codes "!019AZaz~"
+bounds_by_name = refl
+
+pairs_by_name : (less_sign ∷ greater_sign ∷ opening_bracket ∷ closing_bracket ∷ opening_brace ∷ closing_brace ∷ line_feed ∷ []) ≡ codes "<>[]{}\n"
+pairs_by_name = refl
+
+three_ones : ones 3 ≡ 7
+three_ones = refl
+
+-- a+ b+ a- changes the value of b alone
+b_changes : parity (rise 0 ∷ rise 1 ∷ fall 0 ∷ []) ≡ 2
+b_changes = refl
+
 -- ---- the text of the netlist
-majority_text : netlist_text majority ≡ codes ".model c2\n.inputs a b\n.outputs c\n.internal\n.inserted\n.start 000\n.gates\nc sum a b + b c + a c\n.end\n"
+majority_text : netlist_text majority ≡ codes ".version 2\n.model c2\n.inputs a b\n.outputs c\n.internal\n.inserted\n.start 000\n.gates\nc sum a b + b c + a c\n.end\n"
 unfolding netlist_text
 majority_text = refl
 
-full_sums_text : netlist_text (full_netlist (codes "c2") coded) ≡ codes ".model c2\n.inputs a b\n.outputs c\n.internal\n.inserted\n.start 000\n.gates\nc sum a b c' + a b c + a' b c + a b' c\n.end\n"
+majority_in_version_1 : netlist_text_in Version1 majority ≡ codes ".model c2\n.inputs a b\n.outputs c\n.internal\n.inserted\n.start 000\n.gates\nc sum a b + b c + a c\n.end\n"
+majority_in_version_1 = refl
+
+full_sums_text : netlist_text (full_netlist (codes "c2") coded) ≡ codes ".version 2\n.model c2\n.inputs a b\n.outputs c\n.internal\n.inserted\n.start 000\n.gates\nc sum a b c' + a b c + a' b c + a b' c\n.end\n"
 unfolding netlist_text full_netlist
 full_sums_text = refl
 

@@ -1,10 +1,9 @@
 -- The sums of full cubes have the next values at the codes of a graph without conflicts.
-use Rattle.std.proofs.Common.{◌≡◌, ℕ, zero, suc, ◌+◌, ◌<◌, ◌≤◌, ◌==◌, ◌^◌, ◌&&◌, ◌||◌, not, Bool, true, false, List, [], ◌∷◌, ◌++◌, refl, sym, ap, ap₂, subst, ◌∙◌, arith, length, get_or, slice_get, map, filter, Option, Some, eqb-true, inl, inr, one-add, zero-add, if◌then◌else◌}
+use Rattle.std.proofs.Common.{◌≡◌, ℕ, zero, suc, ◌+◌, ◌<◌, ◌≤◌, ◌==◌, ◌&&◌, ◌||◌, not, Bool, true, false, List, [], ◌∷◌, ◌++◌, refl, sym, ap, ap₂, subst, ◌∙◌, arith, length, get_or, slice_get, map, filter, Option, Some, eqb-true, inl, inr, one-add, zero-add, if◌then◌else◌}
 use Rattle.std.proofs.lemmas.Bool.{not-false, and_parts, and_from, true≢false, cases_Bool, cases_eq, cases_lt, cases_order}
 use Rattle.std.proofs.lemmas.List.{get_or_default}
 use Rattle.std.proofs.lemmas.List.Folds.{list_any_at, Any-from_list_any}
 use Rattle.std.proofs.lemmas.List.FromFn.{get_or-enumerate_from, length-enumerate_from}
-use Rattle.std.proofs.lemmas.Nat.Bits.{bit_at_above}
 use Rattle.std.specs.List.{list_any, list_all, enumerate_from}
 use mathlib.Core.Bool.{beq}
 use Rattle.si_base.specs.declared.ids.Event.{Event}
@@ -20,7 +19,8 @@ use Rattle.si_base.specs.Behaviour.{Implements}
 use Rattle.si_base.proofs.Steps.{beq-refl, beq-true}
 use Rattle.si_base.proofs.BitFacts.{same_codes, beq_false}
 use Rattle.si_base.specs.RightGates.{HasNoneInserted, IsRight}
-use Rattle.si_base.proofs.Circuit.{code_fits, implements}
+use Rattle.si_base.proofs.StepFacts.{code_fits, no_bit}
+use Rattle.si_base.proofs.Circuit.{implements}
 
 -- ---- the gate of a signal
 past : (b : Bool) (g : Gate) (gs : List Gate) (k : ℕ) → slice_get ((if b then g ∷ [] else []) ++ gs) ((if b then 1 else 0) + k) ≡ slice_get gs k
@@ -109,10 +109,9 @@ same_next c p q z none within_p within_q same non_input =
 -- the full cube of one code holds at another only if they are equal
 cube_tells : (c : CodedGraph) (p s : ℕ) → IsCoded c → p < c.graph.states → s < c.graph.states → list_all (literal_value (code c s)) (full_cube_from 0 c.graph.signals (code c p)) ≡ true → code c p ≡ code c s
 cube_tells c p s is within_p within_s holds =
-    let no_bit : (k i : ℕ) → k < 2 ^ length c.graph.signals → length c.graph.signals ≤ i → bit k i ≡ false = λ k i small above. ap (λ (x : ℕ). x == 1) (bit_at_above k (length c.graph.signals) i small above) in
     same_codes (code c p) (code c s) (λ i. elim (cases_lt i (length c.graph.signals)) [
       | inl below ↦ sym (cube_bits 0 c.graph.signals (code c p) (code c s) holds i (omega arith) (omega arith))
-      | inr above ↦ no_bit _ i (code_fits c p is within_p) above ∙ sym (no_bit _ i (code_fits c s is within_s) above)
+      | inr above ↦ no_bit _ _ i (code_fits c p is within_p) above ∙ sym (no_bit _ _ i (code_fits c s is within_s) above)
     ])
 
 abbrev covers_at : CodedGraph → ℕ → ℕ → ℕ × ℕ → Bool

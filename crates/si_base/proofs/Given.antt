@@ -5,7 +5,8 @@ use Rattle.std.proofs.lemmas.List.Elements.{All-from_recursion, recursion_from_A
 use Rattle.std.specs.List.{AllByRecursion, list_all, slice_split, join_with_byte, slice_index_or}
 use Rattle.si_base.specs.Words.{text_of, is_signal_name, is_model_name, IsStateName, is_letter, is_name_byte, is_word_byte}
 use Rattle.si_base.specs.Graph.{StateGraph, IsCut}
-use Rattle.si_base.specs.StrictText.{Spelling, ArcLine, IsStrict, strict_lines, strict_text, arc_line, list_line, signal_names, state_names, IsGiven, Sg, Spells, sign}
+use Rattle.si_base.specs.StrictText.{Spelling, ArcLine, IsStrict, strict_lines, strict_text, arc_line, list_line, signal_names, state_names, IsGiven, Spells, sign}
+use Rattle.si_base.specs.GivenGraph.{Sg}
 use Rattle.si_base.proofs.Unsplit.{AllWithout, split-join, split-text}
 use Rattle.si_base.proofs.UniqueText.{NoDots, lines_unique, spells_unique}
 use Rattle.si_base.proofs.Unique.{cut_unique}
@@ -201,10 +202,10 @@ given_unique text a b is also =
     let parts : is.parts ≡ also.parts = spelling_unique is.parts also.parts is.strict also.strict (sym is.text_is ∙ also.text_is) in
     let Of : Spelling → Type 0 = λ x. Spells x is.whole in
     let whole : is.whole ≡ also.whole = spells_unique also.parts is.whole also.whole (subst Of parts is.spells) also.spells in
-    let CutOf : StateGraph → Type 0 = λ g. IsCut g is.kept a.graph in
-    let cuts = cut_unique also.whole a.graph b.graph is.kept also.kept (subst CutOf whole is.cut) also.cut in
+    let CutOf : StateGraph → Type 0 = λ g. IsCut g is.given.kept a.graph in
+    let cuts = cut_unique also.whole a.graph b.graph is.given.kept also.given.kept (subst CutOf whole is.given.cut) also.given.cut in
     let make : List ℕ → StateGraph → List (List ℕ) → Sg = λ m g s. record { model = m; graph = g; states = s } in
     let names : Spelling → List ℕ → List (List ℕ) = λ x kept. map (λ s. slice_index_or (state_names x) s []) kept in
-    let model : a.model ≡ b.model = is.model_is ∙ ap (λ (x : Spelling). x.model) parts ∙ sym also.model_is in
-    let states : a.states ≡ b.states = is.states_are ∙ ap₂ names parts cuts.0 ∙ sym also.states_are in
+    let model : a.model ≡ b.model = is.given.model_is ∙ ap (λ (x : Spelling). x.model) parts ∙ sym also.given.model_is in
+    let states : a.states ≡ b.states = is.given.states_are ∙ ap₂ names parts cuts.0 ∙ sym also.given.states_are in
     ap₂ (λ (m : List ℕ) (g : StateGraph). make m g a.states) model cuts.1 ∙ ap (λ (s : List (List ℕ)). make b.model b.graph s) states

@@ -1,5 +1,6 @@
 pub mod Examples
 pub mod Steps
+pub mod StepFacts
 pub mod Circuit
 pub mod BitFacts
 pub mod FullSums

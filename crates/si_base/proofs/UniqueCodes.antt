@@ -1,7 +1,6 @@
 -- A graph has one code for each state.
-use Rattle.std.proofs.Common.{◌≡◌, ◌≢◌, ℕ, ◌⊎◌, ◌<◌, ◌≤◌, ◌^◌, ◌==◌, Bool, false, List, length, sym, ap, subst, ◌∙◌, inl, inr, arith, eqb-true, eq-eqb}
+use Rattle.std.proofs.Common.{◌≡◌, ◌≢◌, ℕ, ◌⊎◌, ◌<◌, ◌==◌, Bool, List, length, sym, ap, subst, ◌∙◌, inl, inr, arith, eqb-true, eq-eqb}
 use Rattle.std.proofs.lemmas.Bool.{cases_Bool, cases_lt, true≢false}
-use Rattle.std.proofs.lemmas.Nat.Bits.{bit_at_above}
 use Rattle.std.proofs.lemmas.List.Folds.{list_any_at, Any-from_list_any}
 use Rattle.std.specs.List.{list_any}
 use Rattle.si_base.specs.declared.ids.Event.{Event}
@@ -11,7 +10,7 @@ use Rattle.si_base.specs.Graph.{StateGraph, Step, arc, IsNonInput, enables}
 use Rattle.si_base.specs.Codes.{AreValues, IsIdle, CodedGraph, IsCoded, IsConnected, code}
 use Rattle.si_base.specs.Proper.{IsConflict}
 use Rattle.si_base.proofs.BitFacts.{same_codes}
-use Rattle.si_base.proofs.Circuit.{step_within, code_fits}
+use Rattle.si_base.proofs.StepFacts.{step_within, code_fits, no_bit}
 use Rattle.si_base.proofs.Parity.{values_along, start_shown, parity, turn}
 
 -- some arc switches a, or none does
@@ -46,10 +45,9 @@ code_unique c d s is also same there = go d.graph d.codes same also
         let Of : StateGraph → Type 0 = λ h. IsCoded (record { graph = h; codes = codes }) in
         let e : CodedGraph = record { graph = c.graph; codes = codes } in
         let here : IsCoded e = subst Of (sym equal) coded in
-        let no_bit : (k i : ℕ) → k < 2 ^ length c.graph.signals → length c.graph.signals ≤ i → bit k i ≡ false = λ k i small above. ap (λ (x : ℕ). x == 1) (bit_at_above k (length c.graph.signals) i small above) in
         same_codes (code c s) (code e s) (λ i. elim (cases_lt i (length c.graph.signals)) [
           | inl below ↦ value_unique c.graph i (λ k. bit (code c k) i) (λ k. bit (code e k) i) s is.connected (λ p f q step. (step_within c.graph p f q is.graph_is step).0) (is.values i below) (here.values i below) there
-          | inr above ↦ no_bit _ i (code_fits c s is there) above ∙ sym (no_bit _ i (code_fits e s here there) above)
+          | inr above ↦ no_bit _ _ i (code_fits c s is there) above ∙ sym (no_bit _ _ i (code_fits e s here there) above)
         ])
 
 -- so the conflicts of a graph are those of its codes, whichever are taken

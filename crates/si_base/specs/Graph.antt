@@ -1,5 +1,5 @@
 -- State graphs: steps, walks, reachable states, and the cut to these.
-use Rattle.std.specs.Prelude.{◌≡◌, ℕ, ◌+◌, ◌*◌, ◌<◌, ◌≤◌, ◌^◌, ◌==◌, ◌&&◌, ◌↔◌, Bool, true, false, List, [], ◌∷◌, length, Contains, All, AllPairs, slice_index, slice_get, Some, if◌then◌else◌, IsTrue}
+use Rattle.std.specs.Prelude.{◌≡◌, ℕ, ◌+◌, ◌*◌, ◌<◌, ◌≤◌, ◌^◌, ◌==◌, ◌&&◌, ◌↔◌, Bool, true, false, List, [], ◌∷◌, length, Contains, All, AllPairs, slice_index, slice_get, Some, unwrap_or, option_map, if◌then◌else◌, IsTrue}
 use mathlib.Core.Bool.{beq}
 use Rattle.std.specs.List.{list_any}
 use Rattle.si_base.specs.declared.ids.Event.{Event}
@@ -50,6 +50,10 @@ same_event e f = (e.sig == f.sig) && beq e.up f.up
 -- some arc leaves s by e
 abbrev pub enables : StateGraph → ℕ → Event → Bool
 enables g s e = list_any (λ a. (a.from == s) && same_event a.event e) g.edges
+
+-- the name of signal z, empty where there is no such signal
+abbrev pub name_of : List Signal → ℕ → List ℕ
+name_of signals z = unwrap_or (option_map (λ x. x.name) (slice_get signals z)) []
 
 -- the kinds that the circuit drives
 abbrev pub is_driven : SigKind → Bool

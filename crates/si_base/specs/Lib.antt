@@ -1,5 +1,6 @@
 pub mod Limits
 pub mod Bits
+pub mod Bytes
 pub mod Order
 pub mod Graph
 pub mod Codes
@@ -8,6 +9,7 @@ pub mod Netlist
 pub mod System
 pub mod Behaviour
 pub mod Words
+pub mod GivenGraph
 pub mod StrictText
 pub mod NetlistText
 pub mod Cover

@@ -1,13 +1,16 @@
 -- The text of a netlist.
-use Rattle.std.specs.Prelude.{ℕ, ◌+◌, Bool, true, false, List, [], ◌∷◌, ◌++◌, map, filter, codes, slice_get, unwrap_or, option_map, if◌then◌else◌}
+use Rattle.std.specs.Prelude.{ℕ, ◌+◌, Bool, true, false, List, [], ◌∷◌, ◌++◌, map, filter, codes, if◌then◌else◌}
 use Rattle.std.specs.List.{zip}
 use Rattle.si_base.specs.declared.ids.Literal.{Literal}
 use Rattle.si_base.specs.declared.graph.Signal.{Signal}
 use Rattle.si_base.specs.declared.graph.SigKind.{SigKind}
 use Rattle.si_base.specs.declared.graph.SigKind.TheVariants.{Input, Output, Internal, Inserted}
 use Rattle.si_base.specs.Bits.{bit}
+use Rattle.si_base.specs.Bytes.{apostrophe, digit_zero, digit_one}
+use Rattle.si_base.specs.Limits.{max_signals, max_signals_version_1}
 use Rattle.si_base.specs.Words.{text_of}
 use Rattle.si_base.specs.Graph.{is_driven}
+pub use Rattle.si_base.specs.Graph.{name_of}
 use Rattle.si_base.specs.Netlist.{Sum, Gate, SumGate, Gc, Cell, Insertion, Netlist}
 
 abbrev pub same_kind : SigKind → SigKind → Bool
@@ -20,12 +23,9 @@ same_kind _ _ = false
 abbrev pub names_of : SigKind → List Signal → List (List ℕ)
 names_of kind signals = map (λ x. x.name) (filter (λ x. same_kind kind x.kind) signals)
 
-abbrev pub name_of : List Signal → ℕ → List ℕ
-name_of signals z = unwrap_or (option_map (λ x. x.name) (slice_get signals z)) []
-
 -- a name, with a mark behind it for the complement
 abbrev pub literal_word : List Signal → Literal → List ℕ
-literal_word signals l = name_of signals l.sig ++ (if l.plain then [] else 39 ∷ [])
+literal_word signals l = name_of signals l.sig ++ (if l.plain then [] else apostrophe ∷ [])
 
 abbrev pub cube_words : List Signal → List Literal → List (List ℕ)
 cube_words signals [] = codes "1" ∷ []
@@ -48,7 +48,7 @@ gate_words signals (Cell name literals sum) = codes "cell" ∷ name ∷ map (lit
 -- the values of the signals from the i-th on
 abbrev pub bits_from : ℕ → List Signal → ℕ → List ℕ
 bits_from i [] values = []
-bits_from i (x ∷ xs) values = (if bit values i then 49 else 48) ∷ bits_from (i + 1) xs values
+bits_from i (x ∷ xs) values = (if bit values i then digit_one else digit_zero) ∷ bits_from (i + 1) xs values
 
 abbrev pub word_if_any : List ℕ → List (List ℕ)
 word_if_any [] = []
@@ -57,7 +57,7 @@ word_if_any (b ∷ bs) = (b ∷ bs) ∷ []
 abbrev pub insert_line : Insertion → List (List ℕ)
 insert_line i = codes ".insert" ∷ i.name ∷ codes "up" ∷ i.up ++ codes "down" ∷ i.down
 
--- the lines, each by its words
+-- the lines after that of the version, each by its words
 abbrev pub netlist_lines : Netlist → List (List (List ℕ))
 netlist_lines n = (codes ".model" ∷ n.model ∷ [])
     ∷ (codes ".inputs" ∷ names_of Input n.signals)
@@ -70,5 +70,24 @@ netlist_lines n = (codes ".model" ∷ n.model ∷ [])
     ∷ map (λ p. p.0.name ∷ gate_words n.signals p.1) (zip (filter (λ x. is_driven x.kind) n.signals) n.gates)
     ++ (codes ".end" ∷ []) ∷ []
 
+-- a text of version 2 has its version in front, and room for all signals; one of version 1 has neither
+pub data Version : Type 0 where
+  Version1 : Version
+  Version2 : Version
+
+abbrev pub version_lines : Version → List (List (List ℕ))
+version_lines Version1 = []
+version_lines Version2 = (codes ".version" ∷ codes "2" ∷ []) ∷ []
+
+-- the most signals that a text of the version names
+abbrev pub most_signals : Version → ℕ
+most_signals Version1 = max_signals_version_1
+most_signals Version2 = max_signals
+
+-- the text of a netlist in that version
+abbrev pub netlist_text_in : Version → Netlist → List ℕ
+netlist_text_in version n = text_of (version_lines version ++ netlist_lines n)
+
+-- the text that is written
 unfoldable pub netlist_text : Netlist → List ℕ
-netlist_text n = text_of (netlist_lines n)
+netlist_text n = netlist_text_in Version2 n

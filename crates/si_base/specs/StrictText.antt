@@ -1,12 +1,14 @@
 -- The strict text of a state graph, by its parts, and the graph that it spells.
-use Rattle.std.specs.Prelude.{◌≡◌, ◌≢◌, ℕ, ◌<◌, ◌≤◌, ◌↔◌, ◌⊎◌, ◌&&◌, Bool, List, [], ◌∷◌, ◌++◌, length, map, flat_map, codes, IsTrue, All, Any, AllPairs, Contains, Some, option_map, slice_get, slice_index_or, bytes_eq, if◌then◌else◌}
+use Rattle.std.specs.Prelude.{◌≡◌, ◌≢◌, ℕ, ◌<◌, ◌≤◌, ◌↔◌, ◌⊎◌, ◌&&◌, Bool, List, [], ◌∷◌, ◌++◌, length, map, flat_map, codes, IsTrue, All, Any, AllPairs, Contains, Some, option_map, slice_get, bytes_eq, if◌then◌else◌}
 use mathlib.Core.Bool.{beq}
 use Rattle.si_base.specs.declared.graph.Edge.{Edge}
 use Rattle.si_base.specs.declared.graph.Signal.{Signal}
-use Rattle.si_base.specs.declared.graph.SigKind.{SigKind}
 use Rattle.si_base.specs.declared.graph.SigKind.TheVariants.{Input, Output, Internal}
+use Rattle.si_base.specs.Bytes.{plus, minus, opening_brace, closing_brace}
 use Rattle.si_base.specs.Words.{text_of, is_signal_name, is_model_name, IsStateName, once}
-use Rattle.si_base.specs.Graph.{StateGraph, IsGraph, IsCut}
+use Rattle.si_base.specs.Graph.{StateGraph, IsGraph}
+use Rattle.si_base.specs.GivenGraph.{IsGivenGraph}
+pub use Rattle.si_base.specs.GivenGraph.{signals_of, Sg}
 use Rattle.si_base.specs.Limits.{max_signals, max_states_read, max_arcs_read}
 
 -- an arc line: a state, a signal with a direction, a state
@@ -27,7 +29,7 @@ pub record Spelling : Type 0 where
 
 -- `+` or `-`
 abbrev pub sign : Bool → ℕ
-sign up = if up then 43 else 45
+sign up = if up then plus else minus
 
 abbrev pub arc_line : ArcLine → List (List ℕ)
 arc_line a = a.from ∷ (a.signal ++ sign a.up ∷ []) ∷ a.to ∷ []
@@ -43,7 +45,7 @@ strict_lines x = (codes ".model" ∷ x.model ∷ [])
     ∷ (list_line (codes ".inputs") x.inputs ++ (list_line (codes ".outputs") x.outputs ++ (list_line (codes ".internal") x.internals
     ++ ((codes ".state" ∷ codes "graph" ∷ [])
     ∷ (map arc_line x.arcs
-    ++ ((codes ".marking" ∷ (123 ∷ x.marked ++ 125 ∷ []) ∷ []) ∷ (codes ".end" ∷ []) ∷ []))))))
+    ++ ((codes ".marking" ∷ (opening_brace ∷ x.marked ++ closing_brace ∷ []) ∷ []) ∷ (codes ".end" ∷ []) ∷ []))))))
 
 unfoldable pub strict_text : Spelling → List ℕ
 strict_text x = text_of (strict_lines x)
@@ -74,9 +76,6 @@ pub record IsStrict (x : Spelling) : Type 0 where
 abbrev pub IsStrictText : List ℕ → Type 0
 IsStrictText text = (x : Spelling) × IsStrict x × (text ≡ strict_text x)
 
-abbrev pub signals_of : SigKind → List (List ℕ) → List Signal
-signals_of kind names = map (λ n. record { name = n; kind = kind }) names
-
 -- the line spells the arc
 pub record SpellsArc (signals : List Signal) (states : List (List ℕ)) (l : ArcLine) (a : Edge) : Type 0 where
   pub from : slice_get states a.from ≡ Some l.from
@@ -92,20 +91,11 @@ pub record Spells (x : Spelling) (g : StateGraph) : Type 0 where
   pub arcs : (a : Edge) → Contains g.edges a ↔ Any (λ l. SpellsArc g.signals (state_names x) l a) x.arcs
   pub start : slice_get (state_names x) g.start ≡ Some x.marked
 
--- a graph with a model name and a name for each state
-pub record Sg : Type 0 where
-  pub model : List ℕ
-  pub graph : StateGraph
-  pub states : List (List ℕ)
-
--- the text spells the given graph: what it spells, cut to the reachable states
+-- the text spells the given graph
 pub record IsGiven (text : List ℕ) (sg : Sg) : Type 0 where
   pub parts : Spelling
   pub strict : IsStrict parts
   pub text_is : text ≡ strict_text parts
   pub whole : StateGraph
   pub spells : Spells parts whole
-  pub kept : List ℕ
-  pub cut : IsCut whole kept sg.graph
-  pub model_is : sg.model ≡ parts.model
-  pub states_are : sg.states ≡ map (λ s. slice_index_or (state_names parts) s []) kept
+  pub given : IsGivenGraph parts.model whole (state_names parts) sg

@@ -3,6 +3,7 @@ use Rattle.std.specs.Prelude.{◌≡◌, ◌≢◌, ℕ, ◌<◌, ◌≤◌, ◌
 use Rattle.std.specs.List.{list_all}
 use Rattle.si_base.specs.declared.ids.Literal.{Literal}
 use Rattle.si_base.specs.declared.graph.SigKind.TheVariants.{Inserted}
+use Rattle.si_base.specs.Bytes.{first_visible, opening_brace, closing_brace, tilde}
 use Rattle.si_base.specs.Words.{is_between, is_signal_name}
 use Rattle.si_base.specs.Graph.{is_driven, kind_place}
 use Rattle.si_base.specs.Netlist.{Sum, Gate, SumGate, Gc, Cell, Insertion, Netlist}
@@ -12,7 +13,7 @@ use Rattle.si_base.specs.Limits.{max_signals}
 -- a word of the netlist text: braces and `#` are bytes like others
 pub record IsWord (word : List ℕ) : Type 0 where
   pub some : 0 < length word
-  pub bytes : IsTrue (list_all (is_between 33 126) word)
+  pub bytes : IsTrue (list_all (is_between first_visible tilde) word)
 
 -- literals in strictly rising signal order, of signals that are there
 pub record IsCube (signals : ℕ) (cube : List Literal) : Type 0 where
@@ -35,7 +36,7 @@ pub record IsInsertion (i : Insertion) : Type 0 where
 
 pub record IsNetlist (n : Netlist) : Type 0 where
   pub model : IsWord n.model
-  pub no_brace : (n.model ≢ 123 ∷ []) × (n.model ≢ 125 ∷ [])
+  pub no_brace : (n.model ≢ opening_brace ∷ []) × (n.model ≢ closing_brace ∷ [])
   pub names : All (λ x. IsTrue (is_signal_name x.name)) n.signals
   pub distinct : AllPairs (λ x y. x.name ≢ y.name) n.signals
   pub kinds : AllPairs (λ x y. kind_place x.kind ≤ kind_place y.kind) n.signals

@@ -1,9 +1,11 @@
 //! Faults of a text.
 
 ghost use Rattle.std.specs.Prelude.{◌≡◌};
-ghost use Rattle.si_base.specs.declared.fault.LineFault.TheVariants.{NoMemory};
+ghost use Rattle.si_base.specs.declared.fault.LineFault.TheVariants.{NoMemory, Kind};
+ghost use Rattle.si_base.specs.declared.fault.TextFault.TheVariants as text;
 ghost use Rattle.si_base.specs.TextFaults.{ToldAt, kind_name};
 
+use crate::ids;
 use std::alloc::{AllocError, AllocFailed};
 use thiserror::Error;
 
@@ -55,6 +57,22 @@ impl<T: Drop> From<AllocFailed<T>> for LineFault {
     }
 }
 
+impl From<ids::NoMemory> for LineFault {
+    ghost from_gives = { λ _ e. e ≡ NoMemory };
+
+    fn from(_e: ids::NoMemory) -> LineFault {
+        LineFault::NoMemory
+    }
+}
+
+impl From<TextKind> for LineFault {
+    ghost from_gives = { λ kind e. e ≡ Kind kind };
+
+    fn from(kind: TextKind) -> LineFault {
+        LineFault::Kind(kind)
+    }
+}
+
 /// Why a text was not read.
 #[derive(Clone, Copy, PartialEq, Eq, Debug, Drop, Error)]
 pub enum TextFault {
@@ -63,6 +81,30 @@ pub enum TextFault {
     /// The first fault of the text, with the number of its line, from 1.
     #[error("line {line}: {kind:?}")]
     At { line: u64, kind: TextKind },
+}
+
+impl From<AllocError> for TextFault {
+    ghost from_gives = { λ _ e. e ≡ text.NoMemory };
+
+    fn from(_e: AllocError) -> TextFault {
+        TextFault::NoMemory
+    }
+}
+
+impl<T: Drop> From<AllocFailed<T>> for TextFault {
+    ghost from_gives = { λ _ e. e ≡ text.NoMemory };
+
+    fn from(_e: AllocFailed<T>) -> TextFault {
+        TextFault::NoMemory
+    }
+}
+
+impl From<ids::NoMemory> for TextFault {
+    ghost from_gives = { λ _ e. e ≡ text.NoMemory };
+
+    fn from(_e: ids::NoMemory) -> TextFault {
+        TextFault::NoMemory
+    }
 }
 
 impl TextKind {

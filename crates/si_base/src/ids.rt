@@ -1,8 +1,10 @@
 //! Ids, events and codes.
 
 ghost use Rattle.std.specs.Prelude.{◌≡◌, ℕ, ◌+◌, ◌<◌, ◌≤◌, ◌^◌, ◌↔◌, IsTrue, Bool};
-ghost use Rattle.si_base.specs.Bits.{bit, IsSet};
+ghost use Rattle.si_base.specs.Bits.{bit, flip, ones, IsSet};
+ghost use Rattle.si_base.specs.Limits.{code_width};
 
+use crate::limits::CODE_WIDTH;
 use std::alloc::{AllocError, AllocFailed};
 use std::marker::Model;
 
@@ -39,7 +41,7 @@ pub struct Event {
 
 /// A value for each signal: bit i is the value of signal i.
 #[derive(Clone, Copy, PartialEq, Eq, PartialOrd, Ord, Debug)]
-pub struct Code(pub u64);
+pub struct Code(pub u128);
 
 impl Model for Code {
     ghost Value = { ℕ };
@@ -52,7 +54,7 @@ impl Model for Code {
 impl Code {
     /// The value of a signal.
     pub fn get(self, s: Sig) -> bool
-        requires { s < 64 }
+        requires { s < code_width }
         ensures { result ≡ bit self s }
     {
         self.0 >> s.0 & 1 == 1
@@ -60,13 +62,29 @@ impl Code {
 
     /// The code with that value for the signal.
     pub fn set(self, s: Sig, v: bool) -> Code
-        requires { s < 64 }
+        requires { s < code_width }
         ensures { IsSet self s v result }
     {
-        if self.get(s) == v {
-            self
+        if self.get(s) == v { self } else { self.flip(s) }
+    }
+
+    /// The code with the other value for the signal.
+    pub fn flip(self, s: Sig) -> Code
+        requires { s < code_width }
+        ensures { result ≡ flip self s }
+    {
+        Code(self.0 ^ 1 << s.0)
+    }
+
+    /// The code in which the first `count` signals have the value 1, and no other signal has.
+    pub fn ones(count: usize) -> Code
+        requires { count ≤ code_width }
+        ensures { result ≡ ones count }
+    {
+        if count == CODE_WIDTH {
+            Code(u128::MAX)
         } else {
-            Code(self.0 ^ 1 << s.0)
+            Code((1 << count) - 1)
         }
     }
 }

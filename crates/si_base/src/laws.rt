@@ -4,10 +4,11 @@ ghost use Rattle.std.specs.Prelude.{◌≡◌, ℕ, List};
 ghost use Rattle.si_base.specs.Behaviour.{Implements};
 ghost use Rattle.si_base.specs.Codes.{CodedGraph, IsCoded};
 ghost use Rattle.si_base.specs.Cover.{full_netlist};
+ghost use Rattle.si_base.specs.GivenGraph.{Sg};
 ghost use Rattle.si_base.specs.Netlist.{Netlist};
 ghost use Rattle.si_base.specs.Proper.{HasNoConflict, IsProper};
 ghost use Rattle.si_base.specs.RightGates.{HasNoneInserted, IsRight};
-ghost use Rattle.si_base.specs.StrictText.{IsGiven, Sg};
+ghost use Rattle.si_base.specs.StrictText.{IsGiven};
 
 /// A netlist with the signals and the start of a proper graph, whose gates give the next value of their signals at
 /// every state, implements the graph: under every finite schedule it loses no excitation, is weakly bisimilar to the

@@ -34,10 +34,11 @@ fn sets_codes_and_texts(rt: HostRuntime) -> Result<(), Fail> {
     assert_eq!(rt; set.count(), 1);
     let code = Code(0)
         .set(Sig(5), true)
-        .set(Sig(63), true)
+        .set(Sig(127), true)
         .set(Sig(5), false);
-    assert_eq!(rt; code, Code(1 << 63));
-    assert!(rt; code.get(Sig(63)) && !code.get(Sig(5)));
+    assert_eq!(rt; code, Code(1 << 127));
+    assert!(rt; code.get(Sig(127)) && !code.get(Sig(5)));
+    assert_eq!(rt; Code::ones(128).flip(Sig(127)), Code::ones(127));
     assert_eq!(rt; Name::copy_of(alloc, b"req")?.bytes(), b"req".as_slice());
     let mut text = Text::copy_of(alloc, b"a b")?;
     text.add(b"\n")?;

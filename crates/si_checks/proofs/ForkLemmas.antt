@@ -8,7 +8,7 @@ use Rattle.si_base.specs.Graph.{StateGraph, Step, event_place, IsGraph}
 use Rattle.si_base.specs.Codes.{IsDeterministic}
 use Rattle.si_base.specs.Proper.{IsCommutative, Fork, Forks, fork_place}
 use Rattle.si_base.specs.System.{IsLeastTarget}
-use Rattle.si_base.proofs.Circuit.{step_within}
+use Rattle.si_base.proofs.StepFacts.{step_within}
 use Rattle.si_graph.specs.Arcs.{AreOut}
 use Rattle.si_checks.specs.Searches.{EndsApart, ForksAt, ForksBy}
 use Rattle.si_checks.proofs.OutLemmas.{event_same, NoneWithin, none_before}

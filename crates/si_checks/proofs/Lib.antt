@@ -1,5 +1,13 @@
 pub mod OutLemmas
 pub mod ForkLemmas
 pub mod LossLemmas
+pub mod SquareLemmas
 pub mod ProperLemmas
 pub mod ConflictLemmas
+pub mod CodesExist
+pub mod FirstLemmas
+pub mod DecisionLemmas
+pub mod ValuesDecided
+pub mod BreachesDecided
+pub mod ConflictsDecided
+pub mod UniqueBreaches

@@ -1,5 +1,5 @@
 -- Losses, and the first of them.
-use Rattle.std.proofs.Common.{◌≡◌, ℕ, ◌+◌, ◌<◌, ◌≤◌, ◌⊎◌, true, false, List, length, get_or, sym, ap, subst, ◌∙◌, arith, inl, inr, IsTrue}
+use Rattle.std.proofs.Common.{◌≡◌, ℕ, ◌+◌, ◌<◌, ◌≤◌, ◌⊎◌, true, false, List, length, get_or, sym, ap, subst, ◌∙◌, arith, inl, inr, IsTrue, Option, Some, None}
 use Rattle.std.proofs.lemmas.Bool.{cases_eq, cases_Bool, true≢false}
 use Rattle.si_base.specs.declared.ids.Event.{Event}
 use Rattle.si_base.specs.declared.graph.Edge.{Edge}
@@ -7,10 +7,10 @@ use Rattle.si_base.specs.Order.{IsFirst}
 use Rattle.si_base.specs.Graph.{StateGraph, Step, event_place, IsGraph, IsNonInput, enables, same_event}
 use Rattle.si_base.specs.Codes.{IsDeterministic}
 use Rattle.si_base.specs.Proper.{IsPersistent, Loss, Loses, loss_place}
-use Rattle.si_base.proofs.Circuit.{step_within}
+use Rattle.si_base.proofs.StepFacts.{step_within}
 use Rattle.si_base.proofs.Steps.{step_from_enables, same_event-refl}
 use Rattle.si_graph.specs.Arcs.{AreOut}
-use Rattle.si_checks.specs.Searches.{LosesAt, LosesOf}
+use Rattle.si_checks.specs.Searches.{IsFirstOrNone, LosesAt, LosesBelow, LosesOf}
 use Rattle.si_checks.proofs.OutLemmas.{event_same, NoneWithin, none_before}
 
 -- ---- losses and the steps that they have
@@ -83,29 +83,42 @@ module _ (g : StateGraph) (s : ℕ) (arcs : List Edge) (out : AreOut g s arcs) w
             ];
       }
 
--- at all states
-abbrev pub NoneBelow : StateGraph → ℕ → Type 0
-NoneBelow g n = (b : Loss) → Loses g b → b.s < n → ⊥
+-- ---- the losses of the first states
+loss_within : (g : StateGraph) (n : ℕ) (b : Loss) → IsGraph g → g.states ≤ n → Loses g b → b.s < n
+loss_within g n b is all loses = let within = step_within g b.s b.by loses.after.0 is loses.after.1 in omega (arith, within.0)
 
-pub first_of_all : (g : StateGraph) (b : Loss) (n : ℕ) → IsFirst loss_place (LosesAt g n) b → NoneBelow g n → IsFirst loss_place (Loses g) b
-first_of_all g b n first none = record {
-  holds = first.holds.loses;
-  none_before = λ f also before.
-      let at : b.s ≡ n = first.holds.at in
-      let rest : (f.s < b.s) ⊎ (f.s ≡ b.s) = elim before [ inl less ↦ inl less | inr tied ↦ inr tied.0 ] in
-      elim rest [
-        | inl less ↦ none f also (omega arith)
-        | inr same ↦ first.none_before f (record { loses = also; at = same ∙ at }) before
-      ];
+pub keep_loss : (g : StateGraph) (n : ℕ) (b : Loss) → IsFirst loss_place (LosesBelow g n) b → IsFirst loss_place (LosesBelow g (n + 1)) b
+keep_loss g n b first = record {
+  holds = record { loses = first.holds.loses; below = omega (arith, first.holds.below) };
+  none_before = λ f is before. elim (cases_eq f.s n) [
+    | inl same ↦ (
+        let below : b.s < n = first.holds.below in
+        elim before [ inl less ↦ absurd (omega arith) | inr tied ↦ absurd (omega (arith, tied.0)) ])
+    | inr other ↦ (let below : f.s < n + 1 = is.below in first.none_before f (record { loses = is.loses; below = omega arith }) before)
+  ];
 }
 
-pub none_more : (g : StateGraph) (n : ℕ) → NoneBelow g n → ((b : Loss) → LosesAt g n b → ⊥) → NoneBelow g (n + 1)
-none_more g n none here b is below = elim (cases_eq b.s n) [
-  | inl same ↦ here b (record { loses = is; at = same })
-  | inr other ↦ none b is (omega arith)
+pub take_loss : (g : StateGraph) (n : ℕ) (found : Option Loss) → ((b : Loss) → LosesBelow g n b → ⊥) → IsFirstOrNone loss_place (LosesAt g n) found → IsFirstOrNone loss_place (LosesBelow g (n + 1)) found
+take_loss g n None none here = λ b is. elim (cases_eq b.s n) [
+  | inl same ↦ here b (record { loses = is.loses; at = same })
+  | inr other ↦ (let below : b.s < n + 1 = is.below in none b (record { loses = is.loses; below = omega arith }))
 ]
+take_loss g n (Some b) none first = record {
+  holds = record { loses = first.holds.loses; below = omega (arith, first.holds.at) };
+  none_before = λ f is before. elim (cases_eq f.s n) [
+    | inl same ↦ first.none_before f (record { loses = is.loses; at = same }) before
+    | inr other ↦ (let below : f.s < n + 1 = is.below in none f (record { loses = is.loses; below = omega arith }))
+  ];
+}
 
-pub none_of_all : (g : StateGraph) (n : ℕ) → IsGraph g → g.states ≤ n → NoneBelow g n → (b : Loss) → Loses g b → ⊥
-none_of_all g n is all none b loses =
-    let within = step_within g b.s b.by loses.after.0 is loses.after.1 in
-    none b loses (omega (arith, within.0))
+-- a state without a loss changes nothing
+pub pass_state : (g : StateGraph) (n : ℕ) (found : Option Loss) → ((b : Loss) → LosesAt g n b → ⊥) → IsFirstOrNone loss_place (LosesBelow g n) found → IsFirstOrNone loss_place (LosesBelow g (n + 1)) found
+pass_state g n None here none = take_loss g n None none here
+pass_state g n (Some b) here first = keep_loss g n b first
+
+pub losses_of_all : (g : StateGraph) (n : ℕ) (found : Option Loss) → IsGraph g → g.states ≤ n → IsFirstOrNone loss_place (LosesBelow g n) found → IsFirstOrNone loss_place (Loses g) found
+losses_of_all g n None is all none = λ b loses. none b (record { loses = loses; below = loss_within g n b is all loses })
+losses_of_all g n (Some b) is all first = record {
+  holds = first.holds.loses;
+  none_before = λ f loses before. first.none_before f (record { loses = loses; below = loss_within g n f is all loses }) before;
+}

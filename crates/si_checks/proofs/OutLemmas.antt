@@ -9,8 +9,8 @@ use Rattle.std.proofs.lemmas.List.{get_or_default}
 use Rattle.si_base.specs.declared.ids.Event.{Event}
 use Rattle.si_base.specs.declared.graph.Edge.{Edge}
 use Rattle.si_base.specs.EdgeOrder.{event_cmp, edge_cmp}
-use Rattle.si_base.specs.Graph.{StateGraph, Step, arc, event_place, IsGraph}
-use Rattle.si_base.proofs.Circuit.{step_within}
+use Rattle.si_base.specs.Graph.{StateGraph, Step, arc, event_place}
+use Rattle.si_base.proofs.StepFacts.{step_within}
 use Rattle.si_base.proofs.Sorted.{sorted_at, nat_same}
 use Rattle.si_graph.specs.Arcs.{AreOut}
 
@@ -92,10 +92,10 @@ module _ (g : StateGraph) (s : ℕ) (arcs : List Edge) (out : AreOut g s arcs) w
   pub out_source : (n : ℕ) (a : Edge) → n < length arcs → a ≡ get_or arcs n a → a.from ≡ s
   out_source n a within at = ((out.exactly a).0 (n, within, sym at)).1
 
-  pub out_signal : (n : ℕ) (a : Edge) → IsGraph g → n < length arcs → a ≡ get_or arcs n a → a.event.sig < length g.signals
-  out_signal n a is within at = (step_within g s a.event a.to is (out_item n a within at)).1
+  pub out_signal : (n : ℕ) (a : Edge) → n < length arcs → a ≡ get_or arcs n a → a.event.sig < length g.signals
+  out_signal n a within at = (step_within g s a.event a.to out.graph (out_item n a within at)).1
 
-  out_rises : (i j : ℕ) (d : Edge) → i < j → j < length arcs → event_place (get_or arcs i d).event ≤ event_place (get_or arcs j d).event
+  pub out_rises : (i j : ℕ) (d : Edge) → i < j → j < length arcs → event_place (get_or arcs i d).event ≤ event_place (get_or arcs j d).event
   out_rises i j d before within =
       no_fall (get_or arcs i d) (get_or arcs j d) (sorted_at edge_cmp arcs out.ordered i j d before within)
       (out_from i d (omega arith) ∙ sym (out_from j d within))

@@ -1,2 +1,5 @@
 pub mod Faults
+pub mod Lent
 pub mod Searches
+pub mod Laws
+pub mod Squares

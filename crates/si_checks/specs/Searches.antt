@@ -3,7 +3,9 @@ use Rattle.std.specs.Prelude.{◌≡◌, ◌≢◌, ℕ, ◌<◌, ◌≤◌, tru
 use Rattle.si_base.specs.declared.ids.Event.{Event}
 use Rattle.si_base.specs.Order.{IsFirst}
 use Rattle.si_base.specs.Graph.{StateGraph, Step, enables, IsNonInput}
-use Rattle.si_base.specs.Proper.{Fork, Forks, Loss, Loses}
+use Rattle.si_base.specs.Proper.{Fork, Forks, fork_place, Loss, Loses, loss_place, IsCommutative, IsPersistent}
+use Rattle.si_checks.specs.declared.breaches.Breach.{Breach}
+use Rattle.si_checks.specs.declared.breaches.Breach.TheVariants.{Fork as AsFork, Loss as AsLoss}
 
 -- the first that has P, in the order of places, or None where nothing has P
 abbrev pub IsFirstOrNone : {A : Type 0} → (A → List ℕ) → (A → Type 0) → Option A → Type 0
@@ -42,6 +44,17 @@ pub record LosesOf (g : StateGraph) (s : ℕ) (lost : Event) (b : Loss) : Type 0
   pub loses : Loses g b
   pub at : b.s ≡ s
   pub loss_of : b.lost ≡ lost
+
+-- a loss at one of the first n states
+pub record LosesBelow (g : StateGraph) (n : ℕ) (b : Loss) : Type 0 where
+  pub loses : Loses g b
+  pub below : b.s < n
+
+-- the first fork, or where there is none the first loss, or None where there is neither
+abbrev pub IsFirstBreach : StateGraph → Option Breach → Type 0
+IsFirstBreach g None = IsCommutative g × IsPersistent g
+IsFirstBreach g (Some (AsFork b)) = IsFirst fork_place (Forks g) b
+IsFirstBreach g (Some (AsLoss b)) = IsCommutative g × IsFirst loss_place (Loses g) b
 
 -- p enables a non-input event that q doesn't
 pub record EnablesMore (g : StateGraph) (p q : ℕ) : Type 0 where

@@ -19,7 +19,7 @@ use std::collections::BTreeMap;
 pub fn first_conflict(alloc: Global, coded: &Coded) -> Result<Option<(StateId, StateId)>, NoMemory>
     ensures { IfOk result (IsFirstOrNone pair_place (IsConflict coded.now)) }
 {
-    let graph = coded.coded_graph();
+    let graph = coded.graph();
     let mut firsts: BTreeMap<Code, StateId> = BTreeMap::new(alloc);
     let mut found: Option<(StateId, StateId)> = None;
     for s in 0..graph.states() {
@@ -42,11 +42,7 @@ fn first_of_code(
     ensures there { IfOk result (λ p. get nat_cmp firsts.new code ≡ Some p) }
     ensures others { OnOk result ((k : ℕ) → k ≢ code → get nat_cmp firsts.new k ≡ get nat_cmp firsts.old k) }
 {
-    if let Some(first) = firsts.get(&code) {
-        return Ok(*first);
-    }
-    firsts.insert(code, s)?;
-    Ok(s)
+    Ok(*firsts.entry(code)?.or_insert(s))
 }
 
 /// The pair that was found, unless the first state of this one is earlier.
@@ -70,8 +66,6 @@ fn differ(graph: &Graph, p: StateId, q: StateId) -> bool
 fn enables_more(graph: &Graph, p: StateId, q: StateId) -> bool
     ensures { IsTrue result ↔ EnablesMore graph.now p q }
 {
-    // What holds of each graph comes with its arcs: here, that each event is of one of its signals.
-    let _all_arcs = graph.arcs();
     let arcs = graph.arcs_out(p);
     for a in arcs {
         if !graph.is_driven(a.event.sig) {

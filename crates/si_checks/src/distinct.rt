@@ -26,10 +26,11 @@ pub enum NotDistinct {
 
 impl<'a> Distinct<'a> {
     ghost use Rattle.si_checks.specs.Faults.{ShowsConflict};
+    ghost use Rattle.si_checks.specs.Lent.{lent_graph};
 
     /// The graph where it has no conflict, or its first conflict.
     pub fn make(alloc: Global, graph: &'a Proper) -> Result<Distinct<'a>, NotDistinct>
-        ensures same { IfOk result (λ d. d.graph.now ≡ graph.now) }
+        ensures same { IfOk result (λ d. lent_graph d ≡ graph.now) }
         ensures distinct { IfOk result (λ d. HasNoConflict graph.now) }
         ensures fault { IfErr result (ShowsConflict graph.now) }
     {
@@ -43,15 +44,15 @@ impl<'a> Distinct<'a> {
     /// The graph, of which it is known that it has no conflict.
     pub fn known(graph: &'a Proper) -> Distinct<'a>
         requires { HasNoConflict graph.now }
-        ensures { result.graph.now ≡ graph.now }
+        ensures { lent_graph result ≡ graph.now }
     {
         Distinct { graph }
     }
 
     /// The proper graph.
     pub fn proper(&self) -> &Proper
-        ensures same { result.now ≡ self.now.graph.now }
-        ensures distinct { HasNoConflict self.now.graph.now }
+        ensures same { result.now ≡ lent_graph self.now }
+        ensures distinct { HasNoConflict (lent_graph self.now) }
     {
         self.graph
     }

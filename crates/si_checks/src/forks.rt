@@ -1,8 +1,8 @@
-//! The first breach of commutativity.
+//! The first breach of commutativity at a state.
 
 ghost use Rattle.std.specs.Prelude.{Contains};
 ghost use Rattle.si_base.specs.Codes.{IsDeterministic};
-ghost use Rattle.si_base.specs.Proper.{Forks, fork_place};
+ghost use Rattle.si_base.specs.Proper.{fork_place};
 ghost use Rattle.si_checks.specs.Searches.{IsFirstOrNone, IsOneOrNone, EndsApart, ForksAt, ForksBy};
 
 use si_base::graph::Edge;
@@ -30,23 +30,8 @@ impl Model for Fork {
     ghost inverse = { λ b. record { s = b.s; a = b.a; c = b.c; w = b.w; w2 = b.w2 } };
 }
 
-/// The first fork of a deterministic graph, if it has any.
-pub fn first_fork(graph: &Graph) -> Option<Fork>
-    requires { IsDeterministic graph.now }
-    ensures { IsFirstOrNone fork_place (Forks graph.now) result }
-{
-    // What holds of each graph comes with its arcs: here, that each leaves one of its states.
-    let _all_arcs = graph.arcs();
-    for s in 0..graph.states() {
-        if let Some(fork) = first_fork_at(graph, StateId(s)) {
-            return Some(fork);
-        }
-    }
-    None
-}
-
 /// The first fork at a state.
-fn first_fork_at(graph: &Graph, s: StateId) -> Option<Fork>
+pub fn first_fork_at(graph: &Graph, s: StateId) -> Option<Fork>
     requires { IsDeterministic graph.now }
     ensures { IsFirstOrNone fork_place (ForksAt graph.now s) result }
 {

@@ -1,9 +1,9 @@
-//! The first breach of output persistency.
+//! The first breach of output persistency at a state.
 
 ghost use Rattle.std.specs.Prelude.{IsTrue};
 ghost use Rattle.si_base.specs.Graph.{IsNonInput, enables};
 ghost use Rattle.si_base.specs.Codes.{IsDeterministic};
-ghost use Rattle.si_base.specs.Proper.{Loses, loss_place};
+ghost use Rattle.si_base.specs.Proper.{loss_place};
 ghost use Rattle.si_checks.specs.Searches.{IsFirstOrNone, LosesAt, LosesOf};
 
 use si_base::ids::{Event, StateId};
@@ -28,28 +28,11 @@ impl Model for Loss {
     ghost inverse = { λ b. record { s = b.s; lost = b.lost; by = b.by } };
 }
 
-/// The first loss of a deterministic graph, if it has any.
-pub fn first_loss(graph: &Graph) -> Option<Loss>
-    requires { IsDeterministic graph.now }
-    ensures { IsFirstOrNone loss_place (Loses graph.now) result }
-{
-    // What holds of each graph comes with its arcs: here, that each leaves one of its states.
-    let _all_arcs = graph.arcs();
-    for s in 0..graph.states() {
-        if let Some(loss) = first_loss_at(graph, StateId(s)) {
-            return Some(loss);
-        }
-    }
-    None
-}
-
 /// The first loss at a state.
-fn first_loss_at(graph: &Graph, s: StateId) -> Option<Loss>
+pub fn first_loss_at(graph: &Graph, s: StateId) -> Option<Loss>
     requires { IsDeterministic graph.now }
     ensures { IsFirstOrNone loss_place (LosesAt graph.now s) result }
 {
-    // What holds of each graph comes with its arcs: here, that each event is of one of its signals.
-    let _all_arcs = graph.arcs();
     let arcs = graph.arcs_out(s);
     for x in arcs {
         if !graph.is_driven(x.event.sig) {

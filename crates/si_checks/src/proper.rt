@@ -2,10 +2,12 @@
 
 ghost use Rattle.std.specs.Prelude.{◌≡◌, ℕ, IfOk, IfErr};
 ghost use Rattle.si_base.specs.Proper.{IsProper};
+ghost use Rattle.si_checks.specs.Faults.{told_breach};
 
-use crate::forks::{Fork, first_fork};
-use crate::losses::{Loss, first_loss};
-use si_base::ids::{Event, StateId};
+use crate::breaches::{Breach, first_breach};
+use crate::forks::Fork;
+use crate::losses::Loss;
+use si_base::ids::{Event, NoMemory, StateId};
 use si_graph::coded::Coded;
 use std::alloc::Global;
 use std::marker::Model;
@@ -59,16 +61,27 @@ impl Proper {
         ensures back { IfErr result (λ e. e.0 ≡ coded) }
         ensures fault { IfErr result (λ e. ShowsImproper coded.graph e.1) }
     {
-        let graph = coded.coded_graph();
-        if let Some(fork) = first_fork(graph) {
-            let Fork { s, a, c, w, w2 } = fork;
-            return Err((coded, Improper::Noncommutative { s, a, c, w, w2 }));
+        match first_breach(coded.graph()) {
+            None => Ok(Proper { coded }),
+            Some(breach) => Err((coded, improper_by(breach))),
         }
-        if let Some(loss) = first_loss(graph) {
-            let Loss { s, lost, by } = loss;
-            return Err((coded, Improper::Nonpersistent { s, lost, by }));
-        }
-        Ok(Proper { coded })
+    }
+
+    /// The graph, of which it is known that it is proper.
+    pub fn known(coded: Coded) -> Proper
+        requires { IsProper coded.graph }
+        ensures { result ≡ coded }
+    {
+        Proper { coded }
+    }
+
+    /// An equal graph. It fails only for want of memory.
+    pub fn copy(&self, alloc: Global) -> Result<Proper, NoMemory>
+        ensures { IfOk result (λ p. p ≡ self.now) }
+    {
+        Ok(Proper {
+            coded: self.coded.copy(alloc)?,
+        })
     }
 
     /// The coded graph.
@@ -85,5 +98,15 @@ impl Proper {
     {
         let Proper { coded } = self;
         coded
+    }
+}
+
+/// What the breach tells.
+fn improper_by(breach: Breach) -> Improper
+    ensures { result ≡ told_breach breach }
+{
+    match breach {
+        Breach::Fork(Fork { s, a, c, w, w2 }) => Improper::Noncommutative { s, a, c, w, w2 },
+        Breach::Loss(Loss { s, lost, by }) => Improper::Nonpersistent { s, lost, by },
     }
 }

@@ -1,7 +1,7 @@
 -- The literals of a cube that is kept as two codes.
-use Rattle.std.proofs.Common.{◌≡◌, ◌≢◌, ℕ, ◌⊎◌, ◌<◌, ◌≤◌, ◌==◌, ◌&&◌, ◌+◌, ◌-◌, ◌*◌, ◌%◌, ◌^◌, bit_and, bit_xor, not, Bool, true, false, List, [], ◌∷◌, filter, zero, suc, length, if◌then◌else◌, nat_lt, w64, refl, sym, ap, ◌∙◌, arith, inl, inr}
+use Rattle.std.proofs.Common.{◌≡◌, ◌≢◌, ℕ, ◌⊎◌, ◌<◌, ◌≤◌, ◌==◌, ◌&&◌, ◌+◌, ◌-◌, ◌*◌, ◌%◌, ◌^◌, bit_and, bit_xor, not, Bool, true, false, List, [], ◌∷◌, filter, zero, suc, length, if◌then◌else◌, nat_lt, refl, sym, ap, ◌∙◌, arith, inl, inr}
 use Rattle.std.specs.List.{list_all}
-use Rattle.std.specs.Int.{bit_at, bit_not}
+use Rattle.std.specs.Int.{w128, bit_at, bit_not}
 use Rattle.std.specs.Int.Bits.{xor_lt}
 use mir.Val.{bits}
 use Rattle.std.proofs.lemmas.Bool.{true≢false}
@@ -15,10 +15,11 @@ use mathlib.Core.Bool.{beq}
 use Rattle.si_base.specs.declared.graph.Signal.{Signal}
 use Rattle.si_base.specs.Cover.{full_cube_from}
 use Rattle.si_base.specs.declared.ids.Literal.{Literal}
-use Rattle.si_base.specs.Bits.{bit}
+use Rattle.si_base.specs.Bits.{bit, ones}
 use Rattle.si_base.specs.Netlist.{literal_value}
 use Rattle.si_base.proofs.BitFacts.{same_codes}
 use Rattle.si_base.proofs.Steps.{beq-refl, beq-true}
+use Rattle.si_base.specs.Limits.{code_width}
 use Rattle.si_cube.specs.Literals.{literals_from, literals_of, IsWithin, full_literals}
 
 -- ---- bits
@@ -40,21 +41,21 @@ bit-xor a b i =
       | inr a1 ↦ elim (below_two (bit_at b i) (bit_at-lt b i)) [ inl b0 ↦ rw (bit_at_xor, a1, b0) refl | inr b1 ↦ rw (bit_at_xor, a1, b1) refl ]
     ]
 
-pub bit-agree : (a b i : ℕ) → a < 2 ^ 64 → b < 2 ^ 64 → i < 64 → bit (bit_not w64 (bit_xor a b)) i ≡ beq (bit a i) (bit b i)
+pub bit-agree : (a b i : ℕ) → a < 2 ^ code_width → b < 2 ^ code_width → i < code_width → bit (bit_not w128 (bit_xor a b)) i ≡ beq (bit a i) (bit b i)
 bit-agree a b i la lb li =
-    let small : bit_xor a b < 2 ^ 64 = xor_lt 64 a b la lb in
+    let small : bit_xor a b < 2 ^ code_width = xor_lt code_width a b la lb in
     elim (below_two (bit_at a i) (bit_at-lt a i)) [
-      | inl a0 ↦ elim (below_two (bit_at b i) (bit_at-lt b i)) [ inl b0 ↦ rw (bit_at_not w64 (bit_xor a b) i small li, bit_at_xor, a0, b0) refl | inr b1 ↦ rw (bit_at_not w64 (bit_xor a b) i small li, bit_at_xor, a0, b1) refl ]
-      | inr a1 ↦ elim (below_two (bit_at b i) (bit_at-lt b i)) [ inl b0 ↦ rw (bit_at_not w64 (bit_xor a b) i small li, bit_at_xor, a1, b0) refl | inr b1 ↦ rw (bit_at_not w64 (bit_xor a b) i small li, bit_at_xor, a1, b1) refl ]
+      | inl a0 ↦ elim (below_two (bit_at b i) (bit_at-lt b i)) [ inl b0 ↦ rw (bit_at_not w128 (bit_xor a b) i small li, bit_at_xor, a0, b0) refl | inr b1 ↦ rw (bit_at_not w128 (bit_xor a b) i small li, bit_at_xor, a0, b1) refl ]
+      | inr a1 ↦ elim (below_two (bit_at b i) (bit_at-lt b i)) [ inl b0 ↦ rw (bit_at_not w128 (bit_xor a b) i small li, bit_at_xor, a1, b0) refl | inr b1 ↦ rw (bit_at_not w128 (bit_xor a b) i small li, bit_at_xor, a1, b1) refl ]
     ]
 
 -- all bits but the s-th
-pub bit-others : (s i : ℕ) → s < 64 → i < 64 → bit (bit_not w64 (1 * 2 ^ s % 2 ^ bits w64)) i ≡ not (i == s)
+pub bit-others : (s i : ℕ) → s < code_width → i < code_width → bit (bit_not w128 (1 * 2 ^ s % 2 ^ bits w128)) i ≡ not (i == s)
 bit-others s i ls li =
-    let small : 2 ^ s < 2 ^ 64 = pow-lt ls in
-    rw (one_shl s 64 ls) (elim (eqb_tells i s) [
-      | inl same ↦ rw (bit_at_not w64 (2 ^ s) i small li, same.0, same.1, bit_at-pow_same s) refl
-      | inr other ↦ rw (bit_at_not w64 (2 ^ s) i small li, other.0, bit_at-pow_other s i other.1) refl
+    let small : 2 ^ s < 2 ^ code_width = pow-lt ls in
+    rw (one_shl s code_width ls) (elim (eqb_tells i s) [
+      | inl same ↦ rw (bit_at_not w128 (2 ^ s) i small li, same.0, same.1, bit_at-pow_same s) refl
+      | inr other ↦ rw (bit_at_not w128 (2 ^ s) i small li, other.0, bit_at-pow_other s i other.1) refl
     ])
 
 pub bit-ones : (n i : ℕ) → bit (2 ^ n - 1) i ≡ nat_lt i n
@@ -131,10 +132,10 @@ masked_bit false true false within same = refl
 masked_bit false false true within same = within refl
 masked_bit false false false within same = refl
 
-pub below_width : (care k : ℕ) → care < 2 ^ 64 → bit care k ≡ true → k < 64
+pub below_width : (care k : ℕ) → care < 2 ^ code_width → bit care k ≡ true → k < code_width
 below_width care k small there =
-    elim (leb_tells 64 k) [
-      | inl above ↦ absurd (true≢false (sym (rw (bit_at_above care 64 k small above.1) at there)))
+    elim (leb_tells code_width k) [
+      | inl above ↦ absurd (true≢false (sym (rw (bit_at_above care code_width k small above.1) at there)))
       | inr below ↦ below.1
     ]
 
@@ -142,15 +143,15 @@ unmasked : {is_there value_one : Bool} (is_one : Bool) → (is_one && is_there) 
 unmasked true h there = sym there ∙ h
 unmasked false h there = h
 
-pub covers_is : (care value code : ℕ) → care < 2 ^ 64 → IsWithin care value → (bit_and code care == value) ≡ list_all (literal_value code) (literals_of care value)
+pub covers_is : (care value code : ℕ) → care < 2 ^ code_width → IsWithin care value → (bit_and code care == value) ≡ list_all (literal_value code) (literals_of care value)
 unfolding literals_of
 covers_is care value code small within =
     false_from _ _
-    (λ same. literals_from_values 64 0 care value code (λ k there.
+    (λ same. literals_from_values code_width 0 care value code (λ k there.
     let all : bit (bit_and code care) k ≡ bit value k = ap (λ (n : ℕ). bit n k) (eqb-true (bit_and code care) value same) in
     unmasked (bit code k) (sym (bit-and code care k) ∙ all) there))
     (λ hold. eq-eqb _ _ (same_codes (bit_and code care) value (λ k. rw bit-and (masked_bit (bit care k) (bit code k) (bit value k) (within k)
-    (λ there. values_from_literals 64 0 care value code hold k (omega arith) (below_width care k small there) there)))))
+    (λ there. values_from_literals code_width 0 care value code hold k (omega arith) (below_width care k small there) there)))))
 
 -- ---- the cubes that calls make
 
@@ -176,30 +177,30 @@ is_below i n below = elim (leb_tells (suc i) n) [ inl yes_below ↦ yes_below.0 
 not_below : (i n : ℕ) → n ≤ i → nat_lt i n ≡ false
 not_below i n above = elim (leb_tells (suc i) n) [ inl below ↦ absurd (omega arith) | inr is_above ↦ is_above.0 ]
 
-pub supercube_is : (care value code : ℕ) → care < 2 ^ 64 → value < 2 ^ 64 → code < 2 ^ 64
-    → literals_of (bit_and care (bit_not w64 (bit_xor value code))) (bit_and value code) ≡ filter (literal_value code) (literals_of care value)
+pub supercube_is : (care value code : ℕ) → care < 2 ^ code_width → value < 2 ^ code_width → code < 2 ^ code_width
+    → literals_of (bit_and care (bit_not w128 (bit_xor value code))) (bit_and value code) ≡ filter (literal_value code) (literals_of care value)
 unfolding literals_of
 supercube_is care value code small_care small_value small_code =
-    literals_from-filter (literal_value code) 64 0 care value (bit_and care (bit_not w64 (bit_xor value code))) (bit_and value code)
+    literals_from-filter (literal_value code) code_width 0 care value (bit_and care (bit_not w128 (bit_xor value code))) (bit_and value code)
     (λ k low high. rw bit-and (ap (λ (b : Bool). bit care k && b) (bit-agree value code k small_value small_code (omega arith) ∙ beq_swap (bit value k) (bit code k))))
     (λ k there.
-    let parts = and_parts (bit care k) (bit (bit_not w64 (bit_xor value code)) k) (sym (bit-and care (bit_not w64 (bit_xor value code)) k) ∙ there) in
+    let parts = and_parts (bit care k) (bit (bit_not w128 (bit_xor value code)) k) (sym (bit-and care (bit_not w128 (bit_xor value code)) k) ∙ there) in
     let agree : beq (bit value k) (bit code k) ≡ true = sym (bit-agree value code k small_value small_code (below_width care k small_care parts.0)) ∙ parts.1 in
     bit-and value code k ∙ and_same (bit value k) (bit code k) (beq-true (bit value k) (bit code k) agree))
 
-pub within-supercube : (care value code : ℕ) → value < 2 ^ 64 → code < 2 ^ 64 → IsWithin care value
-    → IsWithin (bit_and care (bit_not w64 (bit_xor value code))) (bit_and value code)
+pub within-supercube : (care value code : ℕ) → value < 2 ^ code_width → code < 2 ^ code_width → IsWithin care value
+    → IsWithin (bit_and care (bit_not w128 (bit_xor value code))) (bit_and value code)
 within-supercube care value code small_value small_code within i there =
     let parts = and_parts (bit value i) (bit code i) (sym (bit-and value code i) ∙ there) in
-    bit-and care (bit_not w64 (bit_xor value code)) i
+    bit-and care (bit_not w128 (bit_xor value code)) i
     ∙ and_both _ _ (within i parts.0) (bit-agree value code i small_value small_code (below_width value i small_value parts.0) ∙ both_true (bit value i) (bit code i) parts.0 parts.1)
 
-pub drop_is : (care value s : ℕ) → s < 64
-    → literals_of (bit_and care (bit_not w64 (1 * 2 ^ s % 2 ^ bits w64))) (bit_and value (bit_not w64 (1 * 2 ^ s % 2 ^ bits w64))) ≡ filter (λ l. not (l.sig == s)) (literals_of care value)
+pub drop_is : (care value s : ℕ) → s < code_width
+    → literals_of (bit_and care (bit_not w128 (1 * 2 ^ s % 2 ^ bits w128))) (bit_and value (bit_not w128 (1 * 2 ^ s % 2 ^ bits w128))) ≡ filter (λ l. not (l.sig == s)) (literals_of care value)
 unfolding literals_of
 drop_is care value s small =
-    let others : ℕ = bit_not w64 (1 * 2 ^ s % 2 ^ bits w64) in
-    literals_from-filter (λ l. not (l.sig == s)) 64 0 care value (bit_and care others) (bit_and value others)
+    let others : ℕ = bit_not w128 (1 * 2 ^ s % 2 ^ bits w128) in
+    literals_from-filter (λ l. not (l.sig == s)) code_width 0 care value (bit_and care others) (bit_and value others)
     (λ k low high. rw bit-and (ap (λ (b : Bool). bit care k && b) (bit-others s k small (omega arith))))
     (λ k there.
     let parts = and_parts (bit care k) (bit others k) (sym (bit-and care others k) ∙ there) in
@@ -230,10 +231,9 @@ full_from_ones (suc left) (suc count) i n code ends fits =
     (ap (λ (b : Bool). record { sig = i; plain = b }) (bit-and code (2 ^ n - 1) i ∙ ap (λ (b : Bool). bit code i && b) there ∙ and-true (bit code i)))
     (full_from_ones left count (i + 1) n code (omega arith) (omega arith))
 
--- the mask of the first n signals, as `(1 << n) - 1` computes it at 128 bits
-pub of_code_is : (n code : ℕ) → n ≤ 64 → literals_of (1 * 2 ^ n % 2 ^ 128 - 1) (bit_and code (1 * 2 ^ n % 2 ^ 128 - 1)) ≡ full_literals n 0 code
+pub of_code_is : (n code : ℕ) → n ≤ code_width → literals_of (ones n) (bit_and code (ones n)) ≡ full_literals n 0 code
 unfolding literals_of
-of_code_is n code small = rw (one_shl n 128 (omega arith)) (full_from_ones n 64 0 n code (omega arith) small)
+of_code_is n code small = full_from_ones n code_width 0 n code (omega arith) small
 
 pub within-mask : (code care : ℕ) → IsWithin care (bit_and code care)
 within-mask code care i there = (and_parts (bit code i) (bit care i) (sym (bit-and code care i) ∙ there)).1

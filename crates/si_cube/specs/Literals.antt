@@ -1,7 +1,7 @@
 -- The literals of a cube that is kept as two codes.
 use Rattle.std.specs.Prelude.{◌≡◌, ℕ, ◌+◌, true, List, [], ◌∷◌, zero, suc, if◌then◌else◌}
 use Rattle.si_base.specs.declared.ids.Literal.{Literal}
-use Rattle.si_base.specs.Limits.{max_signals}
+use Rattle.si_base.specs.Limits.{code_width}
 use Rattle.si_base.specs.Bits.{bit}
 
 -- a literal for each of the next signals, from the i-th on, that the cube cares for: plain where its value is 1
@@ -12,7 +12,7 @@ literals_from (suc count) i care value =
     else literals_from count (i + 1) care value
 
 unfoldable pub literals_of : ℕ → ℕ → List Literal
-literals_of care value = literals_from max_signals 0 care value
+literals_of care value = literals_from code_width 0 care value
 
 -- each signal of value 1 is one that the cube cares for
 abbrev pub IsWithin : ℕ → ℕ → Type 0

@@ -2,7 +2,7 @@
 
 ghost use Rattle.std.specs.Prelude.{◌≡◌, ℕ, ◌<◌, ◌≤◌, ◌==◌, not, filter};
 ghost use Rattle.std.specs.List.{list_all};
-ghost use Rattle.si_base.specs.Limits.{max_signals};
+ghost use Rattle.si_base.specs.Limits.{code_width};
 ghost use Rattle.si_base.specs.Netlist.{literal_value};
 ghost use Rattle.si_cube.specs.Cubes.{IsLeastAbove};
 ghost use Rattle.si_cube.specs.Literals.{full_literals};
@@ -35,13 +35,13 @@ impl Model for Cube {
 impl Cube {
     /// The full cube of a code: a literal for each of the first `signals` signals, true at the code.
     pub fn of_code(code: Code, signals: usize) -> Cube
-        requires { signals ≤ max_signals }
+        requires { signals ≤ code_width }
         ensures { result ≡ full_literals signals 0 code }
     {
-        let care = ((1_u128 << signals) - 1) as u64;
+        let care = Code::ones(signals);
         Cube {
-            care: Code(care),
-            value: Code(code.0 & care),
+            care,
+            value: Code(code.0 & care.0),
         }
     }
 
@@ -65,7 +65,7 @@ impl Cube {
 
     /// The cube without its literal of the signal.
     pub fn drop_literal(&self, s: Sig) -> Cube
-        requires { s < max_signals }
+        requires { s < code_width }
         ensures { result ≡ filter (λ l. not (l.sig == s)) self.now }
     {
         let others = !(1 << s.0);

@@ -24,9 +24,9 @@ fn cubes_of_two_signals(rt: HostRuntime) {
 
 #[test]
 fn full_cube_of_all_signals(rt: HostRuntime) {
-    let full = Cube::of_code(Code(1 << 63), 64);
-    assert_eq!(rt; full.care, Code(u64::MAX));
-    assert_eq!(rt; full.value, Code(1 << 63));
+    let full = Cube::of_code(Code(1 << 127), 128);
+    assert_eq!(rt; full.care, Code::ones(128));
+    assert_eq!(rt; full.value, Code(1 << 127));
     assert!(rt; Cube::of_code(Code(5), 0).covers(Code(7)));
 }
 

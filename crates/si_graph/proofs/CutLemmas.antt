@@ -1,11 +1,11 @@
 -- The graph that is made of the renamed arcs is the cut, and each of its states is reachable.
-use Rattle.std.proofs.Common.{◌≡◌, ℕ, ◌+◌, ◌<◌, ◌≤◌, Bool, false, ap, ap₂, ◌∙◌, sym, refl, subst, arith, List, [], ◌∷◌, length, get_or, slice_get, Some, Contains, inl, inr, ◌↔◌, true≢false, AllPairs, All, map, filter, nat_cmp}
+use Rattle.std.proofs.Common.{◌≡◌, ℕ, zero, suc, add-one, ◌+◌, ◌-◌, ◌<◌, ◌≤◌, Bool, false, ap, ap₂, ◌∙◌, sym, refl, subst, arith, List, [], ◌∷◌, length, get_or, slice_get, Some, Contains, inl, inr, ◌↔◌, true≢false, AllPairs, All, map, filter, nat_cmp}
 use Rattle.std.specs.List.Sorted.{IsStrictlySortedBy}
 use Rattle.std.proofs.lemmas.Bool.{cases_lt, cases_order}
 use Rattle.std.proofs.lemmas.List.{get_or_past, get_or_default, get_or_read, length-map}
 use Rattle.std.proofs.lemmas.List.Sums.{length-filter, count_by-le-length}
 use Rattle.std.proofs.lemmas.List.Elements.{Contains-get_or, All-contains}
-use Rattle.std.proofs.lemmas.Option.{slice_get_within, get_or_from_slice_get}
+use Rattle.std.proofs.lemmas.Option.{slice_get_within, slice_get-get_or, get_or_from_slice_get}
 use Rattle.std.proofs.lemmas.Map.Keys.{sorted_from_strictly_increasing, below_from_sorted}
 use Rattle.si_base.specs.declared.ids.Event.{Event}
 use Rattle.si_base.specs.declared.graph.Edge.{Edge}
@@ -120,6 +120,41 @@ module _ (g : StateGraph) (is : IsGraph g) (marks : List Bool) (kept places : Li
     );
     graph = made.graph;
   }
+
+  -- ---- where each state is reachable, the graph is its own cut
+  ascends : (i : ℕ) → i + 1 < length kept → get_or kept i 0 < get_or kept (i + 1) 0
+  ascends i within = r.in_order i (i + 1) 0 (omega arith) within
+
+  at_least : (i : ℕ) → i < length kept → i ≤ get_or kept i 0
+  at_least zero within = omega arith
+  at_least (suc i) within = (let before = at_least i (omega arith) in let up = rw add-one at (ascends i (omega arith)) in omega arith)
+
+  at_most : (m i : ℕ) → (i + m) + 1 ≡ length kept → get_or kept i 0 + m < length marks
+  at_most zero i last = omega (arith, ((r.members (get_or kept i 0)).0 (Contains-get_or kept i 0 (omega arith))).0)
+  at_most (suc m) i last = (let after = at_most m (i + 1) (omega arith) in let up = ascends i (omega arith) in omega arith)
+
+  each_stays : length kept ≡ length marks → (i : ℕ) → i < length kept → get_or kept i 0 ≡ i
+  each_stays all i within =
+      let low = at_least i within in
+      let high = at_most (length kept - (i + 1)) i (omega arith) in
+      omega arith
+
+  pub whole_is_cut : length kept ≡ g.states → length marks ≡ g.states → IsCut g kept g
+  whole_is_cut all size =
+      let stays = each_stays (all ∙ sym size) in
+      let start_in : g.start < length kept = omega (arith, is.starts) in
+      record {
+        signals_stay = refl;
+        count = sym all;
+        in_order = in_order;
+        reachable = λ s. (
+          λ there. (exact s).0 ((r.members s).0 there).1,
+          λ walk. let here = (exact s).1 walk in (r.members s).1 (in_below marks s here, here),
+        );
+        start_kept = slice_get-get_or kept g.start 0 start_in ∙ ap Some (stays g.start start_in);
+        arcs = λ s e t within_s within_t. rw (stays s within_s, stays t within_t) (λ step. step, λ step. step);
+        graph = is;
+      }
 
 -- ---- a cut is connected
 module _ (g : StateGraph) (kept : List ℕ) (h : StateGraph) (cut : IsCut g kept h) where

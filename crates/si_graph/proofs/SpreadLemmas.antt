@@ -8,11 +8,11 @@ use Rattle.si_base.specs.declared.ids.Event.{Event}
 use Rattle.si_base.specs.declared.graph.Edge.{Edge}
 use Rattle.si_base.specs.Bits.{bit, flip}
 use Rattle.si_base.specs.Graph.{StateGraph, Step, Walk, arc}
-use Rattle.si_base.specs.Codes.{IsConnected}
+use Rattle.si_base.specs.Codes.{IsConnected, parity}
 use Rattle.si_base.proofs.Parity.{turn}
 use Rattle.si_base.proofs.BitFacts.{same_codes}
 use Rattle.si_graph.specs.Arcs.{AreOut}
-use Rattle.si_graph.specs.Changes.{IsChange, AreChanges, LeadsInto, AreSpread, left_to_do, change_along}
+use Rattle.si_graph.specs.Changes.{IsChange, AreChanges, LeadsInto, AreSpread, left_to_do}
 use Rattle.si_graph.specs.Reach.{IsIn}
 use Rattle.si_graph.proofs.MarkLemmas.{stays_in, in_cases, Walk-push}
 use Rattle.si_graph.proofs.ValueLemmas.{bit-xor}
@@ -33,9 +33,9 @@ flip_swap k m n = same_codes _ _ (λ i.
     rw (bit-xor (flip k m) (2 ^ n) i, bit-xor k (2 ^ m) i, bit-xor (flip k n) (2 ^ m) i, bit-xor k (2 ^ n) i)
     (turn_swap (bit k i) (bit (2 ^ m) i) (bit (2 ^ n) i)))
 
-along_push : (es : List Event) (e : Event) → change_along (es ++ e ∷ []) ≡ flip (change_along es) e.sig
+along_push : (es : List Event) (e : Event) → parity (es ++ e ∷ []) ≡ flip (parity es) e.sig
 along_push [] e = refl
-along_push (f ∷ es) e = ap (λ k. flip k f.sig) (along_push es e) ∙ flip_swap (change_along es) e.sig f.sig
+along_push (f ∷ es) e = ap (λ k. flip k f.sig) (along_push es e) ∙ flip_swap (parity es) e.sig f.sig
 
 -- the change of a state that s leads to
 pub change_more : (g : StateGraph) (s t change : ℕ) (e : Event) → IsChange g s change → Step g s e t → IsChange g t (flip change e.sig)

@@ -3,7 +3,7 @@ use Rattle.std.specs.Prelude.{◌≡◌, ℕ, ◌<◌, ◌≤◌, ◌↔◌, fal
 use Rattle.std.specs.List.Sorted.{IsStrictlySortedBy}
 use Rattle.si_base.specs.declared.graph.Edge.{Edge}
 use Rattle.si_base.specs.EdgeOrder.{edge_cmp}
-use Rattle.si_base.specs.Graph.{StateGraph}
+use Rattle.si_base.specs.Graph.{StateGraph, IsGraph}
 
 -- what stands past the end of a list of arcs
 abbrev pub no_edge : Edge
@@ -26,10 +26,15 @@ IsFirstPlace P low high None = (j : ℕ) → low ≤ j → j < high → P j → 
 IsFirstPlace P low high (Some k) = IsFirstFrom P low high k
 
 -- the place has an arc out of s
-abbrev pub IsOutOf : StateGraph → ℕ → ℕ → Type 0
-IsOutOf g s k = (edge_at g.edges k).from ≡ s
+abbrev pub IsOutOf : List Edge → ℕ → ℕ → Type 0
+IsOutOf edges s k = (edge_at edges k).from ≡ s
+
+-- the place has an arc into t
+abbrev pub IsInto : List Edge → ℕ → ℕ → Type 0
+IsInto edges t k = (edge_at edges k).to ≡ t
 
 -- the arcs out of s, in order
 pub record AreOut (g : StateGraph) (s : ℕ) (arcs : List Edge) : Type 0 where
+  pub graph : IsGraph g
   pub exactly : (a : Edge) → Contains arcs a ↔ (Contains g.edges a × (a.from ≡ s))
   pub ordered : IsStrictlySortedBy edge_cmp arcs

@@ -1,20 +1,15 @@
 -- How codes change on the way from the start, and how far that has been followed.
-use Rattle.std.specs.Prelude.{◌≡◌, ℕ, ◌+◌, ◌*◌, ◌<◌, ◌⊎◌, Bool, List, [], ◌∷◌, length, Contains, slice_index}
+use Rattle.std.specs.Prelude.{◌≡◌, ℕ, ◌+◌, ◌*◌, ◌<◌, ◌⊎◌, Bool, List, length, Contains, slice_index}
 use Rattle.si_base.specs.declared.ids.Event.{Event}
-use Rattle.si_base.specs.Bits.{flip}
+use Rattle.si_base.specs.Codes.{parity}
 use Rattle.si_base.specs.Graph.{StateGraph, Step, Walk}
 use Rattle.si_graph.specs.Reach.{IsIn, unmarked}
-
--- how a walk changes the code: it turns the signals that switch an odd number of times
-abbrev pub change_along : List Event → ℕ
-change_along [] = 0
-change_along (e ∷ es) = flip (change_along es) e.sig
 
 -- some walk from the start to s changes the code so
 pub record IsChange (g : StateGraph) (s change : ℕ) : Type 0 where
   pub events : List Event
   pub walk : Walk g g.start events s
-  pub change_is : change ≡ change_along events
+  pub change_is : change ≡ parity events
 
 -- for each state such a change
 pub record AreChanges (g : StateGraph) (changes : List ℕ) : Type 0 where

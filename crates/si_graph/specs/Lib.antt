@@ -1,4 +1,5 @@
 pub mod Arcs
+pub mod Chains
 pub mod Faults
 pub mod Excited
 pub mod Changes

@@ -5,7 +5,7 @@ use Rattle.si_base.specs.declared.graph.Edge.{Edge}
 use Rattle.si_base.specs.Bits.{bit}
 use Rattle.si_base.specs.Graph.{StateGraph}
 use Rattle.si_base.specs.Codes.{AreValues}
-use Rattle.si_base.specs.Limits.{max_signals}
+use Rattle.si_base.specs.Limits.{code_width}
 
 -- the code of the start: wherever a signal has values, its value there
 abbrev pub IsStartCode : StateGraph → ℕ → Type 0
@@ -23,7 +23,7 @@ pub record Suits (from to : ℕ) (e : Event) (a : ℕ) : Type 0 where
 
 -- the codes have places for the arc's states, and bits for its signal
 abbrev pub HasPlaces : List ℕ → Edge → Type 0
-HasPlaces codes x = (x.from < length codes) × (x.event.sig < max_signals) × (x.to < length codes)
+HasPlaces codes x = (x.from < length codes) × (x.event.sig < code_width) × (x.to < length codes)
 
 -- the codes suit each of the arcs at signal a
 abbrev pub SuitAll : List Edge → List ℕ → ℕ → Type 0

@@ -75,6 +75,23 @@ impl Coded {
         }
     }
 
+    /// The graph with these codes, of which it is known that they are its codes.
+    pub fn known(graph: Graph, codes: Vec<Code>) -> Coded
+        requires { IsCoded (record { graph = graph; codes = codes.items }) }
+        ensures { result ≡ record { graph = graph; codes = codes.items } }
+    {
+        Coded { graph, codes }
+    }
+
+    /// An equal graph with the same codes. It fails only for want of memory.
+    pub fn copy(&self, alloc: Global) -> Result<Coded, NoMemory>
+        ensures { IfOk result (λ c. c ≡ self.now) }
+    {
+        let graph = self.graph.copy(alloc)?;
+        let codes = Vec::from_slice(alloc, self.codes.as_slice())?;
+        Ok(Coded { graph, codes })
+    }
+
     /// The codes of the states, or the first breach of determinism, or else of consistency.
     fn codes_of(alloc: Global, graph: &Graph) -> Result<Vec<Code>, CodeFault>
         requires { IsConnected graph.now }
@@ -97,15 +114,8 @@ impl Coded {
         }
     }
 
-    /// The graph.
-    pub fn graph(&self) -> &Graph
-        ensures { result.now ≡ self.now.graph }
-    {
-        &self.graph
-    }
-
     /// The graph, and what holds of it and its codes.
-    pub fn coded_graph(&self) -> &Graph
+    pub fn graph(&self) -> &Graph
         ensures same { result.now ≡ self.now.graph }
         ensures coded { IsCoded self.now }
     {

@@ -1,6 +1,8 @@
 //! State graphs, and their first stage: graphs whose states have codes.
 #![tactic(auto)]
 
+pub mod arc_store;
+mod chain;
 pub mod coded;
 mod determinism;
 pub mod graph;

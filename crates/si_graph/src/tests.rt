@@ -1,11 +1,15 @@
-//! Each call once on its happy path, on a toggling signal with a state that isn't reachable.
+//! Each call once on its happy path, on a toggling signal with a state that isn't reachable, and walks on the C-element.
 
+ghost use Rattle.std.specs.Prelude.{◌≡◌, IfOk};
+
+use crate::arc_store::EdgeId;
 use crate::coded::{CodeFault, Coded};
-use crate::graph::{EdgeId, Graph};
+use crate::graph::Graph;
 use si_base::graph::{Edge, SigKind, Signal};
 use si_base::ids::{Code, Event, NoMemory, Sig, StateId};
 use si_base::text::Name;
 use std::alloc::Global;
+use std::process::Abort;
 use std::test::Fail;
 
 const RISE: Event = Event {
@@ -74,6 +78,84 @@ fn walks_and_look_ups(rt: HostRuntime) -> Result<(), Fail> {
     assert_eq!(rt; graph.succ(StateId(1), FALL), Some(StateId(0)));
     assert_eq!(rt; graph.succ(StateId(2), RISE), None);
     assert!(rt; graph.enabled(StateId(0), RISE) && !graph.enabled(StateId(0), FALL));
+    Ok(())
+}
+
+/// An output that rises once both inputs have risen, and falls once both have fallen.
+const C_ELEMENT: [(u32, u8, bool, u32); 10] = [
+    (0, 0, true, 1),
+    (0, 1, true, 2),
+    (1, 1, true, 3),
+    (2, 0, true, 3),
+    (3, 2, true, 4),
+    (4, 0, false, 5),
+    (4, 1, false, 6),
+    (5, 1, false, 7),
+    (6, 0, false, 7),
+    (7, 2, false, 0),
+];
+
+fn arc((from, sig, up, to): (u32, u8, bool, u32)) -> Edge {
+    Edge {
+        from: StateId(from),
+        event: Event { sig: Sig(sig), up },
+        to: StateId(to),
+    }
+}
+
+fn signal(alloc: Global, name: &[u8], kind: SigKind) -> Result<Signal, NoMemory>
+    ensures { IfOk result (λ x. x ≡ record { name = name.now; kind = kind }) }
+{
+    let name = Name::copy_of(alloc, name)?;
+    Ok(Signal { name, kind })
+}
+
+fn c_element(rt: &impl Abort, alloc: Global) -> Result<Graph, NoMemory> {
+    let signals = vec![in alloc;
+        signal(alloc, b"a", SigKind::Input)?,
+        signal(alloc, b"b", SigKind::Input)?,
+        signal(alloc, b"c", SigKind::Output)?,
+    ]?;
+    let told: &[(u32, u8, bool, u32)] = &C_ELEMENT;
+    let mut edges = Vec::new(alloc);
+    for one in told {
+        let (from, sig, up, to) = *one;
+        assert!(rt; from < 8 && sig < 3 && to < 8);
+        edges.push(Edge {
+            from: StateId(from),
+            event: Event { sig: Sig(sig), up },
+            to: StateId(to),
+        })?;
+    }
+    Graph::make(alloc, signals, 8, edges, StateId(0))
+}
+
+#[test]
+fn walks_along_both_chains(rt: HostRuntime) -> Result<(), Fail> {
+    let graph = c_element(&rt, rt.alloc())?;
+    assert!(rt; graph.edges() == 10);
+    let into = [EdgeId(2), EdgeId(3)];
+    assert_eq!(rt; graph.first_in(StateId(3)), Some(into[0]));
+    assert_eq!(rt; graph.edge(into[0]), arc((1, 1, true, 3)));
+    assert_eq!(rt; graph.next_in(into[0]), Some(into[1]));
+    assert_eq!(rt; graph.edge(into[1]), arc((2, 0, true, 3)));
+    assert_eq!(rt; graph.next_in(into[1]), None);
+    let out = [EdgeId(5), EdgeId(6)];
+    assert_eq!(rt; graph.first_out(StateId(4)), Some(out[0]));
+    assert_eq!(rt; graph.edge(out[0]), arc((4, 0, false, 5)));
+    assert_eq!(rt; graph.next_out(out[0]), Some(out[1]));
+    assert_eq!(rt; graph.edge(out[1]), arc((4, 1, false, 6)));
+    assert_eq!(rt; graph.next_out(out[1]), None);
+    Ok(())
+}
+
+#[test]
+fn no_walk_where_there_is_no_arc(rt: HostRuntime) -> Result<(), Fail> {
+    let alloc = rt.alloc();
+    let graph = Graph::make(alloc, Vec::new(alloc), 1, Vec::new(alloc), StateId(0))?;
+    assert_eq!(rt; graph.first_out(StateId(0)), None);
+    assert_eq!(rt; graph.first_in(StateId(0)), None);
+    assert!(rt; graph.arcs_out(StateId(0)).is_empty());
     Ok(())
 }
 

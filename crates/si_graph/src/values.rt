@@ -4,7 +4,7 @@ ghost use Rattle.std.specs.Prelude.{◌≡◌, ◌↔◌, ◌<◌, ℕ, All, IfO
 ghost use Rattle.si_base.specs.Bits.{bit};
 ghost use Rattle.si_base.specs.Codes.{IsConnected};
 ghost use Rattle.si_base.specs.Graph.{IsGraph};
-ghost use Rattle.si_base.specs.Limits.{max_signals};
+ghost use Rattle.si_base.specs.Limits.{code_width};
 ghost use Rattle.si_graph.specs.Changes.{AreChanges};
 ghost use Rattle.si_graph.specs.Values.{HasPlaces, IsFirstUnsuited, IsStartCode, SuitAll, Suits, TellsValues};
 
@@ -64,8 +64,8 @@ fn shifted(alloc: Global, changes: &[Code], start: Code) -> Result<Vec<Code>, No
 }
 
 /// A mask of the signals whose values in the two codes don't suit an arc by the event.
-fn wrong_at(from: Code, to: Code, event: Event) -> u64
-    requires { event.sig < max_signals }
+fn wrong_at(from: Code, to: Code, event: Event) -> u128
+    requires { event.sig < code_width }
     ensures { (a : ℕ) → (bit result a ≡ false) ↔ Suits from to event a }
 {
     let after = from.set(event.sig, event.up);
@@ -74,7 +74,7 @@ fn wrong_at(from: Code, to: Code, event: Event) -> u64
 }
 
 /// A mask of the signals whose values in the codes don't suit some arc.
-fn wrong_signals(arcs: &[Edge], codes: &[Code]) -> u64
+fn wrong_signals(arcs: &[Edge], codes: &[Code]) -> u128
     requires { All (HasPlaces codes.now) arcs.now }
     ensures { (a : ℕ) → (bit result a ≡ false) ↔ SuitAll arcs.now codes.now a }
 {

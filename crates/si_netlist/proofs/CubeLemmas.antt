@@ -3,6 +3,7 @@ use Rattle.std.proofs.Common.{◌≡◌, ℕ, zero, suc, ◌+◌, ◌≤◌, ◌
 use Rattle.std.proofs.lemmas.Nat.Bits.{bit_at-zero}
 use Rattle.std.proofs.lemmas.Bool.{cases_Bool, and_parts, true≢false, false_from_ne_true}
 use Rattle.std.proofs.lemmas.List.{length-map, get_or-map}
+use Rattle.si_base.specs.Limits.{code_width}
 use Rattle.si_base.specs.declared.ids.Literal.{Literal}
 use Rattle.si_base.specs.Bits.{bit, IsSet}
 use Rattle.si_cube.specs.Literals.{literals_from, literals_of, IsWithin}
@@ -46,11 +47,11 @@ more_literals (suc count) i k care value care2 value2 v from to s t below = elim
 
 pub none_of : literals_of 0 0 ≡ []
 unfolding literals_of
-none_of = no_literals 64 0 0 0 (λ j le. rw (bit_at-zero j) refl)
+none_of = no_literals code_width 0 0 0 (λ j le. rw (bit_at-zero j) refl)
 
-pushed : (k care value care2 value2 : ℕ) (v : Bool) → k < 64 → IsSet care k true care2 → IsSet value k v value2 → ((j : ℕ) → bit care j ≡ true → j < k) → literals_of care2 value2 ≡ literals_of care value ++ lit k v ∷ []
+pushed : (k care value care2 value2 : ℕ) (v : Bool) → k < code_width → IsSet care k true care2 → IsSet value k v value2 → ((j : ℕ) → bit care j ≡ true → j < k) → literals_of care2 value2 ≡ literals_of care value ++ lit k v ∷ []
 unfolding literals_of
-pushed k care value care2 value2 v small s t below = more_literals 64 0 k care value care2 value2 v (omega arith) (omega arith) s t below
+pushed k care value care2 value2 v small s t below = more_literals code_width 0 k care value care2 value2 v (omega arith) (omega arith) s t below
 
 module _ (signals : List (List ℕ)) (words : List (Bor (List ℕ))) where
   -- the cube of the words before the i-th
@@ -72,7 +73,7 @@ module _ (signals : List (List ℕ)) (words : List (Bor (List ℕ))) where
     within = λ j on. absurd (true≢false (sym on ∙ rw (bit_at-zero j) refl));
   }
 
-  pub in_more : (rising : (i k : ℕ) → i < k → k < length words → sig_at signals (words_now words) i < sig_at signals (words_now words) k) → (i care value care2 value2 : ℕ) (d : Bor (List ℕ)) (l : Literal) → l ≡ literal_of signals (get_or words i d).now → l.sig < 64 → i < length words → IsSet care l.sig true care2 → IsSet value l.sig l.plain value2 → InCube i care value → InCube (i + 1) care2 value2
+  pub in_more : (rising : (i k : ℕ) → i < k → k < length words → sig_at signals (words_now words) i < sig_at signals (words_now words) k) → (i care value care2 value2 : ℕ) (d : Bor (List ℕ)) (l : Literal) → l ≡ literal_of signals (get_or words i d).now → l.sig < code_width → i < length words → IsSet care l.sig true care2 → IsSet value l.sig l.plain value2 → InCube i care value → InCube (i + 1) care2 value2
   in_more rising i care value care2 value2 d l is small inside s t so_far =
       let at : sig_at signals (words_now words) i ≡ l.sig = ap (λ (w : List ℕ). (literal_of signals w).sig) (get_or-map (λ (w : Bor (List ℕ)). w.now) words i d [] inside) ∙ sym (ap (λ (x : Literal). x.sig) is) in
       let before : (j : ℕ) → bit care j ≡ true → j < l.sig = λ j on. rw at at (so_far.below j on i (omega arith) inside) in

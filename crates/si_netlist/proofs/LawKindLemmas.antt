@@ -10,7 +10,7 @@ use Rattle.si_base.specs.declared.graph.SigKind.TheVariants.{Input, Output, Inte
 use Rattle.si_base.specs.Graph.{is_driven, kind_place}
 use Rattle.si_base.specs.Netlist.{Gate, Insertion, Netlist}
 use Rattle.si_base.specs.NetlistText.{same_kind, names_of, gate_words, bits_from, word_if_any, insert_line, netlist_lines}
-use Rattle.si_base.specs.StrictText.{signals_of}
+use Rattle.si_base.specs.GivenGraph.{signals_of}
 use Rattle.si_netlist.proofs.LawSumLemmas.{names_in}
 
 abbrev pub signals_by : List (List ℕ) → List (List ℕ) → List (List ℕ) → List (List ℕ) → List Signal

@@ -3,7 +3,8 @@ use Rattle.std.proofs.Common.{◌≡◌, ℕ, ◌<◌, ◌==◌, Bool, true, fal
 use Rattle.std.proofs.lemmas.Bool.{true≢false, not-true, cases_Bool, and_parts}
 use Rattle.si_words.specs.GateLines.{place_in}
 use Rattle.si_netlist.specs.NetlistValue.{literal_of, cube_of, sum_of}
-use Rattle.si_base.specs.NetlistText.{cube_words, more_cubes, sum_words, literal_word, name_of}
+use Rattle.si_base.specs.Graph.{name_of}
+use Rattle.si_base.specs.NetlistText.{cube_words, more_cubes, sum_words, literal_word}
 use Rattle.std.specs.List.{onto_first, AllByRecursion, list_all}
 use Rattle.std.proofs.lemmas.List.Splits.{length-slice_split}
 use Rattle.si_words.specs.Sums.{parts_at, literal_name, is_literal, is_cube, is_one}

@@ -11,7 +11,6 @@ use Rattle.std.proofs.lemmas.Slice.Eq.{bytes_eq-Decides}
 use Rattle.std.specs.Int.{bit_at}
 use Rattle.std.specs.List.{AllByRecursion, list_all, list_any}
 use Rattle.si_base.specs.Bits.{bit}
-use Rattle.si_base.specs.Limits.{max_signals}
 use Rattle.si_base.specs.declared.graph.Signal.{Signal}
 use Rattle.si_base.specs.declared.fault.TextKind.TheVariants.{BadLine, BadName, Repeated, TooManySignals}
 use Rattle.si_base.specs.Faults.{when, first_after}
@@ -63,34 +62,34 @@ model_read (head ∷ name ∷ []) none dark =
 
 -- ---- lists of names
 -- signal names, each once, and not too many
-pub record AreNames (names : List (List ℕ)) : Type 0 where
+pub record AreNames (limit : ℕ) (names : List (List ℕ)) : Type 0 where
   pub good : All (λ n. IsTrue (is_signal_name n)) names
   pub distinct : AllPairs (λ x y. x ≢ y) names
-  pub few : length names ≤ max_signals
+  pub few : length names ≤ limit
 
-pub no_names : AreNames []
-no_names = record { good = All-nil (λ (n : List ℕ). IsTrue (is_signal_name n)); distinct = λ i j d before within. absurd (omega arith); few = omega arith }
+pub no_names : (limit : ℕ) → AreNames limit []
+no_names limit = record { good = All-nil (λ (n : List ℕ). IsTrue (is_signal_name n)); distinct = λ i j d before within. absurd (omega arith); few = omega arith }
 
-one_more : (names : List (List ℕ)) (n : List ℕ) → AreNames names → name_fault names n ≡ None → AreNames (names ++ n ∷ [])
-one_more names n are none =
+one_more : {limit : ℕ} (names : List (List ℕ)) (n : List ℕ) → AreNames limit names → name_fault limit names n ≡ None → AreNames limit (names ++ n ∷ [])
+one_more {limit = limit} names n are none =
     let first = both (when (not (is_signal_name n)) BadName) _ none in
-    let second = both (when (stands_in names n) Repeated) (when (nat_le max_signals (length names)) TooManySignals) first.1 in
-    let few : length names < max_signals = leb-false max_signals (length names) (not_when _ TooManySignals second.1) in
+    let second = both (when (stands_in names n) Repeated) (when (nat_le limit (length names)) TooManySignals) first.1 in
+    let few : length names < limit = leb-false limit (length names) (not_when _ TooManySignals second.1) in
     record {
       good = All-push (λ (x : List ℕ). IsTrue (is_signal_name x)) names n are.good (not-false _ (not_when _ BadName first.0));
       distinct = all_pairs_push (λ (x y : List ℕ). x ≢ y) names n are.distinct (λ k d within same. true≢false (sym (list_any_at (λ (x : List ℕ). bytes_eq n x) names k d within ((bytes_eq-Decides n _).1 (sym same))) ∙ not_when _ Repeated second.0));
       few = omega (arith, length_push names n);
     }
 
-pub more_names : (names more : List (List ℕ)) → AreNames names → first_after name_fault names more ≡ None → AreNames (names ++ more)
-more_names names [] are none = subst AreNames (sym (append-nil names)) are
-more_names names (n ∷ more) are none =
-    let parts = both (name_fault names n) _ none in
-    subst AreNames (append_assoc names (n ∷ []) more) (more_names (names ++ n ∷ []) more (one_more names n are parts.0) parts.1)
+pub more_names : {limit : ℕ} (names more : List (List ℕ)) → AreNames limit names → first_after (name_fault limit) names more ≡ None → AreNames limit (names ++ more)
+more_names {limit = limit} names [] are none = subst (AreNames limit) (sym (append-nil names)) are
+more_names {limit = limit} names (n ∷ more) are none =
+    let parts = both (name_fault limit names n) _ none in
+    subst (AreNames limit) (append_assoc names (n ∷ []) more) (more_names (names ++ n ∷ []) more (one_more names n are parts.0) parts.1)
 
-pub names_read : (head : List ℕ) (before words : List (List ℕ)) → names_fault head before words ≡ None → AreNames before → (words ≡ head ∷ rest_of words) × AreNames (before ++ rest_of words)
+pub names_read : {limit : ℕ} (head : List ℕ) (before words : List (List ℕ)) → names_fault limit head before words ≡ None → AreNames limit before → (words ≡ head ∷ rest_of words) × AreNames limit (before ++ rest_of words)
 names_read head before [] none are = absurd cc
-names_read head before (w ∷ names) none are =
+names_read {limit = limit} head before (w ∷ names) none are =
     let parts = both (when (not (bytes_eq head w) || list_any is_empty names) BadLine) _ none in
     let form = or_parts (not (bytes_eq head w)) (list_any is_empty names) (not_when _ BadLine parts.0) in
     (ap (λ (h : List ℕ). h ∷ names) (same_word head w (not-false' _ form.0)), more_names before names are parts.1)

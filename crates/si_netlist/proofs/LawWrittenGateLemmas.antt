@@ -10,7 +10,8 @@ use Rattle.si_base.specs.declared.ids.Literal.{Literal}
 use Rattle.si_base.specs.declared.graph.Signal.{Signal}
 use Rattle.si_base.specs.Faults.{first_in}
 use Rattle.si_base.specs.Netlist.{Sum, Gate, SumGate, Gc, Cell}
-use Rattle.si_base.specs.NetlistText.{name_of, literal_word, cube_words, more_cubes, sum_words, gate_words}
+use Rattle.si_base.specs.Graph.{name_of}
+use Rattle.si_base.specs.NetlistText.{literal_word, cube_words, more_cubes, sum_words, gate_words}
 use Rattle.si_base.specs.Words.{is_signal_name, is_name_byte, is_letter, is_between}
 use Rattle.si_base.specs.WellFormed.{IsCube, IsSum, IsGate}
 use Rattle.si_words.specs.Sums.{cut_at, len_before}
@@ -75,19 +76,19 @@ dark_end name true dark = rw list_all-append (and_from _ _ dark refl)
 dark_end name false dark = rw list_all-append (and_from _ _ dark refl)
 
 -- ---- bytes of sums
-dark_literals : (signals : List Signal) (ls : List Literal) → AreNames (names_in signals) → There signals ls → AreDark (map (literal_word signals) ls)
+dark_literals : {limit : ℕ} (signals : List Signal) (ls : List Literal) → AreNames limit (names_in signals) → There signals ls → AreDark (map (literal_word signals) ls)
 dark_literals signals [] are there = tt
 dark_literals signals (l ∷ ls) are there = (dark_end (name_of signals l.sig) l.plain (dark_name (name_of signals l.sig) (good_name signals l.sig are there.0)), dark_literals signals ls are there.1)
 
-dark_cube : (signals : List Signal) (cube : List Literal) → AreNames (names_in signals) → There signals cube → AreDark (cube_words signals cube)
+dark_cube : {limit : ℕ} (signals : List Signal) (cube : List Literal) → AreNames limit (names_in signals) → There signals cube → AreDark (cube_words signals cube)
 dark_cube signals [] are there = (refl, tt)
 dark_cube signals (l ∷ ls) are there = dark_literals signals (l ∷ ls) are there
 
-dark_more : (signals : List Signal) (sum : Sum) → AreNames (names_in signals) → AllByRecursion (CubeFits signals) sum → AreDark (more_cubes signals sum)
+dark_more : {limit : ℕ} (signals : List Signal) (sum : Sum) → AreNames limit (names_in signals) → AllByRecursion (CubeFits signals) sum → AreDark (more_cubes signals sum)
 dark_more signals [] are fit = tt
 dark_more signals (c ∷ cs) are fit = (refl, dark_append (cube_words signals c) (more_cubes signals cs) (dark_cube signals c are fit.0.0) (dark_more signals cs are fit.1))
 
-dark_sum : (signals : List Signal) (sum : Sum) → AreNames (names_in signals) → AllByRecursion (CubeFits signals) sum → AreDark (sum_words signals sum)
+dark_sum : {limit : ℕ} (signals : List Signal) (sum : Sum) → AreNames limit (names_in signals) → AllByRecursion (CubeFits signals) sum → AreDark (sum_words signals sum)
 dark_sum signals [] are fit = (refl, tt)
 dark_sum signals (c ∷ cs) are fit = dark_append (cube_words signals c) (more_cubes signals cs) (dark_cube signals c are fit.0.0) (dark_more signals cs are fit.1)
 
@@ -119,7 +120,7 @@ pub record Written (signals : List Signal) (gate : Gate) : Type 0 where
 fit_sum : (signals : List Signal) (sum : Sum) → IsSum (length (names_in signals)) sum → AllByRecursion (CubeFits signals) sum
 fit_sum signals sum is = cubes_fit signals sum (recursion_from_All (IsCube (length (names_in signals))) sum is)
 
-sum_written : (signals : List Signal) (sum : Sum) → AreNames (names_in signals) → IsSum (length (names_in signals)) sum → Written signals (SumGate sum)
+sum_written : {limit : ℕ} (signals : List Signal) (sum : Sum) → AreNames limit (names_in signals) → IsSum (length (names_in signals)) sum → Written signals (SumGate sum)
 sum_written signals sum are is =
     let fit = fit_sum signals sum is in
     record {
@@ -129,7 +130,7 @@ sum_written signals sum are is =
       dark = (refl, dark_sum signals sum are fit);
     }
 
-gc_written : (signals : List Signal) (set reset : Sum) → AreNames (names_in signals) → IsSum (length (names_in signals)) set → IsSum (length (names_in signals)) reset → Written signals (Gc set reset)
+gc_written : {limit : ℕ} (signals : List Signal) (set reset : Sum) → AreNames limit (names_in signals) → IsSum (length (names_in signals)) set → IsSum (length (names_in signals)) reset → Written signals (Gc set reset)
 gc_written signals set reset are is_set is_reset =
     let one = fit_sum signals set is_set in
     let other = fit_sum signals reset is_reset in
@@ -141,14 +142,14 @@ gc_written signals set reset are is_set is_reset =
       dark = (refl, dark_append (sum_words signals set) (codes "|" ∷ sum_words signals reset) (dark_sum signals set are one) (refl, dark_sum signals reset are other));
     }
 
-pins_good : (signals : List Signal) (ls : List Literal) → AreNames (names_in signals) → There signals ls → first_in (pin_fault (names_in signals)) (map (literal_word signals) ls) ≡ None
+pins_good : {limit : ℕ} (signals : List Signal) (ls : List Literal) → AreNames limit (names_in signals) → There signals ls → first_in (pin_fault (names_in signals)) (map (literal_word signals) ls) ≡ None
 pins_good signals [] are there = refl
 pins_good signals (l ∷ ls) are there = rw (literal_place signals l are there.0) (pins_good signals ls are there.1)
 
 name_unlike : (mark name : List ℕ) → is_signal_name mark ≡ false → is_signal_name name ≡ true → bytes_eq mark name ≡ false
 name_unlike mark name none is = false_from_ne_true _ (λ same. true≢false (sym is ∙ sym (ap is_signal_name ((bytes_eq-Decides mark name).0 same)) ∙ none))
 
-cell_written : (signals : List Signal) (name : List ℕ) (literals : List Literal) (sum : Sum) → AreNames (names_in signals) → is_signal_name name ≡ true → length literals ≤ 4 → All (λ (l : Literal). l.sig < length (names_in signals)) literals → IsSum (length (names_in signals)) sum → Written signals (Cell name literals sum)
+cell_written : {limit : ℕ} (signals : List Signal) (name : List ℕ) (literals : List Literal) (sum : Sum) → AreNames limit (names_in signals) → is_signal_name name ≡ true → length literals ≤ 4 → All (λ (l : Literal). l.sig < length (names_in signals)) literals → IsSum (length (names_in signals)) sum → Written signals (Cell name literals sum)
 cell_written signals name literals sum are named few all is =
     let there : There signals literals = recursion_from_All (λ (l : Literal). l.sig < length (names_in signals)) literals all in
     let fit = fit_sum signals sum is in
@@ -164,7 +165,7 @@ cell_written signals name literals sum are named few all is =
       dark = (refl, (dark_name name named, dark_append words (codes ":" ∷ sum_words signals sum) (dark_literals signals literals are there) (refl, dark_sum signals sum are fit)));
     }
 
-pub gate_written : (signals : List Signal) (gate : Gate) → AreNames (names_in signals) → IsGate (length (names_in signals)) gate → Written signals gate
+pub gate_written : {limit : ℕ} (signals : List Signal) (gate : Gate) → AreNames limit (names_in signals) → IsGate (length (names_in signals)) gate → Written signals gate
 gate_written signals (SumGate sum) are is = sum_written signals sum are is
 gate_written signals (Gc set reset) are is = gc_written signals set reset are is.0 is.1
 gate_written signals (Cell name literals sum) are is = cell_written signals name literals sum are is.0 is.1 is.2 is.3

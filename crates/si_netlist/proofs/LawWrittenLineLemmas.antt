@@ -9,7 +9,6 @@ use Rattle.std.proofs.lemmas.Slice.Eq.{bytes_eq-Decides}
 use Rattle.std.specs.Int.{bit_at}
 use Rattle.std.specs.List.{AllByRecursion, list_all, list_any}
 use Rattle.si_base.specs.Bits.{bit}
-use Rattle.si_base.specs.Limits.{max_signals}
 use Rattle.si_base.specs.declared.graph.Signal.{Signal}
 use Rattle.si_base.specs.declared.graph.SigKind.TheVariants.{Input}
 use Rattle.si_base.specs.Faults.{first_after}
@@ -45,24 +44,24 @@ model_good model is no_open no_close =
     rw word refl
 
 -- ---- names
-pub front_names : (xs ys : List (List ℕ)) → AreNames (xs ++ ys) → AreNames xs
-front_names xs ys are =
+pub front_names : {limit : ℕ} (xs ys : List (List ℕ)) → AreNames limit (xs ++ ys) → AreNames limit xs
+front_names {limit = limit} xs ys are =
     let count = length-append xs ys in
-    let few : length (xs ++ ys) ≤ 64 = are.few in
+    let few : length (xs ++ ys) ≤ limit = are.few in
     record {
       good = λ k d within. subst (λ (w : List ℕ). IsTrue (is_signal_name w)) (get_or_append_left xs ys d k within) (are.good k d (omega arith));
       distinct = λ i j d before within. subst (λ (w : List ℕ). w ≢ get_or xs j d) (get_or_append_left xs ys d i (omega arith)) (subst (λ (w : List ℕ). get_or (xs ++ ys) i d ≢ w) (get_or_append_left xs ys d j within) (are.distinct i j d before (omega arith)));
       few = omega arith;
     }
 
-good_here : (before : List (List ℕ)) (name : List ℕ) (later : List (List ℕ)) → AreNames (before ++ name ∷ later) → is_signal_name name ≡ true
+good_here : {limit : ℕ} (before : List (List ℕ)) (name : List ℕ) (later : List (List ℕ)) → AreNames limit (before ++ name ∷ later) → is_signal_name name ≡ true
 good_here before name later are =
     let here : get_or (before ++ name ∷ later) (length before) [] ≡ name = get_or_at before name later [] (length before) refl in
     let count = length-append before (name ∷ later) in
     let within : length before < length (before ++ name ∷ later) = omega arith in
     subst (λ (w : List ℕ). is_signal_name w ≡ true) here (are.good (length before) [] within)
 
-new_here : (before : List (List ℕ)) (name : List ℕ) (later : List (List ℕ)) → AreNames (before ++ name ∷ later) → stands_in before name ≡ true → ⊥
+new_here : {limit : ℕ} (before : List (List ℕ)) (name : List ℕ) (later : List (List ℕ)) → AreNames limit (before ++ name ∷ later) → stands_in before name ≡ true → ⊥
 new_here before name later are stands =
     let (k, x, inside, at, same) = Any-from_list_any (λ (n : List ℕ). bytes_eq name n) before stands in
     let here : get_or (before ++ name ∷ later) (length before) [] ≡ name = get_or_at before name later [] (length before) refl in
@@ -70,11 +69,11 @@ new_here before name later are stands =
     let first : get_or (before ++ name ∷ later) k [] ≡ name = get_or_append_left before (name ∷ later) [] k inside ∙ get_or_default before k [] x inside ∙ at ∙ sym ((bytes_eq-Decides name x).0 same) in
     are.distinct k (length before) [] inside (omega arith) (first ∙ sym here)
 
-name_good : (before : List (List ℕ)) (name : List ℕ) (later : List (List ℕ)) → AreNames (before ++ name ∷ later) → name_fault before name ≡ None
-name_good before name later are =
+name_good : {limit : ℕ} (before : List (List ℕ)) (name : List ℕ) (later : List (List ℕ)) → AreNames limit (before ++ name ∷ later) → name_fault limit before name ≡ None
+name_good {limit = limit} before name later are =
     let count : length (before ++ name ∷ later) ≡ length before + length (name ∷ later) = length-append before (name ∷ later) in
-    let few : length (before ++ name ∷ later) ≤ 64 = are.few in
-    let room : nat_le max_signals (length before) ≡ false = lt-leb 64 (length before) (omega arith) in
+    let few : length (before ++ name ∷ later) ≤ limit = are.few in
+    let room : nat_le limit (length before) ≡ false = lt-leb limit (length before) (omega arith) in
     let new : stands_in before name ≡ false = false_from_ne_true (stands_in before name) (new_here before name later are) in
     rw (good_here before name later are, new, room) refl
 
@@ -82,26 +81,26 @@ pub name_some : (n : List ℕ) → is_signal_name n ≡ true → is_empty n ≡ 
 name_some [] is = absurd (true≢false (sym is))
 name_some (b ∷ bs) is = refl
 
-pub names_good : (head : List ℕ) (before names : List (List ℕ)) → AreNames (before ++ names) → names_fault head before (head ∷ names) ≡ None
-names_good head before names are = rw (equals head, none_empty before names are) (each before names are)
+pub names_good : {limit : ℕ} (head : List ℕ) (before names : List (List ℕ)) → AreNames limit (before ++ names) → names_fault limit head before (head ∷ names) ≡ None
+names_good {limit = limit} head before names are = rw (equals head, none_empty before names are) (each before names are)
   where
-    each : (before names : List (List ℕ)) → AreNames (before ++ names) → first_after name_fault before names ≡ None
+    each : (before names : List (List ℕ)) → AreNames limit (before ++ names) → first_after (name_fault limit) before names ≡ None
     each before [] are = refl
-    each before (n ∷ names) are = rw (name_good before n names are) (each (before ++ n ∷ []) names (subst AreNames (sym (append_assoc before (n ∷ []) names)) are))
+    each before (n ∷ names) are = rw (name_good before n names are) (each (before ++ n ∷ []) names (subst (AreNames limit) (sym (append_assoc before (n ∷ []) names)) are))
 
-    none_empty : (before names : List (List ℕ)) → AreNames (before ++ names) → list_any is_empty names ≡ false
+    none_empty : (before names : List (List ℕ)) → AreNames limit (before ++ names) → list_any is_empty names ≡ false
     none_empty before [] are = refl
-    none_empty before (n ∷ names) are = or_from _ _ (name_some n (good_here before n names are)) (none_empty (before ++ n ∷ []) names (subst AreNames (sym (append_assoc before (n ∷ []) names)) are))
+    none_empty before (n ∷ names) are = or_from _ _ (name_some n (good_here before n names are)) (none_empty (before ++ n ∷ []) names (subst (AreNames limit) (sym (append_assoc before (n ∷ []) names)) are))
 
 -- the names of good signals
-pub signals_named : (signals : List Signal) → All (λ (x : Signal). IsTrue (is_signal_name x.name)) signals → AllPairs (λ (x y : Signal). x.name ≢ y.name) signals → length signals ≤ max_signals → AreNames (names_in signals)
-signals_named signals good distinct few =
+pub signals_named : {limit : ℕ} (signals : List Signal) → All (λ (x : Signal). IsTrue (is_signal_name x.name)) signals → AllPairs (λ (x y : Signal). x.name ≢ y.name) signals → length signals ≤ limit → AreNames limit (names_in signals)
+signals_named {limit = limit} signals good distinct few =
     let some : Signal = record { name = []; kind = Input } in
     let count : length (names_in signals) ≡ length signals = length-map signals (λ (x : Signal). x.name) in
     record {
       good = All-map (λ (w : List ℕ). IsTrue (is_signal_name w)) (λ (x : Signal). x.name) signals good;
       distinct = λ i j d before within. subst (λ (w : List ℕ). w ≢ get_or (names_in signals) j d) (sym (get_or-map (λ (x : Signal). x.name) signals i some d (omega arith))) (subst (λ (w : List ℕ). (get_or signals i some).name ≢ w) (sym (get_or-map (λ (x : Signal). x.name) signals j some d (omega arith))) (distinct i j some before (omega arith)));
-      few = subst (λ (k : ℕ). k ≤ max_signals) (sym count) few;
+      few = subst (λ (k : ℕ). k ≤ limit) (sym count) few;
     }
 
 -- ---- the start

@@ -1,5 +1,7 @@
 -- Lines of a netlist text, one for each of some names.
-use Rattle.std.proofs.Common.{◌≡◌, ℕ, suc, ◌+◌, ◌-◌, ◌<◌, ◌≤◌, List, [], ◌∷◌, ◌++◌, length, map, take, drop, refl, sym, ap, ◌∙◌, arith, slice_get, Some, append_assoc, add-one, Result, Err}
+use Rattle.std.proofs.Common.{◌≡◌, ℕ, suc, ◌+◌, ◌-◌, ◌*◌, ◌^◌, ◌<◌, ◌≤◌, List, [], ◌∷◌, ◌++◌, length, map, take, drop, refl, sym, ap, ◌∙◌, arith, slice_get, Some, append_assoc, add-one, Result, Err, Bool, true, false}
+use Rattle.std.proofs.Math.Nat.{pow-le-pow_right}
+use mir.Val.{bool_byte}
 use Rattle.std.proofs.Math.Seq.{drop-cons}
 use Rattle.std.proofs.lemmas.List.{length-map, length-drop, drop_all, append-nil}
 use Rattle.std.proofs.lemmas.Option.{slice_get_within, get_or_from_slice_get}
@@ -52,3 +54,13 @@ module _ {V : Type 0} (form : List ℕ → Form) (spelled : List (List ℕ) → 
   pub failed_at : {X : Type 0} (k : ℕ) (now : Left) (values : List V) (name : List ℕ) (r : Result X TextFault) (x e : TextFault) → Doing k now values → slice_get names k ≡ Some name → r ≡ Err x → x ≡ e → ((forms : List Form) → Shows e (fault_of (form name ∷ forms) now)) → (rest : List Form) → ToldBy r (fault_of (map form (drop from names) ++ rest) old)
   failed_at k now values name r x e d at is same told rest =
       rw (is, same, ← d.fault rest, next_name k name at) (told (map form (drop (k + 1) names) ++ rest))
+
+-- a code of so many bits, doubled, with one more bit
+pub doubled_fits : (code i n bit : ℕ) → code < 2 ^ i → i < n → bit < 2 → bit + 2 * code < 2 ^ n
+doubled_fits code i n bit small within one =
+    let more : 2 ^ suc i ≤ 2 ^ n = pow-le-pow_right {n = 2} (omega arith) {i = suc i} {j = n} within in
+    omega (arith, small, one, more)
+
+pub bit_small : (b : Bool) → bool_byte b < 2
+bit_small true = omega arith
+bit_small false = omega arith

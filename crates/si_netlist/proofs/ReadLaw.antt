@@ -1,20 +1,22 @@
 -- A text without fault spells a netlist, and is that netlist's text.
-use Rattle.std.proofs.Common.{◌≡◌, ◌≢◌, ℕ, ◌+◌, ◌^◌, ◌<◌, ◌≤◌, List, [], ◌∷◌, ◌++◌, length, map, take, drop, refl, sym, ap, ap₂, subst, ◌∙◌, arith, codes, None, IsTrue, suc, append_assoc}
+use Rattle.std.proofs.Common.{◌≡◌, ◌≢◌, ℕ, ◌+◌, ◌^◌, ◌<◌, ◌≤◌, List, [], ◌∷◌, ◌++◌, length, map, take, drop, refl, sym, ap, ap₂, subst, ◌∙◌, arith, codes, None, IsTrue, suc, append_assoc, Bool, true, false, flat_map, if◌then◌else◌}
 use Rattle.std.proofs.lemmas.List.{length-map, drop-drop, take-append-drop, map-append}
 use Rattle.std.proofs.lemmas.List.Elements.{All-from_recursion, recursion_from_All}
 use Rattle.std.specs.List.{AllByRecursion}
 use Rattle.si_base.specs.declared.graph.Signal.{Signal}
 use Rattle.si_base.specs.Limits.{max_signals}
 use Rattle.si_base.specs.Netlist.{Gate, Insertion, Netlist}
-use Rattle.si_base.specs.NetlistText.{netlist_lines, netlist_text, insert_line}
+use Rattle.si_base.specs.NetlistText.{Version, Version1, Version2, most_signals, netlist_lines, netlist_text_in, insert_line}
 use Rattle.si_base.specs.Words.{text_of, is_signal_name}
 use Rattle.si_base.specs.WellFormed.{IsWord, IsGate, IsInsertion, IsNetlist}
-use Rattle.si_netlist.specs.NetlistFault.{due_in, netlist_fault, insert_fault, word_fault, start_fault}
+use Rattle.si_netlist.specs.NetlistFault.{due_in, netlist_fault, version_of, after_version, body, insert_fault, word_fault, start_fault}
 use Rattle.si_words.specs.Lines.{Form, words_of, ended, tail_of, rest_of}
+use Rattle.si_words.specs.Rows.{Left, all_lines, begins_with, fault_of}
+use Rattle.std.proofs.lemmas.Slice.Eq.{bytes_eq-Decides}
 use Rattle.si_words.specs.GateLines.{gate_fault}
 use Rattle.si_netlist.specs.NetlistValue.{gate_of, insertion_of, first_word, code_of_bits, netlist_of, netlist_of_lines}
 use Rattle.si_netlist.proofs.LawFitLemmas.{Fits, fits, fits_map}
-use Rattle.si_netlist.proofs.LawTextLemmas.{text_back, lines_back, words_dark}
+use Rattle.si_netlist.proofs.LawTextLemmas.{closed, text_back, lines_back, words_dark}
 use Rattle.si_netlist.proofs.LawSumLemmas.{names_in}
 use Rattle.si_netlist.proofs.LawGateLemmas.{gate_read}
 use Rattle.si_netlist.proofs.LawLineLemmas.{AreNames, no_names, model_read, names_read, start_read, insert_read, word_read}
@@ -67,9 +69,9 @@ inserts_read (x ∷ xs) (l ∷ ls) fit =
     )
 
 -- ---- the parts are a netlist
-is_netlist : (model : List ℕ) (i o n s : List (List ℕ)) (start : ℕ) (inserts : List Insertion) (gates : List Gate) → IsWord model → (model ≢ 123 ∷ []) → (model ≢ 125 ∷ []) → AreNames (i ++ o ++ n ++ s) → start < 2 ^ length (signals_by i o n s) → map (λ (x : Insertion). x.name) inserts ≡ s → AllByRecursion IsInsertion inserts → length gates ≡ length (driven_by o n s) → AllByRecursion (IsGate (length (names_in (signals_by i o n s)))) gates → IsNetlist (netlist_by model i o n s start inserts gates)
-is_netlist model i o n s start inserts gates word no_open no_close names start_fits insert_names are_inserts count are_gates =
-    let named : AreNames (names_in (signals_by i o n s)) = subst AreNames (sym (all_names i o n s)) names in
+is_netlist : {limit : ℕ} → limit ≤ max_signals → (model : List ℕ) (i o n s : List (List ℕ)) (start : ℕ) (inserts : List Insertion) (gates : List Gate) → IsWord model → (model ≢ 123 ∷ []) → (model ≢ 125 ∷ []) → AreNames limit (i ++ o ++ n ++ s) → start < 2 ^ length (signals_by i o n s) → map (λ (x : Insertion). x.name) inserts ≡ s → AllByRecursion IsInsertion inserts → length gates ≡ length (driven_by o n s) → AllByRecursion (IsGate (length (names_in (signals_by i o n s)))) gates → IsNetlist (netlist_by model i o n s start inserts gates)
+is_netlist {limit = limit} small model i o n s start inserts gates word no_open no_close names start_fits insert_names are_inserts count are_gates =
+    let named : AreNames limit (names_in (signals_by i o n s)) = subst (AreNames limit) (sym (all_names i o n s)) names in
     let many : length (names_in (signals_by i o n s)) ≡ length (signals_by i o n s) = length-map (signals_by i o n s) (λ (x : Signal). x.name) in
     record {
       model = word;
@@ -77,7 +79,7 @@ is_netlist model i o n s start inserts gates word no_open no_close names start_f
       names = All-from_recursion (λ (x : Signal). IsTrue (is_signal_name x.name)) (signals_by i o n s) (each_named (λ (w : List ℕ). IsTrue (is_signal_name w)) (signals_by i o n s) (recursion_from_All (λ (w : List ℕ). IsTrue (is_signal_name w)) (names_in (signals_by i o n s)) named.good));
       distinct = pairs_named (λ (x y : List ℕ). x ≢ y) (signals_by i o n s) named.distinct;
       kinds = kinds_in_order i o n s;
-      few = subst (λ (k : ℕ). k ≤ max_signals) many named.few;
+      few = omega (arith, small, many, named.few);
       start = start_fits;
       insert_names = insert_names ∙ sym (inserted_of i o n s);
       inserts = All-from_recursion IsInsertion inserts are_inserts;
@@ -124,8 +126,8 @@ rest_named signals driven names behind s lines all some fit =
     (rest_read signals driven s lines (subst (λ (x : List (List ℕ)). Fits (due_behind x (names_in driven) s) lines) (sym all) (subst (λ (x : List (List ℕ)). Fits (due_behind names x s) lines) (sym some) fit))))
 
 -- ---- the whole
-abbrev Reads : List (List ℕ) → Netlist → Type 0
-Reads lines netlist = IsNetlist netlist × (netlist_lines netlist ≡ map words_of lines)
+abbrev Reads : ℕ → List (List ℕ) → Netlist → Type 0
+Reads limit lines netlist = IsNetlist netlist × (length netlist.signals ≤ limit) × (netlist_lines netlist ≡ map words_of lines)
 
 -- the netlist of what the first six lines spell, and of the lines behind them; the gates stand in the rows from `gate_rows` on
 abbrev pub with_rest : List ℕ → List (List ℕ) → List (List ℕ) → List (List ℕ) → List (List ℕ) → ℕ → List (List ℕ) → List (List ℕ) → Netlist
@@ -136,11 +138,11 @@ gate_rows_at l0 l1 l2 l3 l4 l5 lines k =
     let more : 7 + k ≡ suc (suc (suc (suc (suc (suc (k + 1)))))) = omega arith in
     rw more (drop-drop 1 k lines)
 
-then : (x y : List (List ℕ)) (xs ys : List (List (List ℕ))) → x ≡ y → ys ≡ xs → y ∷ ys ≡ x ∷ xs
-then x y xs ys e f = ap₂ (λ (w : List (List ℕ)) (ws : List (List (List ℕ))). w ∷ ws) (sym e) f
+next_line : (x y : List (List ℕ)) (xs ys : List (List (List ℕ))) → x ≡ y → ys ≡ xs → y ∷ ys ≡ x ∷ xs
+next_line x y xs ys e f = ap₂ (λ (w : List (List ℕ)) (ws : List (List (List ℕ))). w ∷ ws) (sym e) f
 
-six_read : (l0 l1 l2 l3 l4 l5 : List ℕ) (lines : List (List ℕ)) → Fits (due_in (l0 ∷ l1 ∷ l2 ∷ l3 ∷ l4 ∷ l5 ∷ lines)) (l0 ∷ l1 ∷ l2 ∷ l3 ∷ l4 ∷ l5 ∷ lines) → Reads (l0 ∷ l1 ∷ l2 ∷ l3 ∷ l4 ∷ l5 ∷ lines) (netlist_of_lines (l0 ∷ l1 ∷ l2 ∷ l3 ∷ l4 ∷ l5 ∷ lines))
-six_read l0 l1 l2 l3 l4 l5 lines (f0, (f1, (f2, (f3, (f4, (f5, fit)))))) =
+six_read : (limit : ℕ) → limit ≤ max_signals → (l0 l1 l2 l3 l4 l5 : List ℕ) (lines : List (List ℕ)) → Fits (due_in limit (l0 ∷ l1 ∷ l2 ∷ l3 ∷ l4 ∷ l5 ∷ lines)) (l0 ∷ l1 ∷ l2 ∷ l3 ∷ l4 ∷ l5 ∷ lines) → Reads limit (l0 ∷ l1 ∷ l2 ∷ l3 ∷ l4 ∷ l5 ∷ lines) (netlist_of_lines (l0 ∷ l1 ∷ l2 ∷ l3 ∷ l4 ∷ l5 ∷ lines))
+six_read limit small l0 l1 l2 l3 l4 l5 lines (f0, (f1, (f2, (f3, (f4, (f5, fit)))))) =
     let m : List ℕ = first_word (rest_of (words_of l0)) in
     let i : List (List ℕ) = rest_of (words_of l1) in
     let o : List (List ℕ) = rest_of (words_of l2) in
@@ -148,7 +150,7 @@ six_read l0 l1 l2 l3 l4 l5 lines (f0, (f1, (f2, (f3, (f4, (f5, fit)))))) =
     let s : List (List ℕ) = rest_of (words_of l4) in
     let start : ℕ = code_of_bits (first_word (rest_of (words_of l5))) in
     let model = model_read (words_of l0) f0.1 (words_dark l0 f0.0) in
-    let inputs = names_read (codes ".inputs") [] (words_of l1) f1.1 no_names in
+    let inputs = names_read (codes ".inputs") [] (words_of l1) f1.1 (no_names limit) in
     let outputs = names_read (codes ".outputs") i (words_of l2) f2.1 inputs.1 in
     let internals = names_read (codes ".internal") (i ++ o) (words_of l3) f3.1 outputs.1 in
     let inserted = names_read (codes ".inserted") (i ++ o ++ n) (words_of l4) f4.1 internals.1 in
@@ -157,28 +159,64 @@ six_read l0 l1 l2 l3 l4 l5 lines (f0, (f1, (f2, (f3, (f4, (f5, fit)))))) =
     let rest = rest_named (signals_by i o n s) (driven_by o n s) (i ++ o ++ n ++ s) (o ++ n ++ s) s lines (all_names i o n s) (driven_names o n s) fit in
     let inserts : List Insertion = inserts_in (take (length s) lines) in
     let gates : List Gate = gates_at (i ++ o ++ n ++ s) (o ++ n ++ s) s lines in
-    subst (λ (rows : List (List ℕ)). Reads (l0 ∷ l1 ∷ l2 ∷ l3 ∷ l4 ∷ l5 ∷ lines) (with_rest m i o n s start lines rows)) (gate_rows_at l0 l1 l2 l3 l4 l5 lines (length s)) (
-      is_netlist m i o n s start inserts gates model.1 model.2 model.3 inserted.1 started.1 rest.insert_names rest.inserts rest.gate_count rest.gates,
-      lines_are m i o n s start inserts gates ∙ then _ _ _ _ model.0 (then _ _ _ _ inputs.0 (then _ _ _ _ outputs.0 (then _ _ _ _ internals.0 (then _ _ _ _ inserted.0 (then _ _ _ _ started.0 rest.lines_are))))),
+    subst (λ (rows : List (List ℕ)). Reads limit (l0 ∷ l1 ∷ l2 ∷ l3 ∷ l4 ∷ l5 ∷ lines) (with_rest m i o n s start lines rows)) (gate_rows_at l0 l1 l2 l3 l4 l5 lines (length s)) (
+      is_netlist small m i o n s start inserts gates model.1 model.2 model.3 inserted.1 started.1 rest.insert_names rest.inserts rest.gate_count rest.gates,
+      omega (arith, count, inserted.1.few),
+      lines_are m i o n s start inserts gates ∙ next_line _ _ _ _ model.0 (next_line _ _ _ _ inputs.0 (next_line _ _ _ _ outputs.0 (next_line _ _ _ _ internals.0 (next_line _ _ _ _ inserted.0 (next_line _ _ _ _ started.0 rest.lines_are))))),
     )
 
-lines_read : (lines : List (List ℕ)) → Fits (due_in lines) lines → Reads lines (netlist_of_lines lines)
-lines_read [] fit = absurd fit
-lines_read (l0 ∷ []) fit = absurd fit.1
-lines_read (l0 ∷ l1 ∷ []) fit = absurd fit.1.1
-lines_read (l0 ∷ l1 ∷ l2 ∷ []) fit = absurd fit.1.1.1
-lines_read (l0 ∷ l1 ∷ l2 ∷ l3 ∷ []) fit = absurd fit.1.1.1.1
-lines_read (l0 ∷ l1 ∷ l2 ∷ l3 ∷ l4 ∷ []) fit = absurd fit.1.1.1.1.1
-lines_read (l0 ∷ l1 ∷ l2 ∷ l3 ∷ l4 ∷ l5 ∷ lines) fit = six_read l0 l1 l2 l3 l4 l5 lines fit
+lines_read : (limit : ℕ) → limit ≤ max_signals → (lines : List (List ℕ)) → Fits (due_in limit lines) lines → Reads limit lines (netlist_of_lines lines)
+lines_read limit small [] fit = absurd fit
+lines_read limit small (l0 ∷ []) fit = absurd fit.1
+lines_read limit small (l0 ∷ l1 ∷ []) fit = absurd fit.1.1
+lines_read limit small (l0 ∷ l1 ∷ l2 ∷ []) fit = absurd fit.1.1.1
+lines_read limit small (l0 ∷ l1 ∷ l2 ∷ l3 ∷ []) fit = absurd fit.1.1.1.1
+lines_read limit small (l0 ∷ l1 ∷ l2 ∷ l3 ∷ l4 ∷ []) fit = absurd fit.1.1.1.1.1
+lines_read limit small (l0 ∷ l1 ∷ l2 ∷ l3 ∷ l4 ∷ l5 ∷ lines) fit = six_read limit small l0 l1 l2 l3 l4 l5 lines fit
 
--- a text without fault spells a netlist
-pub read_is_netlist : (text : List ℕ) → netlist_fault text ≡ None → IsNetlist (netlist_of text)
+-- ---- the line of the version
+-- lines that begin with that of version 2, each closed
+version_closed : (lines : List (List ℕ)) → begins_with (codes ".version 2") lines ≡ true → flat_map closed lines ≡ codes ".version 2\n" ++ flat_map closed (drop 1 lines)
+version_closed [] begins = absurd cc
+version_closed (l ∷ ls) begins = ap (λ (first : List ℕ). closed first ++ flat_map closed ls) (sym ((bytes_eq-Decides (codes ".version 2") l).0 begins))
+
+-- no version has room for more signals than there may be
+pub version_small : (version : Version) → most_signals version ≤ max_signals
+version_small Version1 = omega arith
+version_small Version2 = omega arith
+
+is_second : (begins : Bool) → (if begins then Version2 else Version1) ≡ Version2 → begins ≡ true
+is_second true is = refl
+is_second false is = cc
+
+-- what a text without fault is, by its version
+abbrev ReadsText : List ℕ → Version → Netlist → Type 0
+ReadsText text version netlist = IsNetlist netlist × (length netlist.signals ≤ most_signals version) × (text ≡ netlist_text_in version netlist)
+
+text_read : (text : List ℕ) (version : Version) (left : Left) → left ≡ after_version version (all_lines text) → version_of text ≡ version → fault_of (due_in (most_signals version) left.lines) left ≡ None → ReadsText text version (netlist_of_lines left.lines)
+text_read text Version1 left is version none =
+    let parts = fits left.number (due_in (most_signals Version1) left.lines) left.lines left.tail none in
+    let read = lines_read (most_signals Version1) (version_small Version1) left.lines parts.1 in
+    let tail : tail_of text ≡ [] = ap (λ (l : Left). l.tail) (sym is) ∙ parts.0 in
+    let lines : ended text ≡ left.lines = ap (λ (l : Left). l.lines) (sym is) in
+    (read.0, read.1, text_back text tail ∙ ap (flat_map closed) lines ∙ sym (lines_back left.lines) ∙ ap text_of (sym read.2))
+text_read text Version2 left is version none =
+    let parts = fits left.number (due_in (most_signals Version2) left.lines) left.lines left.tail none in
+    let read = lines_read (most_signals Version2) (version_small Version2) left.lines parts.1 in
+    let tail : tail_of text ≡ [] = ap (λ (l : Left). l.tail) (sym is) ∙ parts.0 in
+    let lines : drop 1 (ended text) ≡ left.lines = ap (λ (l : Left). l.lines) (sym is) in
+    let begins : begins_with (codes ".version 2") (ended text) ≡ true = is_second _ version in (
+      read.0,
+      read.1,
+      text_back text tail ∙ version_closed (ended text) begins
+          ∙ ap (λ (ls : List (List ℕ)). codes ".version 2\n" ++ flat_map closed ls) lines
+          ∙ ap (λ (rest : List ℕ). codes ".version 2\n" ++ rest) (sym (lines_back left.lines) ∙ ap text_of (sym read.2)),
+    )
+
+-- a text without fault spells a netlist, for which its version has room, and is the text of that netlist
+pub read_is_text : (text : List ℕ) → netlist_fault text ≡ None → ReadsText text (version_of text) (netlist_of text)
 unfolding netlist_fault netlist_of
-read_is_netlist text none = (lines_read (ended text) (fits 1 (due_in (ended text)) (ended text) (tail_of text) none).1).0
+read_is_text text none = text_read text (version_of text) (body text) refl refl none
 
--- and it is the text of that netlist
-pub read_is_written : (text : List ℕ) → netlist_fault text ≡ None → text ≡ netlist_text (netlist_of text)
-unfolding netlist_fault netlist_of netlist_text
-read_is_written text none =
-    let parts = fits 1 (due_in (ended text)) (ended text) (tail_of text) none in
-    text_back text parts.0 ∙ sym (lines_back (ended text)) ∙ ap text_of (sym (lines_read (ended text) parts.1).1)
+pub read_is_netlist : (text : List ℕ) → netlist_fault text ≡ None → IsNetlist (netlist_of text)
+read_is_netlist text none = (read_is_text text none).0

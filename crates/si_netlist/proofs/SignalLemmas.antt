@@ -4,7 +4,7 @@ use Rattle.std.proofs.lemmas.List.{get_or-drop, take_more, length-drop, map_push
 use Rattle.std.proofs.lemmas.Option.{slice_get_within, get_or_from_slice_get}
 use Rattle.si_base.specs.declared.graph.Signal.{Signal}
 use Rattle.si_base.specs.declared.graph.SigKind.{SigKind}
-use Rattle.si_base.specs.StrictText.{signals_of}
+use Rattle.si_base.specs.GivenGraph.{signals_of}
 
 abbrev signal : SigKind → List ℕ → Signal
 signal kind name = record { name = name; kind = kind }

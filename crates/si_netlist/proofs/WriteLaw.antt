@@ -9,14 +9,15 @@ use Rattle.si_base.specs.declared.graph.SigKind.{SigKind}
 use Rattle.si_base.specs.declared.graph.SigKind.TheVariants.{Input, Output, Internal, Inserted}
 use Rattle.si_base.specs.Graph.{is_driven, kind_place}
 use Rattle.si_base.specs.Netlist.{Gate, Insertion, Netlist}
-use Rattle.si_base.specs.NetlistText.{same_kind, names_of, netlist_lines, netlist_text, insert_line, gate_words, bits_from, word_if_any}
-use Rattle.si_base.specs.StrictText.{signals_of}
+use Rattle.si_base.specs.NetlistText.{Version, Version1, Version2, version_lines, most_signals, same_kind, names_of, netlist_lines, netlist_text_in, insert_line, gate_words, bits_from, word_if_any}
+use Rattle.si_base.specs.GivenGraph.{signals_of}
 use Rattle.si_base.specs.Words.{text_of, is_signal_name, is_between}
 use Rattle.si_base.specs.WellFormed.{IsGate, IsInsertion, IsNetlist}
 use Rattle.si_base.proofs.Given.{AreClean, LinesClean, clean_word, words_without}
 use Rattle.si_base.proofs.Unsplit.{split-join}
-use Rattle.si_netlist.specs.NetlistFault.{due, due_in, netlist_fault, insert_fault, word_fault}
-use Rattle.si_words.specs.Lines.{Form, words_of, rest_of, lines_fault, has_bad_byte_here}
+use Rattle.si_netlist.specs.NetlistFault.{due, due_in, netlist_fault, version_of, after_version, insert_fault, word_fault}
+use Rattle.si_words.specs.Lines.{Form, words_of, rest_of, has_bad_byte_here}
+use Rattle.si_words.specs.Rows.{Left, all_lines, begins_with, fault_of}
 use Rattle.si_words.specs.GateLines.{gate_fault}
 use Rattle.si_netlist.specs.NetlistValue.{gate_of, insertion_of, first_word, code_of_bits, netlist_of, netlist_of_lines}
 use Rattle.si_netlist.proofs.LawFitLemmas.{Fits, no_fault}
@@ -156,7 +157,7 @@ clean_lines (f ∷ fs) [] pass = absurd pass
 clean_lines (f ∷ fs) (ws ∷ ls) pass = (clean_words ws pass.0.1, clean_lines fs ls pass.1)
 
 -- ---- gate lines and `.insert` lines
-gates_pass : (signals driven : List Signal) (gates : List Gate) → AreNames (names_in signals) → AllByRecursion (λ (x : Signal). is_signal_name x.name ≡ true) driven → length gates ≡ length driven → AllByRecursion (IsGate (length (names_in signals))) gates → Passes (map (gate_fault (names_in signals)) (names_in driven)) (gate_lines signals driven gates)
+gates_pass : {limit : ℕ} (signals driven : List Signal) (gates : List Gate) → AreNames limit (names_in signals) → AllByRecursion (λ (x : Signal). is_signal_name x.name ≡ true) driven → length gates ≡ length driven → AllByRecursion (IsGate (length (names_in signals))) gates → Passes (map (gate_fault (names_in signals)) (names_in driven)) (gate_lines signals driven gates)
 gates_pass signals [] [] are named count is = tt
 gates_pass signals [] (g ∷ gs) are named count is = absurd (omega arith)
 gates_pass signals (x ∷ xs) [] are named count is = absurd (omega arith)
@@ -164,7 +165,7 @@ gates_pass signals (x ∷ xs) (g ∷ gs) are named count is =
     let written = gate_written signals g are is.0 in
     ((gate_line_good signals x.name g written, (dark_name x.name named.0, written.dark), λ none. cc), gates_pass signals xs gs are named.1 (omega arith) is.1)
 
-gates_spelled : (signals driven : List Signal) (gates : List Gate) → AreNames (names_in signals) → AllByRecursion (λ (x : Signal). is_signal_name x.name ≡ true) driven → length gates ≡ length driven → AllByRecursion (IsGate (length (names_in signals))) gates → gates_in (names_in signals) (map (join_with_byte 32) (gate_lines signals driven gates)) ≡ gates
+gates_spelled : {limit : ℕ} (signals driven : List Signal) (gates : List Gate) → AreNames limit (names_in signals) → AllByRecursion (λ (x : Signal). is_signal_name x.name ≡ true) driven → length gates ≡ length driven → AllByRecursion (IsGate (length (names_in signals))) gates → gates_in (names_in signals) (map (join_with_byte 32) (gate_lines signals driven gates)) ≡ gates
 gates_spelled signals [] [] are named count is = refl
 gates_spelled signals [] (g ∷ gs) are named count is = absurd (omega arith)
 gates_spelled signals (x ∷ xs) [] are named count is = absurd (omega arith)
@@ -195,7 +196,7 @@ inserts_spelled (x ∷ xs) are called =
     ap₂ (λ (a : Insertion) (b : List Insertion). a ∷ b) (ap insertion_of (line_words (insert_line x) good.2 (λ none. cc)) ∙ good.1) (inserts_spelled xs are.1 called.1)
 
 -- ---- the lines behind the first six
-rest_pass : (signals driven : List Signal) (inserts : List Insertion) (gates : List Gate) (names behind s : List (List ℕ)) → names_in signals ≡ names → names_in driven ≡ behind → map (λ (x : Insertion). x.name) inserts ≡ s → AreNames (names_in signals) → AllByRecursion (λ (x : Signal). is_signal_name x.name ≡ true) driven → length gates ≡ length driven → AllByRecursion (IsGate (length (names_in signals))) gates → AllByRecursion IsInsertion inserts → Called inserts
+rest_pass : {limit : ℕ} (signals driven : List Signal) (inserts : List Insertion) (gates : List Gate) (names behind s : List (List ℕ)) → names_in signals ≡ names → names_in driven ≡ behind → map (λ (x : Insertion). x.name) inserts ≡ s → AreNames limit (names_in signals) → AllByRecursion (λ (x : Signal). is_signal_name x.name ≡ true) driven → length gates ≡ length driven → AllByRecursion (IsGate (length (names_in signals))) gates → AllByRecursion IsInsertion inserts → Called inserts
     → Passes (map insert_fault s ++ word_fault (codes ".gates") ∷ map (gate_fault names) behind ++ word_fault (codes ".end") ∷ []) (map insert_line inserts ++ (codes ".gates" ∷ []) ∷ gate_lines signals driven gates ++ (codes ".end" ∷ []) ∷ [])
 rest_pass signals driven inserts gates names behind s all some called_s are named count is_gates is_inserts called =
     let lines : List (List (List ℕ)) = map insert_line inserts ++ (codes ".gates" ∷ []) ∷ gate_lines signals driven gates ++ (codes ".end" ∷ []) ∷ [] in
@@ -236,24 +237,53 @@ six_spelled l0 l1 l2 l3 l4 l5 rows model i o n s start inserts gates e0 e1 e2 e3
     ∙ ap₂ (λ (a : List (List ℕ)) (b : ℕ). all model i o n a b) e4 e5
     ∙ ap₂ (λ (a : List Insertion) (b : List Gate). netlist_by model i o n s start a b) ei eg
 
-due_same : (l0 l1 l2 l3 l4 l5 : List ℕ) (rows : List (List ℕ)) (i o n s : List (List ℕ)) → rest_of (words_of l1) ≡ i → rest_of (words_of l2) ≡ o → rest_of (words_of l3) ≡ n → rest_of (words_of l4) ≡ s → due i o n s ≡ due_in (l0 ∷ l1 ∷ l2 ∷ l3 ∷ l4 ∷ l5 ∷ rows)
-due_same l0 l1 l2 l3 l4 l5 rows i o n s e1 e2 e3 e4 = sym (ap₂ (λ (a b : List (List ℕ)). due a b (rest_of (words_of l3)) (rest_of (words_of l4))) e1 e2 ∙ ap₂ (λ (a b : List (List ℕ)). due i o a b) e3 e4)
+due_same : (limit : ℕ) (l0 l1 l2 l3 l4 l5 : List ℕ) (rows : List (List ℕ)) (i o n s : List (List ℕ)) → rest_of (words_of l1) ≡ i → rest_of (words_of l2) ≡ o → rest_of (words_of l3) ≡ n → rest_of (words_of l4) ≡ s → due limit i o n s ≡ due_in limit (l0 ∷ l1 ∷ l2 ∷ l3 ∷ l4 ∷ l5 ∷ rows)
+due_same limit l0 l1 l2 l3 l4 l5 rows i o n s e1 e2 e3 e4 = sym (ap₂ (λ (a b : List (List ℕ)). due limit a b (rest_of (words_of l3)) (rest_of (words_of l4))) e1 e2 ∙ ap₂ (λ (a b : List (List ℕ)). due limit i o a b) e3 e4)
 
--- ---- the text of lines
-text_good : (lines : List (List (List ℕ))) → LinesClean lines → Fits (due_in (map (join_with_byte 32) lines)) (map (join_with_byte 32) lines) → netlist_fault (text_of lines) ≡ None
+-- ---- the text of lines, in each version
+abbrev text_by : Version → List (List (List ℕ)) → List ℕ
+text_by version lines = text_of (version_lines version ++ lines)
+
+abbrev rows_of : List (List (List ℕ)) → List (List ℕ)
+rows_of lines = map (join_with_byte 32) lines
+
+version_is : (version : Version) (lines : List (List (List ℕ))) → LinesClean lines → begins_with (codes ".version 2") (rows_of lines) ≡ false → version_of (text_by version lines) ≡ version
+version_is Version1 lines clean other = rw (ended_text lines clean, other) refl
+version_is Version2 lines clean other = refl
+
+-- after the line of the version these rows are left, and nothing behind them
+body_is : (version : Version) (lines : List (List (List ℕ))) → LinesClean lines → (number : ℕ) × (after_version version (all_lines (text_by version lines)) ≡ record { number = number; lines = rows_of lines; tail = [] })
+body_is Version1 lines clean =
+    let left : List (List ℕ) → List ℕ → Left = λ rows tail. record { number = 1; lines = rows; tail = tail } in
+    (1, ap₂ left (ended_text lines clean) (tail_text lines clean))
+body_is Version2 lines clean =
+    let left : List (List ℕ) → List ℕ → Left = λ rows tail. record { number = 2; lines = rows; tail = tail } in
+    (2, ap₂ left (ended_text lines clean) (tail_text lines clean))
+
+text_good : (version : Version) (lines : List (List (List ℕ))) → LinesClean lines → begins_with (codes ".version 2") (rows_of lines) ≡ false → Fits (due_in (most_signals version) (rows_of lines)) (rows_of lines) → netlist_fault (text_by version lines) ≡ None
 unfolding netlist_fault
-text_good lines clean fit = ap₂ (λ (ls : List (List ℕ)) (t : List ℕ). lines_fault 1 (due_in ls) ls t) (ended_text lines clean) (tail_text lines clean) ∙ no_fault 1 (due_in (map (join_with_byte 32) lines)) (map (join_with_byte 32) lines) fit
+text_good version lines clean other fit =
+    let all : Left = all_lines (text_by version lines) in
+    let left = body_is version lines clean in
+    ap (λ (v : Version). fault_of (due_in (most_signals v) (after_version v all).lines) (after_version v all)) (version_is version lines clean other)
+    ∙ ap (λ (l : Left). fault_of (due_in (most_signals version) l.lines) l) left.1
+    ∙ no_fault left.0 (due_in (most_signals version) (rows_of lines)) (rows_of lines) fit
 
-text_spelled : (lines : List (List (List ℕ))) → LinesClean lines → netlist_of (text_of lines) ≡ netlist_of_lines (map (join_with_byte 32) lines)
+text_spelled : (version : Version) (lines : List (List (List ℕ))) → LinesClean lines → begins_with (codes ".version 2") (rows_of lines) ≡ false → netlist_of (text_by version lines) ≡ netlist_of_lines (rows_of lines)
 unfolding netlist_of
-text_spelled lines clean = ap netlist_of_lines (ended_text lines clean)
+text_spelled version lines clean other =
+    ap (λ (v : Version). netlist_of_lines (after_version v (all_lines (text_by version lines))).lines) (version_is version lines clean other)
+    ∙ ap (λ (l : Left). netlist_of_lines l.lines) (body_is version lines clean).1
 
-abbrev Reads : Netlist → Type 0
-Reads n = (netlist_fault (netlist_text n) ≡ None) × (netlist_of (netlist_text n) ≡ n)
+abbrev Reads : Version → Netlist → Type 0
+Reads version n = (version_of (netlist_text_in version n) ≡ version) × (netlist_fault (netlist_text_in version n) ≡ None) × (netlist_of (netlist_text_in version n) ≡ n)
 
-whole : (n : Netlist) (lines : List (List (List ℕ))) → netlist_lines n ≡ lines → LinesClean lines → Fits (due_in (map (join_with_byte 32) lines)) (map (join_with_byte 32) lines) → netlist_of_lines (map (join_with_byte 32) lines) ≡ n → Reads n
-unfolding netlist_text
-whole n lines are clean fit spelled = (ap (λ (ls : List (List (List ℕ))). netlist_fault (text_of ls)) are ∙ text_good lines clean fit, ap (λ (ls : List (List (List ℕ))). netlist_of (text_of ls)) are ∙ text_spelled lines clean ∙ spelled)
+whole : (version : Version) (n : Netlist) (lines : List (List (List ℕ))) → netlist_lines n ≡ lines → LinesClean lines → begins_with (codes ".version 2") (rows_of lines) ≡ false → Fits (due_in (most_signals version) (rows_of lines)) (rows_of lines) → netlist_of_lines (rows_of lines) ≡ n → Reads version n
+whole version n lines are clean other fit spelled = (
+  ap (λ (ls : List (List (List ℕ))). version_of (text_by version ls)) are ∙ version_is version lines clean other,
+  ap (λ (ls : List (List (List ℕ))). netlist_fault (text_by version ls)) are ∙ text_good version lines clean other fit,
+  ap (λ (ls : List (List (List ℕ))). netlist_of (text_by version ls)) are ∙ text_spelled version lines clean other ∙ spelled,
+)
 
 -- ---- names of parts
 rear : (P : List ℕ → Type 0) (xs ys : List (List ℕ)) → AllByRecursion P (xs ++ ys) → AllByRecursion P ys
@@ -272,13 +302,14 @@ called_by : (inserts : List Insertion) → AreDark (map (λ (x : Insertion). x.n
 called_by [] all = tt
 called_by (x ∷ xs) all = (all.0, called_by xs all.1)
 
-parts_written : (model : List ℕ) (i o n s : List (List ℕ)) (start : ℕ) (inserts : List Insertion) (gates : List Gate) → IsNetlist (netlist_by model i o n s start inserts gates) → Reads (netlist_by model i o n s start inserts gates)
-parts_written model i o n s start inserts gates is =
+parts_written : (version : Version) (model : List ℕ) (i o n s : List (List ℕ)) (start : ℕ) (inserts : List Insertion) (gates : List Gate) → IsNetlist (netlist_by model i o n s start inserts gates) → length (signals_by i o n s) ≤ most_signals version → Reads version (netlist_by model i o n s start inserts gates)
+parts_written version model i o n s start inserts gates is room =
     let signals : List Signal = signals_by i o n s in
     let driven : List Signal = driven_by o n s in
-    let named : AreNames (names_in signals) = signals_named signals is.names is.distinct is.few in
+    let limit : ℕ = most_signals version in
+    let named : AreNames limit (names_in signals) = signals_named signals is.names is.distinct room in
     let many : length (names_in signals) ≡ length signals = length-map signals (λ (x : Signal). x.name) in
-    let names : AreNames (i ++ o ++ n ++ s) = subst AreNames (all_names i o n s) named in
+    let names : AreNames limit (i ++ o ++ n ++ s) = subst (AreNames limit) (all_names i o n s) named in
     let names3 = front_names (i ++ o ++ n) s names in
     let names2 = front_names (i ++ o) n names3 in
     let names1 = front_names i o names2 in
@@ -309,7 +340,7 @@ parts_written model i o n s start inserts gates is =
     let rows : List (List ℕ) = map (join_with_byte 32) runs in
     let rest = rest_pass signals driven inserts gates (i ++ o ++ n ++ s) (o ++ n ++ s) s (all_names i o n s) (driven_names o n s) insert_names named good_driven count is_gates is_inserts called in
     let size : length (i ++ o ++ n ++ s) ≡ length signals = ap length (sym (all_names i o n s)) ∙ many in
-    let pass : Passes (due i o n s) lines = (
+    let pass : Passes (due limit i o n s) lines = (
       (model_good model is.model is.no_brace.0 is.no_brace.1, model_dark, λ none. cc),
       (
         (names_good (codes ".inputs") [] i names1, (refl, dark_i), λ none. cc),
@@ -346,17 +377,26 @@ parts_written model i o n s start inserts gates is =
     let second = second_run rows front_rows gate_rows last gates_line (length s) (length (o ++ n ++ s)) many_inserts many_gates rows_split in
     let spelled_inserts = ap inserts_in first ∙ inserts_spelled inserts is_inserts called in
     let spelled_gates = ap₂ gates_in (sym (all_names i o n s)) second ∙ gates_spelled signals driven gates named good_driven count is_gates in
-    whole (netlist_by model i o n s start inserts gates) lines (lines_are model i o n s start inserts gates) (clean_lines (due i o n s) lines pass)
-    (subst (λ (fs : List Form). Fits fs (map (join_with_byte 32) lines)) (due_same l0 l1 l2 l3 l4 l5 rows i o n s c1 c2 c3 c4) (fits_joined (due i o n s) lines pass))
+    whole version (netlist_by model i o n s start inserts gates) lines (lines_are model i o n s start inserts gates) (clean_lines (due limit i o n s) lines pass) refl
+    (subst (λ (fs : List Form). Fits fs (map (join_with_byte 32) lines)) (due_same limit l0 l1 l2 l3 l4 l5 rows i o n s c1 c2 c3 c4) (fits_joined (due limit i o n s) lines pass))
     (six_spelled l0 l1 l2 l3 l4 l5 rows model i o n s start inserts gates (ap (λ (ws : List (List ℕ)). first_word (rest_of ws)) e0) c1 c2 c3 c4 (ap (λ (ws : List (List ℕ)). code_of_bits (first_word (rest_of ws))) e5 ∙ start_spelled signals start is.start) spelled_inserts spelled_gates)
 
--- the text of a netlist has no fault, and spells the netlist
-pub written_reads : (n : Netlist) → IsNetlist n → (netlist_fault (netlist_text n) ≡ None) × (netlist_of (netlist_text n) ≡ n)
-written_reads n is =
+-- in a version with room for its signals the text of a netlist has no fault, and spells the netlist
+pub written_reads : (version : Version) (n : Netlist) → IsNetlist n → length n.signals ≤ most_signals version → Reads version n
+written_reads version n is room =
     let i : List (List ℕ) = names_of Input n.signals in
     let o : List (List ℕ) = names_of Output n.signals in
     let m : List (List ℕ) = names_of Internal n.signals in
     let s : List (List ℕ) = names_of Inserted n.signals in
     let make : List Signal → Netlist = λ signals. record { model = n.model; signals = signals; start = n.start; inserts = n.inserts; gates = n.gates } in
-    let same : n ≡ netlist_by n.model i o m s n.start n.inserts n.gates = ap make (by_kinds n.signals is.kinds) in
-    subst Reads (sym same) (parts_written n.model i o m s n.start n.inserts n.gates (subst IsNetlist same is))
+    let by_kind : n.signals ≡ signals_by i o m s = by_kinds n.signals is.kinds in
+    let same : n ≡ netlist_by n.model i o m s n.start n.inserts n.gates = ap make by_kind in
+    let fits_room : length (signals_by i o m s) ≤ most_signals version = subst (λ (signals : List Signal). length signals ≤ most_signals version) by_kind room in
+    subst (Reads version) (sym same) (parts_written version n.model i o m s n.start n.inserts n.gates (subst IsNetlist same is) fits_room)
+
+-- no text is of two netlists
+pub one_netlist : (v w : Version) (n m : Netlist) → IsNetlist n → IsNetlist m → length n.signals ≤ most_signals v → length m.signals ≤ most_signals w → netlist_text_in v n ≡ netlist_text_in w m → (v ≡ w) × (n ≡ m)
+one_netlist v w n m is also room also_room same =
+    let one = written_reads v n is room in
+    let other = written_reads w m also also_room in
+    (sym one.0 ∙ ap version_of same ∙ other.0, sym one.2 ∙ ap netlist_of same ∙ other.2)

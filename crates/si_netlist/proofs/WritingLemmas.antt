@@ -1,6 +1,5 @@
 -- What the writers of a netlist's text have still to add, a step at a time.
-use Rattle.std.proofs.Common.{◌≡◌, ℕ, ◌+◌, ◌<◌, ◌==◌, true, false, List, [], ◌∷◌, ◌++◌, refl, sym, ap, ◌∙◌, length, get_or, drop, map, if◌then◌else◌, add-one, append_assoc, drop-cons, Some, slice_get, codes, arith, Result, OnOk, subst, inl, inr}
-use Rattle.std.specs.List.{join_with_byte}
+use Rattle.std.proofs.Common.{◌≡◌, ℕ, ◌+◌, ◌<◌, ◌==◌, true, false, List, [], ◌∷◌, ◌++◌, refl, sym, ap, ◌∙◌, length, get_or, drop, map, if◌then◌else◌, add-one, append_assoc, drop-cons, Some, slice_get, codes, arith, inl, inr}
 use Rattle.std.proofs.lemmas.Option.{slice_get_read, slice_get_cases}
 use Rattle.std.proofs.lemmas.Grind.{flat_map-append}
 use Rattle.std.proofs.lemmas.List.{append-nil}
@@ -14,7 +13,7 @@ use Rattle.si_base.specs.Graph.{is_driven}
 use Rattle.si_base.specs.Netlist.{Sum, Gate, Insertion, Netlist}
 use Rattle.si_base.specs.NetlistText.{names_of, literal_word, more_cubes, gate_words, bits_from, word_if_any, insert_line, netlist_text}
 use Rattle.si_netlist.specs.Writing.{gate_lines}
-use Rattle.si_words.proofs.WritingLemmas.{left_as, joined_words, whole_line}
+use Rattle.si_words.proofs.WritingLemmas.{joined_words}
 use Rattle.si_words.specs.Writing.{spaced}
 
 pub start_word : (text : List ℕ) (signals : List Signal) (code : ℕ) → (length signals == 0) ≡ false
@@ -109,20 +108,20 @@ together m i o n s t inserts gates g e =
 
 -- the lines one after another, each as it is written
 pub whole_text : (n : Netlist)
-    → (((((((((((codes ".model" ++ 32 ∷ n.model) ++ 10 ∷ []) ++ line (codes ".inputs" ∷ names_of Input n.signals)) ++ line (codes ".outputs" ∷ names_of Output n.signals))
+    → (((((((((((codes ".version 2\n.model" ++ 32 ∷ n.model) ++ 10 ∷ []) ++ line (codes ".inputs" ∷ names_of Input n.signals)) ++ line (codes ".outputs" ∷ names_of Output n.signals))
     ++ line (codes ".internal" ∷ names_of Internal n.signals)) ++ line (codes ".inserted" ∷ names_of Inserted n.signals))
     ++ line (codes ".start" ∷ word_if_any (bits_from 0 n.signals n.start))) ++ text_of (map insert_line n.inserts)) ++ line (codes ".gates" ∷ []))
     ++ text_of (gate_lines n.signals n.signals n.gates)) ++ line (codes ".end" ∷ []))
     ≡ netlist_text n
 unfolding netlist_text
-whole_text n = together (line (codes ".model" ∷ n.model ∷ [])) (line (codes ".inputs" ∷ names_of Input n.signals)) (line (codes ".outputs" ∷ names_of Output n.signals))
+whole_text n = together (codes ".version 2\n" ++ line (codes ".model" ∷ n.model ∷ [])) (line (codes ".inputs" ∷ names_of Input n.signals)) (line (codes ".outputs" ∷ names_of Output n.signals))
     (line (codes ".internal" ∷ names_of Internal n.signals)) (line (codes ".inserted" ∷ names_of Inserted n.signals))
     (line (codes ".start" ∷ word_if_any (bits_from 0 n.signals n.start)))
     (map insert_line n.inserts) (gate_lines n.signals n.signals n.gates) (codes ".gates" ∷ []) (codes ".end" ∷ [])
 
 -- the same, by the texts that the calls leave one after another
 pub text_by_calls : (n : Netlist) (word named ended inputs outputs internal inserted started inserts headed gated all : List ℕ)
-    → word ≡ codes ".model" → named ≡ word ++ 32 ∷ n.model → ended ≡ named ++ 10 ∷ []
+    → word ≡ codes ".version 2\n.model" → named ≡ word ++ 32 ∷ n.model → ended ≡ named ++ 10 ∷ []
     → inputs ≡ ended ++ line (codes ".inputs" ∷ names_of Input n.signals) → outputs ≡ inputs ++ line (codes ".outputs" ∷ names_of Output n.signals)
     → internal ≡ outputs ++ line (codes ".internal" ∷ names_of Internal n.signals) → inserted ≡ internal ++ line (codes ".inserted" ∷ names_of Inserted n.signals)
     → started ≡ inserted ++ line (codes ".start" ∷ word_if_any (bits_from 0 n.signals n.start)) → inserts ≡ started ++ text_of (map insert_line n.inserts)

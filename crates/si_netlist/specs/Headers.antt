@@ -3,7 +3,7 @@ use Rattle.std.specs.Prelude.{ℕ, ◌≡◌, List, ◌++◌, length, take, drop
 use Rattle.si_base.specs.Netlist.{Gate}
 use Rattle.si_base.specs.declared.graph.Signal.{Signal}
 use Rattle.si_base.specs.declared.graph.SigKind.TheVariants.{Input, Output, Internal, Inserted}
-use Rattle.si_base.specs.StrictText.{signals_of}
+use Rattle.si_base.specs.GivenGraph.{signals_of}
 use Rattle.si_netlist.specs.declared.header.Header.{Header}
 use Rattle.si_netlist.specs.NetlistFault.{due_in, due_after, names_at}
 use Rattle.si_words.specs.Lines.{rest_of}
@@ -31,7 +31,7 @@ signals_by names inputs outputs internals =
     ++ signals_of Inserted (drop internals names)
 
 -- the header has the parts that the lines spell, and the text's fault is that of the lines left
-pub record ReadsHeader (old new : Left) (names : List (List ℕ)) (header : Header) : Type 0 where
+pub record ReadsHeader (limit : ℕ) (old new : Left) (names : List (List ℕ)) (header : Header) : Type 0 where
   pub inputs : List (List ℕ)
   pub outputs : List (List ℕ)
   pub internals : List (List ℕ)
@@ -40,7 +40,7 @@ pub record ReadsHeader (old new : Left) (names : List (List ℕ)) (header : Head
   pub inputs_are : header.inputs ≡ length inputs
   pub outputs_are : header.outputs ≡ length (inputs ++ outputs)
   pub internals_are : header.internals ≡ length (inputs ++ outputs ++ internals)
-  pub fault : fault_of (due_in old.lines) old ≡ fault_of (due_after inputs outputs internals inserted) new
+  pub fault : fault_of (due_in limit old.lines) old ≡ fault_of (due_after inputs outputs internals inserted) new
   pub model_at : header.model ≡ first_word (names_at 0 old.lines)
   pub inputs_at : inputs ≡ names_at 1 old.lines
   pub outputs_at : outputs ≡ names_at 2 old.lines

@@ -1,13 +1,16 @@
 -- The fault of a text that is no netlist's.
-use Rattle.std.specs.Prelude.{ℕ, ◌==◌, Bool, false, not, ◌&&◌, List, [], ◌∷◌, ◌++◌, length, map, bytes_eq, codes, slice_index_or, Option, Some, None}
+use Rattle.std.specs.Prelude.{ℕ, ◌==◌, Bool, false, not, ◌&&◌, List, [], ◌∷◌, ◌++◌, length, map, bytes_eq, codes, slice_index_or, Option, Some, None, if◌then◌else◌}
 use Rattle.std.specs.List.{list_any, list_all}
+use Rattle.si_base.specs.Bytes.{digit_zero, digit_one}
+use Rattle.si_base.specs.NetlistText.{Version, Version1, Version2, most_signals}
 use Rattle.si_base.specs.Words.{is_between}
 use Rattle.si_base.specs.declared.fault.TextKind.{TextKind}
 use Rattle.si_base.specs.declared.fault.TextKind.TheVariants.{BadLine}
 use Rattle.si_base.specs.Faults.{when}
 use Rattle.si_words.specs.Names.{stands_in}
 use Rattle.si_words.specs.Sums.{is_empty, is_one, cut_at}
-use Rattle.si_words.specs.Lines.{Form, words_of, rest_of, names_fault, ended, tail_of, lines_fault}
+use Rattle.si_words.specs.Lines.{Form, words_of, rest_of, names_fault}
+use Rattle.si_words.specs.Rows.{Left, all_lines, begins_with, after_line, fault_of}
 use Rattle.si_words.specs.GateLines.{gate_fault}
 
 -- any word but a lone brace
@@ -26,7 +29,7 @@ model_fault words = when (not (is_model_line words)) BadLine
 -- a bit for each signal; with no signal no word for them
 abbrev pub is_start_line : ℕ → List (List ℕ) → Bool
 is_start_line signals (head ∷ []) = bytes_eq (codes ".start") head && (signals == 0)
-is_start_line signals (head ∷ bits ∷ []) = bytes_eq (codes ".start") head && not (is_empty bits) && (length bits == signals) && list_all (is_between 48 49) bits
+is_start_line signals (head ∷ bits ∷ []) = bytes_eq (codes ".start") head && not (is_empty bits) && (length bits == signals) && list_all (is_between digit_zero digit_one) bits
 is_start_line signals _ = false
 
 abbrev pub start_fault : ℕ → List (List ℕ) → Option TextKind
@@ -61,19 +64,34 @@ due_after inputs outputs internals inserted =
     ∷ map (gate_fault (inputs ++ outputs ++ internals ++ inserted)) (outputs ++ internals ++ inserted)
     ++ word_fault (codes ".end") ∷ []
 
--- the forms of the lines, in order
-abbrev pub due : List (List ℕ) → List (List ℕ) → List (List ℕ) → List (List ℕ) → List Form
-due inputs outputs internals inserted =
+-- the forms of the lines, in order, where so many signals may be named
+abbrev pub due : ℕ → List (List ℕ) → List (List ℕ) → List (List ℕ) → List (List ℕ) → List Form
+due limit inputs outputs internals inserted =
     model_fault
-    ∷ names_fault (codes ".inputs") []
-    ∷ names_fault (codes ".outputs") inputs
-    ∷ names_fault (codes ".internal") (inputs ++ outputs)
-    ∷ names_fault (codes ".inserted") (inputs ++ outputs ++ internals)
+    ∷ names_fault limit (codes ".inputs") []
+    ∷ names_fault limit (codes ".outputs") inputs
+    ∷ names_fault limit (codes ".internal") (inputs ++ outputs)
+    ∷ names_fault limit (codes ".inserted") (inputs ++ outputs ++ internals)
     ∷ start_fault (length (inputs ++ outputs ++ internals ++ inserted))
     ∷ due_after inputs outputs internals inserted
 
-abbrev pub due_in : List (List ℕ) → List Form
-due_in lines = due (names_at 1 lines) (names_at 2 lines) (names_at 3 lines) (names_at 4 lines)
+abbrev pub due_in : ℕ → List (List ℕ) → List Form
+due_in limit lines = due limit (names_at 1 lines) (names_at 2 lines) (names_at 3 lines) (names_at 4 lines)
+
+-- lines of which the first is `.version 2` are of version 2, any others of version 1
+abbrev pub version_at : Left → Version
+version_at left = if begins_with (codes ".version 2") left.lines then Version2 else Version1
+
+abbrev pub version_of : List ℕ → Version
+version_of text = version_at (all_lines text)
+
+-- what is left after the line of the version, if there is one
+abbrev pub after_version : Version → Left → Left
+after_version Version1 left = left
+after_version Version2 left = after_line left
+
+abbrev pub body : List ℕ → Left
+body text = after_version (version_of text) (all_lines text)
 
 unfoldable pub netlist_fault : List ℕ → Option (ℕ × TextKind)
-netlist_fault text = lines_fault 1 (due_in (ended text)) (ended text) (tail_of text)
+netlist_fault text = fault_of (due_in (most_signals (version_of text)) (body text).lines) (body text)

@@ -3,10 +3,11 @@ use Rattle.std.specs.Prelude.{ℕ, ◌+◌, ◌*◌, ◌==◌, List, [], ◌∷�
 use Rattle.si_base.specs.declared.ids.Literal.{Literal}
 use Rattle.si_base.specs.declared.graph.SigKind.TheVariants.{Input, Output, Internal, Inserted}
 use Rattle.si_base.specs.Netlist.{Sum, Gate, SumGate, Gc, Cell, Insertion, Netlist}
-use Rattle.si_base.specs.StrictText.{signals_of}
+use Rattle.si_base.specs.Bytes.{digit_one}
+use Rattle.si_base.specs.GivenGraph.{signals_of}
 use Rattle.si_words.specs.Sums.{is_one, literal_name, parts_at, cut_at}
-use Rattle.si_netlist.specs.NetlistFault.{names_at}
-use Rattle.si_words.specs.Lines.{words_of, ended, rest_of}
+use Rattle.si_netlist.specs.NetlistFault.{names_at, body}
+use Rattle.si_words.specs.Lines.{words_of, rest_of}
 use Rattle.si_words.specs.GateLines.{place_in}
 
 -- ---- gates
@@ -57,7 +58,7 @@ first_word (word ∷ words) = word
 -- bit i is 1 where the i-th digit is `1`
 abbrev pub code_of_bits : List ℕ → ℕ
 code_of_bits [] = 0
-code_of_bits (b ∷ bits) = (if b == 49 then 1 else 0) + 2 * code_of_bits bits
+code_of_bits (b ∷ bits) = (if b == digit_one then 1 else 0) + 2 * code_of_bits bits
 
 -- ---- the text, by its lines
 abbrev pub netlist_of_lines : List (List ℕ) → Netlist
@@ -76,4 +77,4 @@ netlist_of_lines lines =
     }
 
 unfoldable pub netlist_of : List ℕ → Netlist
-netlist_of text = netlist_of_lines (ended text)
+netlist_of text = netlist_of_lines (body text).lines

@@ -1,7 +1,8 @@
-//! The first six lines of a netlist text.
+//! The first six lines of a netlist text, after that of the version.
 
 ghost use Rattle.std.specs.Prelude.{◌≡◌, ℕ, ◌≤◌, List, length, IfOk, ◌∷◌, []};
 ghost use Rattle.std.specs.List.{list_all};
+ghost use Rattle.si_base.specs.Bytes.{digit_zero, digit_one};
 ghost use Rattle.si_base.specs.Limits.{max_signals};
 ghost use Rattle.si_base.specs.TextFaults.{ToldBy};
 ghost use Rattle.si_base.specs.Words.{is_between};
@@ -64,9 +65,9 @@ fn model_row(alloc: Global, rows: &mut Rows<'_>) -> Result<Name, TextFault>
 }
 
 fn are_bits(bytes: &[u8]) -> bool
-    ensures { result ≡ list_all (is_between 48 49) bytes.now }
+    ensures { result ≡ list_all (is_between digit_zero digit_one) bytes.now }
 {
-    bytes.iter().all(|b| 48 <= *b && *b <= 49)
+    bytes.iter().all(|b| b'0' <= *b && *b <= b'1')
 }
 
 fn is_start_line(signals: usize, words: &[&[u8]]) -> bool
@@ -89,9 +90,9 @@ fn code_of(bits: &[u8]) -> Code
     requires { length bits.now ≤ max_signals }
     ensures { result ≡ code_of_bits bits.now }
 {
-    let mut code: u64 = 0;
+    let mut code: u128 = 0;
     for i in 0..bits.len() {
-        let bit = u64::from(bits[bits.len() - 1 - i] == b'1');
+        let bit = u128::from(bits[bits.len() - 1 - i] == b'1');
         code = bit + 2 * code;
     }
     Code(code)
@@ -124,27 +125,29 @@ pub struct Header {
     pub internals: u32,
 }
 
-/// The first six lines: the names go into `names`.
+/// The first six lines after that of the version: the names, at most `limit`, go into `names`.
 ///
 /// Fails with the first fault of the text, where one of these lines shows it, and for want of memory.
 pub fn read_header(
     alloc: Global,
     rows: &mut Rows<'_>,
+    limit: u32,
     names: &mut Names,
 ) -> Result<Header, TextFault>
-    requires { names.old ≡ [] }
-    ensures ok { IfOk result (λ header. ReadsHeader rows.old rows.new names.new header) }
-    ensures err { ToldBy result (fault_of (netlist.due_in rows.old.lines) rows.old) }
+    requires none { names.old ≡ [] }
+    requires room { limit ≤ max_signals }
+    ensures ok { IfOk result (λ header. ReadsHeader limit rows.old rows.new names.new header) }
+    ensures err { ToldBy result (fault_of (netlist.due_in limit rows.old.lines) rows.old) }
     ensures few { length names.new ≤ max_signals }
 {
     let model = model_row(alloc, rows)?;
-    names_row(alloc, rows, b".inputs", names)?;
+    names_row(alloc, rows, b".inputs", limit, names)?;
     let inputs = names.len();
-    names_row(alloc, rows, b".outputs", names)?;
+    names_row(alloc, rows, b".outputs", limit, names)?;
     let outputs = names.len();
-    names_row(alloc, rows, b".internal", names)?;
+    names_row(alloc, rows, b".internal", limit, names)?;
     let internals = names.len();
-    names_row(alloc, rows, b".inserted", names)?;
+    names_row(alloc, rows, b".inserted", limit, names)?;
     let inserted = names.len();
     let start = start_row(alloc, rows, inserted as usize)?;
     Ok(Header {

@@ -3,12 +3,11 @@
 ghost use Rattle.std.specs.Prelude.{◌≡◌, ℕ, ◌<◌, length, map};
 ghost use Rattle.si_base.specs.WellFormed.{IsNetlist};
 ghost use Rattle.si_base.specs.Graph.{IsNonInput};
-ghost use Rattle.si_base.specs.Graph as graph;
 ghost use Rattle.si_base.specs.Netlist as base;
 ghost use Rattle.si_netlist.specs.Parts.{gate_seen};
 
 use crate::gate::{Gate, Insert};
-use si_base::graph::{SigKind, Signal};
+use si_base::graph::Signal;
 use si_base::ids::{Code, Sig};
 use si_base::text::Name;
 use std::marker::Model;
@@ -109,15 +108,5 @@ fn gate_place(signals: &[Signal], z: Sig) -> usize
     ensures { result ≡ base.gate_place signals.now z }
 {
     let (before, _) = signals.split_at(z.0 as usize);
-    before.iter().filter(|x| is_driven(x.kind)).count()
-}
-
-/// Whether the circuit drives signals of the kind.
-pub(crate) fn is_driven(kind: SigKind) -> bool
-    ensures { result ≡ graph.is_driven kind }
-{
-    match kind {
-        SigKind::Input => false,
-        SigKind::Output | SigKind::Internal | SigKind::Inserted => true,
-    }
+    before.iter().filter(|x| x.kind.is_driven()).count()
 }

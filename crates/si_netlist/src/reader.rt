@@ -2,7 +2,8 @@
 
 ghost use Rattle.std.specs.Prelude.{◌≡◌, ℕ, ◌≤◌, ◌++◌, ◌-◌, ◌∷◌, [], List, length, IfOk, OnOk, map, take, drop};
 ghost use Rattle.si_base.specs.Limits.{max_signals};
-ghost use Rattle.si_base.specs.StrictText.{signals_of};
+ghost use Rattle.si_base.specs.GivenGraph.{signals_of};
+ghost use Rattle.si_base.specs.NetlistText.{most_signals};
 ghost use Rattle.si_base.specs.TextFaults.{ToldBy, Gives};
 ghost use Rattle.si_words.specs.Lines.{Form};
 ghost use Rattle.si_words.specs.Reads.{words_now};
@@ -21,11 +22,24 @@ use crate::netlist::Netlist;
 use si_base::fault::{TextFault, TextKind};
 use si_base::graph::{SigKind, Signal};
 use si_base::ids::NoMemory;
+use si_base::limits::{MAX_SIGNALS, MAX_SIGNALS_VERSION_1};
 use si_base::names::Names;
 use si_base::text::Name;
 use si_words::gate_lines::is_one;
 use si_words::rows::Rows;
 use std::alloc::Global;
+
+/// How many signals the text may name. The line of the version is taken, where it stands first.
+fn take_version(rows: &mut Rows<'_>) -> u32
+    ensures limit { result ≡ most_signals (netlist.version_at rows.old) }
+    ensures left { rows.new ≡ netlist.after_version (netlist.version_at rows.old) rows.old }
+{
+    if rows.take_line(b".version 2") {
+        MAX_SIGNALS as u32
+    } else {
+        MAX_SIGNALS_VERSION_1 as u32
+    }
+}
 
 /// A line that is one word.
 fn word_row(alloc: Global, rows: &mut Rows<'_>, word: &[u8]) -> Result<(), TextFault>
@@ -93,17 +107,19 @@ fn signals_in(alloc: Global, names: &Names, header: &Header) -> Result<Vec<Signa
     Ok(signals)
 }
 
-/// The netlist that the text spells, or the first fault of the text.
+/// The netlist that the text spells, or the first fault of the text. A text whose first line is `.version 2` is read as
+/// one of version 2, any other as one of version 1, which may name 64 signals.
 ///
 /// It fails with `NoMemory` only for want of memory, and with `At` exactly where the text is no netlist's.
 pub fn read_netlist(alloc: Global, text: &[u8]) -> Result<Netlist, TextFault>
     ensures gives { Gives (λ n. n) result (netlist_fault text.now) (netlist_of text.now) }
 {
     let mut rows = Rows::new(text);
+    let limit = take_version(&mut rows);
     let Ok(mut names) = Names::new(alloc) else {
         return Err(TextFault::NoMemory);
     };
-    let header = read_header(alloc, &mut rows, &mut names)?;
+    let header = read_header(alloc, &mut rows, limit, &mut names)?;
     let inserts = insert_rows(alloc, &mut rows, &names, header.internals)?;
     word_row(alloc, &mut rows, b".gates")?;
     let gates = gate_rows(alloc, &mut rows, &names, header.inputs)?;

@@ -3,6 +3,9 @@
 use crate::reader::read_netlist;
 use crate::write::write_netlist;
 use si_base::fault::{TextFault, TextKind};
+use si_base::ids::NoMemory;
+use si_base::text::Text;
+use std::alloc::Global;
 use std::test::Fail;
 
 /// The C-element, by its majority function.
@@ -92,8 +95,49 @@ const EMPTY: &[u8] = b".model m
 fn netlists_read_and_written_back(rt: HostRuntime) -> Result<(), Fail> {
     let alloc = rt.alloc();
     for text in [MAJORITY, VME, VME_CELLS, TREE, ODD, EMPTY] {
+        let versioned = [b".version 2\n".as_slice(), text].concat(alloc)?;
         let netlist = read_netlist(alloc, text)?;
-        assert_eq!(rt; write_netlist(alloc, &netlist)?.bytes(), text);
+        assert_eq!(rt;
+            write_netlist(alloc, &netlist)?.bytes(),
+            versioned.as_slice()
+        );
+        let again = read_netlist(alloc, &versioned)?;
+        assert_eq!(rt; write_netlist(alloc, &again)?.bytes(), versioned.as_slice());
+    }
+    Ok(())
+}
+
+/// A text that breaks off after a list of so many inputs.
+fn with_inputs(alloc: Global, head: &[u8], count: u8) -> Result<Text, NoMemory> {
+    let mut text = Text::copy_of(alloc, head)?;
+    text.add(b".model m\n.inputs")?;
+    for i in 0..count {
+        text.add(&[
+            b' ',
+            b's',
+            b'0' + i / 100,
+            b'0' + i / 10 % 10,
+            b'0' + i % 10,
+        ])?;
+    }
+    text.add(b"\n")?;
+    Ok(text)
+}
+
+#[test]
+fn signals_of_each_version(rt: HostRuntime) -> Result<(), Fail> {
+    for (head, count, line, kind) in [
+        (b"".as_slice(), 64, 3, TextKind::NoEnd),
+        (b"", 65, 2, TextKind::TooManySignals),
+        (b".version 2\n", 128, 4, TextKind::NoEnd),
+        (b".version 2\n", 129, 3, TextKind::TooManySignals),
+    ] {
+        let text = with_inputs(rt.alloc(), head, count)?;
+        let fault = read_netlist(rt.alloc(), text.bytes()).err();
+        assert!(rt;
+            matches!(fault, Some(TextFault::At { line: at, kind: of }) if at == line && of == kind),
+            "{count} signals"
+        );
     }
     Ok(())
 }
@@ -124,16 +168,20 @@ fn netlists_cut_after_each_line(rt: HostRuntime) {
 #[test]
 fn faults_by_line_and_kind(rt: HostRuntime) {
     let heads = b".model m\n.inputs a b\n.outputs c\n.internal\n.inserted\n.start 000\n.gates\n";
-    let faults: [(&[u8], u64, TextKind); 20] = [
+    let faults: [(&[u8], u64, TextKind); 24] = [
         (b".model {\n", 1, TextKind::BadLine),
         (b".model m \n", 1, TextKind::BadLine),
         (b".model\tm\n", 1, TextKind::BadByte),
         (b".model m\n.inputs a 1b\n", 2, TextKind::BadName),
         (b".model m\n.inputs a a\n", 2, TextKind::Repeated),
+        (b".version 3\n.model m\n", 1, TextKind::BadLine),
+        (b".version 2", 1, TextKind::NoEnd),
+        (b".version 2\n", 2, TextKind::NoEnd),
+        (b".version 2\n.version 2\n", 2, TextKind::BadLine),
         (
-            b".model m\n.inputs a0 a1 a2 a3 a4 a5 a6 a7 a8 a9 b0 b1 b2 b3 b4 b5 b6 b7 b8 b9 c0 c1 c2 c3 c4 c5 c6 c7 c8 c9 d0 d1 d2 d3 d4 d5 d6 d7 d8 d9 e0 e1 e2 e3 e4 e5 e6 e7 e8 e9 f0 f1 f2 f3 f4 f5 f6 f7 f8 f9 g0 g1 g2 g3 g4\n",
-            2,
-            TextKind::TooManySignals,
+            b".version 2\n.model m\n.inputs a a\n",
+            3,
+            TextKind::Repeated,
         ),
         (b".model m\n.inputs a  a\n", 2, TextKind::BadLine),
         (
@@ -167,7 +215,7 @@ fn faults_by_line_and_kind(rt: HostRuntime) {
         (b"c sum a\n.end\nx", 10, TextKind::BadLine),
     ];
     for (text, line, kind) in faults {
-        let whole = if text.starts_with(b".model") {
+        let whole = if text.starts_with(b".") {
             text.to_vec(rt.alloc())
         } else {
             [heads.as_slice(), text].concat(rt.alloc())

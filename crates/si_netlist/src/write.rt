@@ -1,6 +1,7 @@
 //! Writes the text of a netlist.
 
 ghost use Rattle.std.specs.Prelude.{◌≡◌, ℕ, ◌<◌, ◌≤◌, List, [], ◌∷◌, ◌++◌, IfOk, OnOk, length, codes, map, if◌then◌else◌};
+ghost use Rattle.si_base.specs.Bytes.{digit_zero, digit_one};
 ghost use Rattle.si_base.specs.Words.{line, text_of};
 ghost use Rattle.si_base.specs.Limits.{max_signals};
 ghost use Rattle.si_base.specs.NetlistText.{netlist_text, same_kind as is_same_kind, names_of, word_if_any, bits_from, insert_line};
@@ -15,12 +16,12 @@ use si_base::text::{Name, Text};
 use si_words::writing::add_word;
 use std::alloc::Global;
 
-/// The text of a netlist. It fails only for want of memory.
+/// The text of a netlist, in version 2. It fails only for want of memory.
 pub fn write_netlist(alloc: Global, netlist: &Netlist) -> Result<Text, NoMemory>
     ensures { IfOk result (λ text. text ≡ netlist_text netlist.now) }
 {
     let signals = netlist.signals();
-    let mut text = Text::copy_of(alloc, b".model")?;
+    let mut text = Text::copy_of(alloc, b".version 2\n.model")?;
     add_word(&mut text, netlist.model().bytes())?;
     text.add(b"\n")?;
     add_names_line(&mut text, b".inputs", signals, SigKind::Input)?;
@@ -112,7 +113,7 @@ fn add_bits(text: &mut Text, signals: &[Signal], code: Code) -> Result<(), NoMem
 
 /// The digit of a value.
 fn digit(value: bool) -> &'static [u8]
-    ensures { result.now ≡ (if value then 49 else 48) ∷ [] }
+    ensures { result.now ≡ (if value then digit_one else digit_zero) ∷ [] }
 {
     if value { b"1" } else { b"0" }
 }

@@ -8,7 +8,6 @@ ghost use Rattle.si_netlist.specs.Writing.{gate_lines};
 ghost use Rattle.si_words.specs.Writing.{spaced};
 
 use crate::gate::Gate;
-use crate::netlist::is_driven;
 use crate::write_sums::{add_literals, add_sum};
 use si_base::graph::Signal;
 use si_base::ids::NoMemory;
@@ -21,7 +20,7 @@ pub fn add_gate_lines(text: &mut Text, signals: &[Signal], gates: &[Gate]) -> Re
 {
     let mut gates = gates;
     for signal in signals {
-        if !is_driven(signal.kind) {
+        if !signal.kind.is_driven() {
             continue;
         }
         let [gate, rest @ ..] = gates else {

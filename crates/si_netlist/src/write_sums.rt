@@ -1,12 +1,13 @@
 //! Writes the words of sums.
 
 ghost use Rattle.std.specs.Prelude.{◌≡◌, ℕ, ◌≤◌, List, [], ◌∷◌, ◌++◌, OnOk, length, map, if◌then◌else◌};
-ghost use Rattle.si_base.specs.NetlistText.{name_of, cube_words, literal_word, more_cubes, sum_words};
+ghost use Rattle.si_base.specs.Bytes.{space, apostrophe};
+ghost use Rattle.si_base.specs.NetlistText.{cube_words, literal_word, more_cubes, sum_words};
 ghost use Rattle.si_words.specs.Writing.{spaced};
 
-use si_base::graph::Signal;
+use si_base::graph::{Signal, signal_name};
 use si_base::ids::{Literal, NoMemory, Sig};
-use si_base::limits::MAX_SIGNALS;
+use si_base::limits::CODE_WIDTH;
 use si_base::text::Text;
 use si_cube::cube::Cube;
 use si_cube::sum::Sum;
@@ -50,7 +51,7 @@ fn add_cube(text: &mut Text, signals: &[Signal], cube: &Cube) -> Result<(), NoMe
 fn add_cube_literals(text: &mut Text, signals: &[Signal], cube: &Cube) -> Result<(), NoMemory>
     ensures { OnOk result (text.new ≡ text.old ++ spaced (map (literal_word signals.now) cube.now)) }
 {
-    for i in 0..MAX_SIGNALS {
+    for i in 0..CODE_WIDTH {
         let sig = Sig(i as u8);
         if !cube.care.get(sig) {
             continue;
@@ -77,25 +78,15 @@ pub fn add_literals(
 
 /// Adds the literal.
 fn add_literal(text: &mut Text, signals: &[Signal], literal: Literal) -> Result<(), NoMemory>
-    ensures { OnOk result (text.new ≡ text.old ++ 32 ∷ literal_word signals.now literal) }
+    ensures { OnOk result (text.new ≡ text.old ++ space ∷ literal_word signals.now literal) }
 {
     add_word(text, signal_name(signals, literal.sig))?;
     text.add(mark(literal.plain))
 }
 
-/// The name of a signal: empty where there is no such signal.
-fn signal_name(signals: &[Signal], z: Sig) -> &[u8]
-    ensures { result.now ≡ name_of signals.now z }
-{
-    match signals.get(z.0 as usize) {
-        Some(signal) => signal.name.bytes(),
-        None => b"",
-    }
-}
-
 /// What stands behind a name in a literal.
 fn mark(plain: bool) -> &'static [u8]
-    ensures { result.now ≡ (if plain then [] else 39 ∷ []) }
+    ensures { result.now ≡ (if plain then [] else apostrophe ∷ []) }
 {
     if plain { b"" } else { b"'" }
 }

@@ -1,12 +1,16 @@
 -- The graph that a text gives, and the names of the states that are kept.
-use Rattle.std.proofs.Common.{◌≡◌, ◌≢◌, ℕ, zero, suc, ◌+◌, ◌<◌, ◌≤◌, List, [], ◌∷◌, ◌++◌, map, take, length, get_or, slice_get, Some, All, AllPairs, Contains, sym, ap, ap₂, subst, ◌∙◌, arith, nat_cmp}
+use Rattle.std.proofs.Common.{◌≡◌, ◌≢◌, ℕ, zero, suc, ◌+◌, ◌<◌, ◌≤◌, List, [], ◌∷◌, ◌++◌, map, take, length, get_or, slice_get, Some, All, AllPairs, Contains, sym, ap, ap₂, subst, ◌∙◌, arith, nat_cmp, Result, Ok, Err}
 use Rattle.std.specs.List.Sorted.{IsStrictlySortedBy}
 use Rattle.std.proofs.lemmas.List.{take_more, map_push, get_or-map, get_or-take, length-map, length-take-le}
 use Rattle.std.proofs.lemmas.List.Elements.{Contains-get_or}
 use Rattle.std.proofs.lemmas.Option.{get_or_from_slice_get}
 use Rattle.si_base.specs.declared.ids.Event.{Event}
 use Rattle.si_base.specs.Graph.{StateGraph, IsGraph, IsCut, IsReachable, Walk}
-use Rattle.si_base.specs.StrictText.{Spelling, IsStrict, IsStrictText}
+use Rattle.std.specs.Prelude.{IfOk}
+use Rattle.si_base.specs.StrictText.{Spelling, IsStrict, IsStrictText, Spells, state_names, strict_text}
+use Rattle.si_strict.specs.declared.read.NotRead.{NotRead}
+use Rattle.si_strict.specs.declared.strict.Whole.{Whole}
+use Rattle.si_strict.specs.Read.{IsWholeOf}
 use Rattle.si_base.proofs.Circuit.{step_within}
 use Rattle.si_base.proofs.Sorted.{sorted_at, nat_less}
 use Rattle.si_strict.specs.Lines.{lines_between}
@@ -20,6 +24,10 @@ bad_lines text lines is none (x, strict, same) = none x (is ∙ ap lines_between
 pub bad_parts : (text : List ℕ) (lines : List (List (List ℕ))) (x : Spelling) → lines ≡ lines_between text → lines ≡ all_lines x → (IsStrict x → ⊥) → IsStrictText text → ⊥
 bad_parts text lines x is spelled none (y, strict, same) =
     none (subst IsStrict (one_spelling y x (sym (cut_text y strict) ∙ ap lines_between (sym same) ∙ sym is ∙ spelled)) strict)
+
+pub whole_from : (r : Result Whole NotRead) (text : List ℕ) (x : Spelling) → text ≡ strict_text x → IfOk r (λ _. IsStrict x) → IfOk r (λ w. w.model ≡ x.model) → IfOk r (λ w. Spells x w.graph) → IfOk r (λ w. w.states ≡ state_names x) → IfOk r (IsWholeOf text)
+whole_from (Ok whole) text x is strict model spells states = record { parts = x; strict = strict; text_is = is; model_is = model; spells = spells; states_are = states }
+whole_from (Err e) text x is strict model spells states = tt
 
 walk_within : (g : StateGraph) (s : ℕ) (es : List Event) (t : ℕ) → IsGraph g → s < g.states → Walk g s es t → t < g.states
 walk_within g s [] t is inside walk = subst (λ (u : ℕ). u < g.states) walk inside

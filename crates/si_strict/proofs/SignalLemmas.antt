@@ -1,13 +1,11 @@
 -- Names of signals, one more at a time.
-use Rattle.std.proofs.Common.{◌≡◌, ◌≢◌, ℕ, ◌+◌, ◌<◌, List, [], ◌∷◌, ◌++◌, map, take, drop, length, get_or, All, IsTrue, refl, sym, ap, ap₂, subst, ◌∙◌, arith, append_assoc, Bor}
-use Rattle.std.proofs.lemmas.List.{take_more, take-append-drop, take_at, get_or_append_left, get_or_push, get_or_default, length-append, length_push, length-map, get_or-map, map_push}
+use Rattle.std.proofs.Common.{◌≡◌, ◌≢◌, ℕ, ◌+◌, ◌<◌, List, [], ◌∷◌, ◌++◌, length, All, IsTrue, refl, sym, ap, subst, ◌∙◌, arith, append_assoc, Bor, Option, Some, None}
+use Rattle.std.proofs.lemmas.List.{append-nil, take_at, get_or_append_left, get_or_push, get_or_default, length-append, length_push}
 use Rattle.std.proofs.lemmas.List.Elements.{All-push, All-take, All-contains, Contains-push}
 use Rattle.std.proofs.lemmas.List.Quantifiers.{all_pairs_push}
-use Rattle.si_base.specs.declared.graph.SigKind.{SigKind}
-use Rattle.si_base.specs.declared.graph.Signal.{Signal}
 use Rattle.si_base.specs.Words.{is_signal_name}
-use Rattle.si_base.specs.StrictText.{signals_of}
-use Rattle.si_words.specs.Reads.{words_now}
+use Rattle.std.specs.Prelude.{IfSome}
+use Rattle.si_strict.specs.Lines.{words_between, words_in}
 use Rattle.si_strict.specs.Strict.{AreSignalNames, IsNextName}
 
 pub front_names : (xs ys : List (List ℕ)) → AreSignalNames (xs ++ ys) → AreSignalNames xs
@@ -34,34 +32,27 @@ next_name names w are = record {
   room = (let few = are.few in omega (arith, length_push names w));
 }
 
--- the word at that place, and the words before it
-up_to : (init ws : List (List ℕ)) (i : ℕ) (d : List ℕ) → i < length ws → init ++ ws ≡ ((init ++ take i ws) ++ get_or ws i d ∷ []) ++ drop (i + 1) ws
-up_to init ws i d within =
-    ap (λ l. init ++ l) (sym (take-append-drop (i + 1) ws) ∙ ap (λ l. l ++ drop (i + 1) ws) (take_more ws i d within))
-    ∙ sym (append_assoc init (take i ws ++ get_or ws i d ∷ []) (drop (i + 1) ws)) ∙ ap (λ l. l ++ drop (i + 1) ws) (sym (append_assoc init (take i ws) (get_or ws i d ∷ [])))
+-- one word more of what is left of a line
+pub one_more : {A : Type 0} (done new left rest total : List A) (x : A) → left ≡ x ∷ rest → new ≡ done ++ x ∷ [] → done ++ left ≡ total → new ++ rest ≡ total
+one_more done new left rest total x cut added so_far = ap (λ l. l ++ rest) added ∙ append_assoc done (x ∷ []) rest ∙ ap (λ l. done ++ l) (sym cut) ∙ so_far
 
-pub name_at : (init names : List (List ℕ)) (words : List (Bor (List ℕ))) (i : ℕ) (d : Bor (List ℕ)) → i < length words → names ≡ init ++ take i (words_now words) → AreSignalNames (init ++ words_now words) → IsNextName names (get_or words i d).now
-name_at init names words i d within is are =
-    let ws = words_now words in
-    let inside : i < length ws = rw length-map within in
-    let item : get_or ws i d.now ≡ (get_or words i d).now = get_or-map (λ (w : Bor (List ℕ)). w.now) words i d d.now within in
-    let split : AreSignalNames (((init ++ take i ws) ++ get_or ws i d.now ∷ []) ++ drop (i + 1) ws) = subst AreSignalNames (up_to init ws i d.now inside) are in
-    let next : IsNextName (init ++ take i ws) (get_or ws i d.now) = next_name _ _ (front_names _ _ split) in
-    let moved : IsNextName names (get_or ws i d.now) = subst (λ (ns : List (List ℕ)). IsNextName ns (get_or ws i d.now)) (sym is) next in
-    subst (IsNextName names) item moved
+pub all_done : {A : Type 0} (done left total : List A) → left ≡ [] → done ++ left ≡ total → done ≡ total
+all_done done left total none so_far = sym (append-nil done) ∙ ap (λ l. done ++ l) (sym none) ∙ so_far
 
-pub names_more : (init names new : List (List ℕ)) (words : List (Bor (List ℕ))) (i : ℕ) (d : Bor (List ℕ)) → i < length words → names ≡ init ++ take i (words_now words) → new ≡ names ++ (get_or words i d).now ∷ [] → new ≡ init ++ take (i + 1) (words_now words)
-names_more init names new words i d within is added =
-    let ws = words_now words in
-    let inside : i < length ws = rw length-map within in
-    let item : get_or ws i d.now ≡ (get_or words i d).now = get_or-map (λ (w : Bor (List ℕ)). w.now) words i d d.now within in
-    added ∙ ap₂ (λ (ns : List (List ℕ)) (n : List ℕ). ns ++ n ∷ []) is (sym item) ∙ append_assoc init (take i ws) (get_or ws i d.now ∷ []) ∙ ap (λ l. init ++ l) (sym (take_more ws i d.now inside))
+pub name_next : (names left rest total : List (List ℕ)) (w : List ℕ) → left ≡ w ∷ rest → names ++ left ≡ total → AreSignalNames total → IsNextName names w
+name_next names left rest total w cut so_far are =
+    let split : (names ++ w ∷ []) ++ rest ≡ total = one_more names (names ++ w ∷ []) left rest total w cut refl so_far in
+    next_name names w (front_names (names ++ w ∷ []) rest (subst AreSignalNames (sym split) are))
 
-pub signals_more : (init list new : List Signal) (kind : SigKind) (words : List (Bor (List ℕ))) (i : ℕ) (d : Bor (List ℕ)) → i < length words → list ≡ init ++ signals_of kind (take i (words_now words)) → new ≡ list ++ record { name = (get_or words i d).now; kind = kind } ∷ [] → new ≡ init ++ signals_of kind (take (i + 1) (words_now words))
-signals_more init list new kind words i d within is added =
-    let ws = words_now words in
-    let make : List ℕ → Signal = λ n. record { name = n; kind = kind } in
-    let inside : i < length ws = rw length-map within in
-    let item : get_or ws i d.now ≡ (get_or words i d).now = get_or-map (λ (w : Bor (List ℕ)). w.now) words i d d.now within in
-    added ∙ ap₂ (λ (l : List Signal) (n : List ℕ). l ++ make n ∷ []) is (sym item) ∙ append_assoc init (map make (take i ws)) (make (get_or ws i d.now) ∷ [])
-    ∙ ap (λ l. init ++ l) (sym (map_push make (take i ws) (get_or ws i d.now)) ∙ ap (map make) (sym (take_more ws i d.now inside)))
+-- what is left after its first word
+pub left_after : (rest behind : Option (Bor (List ℕ))) (line : Bor (List ℕ)) (word : List ℕ) → rest ≡ Some line → words_between 32 line.now ≡ word ∷ words_in behind → words_in rest ≡ word ∷ words_in behind
+left_after rest behind line word is cut = ap words_in is ∙ cut
+
+-- how much of a line is left
+abbrev pub left_of : Option (Bor (List ℕ)) → ℕ
+left_of None = 0
+left_of (Some rest) = length rest.now + 1
+
+pub less_left : (rest behind : Option (Bor (List ℕ))) (line : Bor (List ℕ)) → rest ≡ Some line → IfSome behind (λ b. length b.now < length line.now) → left_of behind < left_of rest
+less_left rest None line is shorter = rw is (omega arith)
+less_left rest (Some b) line is shorter = rw is (omega arith)

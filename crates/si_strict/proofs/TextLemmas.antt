@@ -1,5 +1,6 @@
 -- A text is cut into the lines of its spelling, and is made of the lines that it is cut into.
-use Rattle.std.proofs.Common.{◌≡◌, ℕ, List, [], ◌∷◌, ◌++◌, map, refl, sym, ap, ap₂, ◌∙◌, codes, append_assoc}
+use Rattle.std.proofs.Common.{◌≡◌, ℕ, List, [], ◌∷◌, ◌++◌, map, refl, sym, ap, ap₂, ◌∙◌, codes, append_assoc, Bor, Vec, Global, Result, Ok, Err}
+use Rattle.std.specs.Prelude.{IfOk}
 use Rattle.std.specs.List.{join_with_byte}
 use Rattle.std.proofs.lemmas.List.{map-append, append-nil}
 use Rattle.std.proofs.lemmas.List.Splits.{join_with_byte-slice_split}
@@ -7,7 +8,8 @@ use Rattle.si_base.specs.Words.{line, text_of}
 use Rattle.si_base.specs.StrictText.{Spelling, IsStrict, strict_text, strict_lines, list_line, arc_line}
 use Rattle.si_base.proofs.Unsplit.{split-text}
 use Rattle.si_base.proofs.Given.{spelling_clean, spelling_some, lines_without, cut_back}
-use Rattle.si_strict.specs.Lines.{words_between, lines_between}
+use Rattle.si_words.specs.Reads.{words_now}
+use Rattle.si_strict.specs.Lines.{words_between, lines_between, lines_now}
 use Rattle.si_strict.specs.Parts.{all_lines, end_lines}
 
 -- behind the last line end stands one empty word
@@ -49,3 +51,12 @@ unfolding strict_text
 text_is text x same =
     let join : List (List (List ℕ)) → List ℕ = λ l. join_with_byte 10 (map (join_with_byte 32) l) in
     sym (join_with_byte-slice_split 10 text) ∙ ap (join_with_byte 10) (sym (joined_words (words_between 10 text))) ∙ ap join (same ∙ sym (lines_whole x)) ∙ joined_lines (strict_lines x)
+
+lines_held : (parts : List (Bor (List ℕ))) → lines_now parts ≡ map (words_between 32) (words_now parts)
+lines_held [] = refl
+lines_held (p ∷ parts) = ap (λ ls. words_between 32 p.now ∷ ls) (lines_held parts)
+
+-- what stands between line ends, held as bytes
+pub lines_cut : {E : Type 0} (text : List ℕ) (r : Result (Vec (Bor (List ℕ)) Global) E) → IfOk r (λ parts. words_now parts.items ≡ words_between 10 text) → IfOk r (λ lines. lines_now lines.items ≡ lines_between text)
+lines_cut text (Ok parts) cut = lines_held parts.items ∙ ap (map (words_between 32)) cut
+lines_cut text (Err e) cut = tt

@@ -27,7 +27,7 @@ names_of_kind : (kind : SigKind) (names : List (List ℕ)) → map (λ (x : Sign
 names_of_kind kind [] = refl
 names_of_kind kind (n ∷ names) = ap (λ ns. n ∷ ns) (names_of_kind kind names)
 
-names_of_all : (ins outs ints : List (List ℕ)) → map (λ (x : Signal). x.name) (all_signals ins outs ints) ≡ ins ++ outs ++ ints
+pub names_of_all : (ins outs ints : List (List ℕ)) → map (λ (x : Signal). x.name) (all_signals ins outs ints) ≡ ins ++ outs ++ ints
 names_of_all ins outs ints =
     let name : Signal → List ℕ = λ x. x.name in
     map-append name (signals_of Input ins ++ signals_of Output outs) (signals_of Internal ints)

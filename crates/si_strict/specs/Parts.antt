@@ -1,7 +1,7 @@
 -- The parts of a text as the reader holds them, and the lines that spell them.
 use Rattle.std.specs.Prelude.{◌≡◌, ℕ, List, [], ◌∷◌, ◌++◌, map, codes}
 use Rattle.si_base.specs.StrictText.{ArcLine, Spelling, arc_line, list_line}
-use Rattle.si_words.specs.Reads.{words_now}
+use Rattle.si_strict.specs.Lines.{words_in}
 use Rattle.si_strict.specs.declared.parts.Arc.{Arc}
 use Rattle.si_strict.specs.declared.parts.Header.{Header}
 use Rattle.si_strict.specs.declared.parts.Parts.{Parts}
@@ -16,9 +16,9 @@ arcs_now arcs = map arc_now arcs
 abbrev pub spelling_of : Parts → Spelling
 spelling_of p = record {
   model = p.header.model.now;
-  inputs = words_now p.header.inputs.now;
-  outputs = words_now p.header.outputs.now;
-  internals = words_now p.header.internals.now;
+  inputs = words_in p.header.inputs;
+  outputs = words_in p.header.outputs;
+  internals = words_in p.header.internals;
   arcs = arcs_now p.arcs.items;
   marked = p.marked.now;
 }
@@ -31,7 +31,7 @@ pub record HeaderNames : Type 0 where
   pub internals : List (List ℕ)
 
 abbrev pub header_now : Header → HeaderNames
-header_now h = record { model = h.model.now; inputs = words_now h.inputs.now; outputs = words_now h.outputs.now; internals = words_now h.internals.now }
+header_now h = record { model = h.model.now; inputs = words_in h.inputs; outputs = words_in h.outputs; internals = words_in h.internals }
 
 -- the lines before the arcs, and the rest
 abbrev pub header_lines : HeaderNames → List (List (List ℕ)) → List (List (List ℕ))

@@ -1,21 +1,17 @@
-//! A text as lines of words.
+//! A text as lines, and a line as words.
 
-ghost use Rattle.std.specs.Prelude.{◌≡◌, ◌==◌, ◌<◌, ◌*◌, ◌↔◌, ℕ, List, [], ◌∷◌, ◌++◌, IfOk, IsTrue, MatchOption, count_by, length};
-ghost use Rattle.si_strict.specs.Lines.{lines_now, words_between, lines_between};
-ghost use Rattle.si_words.specs.Reads.{words_now};
+ghost use Rattle.std.specs.Prelude.{◌≡◌, ◌==◌, ◌<◌, ◌≤◌, not, ◌*◌, ◌↔◌, ℕ, List, [], ◌∷◌, ◌++◌, IfOk, IfSome, IsTrue, MatchOption, count_by, length};
+ghost use Rattle.std.specs.List.{prefix_len};
+ghost use Rattle.si_strict.specs.Lines.{lines_now, lines_between, words_between, words_in};
+ghost use Rattle.si_words.specs.Sums as sums;
 
 use std::alloc::{AllocError, Global};
 
-/// The words of each line: what stands between line ends, cut at blanks.
-pub fn lines_of<'a>(alloc: Global, text: &'a [u8]) -> Result<Vec<Vec<&'a [u8]>>, AllocError>
+/// The lines of the text: what stands between line ends.
+pub fn lines_of<'a>(alloc: Global, text: &'a [u8]) -> Result<Vec<&'a [u8]>, AllocError>
     ensures { IfOk result (λ lines. lines_now lines.items ≡ lines_between text.now) }
 {
-    let mut lines = Vec::new(alloc);
-    let parts = pieces(alloc, text, b'\n')?;
-    for part in &parts {
-        lines.push(pieces(alloc, *part, b' ')?)?;
-    }
-    Ok(lines)
+    text.split(|b| *b == b'\n').collect(alloc)
 }
 
 /// The fewest bytes of a line of the strict form, with its line end: those of `.end`.
@@ -35,29 +31,60 @@ fn line_ends(text: &[u8]) -> usize
     text.iter().filter(|b| **b == b'\n').count()
 }
 
-/// What stands between the bytes of this value.
-fn pieces<'a>(alloc: Global, text: &'a [u8], at: u8) -> Result<Vec<&'a [u8]>, AllocError>
-    ensures { IfOk result (λ parts. words_now parts.items ≡ words_between at text.now) }
-{
-    text.split(|b| *b == at).collect(alloc)
-}
-
-/// The words of the first line, and the lines after it.
-pub fn split_first_line<'l, 'a>(
-    lines: &'l [Vec<&'a [u8]>],
-) -> Option<(&'l [&'a [u8]], &'l [Vec<&'a [u8]>])>
-    ensures { MatchOption result (lines_now lines.now ≡ []) (λ r. lines_now lines.now ≡ words_now r.0.now ∷ lines_now r.1.now) }
+/// The first line, and the lines after it.
+pub fn split_first_line<'l, 'a>(lines: &'l [&'a [u8]]) -> Option<(&'a [u8], &'l [&'a [u8]])>
+    ensures { MatchOption result (lines_now lines.now ≡ []) (λ r. lines_now lines.now ≡ words_between 32 r.0.now ∷ lines_now r.1.now) }
 {
     let (first, rest) = lines.split_first()?;
-    Some((first.as_slice(), rest))
+    Some((*first, rest))
 }
 
-/// The words of the last line, and the lines before it.
-pub fn split_last_line<'l, 'a>(
-    lines: &'l [Vec<&'a [u8]>],
-) -> Option<(&'l [&'a [u8]], &'l [Vec<&'a [u8]>])>
-    ensures { MatchOption result (lines_now lines.now ≡ []) (λ r. lines_now lines.now ≡ lines_now r.1.now ++ words_now r.0.now ∷ []) }
+/// The last line, and the lines before it.
+pub fn split_last_line<'l, 'a>(lines: &'l [&'a [u8]]) -> Option<(&'a [u8], &'l [&'a [u8]])>
+    ensures { MatchOption result (lines_now lines.now ≡ []) (λ r. lines_now lines.now ≡ lines_now r.1.now ++ words_between 32 r.0.now ∷ []) }
 {
     let (last, front) = lines.split_last()?;
-    Some((last.as_slice(), front))
+    Some((*last, front))
+}
+
+/// How many bytes of the line come before its first blank.
+fn len_of_word(line: &[u8]) -> usize
+    ensures within { result ≤ length line.now }
+    ensures len { result ≡ prefix_len (λ b. not (b == 32)) line.now }
+{
+    line.iter().take_while(|b| **b != b' ').count()
+}
+
+/// The first word of a line, and what stands behind the blank after it.
+pub fn split_word<'a>(line: &'a [u8]) -> (&'a [u8], Option<&'a [u8]>)
+    ensures words { words_between 32 line.now ≡ result.0.now ∷ words_in result.1 }
+    ensures shorter { IfSome result.1 (λ rest. length rest.now < length line.now) }
+{
+    let (word, rest) = line.split_at(len_of_word(line));
+    match rest {
+        [] => (word, None),
+        [_, behind @ ..] => (word, Some(behind)),
+    }
+}
+
+/// The word of a line that has just one.
+pub fn only_word<'a>(line: &'a [u8]) -> Option<&'a [u8]>
+    ensures { MatchOption result ((word : List ℕ) → words_between 32 line.now ≡ word ∷ [] → ⊥) (λ word. words_between 32 line.now ≡ word.now ∷ []) }
+{
+    let (word, rest) = split_word(line);
+    match rest {
+        None => Some(word),
+        Some(_) => None,
+    }
+}
+
+/// Whether the line is just this word.
+pub fn is_one(word: &[u8], line: &[u8]) -> bool
+    ensures { result ≡ sums.is_one word.now (words_between 32 line.now) }
+{
+    let (first, rest) = split_word(line);
+    match rest {
+        None => word == first,
+        Some(_) => false,
+    }
 }

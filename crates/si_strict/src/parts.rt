@@ -2,13 +2,11 @@
 
 ghost use Rattle.std.specs.Prelude.{◌≡◌, ℕ, List, [], ◌∷◌, ◌++◌, map, codes, Err, IfOk, MatchOption, ◌⊎◌};
 ghost use Rattle.si_base.specs.StrictText.{ArcLine, Spelling, arc_line};
-ghost use Rattle.si_strict.specs.Lines.{lines_now};
-ghost use Rattle.si_words.specs.Reads.{words_now};
+ghost use Rattle.si_strict.specs.Lines.{lines_now, words_between, words_in};
 ghost use Rattle.si_strict.specs.Parts.{arc_now, arcs_now, spelling_of, HeaderNames, header_now, header_lines, end_lines, all_lines, TakesList};
 
-use crate::lines::{split_first_line, split_last_line};
+use crate::lines::{is_one, only_word, split_first_line, split_last_line, split_word};
 use crate::read::NotRead;
-use si_words::gate_lines::is_one;
 use std::alloc::Global;
 
 /// An arc line: a state, a signal with its direction, a state.
@@ -20,25 +18,25 @@ pub struct Arc<'a> {
     pub to: &'a [u8],
 }
 
-/// What the lines before the arcs name.
+/// What the lines before the arcs name: of a list line what stands behind its head, `None` where it is left out.
 #[derive(Clone, Copy)]
-pub struct Header<'l, 'a> {
+pub struct Header<'a> {
     pub model: &'a [u8],
-    pub inputs: &'l [&'a [u8]],
-    pub outputs: &'l [&'a [u8]],
-    pub internals: &'l [&'a [u8]],
+    pub inputs: Option<&'a [u8]>,
+    pub outputs: Option<&'a [u8]>,
+    pub internals: Option<&'a [u8]>,
 }
 
 /// The parts of a text, as words of it.
 #[derive(Drop)]
-pub struct Parts<'l, 'a> {
-    pub header: Header<'l, 'a>,
+pub struct Parts<'a> {
+    pub header: Header<'a>,
     pub arcs: Vec<Arc<'a>>,
     pub marked: &'a [u8],
 }
 
 /// The parts that the lines of a text spell. `BadText` comes exactly where they spell none.
-pub fn parts_of<'l, 'a>(alloc: Global, lines: &'l [Vec<&'a [u8]>]) -> Result<Parts<'l, 'a>, NotRead>
+pub fn parts_of<'l, 'a>(alloc: Global, lines: &'l [&'a [u8]]) -> Result<Parts<'a>, NotRead>
     ensures parts { IfOk result (λ parts. lines_now lines.now ≡ all_lines (spelling_of parts)) }
     ensures bad { result ≡ Err NotRead.BadText → (x : Spelling) → lines_now lines.now ≡ all_lines x → ⊥ }
 {
@@ -57,7 +55,7 @@ pub fn parts_of<'l, 'a>(alloc: Global, lines: &'l [Vec<&'a [u8]>]) -> Result<Par
 }
 
 /// What the lines before the arcs name, and the lines after them; `None` exactly where lines of that form don't come first.
-fn header_of<'l, 'a>(lines: &'l [Vec<&'a [u8]>]) -> Option<(Header<'l, 'a>, &'l [Vec<&'a [u8]>])>
+fn header_of<'l, 'a>(lines: &'l [&'a [u8]]) -> Option<(Header<'a>, &'l [&'a [u8]])>
     ensures { MatchOption result ((h : HeaderNames) (rest : List (List (List ℕ))) → lines_now lines.now ≡ header_lines h rest → ⊥)
         (λ r. lines_now lines.now ≡ header_lines (header_now r.0) (lines_now r.1.now)) }
 {
@@ -79,55 +77,52 @@ fn header_of<'l, 'a>(lines: &'l [Vec<&'a [u8]>]) -> Option<(Header<'l, 'a>, &'l 
 }
 
 /// The word behind that head on the first line, and the lines after it.
-fn value_line<'l, 'a>(
-    lines: &'l [Vec<&'a [u8]>],
-    head: &[u8],
-) -> Option<(&'a [u8], &'l [Vec<&'a [u8]>])>
+fn value_line<'l, 'a>(lines: &'l [&'a [u8]], head: &[u8]) -> Option<(&'a [u8], &'l [&'a [u8]])>
     ensures { MatchOption result ((value : List ℕ) (rest : List (List (List ℕ))) → lines_now lines.now ≡ (head.now ∷ value ∷ []) ∷ rest → ⊥)
         (λ r. lines_now lines.now ≡ (head.now ∷ r.0.now ∷ []) ∷ lines_now r.1.now) }
 {
-    let (words, rest) = split_first_line(lines)?;
-    let value = value_of(words, head)?;
+    let (line, rest) = split_first_line(lines)?;
+    let value = value_of(line, head)?;
     Some((value, rest))
 }
 
-/// The word behind that head, if the words are these two.
-fn value_of<'a>(words: &[&'a [u8]], head: &[u8]) -> Option<&'a [u8]>
-    ensures { MatchOption result ((value : List ℕ) → words_now words.now ≡ head.now ∷ value ∷ [] → ⊥) (λ value. words_now words.now ≡ head.now ∷ value.now ∷ []) }
+/// The word behind that head, if the line is these two.
+fn value_of<'a>(line: &'a [u8], head: &[u8]) -> Option<&'a [u8]>
+    ensures { MatchOption result ((value : List ℕ) → words_between 32 line.now ≡ head.now ∷ value ∷ [] → ⊥) (λ value. words_between 32 line.now ≡ head.now ∷ value.now ∷ []) }
 {
-    match words_behind(words, head)? {
-        [value] => Some(*value),
-        _ => None,
+    match behind(line, head)? {
+        Some(rest) => only_word(rest),
+        None => None,
     }
 }
 
-/// The words behind that head, if it comes first.
-fn words_behind<'l, 'a>(words: &'l [&'a [u8]], head: &[u8]) -> Option<&'l [&'a [u8]]>
-    ensures { MatchOption result ((rest : List (List ℕ)) → words_now words.now ≡ head.now ∷ rest → ⊥) (λ rest. words_now words.now ≡ head.now ∷ words_now rest.now) }
+/// What stands behind that head, if it is the first word of the line.
+fn behind<'a>(line: &'a [u8], head: &[u8]) -> Option<Option<&'a [u8]>>
+    ensures { MatchOption result ((rest : List (List ℕ)) → words_between 32 line.now ≡ head.now ∷ rest → ⊥) (λ rest. words_between 32 line.now ≡ head.now ∷ words_in rest) }
 {
-    let (first, rest) = words.split_first()?;
-    if *first == head { Some(rest) } else { None }
+    let (first, rest) = split_word(line);
+    if first == head { Some(rest) } else { None }
 }
 
 /// The names of a list line with that head and the lines after it; no names where the first line has another head.
 /// `None` exactly where there is no line, or it has the head and no name.
 fn list_names<'l, 'a>(
-    lines: &'l [Vec<&'a [u8]>],
+    lines: &'l [&'a [u8]],
     head: &[u8],
-) -> Option<(&'l [&'a [u8]], &'l [Vec<&'a [u8]>])>
+) -> Option<(Option<&'a [u8]>, &'l [&'a [u8]])>
     ensures { MatchOption result ((lines_now lines.now ≡ []) ⊎ ((rest : List (List (List ℕ))) × (lines_now lines.now ≡ (head.now ∷ []) ∷ rest)))
-        (λ r. TakesList head.now (lines_now lines.now) (words_now r.0.now) (lines_now r.1.now)) }
+        (λ r. TakesList head.now (lines_now lines.now) (words_in r.0) (lines_now r.1.now)) }
 {
-    let (words, rest) = split_first_line(lines)?;
-    match words_behind(words, head) {
-        None => Some((words.split_at(0).0, lines)),
-        Some([]) => None,
-        Some(names) => Some((names, rest)),
+    let (line, rest) = split_first_line(lines)?;
+    match behind(line, head) {
+        None => Some((None, lines)),
+        Some(None) => None,
+        Some(Some(names)) => Some((Some(names), rest)),
     }
 }
 
 /// The lines of arcs and the marked state; `None` exactly where the lines don't end in the form of a text's last lines.
-fn ending_of<'l, 'a>(lines: &'l [Vec<&'a [u8]>]) -> Option<(&'l [Vec<&'a [u8]>], &'a [u8])>
+fn ending_of<'l, 'a>(lines: &'l [&'a [u8]]) -> Option<(&'l [&'a [u8]], &'a [u8])>
     ensures { MatchOption result ((front : List (List (List ℕ))) (marked : List ℕ) → lines_now lines.now ≡ front ++ end_lines marked → ⊥)
         (λ r. lines_now lines.now ≡ lines_now r.0.now ++ end_lines r.1.now) }
 {
@@ -157,13 +152,13 @@ fn in_braces(word: &[u8]) -> Option<&[u8]>
 }
 
 /// The arcs of these lines. `BadText` comes exactly where some line is no arc line.
-fn arcs_of<'l, 'a>(alloc: Global, lines: &'l [Vec<&'a [u8]>]) -> Result<Vec<Arc<'a>>, NotRead>
+fn arcs_of<'l, 'a>(alloc: Global, lines: &'l [&'a [u8]]) -> Result<Vec<Arc<'a>>, NotRead>
     ensures arcs { IfOk result (λ arcs. lines_now lines.now ≡ map arc_line (arcs_now arcs.items)) }
     ensures bad { result ≡ Err NotRead.BadText → (arcs : List ArcLine) → lines_now lines.now ≡ map arc_line arcs → ⊥ }
 {
     let mut arcs = Vec::new(alloc);
-    for words in lines {
-        let Some(arc) = arc_of(words.as_slice()) else {
+    for line in lines {
+        let Some(arc) = arc_of(*line) else {
             return Err(NotRead::BadText);
         };
         arcs.push(arc)?;
@@ -171,26 +166,26 @@ fn arcs_of<'l, 'a>(alloc: Global, lines: &'l [Vec<&'a [u8]>]) -> Result<Vec<Arc<
     Ok(arcs)
 }
 
-/// The arc of a line, if the words are one.
-fn arc_of<'l, 'a>(words: &'l [&'a [u8]]) -> Option<Arc<'a>>
-    ensures { MatchOption result ((a : ArcLine) → words_now words.now ≡ arc_line a → ⊥) (λ a. words_now words.now ≡ arc_line (arc_now a)) }
+/// The arc of a line, if its words are one.
+fn arc_of<'a>(line: &'a [u8]) -> Option<Arc<'a>>
+    ensures { MatchOption result ((a : ArcLine) → words_between 32 line.now ≡ arc_line a → ⊥) (λ a. words_between 32 line.now ≡ arc_line (arc_now a)) }
 {
-    let [from, event, to] = words else {
-        return None;
-    };
+    let (from, after_from) = split_word(line);
+    let (event, after_event) = split_word(after_from?);
+    let to = only_word(after_event?)?;
     let (sign, signal) = event.split_last()?;
     match *sign {
         b'+' => Some(Arc {
-            from: *from,
+            from,
             signal,
             up: true,
-            to: *to,
+            to,
         }),
         b'-' => Some(Arc {
-            from: *from,
+            from,
             signal,
             up: false,
-            to: *to,
+            to,
         }),
         _ => None,
     }

@@ -6,11 +6,13 @@ ghost use Rattle.std.specs.List.Sorted.{IsStrictlySortedBy};
 ghost use Rattle.std.specs.Ordering.{nat_cmp};
 ghost use Rattle.si_base.specs.StrictText.{IsGiven};
 ghost use Rattle.si_base.specs.Codes.{IsConnected};
-ghost use Rattle.si_strict.specs.Read.{IsBadText, given_sg};
+ghost use Rattle.si_strict.specs.Lines.{lines_between};
+ghost use Rattle.si_strict.specs.Parts.{all_lines, spelling_of};
+ghost use Rattle.si_strict.specs.Read.{IsBadText, IsWholeOf, given_sg};
 
 use crate::lines::{has_short_lines, lines_of};
-use crate::parts::parts_of;
-use crate::strict::whole_of;
+use crate::parts::{Parts, parts_of};
+use crate::strict::{Whole, whole_of};
 use si_base::ids::{NoMemory, StateId};
 use si_base::names::{AddFault, Names};
 use si_base::text::Name;
@@ -86,21 +88,36 @@ pub fn read_strict(alloc: Global, text: &[u8]) -> Result<Sg, NotRead>
     ensures connected { IfOk result (λ g. IsConnected g.graph) }
     ensures bad { result ≡ Err NotRead.BadText → IsBadText text.now }
 {
+    let whole = whole_in(alloc, text)?;
+    let cut = whole.graph.cut(alloc)?;
+    let states = names_at(alloc, &whole.states, cut.kept.as_slice())?;
+    Ok(Sg {
+        model: whole.model,
+        graph: cut.graph,
+        states,
+    })
+}
+
+/// The graph that the text spells. `BadText` comes exactly where the text isn't in the strict form.
+fn whole_in(alloc: Global, text: &[u8]) -> Result<Whole, NotRead>
+    ensures whole { IfOk result (IsWholeOf text.now) }
+    ensures bad { result ≡ Err NotRead.BadText → IsBadText text.now }
+{
+    let parts = parts_in(alloc, text)?;
+    whole_of(alloc, &parts)
+}
+
+/// The parts that the text spells. `BadText` comes only where the text isn't in the strict form.
+fn parts_in<'a>(alloc: Global, text: &'a [u8]) -> Result<Parts<'a>, NotRead>
+    ensures parts { IfOk result (λ parts. lines_between text.now ≡ all_lines (spelling_of parts)) }
+    ensures bad { result ≡ Err NotRead.BadText → IsBadText text.now }
+{
     // Such a text needs many times its length in memory where it is cut into lines.
     if has_short_lines(text) {
         return Err(NotRead::BadText);
     }
     let lines = lines_of(alloc, text)?;
-    let parts = parts_of(alloc, lines.as_slice())?;
-    let whole = whole_of(alloc, &parts)?;
-    let model = Name::copy_of(alloc, parts.header.model)?;
-    let cut = whole.graph.cut(alloc)?;
-    let states = names_at(alloc, &whole.states, cut.kept.as_slice())?;
-    Ok(Sg {
-        model,
-        graph: cut.graph,
-        states,
-    })
+    parts_of(alloc, lines.as_slice())
 }
 
 /// The names at these places, which ascend.

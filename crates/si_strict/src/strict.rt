@@ -10,10 +10,11 @@ ghost use Rattle.si_base.specs.Limits.{max_signals, max_states_read};
 ghost use Rattle.si_base.specs.StrictText.{IsStrict, Spells, state_names, signal_names, signals_of};
 ghost use Rattle.si_base.specs.Words as words;
 ghost use Rattle.si_base.specs.Words.{once, IsStateName};
-ghost use Rattle.si_words.specs.Reads.{words_now};
+ghost use Rattle.si_strict.specs.Lines.{words_in};
 ghost use Rattle.si_strict.specs.Parts.{arc_now, arcs_now, header_now, spelling_of};
 ghost use Rattle.si_strict.specs.Strict.{AreSignalNames, IsNextName, AreArcLines, IsNamed, IsSpelledBy, ends_of, with_name};
 
+use crate::lines::split_word;
 use crate::parts::{Arc, Header, Parts};
 use crate::read::NotRead;
 use si_base::graph::{Edge, SigKind, Signal};
@@ -25,9 +26,10 @@ use si_graph::graph::Graph;
 use si_words::words::is_signal_name;
 use std::alloc::Global;
 
-/// A graph with a name for each state, not yet cut to its reachable states.
+/// A graph with its model's name and a name for each state, not yet cut to its reachable states.
 #[derive(Drop)]
 pub struct Whole {
+    pub model: Name,
     pub graph: Graph,
     pub states: Names,
 }
@@ -47,9 +49,10 @@ struct Arcs {
 }
 
 /// The graph that the parts spell. `BadText` comes exactly where they aren't in the strict form.
-pub fn whole_of(alloc: Global, parts: &Parts<'_, '_>) -> Result<Whole, NotRead>
+pub fn whole_of(alloc: Global, parts: &Parts<'_>) -> Result<Whole, NotRead>
     ensures strict { IfOk result (λ _. IsStrict (spelling_of parts.now)) }
     ensures spells { IfOk result (λ whole. Spells (spelling_of parts.now) whole.graph) }
+    ensures model { IfOk result (λ whole. whole.model ≡ parts.now.header.model.now) }
     ensures states { IfOk result (λ whole. whole.states ≡ state_names (spelling_of parts.now)) }
     ensures bad { result ≡ Err NotRead.BadText → IsStrict (spelling_of parts.now) → ⊥ }
 {
@@ -67,20 +70,22 @@ pub fn whole_of(alloc: Global, parts: &Parts<'_, '_>) -> Result<Whole, NotRead>
         return Err(NotRead::BadText);
     }
     let graph = Graph::make(alloc, signals.list, count, edges, StateId(start))?;
+    let model = Name::copy_of(alloc, parts.header.model)?;
     Ok(Whole {
+        model,
         graph,
         states: arcs.states,
     })
 }
 
 /// The signals in signal order. `BadText` comes exactly where their names aren't in the strict form.
-fn read_signals(alloc: Global, header: &Header<'_, '_>) -> Result<Signals, NotRead>
-    ensures names { IfOk result (λ signals. signals.names ≡ words_now header.now.inputs.now ++ words_now header.now.outputs.now ++ words_now header.now.internals.now) }
-    ensures list { IfOk result (λ signals. signals.list.items ≡ signals_of SigKind.Input (words_now header.now.inputs.now)
-        ++ signals_of SigKind.Output (words_now header.now.outputs.now) ++ signals_of SigKind.Internal (words_now header.now.internals.now)) }
+fn read_signals(alloc: Global, header: &Header<'_>) -> Result<Signals, NotRead>
+    ensures names { IfOk result (λ signals. signals.names ≡ words_in header.now.inputs ++ words_in header.now.outputs ++ words_in header.now.internals) }
+    ensures list { IfOk result (λ signals. signals.list.items ≡ signals_of SigKind.Input (words_in header.now.inputs)
+        ++ signals_of SigKind.Output (words_in header.now.outputs) ++ signals_of SigKind.Internal (words_in header.now.internals)) }
     ensures good { IfOk result (λ signals. AreSignalNames signals.names) }
     ensures bad { result ≡ Err NotRead.BadText
-        → AreSignalNames (words_now header.now.inputs.now ++ words_now header.now.outputs.now ++ words_now header.now.internals.now) → ⊥ }
+        → AreSignalNames (words_in header.now.inputs ++ words_in header.now.outputs ++ words_in header.now.internals) → ⊥ }
 {
     let mut signals = Signals {
         list: Vec::new(alloc),
@@ -92,20 +97,24 @@ fn read_signals(alloc: Global, header: &Header<'_, '_>) -> Result<Signals, NotRe
     Ok(signals)
 }
 
-/// Adds a signal of this kind for each word. `BadText` comes exactly where the names aren't in the strict form then.
+/// Adds a signal of this kind for each word of what is left of a line. `BadText` comes exactly where the names aren't in
+/// the strict form then.
 fn add_signals(
     alloc: Global,
     signals: &mut Signals,
-    words: &[&[u8]],
+    names: Option<&[u8]>,
     kind: SigKind,
 ) -> Result<(), NotRead>
-    ensures names { OnOk result (signals.new.names ≡ signals.old.names ++ words_now words.now) }
-    ensures list { OnOk result (signals.new.list.items ≡ signals.old.list.items ++ signals_of kind (words_now words.now)) }
+    ensures names { OnOk result (signals.new.names ≡ signals.old.names ++ words_in names.entry) }
+    ensures list { OnOk result (signals.new.list.items ≡ signals.old.list.items ++ signals_of kind (words_in names.entry)) }
     ensures good { OnOk result (AreSignalNames signals.old.names → AreSignalNames signals.new.names) }
-    ensures bad { result ≡ Err NotRead.BadText → AreSignalNames (signals.old.names ++ words_now words.now) → ⊥ }
+    ensures bad { result ≡ Err NotRead.BadText → AreSignalNames (signals.old.names ++ words_in names.entry) → ⊥ }
 {
-    for word in words {
-        add_signal(alloc, signals, *word, kind)?;
+    let mut rest = names;
+    while let Some(line) = rest {
+        let (word, behind) = split_word(line);
+        add_signal(alloc, signals, word, kind)?;
+        rest = behind;
     }
     Ok(())
 }

@@ -1,12 +1,11 @@
 //! The sums of full cubes.
 
-ghost use Rattle.std.specs.Prelude.{◌≡◌, ℕ, ◌-◌, ◌<◌, ◌≤◌, ◌^◌, IfOk, length};
+ghost use Rattle.std.specs.Prelude.{◌≡◌, ℕ, ◌<◌, ◌≤◌, ◌^◌, IfOk, length};
 ghost use Rattle.si_base.specs.Limits.{max_signals};
 ghost use Rattle.si_base.specs.Cover.{full_cube_from, full_sum};
 
 use si_base::graph::Signal;
 use si_base::ids::{Code, NoMemory, Sig, StateId};
-use si_base::limits::MAX_SIGNALS;
 use si_cube::cube::Cube;
 use si_cube::sum::Sum;
 use si_graph::coded::Coded;
@@ -18,7 +17,7 @@ pub fn sum_of(alloc: Global, coded: &Coded, z: Sig) -> Result<Sum, NoMemory>
     requires { z < length coded.now.graph.signals }
     ensures { IfOk result (λ sum. sum ≡ full_sum coded.now z) }
 {
-    let graph = coded.coded_graph();
+    let graph = coded.graph();
     let signals = graph.signals();
     let mut met = BTreeSet::new(alloc);
     let mut cubes = Vec::new(alloc);
@@ -43,19 +42,7 @@ fn full_cube(signals: &[Signal], code: Code) -> Cube
     ensures { result ≡ full_cube_from 0 signals.now code }
 {
     Cube {
-        care: all_ones(signals.len()),
+        care: Code::ones(signals.len()),
         value: code,
-    }
-}
-
-/// The value 1 for each of so many signals.
-fn all_ones(signals: usize) -> Code
-    requires { signals ≤ max_signals }
-    ensures { result ≡ 2 ^ signals - 1 }
-{
-    if signals == MAX_SIGNALS {
-        Code(u64::MAX)
-    } else {
-        Code((1 << signals) - 1)
     }
 }

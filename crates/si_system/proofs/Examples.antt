@@ -1,5 +1,5 @@
 -- A gate of constant value 0 beside a graph in which its signal falls and rises: verdicts at work.
-use Rattle.std.proofs.Common.{◌≡◌, ◌≢◌, ℕ, zero, suc, List, [], ◌∷◌, Some, None, refl, true, false, codes, lit<, nat_le, leb-true, ◌==◌, ◌&&◌, ◌||◌, not}
+use Rattle.std.proofs.Common.{◌≡◌, ℕ, zero, suc, List, [], ◌∷◌, Some, None, refl, true, codes, lit<, nat_le, leb-true, ◌==◌, ◌&&◌, ◌||◌, not}
 use Rattle.si_base.specs.declared.graph.Signal.{Signal}
 use Rattle.si_base.specs.declared.graph.SigKind.TheVariants.{Output}
 use Rattle.si_base.specs.declared.fault.TextKind.TheVariants.{BadEvent, Toggle, Undeclared}
@@ -7,10 +7,9 @@ use Rattle.si_base.specs.Graph.{StateGraph, Step, arc, rise, fall, same_event}
 use Rattle.si_base.specs.Netlist.{SumGate, Netlist}
 use Rattle.si_base.specs.System.{State, Fires}
 use Rattle.si_base.proofs.Steps.{all_arcs}
-use Rattle.si_system.specs.Events.{event_fault, event_name}
-use Rattle.si_system.specs.ScheduleText.{event_of}
-use Rattle.si_system.specs.Outcome.{IsOutcome, Passes}
-use Rattle.si_system.specs.Verdict.{IsStep, IsVerdict, Loses}
+use Rattle.si_words.specs.Events.{event_fault, event_of}
+use Rattle.si_system.specs.Outcome.{IsOutcome}
+use Rattle.si_system.specs.Verdict.{IsVerdict, Loses}
 use Rattle.si_system.specs.declared.replay.Outcome.TheVariants as outcome
 use Rattle.si_system.specs.declared.verdict.Verdict.TheVariants.{Done, Blocked}
 

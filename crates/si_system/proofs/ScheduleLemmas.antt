@@ -1,5 +1,5 @@
 -- The names of signals, taken one after the other, and the signals of events.
-use Rattle.std.proofs.Common.{◌≡◌, ◌≢◌, ℕ, ◌+◌, ◌<◌, ◌==◌, ◌||◌, not, Bool, true, false, List, [], ◌∷◌, ◌++◌, length, map, take, get_or, min, sym, ap, subst, ◌∙◌, arith, inl, inr, bytes_eq, position, unwrap_or, All, IfOk, Contains, AllPairs, Option, Some, None, Result, Ok, Err, refl, true≢false}
+use Rattle.std.proofs.Common.{◌≡◌, ◌≢◌, ℕ, ◌+◌, ◌<◌, not, Bool, true, false, List, [], ◌∷◌, ◌++◌, length, map, take, get_or, min, sym, ap, subst, ◌∙◌, arith, inl, inr, bytes_eq, position, unwrap_or, All, IfOk, Contains, AllPairs, Option, Some, None, Result, Ok, Err, refl, true≢false}
 use Rattle.std.specs.Prelude.{flat_map}
 use Rattle.std.specs.List.{position_or_len}
 use Rattle.std.proofs.lemmas.Bool.{cases_lt}
@@ -10,7 +10,7 @@ use Rattle.std.proofs.lemmas.List.Sums.{fails_before_first}
 use Rattle.std.proofs.lemmas.List.{get_or-map, get_or-take, length-map, length-take, map-append, take_more}
 use Rattle.si_base.specs.declared.fault.TextFault.{TextFault}
 use Rattle.si_base.specs.declared.fault.TextKind.{TextKind}
-use Rattle.si_base.specs.declared.fault.TextKind.TheVariants.{Toggle, BadEvent, BadByte, Undeclared}
+use Rattle.si_base.specs.declared.fault.TextKind.TheVariants.{BadEvent, BadByte, Undeclared}
 use Rattle.si_base.specs.declared.graph.Signal.{Signal}
 use Rattle.si_base.specs.declared.ids.Event.{Event}
 use Rattle.si_base.specs.Faults.{when, ◌otherwise◌, first_in, at_line}
@@ -18,8 +18,9 @@ use Rattle.si_base.specs.Lines.{Line, has_bad_byte, numbered}
 use Rattle.si_base.specs.TextFaults.{Gives}
 use Rattle.si_words.specs.Names.{stands_in}
 use Rattle.si_netlist.proofs.LawFitLemmas.{both, not_when}
-use Rattle.si_system.specs.Events.{event_fault, event_name, is_event_with}
-use Rattle.si_system.specs.ScheduleText.{signal_names, words, line_fault, event_of, schedule_fault, schedule_of}
+use Rattle.si_base.specs.Words.{is_signal_name}
+use Rattle.si_words.specs.Events.{event_fault, event_name, event_sign, sign_fault, event_of}
+use Rattle.si_system.specs.ScheduleText.{signal_names, words, line_fault, schedule_fault, schedule_of}
 
 -- the name of a signal is none of those before it
 pub fresh : (signals : List Signal) (i : ℕ) (d : Signal) → AllPairs (λ (x y : Signal). x.name ≢ y.name) signals → i < length signals → ¬ Contains (take i (signal_names signals)) (get_or signals i d).name
@@ -51,8 +52,8 @@ place_within names name stands = elim (cases_lt (position_or_len (λ n. bytes_eq
 
 stands : (names : List (List ℕ)) (word : List ℕ) → event_fault names word ≡ None → stands_in names (event_name word) ≡ true
 stands names word none =
-    let later = (both (when (is_event_with (λ b. b == 126) word) Toggle) _ none).1 in
-    let last = (both (when (not (is_event_with (λ b. (b == 43) || (b == 45)) word)) BadEvent) _ later).1 in
+    let later = (both (when (not (is_signal_name (event_name word))) BadEvent) _ none).1 in
+    let last = (both (sign_fault (event_sign word)) _ later).1 in
     shown (stands_in names (event_name word)) (not_when _ Undeclared last)
   where
     shown : (b : Bool) → not b ≡ false → b ≡ true

@@ -1,5 +1,4 @@
 pub mod Lists
 pub mod Verdict
 pub mod Outcome
-pub mod Events
 pub mod ScheduleText

@@ -1,12 +1,12 @@
 -- The text of a schedule: its first fault, and the events that it spells.
-use Rattle.std.specs.Prelude.{ℕ, false, List, map, flat_map, position, bytes_eq, unwrap_or, Option}
+use Rattle.std.specs.Prelude.{ℕ, false, List, map, flat_map, Option}
 use Rattle.si_base.specs.declared.ids.Event.{Event}
 use Rattle.si_base.specs.declared.graph.Signal.{Signal}
 use Rattle.si_base.specs.declared.fault.TextKind.{TextKind}
 use Rattle.si_base.specs.declared.fault.TextKind.TheVariants.{BadByte}
 use Rattle.si_base.specs.Faults.{when, ◌otherwise◌, first_in, at_line}
 use Rattle.si_base.specs.Lines.{Line, numbered, words_in, before_comment, has_bad_byte}
-use Rattle.si_system.specs.Events.{event_fault, event_name, event_sign, is_up}
+use Rattle.si_words.specs.Events.{event_fault, event_of}
 
 abbrev pub signal_names : List Signal → List (List ℕ)
 signal_names signals = map (λ x. x.name) signals
@@ -20,10 +20,6 @@ line_fault names line = at_line line.0 (when (has_bad_byte line.1) BadByte other
 -- the first fault, where these are the names of the netlist's signals
 abbrev pub schedule_fault : List (List ℕ) → List ℕ → Option (ℕ × TextKind)
 schedule_fault names text = first_in (line_fault names) (numbered text)
-
--- the event of the signal whose name stands first in the word
-abbrev pub event_of : List (List ℕ) → List ℕ → Event
-event_of names word = record { sig = unwrap_or (position (λ n. bytes_eq (event_name word) n) names) 0; up = is_up (event_sign word) }
 
 -- the events of a text without fault
 abbrev pub schedule_of : List (List ℕ) → List ℕ → List Event

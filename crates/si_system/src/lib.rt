@@ -1,7 +1,6 @@
 //! The circuit beside its environment, one switching at a time.
 #![tactic(auto)]
 
-mod event_words;
 pub mod laws;
 mod lists;
 pub mod replay;

@@ -3,30 +3,20 @@
 ghost use Rattle.std.specs.Prelude.{◌≡◌, ℕ, ◌↔◌, ◌≤◌, AllPairs, IfSome, IsTrue, MatchOption, filter, length, not};
 ghost use Rattle.si_base.specs.Graph.{kind_place};
 ghost use Rattle.si_base.specs.Limits.{max_signals};
-ghost use Rattle.si_base.specs.System.{IsFor, is_inserted as inserted};
+ghost use Rattle.si_base.specs.System.{IsFor, is_inserted};
 ghost use Rattle.si_system.specs.Lists.{IsFirstDifference};
 
-use si_base::graph::{SigKind, Signal};
+use si_base::graph::Signal;
 use si_base::ids::Sig;
 use si_graph::coded::Coded;
 use si_netlist::netlist::Netlist;
 
-/// Whether signals of the kind were inserted, that is, aren't given.
-fn is_inserted(kind: SigKind) -> bool
-    ensures { result ≡ inserted kind }
-{
-    match kind {
-        SigKind::Inserted => true,
-        SigKind::Input | SigKind::Output | SigKind::Internal => false,
-    }
-}
-
 /// The signals that aren't inserted: they stand in front.
 fn given_signals(signals: &[Signal]) -> &[Signal]
     requires { AllPairs (λ x y. kind_place x.kind ≤ kind_place y.kind) signals.now }
-    ensures { result.now ≡ filter (λ x. not (inserted x.kind)) signals.now }
+    ensures { result.now ≡ filter (λ x. not (is_inserted x.kind)) signals.now }
 {
-    let count = signals.iter().filter(|x| !is_inserted(x.kind)).count();
+    let count = signals.iter().filter(|x| !x.kind.is_inserted()).count();
     let (given, _) = signals.split_at(count);
     given
 }
@@ -44,9 +34,9 @@ pub(crate) fn first_difference(graph: &Coded, netlist: &Netlist) -> Option<usize
     ensures difference { MatchOption result (IsFor graph.now netlist.now) (IsFirstDifference graph.now netlist.now) }
     ensures within { IfSome result (λ k. k ≤ max_signals) }
 {
-    let own = graph.coded_graph().signals();
+    let own = graph.graph().signals();
     let given = given_signals(netlist.signals());
-    let code = graph.code(graph.coded_graph().start());
+    let code = graph.code(graph.graph().start());
     let start = netlist.start();
     let both = own.len().min(given.len());
     for k in 0..both {

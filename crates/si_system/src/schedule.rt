@@ -6,11 +6,9 @@ ghost use Rattle.si_base.specs.Limits.{max_signals};
 ghost use Rattle.si_base.specs.Lines as text;
 ghost use Rattle.si_base.specs.TextFaults.{Tells, Gives};
 ghost use Rattle.si_base.specs.declared.fault.TextKind.TheVariants.{BadByte};
-ghost use Rattle.si_system.specs.Events.{event_fault};
-ghost use Rattle.si_system.specs.ScheduleText as schedule;
+ghost use Rattle.si_words.specs.Events.{event_fault, event_of};
 ghost use Rattle.si_system.specs.ScheduleText.{signal_names, schedule_fault, schedule_of};
 
-use crate::event_words::{event_kind, event_of};
 use si_base::fault::{LineFault, TextFault, TextKind, at_line};
 use si_base::graph::Signal;
 use si_base::ids::{Event, NoMemory};
@@ -18,6 +16,7 @@ use si_base::limits::MAX_SIGNALS;
 use si_base::lines::{Lines, Words, has_bad_byte};
 use si_base::names::Names;
 use si_netlist::netlist::Netlist;
+use si_words::event_words::read_event;
 use std::alloc::Global;
 
 /// The names of the signals, in their order.
@@ -41,17 +40,14 @@ fn names_of(alloc: Global, signals: &[Signal]) -> Result<Names, NoMemory>
 fn read_line(names: &Names, line: &[u8], events: &mut Vec<Event>) -> Result<(), LineFault>
     requires { length names.now ≤ max_signals }
     ensures fault { Tells result (when (text.has_bad_byte line.now) BadByte otherwise first_in (event_fault names.now) (text.words_in false (text.before_comment line.now))) }
-    ensures value { OnOk result (events.new.items ≡ events.old.items ++ map (schedule.event_of names.now) (text.words_in false (text.before_comment line.now))) }
+    ensures value { OnOk result (events.new.items ≡ events.old.items ++ map (event_of names.now) (text.words_in false (text.before_comment line.now))) }
 {
     if has_bad_byte(line) {
         return Err(LineFault::Kind(TextKind::BadByte));
     }
     let mut words = Words::new(line, false);
     while let Some(word) = words.next_word() {
-        if let Some(kind) = event_kind(names, word) {
-            return Err(LineFault::Kind(kind));
-        }
-        events.push(event_of(names, word))?;
+        events.push(read_event(names, word)?)?;
     }
     Ok(())
 }
@@ -64,10 +60,7 @@ fn read_lines(alloc: Global, text: &[u8], names: &Names) -> Result<Vec<Event>, T
     let mut events = Vec::new(alloc);
     let mut lines = Lines::new(text);
     while let Some(line) = lines.next_line() {
-        match read_line(names, line.bytes, &mut events) {
-            Ok(()) => {}
-            Err(fault) => return Err(at_line(line.number, fault)),
-        }
+        read_line(names, line.bytes, &mut events).map_err(|fault| at_line(line.number, fault))?;
     }
     Ok(events)
 }
@@ -84,9 +77,7 @@ pub fn read_schedule(alloc: Global, text: &[u8], netlist: &Netlist) -> Result<Ve
     ensures gives { Gives (λ v. v.items) result (schedule_fault (signal_names netlist.now.signals) text.now) (schedule_of (signal_names netlist.now.signals) text.now) }
     ensures within { IfOk result (λ events. All (λ e. e.sig < length netlist.now.signals) events.items) }
 {
-    let Ok(names) = names_of(alloc, netlist.signals()) else {
-        return Err(TextFault::NoMemory);
-    };
+    let names = names_of(alloc, netlist.signals())?;
     read_lines(alloc, text, &names)
 }
 

@@ -4,7 +4,7 @@ ghost use Rattle.std.specs.Prelude.{◌≡◌, ℕ, ◌<◌, ◌+◌, ◌↔◌,
 ghost use Rattle.si_base.specs.System.{IsFor, start};
 
 use crate::lists::first_difference;
-use crate::step::{first_lost, flipped, place_after};
+use crate::step::{first_lost, place_after};
 use crate::verdict::Verdict;
 use si_base::ids::{Code, Event, StateId};
 use si_graph::coded::Coded;
@@ -92,7 +92,7 @@ impl<'a> System<'a> {
         }
         let kind = signals[sig.0 as usize].kind;
         let place = place_after(self.graph, self.netlist, kind, values, s, e)?;
-        Some((flipped(values, sig), place))
+        Some((values.flip(sig), place))
     }
 
     /// Whether the event is a step.

@@ -63,7 +63,7 @@ fn constant(alloc: Global, start: bool) -> Result<Netlist, NoMemory>
         },
     ]?;
     let gates = vec![in alloc; Gate::Sum(Sum::new(Vec::new(alloc)))]?;
-    let start = Code(u64::from(start));
+    let start = Code(u128::from(start));
     Ok(Netlist::make(model, signals, start, Vec::new(alloc), gates))
 }
 

@@ -1,8 +1,7 @@
 //! What the words of a command line ask for.
 
-ghost use Rattle.std.specs.Prelude.{MatchOption};
-ghost use Rattle.si_tool.specs.Asked.{asked_now};
-ghost use Rattle.si_tool.specs.Command.{Asks, AsksNothing};
+ghost use Rattle.std.specs.Prelude.{ℕ, List, MatchOption};
+ghost use Rattle.si_tool.specs.Command.{Asks, AsksNothing, AsksReplay, AsksSynth, asked_now};
 
 /// A command, with the names of its files.
 #[derive(Clone, Copy)]
@@ -21,7 +20,22 @@ pub enum Command<'w> {
 
 /// The command that the words ask for, or `None` exactly where they ask for none.
 pub fn command_of(words: &[String]) -> Option<Command<'_>>
-    ensures { MatchOption result (AsksNothing words.now) (λ command. Asks words.now (asked_now command)) }
+    ensures { MatchOption result (AsksNothing words.now)
+        (λ command. Asks words.now (asked_now command)) }
+{
+    if let Some(command) = synth_of(words) {
+        return Some(command);
+    }
+    if let Some(command) = replay_of(words) {
+        return Some(command);
+    }
+    None
+}
+
+/// `synth F complex`.
+fn synth_of(words: &[String]) -> Option<Command<'_>>
+    ensures { MatchOption result ((file : List ℕ) → Asks words.now (AsksSynth file) → ⊥)
+        (λ command. Asks words.now (asked_now command)) }
 {
     match words {
         [command, file, style] if command.as_str() == "synth" && style.as_str() == "complex" => {
@@ -29,6 +43,17 @@ pub fn command_of(words: &[String]) -> Option<Command<'_>>
                 file: file.as_str(),
             })
         }
+        _ => None,
+    }
+}
+
+/// `replay F NETLIST SCHEDULE`.
+fn replay_of(words: &[String]) -> Option<Command<'_>>
+    ensures { MatchOption result
+        ((graph netlist schedule : List ℕ) → Asks words.now (AsksReplay graph netlist schedule) → ⊥)
+        (λ command. Asks words.now (asked_now command)) }
+{
+    match words {
         [command, graph, netlist, schedule] if command.as_str() == "replay" => {
             Some(Command::Replay {
                 graph: graph.as_str(),

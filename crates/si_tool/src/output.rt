@@ -1,18 +1,17 @@
 //! What a command puts on `out`.
 
-ghost use Rattle.std.specs.Prelude.{◌≡◌, ℕ, ◌≤◌, List, [], ◌∷◌, IfOk, IfErr, IfSome};
-ghost use Rattle.si_tool.specs.Answer.{IsOutput, IsShort};
-ghost use Rattle.si_tool.specs.Asked.{asked_now};
-ghost use Rattle.si_tool.specs.Command.{AsksSynth, AsksReplay, files_of};
-ghost use Rattle.si_tool.specs.Ending.{Told, MayRefuse};
-ghost use Rattle.si_tool.specs.Loads.{RefusesLoad};
-ghost use Rattle.si_tool.specs.Refusal.{seen};
+ghost use Rattle.std.specs.Prelude.{◌≡◌, ℕ, ◌≤◌, List, [], ◌∷◌, IfOk, IfErr, Ok};
+ghost use Rattle.si_tool.specs.Command.{AsksReplay, AsksSynth, asked_now};
+ghost use Rattle.si_tool.specs.Ending.{MayStopLoading, ending_of};
+ghost use Rattle.si_tool.specs.Loads as stage;
+ghost use Rattle.si_tool.specs.Loads.{loads};
+ghost use Rattle.si_tool.specs.Meaning.{ComesTo, MayStopCommand};
+ghost use Rattle.si_tool.specs.Refusal.{Output};
 
 use crate::command::Command;
 use crate::refusals::Refusal;
 use crate::replayed::replay_texts;
-use crate::synth::{NoNetlist, synth};
-use si_base::fault::TextKind;
+use crate::synth::synth;
 use si_base::limits::MAX_TEXT;
 use si_base::text::Text;
 use si_io::shelf::{LoadFault, Shelf};
@@ -24,8 +23,12 @@ pub fn output<'w, H: Shelf>(
     command: Command<'w>,
     shelf: &mut H,
 ) -> Result<Text, Refusal<'w>>
-    ensures ok { IfOk result (λ text. Told (H.content shelf.old) (files_of (asked_now command.entry)) (λ texts. IsOutput (asked_now command.entry) texts text)) }
-    ensures err { IfErr result (λ r. MayRefuse (H.content shelf.old) (H.faults shelf.old) (H.faults shelf.new) (asked_now command.entry) (seen r)) }
+    ensures ok { IfOk result (λ text. ComesTo
+        (loads (H.content shelf.old) (H.faults shelf.old) (H.faults shelf.new))
+        (asked_now command.entry) (Output text)) }
+    ensures err { IfErr result (λ r. MayStopCommand
+        (loads (H.content shelf.old) (H.faults shelf.old) (H.faults shelf.new))
+        (asked_now command.entry) (ending_of r)) }
     ensures later { (n : List ℕ) → H.faults shelf.old n ≤ H.faults shelf.new n }
     ensures same { (n : List ℕ) → H.content shelf.new n ≡ H.content shelf.old n }
 {
@@ -39,10 +42,54 @@ pub fn output<'w, H: Shelf>(
     }
 }
 
+/// The netlist of the graph in the file.
+fn synth_output<'w, H: Shelf>(
+    alloc: Global,
+    file: &'w str,
+    shelf: &mut H,
+) -> Result<Text, Refusal<'w>>
+    ensures ok { IfOk result (λ text. ComesTo
+        (loads (H.content shelf.old) (H.faults shelf.old) (H.faults shelf.new))
+        (AsksSynth file.now) (Output text)) }
+    ensures err { IfErr result (λ r. MayStopCommand
+        (loads (H.content shelf.old) (H.faults shelf.old) (H.faults shelf.new))
+        (AsksSynth file.now) (ending_of r)) }
+    ensures later { (n : List ℕ) → H.faults shelf.old n ≤ H.faults shelf.new n }
+    ensures same { (n : List ℕ) → H.content shelf.new n ≡ H.content shelf.old n }
+{
+    let text = load_one(alloc, file, shelf)?;
+    synth(alloc, file, &text)
+}
+
+/// The end of the schedule over the netlist beside the graph.
+fn replay_output<'w, H: Shelf>(
+    alloc: Global,
+    graph: &'w str,
+    netlist: &'w str,
+    schedule: &'w str,
+    shelf: &mut H,
+) -> Result<Text, Refusal<'w>>
+    ensures ok { IfOk result (λ text. ComesTo
+        (loads (H.content shelf.old) (H.faults shelf.old) (H.faults shelf.new))
+        (AsksReplay graph.now netlist.now schedule.now) (Output text)) }
+    ensures err { IfErr result (λ r. MayStopCommand
+        (loads (H.content shelf.old) (H.faults shelf.old) (H.faults shelf.new))
+        (AsksReplay graph.now netlist.now schedule.now) (ending_of r)) }
+    ensures later { (n : List ℕ) → H.faults shelf.old n ≤ H.faults shelf.new n }
+    ensures same { (n : List ℕ) → H.content shelf.new n ≡ H.content shelf.old n }
+{
+    let (first, second, third) = load_three(alloc, graph, netlist, schedule, shelf)?;
+    replay_texts(alloc, graph, &first, netlist, &second, schedule, &third)
+}
+
 /// The text of a file.
 fn load<'w, H: Shelf>(alloc: Global, file: &'w str, shelf: &mut H) -> Result<Vec<u8>, Refusal<'w>>
-    ensures ok { IfOk result (λ v. IfSome (H.content shelf.old file.now) (λ text. (v.items ≡ text) × IsShort text)) }
-    ensures err { IfErr result (λ r. RefusesLoad file.now (H.content shelf.old file.now) (H.faults shelf.old file.now) (H.faults shelf.new file.now) (seen r)) }
+    ensures ok { IfOk result (λ v.
+        stage.load (H.content shelf.old) (H.faults shelf.old) (H.faults shelf.new) file.now
+        (Ok (record { text = v.items; counts = H.faults shelf.new }))) }
+    ensures err { IfErr result (λ r. MayStopLoading
+        (stage.load (H.content shelf.old) (H.faults shelf.old) (H.faults shelf.new) file.now)
+        (ending_of r)) }
     ensures later { (n : List ℕ) → H.faults shelf.old n ≤ H.faults shelf.new n }
     ensures same { (n : List ℕ) → H.content shelf.new n ≡ H.content shelf.old n }
 {
@@ -54,55 +101,63 @@ fn load<'w, H: Shelf>(alloc: Global, file: &'w str, shelf: &mut H) -> Result<Vec
     }
 }
 
-/// The text of the netlist of the graph in the file.
-fn synth_output<'w, H: Shelf>(
+/// The text of one file, as the first and last that is loaded.
+fn load_one<'w, H: Shelf>(
     alloc: Global,
     file: &'w str,
     shelf: &mut H,
-) -> Result<Text, Refusal<'w>>
-    ensures ok { IfOk result (λ text. Told (H.content shelf.old) (files_of (AsksSynth file.now)) (λ texts. IsOutput (AsksSynth file.now) texts text)) }
-    ensures err { IfErr result (λ r. MayRefuse (H.content shelf.old) (H.faults shelf.old) (H.faults shelf.new) (AsksSynth file.now) (seen r)) }
+) -> Result<Vec<u8>, Refusal<'w>>
+    ensures ok { IfOk result (λ v.
+        loads (H.content shelf.old) (H.faults shelf.old) (H.faults shelf.new)
+        (file.now ∷ []) (Ok (v.items ∷ []))) }
+    ensures err { IfErr result (λ r. MayStopLoading
+        (loads (H.content shelf.old) (H.faults shelf.old) (H.faults shelf.new)
+        (file.now ∷ [])) (ending_of r)) }
     ensures later { (n : List ℕ) → H.faults shelf.old n ≤ H.faults shelf.new n }
     ensures same { (n : List ℕ) → H.content shelf.new n ≡ H.content shelf.old n }
 {
-    let input = load(alloc, file, shelf)?;
-    match synth(alloc, &input) {
-        Ok(text) => Ok(text),
-        Err(NoNetlist::NoMemory) => Err(Refusal::NoMemory),
-        Err(NoNetlist::BadText) => Err(Refusal::BadText {
-            file,
-            line: 0,
-            kind: TextKind::BadLine,
-        }),
-        Err(NoNetlist::Improper) => Err(Refusal::Improper),
-        Err(NoNetlist::Unresolved) => Err(Refusal::Unresolved),
-    }
+    load(alloc, file, shelf)
 }
 
-/// The end of the schedule over the netlist beside the graph.
-fn replay_output<'w, H: Shelf>(
+/// The texts of two files, loaded one after the other.
+fn load_two<'w, H: Shelf>(
     alloc: Global,
-    graph: &'w str,
-    netlist: &'w str,
-    schedule: &'w str,
+    one: &'w str,
+    other: &'w str,
     shelf: &mut H,
-) -> Result<Text, Refusal<'w>>
-    ensures ok { IfOk result (λ text. Told (H.content shelf.old) (files_of (AsksReplay graph.now netlist.now schedule.now)) (λ texts. IsOutput (AsksReplay graph.now netlist.now schedule.now) texts text)) }
-    ensures err { IfErr result (λ r. MayRefuse (H.content shelf.old) (H.faults shelf.old) (H.faults shelf.new) (AsksReplay graph.now netlist.now schedule.now) (seen r)) }
+) -> Result<(Vec<u8>, Vec<u8>), Refusal<'w>>
+    ensures ok { IfOk result (λ t.
+        loads (H.content shelf.old) (H.faults shelf.old) (H.faults shelf.new)
+        (one.now ∷ other.now ∷ []) (Ok (t.0.items ∷ t.1.items ∷ []))) }
+    ensures err { IfErr result (λ r. MayStopLoading
+        (loads (H.content shelf.old) (H.faults shelf.old) (H.faults shelf.new)
+        (one.now ∷ other.now ∷ [])) (ending_of r)) }
     ensures later { (n : List ℕ) → H.faults shelf.old n ≤ H.faults shelf.new n }
     ensures same { (n : List ℕ) → H.content shelf.new n ≡ H.content shelf.old n }
 {
-    let graph_text = load(alloc, graph, shelf)?;
-    let netlist_text = load(alloc, netlist, shelf)?;
-    let schedule_text = load(alloc, schedule, shelf)?;
-    let text = replay_texts(
-        alloc,
-        graph,
-        graph_text.as_slice(),
-        netlist,
-        netlist_text.as_slice(),
-        schedule,
-        schedule_text.as_slice(),
-    )?;
-    Ok(text)
+    let former = load(alloc, one, shelf)?;
+    let latter = load_one(alloc, other, shelf)?;
+    Ok((former, latter))
+}
+
+/// The texts of three files, loaded one after another.
+fn load_three<'w, H: Shelf>(
+    alloc: Global,
+    one: &'w str,
+    two: &'w str,
+    three: &'w str,
+    shelf: &mut H,
+) -> Result<(Vec<u8>, Vec<u8>, Vec<u8>), Refusal<'w>>
+    ensures ok { IfOk result (λ t.
+        loads (H.content shelf.old) (H.faults shelf.old) (H.faults shelf.new)
+        (one.now ∷ two.now ∷ three.now ∷ []) (Ok (t.0.items ∷ t.1.items ∷ t.2.items ∷ []))) }
+    ensures err { IfErr result (λ r. MayStopLoading
+        (loads (H.content shelf.old) (H.faults shelf.old) (H.faults shelf.new)
+        (one.now ∷ two.now ∷ three.now ∷ [])) (ending_of r)) }
+    ensures later { (n : List ℕ) → H.faults shelf.old n ≤ H.faults shelf.new n }
+    ensures same { (n : List ℕ) → H.content shelf.new n ≡ H.content shelf.old n }
+{
+    let first = load(alloc, one, shelf)?;
+    let (second, third) = load_two(alloc, two, three, shelf)?;
+    Ok((first, second, third))
 }

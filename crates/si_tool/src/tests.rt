@@ -111,6 +111,41 @@ s5 z- s0
 .end
 ";
 
+/// The state `s0` leads by `a+` to two states.
+const SPLIT: &[u8] = b".model split
+.inputs a
+.outputs z
+.state graph
+s0 a+ s1
+s0 a+ s2
+s1 z+ s3
+s2 z+ s3
+.marking {s0}
+.end
+";
+
+/// The signal `a` rises twice.
+const RISES_TWICE: &[u8] = b".model twice
+.inputs a
+.state graph
+s0 a+ s1
+s1 a+ s2
+.marking {s0}
+.end
+";
+
+/// The two orders of `a+` and `b+` end in different states.
+const FORK: &[u8] = b".model fork
+.inputs a b
+.state graph
+s0 a+ s1
+s0 b+ s2
+s1 b+ s3
+s2 a+ s4
+.marking {s0}
+.end
+";
+
 /// The input disables the output.
 const DISABLED_OUTPUT: &[u8] = b".model disabled
 .inputs a
@@ -269,11 +304,68 @@ fn netlists_of_full_cubes(rt: HostRuntime) -> Result<(), Fail> {
     Ok(())
 }
 
+/// Handshakes one after another: state `p` of each round leads by `a+` to `q`, then by `z+` to `r`, by `a-` to `t` and
+/// by `z-` to `p` of the next round, and the last round leads back to the first.
+fn handshakes(alloc: Global, rounds: u32) -> Result<Text, Fail> {
+    let mut text = Text::copy_of(
+        alloc,
+        b".model rounds\n.inputs a\n.outputs z\n.state graph\n",
+    )?;
+    for round in 0..rounds {
+        let next = if rounds - round == 1 { 0 } else { round + 1 };
+        let here = round.to_string(alloc)?;
+        let next = next.to_string(alloc)?;
+        add_arc(&mut text, (b"p", &here), b" a+ ", (b"q", &here))?;
+        add_arc(&mut text, (b"q", &here), b" z+ ", (b"r", &here))?;
+        add_arc(&mut text, (b"r", &here), b" a- ", (b"t", &here))?;
+        add_arc(&mut text, (b"t", &here), b" z- ", (b"p", &next))?;
+    }
+    text.add(b".marking {p0}\n.end\n")?;
+    Ok(text)
+}
+
+/// Adds the line of an arc between two states, each with a letter and its round.
+fn add_arc(
+    text: &mut Text,
+    from: (&[u8], &String),
+    event: &[u8],
+    to: (&[u8], &String),
+) -> Result<(), NoMemory> {
+    text.add(from.0)?;
+    text.add(from.1.as_bytes())?;
+    text.add(event)?;
+    text.add(to.0)?;
+    text.add(to.1.as_bytes())?;
+    text.add(b"\n")
+}
+
+#[test]
+fn a_text_of_over_100_000_bytes(rt: HostRuntime) -> Result<(), Fail> {
+    let alloc = rt.alloc();
+    let text = handshakes(alloc, 2000)?;
+    assert!(rt; text.bytes().len() > 100_000);
+    let netlist: &[u8] = b".model rounds
+.inputs a
+.outputs z
+.internal
+.inserted
+.start 00
+.gates
+z sum a z' + a z
+.end
+";
+    let want = (Status::Done, netlist, b"".as_slice());
+    expect(&rt, alloc, &SYNTH, only(text.bytes()), want)
+}
+
 #[test]
 fn refusals(rt: HostRuntime) -> Result<(), Fail> {
     let alloc = rt.alloc();
-    let rows: [(&[u8], Status, &[u8]); 3] = [
+    let rows: [(&[u8], Status, &[u8]); 6] = [
         (CONFLICT, Status::Unresolved, b"unresolved\n"),
+        (SPLIT, Status::Improper, b"improper\n"),
+        (RISES_TWICE, Status::Improper, b"improper\n"),
+        (FORK, Status::Improper, b"improper\n"),
         (DISABLED_OUTPUT, Status::Improper, b"improper\n"),
         (b"", Status::BadText, b"badtext graph.sg 0 BadLine\n"),
     ];

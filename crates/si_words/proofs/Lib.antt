@@ -1,5 +1,7 @@
+pub mod EventLemmas
 pub mod FirstFaultLemmas
 pub mod PlaceLemmas
 pub mod RowLemmas
 pub mod SumWordLemmas
 pub mod WritingLemmas
+pub mod NameLemmas

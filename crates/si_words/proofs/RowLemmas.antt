@@ -1,12 +1,12 @@
 -- Lines of a text, one taken from the front.
-use Rattle.std.proofs.Common.{◌≡◌, ℕ, zero, suc, ◌+◌, ◌<◌, ◌≤◌, ◌==◌, Bool, true, false, not, List, [], ◌∷◌, length, take, drop, refl, sym, ap, ◌∙◌, arith, Some, None, inl, inr, add-one, if◌then◌else◌, ◌||◌, eqb-true}
+use Rattle.std.proofs.Common.{◌≡◌, ℕ, zero, suc, ◌+◌, ◌<◌, ◌≤◌, ◌==◌, Bool, true, false, not, List, [], ◌∷◌, length, take, drop, refl, sym, ap, ◌∙◌, arith, Some, None, inl, inr, add-one, if◌then◌else◌, ◌||◌, eqb-true, ap₂, bytes_eq}
 use Rattle.std.specs.List.{prefix_len}
 use Rattle.std.proofs.lemmas.Bool.{cases_Bool, cases_lt}
 use Rattle.si_base.specs.declared.fault.TextKind.{TextKind}
 use Rattle.si_base.specs.declared.fault.TextKind.TheVariants.{BadByte, NoEnd, BadLine}
 use Rattle.si_words.specs.Lines.{Form, ended, tail_of, lines_fault, has_bad_byte_here, words_of, onto_head}
 use Rattle.si_words.specs.Sums.{is_empty}
-use Rattle.si_words.specs.Rows.{Left, fault_of, TakesLine}
+use Rattle.si_words.specs.Rows.{Left, begins_with, after_line, fault_of, TakesLine}
 
 abbrev pub inside : ℕ → Bool
 inside b = not (b == 10)
@@ -98,3 +98,22 @@ something xs e is = clash (sym (rw is at e))
   where
     clash : false ≡ true → ⊥
     clash h = cc
+
+-- ---- the next line, where it is this one
+pub begins_row : (rest first line after : List ℕ) (n number : ℕ) → n ≡ prefix_len inside rest → n < length rest → first ≡ take n rest → after ≡ drop (n + 1) rest → bytes_eq line first ≡ true
+    → (begins_with line (ended rest) ≡ true) × (left_of (number + 1) after ≡ after_line (left_of number rest))
+begins_row rest first line after n number e within is after_is same =
+    let both = first_ended rest n e within in
+    let make : List (List ℕ) → List ℕ → Left = λ lines tail. record { number = number + 1; lines = lines; tail = tail } in
+    let next : after ≡ drop (suc n) rest = rw (after_is, add-one) refl in
+    let lines : ended after ≡ drop 1 (ended rest) = ap ended next ∙ ap (drop 1) (sym both.0) in
+    let tail : tail_of after ≡ tail_of rest = ap tail_of next ∙ sym both.1 in (
+      rw (both.0, ← is) same,
+      ap₂ make lines tail,
+    )
+
+pub another_row : (rest first line : List ℕ) (n : ℕ) → n ≡ prefix_len inside rest → first ≡ take n rest → (n < length rest → bytes_eq line first ≡ false) → begins_with line (ended rest) ≡ false
+another_row rest first line n e is differs = elim (cases_lt n (length rest)) [
+  | inl within ↦ rw ((first_ended rest n e within).0, ← is) (differs within)
+  | inr past ↦ rw (last_ended rest (rw e at past)).0 refl
+]

@@ -1,4 +1,5 @@
 pub mod Names
+pub mod Events
 pub mod Sums
 pub mod Reads
 pub mod Lines

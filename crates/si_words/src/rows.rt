@@ -1,16 +1,15 @@
 //! Lines of a text, read one after the other.
 
-ghost use Rattle.std.specs.Prelude.{◌≡◌, ℕ, ◌≤◌, ◌++◌, List, length, IfOk, IfErr, OnOk, OnErr, ◌==◌, not, ◌∷◌, [], None};
+ghost use Rattle.std.specs.Prelude.{if◌then◌else◌, ◌≡◌, ℕ, ◌≤◌, ◌++◌, List, length, IfOk, IfErr, OnOk, OnErr, ◌==◌, not, ◌∷◌, [], None};
 ghost use Rattle.std.specs.List.{prefix_len, list_any};
-ghost use Rattle.si_base.specs.Limits.{max_signals};
+ghost use Rattle.si_base.specs.Bytes.{line_feed};
 ghost use Rattle.si_base.specs.TextFaults.{Tells, ToldBy};
 ghost use Rattle.si_base.specs.declared.fault.TextFault.TheVariants.{At};
 ghost use Rattle.si_base.specs.declared.fault.TextKind.TheVariants.{BadLine};
 ghost use Rattle.si_words.specs.Lines as text_lines;
 ghost use Rattle.si_words.specs.Lines.{Form};
-ghost use Rattle.si_words.specs.Names.{AddsFirst};
 ghost use Rattle.si_words.specs.Reads.{words_now};
-ghost use Rattle.si_words.specs.Rows.{Left, fault_of, TakesLine, AddsNames, RefusesNames};
+ghost use Rattle.si_words.specs.Rows.{Left, all_lines, begins_with, after_line, fault_of, TakesLine, AddsNames, LeavesLine, RefusesNames};
 ghost use Rattle.si_words.specs.Sums.{is_empty};
 
 use crate::lists::add_names;
@@ -40,7 +39,7 @@ impl<'a> Model for Rows<'a> {
 
 fn len_of_line(bytes: &[u8]) -> usize
     ensures within { result ≤ length bytes.now }
-    ensures len { result ≡ prefix_len (λ b. not (b == 10)) bytes.now }
+    ensures len { result ≡ prefix_len (λ b. not (b == line_feed)) bytes.now }
 {
     bytes.iter().take_while(|b| **b != b'\n').count()
 }
@@ -61,7 +60,7 @@ fn words_of<'a>(alloc: Global, line: &'a [u8]) -> Result<Vec<&'a [u8]>, AllocErr
 impl<'a> Rows<'a> {
     /// All lines of the text, numbered from 1.
     pub fn new(text: &'a [u8]) -> Rows<'a>
-        ensures { result ≡ record { number = 1; lines = text_lines.ended text.now; tail = text_lines.tail_of text.now } }
+        ensures { result ≡ all_lines text.now }
     {
         Rows {
             rest: text,
@@ -101,6 +100,23 @@ impl<'a> Rows<'a> {
         self.rest = after;
         self.number = number + 1;
         Ok(words)
+    }
+
+    /// Takes the next line if it is this one, and says whether it was. Else the lines are as before.
+    pub fn take_line(&mut self, line: &[u8]) -> bool
+        ensures is { result ≡ begins_with line.now self.old.lines }
+        ensures left { self.new ≡ (if result then after_line self.old else self.old) }
+    {
+        let rest = self.rest;
+        let len = len_of_line(rest);
+        let (first, _) = rest.split_at(len);
+        if len >= rest.len() || line != first {
+            return false;
+        }
+        let (_, after) = rest.split_at(len + 1);
+        self.rest = after;
+        self.number += 1;
+        true
     }
 
     /// Whether nothing is left, where no more lines are due.
@@ -146,11 +162,11 @@ pub fn has_empty(words: &[&[u8]]) -> bool
     words.iter().any(|w| is_nothing(*w))
 }
 
-fn take_names(words: &[&[u8]], head: &[u8], names: &mut Names) -> Result<(), LineFault>
-    ensures fault { Tells result (text_lines.names_fault head.now names.old (words_now words.now)) }
+fn take_names(words: &[&[u8]], head: &[u8], limit: u32, names: &mut Names) -> Result<(), LineFault>
+    ensures fault { Tells result (text_lines.names_fault limit head.now names.old (words_now words.now)) }
     ensures value { OnOk result (names.new ≡ names.old ++ text_lines.rest_of (words_now words.now)) }
-    ensures kept { OnErr result (AddsFirst names.old names.new (text_lines.rest_of (words_now words.now))) }
-    ensures few { length names.old ≤ max_signals → length names.new ≤ max_signals }
+    ensures left { IfErr result (λ e. LeavesLine limit e names.old names.new (words_now words.now)) }
+    ensures few { length names.old ≤ limit → length names.new ≤ limit }
 {
     let [first, rest @ ..] = words else {
         return Err(LineFault::Kind(TextKind::BadLine));
@@ -158,27 +174,29 @@ fn take_names(words: &[&[u8]], head: &[u8], names: &mut Names) -> Result<(), Lin
     if head != *first || has_empty(rest) {
         return Err(LineFault::Kind(TextKind::BadLine));
     }
-    add_names(names, rest)
+    add_names(names, limit, rest)
 }
 
-/// A list line, of the head and names: the names go behind those that are there.
+/// A list line, of the head and names: the names go behind those that are there, up to `limit` names.
 ///
-/// Fails with the fault of the line, and for want of memory. After a refusal all is as before, or the line is taken and
-/// some first names of it are there, without a fault.
+/// Fails with the fault of the line, and for want of memory. After a refusal all is as before, where the line has a bad
+/// byte or no end; or the line is taken, and the names before the faulty one are there, or for want of memory some first
+/// names without a fault.
 pub fn names_row(
     alloc: Global,
     rows: &mut Rows<'_>,
     head: &[u8],
+    limit: u32,
     names: &mut Names,
 ) -> Result<(), TextFault>
-    ensures ok { OnOk result (AddsNames (text_lines.names_fault head.now names.old) rows.old rows.new names.old names.new) }
-    ensures err { (forms : List Form) → ToldBy result (fault_of (text_lines.names_fault head.now names.old ∷ forms) rows.old) }
-    ensures kept { OnErr result (RefusesNames rows.old rows.new names.old names.new) }
-    ensures few { length names.old ≤ max_signals → length names.new ≤ max_signals }
+    ensures ok { OnOk result (AddsNames (text_lines.names_fault limit head.now names.old) rows.old rows.new names.old names.new) }
+    ensures err { (forms : List Form) → ToldBy result (fault_of (text_lines.names_fault limit head.now names.old ∷ forms) rows.old) }
+    ensures left { IfErr result (λ e. RefusesNames limit e rows.old rows.new names.old names.new) }
+    ensures few { length names.old ≤ limit → length names.new ≤ limit }
 {
     let number = rows.number();
     let words = rows.next_words(alloc)?;
-    match take_names(&words, head, names) {
+    match take_names(&words, head, limit, names) {
         Ok(()) => Ok(()),
         Err(fault) => Err(at_line(number, fault)),
     }

@@ -1,11 +1,13 @@
 //! Words, lists of names, lines that are read and written, and gate lines, by examples.
 
+use crate::event_words::read_event;
 use crate::gate_lines::{cut_at, gate_kind, is_one, place_in};
 use crate::lists::{add_names, has, place_of};
 use crate::rows::{Rows, has_empty, is_nothing, names_row};
 use crate::words::{is_literal, is_name_byte, is_signal_name, literal_name};
 use crate::writing::{add_line, add_word};
 use si_base::fault::{TextFault, TextKind};
+use si_base::ids::{Event, Sig};
 use si_base::names::Names;
 use si_base::text::Text;
 use std::test::Fail;
@@ -24,10 +26,11 @@ fn lines_of_names(rt: HostRuntime) -> Result<(), Fail> {
     let alloc = rt.alloc();
     let mut names = Names::new(alloc)?;
     let mut rows = Rows::new(b".inputs a b\n.outputs b\nx  y\n.end");
-    names_row(alloc, &mut rows, b".inputs", &mut names)?;
+    assert!(rt; !rows.take_line(b".inputs"));
+    names_row(alloc, &mut rows, b".inputs", 2, &mut names)?;
     assert!(rt; has(&names, b"b") && !has(&names, b"c"));
     assert!(rt; place_of(&names, b"b") == Some(1) && place_in(&names, b"a'") == Some(0));
-    let repeated = names_row(alloc, &mut rows, b".outputs", &mut names).err();
+    let repeated = names_row(alloc, &mut rows, b".outputs", 2, &mut names).err();
     assert!(rt;
         matches!(
             repeated,
@@ -38,6 +41,7 @@ fn lines_of_names(rt: HostRuntime) -> Result<(), Fail> {
         )
     );
     assert!(rt; rows.number() == 3);
+    assert!(rt; Rows::new(b"x  y\n").take_line(b"x  y") && !Rows::new(b"x  y").take_line(b"x  y"));
     assert!(rt; has_empty(&rows.next_words(alloc)?));
     let open = rows.next_words(alloc).err();
     assert!(rt;
@@ -63,10 +67,36 @@ fn lines_of_names(rt: HostRuntime) -> Result<(), Fail> {
 }
 
 #[test]
+fn event_words(rt: HostRuntime) -> Result<(), Fail> {
+    let mut names = Names::new(rt.alloc())?;
+    assert!(rt; add_names(&mut names, 2, &[b"a".as_slice(), b"b".as_slice()]).is_ok());
+    let falls = Event {
+        sig: Sig(1),
+        up: false,
+    };
+    assert_eq!(rt; read_event(&names, b"b-"), Ok(falls));
+    assert_eq!(rt; read_event(&names, b"b-/123456789"), Ok(falls));
+    assert_eq!(rt; read_event(&names, b"a+").map(|e| e.up), Ok(true));
+    for word in [
+        b"b-/".as_slice(),
+        b"b-/1234567890",
+        b"+",
+        b"1+",
+        b"b",
+        b"b-x",
+    ] {
+        assert_eq!(rt; read_event(&names, word), Err(TextKind::BadEvent));
+    }
+    assert_eq!(rt; read_event(&names, b"c~/2"), Err(TextKind::Toggle));
+    assert_eq!(rt; read_event(&names, b"c+"), Err(TextKind::Undeclared));
+    Ok(())
+}
+
+#[test]
 fn gate_lines(rt: HostRuntime) -> Result<(), Fail> {
     let mut names = Names::new(rt.alloc())?;
     let listed = [b"a".as_slice(), b"b".as_slice(), b"c".as_slice()];
-    assert!(rt; add_names(&mut names, &listed).is_ok());
+    assert!(rt; add_names(&mut names, 3, &listed).is_ok());
     let mut rows = Rows::new(b"c gc a b' | a'\nc sum b a\nc sum d\n");
     let good = rows.next_words(rt.alloc())?;
     assert!(rt; gate_kind(&names, b"c", &good).is_none());

@@ -6,7 +6,7 @@ ghost use Rattle.si_base.specs.Words as words;
 ghost use Rattle.si_words.specs.Sums as sums;
 
 /// Whether the byte is a letter or `_`.
-fn is_letter(b: u8) -> bool
+pub(crate) fn is_letter(b: u8) -> bool
     ensures { result ≡ words.is_letter b }
 {
     b.is_ascii_alphabetic() || b == b'_'

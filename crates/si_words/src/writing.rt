@@ -1,6 +1,7 @@
 //! Lines of words, as the tool writes them.
 
 ghost use Rattle.std.specs.Prelude.{◌≡◌, ◌∷◌, ◌++◌, OnOk};
+ghost use Rattle.si_base.specs.Bytes.{space};
 ghost use Rattle.si_base.specs.Words.{line};
 ghost use Rattle.si_words.specs.Reads.{words_now};
 ghost use Rattle.si_words.specs.Writing.{spaced};
@@ -12,7 +13,7 @@ use si_base::text::Text;
 ///
 /// It fails only for want of memory. The text may then end in the blank, and isn't to be used.
 pub fn add_word(text: &mut Text, word: &[u8]) -> Result<(), NoMemory>
-    ensures { OnOk result (text.new ≡ text.old ++ 32 ∷ word.now) }
+    ensures { OnOk result (text.new ≡ text.old ++ space ∷ word.now) }
 {
     text.add(b" ")?;
     text.add(word)

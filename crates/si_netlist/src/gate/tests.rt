@@ -9,7 +9,7 @@ use std::alloc::Global;
 use std::test::Fail;
 
 // One cube: the first signal, in that value.
-fn first_signal(alloc: Global, value: u64) -> Result<Sum, Fail> {
+fn first_signal(alloc: Global, value: u128) -> Result<Sum, Fail> {
     Ok(Sum::new(vec![in alloc; Cube::of_code(Code(value), 1)]?))
 }
 

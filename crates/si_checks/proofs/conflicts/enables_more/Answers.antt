@@ -5,7 +5,7 @@ use Rattle.si_checks.proofs.ConflictLemmas.{more_found, none_more}
 use Rattle.si_checks.proofs.conflicts.enables_more.Goals as goal
 
 pub is_driven-requires : goal.is_driven-requires
-is_driven-requires c = out_signal c.args.graph.now c.args.p c.arcs_out-arcs.result.now c.arcs_out-arcs.ensures c.loop-a.a-index c.a-item.result c.arcs-all_arcs.ensures.graph c.loop-a-test.true c.a-item.is
+is_driven-requires c = out_signal c.args.graph.now c.args.p c.arcs_out-arcs.result.now c.arcs_out-arcs.ensures c.loop-a.a-index c.a-item.result c.loop-a-test.true c.a-item.is
 
 pub returns-in-loop-a : goal.returns-in-loop-a
 returns-in-loop-a c = (

@@ -15,7 +15,7 @@ loop-s-preserved c =
     let d = c.args.coded.now in
     let n = c.loop-s.s in
     let p = c.in_ok-p.p in
-    let same = c.coded_graph-graph.ensures.same in
+    let same = c.graph-graph.ensures.same in
     let within : n < d.graph.states = omega (arith, ap (λ (g : StateGraph). g.states) same, c.states-s-end.ensures) in
     let old : ℕ → Option ℕ = λ k. get nat_cmp c.loop-s.firsts k in
     let new : ℕ → Option ℕ = λ k. get nat_cmp c.first_of_code.new.firsts k in
@@ -33,5 +33,5 @@ loop-s-preserved c =
 pub returns : goal.returns
 returns c =
     let d = c.args.coded.now in
-    let all : d.graph.states ≤ c.loop-s.s = omega (arith, ap (λ (g : StateGraph). g.states) c.coded_graph-graph.ensures.same, c.states-s-end.ensures) in
+    let all : d.graph.states ≤ c.loop-s.s = omega (arith, ap (λ (g : StateGraph). g.states) c.graph-graph.ensures.same, c.states-s-end.ensures) in
     all_states d c.loop-s.s c.loop-s.found all c.loop-s.invariant.found

@@ -5,7 +5,7 @@ use Rattle.si_checks.proofs.LossLemmas.{at_step, first_at}
 use Rattle.si_checks.proofs.losses.first_loss_at.Goals as goal
 
 pub is_driven-requires : goal.is_driven-requires
-is_driven-requires c = out_signal c.args.graph.now c.args.s c.arcs_out-arcs.result.now c.arcs_out-arcs.ensures c.loop-x.x-index c.x-item.result c.arcs-all_arcs.ensures.graph c.loop-x-test.true c.x-item.is
+is_driven-requires c = out_signal c.args.graph.now c.args.s c.arcs_out-arcs.result.now c.arcs_out-arcs.ensures c.loop-x.x-index c.x-item.result c.loop-x-test.true c.x-item.is
 
 pub first_loss_of-requires-clause-enabled : goal.first_loss_of-requires-clause-enabled
 first_loss_of-requires-clause-enabled c =

@@ -1,5 +1,5 @@
 use Rattle.std.proofs.Common.{◌≡◌, ◌++◌, ◌-◌, take, drop}
-use Rattle.si_base.specs.StrictText.{signals_of}
+use Rattle.si_base.specs.GivenGraph.{signals_of}
 use Rattle.si_netlist.proofs.reader.add_signals.Given as goal
 
 abbrev pub invariant-loop-k : goal.invariant-loop-k

@@ -1,6 +1,6 @@
 use Rattle.std.proofs.Common.{◌≡◌, List, ℕ, ◌++◌, ap, sym, ◌∙◌, map, arith}
 use Rattle.std.proofs.lemmas.List.{append-nil}
-use Rattle.si_base.specs.Limits.{max_signals}
+use Rattle.si_base.specs.Limits.{code_width}
 use Rattle.si_base.specs.declared.ids.Literal.{Literal}
 use Rattle.si_base.specs.NetlistText.{literal_word}
 use Rattle.si_words.specs.Writing.{spaced}
@@ -19,7 +19,7 @@ loop-i-preserved c =
 
 pub returns : goal.returns
 returns c =
-    let ended : c.loop-i.i ≡ max_signals = omega arith in
+    let ended : c.loop-i.i ≡ code_width = omega arith in
     let none = literals_left_none c.args.signals.now c.cube.inside.care c.cube.inside.value in
     let all = literals_left_all c.args.signals.now c.cube.inside.care c.cube.inside.value in
     let words = ap (λ (cube : List Literal). c.args.text.now ++ spaced (map (literal_word c.args.signals.now) cube)) c.cube.view_is in

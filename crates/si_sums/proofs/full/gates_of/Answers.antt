@@ -8,7 +8,7 @@ use Rattle.si_sums.proofs.full.gates_of.Goals as goal
 
 pub loop-i-preserved-then-not-is_driven : goal.loop-i-preserved-then-not-is_driven
 loop-i-preserved-then-not-is_driven c =
-    let same : c.coded_graph-graph.result.now ≡ c.args.coded.now.graph = c.coded_graph-graph.ensures.same in
+    let same : c.graph-graph.result.now ≡ c.args.coded.now.graph = c.graph-graph.ensures.same in
     let signals : c.signals-i-end.result.now ≡ c.args.coded.now.graph.signals = c.signals-i-end.ensures ∙ ap (λ (g : StateGraph). g.signals) same in
     let within : c.loop-i.i < length c.args.coded.now.graph.signals = rw signals at c.loop-i-test.true in
     let skip = gates_skip c.args.coded.now c.loop-i.i within (rw same at c.if-not-is_driven.ensures.1) in
@@ -16,7 +16,7 @@ loop-i-preserved-then-not-is_driven c =
 
 pub loop-i-preserved : goal.loop-i-preserved
 loop-i-preserved c =
-    let same : c.coded_graph-graph.result.now ≡ c.args.coded.now.graph = c.coded_graph-graph.ensures.same in
+    let same : c.graph-graph.result.now ≡ c.args.coded.now.graph = c.graph-graph.ensures.same in
     let signals : c.signals-i-end.result.now ≡ c.args.coded.now.graph.signals = c.signals-i-end.ensures ∙ ap (λ (g : StateGraph). g.signals) same in
     let within : c.loop-i.i < length c.args.coded.now.graph.signals = rw signals at c.loop-i-test.true in
     let gate : IsNonInput c.args.coded.now.graph.signals c.loop-i.i = (rw same at c.if-not-is_driven.ensures.0) refl in

@@ -13,7 +13,7 @@ loop-s-init c = rw c.new-cubes.ensures.items (ap (λ (codes : List ℕ). map (fu
 
 pub loop-s-preserved-then-not-branch : goal.loop-s-preserved-then-not-branch
 loop-s-preserved-then-not-branch c =
-    let within : c.loop-s.s < length c.args.coded.now.codes = omega (arith, rw c.coded_graph-graph.ensures.same at c.states-s-end.ensures) in
+    let within : c.loop-s.s < length c.args.coded.now.codes = omega (arith, rw c.graph-graph.ensures.same at c.states-s-end.ensures) in
     let here : contains nat_cmp c.loop-s.met (get_or c.args.coded.now.codes c.loop-s.s 0) ≡ true =
     not-false _ (rw c.code-code.ensures at (sym c.in_ok-insert.ensures.added ∙ c.if-not-branch.true)) in
     let kept : c.insert.new.self.keys ≡ c.loop-s.met.keys = rw c.if-not-branch.true at c.in_ok-insert.ensures.unchanged in
@@ -22,8 +22,8 @@ loop-s-preserved-then-not-branch c =
 
 pub loop-s-preserved : goal.loop-s-preserved
 loop-s-preserved c =
-    let within : c.loop-s.s < length c.args.coded.now.codes = omega (arith, rw c.coded_graph-graph.ensures.same at c.states-s-end.ensures) in
-    let signals : c.signals-signals.result.now ≡ c.args.coded.now.graph.signals = c.signals-signals.ensures ∙ ap (λ (g : StateGraph). g.signals) c.coded_graph-graph.ensures.same in
+    let within : c.loop-s.s < length c.args.coded.now.codes = omega (arith, rw c.graph-graph.ensures.same at c.states-s-end.ensures) in
+    let signals : c.signals-signals.result.now ≡ c.args.coded.now.graph.signals = c.signals-signals.ensures ∙ ap (λ (g : StateGraph). g.signals) c.graph-graph.ensures.same in
     let absent : contains nat_cmp c.loop-s.met (get_or c.args.coded.now.codes c.loop-s.s 0) ≡ false =
     not-true _ (rw c.code-code.ensures at (sym c.in_ok-insert.ensures.added ∙ c.if-not-branch.false)) in
     rw (c.in_ok-push.ensures.items, c.full_cube.ensures, signals, c.code-code.ensures) (walk_new (full_cube_from 0 c.args.coded.now.graph.signals) (λ s. next_value c.args.coded.now s c.args.z) (λ y. contains nat_cmp c.loop-s.met y) (λ y. contains nat_cmp c.insert.new.self y)

@@ -1,8 +1,7 @@
 use Rattle.std.proofs.Common.{◌≡◌, ◌++◌, map, length, false}
 use Rattle.si_base.specs.Faults.{first_in}
 use Rattle.si_base.specs.Lines.{words_in, before_comment}
-use Rattle.si_system.specs.Events.{event_fault}
-use Rattle.si_system.specs.ScheduleText.{event_of}
+use Rattle.si_words.specs.Events.{event_fault, event_of}
 use Rattle.si_system.proofs.schedule.read_line.Given as goal
 
 abbrev pub invariant-loop-word : goal.invariant-loop-word

@@ -1,7 +1,8 @@
 use Rattle.std.proofs.Common.{◌≡◌, ◌++◌, map, length}
 use Rattle.std.specs.Prelude.{flat_map}
 use Rattle.si_base.specs.Faults.{first_in}
-use Rattle.si_system.specs.ScheduleText.{event_of, line_fault, schedule_fault, schedule_of, words}
+use Rattle.si_system.specs.ScheduleText.{line_fault, schedule_fault, schedule_of, words}
+use Rattle.si_words.specs.Events.{event_of}
 use Rattle.si_system.proofs.schedule.read_lines.Given as goal
 
 abbrev pub invariant-loop-line : goal.invariant-loop-line

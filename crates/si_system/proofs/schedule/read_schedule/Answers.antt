@@ -4,4 +4,4 @@ use Rattle.si_system.proofs.ScheduleLemmas.{within}
 use Rattle.si_system.proofs.schedule.read_schedule.Goals as goal
 
 pub returns-clause-within : goal.returns-clause-within
-returns-clause-within c = within _ c.args.netlist.now.signals _ c.args.text.now c.read_lines.result (c.in-Ok.ensures ∙ ap signal_names c.signals.ensures.signals) c.read_lines.ensures
+returns-clause-within c = within _ c.args.netlist.now.signals _ c.args.text.now c.read_lines.result (c.in_ok-names.ensures ∙ ap signal_names c.signals.ensures.signals) c.read_lines.ensures

@@ -1,5 +1,4 @@
-use Rattle.std.proofs.Common.{◌≡◌, ◌++◌, ◌≤◌, length, take, drop}
-use Rattle.si_base.specs.Limits.{max_signals}
+use Rattle.std.proofs.Common.{◌≡◌, ◌++◌, ◌≤◌, length, take, drop, None}
 use Rattle.si_words.specs.Names.{name_fault}
 use Rattle.si_base.specs.Faults.{first_after}
 use Rattle.si_words.specs.Reads.{words_now}
@@ -7,7 +6,8 @@ use Rattle.si_words.proofs.lists.add_names.Given as goal
 
 abbrev pub invariant-loop-word : goal.invariant-loop-word
 invariant-loop-word l = record {
-  fault : first_after name_fault l.names (drop l.word-index (words_now l.words)) ≡ first_after name_fault l.fn.names (words_now l.words);
+  fault : first_after (name_fault l.limit) l.names (drop l.word-index (words_now l.words)) ≡ first_after (name_fault l.limit) l.fn.names (words_now l.words);
   value : l.names ≡ l.fn.names ++ take l.word-index (words_now l.words);
-  few : length l.fn.names ≤ max_signals → length l.names ≤ max_signals;
+  good : first_after (name_fault l.limit) l.fn.names (take l.word-index (words_now l.words)) ≡ None;
+  few : length l.fn.names ≤ l.limit → length l.names ≤ l.limit;
 }

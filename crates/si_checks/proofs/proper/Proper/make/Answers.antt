@@ -1,25 +1,19 @@
-use Rattle.std.proofs.Common.{subst}
+use Rattle.std.proofs.Common.{subst, Some}
 use Rattle.si_base.specs.Graph.{StateGraph}
-use Rattle.si_base.specs.Order.{IsFirst}
-use Rattle.si_base.specs.Proper.{Loses, loss_place}
-use Rattle.si_checks.proofs.ProperLemmas.{deterministic, commutative, proper}
+use Rattle.si_checks.specs.Searches.{IsFirstBreach}
+use Rattle.si_checks.proofs.ProperLemmas.{deterministic, proper, shows}
 use Rattle.si_checks.proofs.proper.Proper.make.Goals as goal
 
-pub first_fork-requires : goal.first_fork-requires
-first_fork-requires c = deterministic c.args.coded c.coded_graph-graph.result.now c.coded_graph-graph.ensures.coded c.coded_graph-graph.ensures.same
-
-pub first_loss-requires : goal.first_loss-requires
-first_loss-requires c = deterministic c.args.coded c.coded_graph-graph.result.now c.coded_graph-graph.ensures.coded c.coded_graph-graph.ensures.same
-
-pub returns-in-Some-first_loss-clause-fault : goal.returns-in-Some-first_loss-clause-fault
-returns-in-Some-first_loss-clause-fault c =
-    let here = c.coded_graph-graph in
-    let First : StateGraph → Type 0 = λ g. IsFirst loss_place (Loses g) c.in-Some-first_loss.loss in
-    let first : First c.args.coded.graph = subst First here.ensures.same c.in-Some-first_loss.ensures in
-    (commutative c.args.coded here.result.now here.ensures.coded here.ensures.same c.in_default.ensures, rw (← c.loss.view_is) at first)
+pub first_breach-requires-clause-deterministic : goal.first_breach-requires-clause-deterministic
+first_breach-requires-clause-deterministic c = deterministic c.args.coded c.graph.result.now c.graph.ensures.coded c.graph.ensures.same
 
 pub invariant_of-result : goal.invariant_of-result
-invariant_of-result c = proper c.args.coded c.coded_graph-graph.result.now c.coded_graph-graph.ensures.coded c.coded_graph-graph.ensures.same c.in_default.ensures c.in_default-first_loss.ensures
+invariant_of-result c = proper c.args.coded c.graph.result.now c.graph.ensures.coded c.graph.ensures.same c.in-None.ensures
 
-pub returns-clause-proper : goal.returns-clause-proper
-returns-clause-proper c = proper c.args.coded c.coded_graph-graph.result.now c.coded_graph-graph.ensures.coded c.coded_graph-graph.ensures.same c.in_default.ensures c.in_default-first_loss.ensures
+pub returns-in-None-clause-proper : goal.returns-in-None-clause-proper
+returns-in-None-clause-proper c = proper c.args.coded c.graph.result.now c.graph.ensures.coded c.graph.ensures.same c.in-None.ensures
+
+pub returns-in-Some-clause-fault : goal.returns-in-Some-clause-fault
+returns-in-Some-clause-fault c =
+    let Shows : StateGraph → Type 0 = λ g. IsFirstBreach g (Some c.in-Some.breach) in
+    rw c.improper_by.ensures (shows c.args.coded.graph c.in-Some.breach (subst Shows c.graph.ensures.same c.in-Some.ensures))

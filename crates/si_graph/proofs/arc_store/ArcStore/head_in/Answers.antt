@@ -1,0 +1,12 @@
+use Rattle.std.proofs.Common.{length}
+use Rattle.si_graph.specs.Arcs.{IsInto}
+use Rattle.si_graph.specs.Chains.{target}
+use Rattle.si_graph.proofs.ChainLemmas.{head_is, place_of}
+use Rattle.si_graph.proofs.arc_store.ArcStore.head_in.Goals as goal
+
+pub returns : goal.returns
+returns c =
+    let edges = c.self.inside.edges.items in
+    let stored = c.self.invariant in
+    let head = head_is target c.self.inside.states edges _ _ c.args.t _ stored.2 stored.4 (λ k d within. (stored.0.within k d within).1) in
+    rw (← c.self.view_is) (place_of (IsInto edges c.args.t) 0 (length edges) _ c.at.result (rw c.head.ensures head) (rw (← c.self.view_is) at c.at.ensures))

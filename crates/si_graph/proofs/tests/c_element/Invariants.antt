@@ -1,0 +1,8 @@
+use Rattle.std.proofs.Common.{◌≡◌, ◌<◌, length, All}
+use Rattle.si_graph.proofs.tests.c_element.Given as goal
+
+abbrev pub invariant-loop-one : goal.invariant-loop-one
+invariant-loop-one g l = record {
+  count : length l.edges.items ≡ l.one-index;
+  within : All (λ a. (a.from < 8) × (a.event.sig < 3) × (a.to < 8)) l.edges.items;
+}

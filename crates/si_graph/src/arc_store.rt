@@ -1,0 +1,157 @@
+//! Arcs in two chains each: the arcs out of its source, and the arcs into its target.
+
+ghost use Rattle.std.specs.Prelude.{◌≡◌, ℕ, ◌+◌, ◌<◌, ◌≤◌, ◌^◌, IfOk, All, MatchOption, length};
+ghost use Rattle.std.specs.List.Sorted.{IsStrictlySortedBy};
+ghost use Rattle.si_base.specs.EdgeOrder.{edge_cmp};
+ghost use Rattle.si_graph.specs.Arcs.{edge_at, IsFirstPlace, IsOutOf, IsInto};
+
+use crate::chain::Chain;
+use si_base::graph::Edge;
+use si_base::ids::{NoMemory, StateId};
+use std::alloc::Global;
+use std::marker::Model;
+
+/// An arc of a graph, by its place in the order of arcs.
+#[derive(Clone, Copy, PartialEq, Eq, PartialOrd, Ord, Debug)]
+pub struct EdgeId(pub u32);
+
+impl Model for EdgeId {
+    ghost Value = { ℕ };
+
+    ghost view = { λ k. k.0 };
+
+    ghost inverse = { λ n. record { 0 = n } };
+}
+
+/// The arcs among the states of a graph, in the order of source, event and target, each once.
+///
+/// Each arc is linked to the next one out of its source and to the next one into its target. Since the arcs are in order,
+/// those out of a state also stand together. A walk follows the order of arcs: out of a state it is that of events, then
+/// targets, and into a state that of sources, then events.
+#[derive(Drop)]
+pub struct ArcStore {
+    states: u32,
+    edges: Vec<Edge>,
+    out: Chain,
+    into: Chain,
+}
+
+impl Model for ArcStore {
+    ghost use Rattle.std.specs.Prelude.{◌≡◌, length};
+    ghost use Rattle.si_graph.specs.Chains.{StoredArcs, AreStored, AreLinked, source, target};
+
+    ghost Value = { StoredArcs };
+
+    ghost view = { λ a. record { states = a.states; edges = a.edges.items } };
+
+    ghost invariant = { λ a. AreStored a.states a.edges.items × AreLinked source a.states a.edges.items 0 a.out.heads.items a.out.nexts.items × AreLinked target a.states a.edges.items 0 a.into.heads.items a.into.nexts.items × (a.out.end ≡ length a.edges.items) × (a.into.end ≡ length a.edges.items) };
+}
+
+impl ArcStore {
+    /// The store of these arcs. It fails only for want of memory.
+    pub fn build(alloc: Global, states: u32, edges: Vec<Edge>) -> Result<ArcStore, NoMemory>
+        requires few { length edges.items < 2 ^ 32 }
+        requires within { All (λ a. (a.from < states) × (a.to < states)) edges.items }
+        requires ordered { IsStrictlySortedBy edge_cmp edges.items }
+        ensures { IfOk result (λ store. store ≡ record { states = states; edges = edges.items }) }
+    {
+        let count = edges.len() as u32;
+        let mut out = Chain::new(alloc, states, count)?;
+        let mut into = Chain::new(alloc, states, count)?;
+        let mut k = count;
+        while 0 < k {
+            k -= 1;
+            let edge = edges[k as usize];
+            out.put_first(edge.from, k);
+            into.put_first(edge.to, k);
+        }
+        Ok(ArcStore {
+            states,
+            edges,
+            out,
+            into,
+        })
+    }
+
+    /// An equal store. It fails only for want of memory.
+    pub fn copy(&self, alloc: Global) -> Result<ArcStore, NoMemory>
+        ensures { IfOk result (λ store. store ≡ self.now) }
+    {
+        Ok(ArcStore {
+            states: self.states,
+            edges: Vec::from_slice(alloc, self.edges.as_slice())?,
+            out: self.out.copy(alloc)?,
+            into: self.into.copy(alloc)?,
+        })
+    }
+
+    /// The number of states.
+    pub fn states(&self) -> u32
+        ensures { result ≡ self.now.states }
+    {
+        self.states
+    }
+
+    /// The number of arcs.
+    pub fn edges(&self) -> u32
+        ensures { result ≡ length self.now.edges }
+    {
+        self.edges.len() as u32
+    }
+
+    /// The arc at a place.
+    pub fn edge(&self, k: EdgeId) -> Edge
+        requires { k < length self.now.edges }
+        ensures { result ≡ edge_at self.now.edges k }
+    {
+        self.edges[k.0 as usize]
+    }
+
+    /// All arcs in order.
+    pub fn arcs(&self) -> &[Edge]
+        ensures { result.now ≡ self.now.edges }
+    {
+        self.edges.as_slice()
+    }
+
+    /// The first arc out of a state; `None` exactly where there is none.
+    pub fn head_out(&self, s: StateId) -> Option<EdgeId>
+        ensures { IsFirstPlace (IsOutOf self.now.edges s) 0 (length self.now.edges) result }
+    {
+        self.at(self.out.head(s))
+    }
+
+    /// The next arc out of the same state; `None` exactly at the end of the chain.
+    pub fn next_out(&self, k: EdgeId) -> Option<EdgeId>
+        requires { k < length self.now.edges }
+        ensures { IsFirstPlace (IsOutOf self.now.edges (edge_at self.now.edges k).from) (k + 1) (length self.now.edges) result }
+    {
+        self.at(self.out.next(k.0))
+    }
+
+    /// The first arc into a state; `None` exactly where there is none.
+    pub fn head_in(&self, t: StateId) -> Option<EdgeId>
+        ensures { IsFirstPlace (IsInto self.now.edges t) 0 (length self.now.edges) result }
+    {
+        self.at(self.into.head(t))
+    }
+
+    /// The next arc into the same state; `None` exactly at the end of the chain.
+    pub fn next_in(&self, k: EdgeId) -> Option<EdgeId>
+        requires { k < length self.now.edges }
+        ensures { IsFirstPlace (IsInto self.now.edges (edge_at self.now.edges k).to) (k + 1) (length self.now.edges) result }
+    {
+        self.at(self.into.next(k.0))
+    }
+
+    /// The arc at a place, or `None` for the end.
+    fn at(&self, place: u32) -> Option<EdgeId>
+        ensures { MatchOption result (length self.now.edges ≤ place) (λ k. (k ≡ place) × (k < length self.now.edges)) }
+    {
+        if (place as usize) < self.edges.len() {
+            Some(EdgeId(place))
+        } else {
+            None
+        }
+    }
+}

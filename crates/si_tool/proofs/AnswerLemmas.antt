@@ -1,0 +1,141 @@
+-- A command comes to one answer: by its texts, and by its files where they are told.
+use Rattle.std.proofs.Common.{◌≡◌, ℕ, List, [], ◌∷◌, length, None, Result, Ok, Err, Contains, refl, ap, subst, arith}
+use Rattle.std.proofs.Common.{◌⊎◌, inl, inr}
+use Rattle.si_base.specs.Codes.{CodedGraph}
+use Rattle.si_base.specs.StrictText.{IsGiven, Sg}
+use Rattle.si_base.specs.System.{IsFor}
+use Rattle.si_io.specs.Outside.{Rose}
+use Rattle.si_netlist.specs.NetlistFault.{netlist_fault}
+use Rattle.si_netlist.specs.NetlistValue.{netlist_of}
+use Rattle.si_system.specs.ScheduleText.{signal_names, schedule_fault, schedule_of}
+use Rattle.si_tool.specs.Checks.{IsSound}
+use Rattle.si_tool.specs.Command.{Asked, AsksSynth, AsksReplay, files_of}
+use Rattle.si_tool.specs.Laws.{AtMostOne, NotNone, EndsOrDeparts}
+use Rattle.si_tool.specs.Loads.{Contents, Counts, loads, load_well, loads_well, AreTold}
+use Rattle.si_tool.specs.Meaning.{synth, replay, meaning, ComesTo}
+use Rattle.si_tool.specs.Refusal.{FileRefusal, TextRefusal, ReadFault, Answer, Output, FileRefused, TextRefused}
+use Rattle.si_tool.specs.Stages.{Stage, Then, Passes}
+use Rattle.si_tool.proofs.CheckLemmas.{graph_one, proper_one, conflict_one, matched_one, replayed_one, synthesised_one}
+use Rattle.si_tool.proofs.LoadLemmas.{all_one, all_some, all_or_fault, as_many}
+use Rattle.si_tool.proofs.SomeLemmas.{graph_some, proper_some, conflict_some, matched_some}
+use Rattle.si_tool.proofs.SomeLemmas.{replayed_ends, replayed_some, synthesised_some}
+use Rattle.si_tool.proofs.StageLemmas.{then_one, then_some, spelled_one, spelled_some}
+
+-- ---- by their texts: to one answer at most
+synth_one : (file text : List ℕ) → AtMostOne (synth file text)
+synth_one file text = then_one _ _ (graph_one file text) (λ given is. then_one _ _ (proper_one given.graph)
+    (λ coded sound. then_one _ _ (conflict_one coded) (λ _ free. synthesised_one given coded)))
+
+replay_one : (g a n b s c : List ℕ) → AtMostOne (replay g a n b s c)
+replay_one g a n b s c = then_one _ _ (graph_one g a) (λ given is. then_one _ _ (spelled_one n _ _)
+    (λ net spelt. then_one _ _ (spelled_one s _ _) (λ events read. then_one _ _ (proper_one given.graph)
+    (λ coded sound. then_one _ _ (matched_one n coded net) (λ _ same. replayed_one given net events)))))
+
+pub meaning_one : (asked : Asked) (texts : List (List ℕ)) → AtMostOne (meaning asked texts)
+meaning_one (AsksSynth file) (text ∷ []) = synth_one file text
+meaning_one (AsksReplay g n s) (a ∷ b ∷ c ∷ []) = replay_one g a n b s c
+meaning_one asked texts = λ a b one other. absurd one
+
+-- ---- and to some answer
+synth_some : (file text : List ℕ) → NotNone (synth file text)
+synth_some file text = then_some _ _ (graph_some file text) (λ given is. then_some _ _ (proper_some text given is)
+    (λ coded sound. then_some _ _ (conflict_some coded) (λ _ free. synthesised_some text given coded is sound free)))
+
+replay_some : (g a n b s c : List ℕ) → NotNone (replay g a n b s c)
+replay_some g a n b s c = then_some _ _ (graph_some g a) (λ given is. then_some _ _ (spelled_some n _ _)
+    (λ net spelt. then_some _ _ (spelled_some s _ _) (λ events read. then_some _ _ (proper_some a given is)
+    (λ coded sound. then_some _ _ (matched_some n coded net) (λ _ same. replayed_some a given net events is)))))
+
+pub meaning_some : (asked : Asked) (texts : List (List ℕ)) → length texts ≡ length (files_of asked)
+    → NotNone (meaning asked texts)
+meaning_some (AsksSynth file) (text ∷ []) many = synth_some file text
+meaning_some (AsksReplay g n s) (a ∷ b ∷ c ∷ []) many = replay_some g a n b s c
+meaning_some asked texts many = absurd (omega arith)
+
+-- where nothing is refused before, a replay ends or departs from the graph
+then_ends : {A : Type 0} (first : Stage TextRefusal A) (next : A → Stage TextRefusal (List ℕ)) (x : A) → first (Ok x)
+    → EndsOrDeparts (next x) → EndsOrDeparts (Then TextRefusal A (List ℕ) first next)
+then_ends first next x is (inl ends) = inl (ends.0, Passes x is ends.1)
+then_ends first next x is (inr departs) = inr (departs.0, departs.1, departs.2, Passes x is departs.3)
+
+pub replay_ends : (g n s a b c : List ℕ) (given : Sg) (coded : CodedGraph) → IsGiven a given → netlist_fault b ≡ None
+    → schedule_fault (signal_names (netlist_of b).signals) c ≡ None → IsSound given.graph coded
+    → IsFor coded (netlist_of b) → EndsOrDeparts (replay g a n b s c)
+replay_ends g n s a b c given coded is netlist schedule sound fits =
+    let net = netlist_of b in
+    let events = schedule_of (signal_names net.signals) c in
+    then_ends _ _ given is (then_ends _ _ net (netlist, refl) (then_ends _ _ events (schedule, refl)
+    (then_ends _ _ coded sound (then_ends _ _ tt fits (replayed_ends a given net events is)))))
+
+-- ---- by their files: to one answer at most
+pub command_one : (content : Contents) (asked : Asked) (a b : Answer) → AreTold content (files_of asked)
+    → ComesTo (loads_well content) asked a → ComesTo (loads_well content) asked b → a ≡ b
+command_one content asked a b told = by a b
+  where
+    loaded_one : AtMostOne (loads_well content (files_of asked))
+    loaded_one = all_one content (files_of asked) told
+
+    texts_one : (texts others : List (List ℕ)) (r q : Result (List ℕ) TextRefusal)
+        → loads_well content (files_of asked) (Ok texts) → loads_well content (files_of asked) (Ok others)
+        → meaning asked texts r → meaning asked others q → r ≡ q
+    texts_one texts others r q one other means also =
+        let same = loaded_one (Ok texts) (Ok others) one other in
+        let same_texts : texts ≡ others = cc in
+        meaning_one asked others r q (subst (λ (ts : List (List ℕ)). meaning asked ts r) same_texts means) also
+
+    by : (a b : Answer) → ComesTo (loads_well content) asked a → ComesTo (loads_well content) asked b → a ≡ b
+    by (Output t) (Output u) x y = (let same = texts_one x.0 y.0 (Ok t) (Ok u) x.1 y.1 x.2 y.2 in cc)
+    by (Output t) (TextRefused q) x y = (let same = texts_one x.0 y.0 (Ok t) (Err q) x.1 y.1 x.2 y.2 in cc)
+    by (TextRefused r) (Output u) x y = (let same = texts_one x.0 y.0 (Err r) (Ok u) x.1 y.1 x.2 y.2 in cc)
+    by (TextRefused r) (TextRefused q) x y = (let same = texts_one x.0 y.0 (Err r) (Err q) x.1 y.1 x.2 y.2 in cc)
+    by (FileRefused r) (FileRefused q) x y = (let same = loaded_one (Err r) (Err q) x y in cc)
+    by (FileRefused r) (Output u) x y = (let same = loaded_one (Err r) (Ok y.0) x y.1 in cc)
+    by (FileRefused r) (TextRefused q) x y = (let same = loaded_one (Err r) (Ok y.0) x y.1 in cc)
+    by (Output t) (FileRefused q) x y = (let same = loaded_one (Ok x.0) (Err q) x.1 y in cc)
+    by (TextRefused r) (FileRefused q) x y = (let same = loaded_one (Ok x.0) (Err q) x.1 y in cc)
+
+-- where loads may meet faults: to what it comes to without them, or to a fault that was counted
+pub record IsReadFault (before now : Counts) (files : List (List ℕ)) (a : Answer) : Type 0 where
+  pub file : List ℕ
+  pub named : Contains files file
+  pub rose : Rose (before file) (now file)
+  pub is : a ≡ FileRefused (ReadFault file)
+
+texts_well : (content : Contents) (before now : Counts) (files texts : List (List ℕ))
+    → loads content before now files (Ok texts) → loads_well content files (Ok texts)
+texts_well content before now files texts is = elim (all_or_fault content before now files (Ok texts) is) [
+  | inl well ↦ well
+  | inr fault ↦ (let fault_is = fault.is in cc)
+]
+
+pub command_or_fault : (content : Contents) (before now : Counts) (asked : Asked) (a : Answer)
+    → ComesTo (loads content before now) asked a
+    → ComesTo (loads_well content) asked a ⊎ IsReadFault before now (files_of asked) a
+command_or_fault content before now asked (Output t) is =
+    inl (is.0, texts_well content before now (files_of asked) is.0 is.1, is.2)
+command_or_fault content before now asked (TextRefused r) is =
+    inl (is.0, texts_well content before now (files_of asked) is.0 is.1, is.2)
+command_or_fault content before now asked (FileRefused r) is =
+    elim (all_or_fault content before now (files_of asked) (Err r) is) [
+      | inl well ↦ inl well
+      | inr fault ↦ (
+          let fault_is = fault.is in
+          let same : r ≡ ReadFault fault.file = cc in
+          inr (record { file = fault.file; named = fault.named; rose = fault.rose; is = ap FileRefused same })
+          )
+    ]
+
+-- ---- told files come to some answer
+pub command_some : (content : Contents) (asked : Asked) → AreTold content (files_of asked)
+    → ((a : Answer) → ComesTo (loads_well content) asked a → ⊥) → ⊥
+command_some content asked told none = all_some content (files_of asked) told go
+  where
+    no_answer : (texts : List (List ℕ)) → loads_well content (files_of asked) (Ok texts)
+        → (r : Result (List ℕ) TextRefusal) → meaning asked texts r → ⊥
+    no_answer texts are (Ok output) means = none (Output output) (texts, are, means)
+    no_answer texts are (Err refusal) means = none (TextRefused refusal) (texts, are, means)
+
+    go : (a : Result (List (List ℕ)) FileRefusal) → loads_well content (files_of asked) a → ⊥
+    go (Err u) is = none (FileRefused u) is
+    go (Ok texts) is =
+        meaning_some asked texts (as_many (load_well content) (files_of asked) texts is) (no_answer texts is)

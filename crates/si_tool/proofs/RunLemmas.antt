@@ -1,0 +1,318 @@
+-- How a run ends, by what the words ask for and what the files come to.
+use Rattle.std.proofs.Common.{◌≡◌, ◌≢◌, ℕ, zero, suc, List, [], ◌∷◌, Option, Some, None, take, refl, sym, ap, subst}
+use Rattle.std.proofs.Common.{◌∙◌, arith, ◌⊎◌, inl, inr, codes, String, Global, bytes_eq, if◌then◌else◌}
+use Rattle.si_io.specs.Outside.{Rose, Appends, AppendsPrefix}
+use Rattle.si_tool.specs.Command.{Asked, AsksSynth, AsksReplay, Asks, AsksNothing, words_for, files_of}
+use Rattle.si_tool.specs.Ending.{Ending, NoMemory, Usage, WriteFault, Answered, IsRefusal, status_of, line_of}
+use Rattle.si_tool.specs.Ending.{ending_of}
+use Rattle.si_tool.specs.Laws.{ShowsCause}
+use Rattle.si_tool.specs.Loads.{Contents, Counts, AreTold, loads, loads_well, no_faults}
+use Rattle.si_tool.specs.Meaning.{LoadStage, ComesTo, MayStopCommand, WordsComeTo}
+use Rattle.si_tool.specs.Refusal.{TextRefusal, Answer, Output, FileRefused, TextRefused, ReadFault}
+use Rattle.si_tool.specs.Refusal.{TooLong}
+use Rattle.si_tool.specs.Refusal.{Improper, answer_status, text_status}
+use Rattle.si_tool.specs.Run.{SinkChange, IsKept, IsCutShort, IsDone, MayEnd, Ends, PutsDue, Deserve}
+use Rattle.si_tool.specs.Run.{ReadRose}
+use Rattle.si_tool.specs.Run.{IsDeservedUnlessFault, AsDeserved, WithoutMemory, ByReadFault, ByWriteFault}
+use Rattle.si_tool.specs.declared.refusals.Refusal.{Refusal}
+use Rattle.si_tool.specs.declared.refusals.Refusal.TheVariants as made
+use Rattle.si_tool.specs.declared.status.Status.{Status}
+use Rattle.si_tool.specs.declared.status.Status.TheVariants as status
+use Rattle.si_tool.proofs.AnswerLemmas.{command_one, command_or_fault, IsReadFault}
+use Rattle.si_tool.proofs.LoadLemmas.{read_rose}
+use Rattle.si_tool.proofs.SinkLemmas.{nothing_put, put_nothing}
+
+-- ---- words ask for one thing
+asked_by : List (List ℕ) → Option Asked
+asked_by (word ∷ file ∷ style ∷ []) = if bytes_eq word (codes "synth") then Some (AsksSynth file) else None
+asked_by (word ∷ graph ∷ netlist ∷ schedule ∷ []) =
+    if bytes_eq word (codes "replay") then Some (AsksReplay graph netlist schedule) else None
+asked_by words = None
+
+asked_back : (asked : Asked) → asked_by (words_for asked) ≡ Some asked
+unfolding asked_by
+asked_back (AsksSynth file) = refl
+asked_back (AsksReplay graph netlist schedule) = refl
+
+one_asked : (words : List (String Global)) (a b : Asked) → Asks words a → Asks words b → a ≡ b
+one_asked words a b one other =
+    let same = sym (asked_back a) ∙ ap (λ (ws : List (List ℕ)). asked_by ws) (sym one ∙ other) ∙ asked_back b in
+    cc
+
+-- ---- what a run was told comes to one answer, faults of loads aside
+comes_as : (words : List (String Global)) (content : Contents) (before now : Counts) (a b : Answer)
+    (come : WordsComeTo words (loads content before now) a) → Deserve words content b
+    → (a ≡ b) ⊎ IsReadFault before now (files_of come.asked) a
+comes_as words content before now a b come deserve =
+    let same = one_asked words deserve.asked come.asked deserve.asks come.asks in
+    let told = subst (λ (k : Asked). AreTold content (files_of k)) same deserve.told in
+    let there = subst (λ (k : Asked). ComesTo (loads_well content) k b) same deserve.comes in
+    elim (command_or_fault content before now come.asked a come.comes) [
+      | inl here ↦ inl (command_one content come.asked a b told here there)
+      | inr fault ↦ inr fault
+    ]
+
+-- what is deserved comes, want of memory and faults aside
+pub complete : (words : List (String Global)) (content : Contents) (before now : Counts) (out err : SinkChange)
+    (result : Status) → Ends words (loads content before now) out err result → (answer : Answer)
+    → Deserve words content answer
+    → IsDeservedUnlessFault (answer_status answer) result (ReadRose words before now) (Rose out.before out.now)
+complete words content before now out err result ends answer deserve = by ends.ending ends.may ends.puts.status_is
+  where
+    by : (e : Ending) → MayEnd words (loads content before now) out e → result ≡ status_of e
+        → IsDeservedUnlessFault (answer_status answer) result (ReadRose words before now) (Rose out.before out.now)
+    by NoMemory may is = WithoutMemory is
+    by Usage may is = absurd (may.0 deserve.asked deserve.asks)
+    by WriteFault may is = ByWriteFault is may.rose
+    by (Answered a) may is = elim (comes_as words content before now a answer may.0 deserve) [
+      | inl same ↦ AsDeserved (is ∙ ap answer_status same)
+      | inr fault ↦ ByReadFault (is ∙ ap answer_status fault.is) (record {
+        asked = may.0.asked;
+        asks = may.0.asks;
+        rose = (fault.named.0, fault.file, fault.named.1, fault.named.2, fault.rose);
+      })
+    ]
+
+-- ---- what a status shows
+
+-- no refusal of texts has the status of another ending
+pub record IsOfTexts (s : Status) : Type 0 where
+  pub not_done : s ≢ status.Done
+  pub not_usage : s ≢ status.Usage
+  pub not_read : s ≢ status.ReadFault
+  pub not_write : s ≢ status.WriteFault
+  pub not_long : s ≢ status.TooLong
+  pub not_memory : s ≢ status.NoMemory
+  pub not_unmapped : s ≢ status.Unmapped
+
+of_texts : (r : TextRefusal) → IsOfTexts (text_status r)
+of_texts (Improper breach) = record {
+  not_done = λ e. cc;
+  not_usage = λ e. cc;
+  not_read = λ e. cc;
+  not_write = λ e. cc;
+  not_long = λ e. cc;
+  not_memory = λ e. cc;
+  not_unmapped = λ e. cc;
+}
+of_texts r = record {
+  not_done = λ e. cc;
+  not_usage = λ e. cc;
+  not_read = λ e. cc;
+  not_write = λ e. cc;
+  not_long = λ e. cc;
+  not_memory = λ e. cc;
+  not_unmapped = λ e. cc;
+}
+
+module _ (words : List (String Global)) (loading : LoadStage) (out : SinkChange) where
+  pub by_done : (e : Ending) → MayEnd words loading out e → status_of e ≡ status.Done → IsDone words loading out
+  by_done (Answered (Output text)) may is = record { output = text; comes = may.0; written = may.1 }
+  by_done (Answered (FileRefused (ReadFault file))) may is = cc
+  by_done (Answered (FileRefused (TooLong file))) may is = cc
+  by_done (Answered (TextRefused r)) may is = absurd ((of_texts r).not_done is)
+  by_done e may is = cc
+
+  by_usage : (e : Ending) → MayEnd words loading out e → status_of e ≡ status.Usage → AsksNothing words
+  by_usage Usage may is = may.0
+  by_usage (Answered (FileRefused (ReadFault file))) may is = cc
+  by_usage (Answered (FileRefused (TooLong file))) may is = cc
+  by_usage (Answered (TextRefused r)) may is = absurd ((of_texts r).not_usage is)
+  by_usage e may is = cc
+
+  by_read : (e : Ending) → MayEnd words loading out e → status_of e ≡ status.ReadFault
+      → (file : List ℕ) × WordsComeTo words loading (FileRefused (ReadFault file)) × IsKept out
+  by_read (Answered (FileRefused (ReadFault file))) may is = (file, may.0, may.1)
+  by_read (Answered (FileRefused (TooLong file))) may is = cc
+  by_read (Answered (TextRefused r)) may is = absurd ((of_texts r).not_read is)
+  by_read e may is = cc
+
+  by_long : (e : Ending) → MayEnd words loading out e → status_of e ≡ status.TooLong
+      → (file : List ℕ) × WordsComeTo words loading (FileRefused (TooLong file)) × IsKept out
+  by_long (Answered (FileRefused (TooLong file))) may is = (file, may.0, may.1)
+  by_long (Answered (FileRefused (ReadFault file))) may is = cc
+  by_long (Answered (TextRefused r)) may is = absurd ((of_texts r).not_long is)
+  by_long e may is = cc
+
+  by_unwritten : (e : Ending) → MayEnd words loading out e → status_of e ≡ status.WriteFault
+      → IsCutShort words loading out
+  by_unwritten WriteFault may is = may
+  by_unwritten (Answered (FileRefused (ReadFault file))) may is = cc
+  by_unwritten (Answered (FileRefused (TooLong file))) may is = cc
+  by_unwritten (Answered (TextRefused r)) may is = absurd ((of_texts r).not_write is)
+  by_unwritten e may is = cc
+
+  by_refused : (e : Ending) (q : TextRefusal) → MayEnd words loading out e → text_status q ≡ status_of e
+      → (r : TextRefusal) × (text_status r ≡ status_of e) × WordsComeTo words loading (TextRefused r) × IsKept out
+  by_refused (Answered (TextRefused r)) q may is = (r, refl, may.0, may.1)
+  by_refused (Answered (Output text)) q may is = absurd ((of_texts q).not_done is)
+  by_refused Usage q may is = absurd ((of_texts q).not_usage is)
+  by_refused (Answered (FileRefused (ReadFault file))) q may is = absurd ((of_texts q).not_read is)
+  by_refused WriteFault q may is = absurd ((of_texts q).not_write is)
+  by_refused (Answered (FileRefused (TooLong file))) q may is = absurd ((of_texts q).not_long is)
+  by_refused NoMemory q may is = absurd ((of_texts q).not_memory is)
+
+  never_unmapped : (e : Ending) → status_of e ≢ status.Unmapped
+  never_unmapped (Answered (Output text)) is = cc
+  never_unmapped (Answered (FileRefused (ReadFault file))) is = cc
+  never_unmapped (Answered (FileRefused (TooLong file))) is = cc
+  never_unmapped (Answered (TextRefused r)) is = (of_texts r).not_unmapped is
+  never_unmapped e is = cc
+
+  -- where a run isn't done, `out` is as it was, or has a prefix of the output where a fault was counted
+  by_kept : (e : Ending) → MayEnd words loading out e → status_of e ≢ status.Done
+      → IsKept out ⊎ IsCutShort words loading out
+  by_kept NoMemory may other = may
+  by_kept Usage may other = inl may.1
+  by_kept WriteFault may other = inr may
+  by_kept (Answered (Output text)) may other = absurd (other refl)
+  by_kept (Answered (FileRefused u)) may other = inl may.1
+  by_kept (Answered (TextRefused r)) may other = inl may.1
+
+  by_unasked : (e : Ending) → MayEnd words loading out e → AsksNothing words
+      → (status_of e ≡ status.Usage) ⊎ (status_of e ≡ status.NoMemory)
+  by_unasked NoMemory may nothing = inr refl
+  by_unasked Usage may nothing = inl refl
+  by_unasked WriteFault may nothing = absurd (nothing may.comes.asked may.comes.asks)
+  by_unasked (Answered a) may nothing = absurd (nothing may.0.asked may.0.asks)
+
+pub ends_done : (words : List (String Global)) (loading : LoadStage) (out err : SinkChange) (result : Status)
+    → Ends words loading out err result → result ≡ status.Done → IsDone words loading out
+ends_done words loading out err result ends is =
+    by_done words loading out ends.ending ends.may (sym ends.puts.status_is ∙ is)
+
+pub ends_unasked : (words : List (String Global)) (loading : LoadStage) (out err : SinkChange) (result : Status)
+    → Ends words loading out err result → AsksNothing words → (result ≡ status.Usage) ⊎ (result ≡ status.NoMemory)
+ends_unasked words loading out err result ends nothing =
+    elim (by_unasked words loading out ends.ending ends.may nothing) [
+      | inl usage ↦ inl (ends.puts.status_is ∙ usage)
+      | inr memory ↦ inr (ends.puts.status_is ∙ memory)
+    ]
+
+pub shows_cause : (words : List (String Global)) (content : Contents) (before now : Counts) (out err : SinkChange)
+    (result : Status) → Ends words (loads content before now) out err result
+    → ShowsCause words content before now out result
+shows_cause words content before now out err result ends = record {
+  usage = λ is. by_usage words loading out ends.ending ends.may (at status.Usage is);
+  read_fault = λ is. read is;
+  read_rose = λ is. (let fault = read is in record {
+    asked = fault.1.asked;
+    asks = fault.1.asks;
+    rose = read_rose content before now (files_of fault.1.asked) fault.0 fault.1.comes;
+  });
+  too_long = λ is. by_long words loading out ends.ending ends.may (at status.TooLong is);
+  refused = λ q is. rw ends.puts.status_is (by_refused words loading out ends.ending q ends.may
+      (sym is ∙ ends.puts.status_is));
+  write_fault = λ is. by_unwritten words loading out ends.ending ends.may (at status.WriteFault is);
+  unmapped = λ is. never_unmapped words loading out ends.ending (at status.Unmapped is);
+  out_refused = λ other. by_kept words loading out ends.ending ends.may (λ is. other (ends.puts.status_is ∙ is));
+}
+  where
+    loading : LoadStage
+    loading = loads content before now
+
+    at : (s : Status) → result ≡ s → status_of ends.ending ≡ s
+    at s is = sym ends.puts.status_is ∙ is
+
+    read : result ≡ status.ReadFault → (file : List ℕ)
+        × WordsComeTo words (loads content before now) (FileRefused (ReadFault file)) × IsKept out
+    read is = by_read words (loads content before now) out ends.ending ends.may (at status.ReadFault is)
+
+take_nothing : (k : ℕ) → take {A = ℕ} k [] ≡ []
+take_nothing zero = refl
+take_nothing (suc k) = refl
+
+pub ends_silent : (words : List (String Global)) (loading : LoadStage) (out err : SinkChange) (result : Status)
+    → Ends words loading out err result → result ≡ status.Done → err.new ≡ err.old
+ends_silent words loading out err result ends done = by ends.ending (sym ends.puts.status_is ∙ done) ends.puts.part
+  where
+    by : (e : Ending) → status_of e ≡ status.Done → AppendsPrefix err.old (line_of e) err.new → err.new ≡ err.old
+    by (Answered (Output text)) is part =
+        put_nothing err.old err.new (subst (λ (piece : List ℕ). Appends err.old piece err.new)
+        (take_nothing part.0) part.1)
+    by (Answered (FileRefused (ReadFault file))) is part = cc
+    by (Answered (FileRefused (TooLong file))) is part = cc
+    by (Answered (TextRefused r)) is part = absurd ((of_texts r).not_done is)
+    by e is part = cc
+
+-- ---- where no fault is counted
+never_rose : (before : ℕ) → Rose before 0 → ⊥
+never_rose before rose = omega arith
+
+unwritten_not : (words : List (String Global)) (loading : LoadStage) (out : SinkChange) → out.now ≡ 0
+    → IsCutShort words loading out → ⊥
+unwritten_not words loading out now unwritten = (let rose = unwritten.rose in never_rose out.before (rw now at rose))
+
+pub due_without : (words : List (String Global)) (deserved result : Status)
+    → IsDeservedUnlessFault deserved result (ReadRose words no_faults no_faults) (Rose 0 0) → (result ≡ deserved) ⊎
+    (result ≡ status.NoMemory)
+due_without words deserved result (AsDeserved is) = inl is
+due_without words deserved result (WithoutMemory is) = inr is
+due_without words deserved result (ByReadFault is rose) = absurd (never_rose 0 rose.rose.4)
+due_without words deserved result (ByWriteFault is rose) = absurd (never_rose 0 rose)
+
+pub never_unread : (words : List (String Global)) (content : Contents) (out : SinkChange) (result : Status)
+    → ShowsCause words content no_faults no_faults out result → result ≢ status.ReadFault
+never_unread words content out result shows is = never_rose 0 (shows.read_rose is).rose.4
+
+pub never_unwritten : (words : List (String Global)) (content : Contents) (before now : Counts) (out : SinkChange)
+    (result : Status) → out.now ≡ 0 → ShowsCause words content before now out result → result ≢ status.WriteFault
+never_unwritten words content before now out result none shows is =
+    unwritten_not words (loads content before now) out none (shows.write_fault is)
+
+pub always_kept : (words : List (String Global)) (content : Contents) (before now : Counts) (out : SinkChange)
+    (result : Status) → out.now ≡ 0 → ShowsCause words content before now out result → result ≢ status.Done → IsKept out
+always_kept words content before now out result none shows other = elim (shows.out_refused other) [
+  | inl kept ↦ kept
+  | inr unwritten ↦ absurd (unwritten_not words (loads content before now) out none unwritten)
+]
+
+-- ---- from what is due to how the run ends
+without_memory : (words : List (String Global)) (loading : LoadStage) (out : SinkChange) (e : Ending) → IsRefusal e
+    → MayEnd words loading out e → MayEnd words loading out NoMemory
+without_memory words loading out NoMemory is may = may
+without_memory words loading out Usage is may = inl may.1
+without_memory words loading out WriteFault is may = inr may
+without_memory words loading out (Answered (Output text)) is may = absurd is
+without_memory words loading out (Answered (FileRefused u)) is may = inl may.1
+without_memory words loading out (Answered (TextRefused r)) is may = inl may.1
+
+pub ends_as_put : (words : List (String Global)) (loading : LoadStage) (out err : SinkChange) (result : Status)
+    (due : Ending)
+    → IsRefusal due → MayEnd words loading out due → PutsDue due err result → Ends words loading out err result
+ends_as_put words loading out err result due is may due_put = record {
+  ending = due_put.ending;
+  may = elim due_put.one_of [
+    | inl same ↦ subst (λ (e : Ending). MayEnd words loading out e) (sym same) may
+    | inr want ↦ subst (λ (e : Ending). MayEnd words loading out e) (sym want)
+        (without_memory words loading out due is may)
+  ];
+  puts = due_put.puts;
+}
+
+pub refusal_ends : (r : Refusal) → IsRefusal (ending_of r)
+refusal_ends (made.Improper breach) = tt
+refusal_ends r = tt
+
+pub ends_written : (words : List (String Global)) (loading : LoadStage) (out err : SinkChange) (output : List ℕ)
+    → WordsComeTo words loading (Output output) → Appends out.old output out.new → err.new ≡ err.old
+    → Ends words loading out err status.Done
+ends_written words loading out err output comes written kept = record {
+  ending = Answered (Output output);
+  may = (comes, written);
+  puts = record {
+    status_is = refl;
+    part = (0, nothing_put err.old err.new [] kept);
+    whole = inr (inl (nothing_put err.old err.new [] kept));
+  };
+}
+
+-- a call that stops before the output is there
+pub stops_run : (words : List (String Global)) (loading : LoadStage) (out : SinkChange) (asked : Asked) (e : Ending)
+    → Asks words asked → IsKept out → MayStopCommand loading asked e → MayEnd words loading out e
+stops_run words loading out asked NoMemory asks kept may = inl kept
+stops_run words loading out asked (Answered (FileRefused u)) asks kept may =
+    (record { asked = asked; asks = asks; comes = may }, kept)
+stops_run words loading out asked (Answered (TextRefused r)) asks kept may =
+    (record { asked = asked; asks = asks; comes = may }, kept)
+stops_run words loading out asked e asks kept may = absurd may
