@@ -10,7 +10,7 @@ use Rattle.si_base.specs.declared.graph.Edge.{Edge}
 use Rattle.si_base.specs.declared.graph.Signal.{Signal}
 use Rattle.si_base.specs.Graph.{StateGraph}
 use Rattle.si_base.specs.Lines.{Line, numbered}
-use Rattle.si_base.specs.StrictText.{Sg as SgValue}
+use Rattle.si_base.specs.GivenGraph.{Sg as SgValue}
 use Rattle.si_words.specs.Names.{stands_in}
 use Rattle.si_graph.proofs.ArcsInOrder.{arcs_in_order}
 use Rattle.si_graph.proofs.CutExists.{some_cut}
@@ -100,6 +100,6 @@ some_given text none =
       record { model = model_in h.models; graph = cut.1; states = names },
       record {
         no_fault = none;
-        is = record { whole = whole.0; spelled = whole.1; kept = cut.0; cut = cut.2; model_is = refl; states_are = refl };
+        is = record { whole = whole.0; spelled = whole.1; given = record { kept = cut.0; cut = cut.2; model_is = refl; states_are = refl } };
       },
     )
