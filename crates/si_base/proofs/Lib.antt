@@ -1,4 +1,3 @@
-pub mod Examples
 pub mod Steps
 pub mod StepFacts
 pub mod Circuit

@@ -1,4 +1,4 @@
--- The sums of full cubes.
+-- The sums of full cubes: the complex gate of the book's next-state function, as a sum of minterms.
 use Rattle.std.specs.Prelude.{ℕ, ◌+◌, ◌==◌, List, [], ◌∷◌, ◌++◌, map, filter, if◌then◌else◌}
 use Rattle.std.specs.List.{enumerate_from}
 use Rattle.si_base.specs.declared.ids.Literal.{Literal}

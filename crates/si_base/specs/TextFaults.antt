@@ -30,7 +30,7 @@ kind_name TooManyArcs = codes "TooManyArcs"
 kind_name TooManyCells = codes "TooManyCells"
 kind_name TooManyPins = codes "TooManyPins"
 
--- the line's fault is this one, or want of memory
+-- the line's fault is this one, or `NoMemory`
 abbrev pub ShowsKind : LineFault → Option TextKind → Type 0
 ShowsKind NoMemory fault = Unit {0}
 ShowsKind (Kind kind) fault = fault ≡ Some kind
@@ -45,7 +45,7 @@ abbrev pub ToldAt : LineFault → ℕ → TextFault → Type 0
 ToldAt NoMemory n fault = fault ≡ faults.NoMemory
 ToldAt (Kind kind) n fault = fault ≡ faults.At n kind
 
--- the fault is this one, or want of memory
+-- the fault is this one, or `NoMemory`
 abbrev pub Shows : TextFault → Option (ℕ × TextKind) → Type 0
 Shows faults.NoMemory fault = Unit {0}
 Shows (faults.At line kind) fault = fault ≡ Some (line, kind)

@@ -96,7 +96,7 @@ pub struct Literal {
     pub plain: bool,
 }
 
-/// Want of memory.
+/// Out of memory.
 #[derive(Clone, Copy, PartialEq, Eq, Debug)]
 pub struct NoMemory;
 

@@ -57,7 +57,7 @@ impl Model for Names {
 }
 
 impl Names {
-    /// An empty list. It fails only for want of memory.
+    /// An empty list. It fails only where memory runs out.
     pub fn new(alloc: Global) -> Result<Names, NoMemory>
         ensures { IfOk result (λ n. n ≡ []) }
     {

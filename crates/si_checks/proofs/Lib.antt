@@ -1,4 +1,5 @@
 pub mod OutLemmas
+pub mod SearchLemmas
 pub mod ForkLemmas
 pub mod LossLemmas
 pub mod SquareLemmas

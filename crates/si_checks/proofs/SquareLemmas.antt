@@ -1,13 +1,13 @@
 -- Pairs of arcs that close to squares, and what a state whose arcs do so can't have.
-use Rattle.std.proofs.Common.{◌≡◌, ℕ, ◌+◌, ◌<◌, ◌≤◌, ◌↔◌, ◌⊎◌, Bool, true, false, not, List, length, get_or, drop, Contains, All, IsTrue, refl, sym, ap, subst, ◌∙◌, arith, inl, inr, get_or-drop, length-drop, ◌-◌}
-use Rattle.std.proofs.lemmas.Bool.{cases_eq, cases_lt, cases_order, true≢false}
+use Rattle.std.proofs.Common.{◌≡◌, ℕ, ◌+◌, ◌<◌, ◌≤◌, ◌↔◌, Bool, true, false, not, List, length, get_or, drop, All, IsTrue, refl, sym, ap, subst, ◌∙◌, arith, inl, inr, get_or-drop, length-drop, ◌-◌}
+use Rattle.std.proofs.lemmas.Bool.{cases_eq, cases_order, true≢false}
 use Rattle.std.proofs.lemmas.List.{get_or_default}
 use Rattle.si_base.specs.declared.ids.Event.{Event}
 use Rattle.si_base.specs.declared.graph.Edge.{Edge}
 use Rattle.si_base.specs.EdgeOrder.{edge_cmp}
 use Rattle.si_base.specs.Graph.{StateGraph, Step, arc, enables, IsNonInput, event_place}
 use Rattle.si_base.specs.Codes.{IsDeterministic}
-use Rattle.si_base.specs.Proper.{Fork, Forks, Loss, Loses}
+use Rattle.si_base.specs.Proper.{Fork, Loss}
 use Rattle.si_base.specs.System.{IsLeastTarget}
 use Rattle.si_base.proofs.Sorted.{sorted_at}
 use Rattle.si_base.proofs.Steps.{enables-step, step_from_enables}
@@ -119,14 +119,14 @@ module _ (g : StateGraph) (s : ℕ) (arcs : List Edge) (out : AreOut g s arcs) w
 -- ---- no fork and no loss
 pub no_fork : (g : StateGraph) (s : ℕ) → ClosesSquares g s → (b : Fork) → ForksAt g s b → ⊥
 no_fork g s closes b is =
-    let t = is.forks.one.0 in
-    let u = is.forks.other.0 in
-    let square = closes (arc b.s b.a t) (arc b.s b.c u) is.forks.one.1 is.forks.other.1 is.at is.at is.forks.order in
-    is.forks.apart (square.meets b.w b.w2 is.forks.one.2 is.forks.other.2)
+    let t = is.holds.one.0 in
+    let u = is.holds.other.0 in
+    let square = closes (arc b.s b.a t) (arc b.s b.c u) is.holds.one.1 is.holds.other.1 is.at is.at is.holds.order in
+    is.holds.apart (square.meets b.w b.w2 is.holds.one.2 is.holds.other.2)
 
 pub no_loss : (g : StateGraph) (s : ℕ) → ClosesSquares g s → (b : Loss) → LosesAt g s b → ⊥
 no_loss g s closes b is =
-    let loses = is.loses in
+    let loses = is.holds in
     let t = step_from_enables g b.s b.lost loses.enabled in
     let u = loses.after.0 in
     elim (cases_order (event_place b.lost) (event_place b.by)) [

@@ -10,5 +10,7 @@ pub data ProperOrBreach (g : StateGraph) : Type 0 where
   AllHold : IsProper g → ProperOrBreach g
   HasSplit : (b : Split) → IsFirst split_place (Splits g) b → ProperOrBreach g
   HasNoValues : IsDeterministic g → (a : ℕ) → IsFirstWithoutValues g a → ProperOrBreach g
-  HasFork : IsDeterministic g → IsConsistent g → (b : Fork) → IsFirst fork_place (Forks g) b → ProperOrBreach g
-  HasLoss : IsDeterministic g → IsConsistent g → IsCommutative g → (b : Loss) → IsFirst loss_place (Loses g) b → ProperOrBreach g
+  HasFork : IsDeterministic g → IsConsistent g
+      → (b : Fork) → IsFirst fork_place (Forks g) b → ProperOrBreach g
+  HasLoss : IsDeterministic g → IsConsistent g → IsCommutative g
+      → (b : Loss) → IsFirst loss_place (Loses g) b → ProperOrBreach g

@@ -23,32 +23,38 @@ pub record EndsApart (g : StateGraph) (t : ℕ) (c : Event) (u : ℕ) (a : Event
   pub other : Step g u a ends.1
   pub apart : ends.0 ≢ ends.1
 
--- a fork at s
-pub record ForksAt (g : StateGraph) (s : ℕ) (b : Fork) : Type 0 where
-  pub forks : Forks g b
-  pub at : b.s ≡ s
+-- of what has P, each at a state: what is at s
+pub record IsAt {A : Type 0} (state : A → ℕ) (P : A → Type 0) (s : ℕ) (b : A) : Type 0 where
+  pub holds : P b
+  pub at : state b ≡ s
 
--- a fork at s, the earlier event of which is a
-pub record ForksBy (g : StateGraph) (s : ℕ) (a : Event) (b : Fork) : Type 0 where
-  pub forks : Forks g b
-  pub at : b.s ≡ s
-  pub by : b.a ≡ a
+-- and what has the event e too
+pub record IsBy {A : Type 0} (state : A → ℕ) (event : A → Event) (P : A → Type 0) (s : ℕ) (e : Event) (b : A) : Type 0 where
+  pub holds : P b
+  pub at : state b ≡ s
+  pub by : event b ≡ e
 
--- a loss at s
-pub record LosesAt (g : StateGraph) (s : ℕ) (b : Loss) : Type 0 where
-  pub loses : Loses g b
-  pub at : b.s ≡ s
+-- what is at one of the first n states
+pub record IsBelow {A : Type 0} (state : A → ℕ) (P : A → Type 0) (n : ℕ) (b : A) : Type 0 where
+  pub holds : P b
+  pub below : state b < n
 
--- a loss of the event lost at s
-pub record LosesOf (g : StateGraph) (s : ℕ) (lost : Event) (b : Loss) : Type 0 where
-  pub loses : Loses g b
-  pub at : b.s ≡ s
-  pub loss_of : b.lost ≡ lost
+-- a fork at s, and one the earlier event of which is a
+abbrev pub ForksAt : StateGraph → ℕ → Fork → Type 0
+ForksAt g s b = IsAt (λ x. x.s) (Forks g) s b
 
--- a loss at one of the first n states
-pub record LosesBelow (g : StateGraph) (n : ℕ) (b : Loss) : Type 0 where
-  pub loses : Loses g b
-  pub below : b.s < n
+abbrev pub ForksBy : StateGraph → ℕ → Event → Fork → Type 0
+ForksBy g s a b = IsBy (λ x. x.s) (λ x. x.a) (Forks g) s a b
+
+-- a loss at s, one of the event lost, and one at one of the first n states
+abbrev pub LosesAt : StateGraph → ℕ → Loss → Type 0
+LosesAt g s b = IsAt (λ x. x.s) (Loses g) s b
+
+abbrev pub LosesOf : StateGraph → ℕ → Event → Loss → Type 0
+LosesOf g s lost b = IsBy (λ x. x.s) (λ x. x.lost) (Loses g) s lost b
+
+abbrev pub LosesBelow : StateGraph → ℕ → Loss → Type 0
+LosesBelow g n b = IsBelow (λ x. x.s) (Loses g) n b
 
 -- the first fork, or where there is none the first loss, or None where there is neither
 abbrev pub IsFirstBreach : StateGraph → Option Breach → Type 0

@@ -18,7 +18,7 @@ pub struct Distinct<'a> {
 /// Why a graph isn't distinct.
 #[derive(Clone, Copy, PartialEq, Eq, Debug)]
 pub enum NotDistinct {
-    /// Want of memory.
+    /// Out of memory.
     NoMemory,
     /// The states `p` and `q`, the earlier first, have one code and enable different non-input events.
     Conflict { p: StateId, q: StateId },
@@ -28,7 +28,7 @@ impl<'a> Distinct<'a> {
     ghost use Rattle.si_checks.specs.Faults.{ShowsConflict};
     ghost use Rattle.si_checks.specs.Lent.{lent_graph};
 
-    /// The graph where it has no conflict, or its first conflict.
+    /// The graph where it has no conflict (the book's complete state coding), or its first conflict.
     pub fn make(alloc: Global, graph: &'a Proper) -> Result<Distinct<'a>, NotDistinct>
         ensures same { IfOk result (λ d. lent_graph d ≡ graph.now) }
         ensures distinct { IfOk result (λ d. HasNoConflict graph.now) }

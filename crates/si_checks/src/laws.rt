@@ -9,16 +9,18 @@ ghost use Rattle.si_checks.specs.Laws.{ProperOrBreach};
 
 /// A connected, deterministic and consistent graph has codes.
 pub fn consistent_graphs_have_codes()
-    ensures { (g : StateGraph) → IsGraph g → IsConnected g → IsDeterministic g → IsConsistent g → (c : CodedGraph) × (c.graph ≡ g) × IsCoded c }
+    ensures { (g : StateGraph) → IsGraph g → IsConnected g → IsDeterministic g → IsConsistent g
+        → (c : CodedGraph) × (c.graph ≡ g) × IsCoded c }
 {}
 
-/// A connected graph is proper, or the first property that it lacks has a first breach. The properties are determinism,
-/// consistency, commutativity and output persistency, in this order.
+/// A connected graph is proper, or the first property that it lacks has a first breach. The
+/// properties are determinism, consistency, commutativity and output persistency, in this order.
 pub fn improper_graphs_have_a_first_breach()
     ensures { (g : StateGraph) → IsGraph g → IsConnected g → ProperOrBreach g }
 {}
 
 /// The states and codes of a graph have no conflict, or a first one.
 pub fn conflicts_have_a_first()
-    ensures { (c : CodedGraph) → HasNoConflict c ⊎ ((pair : ℕ × ℕ) × IsFirst pair_place (IsConflict c) pair) }
+    ensures { (c : CodedGraph)
+        → HasNoConflict c ⊎ ((pair : ℕ × ℕ) × IsFirst pair_place (IsConflict c) pair) }
 {}

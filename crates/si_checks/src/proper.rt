@@ -32,7 +32,7 @@ impl Model for Proper {
 /// Why a coded graph isn't proper.
 #[derive(Clone, Copy, PartialEq, Eq, Debug)]
 pub enum Improper {
-    /// Want of memory.
+    /// Out of memory.
     NoMemory,
     /// The state `s` leads by `a` and then `c` to `w`, and by `c` and then `a` to another state `w2`.
     Noncommutative {
@@ -53,8 +53,8 @@ pub enum Improper {
 impl Proper {
     ghost use Rattle.si_checks.specs.Faults.{ShowsImproper};
 
-    /// The graph where it is proper, or the first breach of commutativity, or else of output persistency.
-    /// The coded graph comes back.
+    /// The graph where it is proper, or the first breach of commutativity, or else of output persistency: the book's
+    /// conditions for a speed-independent circuit, but that an input may be disabled. The coded graph comes back.
     pub fn make(_alloc: Global, coded: Coded) -> Result<Proper, (Coded, Improper)>
         ensures same { IfOk result (λ p. p ≡ coded) }
         ensures proper { IfOk result (λ p. IsProper p.graph) }
@@ -75,7 +75,7 @@ impl Proper {
         Proper { coded }
     }
 
-    /// An equal graph. It fails only for want of memory.
+    /// An equal graph. It fails only where memory runs out.
     pub fn copy(&self, alloc: Global) -> Result<Proper, NoMemory>
         ensures { IfOk result (λ p. p ≡ self.now) }
     {

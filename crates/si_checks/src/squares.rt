@@ -8,7 +8,8 @@ use si_base::graph::Edge;
 use si_base::ids::StateId;
 use si_graph::graph::Graph;
 
-/// Whether any two arcs out of the state, of different events, close a square. Each pair is looked at once.
+/// Whether any two arcs out of the state, of different events, close a square. Each pair is
+/// looked at once.
 pub fn close_squares(graph: &Graph, s: StateId) -> bool
     requires { IsDeterministic graph.now }
     ensures { IsTrue result ↔ ClosesSquares graph.now s }

@@ -28,15 +28,18 @@ module _ {K : Type 0} (c : K → K → Ordering) (total : IsTotalOrder c) (tied 
     back : (a : K) → In a zs → (a ≡ x) ⊎ In a ys
     longer : length zs ≤ length ys + 1
 
-  above_all : (x y : K) (ys : List K) → c x y ≡ Less → AllByRecursion (λ z. c y z ≡ Less) ys → AllByRecursion (λ z. c x z ≡ Less) ys
-  above_all x y ys less above = all_from_in (λ z. c x z ≡ Less) ys (λ a there. total.trans x y a less (after_head c y ys above a there))
+  above_all : (x y : K) (ys : List K) → c x y ≡ Less → AllByRecursion (λ z. c y z ≡ Less) ys
+      → AllByRecursion (λ z. c x z ≡ Less) ys
+  above_all x y ys less above =
+      all_from_in (λ z. c x z ≡ Less) ys (λ a there. total.trans x y a less (after_head c y ys above a there))
 
   later : (x y : K) → c x y ≡ Greater → c y x ≡ Less
   later x y more = total.antisymm y x ∙ ap ordering_reverse more
 
   put_in : (x : K) (ys : List K) → IsStrictlySortedBy c ys → (zs : List K) × Holds x ys zs
   unfolding IsStrictlySortedBy
-  put_in x [] sorted = (x ∷ [], record { sorted = (tt, tt); into = λ a there. there; back = λ a there. there; longer = omega arith })
+  put_in x [] sorted =
+      (x ∷ [], record { sorted = (tt, tt); into = λ a there. there; back = λ a there. there; longer = omega arith })
   put_in x (y ∷ ys) sorted = elim (cases_ordering (c x y)) [
     | inl less ↦ (
       x ∷ y ∷ ys,
@@ -91,7 +94,8 @@ module _ {K : Type 0} (c : K → K → Ordering) (total : IsTotalOrder c) (tied 
 
   pub in_order : (xs : List K) → (ys : List K) × IsOrdered xs ys
   unfolding IsStrictlySortedBy
-  in_order [] = ([], record { sorted = tt; into = λ a there. there; back = λ a there. there; no_longer = omega arith })
+  in_order [] =
+      ([], record { sorted = tt; into = λ a there. there; back = λ a there. there; no_longer = omega arith })
   in_order (x ∷ xs) =
       let rest = in_order xs in
       let more = put_in x rest.0 rest.1.sorted in

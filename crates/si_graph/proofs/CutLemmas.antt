@@ -1,8 +1,8 @@
 -- The graph that is made of the renamed arcs is the cut, and each of its states is reachable.
-use Rattle.std.proofs.Common.{◌≡◌, ℕ, zero, suc, add-one, ◌+◌, ◌-◌, ◌<◌, ◌≤◌, Bool, false, ap, ap₂, ◌∙◌, sym, refl, subst, arith, List, [], ◌∷◌, length, get_or, slice_get, Some, Contains, inl, inr, ◌↔◌, true≢false, AllPairs, All, map, filter, nat_cmp}
+use Rattle.std.proofs.Common.{◌≡◌, ℕ, zero, suc, add-one, ◌+◌, ◌-◌, ◌<◌, ◌≤◌, Bool, ap, ap₂, ◌∙◌, sym, refl, subst, arith, List, [], ◌∷◌, length, get_or, slice_get, Some, Contains, inl, inr, ◌↔◌, AllPairs, All, map, filter, nat_cmp}
 use Rattle.std.specs.List.Sorted.{IsStrictlySortedBy}
-use Rattle.std.proofs.lemmas.Bool.{cases_lt, cases_order}
-use Rattle.std.proofs.lemmas.List.{get_or_past, get_or_default, get_or_read, length-map}
+use Rattle.std.proofs.lemmas.Bool.{cases_order}
+use Rattle.std.proofs.lemmas.List.{get_or_default, get_or_read, length-map}
 use Rattle.std.proofs.lemmas.List.Sums.{length-filter, count_by-le-length}
 use Rattle.std.proofs.lemmas.List.Elements.{Contains-get_or, All-contains}
 use Rattle.std.proofs.lemmas.Option.{slice_get_within, slice_get-get_or, get_or_from_slice_get}
@@ -14,11 +14,8 @@ use Rattle.si_base.specs.Codes.{IsConnected}
 use Rattle.si_graph.specs.Reach.{IsIn}
 use Rattle.si_graph.specs.Renaming.{Renames, renamed, leaves_marked}
 use Rattle.si_graph.proofs.ArcFacts.{IsInside}
-use Rattle.si_graph.proofs.MarkLemmas.{reachable-step}
+use Rattle.si_graph.proofs.MarkLemmas.{in_below, reachable-step}
 use Rattle.si_graph.proofs.MemberLemmas.{Contains-filter, Contains-from_filter, Contains-map, Contains-from_map}
-
-pub in_below : (marks : List Bool) (t : ℕ) → IsIn marks t → t < length marks
-in_below marks t is = elim (cases_lt t (length marks)) [ inl lt ↦ lt | inr ge ↦ absurd (true≢false (sym is ∙ get_or_past marks t false ge)) ]
 
 -- in a list that ascends strictly a number stands at one place
 pub one_place : (kept : List ℕ) → IsStrictlySortedBy nat_cmp kept → (i j : ℕ) → i < length kept → j < length kept → get_or kept i 0 ≡ get_or kept j 0 → i ≡ j

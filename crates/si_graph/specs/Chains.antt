@@ -3,6 +3,7 @@ use Rattle.std.specs.Prelude.{◌≡◌, ℕ, ◌+◌, ◌<◌, ◌≤◌, ◌^�
 use Rattle.std.specs.List.Sorted.{IsStrictlySortedBy}
 use Rattle.si_base.specs.declared.graph.Edge.{Edge}
 use Rattle.si_base.specs.EdgeOrder.{edge_cmp}
+use Rattle.si_graph.specs.declared.chain.Chain.{Chain}
 use Rattle.si_graph.specs.Arcs.{edge_at}
 
 -- the arcs among so many states, in order
@@ -37,3 +38,11 @@ pub record AreStored (states : ℕ) (edges : List Edge) : Type 0 where
   pub few : length edges < 2 ^ 32
   pub within : All (λ a. (a.from < states) × (a.to < states)) edges
   pub ordered : IsStrictlySortedBy edge_cmp edges
+
+-- the arcs are stored, each linked to the next one out of its source and to the next one into its target
+pub record AreChained (states : ℕ) (edges : List Edge) (out into : Chain) : Type 0 where
+  pub stored : AreStored states edges
+  pub out_linked : AreLinked source states edges 0 out.heads.items out.nexts.items
+  pub into_linked : AreLinked target states edges 0 into.heads.items into.nexts.items
+  pub out_end : out.end ≡ length edges
+  pub into_end : into.end ≡ length edges

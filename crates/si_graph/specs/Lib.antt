@@ -1,5 +1,6 @@
 pub mod Arcs
 pub mod Chains
+pub mod Closure
 pub mod Faults
 pub mod Excited
 pub mod Changes

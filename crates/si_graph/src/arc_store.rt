@@ -25,9 +25,10 @@ impl Model for EdgeId {
 
 /// The arcs among the states of a graph, in the order of source, event and target, each once.
 ///
-/// Each arc is linked to the next one out of its source and to the next one into its target. Since the arcs are in order,
-/// those out of a state also stand together. A walk follows the order of arcs: out of a state it is that of events, then
-/// targets, and into a state that of sources, then events.
+/// Each arc is linked to the next one out of its source and to the next one into its target.
+/// Since the arcs are in order, those out of a state also stand together. A walk follows the order
+/// of arcs: out of a state it is that of events, then targets, and into a state that of sources,
+/// then events.
 #[derive(Drop)]
 pub struct ArcStore {
     states: u32,
@@ -37,18 +38,17 @@ pub struct ArcStore {
 }
 
 impl Model for ArcStore {
-    ghost use Rattle.std.specs.Prelude.{◌≡◌, length};
-    ghost use Rattle.si_graph.specs.Chains.{StoredArcs, AreStored, AreLinked, source, target};
+    ghost use Rattle.si_graph.specs.Chains.{StoredArcs, AreChained};
 
     ghost Value = { StoredArcs };
 
     ghost view = { λ a. record { states = a.states; edges = a.edges.items } };
 
-    ghost invariant = { λ a. AreStored a.states a.edges.items × AreLinked source a.states a.edges.items 0 a.out.heads.items a.out.nexts.items × AreLinked target a.states a.edges.items 0 a.into.heads.items a.into.nexts.items × (a.out.end ≡ length a.edges.items) × (a.into.end ≡ length a.edges.items) };
+    ghost invariant = { λ a. AreChained a.states a.edges.items a.out a.into };
 }
 
 impl ArcStore {
-    /// The store of these arcs. It fails only for want of memory.
+    /// The store of these arcs. It fails only where memory runs out.
     pub fn build(alloc: Global, states: u32, edges: Vec<Edge>) -> Result<ArcStore, NoMemory>
         requires few { length edges.items < 2 ^ 32 }
         requires within { All (λ a. (a.from < states) × (a.to < states)) edges.items }
@@ -73,7 +73,7 @@ impl ArcStore {
         })
     }
 
-    /// An equal store. It fails only for want of memory.
+    /// An equal store. It fails only where memory runs out.
     pub fn copy(&self, alloc: Global) -> Result<ArcStore, NoMemory>
         ensures { IfOk result (λ store. store ≡ self.now) }
     {
@@ -124,7 +124,8 @@ impl ArcStore {
     /// The next arc out of the same state; `None` exactly at the end of the chain.
     pub fn next_out(&self, k: EdgeId) -> Option<EdgeId>
         requires { k < length self.now.edges }
-        ensures { IsFirstPlace (IsOutOf self.now.edges (edge_at self.now.edges k).from) (k + 1) (length self.now.edges) result }
+        ensures { let from = (edge_at self.now.edges k).from in
+            IsFirstPlace (IsOutOf self.now.edges from) (k + 1) (length self.now.edges) result }
     {
         self.at(self.out.next(k.0))
     }
@@ -139,14 +140,16 @@ impl ArcStore {
     /// The next arc into the same state; `None` exactly at the end of the chain.
     pub fn next_in(&self, k: EdgeId) -> Option<EdgeId>
         requires { k < length self.now.edges }
-        ensures { IsFirstPlace (IsInto self.now.edges (edge_at self.now.edges k).to) (k + 1) (length self.now.edges) result }
+        ensures { let to = (edge_at self.now.edges k).to in
+            IsFirstPlace (IsInto self.now.edges to) (k + 1) (length self.now.edges) result }
     {
         self.at(self.into.next(k.0))
     }
 
     /// The arc at a place, or `None` for the end.
     fn at(&self, place: u32) -> Option<EdgeId>
-        ensures { MatchOption result (length self.now.edges ≤ place) (λ k. (k ≡ place) × (k < length self.now.edges)) }
+        ensures { MatchOption result (length self.now.edges ≤ place)
+            (λ k. (k ≡ place) × (k < length self.now.edges)) }
     {
         if (place as usize) < self.edges.len() {
             Some(EdgeId(place))

@@ -6,7 +6,8 @@ use crate::arc_store::EdgeId;
 use si_base::ids::{NoMemory, StateId};
 use std::alloc::Global;
 
-/// For each state its first place, and for each place the next one of its state. The number of places ends a chain.
+/// For each state its first place, and for each place the next one of its state. The number of
+/// places ends a chain.
 #[derive(Drop)]
 pub(crate) struct Chain {
     heads: Vec<u32>,
@@ -46,7 +47,8 @@ impl Chain {
         requires state { s < length self.old.heads.items }
         requires place { place < length self.old.nexts.items }
         ensures heads { self.new.heads.items ≡ slice_set self.old.heads.items s place }
-        ensures nexts { self.new.nexts.items ≡ slice_set self.old.nexts.items place (slice_index self.old.heads.items s) }
+        ensures nexts { self.new.nexts.items ≡ slice_set self.old.nexts.items place
+            (slice_index self.old.heads.items s) }
         ensures end { self.new.end ≡ self.old.end }
     {
         self.nexts[place as usize] = self.heads[s.0 as usize];

@@ -32,7 +32,7 @@ impl Model for Coded {
 /// Why a graph has no codes.
 #[derive(Clone, Copy, PartialEq, Eq, Debug)]
 pub enum CodeFault {
-    /// Want of memory.
+    /// Out of memory.
     NoMemory,
     /// The state `s` leads by `e` to both `t` and `u`.
     Nondeterministic {
@@ -61,7 +61,8 @@ impl From<NoMemory> for CodeFault {
 impl Coded {
     ghost use Rattle.si_graph.specs.Faults.{ShowsUncoded};
 
-    /// The graph with its codes, or the first breach of determinism, or else of consistency. The graph comes back.
+    /// The graph with its codes, or the first breach of determinism, or else of consistency (the book's consistent state
+    /// assignment). The graph comes back.
     pub fn make(alloc: Global, graph: Graph) -> Result<Coded, (Graph, CodeFault)>
         requires { IsConnected graph }
         ensures same { IfOk result (λ c. c.graph ≡ graph) }
@@ -83,7 +84,7 @@ impl Coded {
         Coded { graph, codes }
     }
 
-    /// An equal graph with the same codes. It fails only for want of memory.
+    /// An equal graph with the same codes. It fails only where memory runs out.
     pub fn copy(&self, alloc: Global) -> Result<Coded, NoMemory>
         ensures { IfOk result (λ c. c ≡ self.now) }
     {
@@ -138,7 +139,8 @@ impl Coded {
         self.codes[s.0 as usize]
     }
 
-    /// The next value of a signal: 1 if it is about to rise, or if it is 1 and not about to fall.
+    /// The next value of a signal: 1 if it is about to rise, or if it is 1 and not about to fall (the book's next-state
+    /// function).
     pub fn next_value(&self, s: StateId, z: Sig) -> bool
         requires state { s < self.now.graph.states }
         requires signal { z < length self.now.graph.signals }

@@ -3,6 +3,7 @@
 
 pub mod arc_store;
 mod chain;
+pub mod closure;
 pub mod coded;
 mod determinism;
 pub mod graph;

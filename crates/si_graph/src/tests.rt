@@ -1,12 +1,14 @@
 //! Each call once on its happy path, on a toggling signal with a state that isn't reachable, and walks on the C-element.
 
-ghost use Rattle.std.specs.Prelude.{◌≡◌, IfOk};
+ghost use Rattle.std.specs.Prelude.{◌≡◌, IfOk, length};
 
 use crate::arc_store::EdgeId;
+use crate::closure::{Along, closure};
 use crate::coded::{CodeFault, Coded};
 use crate::graph::Graph;
 use si_base::graph::{Edge, SigKind, Signal};
 use si_base::ids::{Code, Event, NoMemory, Sig, StateId};
+use si_base::sets::StateSet;
 use si_base::text::Name;
 use std::alloc::Global;
 use std::process::Abort;
@@ -156,6 +158,43 @@ fn no_walk_where_there_is_no_arc(rt: HostRuntime) -> Result<(), Fail> {
     assert_eq!(rt; graph.first_out(StateId(0)), None);
     assert_eq!(rt; graph.first_in(StateId(0)), None);
     assert!(rt; graph.arcs_out(StateId(0)).is_empty());
+    Ok(())
+}
+
+/// The set of these states of the C-element.
+fn set_of(rt: &impl Abort, alloc: Global, states: &[u32]) -> Result<StateSet, NoMemory>
+    ensures { IfOk result (λ set. length set ≡ 8) }
+{
+    let mut set = StateSet::new(alloc, 8)?;
+    for s in states {
+        assert!(rt; *s < 8);
+        set.add(StateId(*s));
+    }
+    Ok(set)
+}
+
+fn holds_just(set: &StateSet, states: &[u32]) -> bool {
+    for s in states {
+        if *s >= set.size() || !set.has(StateId(*s)) {
+            return false;
+        }
+    }
+    set.count() as usize == states.len()
+}
+
+#[test]
+fn closures_within_sets(rt: HostRuntime) -> Result<(), Fail> {
+    let alloc = rt.alloc();
+    let graph = c_element(&rt, alloc)?;
+    assert!(rt; graph.states() == 8);
+    let within = set_of(&rt, alloc, [1, 2, 4, 5].as_slice())?;
+    let seeds = set_of(&rt, alloc, [3].as_slice())?;
+    let out = closure(alloc, &graph, Along::Out, &within, &seeds)?;
+    assert!(rt; holds_just(&out, [3, 4, 5].as_slice()));
+    let into = closure(alloc, &graph, Along::In, &within, &seeds)?;
+    assert!(rt; holds_just(&into, [3, 1, 2].as_slice()));
+    let both = closure(alloc, &graph, Along::Both, &within, &seeds)?;
+    assert!(rt; holds_just(&both, [1, 2, 3, 4, 5].as_slice()));
     Ok(())
 }
 

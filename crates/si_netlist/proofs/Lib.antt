@@ -14,8 +14,12 @@ pub mod WriteLaw
 pub mod HeaderLemmas
 pub mod LoopLemmas
 pub mod GateLineLemmas
+pub mod InsertLineLemmas
 pub mod OrderLemmas
 pub mod CubeLemmas
+pub mod CubeReading
+pub mod PartLemmas
+pub mod SumReading
 pub mod SignalLemmas
 pub mod ReaderLemmas
 pub mod WritingLemmas

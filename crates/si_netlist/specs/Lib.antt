@@ -3,3 +3,4 @@ pub mod NetlistValue
 pub mod Parts
 pub mod Headers
 pub mod Writing
+pub mod Reading

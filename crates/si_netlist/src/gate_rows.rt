@@ -4,29 +4,18 @@ ghost use Rattle.std.specs.Prelude.{◌≡◌, ℕ, ◌≤◌, List, length, IfO
 ghost use Rattle.si_base.specs.Limits.{max_signals};
 ghost use Rattle.si_base.specs.TextFaults.{ToldBy};
 ghost use Rattle.si_words.specs.GateLines.{gate_fault};
-ghost use Rattle.si_words.specs.Lines.{Form, rest_of};
-ghost use Rattle.si_words.specs.Reads.{words_now};
+ghost use Rattle.si_words.specs.Lines.{Form};
 ghost use Rattle.si_words.specs.RowValues.{TakesValue, TakesAll};
 ghost use Rattle.si_words.specs.Rows.{fault_of};
 ghost use Rattle.si_netlist.specs.Headers.{gate_in};
 ghost use Rattle.si_netlist.specs.Parts.{gate_seen};
 
 use crate::gate::Gate;
-use crate::gate_values::gate_of;
+use crate::gate_reader::read_gate_line;
 use si_base::fault::TextFault;
 use si_base::names::Names;
-use si_words::gate_lines::gate_kind;
 use si_words::rows::Rows;
 use std::alloc::Global;
-
-fn after_head<'s, 'a>(words: &'s [&'a [u8]]) -> &'s [&'a [u8]]
-    ensures { words_now result.now ≡ rest_of (words_now words.now) }
-{
-    match words {
-        [] => words,
-        [_, rest @ ..] => rest,
-    }
-}
 
 fn gate_row(
     alloc: Global,
@@ -40,18 +29,15 @@ fn gate_row(
 {
     let line = rows.number();
     let words = rows.next_words(alloc)?;
-    if let Some(kind) = gate_kind(signals, name, &words) {
-        return Err(TextFault::At { line, kind });
-    }
-    match gate_of(alloc, signals, after_head(&words)) {
+    match read_gate_line(alloc, signals, name, &words)? {
         Ok(gate) => Ok(gate),
-        Err(_) => Err(TextFault::NoMemory),
+        Err(kind) => Err(TextFault::At { line, kind }),
     }
 }
 
 /// The gates of the lines that are due: one for each signal from place `from` on.
 ///
-/// Fails with the first fault of these lines, and for want of memory.
+/// Fails with the first fault of these lines, and where memory runs out.
 pub fn gate_rows(
     alloc: Global,
     rows: &mut Rows<'_>,
@@ -66,9 +52,7 @@ pub fn gate_rows(
     let mut gates = Vec::new(alloc);
     for k in from..signals.len() {
         let gate = gate_row(alloc, rows, signals, signals.get(k))?;
-        let Ok(()) = gates.push(gate) else {
-            return Err(TextFault::NoMemory);
-        };
+        gates.push(gate)?;
     }
     Ok(gates)
 }

@@ -58,10 +58,7 @@ fn model_row(alloc: Global, rows: &mut Rows<'_>) -> Result<Name, TextFault>
             kind: TextKind::BadLine,
         });
     }
-    match Name::copy_of(alloc, second_word(&words)) {
-        Ok(name) => Ok(name),
-        Err(_) => Err(TextFault::NoMemory),
-    }
+    Ok(Name::copy_of(alloc, second_word(&words))?)
 }
 
 fn are_bits(bytes: &[u8]) -> bool
@@ -127,7 +124,7 @@ pub struct Header {
 
 /// The first six lines after that of the version: the names, at most `limit`, go into `names`.
 ///
-/// Fails with the first fault of the text, where one of these lines shows it, and for want of memory.
+/// Fails with the first fault of the text, where one of these lines shows it, and where memory runs out.
 pub fn read_header(
     alloc: Global,
     rows: &mut Rows<'_>,

@@ -1,6 +1,6 @@
 //! Insert lines.
 
-ghost use Rattle.std.specs.Prelude.{◌≡◌, ℕ, ◌≤◌, List, length, codes, IfOk, map, drop, true, ◌++◌, ◌∷◌};
+ghost use Rattle.std.specs.Prelude.{◌≡◌, ℕ, ◌≤◌, ◌&&◌, List, length, codes, bytes_eq, IfOk, MatchOption, map, drop, true, false, ◌++◌, ◌∷◌};
 ghost use Rattle.std.specs.List.{list_any};
 ghost use Rattle.si_base.specs.TextFaults.{ToldBy};
 ghost use Rattle.si_words.specs.Lines.{Form};
@@ -11,6 +11,7 @@ ghost use Rattle.si_words.specs.Rows.{fault_of};
 ghost use Rattle.si_words.specs.Sums as sums;
 ghost use Rattle.si_netlist.specs.NetlistFault as netlist;
 ghost use Rattle.si_netlist.specs.NetlistValue.{insertion_of};
+ghost use Rattle.si_netlist.specs.Reading.{Inserts};
 
 use crate::gate::Insert;
 use si_base::fault::{TextFault, TextKind};
@@ -36,27 +37,33 @@ fn has_word(words: &[&[u8]], word: &[u8]) -> bool
     words.iter().any(|w| word == *w)
 }
 
-fn are_both_lists(words: &[&[u8]]) -> bool
-    ensures { result ≡ netlist.are_both_lists (sums.cut_at (codes "down") (words_now words.now)) }
+/// Whether an insert line for the name begins with these words.
+fn begins_insert(name: &[u8], head: &[u8], word: &[u8], up: &[u8]) -> bool
+    ensures { result ≡ (bytes_eq (codes ".insert") head.now && bytes_eq name.now word.now && bytes_eq (codes "up") up.now) }
 {
-    match cut_at(b"down", words) {
-        Some((up, down)) => !are_none(up) && !are_none(down) && !has_word(down, b"down"),
-        None => false,
-    }
+    b".insert".as_slice() == head && name == word && b"up".as_slice() == up
 }
 
-fn is_insert_line(name: &[u8], words: &[&[u8]]) -> bool
-    ensures { result ≡ netlist.is_insert_line name.now (words_now words.now) }
+/// The rising and the falling states of an insert line for the name, if the words are one.
+fn both_lists<'s, 'a>(
+    name: &[u8],
+    words: &'s [&'a [u8]],
+) -> Option<(&'s [&'a [u8]], &'s [&'a [u8]])>
+    ensures { MatchOption result (netlist.is_insert_line name.now (words_now words.now) ≡ false)
+        (λ lists. Inserts name.now (words_now words.now) (words_now lists.0.now) (words_now lists.1.now)) }
 {
     let [head, word, up, ..] = words else {
-        return false;
+        return None;
     };
     let (_, states) = words.split_at(3);
-    b".insert".as_slice() == *head
-        && name == *word
-        && b"up".as_slice() == *up
-        && !has_empty(states)
-        && are_both_lists(states)
+    if !begins_insert(name, *head, *word, *up) || has_empty(states) {
+        return None;
+    }
+    let (rising, falling) = cut_at(b"down", states)?;
+    if are_none(rising) || are_none(falling) || has_word(falling, b"down") {
+        return None;
+    }
+    Some((rising, falling))
 }
 
 fn names_of(alloc: Global, words: &[&[u8]]) -> Result<Vec<Name>, NoMemory>
@@ -80,39 +87,24 @@ fn insert_with(alloc: Global, name: &[u8], up: &[&[u8]], down: &[&[u8]]) -> Resu
     })
 }
 
-/// The insertion that the words of a line spell.
-fn insert_of(alloc: Global, words: &[&[u8]]) -> Result<Insert, NoMemory>
-    requires { 3 ≤ length words.now }
-    ensures { IfOk result (λ insert. insert ≡ insertion_of (words_now words.now)) }
-{
-    let (_, states) = words.split_at(3);
-    match cut_at(b"down", states) {
-        Some((up, down)) => insert_with(alloc, words[1], up, down),
-        None => insert_with(alloc, words[1], &[], &[]),
-    }
-}
-
 fn insert_row(alloc: Global, rows: &mut Rows<'_>, name: &[u8]) -> Result<Insert, TextFault>
     ensures ok { IfOk result (λ insert. TakesValue (netlist.insert_fault name.now) insertion_of rows.old rows.new insert) }
     ensures err { (forms : List Form) → ToldBy result (fault_of (netlist.insert_fault name.now ∷ forms) rows.old) }
 {
     let line = rows.number();
     let words = rows.next_words(alloc)?;
-    if !is_insert_line(name, &words) {
+    let Some((up, down)) = both_lists(name, &words) else {
         return Err(TextFault::At {
             line,
             kind: TextKind::BadLine,
         });
-    }
-    match insert_of(alloc, &words) {
-        Ok(insert) => Ok(insert),
-        Err(_) => Err(TextFault::NoMemory),
-    }
+    };
+    Ok(insert_with(alloc, name, up, down)?)
 }
 
 /// The insertions of the lines that are due: one for each name from place `from` on.
 ///
-/// Fails with the first fault of these lines, and for want of memory.
+/// Fails with the first fault of these lines, and where memory runs out.
 pub fn insert_rows(
     alloc: Global,
     rows: &mut Rows<'_>,
@@ -126,9 +118,7 @@ pub fn insert_rows(
     let mut inserts = Vec::new(alloc);
     for k in from..names.len() {
         let insert = insert_row(alloc, rows, names.get(k))?;
-        let Ok(()) = inserts.push(insert) else {
-            return Err(TextFault::NoMemory);
-        };
+        inserts.push(insert)?;
     }
     Ok(inserts)
 }

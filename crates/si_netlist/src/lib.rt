@@ -2,8 +2,8 @@
 #![tactic(auto)]
 
 pub mod gate;
+mod gate_reader;
 mod gate_rows;
-mod gate_values;
 mod header;
 mod insertions;
 pub mod laws;

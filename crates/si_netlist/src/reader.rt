@@ -110,23 +110,19 @@ fn signals_in(alloc: Global, names: &Names, header: &Header) -> Result<Vec<Signa
 /// The netlist that the text spells, or the first fault of the text. A text whose first line is `.version 2` is read as
 /// one of version 2, any other as one of version 1, which may name 64 signals.
 ///
-/// It fails with `NoMemory` only for want of memory, and with `At` exactly where the text is no netlist's.
+/// It fails with `NoMemory` only where memory runs out, and with `At` exactly where the text is no netlist's.
 pub fn read_netlist(alloc: Global, text: &[u8]) -> Result<Netlist, TextFault>
     ensures gives { Gives (λ n. n) result (netlist_fault text.now) (netlist_of text.now) }
 {
     let mut rows = Rows::new(text);
     let limit = take_version(&mut rows);
-    let Ok(mut names) = Names::new(alloc) else {
-        return Err(TextFault::NoMemory);
-    };
+    let mut names = Names::new(alloc)?;
     let header = read_header(alloc, &mut rows, limit, &mut names)?;
     let inserts = insert_rows(alloc, &mut rows, &names, header.internals)?;
     word_row(alloc, &mut rows, b".gates")?;
     let gates = gate_rows(alloc, &mut rows, &names, header.inputs)?;
     word_row(alloc, &mut rows, b".end")?;
     rows.finish()?;
-    let Ok(signals) = signals_in(alloc, &names, &header) else {
-        return Err(TextFault::NoMemory);
-    };
+    let signals = signals_in(alloc, &names, &header)?;
     Ok(Netlist::make(header.model, signals, header.start, inserts, gates))
 }

@@ -16,7 +16,7 @@ use si_base::text::{Name, Text};
 use si_words::writing::add_word;
 use std::alloc::Global;
 
-/// The text of a netlist, in version 2. It fails only for want of memory.
+/// The text of a netlist, in version 2. It fails only where memory runs out.
 pub fn write_netlist(alloc: Global, netlist: &Netlist) -> Result<Text, NoMemory>
     ensures { IfOk result (λ text. text ≡ netlist_text netlist.now) }
 {
@@ -73,7 +73,7 @@ fn same_kind(a: SigKind, b: SigKind) -> bool
 /// Adds a line of a word and the signals' values: a digit each, in their order, and the word alone where there is no
 /// signal.
 ///
-/// It fails only for want of memory. The text may then end in a part of the line, and isn't to be used.
+/// It fails only where memory runs out. The text may then end in a part of the line, and isn't to be used.
 pub fn add_values_line(
     text: &mut Text,
     word: &[u8],

@@ -12,10 +12,10 @@ use Rattle.si_base.proofs.Sorted.{In}
 use Rattle.si_base.proofs.Unique.{contains_from_in}
 use Rattle.si_base.proofs.UniqueText.{Distinct, once_distinct, one_index}
 use Rattle.si_strict.specs.Strict.{AreSignalNames, AreArcLines, IsNamed, IsSpelledBy}
-use Rattle.si_strict.proofs.CutExists.{some_cut}
+use Rattle.si_graph.proofs.CutExists.{some_cut}
 use Rattle.si_strict.proofs.EdgeLemmas.{as_many}
 use Rattle.si_strict.proofs.OnceLemmas.{marked_there}
-use Rattle.si_strict.proofs.OrderedLemmas.{AreOrdered, arcs_in_order}
+use Rattle.si_graph.proofs.ArcsInOrder.{AreOrdered, arcs_in_order}
 use Rattle.si_strict.proofs.WholeLemmas.{all_signals, names_of_all, kinds_in_order, strict_names, strict_arcs, strict_marked, within, distinct_names, spells}
 
 -- ---- names at places

@@ -8,7 +8,5 @@ pub mod EdgeLemmas
 pub mod WholeLemmas
 pub mod GivenLemmas
 pub mod LengthLemmas
-pub mod OrderedLemmas
-pub mod CutExists
 pub mod GraphExists
 pub mod WordLemmas

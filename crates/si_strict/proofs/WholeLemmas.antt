@@ -122,8 +122,8 @@ module _ (x : Spelling) (names states : List (List ℕ)) (list : List Signal) (e
         few_arcs = omega arith;
       }
 
-  pub spells : (count : ℕ) (start : ℕ) (g : StateGraph) → count ≡ length states → slice_get states start ≡ Some x.marked → IsMadeOf list count ordered start g → Spells x g
-  spells count start g is at made =
+  pub spells : (many : ℕ) (start : ℕ) (g : StateGraph) → many ≡ length states → slice_get states start ≡ Some x.marked → IsMadeOf list many ordered start g → Spells x g
+  spells many start g is at made =
       let P : List (List ℕ) → List Signal → Edge → Type 0 = λ ns l a. Contains ordered a ↔ Any (λ m. SpellsArc l ns m a) x.arcs in
       let arcs : (a : Edge) → P states list a = arcs_spelled names states good.distinct apart x.arcs edges ordered spelled sorted same list list_names in
       let moved : (a : Edge) → P (state_names x) g.signals a = λ a. subst (λ (ns : List (List ℕ)). P ns g.signals a) states_are (subst (λ (l : List Signal). P states l a) (sym made.signals_are) (arcs a)) in

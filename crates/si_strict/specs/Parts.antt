@@ -5,6 +5,7 @@ use Rattle.si_strict.specs.Lines.{words_in}
 use Rattle.si_strict.specs.declared.parts.Arc.{Arc}
 use Rattle.si_strict.specs.declared.parts.Header.{Header}
 use Rattle.si_strict.specs.declared.parts.Parts.{Parts}
+use Rattle.si_base.specs.Bytes.{opening_brace, closing_brace}
 
 abbrev pub arc_now : Arc → ArcLine
 arc_now a = record { from = a.from.now; signal = a.signal.now; up = a.up; to = a.to.now }
@@ -31,7 +32,12 @@ pub record HeaderNames : Type 0 where
   pub internals : List (List ℕ)
 
 abbrev pub header_now : Header → HeaderNames
-header_now h = record { model = h.model.now; inputs = words_in h.inputs; outputs = words_in h.outputs; internals = words_in h.internals }
+header_now h = record {
+  model = h.model.now;
+  inputs = words_in h.inputs;
+  outputs = words_in h.outputs;
+  internals = words_in h.internals;
+}
 
 -- the lines before the arcs, and the rest
 abbrev pub header_lines : HeaderNames → List (List (List ℕ)) → List (List (List ℕ))
@@ -41,7 +47,7 @@ header_lines h rest = (codes ".model" ∷ h.model ∷ [])
 
 -- the lines after the arcs, and what stands behind the last line end: one empty word
 abbrev pub end_lines : List ℕ → List (List (List ℕ))
-end_lines marked = (codes ".marking" ∷ (123 ∷ marked ++ 125 ∷ []) ∷ []) ∷ (codes ".end" ∷ []) ∷ ([] ∷ []) ∷ []
+end_lines marked = (codes ".marking" ∷ (opening_brace ∷ marked ++ closing_brace ∷ []) ∷ []) ∷ (codes ".end" ∷ []) ∷ ([] ∷ []) ∷ []
 
 -- the lines that a text of these parts is cut into
 abbrev pub all_lines : Spelling → List (List (List ℕ))

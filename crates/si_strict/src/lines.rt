@@ -4,6 +4,7 @@ ghost use Rattle.std.specs.Prelude.{◌≡◌, ◌==◌, ◌<◌, ◌≤◌, not
 ghost use Rattle.std.specs.List.{prefix_len};
 ghost use Rattle.si_strict.specs.Lines.{lines_now, lines_between, words_between, words_in};
 ghost use Rattle.si_words.specs.Sums as sums;
+ghost use Rattle.si_base.specs.Bytes.{space, line_feed};
 
 use std::alloc::{AllocError, Global};
 
@@ -19,21 +20,22 @@ const SHORTEST_LINE: usize = 5;
 
 /// Whether the text has more line ends than lines of that length would have.
 pub fn has_short_lines(text: &[u8]) -> bool
-    ensures { IsTrue result ↔ (length text.now < 5 * count_by (λ b. b == 10) text.now) }
+    ensures { IsTrue result ↔ (length text.now < 5 * count_by (λ b. b == line_feed) text.now) }
 {
     line_ends(text) > text.len() / SHORTEST_LINE
 }
 
 /// How many line ends the text has.
 fn line_ends(text: &[u8]) -> usize
-    ensures { result ≡ count_by (λ b. b == 10) text.now }
+    ensures { result ≡ count_by (λ b. b == line_feed) text.now }
 {
     text.iter().filter(|b| **b == b'\n').count()
 }
 
 /// The first line, and the lines after it.
 pub fn split_first_line<'l, 'a>(lines: &'l [&'a [u8]]) -> Option<(&'a [u8], &'l [&'a [u8]])>
-    ensures { MatchOption result (lines_now lines.now ≡ []) (λ r. lines_now lines.now ≡ words_between 32 r.0.now ∷ lines_now r.1.now) }
+    ensures { MatchOption result (lines_now lines.now ≡ [])
+        (λ r. lines_now lines.now ≡ words_between space r.0.now ∷ lines_now r.1.now) }
 {
     let (first, rest) = lines.split_first()?;
     Some((*first, rest))
@@ -41,7 +43,8 @@ pub fn split_first_line<'l, 'a>(lines: &'l [&'a [u8]]) -> Option<(&'a [u8], &'l 
 
 /// The last line, and the lines before it.
 pub fn split_last_line<'l, 'a>(lines: &'l [&'a [u8]]) -> Option<(&'a [u8], &'l [&'a [u8]])>
-    ensures { MatchOption result (lines_now lines.now ≡ []) (λ r. lines_now lines.now ≡ lines_now r.1.now ++ words_between 32 r.0.now ∷ []) }
+    ensures { MatchOption result (lines_now lines.now ≡ [])
+        (λ r. lines_now lines.now ≡ lines_now r.1.now ++ words_between space r.0.now ∷ []) }
 {
     let (last, front) = lines.split_last()?;
     Some((*last, front))
@@ -50,14 +53,14 @@ pub fn split_last_line<'l, 'a>(lines: &'l [&'a [u8]]) -> Option<(&'a [u8], &'l [
 /// How many bytes of the line come before its first blank.
 fn len_of_word(line: &[u8]) -> usize
     ensures within { result ≤ length line.now }
-    ensures len { result ≡ prefix_len (λ b. not (b == 32)) line.now }
+    ensures len { result ≡ prefix_len (λ b. not (b == space)) line.now }
 {
     line.iter().take_while(|b| **b != b' ').count()
 }
 
 /// The first word of a line, and what stands behind the blank after it.
 pub fn split_word<'a>(line: &'a [u8]) -> (&'a [u8], Option<&'a [u8]>)
-    ensures words { words_between 32 line.now ≡ result.0.now ∷ words_in result.1 }
+    ensures words { words_between space line.now ≡ result.0.now ∷ words_in result.1 }
     ensures shorter { IfSome result.1 (λ rest. length rest.now < length line.now) }
 {
     let (word, rest) = line.split_at(len_of_word(line));
@@ -69,7 +72,8 @@ pub fn split_word<'a>(line: &'a [u8]) -> (&'a [u8], Option<&'a [u8]>)
 
 /// The word of a line that has just one.
 pub fn only_word<'a>(line: &'a [u8]) -> Option<&'a [u8]>
-    ensures { MatchOption result ((word : List ℕ) → words_between 32 line.now ≡ word ∷ [] → ⊥) (λ word. words_between 32 line.now ≡ word.now ∷ []) }
+    ensures { MatchOption result ((word : List ℕ) → words_between space line.now ≡ word ∷ [] → ⊥)
+        (λ word. words_between space line.now ≡ word.now ∷ []) }
 {
     let (word, rest) = split_word(line);
     match rest {
@@ -80,7 +84,7 @@ pub fn only_word<'a>(line: &'a [u8]) -> Option<&'a [u8]>
 
 /// Whether the line is just this word.
 pub fn is_one(word: &[u8], line: &[u8]) -> bool
-    ensures { result ≡ sums.is_one word.now (words_between 32 line.now) }
+    ensures { result ≡ sums.is_one word.now (words_between space line.now) }
 {
     let (first, rest) = split_word(line);
     match rest {

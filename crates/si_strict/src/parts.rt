@@ -4,6 +4,7 @@ ghost use Rattle.std.specs.Prelude.{◌≡◌, ℕ, List, [], ◌∷◌, ◌++�
 ghost use Rattle.si_base.specs.StrictText.{ArcLine, Spelling, arc_line};
 ghost use Rattle.si_strict.specs.Lines.{lines_now, words_between, words_in};
 ghost use Rattle.si_strict.specs.Parts.{arc_now, arcs_now, spelling_of, HeaderNames, header_now, header_lines, end_lines, all_lines, TakesList};
+ghost use Rattle.si_base.specs.Bytes.{space, opening_brace, closing_brace};
 
 use crate::lines::{is_one, only_word, split_first_line, split_last_line, split_word};
 use crate::read::NotRead;
@@ -18,7 +19,8 @@ pub struct Arc<'a> {
     pub to: &'a [u8],
 }
 
-/// What the lines before the arcs name: of a list line what stands behind its head, `None` where it is left out.
+/// What the lines before the arcs name: of a list line what stands behind its head, `None` where it
+/// is left out.
 #[derive(Clone, Copy)]
 pub struct Header<'a> {
     pub model: &'a [u8],
@@ -88,7 +90,8 @@ fn value_line<'l, 'a>(lines: &'l [&'a [u8]], head: &[u8]) -> Option<(&'a [u8], &
 
 /// The word behind that head, if the line is these two.
 fn value_of<'a>(line: &'a [u8], head: &[u8]) -> Option<&'a [u8]>
-    ensures { MatchOption result ((value : List ℕ) → words_between 32 line.now ≡ head.now ∷ value ∷ [] → ⊥) (λ value. words_between 32 line.now ≡ head.now ∷ value.now ∷ []) }
+    ensures { MatchOption result ((value : List ℕ) → words_between space line.now ≡ head.now ∷ value ∷ [] → ⊥)
+        (λ value. words_between space line.now ≡ head.now ∷ value.now ∷ []) }
 {
     match behind(line, head)? {
         Some(rest) => only_word(rest),
@@ -98,7 +101,8 @@ fn value_of<'a>(line: &'a [u8], head: &[u8]) -> Option<&'a [u8]>
 
 /// What stands behind that head, if it is the first word of the line.
 fn behind<'a>(line: &'a [u8], head: &[u8]) -> Option<Option<&'a [u8]>>
-    ensures { MatchOption result ((rest : List (List ℕ)) → words_between 32 line.now ≡ head.now ∷ rest → ⊥) (λ rest. words_between 32 line.now ≡ head.now ∷ words_in rest) }
+    ensures { MatchOption result ((rest : List (List ℕ)) → words_between space line.now ≡ head.now ∷ rest → ⊥)
+        (λ rest. words_between space line.now ≡ head.now ∷ words_in rest) }
 {
     let (first, rest) = split_word(line);
     if first == head { Some(rest) } else { None }
@@ -140,7 +144,7 @@ fn ending_of<'l, 'a>(lines: &'l [&'a [u8]]) -> Option<(&'l [&'a [u8]], &'a [u8])
 
 /// What stands between the braces, if the word is in braces.
 fn in_braces(word: &[u8]) -> Option<&[u8]>
-    ensures { MatchOption result ((inner : List ℕ) → word.now ≡ 123 ∷ inner ++ 125 ∷ [] → ⊥) (λ inner. word.now ≡ 123 ∷ inner.now ++ 125 ∷ []) }
+    ensures { MatchOption result ((inner : List ℕ) → word.now ≡ opening_brace ∷ inner ++ closing_brace ∷ [] → ⊥) (λ inner. word.now ≡ opening_brace ∷ inner.now ++ closing_brace ∷ []) }
 {
     let (first, rest) = word.split_first()?;
     let (last, inner) = rest.split_last()?;
@@ -168,7 +172,8 @@ fn arcs_of<'l, 'a>(alloc: Global, lines: &'l [&'a [u8]]) -> Result<Vec<Arc<'a>>,
 
 /// The arc of a line, if its words are one.
 fn arc_of<'a>(line: &'a [u8]) -> Option<Arc<'a>>
-    ensures { MatchOption result ((a : ArcLine) → words_between 32 line.now ≡ arc_line a → ⊥) (λ a. words_between 32 line.now ≡ arc_line (arc_now a)) }
+    ensures { MatchOption result ((a : ArcLine) → words_between space line.now ≡ arc_line a → ⊥)
+        (λ a. words_between space line.now ≡ arc_line (arc_now a)) }
 {
     let (from, after_from) = split_word(line);
     let (event, after_event) = split_word(after_from?);

@@ -80,12 +80,16 @@ pub fn whole_of(alloc: Global, parts: &Parts<'_>) -> Result<Whole, NotRead>
 
 /// The signals in signal order. `BadText` comes exactly where their names aren't in the strict form.
 fn read_signals(alloc: Global, header: &Header<'_>) -> Result<Signals, NotRead>
-    ensures names { IfOk result (λ signals. signals.names ≡ words_in header.now.inputs ++ words_in header.now.outputs ++ words_in header.now.internals) }
-    ensures list { IfOk result (λ signals. signals.list.items ≡ signals_of SigKind.Input (words_in header.now.inputs)
-        ++ signals_of SigKind.Output (words_in header.now.outputs) ++ signals_of SigKind.Internal (words_in header.now.internals)) }
+    ensures names { IfOk result (λ signals. signals.names
+        ≡ words_in header.now.inputs ++ words_in header.now.outputs ++ words_in header.now.internals) }
+    ensures list { IfOk result (λ signals. signals.list.items
+        ≡ signals_of SigKind.Input (words_in header.now.inputs)
+        ++ signals_of SigKind.Output (words_in header.now.outputs)
+        ++ signals_of SigKind.Internal (words_in header.now.internals)) }
     ensures good { IfOk result (λ signals. AreSignalNames signals.names) }
     ensures bad { result ≡ Err NotRead.BadText
-        → AreSignalNames (words_in header.now.inputs ++ words_in header.now.outputs ++ words_in header.now.internals) → ⊥ }
+        → AreSignalNames (words_in header.now.inputs
+        ++ words_in header.now.outputs ++ words_in header.now.internals) → ⊥ }
 {
     let mut signals = Signals {
         list: Vec::new(alloc),
@@ -97,8 +101,8 @@ fn read_signals(alloc: Global, header: &Header<'_>) -> Result<Signals, NotRead>
     Ok(signals)
 }
 
-/// Adds a signal of this kind for each word of what is left of a line. `BadText` comes exactly where the names aren't in
-/// the strict form then.
+/// Adds a signal of this kind for each word of what is left of a line. `BadText` comes exactly where
+/// the names aren't in the strict form then.
 fn add_signals(
     alloc: Global,
     signals: &mut Signals,
@@ -106,9 +110,11 @@ fn add_signals(
     kind: SigKind,
 ) -> Result<(), NotRead>
     ensures names { OnOk result (signals.new.names ≡ signals.old.names ++ words_in names.entry) }
-    ensures list { OnOk result (signals.new.list.items ≡ signals.old.list.items ++ signals_of kind (words_in names.entry)) }
+    ensures list { OnOk result (signals.new.list.items
+        ≡ signals.old.list.items ++ signals_of kind (words_in names.entry)) }
     ensures good { OnOk result (AreSignalNames signals.old.names → AreSignalNames signals.new.names) }
-    ensures bad { result ≡ Err NotRead.BadText → AreSignalNames (signals.old.names ++ words_in names.entry) → ⊥ }
+    ensures bad { result ≡ Err NotRead.BadText
+        → AreSignalNames (signals.old.names ++ words_in names.entry) → ⊥ }
 {
     let mut rest = names;
     while let Some(line) = rest {

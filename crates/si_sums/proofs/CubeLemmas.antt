@@ -7,7 +7,7 @@ use Rattle.std.proofs.lemmas.List.Kept.{AllPairs-cons}
 use Rattle.si_base.specs.declared.ids.Literal.{Literal}
 use Rattle.si_base.specs.declared.graph.Signal.{Signal}
 use Rattle.si_base.specs.Bits.{bit}
-use Rattle.si_base.specs.Limits.{max_signals}
+use Rattle.si_base.specs.Limits.{code_width}
 use Rattle.si_base.specs.Cover.{full_cube_from}
 use Rattle.si_base.specs.WellFormed.{IsCube}
 use Rattle.si_cube.specs.Literals.{literals_from, literals_of, IsWithin}
@@ -38,9 +38,9 @@ full_from (suc m) n i code (x ∷ xs) few ends =
     let here : bit (2 ^ n - 1) i ≡ true = one_below n i (omega arith) in
     rw here (ap (λ (ls : List Literal). record { sig = i; plain = bit code i } ∷ ls) (full_from m n (i + 1) code xs (omega arith) (omega arith)))
 
-pub full_literals : (signals : List Signal) (code : ℕ) → length signals ≤ max_signals → literals_of (2 ^ length signals - 1) code ≡ full_cube_from 0 signals code
+pub full_literals : (signals : List Signal) (code : ℕ) → length signals ≤ code_width → literals_of (2 ^ length signals - 1) code ≡ full_cube_from 0 signals code
 unfolding literals_of
-full_literals signals code few = full_from max_signals (length signals) 0 code signals few (omega arith)
+full_literals signals code few = full_from code_width (length signals) 0 code signals few (omega arith)
 
 -- ---- the order of the literals
 all_after : (j i code : ℕ) (xs : List Signal) → j < i → All (λ l. j < l.sig) (full_cube_from i xs code)

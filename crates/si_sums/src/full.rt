@@ -17,7 +17,7 @@ use si_netlist::netlist::Netlist;
 use si_netlist::write::write_netlist;
 use std::alloc::Global;
 
-/// The text of the netlist of sums of full cubes, with the model's name. It fails only for want of memory.
+/// The text of the netlist of sums of full cubes, with the model's name. It fails only where memory runs out.
 pub fn write_full(alloc: Global, model: Name, graph: Distinct<'_>) -> Result<Text, NoMemory>
     requires { AreSpelled model (lent_graph graph).graph.signals }
     ensures { IfOk result (λ text. text ≡ netlist_text (full_netlist model (lent_graph graph.entry))) }
@@ -26,7 +26,7 @@ pub fn write_full(alloc: Global, model: Name, graph: Distinct<'_>) -> Result<Tex
     write_netlist(alloc, &netlist)
 }
 
-/// The netlist of sums of full cubes, with the model's name. It fails only for want of memory.
+/// The netlist of sums of full cubes, with the model's name. It fails only where memory runs out.
 pub fn netlist_of(alloc: Global, model: Name, graph: Distinct<'_>) -> Result<Netlist, NoMemory>
     requires { AreSpelled model (lent_graph graph).graph.signals }
     ensures { IfOk result (λ netlist. netlist ≡ full_netlist model (lent_graph graph.entry)) }

@@ -5,4 +5,3 @@ pub mod OutcomeLemmas
 pub mod ScheduleLemmas
 pub mod UniqueOutcome
 pub mod OutcomeExists
-pub mod Examples

@@ -29,7 +29,7 @@ fn names_of(alloc: Global, signals: &[Signal]) -> Result<Names, NoMemory>
     for signal in signals {
         match names.add(signal.name.bytes(), MAX_SIGNALS as u32) {
             Ok(_) => {}
-            // There is room for each signal, so that only want of memory is left.
+            // There is room for each signal, so that only memory can run out.
             Err(_) => return Err(NoMemory),
         }
     }
@@ -72,7 +72,7 @@ fn read_lines(alloc: Global, text: &[u8], names: &Names) -> Result<Vec<Event>, T
 ///
 /// `At` the line of the first fault: `BadByte` before the words of its line, else, at a word, `Toggle` for `~` in place
 /// of the sign, `BadEvent` for any other word that isn't an event, and `Undeclared` for a name that isn't a signal's.
-/// `NoMemory` only for want of memory.
+/// `NoMemory` only where memory runs out.
 pub fn read_schedule(alloc: Global, text: &[u8], netlist: &Netlist) -> Result<Vec<Event>, TextFault>
     ensures gives { Gives (λ v. v.items) result (schedule_fault (signal_names netlist.now.signals) text.now) (schedule_of (signal_names netlist.now.signals) text.now) }
     ensures within { IfOk result (λ events. All (λ e. e.sig < length netlist.now.signals) events.items) }

@@ -3,17 +3,16 @@ use Rattle.std.proofs.Common.{◌≡◌, ◌≢◌, ℕ, zero, suc, List, [], �
 use Rattle.std.proofs.Common.{◌∙◌, arith, ◌⊎◌, inl, inr, codes, String, Global, bytes_eq, if◌then◌else◌}
 use Rattle.si_io.specs.Outside.{Rose, Appends, AppendsPrefix}
 use Rattle.si_tool.specs.Command.{Asked, AsksSynth, AsksReplay, Asks, AsksNothing, words_for, files_of}
-use Rattle.si_tool.specs.Ending.{Ending, NoMemory, Usage, WriteFault, Answered, IsRefusal, status_of, line_of}
-use Rattle.si_tool.specs.Ending.{ending_of}
+use Rattle.si_tool.specs.Ending.{Ending, NoMemory, Usage, WriteFault, Answered, IsRefusal, status_of}
+use Rattle.si_tool.specs.Ending.{line_of, ending_of}
 use Rattle.si_tool.specs.Laws.{ShowsCause}
 use Rattle.si_tool.specs.Loads.{Contents, Counts, AreTold, loads, loads_well, no_faults}
 use Rattle.si_tool.specs.Meaning.{LoadStage, ComesTo, MayStopCommand, WordsComeTo}
-use Rattle.si_tool.specs.Refusal.{TextRefusal, Answer, Output, FileRefused, TextRefused, ReadFault}
-use Rattle.si_tool.specs.Refusal.{TooLong}
+use Rattle.si_tool.specs.Refusal.{TextRefusal, Answer, Output, FileRefused, TextRefused}
+use Rattle.si_tool.specs.Refusal.{ReadFault, TooLong}
 use Rattle.si_tool.specs.Refusal.{Improper, answer_status, text_status}
 use Rattle.si_tool.specs.Run.{SinkChange, IsKept, IsCutShort, IsDone, MayEnd, Ends, PutsDue, Deserve}
-use Rattle.si_tool.specs.Run.{ReadRose}
-use Rattle.si_tool.specs.Run.{IsDeservedUnlessFault, AsDeserved, WithoutMemory, ByReadFault, ByWriteFault}
+use Rattle.si_tool.specs.Run.{ReadRose, IsDeservedUnlessFault, AsDeserved, WithoutMemory, ByReadFault, ByWriteFault}
 use Rattle.si_tool.specs.declared.refusals.Refusal.{Refusal}
 use Rattle.si_tool.specs.declared.refusals.Refusal.TheVariants as made
 use Rattle.si_tool.specs.declared.status.Status.{Status}
@@ -52,7 +51,7 @@ comes_as words content before now a b come deserve =
       | inr fault ↦ inr fault
     ]
 
--- what is deserved comes, want of memory and faults aside
+-- what is deserved comes, unless memory runs out or a fault comes
 pub complete : (words : List (String Global)) (content : Contents) (before now : Counts) (out err : SinkChange)
     (result : Status) → Ends words (loads content before now) out err result → (answer : Answer)
     → Deserve words content answer
@@ -201,8 +200,8 @@ shows_cause words content before now out err result ends = record {
     rose = read_rose content before now (files_of fault.1.asked) fault.0 fault.1.comes;
   });
   too_long = λ is. by_long words loading out ends.ending ends.may (at status.TooLong is);
-  refused = λ q is. rw ends.puts.status_is (by_refused words loading out ends.ending q ends.may
-      (sym is ∙ ends.puts.status_is));
+  refused = λ q is. rw ends.puts.status_is
+      (by_refused words loading out ends.ending q ends.may (sym is ∙ ends.puts.status_is));
   write_fault = λ is. by_unwritten words loading out ends.ending ends.may (at status.WriteFault is);
   unmapped = λ is. never_unmapped words loading out ends.ending (at status.Unmapped is);
   out_refused = λ other. by_kept words loading out ends.ending ends.may (λ is. other (ends.puts.status_is ∙ is));
@@ -244,8 +243,8 @@ unwritten_not : (words : List (String Global)) (loading : LoadStage) (out : Sink
 unwritten_not words loading out now unwritten = (let rose = unwritten.rose in never_rose out.before (rw now at rose))
 
 pub due_without : (words : List (String Global)) (deserved result : Status)
-    → IsDeservedUnlessFault deserved result (ReadRose words no_faults no_faults) (Rose 0 0) → (result ≡ deserved) ⊎
-    (result ≡ status.NoMemory)
+    → IsDeservedUnlessFault deserved result (ReadRose words no_faults no_faults) (Rose 0 0)
+    → (result ≡ deserved) ⊎ (result ≡ status.NoMemory)
 due_without words deserved result (AsDeserved is) = inl is
 due_without words deserved result (WithoutMemory is) = inr is
 due_without words deserved result (ByReadFault is rose) = absurd (never_rose 0 rose.rose.4)

@@ -13,5 +13,3 @@ pub mod run;
 pub mod status;
 pub mod sure;
 pub mod synth;
-#[cfg(test)]
-mod tests;

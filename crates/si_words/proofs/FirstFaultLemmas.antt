@@ -1,9 +1,9 @@
 -- The first fault of words, one word after the other.
-use Rattle.std.proofs.Common.{◌≡◌, ℕ, ◌+◌, ◌<◌, List, [], ◌∷◌, ◌++◌, length, get_or, take, drop, refl, sym, ap, ◌∙◌, Bor, Option, Some, None, add-one, append_assoc, is_some, true, false, zero, suc, slice_get}
+use Rattle.std.proofs.Common.{◌≡◌, ℕ, ◌+◌, ◌<◌, List, [], ◌∷◌, ◌++◌, length, get_or, take, drop, refl, sym, ap, ◌∙◌, Bor, Option, Some, None, add-one, append_assoc, slice_get}
 use Rattle.std.proofs.Math.Seq.{drop-cons}
 use Rattle.std.proofs.lemmas.List.{append-nil, length-map, get_or-map, take_more}
 use Rattle.std.proofs.lemmas.Option.{slice_get-map, slice_get-get_or}
-use Rattle.si_base.specs.Faults.{◌otherwise◌, first_after, first_in}
+use Rattle.si_base.specs.Faults.{◌otherwise◌, first_after}
 use Rattle.si_words.specs.Reads.{words_now}
 
 module _ {F : Type 0} where
@@ -44,35 +44,3 @@ good_more f old before ws i d within good so_far here = rw (take_word ws i d wit
 
 pub word_at : (ws : List (Bor (List ℕ))) (i : ℕ) (d : Bor (List ℕ)) → i < length ws → slice_get (words_now ws) i ≡ Some (get_or ws i d).now
 word_at ws i d within = slice_get-map (λ (w : Bor (List ℕ)). w.now) ws i ∙ rw (slice_get-get_or ws i d within) refl
-
-map-take : (ws : List (Bor (List ℕ))) (i : ℕ) → words_now (take i ws) ≡ take i (words_now ws)
-map-take ws zero = refl
-map-take [] (suc i) = refl
-map-take (w ∷ ws) (suc i) = ap (λ (l : List (List ℕ)). w.now ∷ l) (map-take ws i)
-
-pub otherwise_some : {F : Type 0} (r a b : Option F) → r ≡ a → is_some r ≡ true → r ≡ (a otherwise b)
-otherwise_some (Some x) a b is some = rw (← is) refl
-otherwise_some None a b is some = absurd cc
-
-pub otherwise_none : {F : Type 0} (r a b s : Option F) → r ≡ a → is_some r ≡ false → s ≡ b → s ≡ (a otherwise b)
-otherwise_none (Some x) a b s is none later = absurd cc
-otherwise_none None a b s is none later = rw (← is) later
-
-module _ {F : Type 0} where
-  in_word : (f : List ℕ → Option F) (ws : List (Bor (List ℕ))) (i : ℕ) (d : Bor (List ℕ)) → i < length ws → first_in f (drop i (words_now ws)) ≡ (f (get_or ws i d).now otherwise first_in f (drop (i + 1) (words_now ws)))
-  in_word f ws i d within =
-      let inside : i < length (words_now ws) = rw length-map within in
-      rw (drop-cons (words_now ws) i d.now inside, get_or-map (λ (w : Bor (List ℕ)). w.now) ws i d d.now within, add-one) refl
-
-  pub in_stops : (f : List ℕ → Option F) (ws : List (Bor (List ℕ))) (i : ℕ) (d : Bor (List ℕ)) (r total : Option F) → i < length ws → first_in f (drop i (words_now ws)) ≡ total → r ≡ f (get_or ws i d).now → is_some r ≡ true → r ≡ total
-  in_stops f ws i d r total within so_far is some = otherwise_some r _ (first_in f (drop (i + 1) (words_now ws))) is some ∙ sym (in_word f ws i d within) ∙ so_far
-
-  pub in_goes : (f : List ℕ → Option F) (ws : List (Bor (List ℕ))) (i : ℕ) (d : Bor (List ℕ)) (r total : Option F) → i < length ws → first_in f (drop i (words_now ws)) ≡ total → r ≡ f (get_or ws i d).now → is_some r ≡ false → first_in f (drop (i + 1) (words_now ws)) ≡ total
-  in_goes f ws i d r total within so_far is none = otherwise_none r (f (get_or ws i d).now) (first_in f (drop (i + 1) (words_now ws))) _ is none refl ∙ sym (in_word f ws i d within) ∙ so_far
-
-  -- the same where the words before count
-  pub at_stops : (f : List (List ℕ) → List ℕ → Option F) (ws : List (Bor (List ℕ))) (i : ℕ) (d : Bor (List ℕ)) (r total : Option F) → i < length ws → first_after f (take i (words_now ws)) (drop i (words_now ws)) ≡ total → r ≡ f (words_now (take i ws)) (get_or ws i d).now → is_some r ≡ true → r ≡ total
-  at_stops f ws i d r total within so_far is some = otherwise_some r _ (first_after f (take i (words_now ws) ++ (get_or ws i d).now ∷ []) (drop (i + 1) (words_now ws))) (is ∙ ap (λ (b : List (List ℕ)). f b (get_or ws i d).now) (map-take ws i)) some ∙ sym (after_word f (take i (words_now ws)) ws i d within) ∙ so_far
-
-  pub at_goes : (f : List (List ℕ) → List ℕ → Option F) (ws : List (Bor (List ℕ))) (i : ℕ) (d : Bor (List ℕ)) (r total : Option F) → i < length ws → first_after f (take i (words_now ws)) (drop i (words_now ws)) ≡ total → r ≡ f (words_now (take i ws)) (get_or ws i d).now → is_some r ≡ false → first_after f (take (i + 1) (words_now ws)) (drop (i + 1) (words_now ws)) ≡ total
-  at_goes f ws i d r total within so_far is none = rw (take_word ws i d within) (otherwise_none r (f (take i (words_now ws)) (get_or ws i d).now) (first_after f (take i (words_now ws) ++ (get_or ws i d).now ∷ []) (drop (i + 1) (words_now ws))) _ (is ∙ ap (λ (b : List (List ℕ)). f b (get_or ws i d).now) (map-take ws i)) none refl ∙ sym (after_word f (take i (words_now ws)) ws i d within) ∙ so_far)

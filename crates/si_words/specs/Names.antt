@@ -31,7 +31,8 @@ pub record AddsUntil (limit : ℕ) (kind : TextKind) (old new words : List (List
   pub next : slice_get words first.count ≡ Some word
   pub fault_is : name_fault limit new word ≡ Some kind
 
--- what stands behind the old names where words were refused: all before the word with the fault, or for want of memory some
+-- what stands behind the old names where words were refused:
+-- all before the word with the fault, or where memory ran out some
 abbrev pub LeavesNames : ℕ → LineFault → List (List ℕ) → List (List ℕ) → List (List ℕ) → Type 0
 LeavesNames limit NoMemory old new words = AddsFirst limit old new words
 LeavesNames limit (Kind kind) old new words = AddsUntil limit kind old new words

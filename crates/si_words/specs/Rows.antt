@@ -59,11 +59,15 @@ pub record TakesNone (fault : TextFault) (old new : Left) (names_old names_new :
   pub names_same : names_new ≡ names_old
   pub shows : (form : Form) (forms : List Form) → Shows fault (fault_of (form ∷ forms) old)
 
--- what stands behind the old names where a list line was refused: nothing where it hasn't the form of a list line
+-- what stands behind the old names where a list line was refused:
+-- nothing where it hasn't the form of a list line
 abbrev pub LeavesLine : ℕ → LineFault → List (List ℕ) → List (List ℕ) → List (List ℕ) → Type 0
-LeavesLine limit fault names_old names_new words = ((fault ≡ Kind BadLine) × (names_new ≡ names_old)) ⊎ LeavesNames limit fault names_old names_new (rest_of words)
+LeavesLine limit fault names_old names_new words =
+    ((fault ≡ Kind BadLine) × (names_new ≡ names_old))
+    ⊎ LeavesNames limit fault names_old names_new (rest_of words)
 
--- one line was taken, with this fault, and the names before the word with the fault went behind the old ones
+-- one line was taken, with this fault,
+-- and the names before the word with the fault went behind the old ones
 pub record TakesFirst (limit : ℕ) (fault : TextFault) (old new : Left) (names_old names_new : List (List ℕ)) : Type 0 where
   pub words : List (List ℕ)
   pub takes : TakesLine old new words
@@ -73,7 +77,9 @@ pub record TakesFirst (limit : ℕ) (fault : TextFault) (old new : Left) (names_
 
 -- a list line was refused
 abbrev pub RefusesNames : ℕ → TextFault → Left → Left → List (List ℕ) → List (List ℕ) → Type 0
-RefusesNames limit fault old new names_old names_new = TakesNone fault old new names_old names_new ⊎ TakesFirst limit fault old new names_old names_new
+RefusesNames limit fault old new names_old names_new =
+    TakesNone fault old new names_old names_new
+    ⊎ TakesFirst limit fault old new names_old names_new
 
 -- one line was taken: it has the form
 pub record TakesForm (form : Form) (old new : Left) : Type 0 where

@@ -60,7 +60,7 @@ fn name_kind(names: &Names, limit: u32, name: &[u8]) -> Option<TextKind>
 /// Puts names last, up to the first fault.
 ///
 /// Fails with that fault: a word that is no signal name, is there already, or is one more than `limit`; and for want of
-/// memory. After a fault just the words before the faulty one are there, and after want of memory some first words
+/// memory. After a fault just the words before the faulty one are there, and where memory ran out some first words
 /// without a fault.
 pub fn add_names(names: &mut Names, limit: u32, words: &[&[u8]]) -> Result<(), LineFault>
     ensures fault { Tells result (first_after (name_fault limit) names.old (words_now words.now)) }

@@ -70,7 +70,7 @@ impl<'a> Rows<'a> {
 
     /// The words of the next line.
     ///
-    /// Fails with the fault of the line, where it has a bad byte or no end, and for want of memory. After a refusal the
+    /// Fails with the fault of the line, where it has a bad byte or no end, and where memory runs out. After a refusal the
     /// lines are as before.
     pub fn next_words(&mut self, alloc: Global) -> Result<Vec<&'a [u8]>, TextFault>
         ensures ok { IfOk result (λ v. TakesLine self.old self.new (words_now v.items)) }
@@ -94,9 +94,7 @@ impl<'a> Rows<'a> {
             });
         }
         let (_, after) = rest.split_at(len + 1);
-        let Ok(words) = words_of(alloc, line) else {
-            return Err(TextFault::NoMemory);
-        };
+        let words = words_of(alloc, line)?;
         self.rest = after;
         self.number = number + 1;
         Ok(words)
@@ -179,9 +177,9 @@ fn take_names(words: &[&[u8]], head: &[u8], limit: u32, names: &mut Names) -> Re
 
 /// A list line, of the head and names: the names go behind those that are there, up to `limit` names.
 ///
-/// Fails with the fault of the line, and for want of memory. After a refusal all is as before, where the line has a bad
-/// byte or no end; or the line is taken, and the names before the faulty one are there, or for want of memory some first
-/// names without a fault.
+/// Fails with the fault of the line, and where memory runs out. After a refusal all is as before, where
+/// the line has a bad byte or no end; or the line is taken, and the names before the faulty one are
+/// there, or where memory ran out some first names without a fault.
 pub fn names_row(
     alloc: Global,
     rows: &mut Rows<'_>,

@@ -1,7 +1,7 @@
 //! Words, lists of names, lines that are read and written, and gate lines, by examples.
 
 use crate::event_words::read_event;
-use crate::gate_lines::{cut_at, gate_kind, is_one, place_in};
+use crate::gate_lines::{cut_at, is_one};
 use crate::lists::{add_names, has, place_of};
 use crate::rows::{Rows, has_empty, is_nothing, names_row};
 use crate::words::{is_literal, is_name_byte, is_signal_name, literal_name};
@@ -29,7 +29,7 @@ fn lines_of_names(rt: HostRuntime) -> Result<(), Fail> {
     assert!(rt; !rows.take_line(b".inputs"));
     names_row(alloc, &mut rows, b".inputs", 2, &mut names)?;
     assert!(rt; has(&names, b"b") && !has(&names, b"c"));
-    assert!(rt; place_of(&names, b"b") == Some(1) && place_in(&names, b"a'") == Some(0));
+    assert!(rt; place_of(&names, b"b") == Some(1));
     let repeated = names_row(alloc, &mut rows, b".outputs", 2, &mut names).err();
     assert!(rt;
         matches!(
@@ -66,16 +66,17 @@ fn lines_of_names(rt: HostRuntime) -> Result<(), Fail> {
     Ok(())
 }
 
+const B_FALLS: Event = Event {
+    sig: Sig(1),
+    up: false,
+};
+
 #[test]
 fn event_words(rt: HostRuntime) -> Result<(), Fail> {
     let mut names = Names::new(rt.alloc())?;
     assert!(rt; add_names(&mut names, 2, &[b"a".as_slice(), b"b".as_slice()]).is_ok());
-    let falls = Event {
-        sig: Sig(1),
-        up: false,
-    };
-    assert_eq!(rt; read_event(&names, b"b-"), Ok(falls));
-    assert_eq!(rt; read_event(&names, b"b-/123456789"), Ok(falls));
+    assert_eq!(rt; read_event(&names, b"b-"), Ok(B_FALLS));
+    assert_eq!(rt; read_event(&names, b"b-/123456789"), Ok(B_FALLS));
     assert_eq!(rt; read_event(&names, b"a+").map(|e| e.up), Ok(true));
     for word in [
         b"b-/".as_slice(),
@@ -93,26 +94,13 @@ fn event_words(rt: HostRuntime) -> Result<(), Fail> {
 }
 
 #[test]
-fn gate_lines(rt: HostRuntime) -> Result<(), Fail> {
-    let mut names = Names::new(rt.alloc())?;
-    let listed = [b"a".as_slice(), b"b".as_slice(), b"c".as_slice()];
-    assert!(rt; add_names(&mut names, 3, &listed).is_ok());
-    let mut rows = Rows::new(b"c gc a b' | a'\nc sum b a\nc sum d\n");
-    let good = rows.next_words(rt.alloc())?;
-    assert!(rt; gate_kind(&names, b"c", &good).is_none());
-    assert!(rt; matches!(gate_kind(&names, b"b", &good), Some(TextKind::BadLine)));
+fn words_around_a_mark(rt: HostRuntime) -> Result<(), Fail> {
+    let mut rows = Rows::new(b"c gc a b' | a'\n");
+    let words = rows.next_words(rt.alloc())?;
     assert!(rt;
-        cut_at(b"|", &good).is_some_and(|(set, reset)| set.len() == 4 && is_one(b"a'", reset))
+        cut_at(b"|", &words).is_some_and(|(set, reset)| set.len() == 4 && is_one(b"a'", reset))
     );
-    let unordered = rows.next_words(rt.alloc())?;
-    assert!(rt; matches!(gate_kind(&names, b"c", &unordered), Some(TextKind::BadLine)));
-    let undeclared = rows.next_words(rt.alloc())?;
-    assert!(rt;
-        matches!(
-            gate_kind(&names, b"c", &undeclared),
-            Some(TextKind::Undeclared)
-        )
-    );
+    assert!(rt; cut_at(b":", &words).is_none());
     Ok(())
 }
 

@@ -1,6 +1,9 @@
 //! `sisyn`: synthesises speed-independent circuits from state graphs.
 #![tactic(auto)]
 
+#[cfg(test)]
+mod tests;
+
 use si_io::host::{HostShelf, HostSink};
 use si_tool::refusals::{Refusal, refuse};
 use si_tool::run::run;

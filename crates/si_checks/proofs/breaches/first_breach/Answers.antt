@@ -1,6 +1,6 @@
 use Rattle.std.proofs.Common.{refl, arith}
-use Rattle.si_checks.proofs.ForkLemmas.{none_more}
-use Rattle.si_checks.proofs.LossLemmas.{pass_state}
+use Rattle.si_base.specs.Proper.{Forks, Loses}
+use Rattle.si_checks.proofs.SearchLemmas.{none_more, pass_state}
 use Rattle.si_checks.proofs.ProperLemmas.{loss_at_end, none_at_end}
 use Rattle.si_checks.proofs.SquareLemmas.{no_fork, no_loss}
 use Rattle.si_checks.proofs.breaches.first_breach.Goals as goal
@@ -10,8 +10,8 @@ loop-k-preserved-then-close_squares c =
     let g = c.args.graph.now in
     let squares = c.if-close_squares.ensures.0 refl in
     record {
-      no_fork = none_more g c.loop-k.k c.loop-k.invariant.no_fork (no_fork g c.loop-k.k squares);
-      loss = pass_state g c.loop-k.k c.loop-k.loss (no_loss g c.loop-k.k squares) c.loop-k.invariant.loss;
+      no_fork = none_more (Forks g) (λ b. b.s) (λ b. b.a) (λ b. b.c) c.loop-k.k c.loop-k.invariant.no_fork (no_fork g c.loop-k.k squares);
+      loss = pass_state (Loses g) (λ b. b.s) (λ b. b.lost) (λ b. b.by) c.loop-k.k c.loop-k.loss (no_loss g c.loop-k.k squares) c.loop-k.invariant.loss;
     }
 
 pub returns-in-Some-loss : goal.returns-in-Some-loss

@@ -1,4 +1,4 @@
-use Rattle.std.proofs.Common.{rules, arith}
+use Rattle.std.proofs.Common.{rules}
 use Rattle.si_checks.proofs.ConflictLemmas.{other_key}
 use Rattle.si_checks.proofs.conflicts.first_of_code.Goals as goal
 

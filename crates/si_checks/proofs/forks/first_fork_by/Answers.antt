@@ -1,7 +1,9 @@
 use Rattle.std.proofs.Common.{refl}
 use Rattle.si_checks.proofs.OutLemmas.{out_item, one_more, none_at_all, later_event}
+use Rattle.si_base.specs.Proper.{Forks}
 use Rattle.si_checks.specs.Searches.{ForksBy}
-use Rattle.si_checks.proofs.ForkLemmas.{by_step, fork_from, ends_from, first_by}
+use Rattle.si_checks.proofs.ForkLemmas.{by_step, fork_from, ends_from}
+use Rattle.si_checks.proofs.SearchLemmas.{first_by}
 use Rattle.si_checks.proofs.forks.first_fork_by.Goals as goal
 
 pub returns-in-Some : goal.returns-in-Some
@@ -11,8 +13,8 @@ returns-in-Some c =
     let y = c.y-item.result in
     let out = c.arcs_out-arcs.ensures in
     let step = out_item g x.from c.arcs_out-arcs.result.now out c.loop-y.y-index y c.loop-y-test.true c.y-item.is in
-    first_by g x.from c.arcs_out-arcs.result.now out x.event _ c.loop-y.y-index y
-    (record { forks = fork_from g x.from x.event y.event x.to y.to _ _ c.requires.arc step (later_event y.event x.event c.if-le.ensures) c.in-Some.ensures; at = refl; by = refl })
+    first_by (Forks g) (λ b. b.s) (λ b. b.a) (λ b. b.c) g x.from c.arcs_out-arcs.result.now out x.event (by_step g x.from x.event) _ c.loop-y.y-index y
+    (record { holds = fork_from g x.from x.event y.event x.to y.to _ _ c.requires.arc step (later_event y.event x.event c.if-le.ensures) c.in-Some.ensures; at = refl; by = refl })
     c.loop-y-test.true c.y-item.is refl c.loop-y.invariant
 
 pub loop-y-preserved : goal.loop-y-preserved

@@ -1,7 +1,9 @@
 use Rattle.si_base.proofs.Steps.{enables-step}
+use Rattle.si_base.specs.Proper.{Loses}
 use Rattle.si_checks.specs.Searches.{LosesAt}
 use Rattle.si_checks.proofs.OutLemmas.{out_item, out_signal, none_at_all}
-use Rattle.si_checks.proofs.LossLemmas.{at_step, first_at}
+use Rattle.si_checks.proofs.LossLemmas.{at_step}
+use Rattle.si_checks.proofs.SearchLemmas.{first_at}
 use Rattle.si_checks.proofs.losses.first_loss_at.Goals as goal
 
 pub is_driven-requires : goal.is_driven-requires
@@ -14,7 +16,8 @@ first_loss_of-requires-clause-enabled c =
 
 pub returns-in-Some : goal.returns-in-Some
 returns-in-Some c =
-    first_at c.args.graph.now c.args.s c.arcs_out-arcs.result.now c.arcs_out-arcs.ensures c.in-Some.loss c.loop-x.x-index c.x-item.result c.loop-x-test.true c.x-item.is c.in-Some.ensures c.loop-x.invariant
+    first_at (Loses c.args.graph.now) (λ b. b.s) (λ b. b.lost) (λ b. b.by) c.args.graph.now c.args.s c.arcs_out-arcs.result.now c.arcs_out-arcs.ensures (at_step c.args.graph.now c.args.s)
+    c.in-Some.loss c.loop-x.x-index c.x-item.result c.loop-x-test.true c.x-item.is c.in-Some.ensures c.loop-x.invariant
 
 pub returns : goal.returns
 returns c =

@@ -13,7 +13,7 @@ returns-in_err-gate-clause-err c =
     failed_at (gate_fault c.args.signals.now) (gate_in c.args.signals.now) _ _ _ _ _ _ _ c.from_residual.result _ _ c.loop-k.invariant c.get.ensures p.1 p.2 c.in_err-gate.ensures.err
 
 pub loop-k-preserved : goal.loop-k-preserved
-loop-k-preserved c = step (gate_fault c.args.signals.now) (gate_in c.args.signals.now) _ _ _ _ _ _ _ _ _ _ c.loop-k.invariant c.get.ensures c.in_ok-gate.ensures.ok (ap (map gate_seen) c.in-Ok.ensures.items ∙ map_push gate_seen _ _)
+loop-k-preserved c = step (gate_fault c.args.signals.now) (gate_in c.args.signals.now) _ _ _ _ _ _ _ _ _ _ c.loop-k.invariant c.get.ensures c.in_ok-gate.ensures.ok (ap (map gate_seen) c.in_ok-push.ensures.items ∙ map_push gate_seen _ _)
 
 pub returns-clause-ok : goal.returns-clause-ok
 returns-clause-ok c =

@@ -36,9 +36,12 @@ returns-in_err-names_row-4-clause-err c =
 
 pub returns-in_err-names_row-4-clause-few : goal.returns-in_err-names_row-4-clause-few
 returns-in_err-names_row-4-clause-few c =
-    let some = c.in_ok-names_row-2.ensures.few (c.in_ok-names_row.ensures.few (rw c.requires.none (omega arith))) in
-    let all = c.in_err-names_row-4.ensures.few (c.in_ok-names_row-3.ensures.few some) in
-    omega (arith, all, c.requires.room)
+    let none : length c.args.names.now ≡ 0 = ap length c.requires.none in
+    let one = c.in_ok-names_row.ensures.few (omega (arith, none)) in
+    let two = c.in_ok-names_row-2.ensures.few one in
+    let three = c.in_ok-names_row-3.ensures.few two in
+    let four = c.in_err-names_row-4.ensures.few three in
+    omega (arith, four, c.requires.room)
 
 pub returns-in_err-start-clause-err : goal.returns-in_err-start-clause-err
 returns-in_err-start-clause-err c =

@@ -11,7 +11,7 @@ returns-in_err-insert-clause-err c =
     failed_at insert_fault insertion_of _ _ _ _ _ _ _ c.from_residual.result _ _ c.loop-k.invariant c.get.ensures p.1 p.2 c.in_err-insert.ensures.err
 
 pub loop-k-preserved : goal.loop-k-preserved
-loop-k-preserved c = step insert_fault insertion_of _ _ _ _ _ _ _ _ _ _ c.loop-k.invariant c.get.ensures c.in_ok-insert.ensures.ok c.in-Ok.ensures.items
+loop-k-preserved c = step insert_fault insertion_of _ _ _ _ _ _ _ _ _ _ c.loop-k.invariant c.get.ensures c.in_ok-insert.ensures.ok c.in_ok-push.ensures.items
 
 pub returns-clause-ok : goal.returns-clause-ok
 returns-clause-ok c =

@@ -5,8 +5,8 @@ use Rattle.si_netlist.proofs.reader.read_netlist.Goals as goal
 
 pub returns-in_err-header : goal.returns-in_err-header
 returns-in_err-header c =
-    let p = err_from_is_err_and c.from_residual.result c.from_residual.ensures.1 in
-    record { gives = failed (λ n. n) c.from_residual.result _ _ _ _ _ p.1 p.2 (begins _ c.args.text.now _ (opens c.args.text.now _ _ _ c.new-rows.ensures c.take_version-limit.ensures.limit c.take_version-limit.ensures.left)) c.in_err-header.ensures.err }
+    let p = err_from_is_err_and c.from_residual-in_err-header.result c.from_residual-in_err-header.ensures.1 in
+    record { gives = failed (λ n. n) c.from_residual-in_err-header.result _ _ _ _ _ p.1 p.2 (begins _ c.args.text.now _ (opens c.args.text.now _ _ _ c.new-rows.ensures c.take_version-limit.ensures.limit c.take_version-limit.ensures.left)) c.in_err-header.ensures.err }
 
 pub returns-in_err-inserts : goal.returns-in_err-inserts
 returns-in_err-inserts c =
@@ -34,7 +34,7 @@ returns-in_err-finish c =
     record { gives = failed (λ n. n) c.from_residual-in_err-finish.result _ _ _ _ _ p.1 p.2 (begins _ c.args.text.now _ (opens c.args.text.now _ _ _ c.new-rows.ensures c.take_version-limit.ensures.limit c.take_version-limit.ensures.left) ∙ to5 _ _ _ _ _ _ _ _ (record { l1 = _; l2 = _; l3 = _; head = c.in_ok-header.ensures.ok; inserted = c.in_ok-inserts.ensures.ok; word = c.in_ok-word_row.ensures.ok; gated = c.in_ok-gates.ensures.ok }) c.in_ok-word_row-2.ensures.ok) c.in_err-finish.ensures.err }
 
 pub make-requires : goal.make-requires
-make-requires c = makes _ c.args.text.now _ _ _ _ _ _ _ _ (opens c.args.text.now _ _ _ c.new-rows.ensures c.take_version-limit.ensures.limit c.take_version-limit.ensures.left) (record { l1 = _; l2 = _; l3 = _; head = c.in_ok-header.ensures.ok; inserted = c.in_ok-inserts.ensures.ok; word = c.in_ok-word_row.ensures.ok; gated = c.in_ok-gates.ensures.ok }) c.in_ok-word_row-2.ensures.ok c.in_ok-finish.ensures.ok c.in-Ok-signals_in.ensures
+make-requires c = makes _ c.args.text.now _ _ _ _ _ _ _ _ (opens c.args.text.now _ _ _ c.new-rows.ensures c.take_version-limit.ensures.limit c.take_version-limit.ensures.left) (record { l1 = _; l2 = _; l3 = _; head = c.in_ok-header.ensures.ok; inserted = c.in_ok-inserts.ensures.ok; word = c.in_ok-word_row.ensures.ok; gated = c.in_ok-gates.ensures.ok }) c.in_ok-word_row-2.ensures.ok c.in_ok-finish.ensures.ok c.in_ok-signals.ensures
 
 pub returns : goal.returns
-returns c = record { gives = (begins _ c.args.text.now _ (opens c.args.text.now _ _ _ c.new-rows.ensures c.take_version-limit.ensures.limit c.take_version-limit.ensures.left) ∙ to5 _ _ _ _ _ _ _ _ (record { l1 = _; l2 = _; l3 = _; head = c.in_ok-header.ensures.ok; inserted = c.in_ok-inserts.ensures.ok; word = c.in_ok-word_row.ensures.ok; gated = c.in_ok-gates.ensures.ok }) c.in_ok-word_row-2.ensures.ok ∙ c.in_ok-finish.ensures.ok, c.make.ensures ∙ parts_are _ c.args.text.now _ _ _ _ _ _ _ (opens c.args.text.now _ _ _ c.new-rows.ensures c.take_version-limit.ensures.limit c.take_version-limit.ensures.left) (record { l1 = _; l2 = _; l3 = _; head = c.in_ok-header.ensures.ok; inserted = c.in_ok-inserts.ensures.ok; word = c.in_ok-word_row.ensures.ok; gated = c.in_ok-gates.ensures.ok }) c.in-Ok-signals_in.ensures) }
+returns c = record { gives = (begins _ c.args.text.now _ (opens c.args.text.now _ _ _ c.new-rows.ensures c.take_version-limit.ensures.limit c.take_version-limit.ensures.left) ∙ to5 _ _ _ _ _ _ _ _ (record { l1 = _; l2 = _; l3 = _; head = c.in_ok-header.ensures.ok; inserted = c.in_ok-inserts.ensures.ok; word = c.in_ok-word_row.ensures.ok; gated = c.in_ok-gates.ensures.ok }) c.in_ok-word_row-2.ensures.ok ∙ c.in_ok-finish.ensures.ok, c.make.ensures ∙ parts_are _ c.args.text.now _ _ _ _ _ _ _ (opens c.args.text.now _ _ _ c.new-rows.ensures c.take_version-limit.ensures.limit c.take_version-limit.ensures.left) (record { l1 = _; l2 = _; l3 = _; head = c.in_ok-header.ensures.ok; inserted = c.in_ok-inserts.ensures.ok; word = c.in_ok-word_row.ensures.ok; gated = c.in_ok-gates.ensures.ok }) c.in_ok-signals.ensures) }

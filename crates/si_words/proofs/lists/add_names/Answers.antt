@@ -28,7 +28,7 @@ returns-in_err-push-clause-left c =
     let at = exit.1 in
     let gives = exit.2 in
     let wants : exit.0 ≡ NoMemory = (let want = c.in_err-push.ensures.err in cc) in
-    some_left c.args.limit c.from_residual.result exit.0 _ _ _ at wants (record {
+    some_left c.from_residual.result c.args.limit exit.0 _ _ _ at wants (record {
       count = c.loop-word.word-index;
       names_are = c.in_err-push.ensures.kept ∙ c.loop-word.invariant.value;
       good = c.loop-word.invariant.good;

@@ -7,6 +7,6 @@ use Rattle.si_graph.proofs.arc_store.ArcStore.head_out.Goals as goal
 pub returns : goal.returns
 returns c =
     let edges = c.self.inside.edges.items in
-    let stored = c.self.invariant in
-    let head = head_is source c.self.inside.states edges _ _ c.args.s _ stored.1 stored.3 (λ k d within. (stored.0.within k d within).0) in
+    let chained = c.self.invariant in
+    let head = head_is source c.self.inside.states edges _ _ c.args.s _ chained.out_linked chained.out_end (λ k d within. (chained.stored.within k d within).0) in
     rw (← c.self.view_is) (place_of (IsOutOf edges c.args.s) 0 (length edges) _ c.at.result (rw c.head.ensures head) (rw (← c.self.view_is) at c.at.ensures))

@@ -1,0 +1,2 @@
+mod CElement
+mod Toggle

@@ -1,0 +1,571 @@
+//! The top call on worked examples, and where the outside fails.
+
+ghost use Rattle.std.specs.Prelude.{◌≡◌, ◌<◌, All, IfOk, length};
+ghost use Rattle.si_io.specs.Memory.{AreDistinct};
+
+use si_base::ids::{Code, Event, NoMemory};
+use si_base::text::{Name, Text};
+use si_graph::coded::Coded;
+use si_io::memory::{MemFile, MemShelf, MemSink, SinkFail, SureShelf, SureSink};
+use si_netlist::netlist::Netlist;
+use si_netlist::reader::read_netlist;
+use si_strict::read::read_strict;
+use si_system::schedule::read_schedule;
+use si_system::system::System;
+use si_system::verdict::Verdict;
+use si_tool::run::run;
+use si_tool::status::Status;
+use si_tool::sure::run_in_memory;
+use std::alloc::{AllocError, Global};
+use std::process::Abort;
+use std::test::Fail;
+
+const C_ELEMENT: &[u8] = b".model c2
+.inputs a b
+.outputs c
+.state graph
+s0 a+ s1
+s0 b+ s2
+s1 b+ s3
+s2 a+ s3
+s3 c+ s4
+s4 a- s5
+s4 b- s6
+s5 b- s7
+s6 a- s7
+s7 c- s0
+.marking {s0}
+.end
+";
+
+/// Its netlist in version 1 of the text, which is read.
+const C_ELEMENT_NETLIST: &[u8] = b".model c2
+.inputs a b
+.outputs c
+.internal
+.inserted
+.start 000
+.gates
+c sum a b c' + a b c + a' b c + a b' c
+.end
+";
+
+/// The states `s0` and `s2` have one code, and enable no output.
+const EQUAL_CODES: &[u8] = b".model pulses
+.inputs a b
+.outputs c
+.state graph
+s0 a+ s1
+s1 a- s2
+s2 b+ s3
+s3 c+ s4
+s4 b- s5
+s5 c- s0
+.marking {s0}
+.end
+";
+
+const EQUAL_CODES_NETLIST: &[u8] = b".model pulses
+.inputs a b
+.outputs c
+.internal
+.inserted
+.start 000
+.gates
+c sum a' b c' + a' b c
+.end
+";
+
+/// A graph without a signal that the circuit drives.
+const INPUTS_ALONE: &[u8] = b".model watched
+.inputs a b
+.state graph
+s0 a+ s1
+s1 b+ s2
+s2 b- s1
+.marking {s0}
+.end
+";
+
+const INPUTS_ALONE_NETLIST: &[u8] = b".model watched
+.inputs a b
+.outputs
+.internal
+.inserted
+.start 00
+.gates
+.end
+";
+
+/// The states `s0` and `s2` have one code, and `s2` alone enables `z+`.
+const CONFLICT: &[u8] = b".model conflict
+.inputs a
+.outputs z
+.state graph
+s0 a+ s1
+s1 a- s2
+s2 z+ s3
+s3 a+ s4
+s4 a- s5
+s5 z- s0
+.marking {s0}
+.end
+";
+
+/// The state `s0` leads by `a+` to two states.
+const SPLIT: &[u8] = b".model split
+.inputs a
+.outputs z
+.state graph
+s0 a+ s1
+s0 a+ s2
+s1 z+ s3
+s2 z+ s3
+.marking {s0}
+.end
+";
+
+/// The signal `a` rises twice.
+const RISES_TWICE: &[u8] = b".model twice
+.inputs a
+.state graph
+s0 a+ s1
+s1 a+ s2
+.marking {s0}
+.end
+";
+
+/// The two orders of `a+` and `b+` end in different states.
+const FORK: &[u8] = b".model fork
+.inputs a b
+.state graph
+s0 a+ s1
+s0 b+ s2
+s1 b+ s3
+s2 a+ s4
+.marking {s0}
+.end
+";
+
+/// The input disables the output.
+const DISABLED_OUTPUT: &[u8] = b".model disabled
+.inputs a
+.outputs z
+.state graph
+s0 a+ s1
+s0 z+ s2
+.marking {s0}
+.end
+";
+
+/// The read cycle of a VME bus controller.
+const VME: &[u8] = b".model vme
+.inputs DSr LDTACK
+.outputs D DTACK LDS
+.state graph
+s0 DSr+ s1
+s1 LDS+ s2
+s2 LDTACK+ s3
+s3 D+ s4
+s4 DTACK+ s5
+s5 DSr- s6
+s6 D- s7
+s7 DTACK- s8
+s7 LDS- s9
+s8 DSr+ s10
+s8 LDS- s11
+s9 DTACK- s11
+s9 LDTACK- s12
+s11 DSr+ s13
+s11 LDTACK- s0
+s12 DTACK- s0
+s10 LDS- s13
+s13 LDTACK- s1
+.marking {s0}
+.end
+";
+
+/// Its netlist with one inserted signal.
+const VME_NETLIST: &[u8] = b".model vme
+.inputs DSr LDTACK
+.outputs D DTACK LDS
+.internal
+.inserted csc0
+.start 000001
+.insert csc0 up s6 down s1
+.gates
+D sum LDTACK csc0'
+DTACK sum D
+LDS sum csc0' + D
+csc0 sum DSr' + LDTACK csc0
+.end
+";
+
+const VME_CYCLE: &[u8] = b"DSr+ csc0- LDS+ LDTACK+ D+ DTACK+ DSr- csc0+ D-";
+
+/// A gate with fewer literals than the sum of full cubes.
+const MAJORITY: &[u8] = b"c sum a b + b c + a c";
+
+/// The texts of a command's files.
+#[derive(Clone, Copy)]
+struct Texts<'t> {
+    graph: &'t [u8],
+    netlist: &'t [u8],
+    schedule: &'t [u8],
+}
+
+fn only(graph: &[u8]) -> Texts<'_> {
+    Texts {
+        graph,
+        netlist: b"",
+        schedule: b"",
+    }
+}
+
+fn words(alloc: Global, words: &[&str]) -> Result<Vec<String>, AllocError> {
+    let mut list = Vec::new(alloc);
+    for word in words {
+        list.push(String::from_str(alloc, word)?)?;
+    }
+    Ok(list)
+}
+
+fn file(alloc: Global, name: &[u8], text: &[u8]) -> Result<MemFile, NoMemory>
+    ensures { IfOk result (λ file. file.name ≡ name.now) }
+{
+    let name = Name::copy_of(alloc, name)?;
+    let content = Text::copy_of(alloc, text)?;
+    Ok(MemFile { name, content })
+}
+
+fn files(alloc: Global, texts: Texts<'_>) -> Result<Vec<MemFile>, NoMemory>
+    ensures { IfOk result (λ files. AreDistinct files.items) }
+{
+    let graph = file(alloc, b"graph.sg", texts.graph)?;
+    let netlist = file(alloc, b"c.net", texts.netlist)?;
+    let schedule = file(alloc, b"steps", texts.schedule)?;
+    Ok(vec![in alloc; graph, netlist, schedule]?)
+}
+
+/// The netlist of the C-element with other inputs and another gate.
+fn netlist_with(alloc: Global, inputs: &[u8], gate: &[u8]) -> Result<Text, NoMemory> {
+    let mut text = Text::copy_of(alloc, b".model c2\n.inputs ")?;
+    text.add(inputs)?;
+    text.add(b"\n.outputs c\n.internal\n.inserted\n.start 000\n.gates\n")?;
+    text.add(gate)?;
+    text.add(b"\n.end\n")?;
+    Ok(text)
+}
+
+/// The first line of a netlist that is written.
+const VERSION: &[u8] = b".version 2\n";
+
+const SYNTH: [&str; 3] = ["synth", "graph.sg", "complex"];
+
+const REPLAY: [&str; 4] = ["replay", "graph.sg", "c.net", "steps"];
+
+/// Runs over files that are told, and compares the status and all that was put.
+fn expect(
+    rt: &impl Abort,
+    alloc: Global,
+    command: &[&str],
+    texts: Texts<'_>,
+    want: (Status, &[u8], &[u8]),
+) -> Result<(), Fail> {
+    let mut shelf = SureShelf::new(files(alloc, texts)?);
+    let mut out = SureSink::new(alloc);
+    let mut err = SureSink::new(alloc);
+    let status = run_in_memory(
+        alloc,
+        &words(alloc, command)?,
+        &mut shelf,
+        &mut out,
+        &mut err,
+    );
+    assert_eq!(rt; status, want.0);
+    assert_eq!(rt; out.bytes(), want.1);
+    assert_eq!(rt; err.bytes(), want.2);
+    Ok(())
+}
+
+#[test]
+fn netlists_of_full_cubes(rt: HostRuntime) -> Result<(), Fail> {
+    let alloc = rt.alloc();
+    let rows: [(&[u8], &[u8]); 3] = [
+        (C_ELEMENT, C_ELEMENT_NETLIST),
+        (EQUAL_CODES, EQUAL_CODES_NETLIST),
+        (INPUTS_ALONE, INPUTS_ALONE_NETLIST),
+    ];
+    for (graph, netlist) in rows {
+        let mut written = Text::copy_of(alloc, VERSION)?;
+        written.add(netlist)?;
+        let want = (Status::Done, written.bytes(), b"".as_slice());
+        expect(&rt, alloc, &SYNTH, only(graph), want)?;
+    }
+    Ok(())
+}
+
+/// Handshakes one after another: state `p` of each round leads by `a+` to `q`, then by `z+` to `r`, by `a-` to `t` and
+/// by `z-` to `p` of the next round, and the last round leads back to the first.
+fn handshakes(alloc: Global, rounds: u32) -> Result<Text, Fail> {
+    let mut text = Text::copy_of(
+        alloc,
+        b".model rounds\n.inputs a\n.outputs z\n.state graph\n",
+    )?;
+    for round in 0..rounds {
+        let here = round.to_string(alloc)?;
+        let next = ((round + 1) % rounds).to_string(alloc)?;
+        add_arc(&mut text, (b"p", &here), b" a+ ", (b"q", &here))?;
+        add_arc(&mut text, (b"q", &here), b" z+ ", (b"r", &here))?;
+        add_arc(&mut text, (b"r", &here), b" a- ", (b"t", &here))?;
+        add_arc(&mut text, (b"t", &here), b" z- ", (b"p", &next))?;
+    }
+    text.add(b".marking {p0}\n.end\n")?;
+    Ok(text)
+}
+
+/// Adds the line of an arc between two states, each with a letter and its round.
+fn add_arc(
+    text: &mut Text,
+    from: (&[u8], &String),
+    event: &[u8],
+    to: (&[u8], &String),
+) -> Result<(), NoMemory> {
+    text.add(from.0)?;
+    text.add(from.1.as_bytes())?;
+    text.add(event)?;
+    text.add(to.0)?;
+    text.add(to.1.as_bytes())?;
+    text.add(b"\n")
+}
+
+#[test]
+fn a_text_of_over_100_000_bytes(rt: HostRuntime) -> Result<(), Fail> {
+    let alloc = rt.alloc();
+    let text = handshakes(alloc, 2000)?;
+    assert!(rt; text.bytes().len() > 100_000);
+    let netlist: &[u8] = b".version 2
+.model rounds
+.inputs a
+.outputs z
+.internal
+.inserted
+.start 00
+.gates
+z sum a z' + a z
+.end
+";
+    let want = (Status::Done, netlist, b"".as_slice());
+    expect(&rt, alloc, &SYNTH, only(text.bytes()), want)
+}
+
+#[test]
+fn refusals(rt: HostRuntime) -> Result<(), Fail> {
+    let alloc = rt.alloc();
+    let rows: [(&[u8], Status, &[u8]); 6] = [
+        (CONFLICT, Status::Unresolved, b"unresolved\n"),
+        (SPLIT, Status::Improper, b"improper\n"),
+        (RISES_TWICE, Status::Improper, b"improper\n"),
+        (FORK, Status::Improper, b"improper\n"),
+        (DISABLED_OUTPUT, Status::Improper, b"improper\n"),
+        (b"", Status::BadText, b"badtext graph.sg 0 BadLine\n"),
+    ];
+    for (graph, status, line) in rows {
+        expect(&rt, alloc, &SYNTH, only(graph), (status, b"", line))?;
+    }
+    let usage: (Status, &[u8], &[u8]) = (Status::Usage, b"", b"usage\n");
+    expect(
+        &rt,
+        alloc,
+        &["synth", "graph.sg", "gc"],
+        only(C_ELEMENT),
+        usage,
+    )?;
+    expect(
+        &rt,
+        alloc,
+        &["replay", "graph.sg", "c.net"],
+        only(C_ELEMENT),
+        usage,
+    )
+}
+
+#[test]
+fn ends_of_replays(rt: HostRuntime) -> Result<(), Fail> {
+    let alloc = rt.alloc();
+    let cycle = Texts {
+        graph: VME,
+        netlist: VME_NETLIST,
+        schedule: VME_CYCLE,
+    };
+    let end = b"done 9\nvalues 010111\nstate s7\n".as_slice();
+    expect(&rt, alloc, &REPLAY, cycle, (Status::Done, end, b""))?;
+    let majority = netlist_with(alloc, b"a b", MAJORITY)?;
+    let none = Texts {
+        graph: C_ELEMENT,
+        netlist: majority.bytes(),
+        schedule: b"",
+    };
+    let start = b"done 0\nvalues 000\nstate s0\n".as_slice();
+    expect(&rt, alloc, &REPLAY, none, (Status::Done, start, b""))?;
+    let inputs = Texts {
+        graph: INPUTS_ALONE,
+        netlist: INPUTS_ALONE_NETLIST,
+        schedule: b"a+ b+ # both are up\n\nb-/2",
+    };
+    let after = b"done 3\nvalues 10\nstate s1\n".as_slice();
+    expect(&rt, alloc, &REPLAY, inputs, (Status::Done, after, b""))
+}
+
+#[test]
+fn replays_that_differ(rt: HostRuntime) -> Result<(), Fail> {
+    let alloc = rt.alloc();
+    let rows: [(&[u8], &[u8], &[u8]); 3] = [
+        (b"c sum a", b"a+ c+", b"differs 2 c astray\n"),
+        (b"c sum a b'", b"a+ b+", b"differs 2 c lost\n"),
+        (MAJORITY, b"a+ c+", b"differs 2 c blocked\n"),
+    ];
+    for (gate, schedule, line) in rows {
+        let netlist = netlist_with(alloc, b"a b", gate)?;
+        let texts = Texts {
+            graph: C_ELEMENT,
+            netlist: netlist.bytes(),
+            schedule,
+        };
+        expect(&rt, alloc, &REPLAY, texts, (Status::Differs, b"", line))?;
+    }
+    Ok(())
+}
+
+/// Replays, and expects the status and the line of a refusal.
+fn expect_line(
+    rt: &impl Abort,
+    alloc: Global,
+    texts: Texts<'_>,
+    status: Status,
+    line: &[u8],
+) -> Result<(), Fail> {
+    expect(rt, alloc, &REPLAY, texts, (status, b"", line))
+}
+
+#[test]
+fn faults_of_the_texts_of_a_replay(rt: HostRuntime) -> Result<(), Fail> {
+    let alloc = rt.alloc();
+    let rows: [(&[u8], &[u8], &[u8]); 4] = [
+        (b"", b"", b"badtext graph.sg 0 BadLine\n"),
+        (C_ELEMENT, b"", b"badtext c.net 1 NoEnd\n"),
+        (
+            C_ELEMENT,
+            b".model c2\n.inputs a b a\n",
+            b"badtext c.net 2 Repeated\n",
+        ),
+        (
+            DISABLED_OUTPUT,
+            C_ELEMENT_NETLIST,
+            b"badtext steps 1 BadEvent\n",
+        ),
+    ];
+    for (graph, netlist, line) in rows {
+        let texts = Texts {
+            graph,
+            netlist,
+            schedule: b"a*",
+        };
+        expect_line(&rt, alloc, texts, Status::BadText, line)?;
+    }
+    let improper = Texts {
+        graph: DISABLED_OUTPUT,
+        netlist: C_ELEMENT_NETLIST,
+        schedule: b"",
+    };
+    expect_line(&rt, alloc, improper, Status::Improper, b"improper\n")
+}
+
+#[test]
+fn faults_of_schedules(rt: HostRuntime) -> Result<(), Fail> {
+    let alloc = rt.alloc();
+    let rows: [(&[u8], &[u8]); 5] = [
+        (b"a*", b"badtext steps 1 BadEvent\n"),
+        (b"a~", b"badtext steps 1 Toggle\n"),
+        (b"d+", b"badtext steps 1 Undeclared\n"),
+        (b"\0", b"badtext steps 1 BadByte\n"),
+        (b"a+\n\n \0", b"badtext steps 3 BadByte\n"),
+    ];
+    for (schedule, line) in rows {
+        let texts = Texts {
+            graph: C_ELEMENT,
+            netlist: C_ELEMENT_NETLIST,
+            schedule,
+        };
+        expect_line(&rt, alloc, texts, Status::BadText, line)?;
+    }
+    let exchanged = netlist_with(alloc, b"b a", b"c sum b a + b c + a c")?;
+    let texts = Texts {
+        graph: C_ELEMENT,
+        netlist: exchanged.bytes(),
+        schedule: b"a+",
+    };
+    expect_line(&rt, alloc, texts, Status::BadText, b"lists c.net 1\n")
+}
+
+/// What comes of the first event where the system starts, and the values after it.
+fn fired_at_start(graph: &Coded, netlist: &Netlist, events: &Vec<Event>) -> Option<(Verdict, Code)>
+    requires { All (λ e. e.sig < length netlist.now.signals) events.now.items }
+{
+    let Ok(mut system) = System::start(graph, netlist) else {
+        return None;
+    };
+    let event = events.first()?;
+    let verdict = system.fire(*event);
+    Some((verdict, system.values()))
+}
+
+#[test]
+fn an_event_that_is_no_step_changes_nothing(rt: HostRuntime) -> Result<(), Fail> {
+    let alloc = rt.alloc();
+    let given = read_strict(alloc, C_ELEMENT)?;
+    let graph = Coded::make(alloc, given.graph).ok().ok_or("no codes")?;
+    let netlist = read_netlist(alloc, C_ELEMENT_NETLIST)?;
+    let events = read_schedule(alloc, b"c+", &netlist)?;
+    let blocked = (Verdict::Blocked, Code(0));
+    assert_eq!(rt; fired_at_start(&graph, &netlist, &events), Some(blocked));
+    Ok(())
+}
+
+#[test]
+fn faults_of_the_outside(rt: HostRuntime) -> Result<(), Fail> {
+    let alloc = rt.alloc();
+    let synth = words(alloc, &SYNTH)?;
+    let replay = words(alloc, &REPLAY)?;
+    let mut err = SureSink::new(alloc);
+
+    let fails = vec![in alloc; 0, 4]?;
+    let mut shelf = MemShelf::new(files(alloc, only(C_ELEMENT))?, fails);
+    let mut out = MemSink::new(alloc, vec![in alloc; SinkFail { call: 0, taken: 10 }]?);
+    assert_eq!(rt;
+        run(alloc, &synth, &mut shelf, &mut out, &mut err),
+        Status::ReadFault
+    );
+    assert_eq!(rt; out.bytes().len(), 0);
+    assert_eq!(rt;
+        run(alloc, &synth, &mut shelf, &mut out, &mut err),
+        Status::WriteFault
+    );
+    assert_eq!(rt; out.bytes(), b".version 2".as_slice());
+    assert_eq!(rt;
+        run(alloc, &replay, &mut shelf, &mut out, &mut err),
+        Status::ReadFault
+    );
+    assert_eq!(rt;
+        err.bytes(),
+        b"readfault graph.sg\nwritefault\nreadfault steps\n".as_slice()
+    );
+    Ok(())
+}
+
+#[test]
+fn exit_statuses(rt: HostRuntime) {
+    assert_eq!(rt; Status::Done.code(), 0);
+    assert_eq!(rt; Status::Usage.code(), 2);
+    assert_eq!(rt; Status::Differs.code(), 10);
+}
