@@ -85,13 +85,26 @@ module _ (limit : ℕ) where
   abbrev pub from1 : List (List ℕ) → List (List ℕ) → List (List ℕ) → List (List ℕ) → List Form
   from1 i o n s = names_fault limit (codes ".inputs") [] ∷ from2 i o n s
 
+  -- the line of a list was read: its names follow those before
+  abbrev AddsInputs : Left → Left → L → L → Type 0
+  AddsInputs old new before after = AddsNames (names_fault limit (codes ".inputs") before) old new before after
+
+  abbrev AddsOutputs : Left → Left → L → L → Type 0
+  AddsOutputs old new before after = AddsNames (names_fault limit (codes ".outputs") before) old new before after
+
+  abbrev AddsInternals : Left → Left → L → L → Type 0
+  AddsInternals old new before after = AddsNames (names_fault limit (codes ".internal") before) old new before after
+
+  abbrev AddsInserted : Left → Left → L → L → Type 0
+  AddsInserted old new before after = AddsNames (names_fault limit (codes ".inserted") before) old new before after
+
   pub h1 : (l0 l1 : Left) → TakesForm model_fault l0 l1 → fault_of (due_in limit l0.lines) l0
       ≡ fault_of (from1 (names_at 0 l1.lines) (names_at 1 l1.lines) (names_at 2 l1.lines) (names_at 3 l1.lines)) l1
   h1 l0 l1 m = row_step model_fault (from1 (names_at 1 l0.lines) (names_at 2 l0.lines)
       (names_at 3 l0.lines) (names_at 4 l0.lines)) l0 l1 m.words m.takes m.good ∙ ap
       (λ (ls : L). fault_of (from1 (names_at 1 ls) (names_at 2 ls) (names_at 3 ls) (names_at 4 ls)) l1) m.takes.lines
 
-  pub h2 : (l1 l2 : Left) (n1 : List (List ℕ)) → AddsNames (names_fault limit (codes ".inputs") []) l1 l2 [] n1
+  pub h2 : (l1 l2 : Left) (n1 : List (List ℕ)) → AddsInputs l1 l2 [] n1
       → fault_of (from1 (names_at 0 l1.lines) (names_at 1 l1.lines) (names_at 2 l1.lines) (names_at 3 l1.lines)) l1
       ≡ fault_of (from2 n1 (names_at 0 l2.lines) (names_at 1 l2.lines) (names_at 2 l2.lines)) l2
   h2 l1 l2 n1 t = names_step (names_fault limit (codes ".inputs") []) (from2 (names_at 0 l1.lines) (names_at 1 l1.lines)
@@ -102,7 +115,7 @@ module _ (limit : ℕ) where
           → fault_of (from2 a b c d) l2 ≡ fault_of (from2 e f g h) l2
       same p q r s = cong4 (λ (x y z u : L). fault_of (from2 x y z u) l2) p q r s
 
-  pub h3 : (l2 l3 : Left) (n1 n2 : List (List ℕ)) (t : AddsNames (names_fault limit (codes ".outputs") n1) l2 l3 n1 n2)
+  pub h3 : (l2 l3 : Left) (n1 n2 : List (List ℕ)) (t : AddsOutputs l2 l3 n1 n2)
       → fault_of (from2 n1 (names_at 0 l2.lines) (names_at 1 l2.lines) (names_at 2 l2.lines)) l2
       ≡ fault_of (from3 n1 t.added (names_at 0 l3.lines) (names_at 1 l3.lines)) l3
   h3 l2 l3 n1 n2 t = names_step (names_fault limit (codes ".outputs") n1)
@@ -113,8 +126,7 @@ module _ (limit : ℕ) where
           → fault_of (from3 n1 b c d) l3 ≡ fault_of (from3 n1 f g h) l3
       same q r s = cong4 (λ (x y z u : L). fault_of (from3 n1 y z u) l3) (nothing n1) q r s
 
-  pub h4 : (l3 l4 : Left) (i o n2 n3 : List (List ℕ)) → n2 ≡ i ++ o
-      → (t : AddsNames (names_fault limit (codes ".internal") n2) l3 l4 n2 n3)
+  pub h4 : (l3 l4 : Left) (i o n2 n3 : List (List ℕ)) → n2 ≡ i ++ o → (t : AddsInternals l3 l4 n2 n3)
       → fault_of (from3 i o (names_at 0 l3.lines) (names_at 1 l3.lines)) l3
       ≡ fault_of (from4 i o t.added (names_at 0 l4.lines)) l4
   h4 l3 l4 i o n2 n3 e t = head e ∙ names_step (names_fault limit (codes ".internal") n2)
@@ -129,8 +141,7 @@ module _ (limit : ℕ) where
       same : {c d g h : List (List ℕ)} → c ≡ g → d ≡ h → fault_of (from4 i o c d) l4 ≡ fault_of (from4 i o g h) l4
       same r s = cong4 (λ (x y z u : L). fault_of (from4 i o z u) l4) (nothing i) (nothing o) r s
 
-  pub h5 : (l4 l5 : Left) (i o n n3 n4 : List (List ℕ)) → n3 ≡ i ++ o ++ n
-      → (t : AddsNames (names_fault limit (codes ".inserted") n3) l4 l5 n3 n4)
+  pub h5 : (l4 l5 : Left) (i o n n3 n4 : List (List ℕ)) → n3 ≡ i ++ o ++ n → (t : AddsInserted l4 l5 n3 n4)
       → fault_of (from4 i o n (names_at 0 l4.lines)) l4 ≡ fault_of (from5 i o n t.added) l5
   h5 l4 l5 i o n n3 n4 e t =
       head e ∙ names_step (names_fault limit (codes ".inserted") n3) (from5 i o n (names_at 0 l4.lines)) l4 l5 n3 n4 t
@@ -159,12 +170,10 @@ module _ (limit : ℕ) where
         ∷ from2 (names_at 0 l1.lines) (names_at 1 l1.lines) (names_at 2 l1.lines) (names_at 3 l1.lines)) l1) (sym e),
   )
 
-  begun : (l1 l2 : Left) (n0 n1 : L) → n0 ≡ [] → AddsNames (names_fault limit (codes ".inputs") n0) l1 l2 n0 n1
-      → AddsNames (names_fault limit (codes ".inputs") []) l1 l2 [] n1
-  begun l1 l2 n0 n1 e t = subst (λ (x : L). AddsNames (names_fault limit (codes ".inputs") x) l1 l2 x n1) e t
+  begun : (l1 l2 : Left) (n0 n1 : L) → n0 ≡ [] → AddsInputs l1 l2 n0 n1 → AddsInputs l1 l2 [] n1
+  begun l1 l2 n0 n1 e t = subst (λ (x : L). AddsInputs l1 l2 x n1) e t
 
-  pub at3 : (l0 l1 l2 : Left) (n0 n1 : L) → n0 ≡ [] → TakesForm model_fault l0 l1
-      → AddsNames (names_fault limit (codes ".inputs") n0) l1 l2 n0 n1
+  pub at3 : (l0 l1 l2 : Left) (n0 n1 : L) → n0 ≡ [] → TakesForm model_fault l0 l1 → AddsInputs l1 l2 n0 n1
       → Goes l0 (names_fault limit (codes ".outputs") n1) l2
   at3 l0 l1 l2 n0 n1 e m t1 = (
     from3 n1 (names_at 0 l2.lines) (names_at 1 l2.lines) (names_at 2 l2.lines),
@@ -174,8 +183,8 @@ module _ (limit : ℕ) where
   pub record Three (l0 l1 l2 l3 : Left) (n0 n1 n2 : L) : Type 0 where
     pub none : n0 ≡ []
     pub m : TakesForm model_fault l0 l1
-    pub t1 : AddsNames (names_fault limit (codes ".inputs") n0) l1 l2 n0 n1
-    pub t2 : AddsNames (names_fault limit (codes ".outputs") n1) l2 l3 n1 n2
+    pub t1 : AddsInputs l1 l2 n0 n1
+    pub t2 : AddsOutputs l2 l3 n1 n2
 
   three : (l0 l1 l2 l3 : Left) (n0 n1 n2 : L) (a : Three l0 l1 l2 l3 n0 n1 n2)
       → total l0 ≡ fault_of (from3 n1 a.t2.added (names_at 0 l3.lines) (names_at 1 l3.lines)) l3
@@ -189,16 +198,15 @@ module _ (limit : ℕ) where
         ∷ from4 n1 a.t2.added (names_at 0 l3.lines) (names_at 1 l3.lines)) l3) (sym a.t2.names_are),
   )
 
-  four : (l0 l1 l2 l3 l4 : Left) (n0 n1 n2 n3 : L) (a : Three l0 l1 l2 l3 n0 n1 n2)
-      (t3 : AddsNames (names_fault limit (codes ".internal") n2) l3 l4 n2 n3) → (total l0
-      ≡ fault_of (from4 n1 a.t2.added t3.added (names_at 0 l4.lines)) l4) × (n3 ≡ n1 ++ a.t2.added ++ t3.added)
+  four : (l0 l1 l2 l3 l4 : Left) (n0 n1 n2 n3 : L) (a : Three l0 l1 l2 l3 n0 n1 n2) (t3 : AddsInternals l3 l4 n2 n3)
+      → (total l0 ≡ fault_of (from4 n1 a.t2.added t3.added (names_at 0 l4.lines)) l4)
+      × (n3 ≡ n1 ++ a.t2.added ++ t3.added)
   four l0 l1 l2 l3 l4 n0 n1 n2 n3 a t3 = (
     three l0 l1 l2 l3 n0 n1 n2 a ∙ h4 l3 l4 n1 a.t2.added n2 n3 a.t2.names_are t3,
     t3.names_are ∙ ap (λ (x : L). x ++ t3.added) a.t2.names_are,
   )
 
-  pub at5 : (l0 l1 l2 l3 l4 : Left) (n0 n1 n2 n3 : L) → Three l0 l1 l2 l3 n0 n1 n2
-      → AddsNames (names_fault limit (codes ".internal") n2) l3 l4 n2 n3
+  pub at5 : (l0 l1 l2 l3 l4 : Left) (n0 n1 n2 n3 : L) → Three l0 l1 l2 l3 n0 n1 n2 → AddsInternals l3 l4 n2 n3
       → Goes l0 (names_fault limit (codes ".inserted") n3) l4
   at5 l0 l1 l2 l3 l4 n0 n1 n2 n3 a t3 =
       let p = four l0 l1 l2 l3 l4 n0 n1 n2 n3 a t3 in (
@@ -209,17 +217,15 @@ module _ (limit : ℕ) where
       )
 
   five : (l0 l1 l2 l3 l4 l5 : Left) (n0 n1 n2 n3 n4 : L) (a : Three l0 l1 l2 l3 n0 n1 n2)
-      (t3 : AddsNames (names_fault limit (codes ".internal") n2) l3 l4 n2 n3)
-      (t4 : AddsNames (names_fault limit (codes ".inserted") n3) l4 l5 n3 n4)
+      (t3 : AddsInternals l3 l4 n2 n3) (t4 : AddsInserted l4 l5 n3 n4)
       → (total l0 ≡ fault_of (from5 n1 a.t2.added t3.added t4.added) l5)
       × (n4 ≡ n1 ++ a.t2.added ++ t3.added ++ t4.added)
   five l0 l1 l2 l3 l4 l5 n0 n1 n2 n3 n4 a t3 t4 =
       let p = four l0 l1 l2 l3 l4 n0 n1 n2 n3 a t3 in
       (p.0 ∙ h5 l4 l5 n1 a.t2.added t3.added n3 n4 p.1 t4, t4.names_are ∙ ap (λ (x : L). x ++ t4.added) p.1)
 
-  pub at6 : (l0 l1 l2 l3 l4 l5 : Left) (n0 n1 n2 n3 n4 : L) (k : ℕ) → k ≡ length n4
-      → Three l0 l1 l2 l3 n0 n1 n2 → AddsNames (names_fault limit (codes ".internal") n2) l3 l4 n2 n3
-      → AddsNames (names_fault limit (codes ".inserted") n3) l4 l5 n3 n4 → Goes l0 (start_fault k) l5
+  pub at6 : (l0 l1 l2 l3 l4 l5 : Left) (n0 n1 n2 n3 n4 : L) (k : ℕ) → k ≡ length n4 → Three l0 l1 l2 l3 n0 n1 n2
+      → AddsInternals l3 l4 n2 n3 → AddsInserted l4 l5 n3 n4 → Goes l0 (start_fault k) l5
   at6 l0 l1 l2 l3 l4 l5 n0 n1 n2 n3 n4 k e a t3 t4 =
       let p = five l0 l1 l2 l3 l4 l5 n0 n1 n2 n3 n4 a t3 t4 in (
         due_after n1 a.t2.added t3.added t4.added,
@@ -228,13 +234,10 @@ module _ (limit : ℕ) where
       )
 
   pub whole : (l0 l1 l2 l3 l4 l5 l6 : Left) (n0 n1 n2 n3 n4 : L) (k : ℕ) (header : Header)
-      → header.inputs ≡ length n1 → header.outputs ≡ length n2 → header.internals ≡ length n3
-      → k ≡ length n4 → n0 ≡ [] → TakesValue model_fault model_of l0 l1 header.model
-      → AddsNames (names_fault limit (codes ".inputs") n0) l1 l2 n0 n1
-      → AddsNames (names_fault limit (codes ".outputs") n1) l2 l3 n1 n2
-      → AddsNames (names_fault limit (codes ".internal") n2) l3 l4 n2 n3
-      → AddsNames (names_fault limit (codes ".inserted") n3) l4 l5 n3 n4
-      → TakesValue (start_fault k) start_of l5 l6 header.start → ReadsHeader limit l0 l6 n4 header
+      → header.inputs ≡ length n1 → header.outputs ≡ length n2 → header.internals ≡ length n3 → k ≡ length n4
+      → n0 ≡ [] → TakesValue model_fault model_of l0 l1 header.model → AddsInputs l1 l2 n0 n1 → AddsOutputs l2 l3 n1 n2
+      → AddsInternals l3 l4 n2 n3 → AddsInserted l4 l5 n3 n4 → TakesValue (start_fault k) start_of l5 l6 header.start
+      → ReadsHeader limit l0 l6 n4 header
   whole l0 l1 l2 l3 l4 l5 l6 n0 n1 n2 n3 n4 k header ei eo en es none m t1 t2 t3 t4 s =
       let a : Three l0 l1 l2 l3 n0 n1 n2 = record { none = none; m = formed _ _ _ _ _ m; t1 = t1; t2 = t2 } in
       let p = five l0 l1 l2 l3 l4 l5 n0 n1 n2 n3 n4 a t3 t4 in

@@ -37,12 +37,13 @@ by_kind : (kind : SigKind) (i o n s a b c d : List (List ℕ)) → names_of kind
     → names_of kind (signals_of Output o) ≡ b → names_of kind (signals_of Internal n) ≡ c
     → names_of kind (signals_of Inserted s) ≡ d → names_of kind (signals_by i o n s) ≡ a ++ b ++ c ++ d
 by_kind kind i o n s a b c d ea eb ec ed =
-    names_append kind (signals_of Input i ++ signals_of Output o ++ signals_of Internal n) (signals_of Inserted s)
-    ∙ ap₂ (λ (x y : List (List ℕ)). x ++ y) (
-    names_append kind (signals_of Input i ++ signals_of Output o) (signals_of Internal n)
-    ∙ ap₂ (λ (x y : List (List ℕ)). x ++ y)
-    (names_append kind (signals_of Input i) (signals_of Output o) ∙ ap₂ (λ (x y : List (List ℕ)). x ++ y) ea eb) ec)
-    ed
+    let joined : List (List ℕ) → List (List ℕ) → List (List ℕ) = λ x y. x ++ y in
+    let front : List Signal = signals_of Input i ++ signals_of Output o in
+    let two : names_of kind front ≡ a ++ b =
+    names_append kind (signals_of Input i) (signals_of Output o) ∙ ap₂ joined ea eb in
+    let three : names_of kind (front ++ signals_of Internal n) ≡ a ++ b ++ c =
+    names_append kind front (signals_of Internal n) ∙ ap₂ joined two ec in
+    names_append kind (front ++ signals_of Internal n) (signals_of Inserted s) ∙ ap₂ joined three ed
 
 pub inputs_of : (i o n s : List (List ℕ)) → names_of Input (signals_by i o n s) ≡ i
 inputs_of i o n s = by_kind Input i o n s i [] [] [] (own Input Input i refl) (other Input Output o refl)
@@ -175,12 +176,20 @@ rank_own k kind (x ∷ xs) low = (low, rank_own (kind_place kind) kind xs (omega
 
 pub kinds_in_order : (i o n s : List (List ℕ))
     → AllPairs (λ (x y : Signal). kind_place x.kind ≤ kind_place y.kind) (signals_by i o n s)
-kinds_in_order i o n s = rank_pairs 0 (signals_by i o n s) (subst (Ranked 0)
-    (sym (append_assoc (signals_of Input i ++ signals_of Output o) (signals_of Internal n) (signals_of Inserted s)
-    ∙ append_assoc (signals_of Input i) (signals_of Output o) (signals_of Internal n ++ signals_of Inserted s)))
-    (rank_front 0 Input i (signals_of Output o ++ (signals_of Internal n ++ signals_of Inserted s))
-    (omega arith) (rank_front 0 Output o (signals_of Internal n ++ signals_of Inserted s) (omega arith)
-    (rank_front 1 Internal n (signals_of Inserted s) (omega arith) (rank_own 2 Inserted s (omega arith))))))
+kinds_in_order i o n s =
+    let outputs : List Signal = signals_of Output o in
+    let internals : List Signal = signals_of Internal n in
+    let inserted : List Signal = signals_of Inserted s in
+    let grouped : signals_by i o n s ≡ signals_of Input i ++ (outputs ++ (internals ++ inserted)) =
+    append_assoc (signals_of Input i ++ outputs) internals inserted
+    ∙ append_assoc (signals_of Input i) outputs (internals ++ inserted) in
+    let last : Ranked 2 inserted = rank_own 2 Inserted s (omega arith) in
+    let from_internals : Ranked 1 (internals ++ inserted) = rank_front 1 Internal n inserted (omega arith) last in
+    let from_outputs : Ranked 0 (outputs ++ (internals ++ inserted)) =
+    rank_front 0 Output o (internals ++ inserted) (omega arith) from_internals in
+    let all : Ranked 0 (signals_of Input i ++ (outputs ++ (internals ++ inserted))) =
+    rank_front 0 Input i (outputs ++ (internals ++ inserted)) (omega arith) from_outputs in
+    rank_pairs 0 (signals_by i o n s) (subst (Ranked 0) (sym grouped) all)
 
 -- ---- facts on names are facts on signals
 pub each_named : (P : List ℕ → Type 0) (signals : List Signal) → AllByRecursion P (names_in signals)

@@ -134,10 +134,12 @@ rest_read : (signals driven : List Signal) (s lines : List (List ℕ))
     → Fits (due_behind (names_in signals) (names_in driven) s) lines
     → Rest signals driven (names_in signals) (names_in driven) s lines
 rest_read signals driven s lines fit =
-    let split = fits_map insert_fault s (word_fault (codes ".gates")
-    ∷ (map (gate_fault (names_in signals)) (names_in driven) ++ word_fault (codes ".end") ∷ [])) lines
-    (subst (λ (fs : List Form). Fits fs lines) (append_assoc (map insert_fault s) (word_fault (codes ".gates")
-    ∷ map (gate_fault (names_in signals)) (names_in driven)) (word_fault (codes ".end") ∷ [])) fit) in
+    let inserts_due : List Form = map insert_fault s in
+    let gates_due : List Form = word_fault (codes ".gates") ∷ map (gate_fault (names_in signals)) (names_in driven) in
+    let end_due : List Form = word_fault (codes ".end") ∷ [] in
+    let grouped : Fits (inserts_due ++ (gates_due ++ end_due)) lines =
+    subst (λ (fs : List Form). Fits fs lines) (append_assoc inserts_due gates_due end_due) fit in
+    let split = fits_map insert_fault s (gates_due ++ end_due) lines grouped in
     let inserts = inserts_read s (take (length s) lines) split.0 in
     let after = after_read signals driven (drop (length s) lines) split.1 in
     let gates = gates_read signals driven (take (length (names_in driven)) (drop 1 (drop (length s) lines))) after.0 in

@@ -246,15 +246,17 @@ rest_pass signals driven inserts gates names behind s all some called_s are name
     let forms : List (List ℕ) → List (List ℕ) → List (List ℕ) → List Form =
     λ a b c. map insert_fault c ++ word_fault (codes ".gates") ∷ map (gate_fault a) b
     ++ word_fault (codes ".end") ∷ [] in
-    let pass : Passes (forms (names_in signals) (names_in driven) (map (λ (x : Insertion). x.name) inserts)) lines =
-    passes_append (map insert_fault (map (λ (x : Insertion). x.name) inserts) ++ word_fault (codes ".gates")
-    ∷ map (gate_fault (names_in signals)) (names_in driven)) (word_fault (codes ".end") ∷ [])
-    (map insert_line inserts ++ (codes ".gates" ∷ []) ∷ gate_lines signals driven gates) ((codes ".end" ∷ []) ∷ [])
-    (passes_append (map insert_fault (map (λ (x : Insertion). x.name) inserts))
-    (word_fault (codes ".gates") ∷ map (gate_fault (names_in signals)) (names_in driven)) (map insert_line inserts)
-    ((codes ".gates" ∷ []) ∷ gate_lines signals driven gates) (inserts_pass inserts is_inserts called)
-    ((refl, (refl, tt), λ none. cc), gates_pass signals driven gates are named count is_gates))
-    ((refl, (refl, tt), λ none. cc), tt) in
+    let called_words : List (List ℕ) = map (λ (x : Insertion). x.name) inserts in
+    let gates_due : List Form = word_fault (codes ".gates") ∷ map (gate_fault (names_in signals)) (names_in driven) in
+    let gate_rows : List (List (List ℕ)) = (codes ".gates" ∷ []) ∷ gate_lines signals driven gates in
+    let gates_good : Passes gates_due gate_rows =
+    ((refl, (refl, tt), λ none. cc), gates_pass signals driven gates are named count is_gates) in
+    let all_good : Passes (map insert_fault called_words ++ gates_due) (map insert_line inserts ++ gate_rows) =
+    passes_append (map insert_fault called_words) gates_due (map insert_line inserts) gate_rows
+    (inserts_pass inserts is_inserts called) gates_good in
+    let pass : Passes (forms (names_in signals) (names_in driven) called_words) lines =
+    passes_append (map insert_fault called_words ++ gates_due) (word_fault (codes ".end") ∷ [])
+    (map insert_line inserts ++ gate_rows) ((codes ".end" ∷ []) ∷ []) all_good ((refl, (refl, tt), λ none. cc), tt) in
     subst (λ (a : List (List ℕ)). Passes (forms a behind s) lines) all
     (subst (λ (b : List (List ℕ)). Passes (forms (names_in signals) b s) lines) some
     (subst (λ (c : List (List ℕ)). Passes (forms (names_in signals) (names_in driven) c) lines) called_s pass))

@@ -39,8 +39,9 @@ fn names_of(alloc: Global, signals: &[Signal]) -> Result<Names, NoMemory>
 /// Appends the events of a line, up to its first fault.
 fn read_line(names: &Names, line: &[u8], events: &mut Vec<Event>) -> Result<(), LineFault>
     requires { length names.now ≤ max_signals }
-    ensures fault { Tells result (when (text.has_bad_byte line.now) BadByte otherwise first_in
-        (event_fault names.now) (text.words_in false (text.before_comment line.now))) }
+    ensures fault { Tells result (when (text.has_bad_byte line.now) BadByte
+        otherwise first_in (event_fault names.now)
+        (text.words_in false (text.before_comment line.now))) }
     ensures value { OnOk result (events.new.items ≡ events.old.items
         ++ map (event_of names.now) (text.words_in false (text.before_comment line.now))) }
 {
