@@ -90,11 +90,15 @@ impl Names {
         self.set.as_slice()[k as usize].as_slice()
     }
 
-    /// The place of a name, or `None` where it isn't there.
+    /// The place of a name, or `None` where it isn't there. It is the only place of the name.
     pub fn place(&self, name: &[u8]) -> Option<u32>
         ensures found { IfSome result (λ k. slice_get self.now k ≡ Some name.now) }
         ensures absent { IsNone result ↔ ¬ Contains self.now name.now }
+        ensures distinct { AllPairs (λ x y. x ≢ y) self.now }
     {
+        if self.len() == 0 {
+            return None;
+        }
         match self.set.get_index_of(name) {
             Some(k) => Some(k as u32),
             None => None,
@@ -110,6 +114,7 @@ impl Names {
         ensures new { OnOk result (¬ Contains self.old name.now → self.new ≡ self.old ++ name.now ∷ []) }
         ensures full { IsErrOf result AddFault.Full ↔ ((¬ Contains self.old name.now) × (limit ≤ length self.old)) }
         ensures err { OnErr result (self.new ≡ self.old) }
+        ensures distinct { AllPairs (λ x y. x ≢ y) self.new }
     {
         if let Some(k) = self.place(name) {
             return Ok(k);

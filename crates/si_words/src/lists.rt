@@ -11,12 +11,10 @@ use crate::words::is_signal_name;
 use si_base::fault::{LineFault, TextKind};
 use si_base::names::Names;
 
-/// The place of a name, or `None` where it isn't there.
+/// The place of a name, or `None` where it isn't there. The names are distinct, so that it is the first.
 pub fn place_of(names: &Names, name: &[u8]) -> Option<u32>
     ensures { result ≡ position (λ n. bytes_eq name.now n) names.now }
 {
-    // The names are distinct, so that the place is the first.
-    let _count = names.len();
     names.place(name)
 }
 

@@ -1,5 +1,5 @@
 use Rattle.std.proofs.Common.{◌≡◌, [], ◌∷◌, ◌++◌, vec_items, map, sym, rules, Contains}
-use Rattle.si_base.proofs.NameLemmas.{grows, last_place}
+use Rattle.si_base.proofs.NameLemmas.{grows, last_place, shown_distinct}
 use Rattle.si_base.proofs.names.Names.add.Goals as goal
 
 after : (c : goal.In_ok-insert) → ¬ Contains c.args.self.now c.args.name.now → map vec_items c.insert.new.self.keys ≡ c.args.self.now ++ c.args.name.now ∷ []
@@ -10,3 +10,6 @@ returns-clause-placed c = let absent : ¬ Contains c.args.self.now c.args.name.n
 
 pub returns-clause-new : goal.returns-clause-new
 returns-clause-new c = after c
+
+pub returns-clause-distinct : goal.returns-clause-distinct
+returns-clause-distinct c = shown_distinct vec_items _ c.insert.ensures.unique
