@@ -2,12 +2,12 @@ pub mod Steps
 pub mod StepFacts
 pub mod Circuit
 pub mod BitFacts
-pub mod FullSums
 pub mod Sorted
 pub mod Unique
-pub mod UniqueText
 pub mod Unsplit
-pub mod Given
+pub mod CleanWords
+pub mod InOrder
+pub mod Fewer
 pub mod Parity
 pub mod NameLemmas
 pub mod UniqueCodes

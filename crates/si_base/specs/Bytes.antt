@@ -1,5 +1,5 @@
 -- Bytes of texts, by their names.
-use Rattle.std.specs.Prelude.{ℕ}
+use Rattle.std.specs.Prelude.{ℕ, Bool, if◌then◌else◌}
 
 abbrev pub tab : ℕ
 tab = 9
@@ -33,6 +33,10 @@ plus = 43
 -- `-`
 abbrev pub minus : ℕ
 minus = 45
+
+-- the direction of an event, as texts write it
+abbrev pub sign : Bool → ℕ
+sign up = if up then plus else minus
 
 -- `.`
 abbrev pub dot : ℕ

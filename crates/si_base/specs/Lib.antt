@@ -10,9 +10,8 @@ pub mod System
 pub mod Behaviour
 pub mod Words
 pub mod GivenGraph
-pub mod StrictText
 pub mod NetlistText
-pub mod Cover
+pub mod Sets
 pub mod EdgeOrder
 pub mod WellFormed
 pub mod RightGates

@@ -1,6 +1,7 @@
 //! Sets of states.
 
-ghost use Rattle.std.specs.Prelude.{◌≡◌, ℕ, ◌<◌, ◌≤◌, ◌^◌, List, length, Bool, true, false, IfOk, replicate, count_by, slice_index_or, slice_set};
+ghost use Rattle.std.specs.Prelude.{◌≡◌, ℕ, ◌<◌, ◌≤◌, ◌^◌, ◌↔◌, List, length, Bool, true, false, IfOk, IsTrue, replicate, count_by, slice_index_or, slice_set};
+ghost use Rattle.si_base.specs.Sets.{IsSubset, union};
 
 use crate::ids::{NoMemory, StateId};
 use std::alloc::Global;
@@ -53,6 +54,32 @@ impl StateSet {
         ensures { self.new ≡ slice_set self.old s true }
     {
         self.flags[s.0 as usize] = true;
+    }
+
+    /// Takes the state out of the set.
+    pub fn remove(&mut self, s: StateId)
+        requires { s < length self.old }
+        ensures { self.new ≡ slice_set self.old s false }
+    {
+        self.flags[s.0 as usize] = false;
+    }
+
+    /// Puts each state of the other set, which is of the same size, into this one.
+    pub fn union_with(&mut self, other: &StateSet)
+        requires { length self.old ≡ length other.now }
+        ensures { self.new ≡ union self.old other.now }
+    {
+        for s in 0..other.flags.len() {
+            self.flags[s] |= other.flags[s];
+        }
+    }
+
+    /// Whether each state of the set is in the other one, which is of the same size.
+    pub fn is_subset(&self, other: &StateSet) -> bool
+        requires { length self.now ≡ length other.now }
+        ensures { IsTrue result ↔ IsSubset self.now other.now }
+    {
+        (0..self.flags.len()).all(|s| !self.flags[s] || other.flags[s])
     }
 
     /// How many states are in the set.

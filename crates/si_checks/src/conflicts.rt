@@ -57,7 +57,7 @@ fn earlier(found: Option<(StateId, StateId)>, pair: (StateId, StateId)) -> (Stat
 }
 
 /// Whether two states enable different non-input events.
-fn differ(graph: &Graph, p: StateId, q: StateId) -> bool
+pub fn differ(graph: &Graph, p: StateId, q: StateId) -> bool
     ensures { IsTrue result ↔ Differ graph.now p q }
 {
     enables_more(graph, p, q) || enables_more(graph, q, p)

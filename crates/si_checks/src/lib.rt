@@ -2,7 +2,7 @@
 #![tactic(auto)]
 
 mod breaches;
-mod conflicts;
+pub mod conflicts;
 pub mod distinct;
 mod forks;
 pub mod laws;

@@ -12,8 +12,6 @@ use Rattle.std.proofs.lemmas.Bool.Decides.{eqb_tells, leb_tells}
 use Rattle.std.proofs.Math.Pow.{pow-lt}
 use Rattle.std.proofs.Math.Bool.{and-true}
 use mathlib.Core.Bool.{beq}
-use Rattle.si_base.specs.declared.graph.Signal.{Signal}
-use Rattle.si_base.specs.Cover.{full_cube_from}
 use Rattle.si_base.specs.declared.ids.Literal.{Literal}
 use Rattle.si_base.specs.Bits.{bit, ones}
 use Rattle.si_base.specs.Netlist.{literal_value}
@@ -237,8 +235,3 @@ of_code_is n code small = full_from_ones n code_width 0 n code (omega arith) sma
 
 pub within-mask : (code care : ℕ) → IsWithin care (bit_and code care)
 within-mask code care i there = (and_parts (bit code i) (bit care i) (sym (bit-and code care i) ∙ there)).1
-
--- the full cube of a code over a list of signals
-pub full_cube_from_is : (i : ℕ) (xs : List Signal) (code : ℕ) → full_cube_from i xs code ≡ full_literals (length xs) i code
-full_cube_from_is i [] code = refl
-full_cube_from_is i (x ∷ xs) code = ap (λ (rest : List Literal). record { sig = i; plain = bit code i } ∷ rest) (full_cube_from_is (i + 1) xs code)

@@ -12,10 +12,7 @@ use Rattle.si_base.specs.Proper.{IsConflict}
 use Rattle.si_base.specs.Netlist.{Sum, SumGate, Netlist, gate_value}
 use Rattle.si_base.specs.System.{State, Fires}
 use Rattle.si_base.specs.Behaviour.{IsBisimilar}
-use Prim.Native.String.{String}
 use Rattle.si_base.specs.NetlistText.{Version1, netlist_text, netlist_text_in}
-use Rattle.si_base.specs.Cover.{full_netlist}
-use Rattle.si_base.specs.StrictText.{ArcLine, Spelling, strict_text, state_names}
 use mathlib.Core.Bool.{beq}
 use Rattle.std.proofs.lemmas.Bool.{and_parts, or_cases}
 use Rattle.si_base.proofs.Steps.{all_arcs, beq-true}
@@ -192,27 +189,3 @@ majority_text = refl
 
 majority_in_version_1 : netlist_text_in Version1 majority ≡ codes ".model c2\n.inputs a b\n.outputs c\n.internal\n.inserted\n.start 000\n.gates\nc sum a b + b c + a c\n.end\n"
 majority_in_version_1 = refl
-
-full_sums_text : netlist_text (full_netlist (codes "c2") coded) ≡ codes ".version 2\n.model c2\n.inputs a b\n.outputs c\n.internal\n.inserted\n.start 000\n.gates\nc sum a b c' + a b c + a' b c + a b' c\n.end\n"
-unfolding netlist_text full_netlist
-full_sums_text = refl
-
-abbrev w : String → String → Bool → String → ArcLine
-w from signal up to = record { from = codes from; signal = codes signal; up = up; to = codes to }
-
-abbrev c_element_parts : Spelling
-c_element_parts = record {
-  model = codes "c2";
-  inputs = codes "a" ∷ codes "b" ∷ [];
-  outputs = codes "c" ∷ [];
-  internals = [];
-  arcs = w "s0" "a" true "s1" ∷ w "s0" "b" true "s2" ∷ w "s1" "b" true "s3" ∷ w "s2" "a" true "s3" ∷ w "s3" "c" true "s4" ∷ w "s4" "a" false "s5" ∷ w "s4" "b" false "s6" ∷ w "s5" "b" false "s7" ∷ w "s6" "a" false "s7" ∷ w "s7" "c" false "s0" ∷ [];
-  marked = codes "s0";
-}
-
-c_element_text : strict_text c_element_parts ≡ codes ".model c2\n.inputs a b\n.outputs c\n.state graph\ns0 a+ s1\ns0 b+ s2\ns1 b+ s3\ns2 a+ s3\ns3 c+ s4\ns4 a- s5\ns4 b- s6\ns5 b- s7\ns6 a- s7\ns7 c- s0\n.marking {s0}\n.end\n"
-unfolding strict_text
-c_element_text = refl
-
-c_element_states : state_names c_element_parts ≡ codes "s0" ∷ codes "s1" ∷ codes "s2" ∷ codes "s3" ∷ codes "s4" ∷ codes "s5" ∷ codes "s6" ∷ codes "s7" ∷ []
-c_element_states = refl

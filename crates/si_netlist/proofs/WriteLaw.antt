@@ -13,7 +13,7 @@ use Rattle.si_base.specs.NetlistText.{Version, Version1, Version2, version_lines
 use Rattle.si_base.specs.GivenGraph.{signals_of}
 use Rattle.si_base.specs.Words.{text_of, is_signal_name, is_between}
 use Rattle.si_base.specs.WellFormed.{IsGate, IsInsertion, IsNetlist}
-use Rattle.si_base.proofs.Given.{AreClean, LinesClean, clean_word, words_without}
+use Rattle.si_base.proofs.CleanWords.{AreClean, LinesClean, clean_word, words_without}
 use Rattle.si_base.proofs.Unsplit.{split-join}
 use Rattle.si_netlist.specs.NetlistFault.{due, due_in, netlist_fault, version_of, after_version, insert_fault, word_fault}
 use Rattle.si_words.specs.Lines.{Form, words_of, rest_of, has_bad_byte_here}

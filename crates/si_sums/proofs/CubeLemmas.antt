@@ -8,9 +8,9 @@ use Rattle.si_base.specs.declared.ids.Literal.{Literal}
 use Rattle.si_base.specs.declared.graph.Signal.{Signal}
 use Rattle.si_base.specs.Bits.{bit}
 use Rattle.si_base.specs.Limits.{code_width}
-use Rattle.si_base.specs.Cover.{full_cube_from}
+use Rattle.si_sums.specs.Full.{full_cube_from}
 use Rattle.si_base.specs.WellFormed.{IsCube}
-use Rattle.si_cube.specs.Literals.{literals_from, literals_of, IsWithin}
+use Rattle.si_cube.specs.Literals.{literals_from, literals_of, IsWithin, full_literals}
 
 -- ---- all ones
 one_below : (n i : ℕ) → i < n → bit (2 ^ n - 1) i ≡ true
@@ -66,3 +66,8 @@ full_is_cube signals code = record {
   rising = rises 0 code signals;
   there = all_below (length signals) 0 code signals (omega arith);
 }
+
+-- the full cube of a code over a list of signals
+pub full_cube_from_is : (i : ℕ) (xs : List Signal) (code : ℕ) → full_cube_from i xs code ≡ full_literals (length xs) i code
+full_cube_from_is i [] code = refl
+full_cube_from_is i (x ∷ xs) code = ap (λ (rest : List Literal). record { sig = i; plain = bit code i } ∷ rest) (full_cube_from_is (i + 1) xs code)

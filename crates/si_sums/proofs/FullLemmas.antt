@@ -7,13 +7,14 @@ use Rattle.std.proofs.lemmas.List.Elements.{All-nil, All-cons, All-map, recursio
 use Rattle.si_base.specs.declared.graph.Signal.{Signal}
 use Rattle.si_base.specs.declared.graph.SigKind.{SigKind}
 use Rattle.si_base.specs.declared.graph.SigKind.TheVariants.{Input, Output, Internal, Inserted}
-use Rattle.si_base.specs.Words.{once, is_between, is_word_byte, is_model_name}
+use Rattle.si_sums.specs.Full.{once}
+use Rattle.si_base.specs.Words.{is_between, is_word_byte, is_model_name}
 use Rattle.si_base.specs.Graph.{StateGraph, is_driven, IsNonInput}
 use Rattle.si_base.specs.Codes.{CodedGraph, IsCoded, code}
 use Rattle.si_base.specs.System.{is_inserted}
 use Rattle.si_base.specs.Netlist.{Gate, SumGate, Insertion, Netlist}
 use Rattle.si_base.specs.NetlistText.{same_kind, names_of}
-use Rattle.si_base.specs.Cover.{full_cube_from, full_sum, required_codes, full_gates_from, full_netlist}
+use Rattle.si_sums.specs.Full.{full_cube_from, full_sum, required_codes, full_gates_from, full_netlist}
 use Rattle.si_base.specs.WellFormed.{IsWord, IsCube, IsSum, IsGate, IsInsertion, IsNetlist}
 use Rattle.si_base.proofs.Circuit.{code_fits}
 use Rattle.si_sums.specs.Spelled.{AreSpelled}

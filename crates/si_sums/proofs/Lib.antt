@@ -1,3 +1,4 @@
+pub mod FullSums
 pub mod CubeLemmas
 pub mod SumLemmas
 pub mod FullLemmas

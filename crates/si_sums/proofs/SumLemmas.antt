@@ -5,7 +5,7 @@ use Rattle.std.specs.List.{enumerate_from}
 use Rattle.std.specs.Cmp.{nat_cmp_is}
 use Rattle.std.specs.Ordering.{nat_cmp, is_eq}
 use Rattle.std.specs.declared.cmp.Ordering.TheVariants.{Less, Equal, Greater}
-use Rattle.si_base.specs.Words.{once}
+use Rattle.si_sums.specs.Full.{once}
 
 -- the numbers from the i-th on at whose place the test holds
 abbrev pub kept_from : (ℕ → Bool) → List ℕ → ℕ → List ℕ

@@ -1,7 +1,7 @@
 //! The netlist of sums of full cubes.
 
 ghost use Rattle.std.specs.Prelude.{◌≡◌, ℕ, IfOk, map};
-ghost use Rattle.si_base.specs.Cover.{full_gates_from, full_netlist};
+ghost use Rattle.si_sums.specs.Full.{full_gates_from, full_netlist};
 ghost use Rattle.si_base.specs.NetlistText.{netlist_text};
 ghost use Rattle.si_checks.specs.Lent.{lent_graph};
 ghost use Rattle.si_netlist.specs.Parts.{gate_seen};

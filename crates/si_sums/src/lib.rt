@@ -2,4 +2,5 @@
 #![tactic(auto)]
 
 pub mod full;
+pub mod laws;
 mod sums;

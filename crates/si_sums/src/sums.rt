@@ -2,7 +2,7 @@
 
 ghost use Rattle.std.specs.Prelude.{◌≡◌, ℕ, ◌<◌, ◌≤◌, ◌^◌, IfOk, length};
 ghost use Rattle.si_base.specs.Limits.{max_signals};
-ghost use Rattle.si_base.specs.Cover.{full_cube_from, full_sum};
+ghost use Rattle.si_sums.specs.Full.{full_cube_from, full_sum};
 
 use si_base::graph::Signal;
 use si_base::ids::{Code, NoMemory, Sig, StateId};

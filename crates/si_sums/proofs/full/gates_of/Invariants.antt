@@ -1,5 +1,5 @@
 use Rattle.std.proofs.Common.{◌≡◌, ◌++◌, map, drop}
-use Rattle.si_base.specs.Cover.{full_gates_from}
+use Rattle.si_sums.specs.Full.{full_gates_from}
 use Rattle.si_netlist.specs.Parts.{gate_seen}
 use Rattle.si_sums.proofs.full.gates_of.Given as goal
 

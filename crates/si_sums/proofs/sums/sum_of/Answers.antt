@@ -4,7 +4,7 @@ use Rattle.std.specs.BTreeSet.{contains}
 use Rattle.std.specs.Ordering.{nat_cmp}
 use Rattle.si_base.specs.Graph.{StateGraph}
 use Rattle.si_base.specs.Codes.{next_value}
-use Rattle.si_base.specs.Cover.{full_cube_from}
+use Rattle.si_sums.specs.Full.{full_cube_from}
 use Rattle.si_sums.proofs.SumLemmas.{unmet_none, walk_again, walk_new}
 use Rattle.si_sums.proofs.sums.sum_of.Goals as goal
 

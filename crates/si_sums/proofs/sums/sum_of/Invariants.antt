@@ -2,7 +2,7 @@ use Rattle.std.proofs.Common.{◌≡◌, ◌++◌, map}
 use Rattle.std.specs.BTreeSet.{contains}
 use Rattle.std.specs.Ordering.{nat_cmp}
 use Rattle.si_base.specs.Codes.{next_value}
-use Rattle.si_base.specs.Cover.{full_cube_from, full_sum}
+use Rattle.si_sums.specs.Full.{full_cube_from, full_sum}
 use Rattle.si_sums.proofs.SumLemmas.{kept_from, unmet}
 use Rattle.si_sums.proofs.sums.sum_of.Given as goal
 

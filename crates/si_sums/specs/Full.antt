@@ -1,13 +1,17 @@
 -- The sums of full cubes: the complex gate of the book's next-state function, as a sum of minterms.
-use Rattle.std.specs.Prelude.{ℕ, ◌+◌, ◌==◌, List, [], ◌∷◌, ◌++◌, map, filter, if◌then◌else◌}
+use Rattle.std.specs.Prelude.{ℕ, ◌+◌, ◌==◌, not, Bool, List, [], ◌∷◌, ◌++◌, map, filter, if◌then◌else◌}
 use Rattle.std.specs.List.{enumerate_from}
 use Rattle.si_base.specs.declared.ids.Literal.{Literal}
 use Rattle.si_base.specs.declared.graph.Signal.{Signal}
 use Rattle.si_base.specs.Bits.{bit}
-use Rattle.si_base.specs.Words.{once}
 use Rattle.si_base.specs.Graph.{is_driven}
 use Rattle.si_base.specs.Codes.{CodedGraph, code, next_value}
 use Rattle.si_base.specs.Netlist.{Sum, Gate, SumGate, Netlist}
+
+-- each item once, where it stands first
+abbrev pub once : {A : Type 0} → (A → A → Bool) → List A → List A
+once same [] = []
+once same (x ∷ xs) = x ∷ filter (λ y. not (same y x)) (once same xs)
 
 -- a literal for each signal from the i-th on, each true at the code
 abbrev pub full_cube_from : ℕ → List Signal → ℕ → List Literal

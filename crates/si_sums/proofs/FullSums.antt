@@ -9,12 +9,12 @@ use mathlib.Core.Bool.{beq}
 use Rattle.si_base.specs.declared.ids.Event.{Event}
 use Rattle.si_base.specs.declared.graph.Signal.{Signal}
 use Rattle.si_base.specs.Bits.{bit}
-use Rattle.si_base.specs.Words.{once}
+use Rattle.si_sums.specs.Full.{once}
 use Rattle.si_base.specs.Graph.{enables, rise, fall, is_driven, IsNonInput}
 use Rattle.si_base.specs.Codes.{CodedGraph, code, next_value, IsCoded}
 use Rattle.si_base.specs.Proper.{HasNoConflict, IsProper}
 use Rattle.si_base.specs.Netlist.{Gate, SumGate, gate_place, sum_value, literal_value, value_if_there}
-use Rattle.si_base.specs.Cover.{full_cube_from, required_codes, full_sum, full_gates_from, full_netlist}
+use Rattle.si_sums.specs.Full.{full_cube_from, required_codes, full_sum, full_gates_from, full_netlist}
 use Rattle.si_base.specs.Behaviour.{Implements}
 use Rattle.si_base.proofs.Steps.{beq-refl, beq-true}
 use Rattle.si_base.proofs.BitFacts.{same_codes, beq_false}

@@ -1,8 +1,0 @@
-use Rattle.std.proofs.Common.{◌∙◌, ap, ◌∷◌}
-use Rattle.si_strict.specs.Lines.{words_in}
-use Rattle.si_strict.proofs.WordLemmas.{not_one}
-use Rattle.si_strict.proofs.lines.only_word.Goals as goal
-
-pub returns-in-Some : goal.returns-in-Some
-returns-in-Some c =
-    not_one _ c.split_word.result.0.now c.in-Some.field-0 (c.split_word.ensures.words ∙ ap (λ rest. c.split_word.result.0.now ∷ words_in rest) c.in-Some.is)

@@ -1,4 +1,0 @@
-pub mod Read
-pub mod Lines
-pub mod Parts
-pub mod Strict
