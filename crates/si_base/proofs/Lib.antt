@@ -6,6 +6,7 @@ pub mod Sorted
 pub mod Unique
 pub mod Unsplit
 pub mod CleanWords
+pub mod SetLemmas
 pub mod InOrder
 pub mod Fewer
 pub mod Parity

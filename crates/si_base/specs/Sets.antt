@@ -1,10 +1,16 @@
 -- Sets of states, each a list that says of each state whether it is in the set.
-use Rattle.std.specs.Prelude.{◌≡◌, ℕ, ◌||◌, Bool, true, false, List, map, slice_index_or, zip}
+use Rattle.std.specs.Prelude.{◌≡◌, ℕ, ◌⊎◌, Bool, true, false, List, length, slice_index_or}
 
--- each state that is in one of the two, which have one size
-abbrev pub union : List Bool → List Bool → List Bool
-union one other = map (λ pair. pair.0 || pair.1) (zip one other)
+abbrev pub IsIn : List Bool → ℕ → Type 0
+IsIn set s = slice_index_or set s false ≡ true
 
 -- each state of the one set is in the other
 abbrev pub IsSubset : List Bool → List Bool → Type 0
-IsSubset one other = (s : ℕ) → slice_index_or one s false ≡ true → slice_index_or other s false ≡ true
+IsSubset one other = (s : ℕ) → IsIn one s → IsIn other s
+
+-- a set of the size of the one, with just the states of the one and of the other
+pub record IsUnion (one other both : List Bool) : Type 0 where
+  pub size : length both ≡ length one
+  pub has_one : IsSubset one both
+  pub has_other : IsSubset other both
+  pub no_more : (s : ℕ) → IsIn both s → IsIn one s ⊎ IsIn other s

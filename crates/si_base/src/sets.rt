@@ -1,7 +1,7 @@
 //! Sets of states.
 
 ghost use Rattle.std.specs.Prelude.{◌≡◌, ℕ, ◌<◌, ◌≤◌, ◌^◌, ◌↔◌, List, length, Bool, true, false, IfOk, IsTrue, replicate, count_by, slice_index_or, slice_set};
-ghost use Rattle.si_base.specs.Sets.{IsSubset, union};
+ghost use Rattle.si_base.specs.Sets.{IsSubset, IsUnion};
 
 use crate::ids::{NoMemory, StateId};
 use std::alloc::Global;
@@ -67,10 +67,12 @@ impl StateSet {
     /// Puts each state of the other set, which is of the same size, into this one.
     pub fn union_with(&mut self, other: &StateSet)
         requires { length self.old ≡ length other.now }
-        ensures { self.new ≡ union self.old other.now }
+        ensures { IsUnion self.old other.now self.new }
     {
-        for s in 0..other.flags.len() {
-            self.flags[s] |= other.flags[s];
+        for s in 0..other.size() {
+            if other.has(StateId(s)) {
+                self.add(StateId(s));
+            }
         }
     }
 
@@ -79,7 +81,12 @@ impl StateSet {
         requires { length self.now ≡ length other.now }
         ensures { IsTrue result ↔ IsSubset self.now other.now }
     {
-        (0..self.flags.len()).all(|s| !self.flags[s] || other.flags[s])
+        for s in 0..self.size() {
+            if self.has(StateId(s)) && !other.has(StateId(s)) {
+                return false;
+            }
+        }
+        true
     }
 
     /// How many states are in the set.

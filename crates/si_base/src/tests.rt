@@ -32,6 +32,13 @@ fn sets_codes_and_texts(rt: HostRuntime) -> Result<(), Fail> {
     set.add(StateId(1));
     assert!(rt; set.has(StateId(1)) && !set.has(StateId(2)));
     assert_eq!(rt; set.count(), 1);
+    let mut other = StateSet::new(alloc, 3)?;
+    other.add(StateId(2));
+    assert!(rt; !set.is_subset(&other));
+    set.union_with(&other);
+    assert!(rt; set.has(StateId(1)) && set.has(StateId(2)) && other.is_subset(&set));
+    set.remove(StateId(1));
+    assert!(rt; !set.has(StateId(1)) && set.is_subset(&other));
     let code = Code(0)
         .set(Sig(5), true)
         .set(Sig(127), true)
