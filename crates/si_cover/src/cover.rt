@@ -25,7 +25,8 @@ pub struct SetReset {
     pub reset: Sum,
 }
 
-/// The sum of a signal's next value. It fails only for want of memory.
+/// The sum of a signal's next value: a prime and irredundant cover. It fails only where memory
+/// runs out.
 pub fn next_sum(alloc: Global, graph: Distinct<'_>, z: Sig) -> Result<Sum, NoMemory>
     requires { IsNonInput (lent_graph graph).graph.signals z }
     ensures chosen { IfOk result (λ sum. sum ≡ chosen_sum Next (lent_graph graph.entry) z) }
@@ -34,20 +35,24 @@ pub fn next_sum(alloc: Global, graph: Distinct<'_>, z: Sig) -> Result<Sum, NoMem
     chosen(alloc, graph, SumKind::Next, z)
 }
 
-/// The sums that set and reset a signal. It fails only for want of memory.
+/// The sums that set and reset a signal: prime and irredundant covers. It fails only where memory
+/// runs out.
 pub fn set_reset(alloc: Global, graph: Distinct<'_>, z: Sig) -> Result<SetReset, NoMemory>
     requires { IsNonInput (lent_graph graph).graph.signals z }
     ensures set { IfOk result (λ sums. sums.set ≡ chosen_sum Set (lent_graph graph.entry) z) }
-    ensures set_prime_cover { IfOk result (λ sums. IsPrimeCover (demand Set (lent_graph graph.entry) z) sums.set) }
+    ensures set_prime_cover { IfOk result
+        (λ sums. IsPrimeCover (demand Set (lent_graph graph.entry) z) sums.set) }
     ensures reset { IfOk result (λ sums. sums.reset ≡ chosen_sum Reset (lent_graph graph.entry) z) }
-    ensures reset_prime_cover { IfOk result (λ sums. IsPrimeCover (demand Reset (lent_graph graph.entry) z) sums.reset) }
+    ensures reset_prime_cover { IfOk result
+        (λ sums. IsPrimeCover (demand Reset (lent_graph graph.entry) z) sums.reset) }
 {
     let set = chosen(alloc, graph, SumKind::Set, z)?;
     let reset = chosen(alloc, graph, SumKind::Reset, z)?;
     Ok(SetReset { set, reset })
 }
 
-/// The chosen sum of that kind: the cubes grown from the required codes, as far as they are needed.
+/// The chosen sum of that kind: the cubes grown from the required codes, as far as they are
+/// needed.
 fn chosen(alloc: Global, graph: Distinct<'_>, kind: SumKind, z: Sig) -> Result<Sum, NoMemory>
     requires { IsNonInput (lent_graph graph).graph.signals z }
     ensures chosen { IfOk result (λ sum. sum ≡ chosen_sum kind (lent_graph graph.entry) z) }

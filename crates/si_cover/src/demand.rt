@@ -1,6 +1,6 @@
 //! The codes that a sum must cover, and those that it must not.
 
-ghost use Rattle.std.specs.Prelude.{◌≡◌, ℕ, ◌<◌, ◌++◌, List, [], ◌∷◌, IfOk, OnOk, length, if◌then◌else◌};
+ghost use Rattle.std.specs.Prelude.{◌≡◌, ◌<◌, ◌++◌, [], ◌∷◌, IfOk, OnOk, length, if◌then◌else◌};
 ghost use Rattle.si_cover.specs.Demands.{codes_where, is_required, is_forbidden};
 
 use crate::kind::SumKind;
@@ -18,8 +18,10 @@ pub struct Codes {
 /// The codes of the states that require them, and of those that forbid them.
 pub fn codes_of(alloc: Global, coded: &Coded, kind: SumKind, z: Sig) -> Result<Codes, NoMemory>
     requires { z < length coded.now.graph.signals }
-    ensures required { IfOk result (λ codes. codes.required.items ≡ codes_where coded.now (is_required kind coded.now z)) }
-    ensures forbidden { IfOk result (λ codes. codes.forbidden.items ≡ codes_where coded.now (is_forbidden kind coded.now z)) }
+    ensures required { IfOk result
+        (λ codes. codes.required.items ≡ codes_where coded.now (is_required kind coded.now z)) }
+    ensures forbidden { IfOk result
+        (λ codes. codes.forbidden.items ≡ codes_where coded.now (is_forbidden kind coded.now z)) }
 {
     let graph = coded.graph();
     let mut required = Vec::new(alloc);
@@ -68,7 +70,8 @@ fn asks(coded: &Coded, kind: SumKind, s: StateId, z: Sig) -> (bool, bool)
 
 /// Puts the code last, if it is asked for.
 fn push_if(asked: bool, codes: &mut Vec<Code>, code: Code) -> Result<(), NoMemory>
-    ensures { OnOk result (codes.new.items ≡ codes.old.items ++ (if asked then code ∷ [] else [])) }
+    ensures { OnOk result
+        (codes.new.items ≡ codes.old.items ++ (if asked then code ∷ [] else [])) }
 {
     if asked {
         codes.push(code)?;

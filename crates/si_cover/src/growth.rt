@@ -12,8 +12,8 @@ use si_base::ids::{Code, NoMemory, Sig};
 use si_cube::cube::Cube;
 use std::alloc::Global;
 
-/// For each of the required codes that no cube so far covers, in order, its grown cube. The forbidden codes are handed
-/// in in ascending order.
+/// For each of the required codes that no cube so far covers, in order, its grown cube. The
+/// forbidden codes are handed in in ascending order.
 pub fn grown_cubes(
     alloc: Global,
     signals: usize,
@@ -23,9 +23,13 @@ pub fn grown_cubes(
     requires few { signals ≤ code_width }
     requires in_order { IsNonDecreasing forbidden.now }
     requires required_fit { All (λ k. k < 2 ^ signals) required.now }
-    requires meetable { IsMeetable (record { required = required.now; forbidden = forbidden.now }) }
+    requires meetable { IsMeetable (record {
+      required = required.now;
+      forbidden = forbidden.now;
+    }) }
     requires forbidden_fit { All (λ k. k < 2 ^ signals) forbidden.now }
-    ensures { IfOk result (λ cubes. cubes.items ≡ rule.grown_cubes signals forbidden.now [] required.now) }
+    ensures { IfOk result
+        (λ cubes. cubes.items ≡ rule.grown_cubes signals forbidden.now [] required.now) }
 {
     let mut cubes = Vec::new(alloc);
     for code in required {
@@ -37,11 +41,12 @@ pub fn grown_cubes(
     Ok(cubes)
 }
 
-/// The full cube of the code, less each literal in signal order without which the cube covers no forbidden code.
+/// The full cube of the code, less each literal in signal order without which the cube covers no
+/// forbidden code.
 ///
-/// When a signal's turn comes, all literals behind it are there, and the cube covers no forbidden code. So of the
-/// forbidden codes only those matter that differ from the code at that signal and at none behind it. They lie side by
-/// side, and each code matters at one signal.
+/// When a signal's turn comes, all literals behind it are there, and the cube covers no forbidden
+/// code. So of the forbidden codes only those matter that differ from the code at that signal and
+/// at none behind it. They lie side by side, and each code matters at one signal.
 fn grown(signals: usize, code: Code, forbidden: &[Code]) -> Cube
     requires few { signals ≤ code_width }
     requires in_order { IsNonDecreasing forbidden.now }

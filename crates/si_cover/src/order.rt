@@ -17,7 +17,8 @@ pub fn in_order(mut codes: Vec<Code>) -> Vec<Code>
     codes
 }
 
-/// Those of the codes, handed in in ascending order, that differ from `code` at signal `s` and at none behind it.
+/// Those of the codes, handed in in ascending order, that differ from `code` at signal `s` and at
+/// none behind it.
 pub fn differing_last(codes: &[Code], code: Code, s: usize) -> &[Code]
     requires in_order { IsNonDecreasing codes.now }
     requires signal { s < code_width }
