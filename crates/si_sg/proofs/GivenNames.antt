@@ -36,8 +36,8 @@ use Rattle.si_sg.proofs.SectionLemmas.{line_none}
 
 chosen : {A : Type 0} (P : A → Type 0) (c : Bool) (x y : A) → (c ≡ true → P x) → (c ≡ false → P y)
     → P (if c then x else y)
-chosen P true x y yes no = yes refl
-chosen P false x y yes no = no refl
+chosen P true x y first second = first refl
+chosen P false x y first second = second refl
 
 -- a byte of a line without bad bytes, before its comment
 abbrev IsFair : ℕ → Type 0
@@ -103,8 +103,8 @@ longer b ((c ∷ w) ∷ ws) byte first all =
 
 brace_alone : (b : ℕ) → is_brace b ≡ true → is_brace_word (b ∷ []) ≡ true
 brace_alone b is = elim (or_cases (b == 123) (b == 125) is) [
-  | inl open ↦ rw (eqb-true b 123 open) refl
-  | inr close ↦ rw (eqb-true b 125 close) refl
+  | inl opens ↦ rw (eqb-true b 123 opens) refl
+  | inr closes ↦ rw (eqb-true b 125 closes) refl
 ]
 
 no_brace_first : (brace blank : Bool) → brace ≡ true → (not blank && not (true && brace)) ≡ true → ⊥
@@ -150,14 +150,24 @@ words_named (b ∷ bs) fair =
 
 -- ---- a line without bad bytes
 
-before_hash : (bs : List ℕ) → AllByRecursion (λ b. (b == 35) ≡ false) (before_comment bs)
+abbrev NoHash : List ℕ → Type 0
+NoHash bs = AllByRecursion (λ b. (b == 35) ≡ false) bs
+
+before_hash : (bs : List ℕ) → NoHash (before_comment bs)
 before_hash [] = tt
 before_hash (b ∷ bs) = elim (cases_Bool (b == 35)) [
-  | inl hash ↦ subst (AllByRecursion (λ c. (c == 35) ≡ false)) (sym (take_while-cons (λ c. not (c == 35)) b bs ∙ rw hash refl)) tt
-  | inr other ↦ subst (AllByRecursion (λ c. (c == 35) ≡ false)) (sym (take_while-cons (λ c. not (c == 35)) b bs ∙ rw other refl)) (other, before_hash bs)
+  | inl hash ↦ (
+      let ends : before_comment (b ∷ bs) ≡ [] = take_while-cons (λ c. not (c == 35)) b bs ∙ rw hash refl in
+      subst NoHash (sym ends) tt
+    )
+  | inr other ↦ (
+      let goes : before_comment (b ∷ bs) ≡ b ∷ before_comment bs =
+      take_while-cons (λ c. not (c == 35)) b bs ∙ rw other refl in
+      subst NoHash (sym goes) (other, before_hash bs)
+    )
 ]
 
-fair_bytes : (bs : List ℕ) → list_any is_bad bs ≡ false → AllByRecursion (λ b. (b == 35) ≡ false) bs → AllByRecursion IsFair bs
+fair_bytes : (bs : List ℕ) → list_any is_bad bs ≡ false → NoHash bs → AllByRecursion IsFair bs
 fair_bytes [] none all = tt
 fair_bytes (b ∷ bs) none all = (let parts = or_parts (is_bad b) (list_any is_bad bs) none in ((parts.0, all.0), fair_bytes bs parts.1 all.1))
 

@@ -40,10 +40,10 @@ full_from (suc m) n i code (x ∷ xs) few ends =
     rw here (ap (λ (ls : List Literal). record { sig = i; plain = bit code i } ∷ ls)
     (full_from m n (i + 1) code xs (omega arith) (omega arith)))
 
-pub full_literals : (signals : List Signal) (code : ℕ) → length signals ≤ code_width
+pub full_cube_literals : (signals : List Signal) (code : ℕ) → length signals ≤ code_width
     → literals_of (2 ^ length signals - 1) code ≡ full_cube_from 0 signals code
 unfolding literals_of
-full_literals signals code few = full_from code_width (length signals) 0 code signals few (omega arith)
+full_cube_literals signals code few = full_from code_width (length signals) 0 code signals few (omega arith)
 
 -- ---- the order of the literals
 all_after : (j i code : ℕ) (xs : List Signal) → j < i → All (λ l. j < l.sig) (full_cube_from i xs code)
