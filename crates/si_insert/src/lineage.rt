@@ -7,7 +7,7 @@ ghost use Rattle.si_base.specs.Codes.{code};
 ghost use Rattle.si_base.specs.Limits.{max_signals};
 ghost use Rattle.si_insert.specs.Accepted.{IsAccepted};
 ghost use Rattle.si_insert.specs.Fresh.{IsTaken};
-ghost use Rattle.si_insert.specs.Lineage.{AllGiven, Goes, IsLineage, Keeps, first_view, origin};
+ghost use Rattle.si_insert.specs.Lineage.{AllGiven, Extends, IsLineage, Keeps, as_given, origin};
 
 use crate::accept::Accepted;
 use crate::apply::{WithCopies, apply_with_copies};
@@ -28,7 +28,7 @@ pub struct TraceStep {
 
 /// A given proper graph without inserted signals, the insertions, and the graph that they make.
 ///
-/// Contracts see it as a `Line`. What insertions keep is a fact of each lineage: `current` hands it out.
+/// Contracts see it as a `History`. What insertions keep is a fact of each lineage: `current` hands it out.
 #[derive(Drop)]
 pub struct Lineage {
     given: Proper,
@@ -38,20 +38,20 @@ pub struct Lineage {
 }
 
 impl Model for Lineage {
-    ghost use Rattle.si_insert.specs.Lineage.{IsLineage, Line};
+    ghost use Rattle.si_insert.specs.Lineage.{IsLineage, History};
 
-    ghost Value = { Line };
+    ghost Value = { History };
 
-    ghost view = { λ l. record { given = l.given; trace = l.trace.items; view = record { now = l.current; origins = l.origins.items } } };
+    ghost view = { λ l. record { given = l.given; trace = l.trace.items; current = record { coded = l.current; origins = l.origins.items } } };
 
-    ghost invariant = { λ l. IsLineage l.given l.trace.items (record { now = l.current; origins = l.origins.items }) };
+    ghost invariant = { λ l. IsLineage l.given l.trace.items (record { coded = l.current; origins = l.origins.items }) };
 }
 
 impl Lineage {
     /// The lineage of a graph into which nothing is inserted yet. After want of memory the graph comes back.
     pub fn start(alloc: Global, graph: Proper) -> Result<Lineage, (Proper, NoMemory)>
         requires { AllGiven graph.graph.signals }
-        ensures line { IfOk result (λ l. l ≡ record { given = graph; trace = []; view = first_view graph }) }
+        ensures line { IfOk result (λ l. l ≡ record { given = graph; trace = []; current = as_given graph }) }
         ensures back { IfErr result (λ e. e.0 ≡ graph) }
     {
         let Ok(current) = graph.copy(alloc) else {
@@ -78,9 +78,9 @@ impl Lineage {
         accepted: Accepted,
         name: Name,
     ) -> Result<Lineage, (Lineage, Accepted, NoMemory)>
-        requires accepted { IsAccepted self.view.now.graph accepted }
-        requires new { ¬ IsTaken self.view.now.graph.signals name }
-        ensures line { IfOk result (Goes self (record { name = name; partition = accepted })) }
+        requires accepted { IsAccepted self.current.coded.graph accepted }
+        requires new { ¬ IsTaken self.current.coded.graph.signals name }
+        ensures line { IfOk result (Extends self (record { name = name; partition = accepted })) }
         ensures back { IfErr result (λ e. (e.0 ≡ self) × (e.1 ≡ accepted)) }
     {
         let applied = apply_with_copies(alloc, &self.current, &accepted, &name);
@@ -136,8 +136,8 @@ impl Lineage {
 
     /// The current graph, and what insertions keep.
     pub fn current(&self) -> &Proper
-        ensures same { result.now ≡ self.now.view.now }
-        ensures kept { Keeps self.now.given self.now.view }
+        ensures same { result.now ≡ self.now.current.coded }
+        ensures kept { Keeps self.now.given self.now.current }
     {
         &self.current
     }
@@ -145,23 +145,23 @@ impl Lineage {
     /// The insertions, in their order, and that they make the current graph of the given one.
     pub fn trace(&self) -> &[TraceStep]
         ensures same { result.now ≡ self.now.trace }
-        ensures made { IsLineage self.now.given self.now.trace self.now.view }
+        ensures made { IsLineage self.now.given self.now.trace self.now.current }
     {
         self.trace.as_slice()
     }
 
     /// The given state from which a state comes.
     pub fn origin(&self, p: StateId) -> StateId
-        requires { p < self.now.view.now.graph.states }
-        ensures { result ≡ origin self.now.view p }
+        requires { p < self.now.current.coded.graph.states }
+        ensures { result ≡ origin self.now.current p }
     {
         self.origins[p.0 as usize]
     }
 
     /// The values of the inserted signals at a state: bit k is that of the inserted signal number k, counted from 0.
     pub fn bits(&self, p: StateId) -> Code
-        requires { p < self.now.view.now.graph.states }
-        ensures { (k : ℕ) → bit result k ≡ bit (code self.now.view.now p) (length self.now.given.graph.signals + k) }
+        requires { p < self.now.current.coded.graph.states }
+        ensures { (k : ℕ) → bit result k ≡ bit (code self.now.current.coded p) (length self.now.given.graph.signals + k) }
     {
         let current = self.current.coded();
         let given = self.given.coded().graph().signals().len();
