@@ -24,20 +24,27 @@ not_less_sig a b same after less =
     let e : Greater ≡ Less = rw (low, equal, low_sig, other) at less in cc
 
 pub itself : (a : Edge) → edge_cmp a a ≡ Less → ⊥
-itself a less = let e : Equal ≡ Less = rw (nat_same a.from, nat_same a.event.sig, bool_same a.event.up, nat_same a.to) at less in cc
+itself a less =
+    let e : Equal ≡ Less = rw (nat_same a.from, nat_same a.event.sig, bool_same a.event.up, nat_same a.to) at less in cc
 
 -- a state of a coded graph has one arc for a signal
-one_arc : (c : CodedGraph) (s a : ℕ) (up down : Bool) (t u : ℕ) → IsCoded c → a < length c.graph.signals → Step c.graph s (record { sig = a; up = up }) t → Step c.graph s (record { sig = a; up = down }) u → (up ≡ down) × (t ≡ u)
+one_arc : (c : CodedGraph) (s a : ℕ) (up down : Bool) (t u : ℕ) → IsCoded c → a < length c.graph.signals
+    → Step c.graph s (record { sig = a; up = up }) t → Step c.graph s (record { sig = a; up = down }) u
+    → (up ≡ down) × (t ≡ u)
 one_arc c s a true true t u is small first second = (refl, is.deterministic s (rise a) t u first second)
 one_arc c s a false false t u is small first second = (refl, is.deterministic s (fall a) t u first second)
-one_arc c s a true false t u is small first second = absurd (true≢false (sym ((is.values a small).falls s u second).0 ∙ ((is.values a small).rises s t first).0))
-one_arc c s a false true t u is small first second = absurd (true≢false (sym ((is.values a small).falls s t first).0 ∙ ((is.values a small).rises s u second).0))
+one_arc c s a true false t u is small first second =
+    absurd (true≢false (sym ((is.values a small).falls s u second).0 ∙ ((is.values a small).rises s t first).0))
+one_arc c s a false true t u is small first second =
+    absurd (true≢false (sym ((is.values a small).falls s t first).0 ∙ ((is.values a small).rises s u second).0))
 
 -- the number of an arc by state and signal
 abbrev number : Edge → ℕ
 number a = a.from * 128 + a.event.sig
 
-above : (c : CodedGraph) (a b : Edge) → IsCoded c → Contains c.graph.edges a → Contains c.graph.edges b → a.event.sig < length c.graph.signals → b.event.sig < length c.graph.signals → edge_cmp a b ≡ Less → number a < number b
+above : (c : CodedGraph) (a b : Edge) → IsCoded c → Contains c.graph.edges a → Contains c.graph.edges b
+    → a.event.sig < length c.graph.signals → b.event.sig < length c.graph.signals → edge_cmp a b ≡ Less
+    → number a < number b
 above c a b is has_a has_b small_a small_b less = elim (cases_order a.from b.from) [
   | inr (inl before) ↦ (let few = is.graph_is.few_signals in omega (arith, few))
   | inr (inr after) ↦ absurd (not_less_from a b after less)
@@ -48,7 +55,8 @@ above c a b is has_a has_b small_a small_b less = elim (cases_order a.from b.fro
         (let P : ℕ → ℕ → Type 0 = λ s i. Step c.graph s (record { sig = i; up = b.event.up }) b.to in
         let Q : ℕ → Type 0 = λ s. Step c.graph s (record { sig = a.event.sig; up = b.event.up }) b.to in
         let R : ℕ → Type 0 = λ i. Step c.graph b.from (record { sig = i; up = b.event.up }) b.to in
-        let moved : Step c.graph a.from (record { sig = a.event.sig; up = b.event.up }) b.to = subst Q (sym same) (subst R (sym also) has_b) in
+        let moved : Step c.graph a.from (record { sig = a.event.sig; up = b.event.up }) b.to = subst Q (sym same)
+            (subst R (sym also) has_b) in
         let r = one_arc c a.from a.event.sig a.event.up b.event.up a.to b.to is small_a has_a moved in
         let make : ℕ → ℕ → Bool → ℕ → Edge = λ s i up t. arc s (record { sig = i; up = up }) t in
         let up : a.event.up ≡ b.event.up = r.0 in
@@ -59,7 +67,8 @@ above c a b is has_a has_b small_a small_b less = elim (cases_order a.from b.fro
   ]
 ]
 
-at_least : (c : CodedGraph) (k : ℕ) → IsCoded c → k < length c.graph.edges → k ≤ number (get_or c.graph.edges k (arc 0 (fall 0) 0))
+at_least : (c : CodedGraph) (k : ℕ) → IsCoded c → k < length c.graph.edges
+    → k ≤ number (get_or c.graph.edges k (arc 0 (fall 0) 0))
 at_least c zero is within = omega arith
 at_least c (suc k) is within =
     let d = arc 0 (fall 0) 0 in
@@ -69,7 +78,9 @@ at_least c (suc k) is within =
     let has_a : Contains c.graph.edges a = Contains-get_or c.graph.edges k d (omega arith) in
     let has_b : Contains c.graph.edges b = Contains-get_or c.graph.edges (suc k) d within in
     let less = sorted_at edge_cmp c.graph.edges is.graph_is.ordered k (suc k) d (omega arith) within in
-    let more = above c a b is has_a has_b (is.graph_is.within k d (omega arith)).1 (is.graph_is.within (suc k) d within).1 less in
+    let more =
+        above c a b is has_a has_b (is.graph_is.within k d (omega arith)).1 (is.graph_is.within (suc k) d within).1
+            less in
     omega (arith, before, more)
 
 -- at most one arc for each state and signal
