@@ -6,8 +6,8 @@ use Rattle.si_base.specs.GivenGraph.{Sg}
 use Rattle.si_sg.specs.GivenGraph.{IsGivenBy}
 use Rattle.si_base.specs.System.{IsFor}
 use Rattle.si_io.specs.Outside.{Rose}
-use Rattle.si_netlist.specs.NetlistFault.{netlist_fault}
-use Rattle.si_netlist.specs.NetlistValue.{netlist_of}
+use Rattle.si_netlist_reader.specs.NetlistFault.{netlist_fault}
+use Rattle.si_netlist_reader.specs.NetlistValue.{netlist_of}
 use Rattle.si_system.specs.ScheduleText.{signal_names, schedule_fault, schedule_of}
 use Rattle.si_tool.specs.Checks.{IsSound}
 use Rattle.si_tool.specs.Command.{Asked, AsksOfGraph, AsksReplay, files_of}

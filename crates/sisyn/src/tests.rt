@@ -8,7 +8,7 @@ use si_base::text::{Name, Text};
 use si_graph::coded::Coded;
 use si_io::memory::{MemFile, MemShelf, MemSink, SinkFail, SureShelf, SureSink};
 use si_netlist::netlist::Netlist;
-use si_netlist::reader::read_netlist;
+use si_netlist_reader::reader::read_netlist;
 use si_sg::read::read_sg;
 use si_system::schedule::read_schedule;
 use si_system::system::System;

@@ -1,0 +1,227 @@
+//! The inserted graph.
+
+ghost use Rattle.std.specs.Prelude.{◌≡◌, ◌≢◌, ℕ, ◌<◌, ◌≤◌, ◌++◌, ◌∷◌, [], ◌^◌, IfOk, OnOk, All, length, map};
+ghost use Rattle.si_base.specs.Codes.{IsCoded};
+ghost use Rattle.si_base.specs.Graph.{IsGraph, IsMadeOf};
+ghost use Rattle.si_base.specs.Limits.{max_signals};
+ghost use Rattle.si_insert.specs.Accepted.{IsAccepted, copy_count};
+ghost use Rattle.si_insert.specs.Applied.{IsApplied};
+ghost use Rattle.si_insert.specs.Fresh.{IsTaken};
+ghost use Rattle.si_insert.specs.Insertion;
+ghost use Rattle.si_insert.specs.Insertion.{new_signal};
+ghost use Rattle.si_insert.specs.Made;
+ghost use Rattle.si_insert.specs.Made.{AreFirsts, CanBeMade, new_edges, new_start};
+
+use crate::accept::{Accepted, count_copies, has_copy, waits};
+use crate::partition::Class;
+use crate::state_copies::{StateCopy, copies_of, firsts_of, place};
+use si_base::graph::{Edge, SigKind, Signal};
+use si_base::ids::{Code, Event, NoMemory, Sig, StateId};
+use si_base::text::Name;
+use si_checks::proper::Proper;
+use si_graph::coded::Coded;
+use si_graph::graph::Graph;
+use std::alloc::Global;
+
+/// The inserted graph, and the copies that its states are.
+#[derive(Drop)]
+pub(crate) struct WithCopies {
+    pub(crate) graph: Proper,
+    pub(crate) copies: Vec<StateCopy>,
+}
+
+/// The graph into which the new signal of that name is inserted by the partition. It fails only for want of memory.
+pub fn apply(
+    alloc: Global,
+    graph: &Proper,
+    accepted: &Accepted,
+    name: &Name,
+) -> Result<Proper, NoMemory>
+    requires accepted { IsAccepted graph.now.graph accepted.now }
+    requires new { ¬ IsTaken graph.now.graph.signals name.now }
+    ensures { IfOk result (IsApplied graph.now accepted.now name.now) }
+{
+    let WithCopies { graph, .. } = apply_with_copies(alloc, graph, accepted, name)?;
+    Ok(graph)
+}
+
+/// The same, with the copies.
+pub(crate) fn apply_with_copies(
+    alloc: Global,
+    graph: &Proper,
+    accepted: &Accepted,
+    name: &Name,
+) -> Result<WithCopies, NoMemory>
+    requires accepted { IsAccepted graph.now.graph accepted.now }
+    requires new { ¬ IsTaken graph.now.graph.signals name.now }
+    ensures graph { IfOk result (λ r. IsApplied graph.now accepted.now name.now r.graph) }
+    ensures copies { IfOk result (λ r. r.copies.items ≡ Made.copies_of accepted.now) }
+{
+    let coded = graph.coded();
+    let given = coded.graph();
+    let classes = accepted.partition().classes();
+    let made = made_graph(alloc, given, classes, name)?;
+    let copies = copies_of(alloc, classes)?;
+    let codes = codes_of(alloc, coded, copies.as_slice())?;
+    let graph = Proper::known(Coded::known(made, codes));
+    Ok(WithCopies { graph, copies })
+}
+
+/// The inserted graph, without its codes.
+fn made_graph(
+    alloc: Global,
+    graph: &Graph,
+    classes: &[Class],
+    name: &Name,
+) -> Result<Graph, NoMemory>
+    requires graph { IsGraph graph.now }
+    requires count { length classes.now ≡ graph.now.states }
+    requires room { length graph.now.signals < max_signals }
+    requires conditions { CanBeMade (graph.now.signals ++ new_signal name.now ∷ []) (copy_count classes.now) (new_edges graph.now classes.now) (new_start graph.now classes.now) }
+    ensures { IfOk result (IsMadeOf (graph.now.signals ++ new_signal name.now ∷ []) (copy_count classes.now) (new_edges graph.now classes.now) (new_start graph.now classes.now)) }
+{
+    let firsts = firsts_of(alloc, classes)?;
+    let firsts = firsts.as_slice();
+    let mut edges = Vec::new(alloc);
+    add_copied(&mut edges, graph, classes, firsts, false)?;
+    add_copied(&mut edges, graph, classes, firsts, true)?;
+    add_switches(&mut edges, graph, classes, firsts, true)?;
+    add_switches(&mut edges, graph, classes, firsts, false)?;
+    let signals = with_new(alloc, graph, name)?;
+    let start = graph.start();
+    let start = place(firsts, classes, start, entry(classes[start.0 as usize]));
+    Graph::make(alloc, signals, count_copies(classes), edges, start)
+}
+
+/// The signals of the graph, and the new one of that name last.
+fn with_new(alloc: Global, graph: &Graph, name: &Name) -> Result<Vec<Signal>, NoMemory>
+    ensures { IfOk result (λ signals. signals.items ≡ graph.now.signals ++ new_signal name.now ∷ []) }
+{
+    let mut signals = graph.copied_signals(alloc)?;
+    signals.push(Signal {
+        name: Name::copy_of(alloc, name.bytes())?,
+        kind: SigKind::Inserted,
+    })?;
+    Ok(signals)
+}
+
+/// Adds a copy at the value of each arc that has one.
+fn add_copied(
+    edges: &mut Vec<Edge>,
+    graph: &Graph,
+    classes: &[Class],
+    firsts: &[StateId],
+    value: bool,
+) -> Result<(), NoMemory>
+    requires count { length classes.now ≡ graph.now.states }
+    requires firsts { AreFirsts classes.now firsts.now }
+    ensures { OnOk result (edges.new.items ≡ edges.old.items ++ Made.copied_edges graph.now classes.now value) }
+{
+    let arcs = graph.arcs();
+    for a in arcs {
+        if goes(classes, *a, value) {
+            edges.push(moved(firsts, classes, *a, value))?;
+        }
+    }
+    Ok(())
+}
+
+/// Whether an arc has a copy at the value.
+fn goes(classes: &[Class], a: Edge, value: bool) -> bool
+    requires from { a.from < length classes.now }
+    requires to { a.to < length classes.now }
+    ensures { result ≡ Made.goes classes.now value a }
+{
+    let from = classes[a.from.0 as usize];
+    let to = classes[a.to.0 as usize];
+    has_copy(from, value) && !waits(from, to, value)
+}
+
+/// The copy of an arc at the value.
+fn moved(firsts: &[StateId], classes: &[Class], a: Edge, value: bool) -> Edge
+    requires from { a.from < length classes.now }
+    requires to { a.to < length classes.now }
+    requires few { length classes.now ≤ Rattle.si_base.specs.Limits.max_states }
+    requires firsts { AreFirsts classes.now firsts.now }
+    ensures { result ≡ Made.moved classes.now value a }
+{
+    Edge {
+        from: place(firsts, classes, a.from, value),
+        event: a.event,
+        to: place(firsts, classes, a.to, value),
+    }
+}
+
+/// Adds the arcs by which the new signal switches in that direction.
+fn add_switches(
+    edges: &mut Vec<Edge>,
+    graph: &Graph,
+    classes: &[Class],
+    firsts: &[StateId],
+    up: bool,
+) -> Result<(), NoMemory>
+    requires graph { IsGraph graph.now }
+    requires count { length classes.now ≡ graph.now.states }
+    requires firsts { AreFirsts classes.now firsts.now }
+    ensures { OnOk result (edges.new.items ≡ edges.old.items ++ Made.switch_edges graph.now classes.now up) }
+{
+    let new = Sig(graph.signals().len() as u8);
+    for k in 0..graph.states() {
+        let s = StateId(k);
+        if switches(up, classes[s.0 as usize]) {
+            edges.push(Edge {
+                from: place(firsts, classes, s, !up),
+                event: Event { sig: new, up },
+                to: place(firsts, classes, s, up),
+            })?;
+        }
+    }
+    Ok(())
+}
+
+/// Whether the new signal may switch in that direction at the states of the class.
+fn switches(up: bool, c: Class) -> bool
+    ensures { result ≡ Made.switches up c }
+{
+    match (up, c) {
+        (true, Class::Rising) => true,
+        (false, Class::Falling) => true,
+        _ => false,
+    }
+}
+
+/// The value of the new signal with which states of the class are entered.
+fn entry(c: Class) -> bool
+    ensures { result ≡ Insertion.entry c }
+{
+    match c {
+        Class::Low => false,
+        Class::Rising => false,
+        Class::High => true,
+        Class::Falling => true,
+    }
+}
+
+/// The codes of the copies.
+fn codes_of(alloc: Global, coded: &Coded, copies: &[StateCopy]) -> Result<Vec<Code>, NoMemory>
+    requires within { All (λ x. x.state < coded.now.graph.states) copies.now }
+    requires room { length coded.now.graph.signals < max_signals }
+    ensures { IfOk result (λ codes. codes.items ≡ map (Insertion.copy_code coded.now) copies.now) }
+{
+    let mut codes = Vec::new(alloc);
+    for x in copies {
+        codes.push(code_of(coded, *x))?;
+    }
+    Ok(codes)
+}
+
+/// The code of a copy: that of its state, with the value of the new signal last.
+fn code_of(coded: &Coded, x: StateCopy) -> Code
+    requires within { x.state < coded.now.graph.states }
+    requires room { length coded.now.graph.signals < max_signals }
+    ensures { result ≡ Insertion.copy_code coded.now x }
+{
+    let code = coded.code(x.state);
+    let new = Sig(coded.graph().signals().len() as u8);
+    if x.value { code.flip(new) } else { code }
+}
