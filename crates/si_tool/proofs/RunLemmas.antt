@@ -2,7 +2,8 @@
 use Rattle.std.proofs.Common.{◌≡◌, ◌≢◌, ℕ, zero, suc, List, [], ◌∷◌, Option, Some, None, take, refl, sym, ap, subst}
 use Rattle.std.proofs.Common.{◌∙◌, arith, ◌⊎◌, inl, inr, codes, String, Global, bytes_eq, if◌then◌else◌}
 use Rattle.si_io.specs.Outside.{Rose, Appends, AppendsPrefix}
-use Rattle.si_tool.specs.Command.{Asked, AsksOfGraph, AsksReplay, Asks, AsksNothing, words_for, files_of}
+use Rattle.si_tool.specs.Command.{Asked, AsksAbout, AsksOfGraph, AsksReplay, Asks, AsksNothing, words_for, files_of}
+use Rattle.si_tool.specs.declared.about.Topic.TheVariants.{Help, Version}
 use Rattle.si_tool.specs.declared.command.GraphTask.TheVariants.{Check, Synth}
 use Rattle.si_tool.specs.Ending.{Ending, NoMemory, Usage, WriteFault, Answered, IsRefusal, status_of}
 use Rattle.si_tool.specs.Ending.{line_of, ending_of}
@@ -24,6 +25,9 @@ use Rattle.si_tool.proofs.SinkLemmas.{nothing_put, put_nothing}
 
 -- ---- words ask for one thing
 asked_by : List (List ℕ) → Option Asked
+asked_by (word ∷ []) =
+    if bytes_eq word (codes "--help") then Some (AsksAbout Help)
+    else if bytes_eq word (codes "--version") then Some (AsksAbout Version) else None
 asked_by (word ∷ file ∷ []) = if bytes_eq word (codes "check") then Some (AsksOfGraph Check file) else None
 asked_by (word ∷ file ∷ style ∷ []) = if bytes_eq word (codes "synth") then Some (AsksOfGraph Synth file) else None
 asked_by (word ∷ graph ∷ netlist ∷ schedule ∷ []) =
@@ -32,6 +36,8 @@ asked_by words = None
 
 asked_back : (asked : Asked) → asked_by (words_for asked) ≡ Some asked
 unfolding asked_by
+asked_back (AsksAbout Help) = refl
+asked_back (AsksAbout Version) = refl
 asked_back (AsksOfGraph Check file) = refl
 asked_back (AsksOfGraph Synth file) = refl
 asked_back (AsksReplay graph netlist schedule) = refl

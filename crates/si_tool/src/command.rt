@@ -1,7 +1,10 @@
 //! What the words of a command line ask for.
 
 ghost use Rattle.std.specs.Prelude.{ℕ, List, MatchOption};
-ghost use Rattle.si_tool.specs.Command.{Asks, AsksNothing, AsksOfGraph, AsksReplay, asked_now};
+ghost use Rattle.si_tool.specs.declared.about.Topic.{Topic as Topics};
+ghost use Rattle.si_tool.specs.Command.{Asks, AsksAbout, AsksNothing, AsksOfGraph, AsksReplay, asked_now};
+
+use crate::about::Topic;
 
 /// What is asked of one graph.
 #[derive(Clone, Copy, PartialEq, Eq, Debug)]
@@ -15,6 +18,10 @@ pub enum GraphTask {
 /// A command, with the names of its files.
 #[derive(Clone, Copy)]
 pub enum Command<'w> {
+    /// What the program tells of itself.
+    About {
+        topic: Topic,
+    },
     /// Something asked of one graph.
     OfGraph {
         task: GraphTask,
@@ -33,6 +40,9 @@ pub fn command_of(words: &[String]) -> Option<Command<'_>>
     ensures { MatchOption result (AsksNothing words.now)
         (λ command. Asks words.now (asked_now command)) }
 {
+    if let Some(command) = about_of(words) {
+        return Some(command);
+    }
     if let Some(command) = check_of(words) {
         return Some(command);
     }
@@ -43,6 +53,20 @@ pub fn command_of(words: &[String]) -> Option<Command<'_>>
         return Some(command);
     }
     None
+}
+
+/// `--help` and `--version`.
+fn about_of(words: &[String]) -> Option<Command<'_>>
+    ensures { MatchOption result ((topic : Topics) → Asks words.now (AsksAbout topic) → ⊥)
+        (λ command. Asks words.now (asked_now command)) }
+{
+    match words {
+        [word] if word.as_str() == "--help" => Some(Command::About { topic: Topic::Help }),
+        [word] if word.as_str() == "--version" => Some(Command::About {
+            topic: Topic::Version,
+        }),
+        _ => None,
+    }
 }
 
 /// `check F`.
