@@ -38,6 +38,25 @@ s7 c- s0
 .end
 ";
 
+/// The same graph, as freely as the text allows.
+const C_ELEMENT_LENIENT: &[u8] = b"# C-element\r
+.outputs c\r
+.inputs a\r
+.name c2\r
+.inputs b\r
+.dummy\r
+\r
+.state graph # 8 states\r
+s0 a+ s1 b+/2 s3 c+ s4 a- s5 b- s7 c- s0\r
+s0 b+ s2 a+ s3\r
+s4 b- s6 a- s7\r
+s0 a+ s1\r
+u0 a+ u1\r
+.marking { s0 }\r
+.end\r
+any text ~~ { here\r
+";
+
 /// Its netlist in version 1 of the text, which is read.
 const C_ELEMENT_NETLIST: &[u8] = b".model c2
 .inputs a b
@@ -260,6 +279,8 @@ fn netlist_with(alloc: Global, inputs: &[u8], gate: &[u8]) -> Result<Text, NoMem
 /// The first line of a netlist that is written.
 const VERSION: &[u8] = b".version 2\n";
 
+const CHECK: [&str; 2] = ["check", "graph.sg"];
+
 const SYNTH: [&str; 3] = ["synth", "graph.sg", "complex"];
 
 const REPLAY: [&str; 4] = ["replay", "graph.sg", "c.net", "steps"];
@@ -360,15 +381,39 @@ z sum a z' + a z
 }
 
 #[test]
+fn summaries(rt: HostRuntime) -> Result<(), Fail> {
+    let alloc = rt.alloc();
+    let element = b"proper\nsignals 3\nstates 8\narcs 10\nstart 000\n".as_slice();
+    let rows: [(&[u8], &[u8]); 4] = [
+        (C_ELEMENT, element),
+        (C_ELEMENT_LENIENT, element),
+        (
+            INPUTS_ALONE,
+            b"proper\nsignals 2\nstates 3\narcs 3\nstart 00\n",
+        ),
+        (
+            b".state graph\ns0\n.marking { s0 }\n.end",
+            b"proper\nsignals 0\nstates 1\narcs 0\nstart\n",
+        ),
+    ];
+    for (graph, summary) in rows {
+        expect(&rt, alloc, &CHECK, only(graph), (Status::Done, summary, b""))?;
+    }
+    let line = b"nonpersistent s0 z+ a+\n".as_slice();
+    let refused = (Status::Improper, b"".as_slice(), line);
+    expect(&rt, alloc, &CHECK, only(DISABLED_OUTPUT), refused)
+}
+
+#[test]
 fn refusals(rt: HostRuntime) -> Result<(), Fail> {
     let alloc = rt.alloc();
     let rows: [(&[u8], Status, &[u8]); 6] = [
-        (CONFLICT, Status::Unresolved, b"unresolved\n"),
-        (SPLIT, Status::Improper, b"improper\n"),
-        (RISES_TWICE, Status::Improper, b"improper\n"),
-        (FORK, Status::Improper, b"improper\n"),
-        (DISABLED_OUTPUT, Status::Improper, b"improper\n"),
-        (b"", Status::BadText, b"badtext graph.sg 0 BadLine\n"),
+        (CONFLICT, Status::Unresolved, b"unresolved s0 s2\n"),
+        (SPLIT, Status::Improper, b"nondeterministic s0 a+ s1 s2\n"),
+        (RISES_TWICE, Status::Improper, b"inconsistent a\n"),
+        (FORK, Status::Improper, b"noncommutative s0 a+ b+ s3 s4\n"),
+        (DISABLED_OUTPUT, Status::Improper, b"nonpersistent s0 z+ a+\n"),
+        (b"", Status::BadText, b"badtext graph.sg 1 NoStateGraph\n"),
     ];
     for (graph, status, line) in rows {
         expect(&rt, alloc, &SYNTH, only(graph), (status, b"", line))?;
@@ -452,7 +497,7 @@ fn expect_line(
 fn faults_of_the_texts_of_a_replay(rt: HostRuntime) -> Result<(), Fail> {
     let alloc = rt.alloc();
     let rows: [(&[u8], &[u8], &[u8]); 4] = [
-        (b"", b"", b"badtext graph.sg 0 BadLine\n"),
+        (b".dummy d\n", b"", b"badtext graph.sg 1 Dummy\n"),
         (C_ELEMENT, b"", b"badtext c.net 1 NoEnd\n"),
         (
             C_ELEMENT,
@@ -478,7 +523,8 @@ fn faults_of_the_texts_of_a_replay(rt: HostRuntime) -> Result<(), Fail> {
         netlist: C_ELEMENT_NETLIST,
         schedule: b"",
     };
-    expect_line(&rt, alloc, improper, Status::Improper, b"improper\n")
+    let line = b"nonpersistent s0 z+ a+\n";
+    expect_line(&rt, alloc, improper, Status::Improper, line)
 }
 
 #[test]

@@ -1,0 +1,5 @@
+pub mod StateLists
+pub mod SearchLemmas
+pub mod UniqueRegions
+pub mod ComponentLemmas
+pub mod RegionLemmas
