@@ -5,6 +5,7 @@ use Rattle.si_base.specs.Codes.{CodedGraph}
 use Rattle.si_base.specs.GivenGraph.{Sg}
 use Rattle.si_sg.specs.GivenGraph.{IsGivenBy}
 use Rattle.si_base.specs.System.{IsFor}
+use Rattle.si_circuit.specs.declared.style.Style.{Style}
 use Rattle.si_io.specs.Outside.{Rose}
 use Rattle.si_netlist_reader.specs.NetlistFault.{netlist_fault}
 use Rattle.si_netlist_reader.specs.NetlistValue.{netlist_of}
@@ -30,9 +31,9 @@ check_one : (file text : List ℕ) → AtMostOne (check file text)
 check_one file text = then_one _ _ (graph_one file text) (λ given is. then_one _ _ (proper_one given.graph given.states)
     (λ coded sound. gives_one (summary coded)))
 
-synth_one : (file text : List ℕ) → AtMostOne (synth file text)
-synth_one file text = then_one _ _ (graph_one file text) (λ given is. then_one _ _ (proper_one given.graph given.states)
-    (λ coded sound. then_one _ _ (conflict_one coded given.states) (λ _ free. synthesised_one given coded)))
+synth_one : (style : Style) (file text : List ℕ) → AtMostOne (synth style file text)
+synth_one style file text = then_one _ _ (graph_one file text) (λ given is. then_one _ _ (proper_one given.graph given.states)
+    (λ coded sound. then_one _ _ (conflict_one coded given.states) (λ _ free. synthesised_one style given coded)))
 
 replay_one : (g a n b s c : List ℕ) → AtMostOne (replay g a n b s c)
 replay_one g a n b s c = then_one _ _ (graph_one g a) (λ given is. then_one _ _ (spelled_one n _ _)
@@ -42,7 +43,7 @@ replay_one g a n b s c = then_one _ _ (graph_one g a) (λ given is. then_one _ _
 pub meaning_one : (asked : Asked) (texts : List (List ℕ)) → AtMostOne (meaning asked texts)
 meaning_one (AsksAbout topic) [] = gives_one (about_text topic)
 meaning_one (AsksOfGraph Check file) (text ∷ []) = check_one file text
-meaning_one (AsksOfGraph Synth file) (text ∷ []) = synth_one file text
+meaning_one (AsksOfGraph (Synth style) file) (text ∷ []) = synth_one style file text
 meaning_one (AsksReplay g n s) (a ∷ b ∷ c ∷ []) = replay_one g a n b s c
 meaning_one asked texts = λ a b one other. absurd one
 
@@ -51,9 +52,9 @@ check_some : (file text : List ℕ) → HasResult (check file text)
 check_some file text = then_some _ _ (graph_some file text) (λ given is. then_some _ _ (proper_some text given is)
     (λ coded sound. gives_some (summary coded)))
 
-synth_some : (file text : List ℕ) → HasResult (synth file text)
-synth_some file text = then_some _ _ (graph_some file text) (λ given is. then_some _ _ (proper_some text given is)
-    (λ coded sound. then_some _ _ (conflict_some coded given.states) (λ _ free. synthesised_some text given coded is sound free)))
+synth_some : (style : Style) (file text : List ℕ) → HasResult (synth style file text)
+synth_some style file text = then_some _ _ (graph_some file text) (λ given is. then_some _ _ (proper_some text given is)
+    (λ coded sound. then_some _ _ (conflict_some coded given.states) (λ _ free. synthesised_some style text given coded is sound free)))
 
 replay_some : (g a n b s c : List ℕ) → HasResult (replay g a n b s c)
 replay_some g a n b s c = then_some _ _ (graph_some g a) (λ given is. then_some _ _ (spelled_some n _ _)
@@ -65,7 +66,7 @@ pub meaning_some : (asked : Asked) (texts : List (List ℕ)) → length texts �
 meaning_some (AsksAbout topic) [] many = gives_some (about_text topic)
 meaning_some (AsksAbout topic) (text ∷ texts) many = absurd (omega arith)
 meaning_some (AsksOfGraph Check file) (text ∷ []) many = check_some file text
-meaning_some (AsksOfGraph Synth file) (text ∷ []) many = synth_some file text
+meaning_some (AsksOfGraph (Synth style) file) (text ∷ []) many = synth_some style file text
 meaning_some (AsksReplay g n s) (a ∷ b ∷ c ∷ []) many = replay_some g a n b s c
 meaning_some (AsksOfGraph task file) [] many = absurd (omega arith)
 meaning_some (AsksOfGraph task file) (text ∷ more ∷ texts) many = absurd (omega arith)

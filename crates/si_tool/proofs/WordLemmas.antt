@@ -1,5 +1,6 @@
 -- One word, two, three and four; and words that ask for nothing.
 use Rattle.std.proofs.Common.{◌≡◌, ℕ, ◌<◌, ◌≤◌, List, [], ◌∷◌, length, get_or, String, string_bytes, Global, arith}
+use Rattle.si_circuit.specs.declared.style.Style.{Style}
 use Rattle.si_tool.specs.Command.{AsksAbout, AsksOfGraph, AsksReplay, Asks, AsksNothing, words_of}
 use Rattle.si_tool.specs.declared.about.Topic.{Topic}
 use Rattle.si_tool.specs.declared.command.GraphTask.TheVariants.{Check, Synth}
@@ -39,9 +40,9 @@ four_words (x ∷ y ∷ z ∷ u ∷ v ∷ us) a b c d least most p q r s = absur
 -- words that ask for none of the commands
 pub asks_nothing : (words : List (String Global)) → ((t : Topic) → Asks words (AsksAbout t) → ⊥)
     → ((f : List ℕ) → Asks words (AsksOfGraph Check f) → ⊥)
-    → ((f : List ℕ) → Asks words (AsksOfGraph Synth f) → ⊥)
+    → ((style : Style) (f : List ℕ) → Asks words (AsksOfGraph (Synth style) f) → ⊥)
     → ((g n s : List ℕ) → Asks words (AsksReplay g n s) → ⊥) → AsksNothing words
 asks_nothing words about check synth replay (AsksAbout t) asks = about t asks
 asks_nothing words about check synth replay (AsksOfGraph Check f) asks = check f asks
-asks_nothing words about check synth replay (AsksOfGraph Synth f) asks = synth f asks
+asks_nothing words about check synth replay (AsksOfGraph (Synth style) f) asks = synth style f asks
 asks_nothing words about check synth replay (AsksReplay g n s) asks = replay g n s asks

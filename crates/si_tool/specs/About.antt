@@ -11,6 +11,7 @@ help_lines =
     codes "" ∷
     codes "  sisyn check F                      the size of a graph, where it is proper" ∷
     codes "  sisyn synth F complex              a netlist of complex gates" ∷
+    codes "  sisyn synth F gc                   a netlist of generalised C-elements" ∷
     codes "  sisyn replay F NETLIST SCHEDULE    where a schedule over a netlist ends" ∷
     codes "  sisyn --help                       this text" ∷
     codes "  sisyn --version                    the version" ∷

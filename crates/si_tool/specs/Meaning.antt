@@ -1,6 +1,7 @@
 -- What each command means over its texts, and what it comes to over its files.
 use Rattle.std.specs.Prelude.{ℕ, List, [], ◌∷◌, String, Ok, Err}
 use Rattle.std.specs.declared.alloc.Global.{Global}
+use Rattle.si_circuit.specs.declared.style.Style.{Style}
 use Rattle.si_tool.specs.About.{about_text}
 use Rattle.si_tool.specs.Checks.{proper, without_conflict, matched}
 use Rattle.si_tool.specs.Command.{Asked, AsksAbout, AsksOfGraph, AsksReplay, Asks, files_of}
@@ -21,12 +22,12 @@ check file text = do
   coded ← proper given.graph given.states
   gives (summary coded)
 
-abbrev pub synth : (file text : List ℕ) → Stage TextRefusal (List ℕ)
-synth file text = do
+abbrev pub synth : Style → (file text : List ℕ) → Stage TextRefusal (List ℕ)
+synth style file text = do
   given ← graph_in file text
   coded ← proper given.graph given.states
   _ ← without_conflict coded given.states
-  synthesised given coded
+  synthesised style given coded
 
 -- each file with its text
 abbrev pub replay : (graph graph_text netlist netlist_text schedule schedule_text : List ℕ)
@@ -43,7 +44,7 @@ replay graph graph_text netlist netlist_text schedule schedule_text = do
 abbrev pub meaning : Asked → List (List ℕ) → Stage TextRefusal (List ℕ)
 meaning (AsksAbout topic) [] = gives (about_text topic)
 meaning (AsksOfGraph Check file) (text ∷ []) = check file text
-meaning (AsksOfGraph Synth file) (text ∷ []) = synth file text
+meaning (AsksOfGraph (Synth style) file) (text ∷ []) = synth style file text
 meaning (AsksReplay g n s) (graph ∷ netlist ∷ schedule ∷ []) = replay g graph n netlist s schedule
 meaning asked texts = λ answer. ⊥
 

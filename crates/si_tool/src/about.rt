@@ -21,6 +21,7 @@ const HELP: &[u8] = b"sisyn makes circuits without a clock from state graphs.
 
   sisyn check F                      the size of a graph, where it is proper
   sisyn synth F complex              a netlist of complex gates
+  sisyn synth F gc                   a netlist of generalised C-elements
   sisyn replay F NETLIST SCHEDULE    where a schedule over a netlist ends
   sisyn --help                       this text
   sisyn --version                    the version

@@ -1,18 +1,21 @@
 //! What the words of a command line ask for.
 
-ghost use Rattle.std.specs.Prelude.{ℕ, List, MatchOption};
+ghost use Rattle.std.specs.Prelude.{◌≢◌, ◌≡◌, ℕ, List, MatchOption};
+ghost use Rattle.si_circuit.specs.declared.style.Style as gates;
+ghost use Rattle.si_tool.specs.Command.{Asks, AsksAbout, AsksNothing, AsksOfGraph, AsksReplay};
+ghost use Rattle.si_tool.specs.Command.{asked_now, style_word};
 ghost use Rattle.si_tool.specs.declared.about.Topic.{Topic as Topics};
-ghost use Rattle.si_tool.specs.Command.{Asks, AsksAbout, AsksNothing, AsksOfGraph, AsksReplay, asked_now};
 
 use crate::about::Topic;
+use si_circuit::style::Style;
 
 /// What is asked of one graph.
 #[derive(Clone, Copy, PartialEq, Eq, Debug)]
 pub enum GraphTask {
     /// Whether it is proper, and its summary.
     Check,
-    /// Its netlist.
-    Synth,
+    /// Its netlist, with gates of the style.
+    Synth(Style),
 }
 
 /// A command, with the names of its files.
@@ -83,18 +86,33 @@ fn check_of(words: &[String]) -> Option<Command<'_>>
     }
 }
 
-/// `synth F complex`.
+/// `synth F complex` and `synth F gc`.
 fn synth_of(words: &[String]) -> Option<Command<'_>>
-    ensures { MatchOption result ((file : List ℕ) → Asks words.now (AsksOfGraph GraphTask.Synth file) → ⊥)
+    ensures { MatchOption result
+        ((style : gates.Style) (file : List ℕ)
+            → Asks words.now (AsksOfGraph (GraphTask.Synth style) file) → ⊥)
         (λ command. Asks words.now (asked_now command)) }
 {
     match words {
-        [command, file, style] if command.as_str() == "synth" && style.as_str() == "complex" => {
+        [command, file, style] if command.as_str() == "synth" => {
+            let style = style_of(style.as_str())?;
             Some(Command::OfGraph {
-                task: GraphTask::Synth,
+                task: GraphTask::Synth(style),
                 file: file.as_str(),
             })
         }
+        _ => None,
+    }
+}
+
+/// The style of gates that the word names.
+fn style_of(word: &str) -> Option<Style>
+    ensures { MatchOption result ((style : gates.Style) → word.now ≢ style_word style)
+        (λ style. word.now ≡ style_word style) }
+{
+    match word {
+        "complex" => Some(Style::Complex),
+        "gc" => Some(Style::GeneralisedC),
         _ => None,
     }
 }

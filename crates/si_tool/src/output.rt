@@ -90,7 +90,7 @@ fn graph_text<'w>(
 {
     match task {
         GraphTask::Check => check(alloc, file, text),
-        GraphTask::Synth => synth(alloc, file, text),
+        GraphTask::Synth(style) => synth(alloc, style, file, text),
     }
 }
 
