@@ -4,4 +4,6 @@
 pub mod conflict_listing;
 pub mod laws;
 pub mod region_listing;
+#[cfg(test)]
+mod tests;
 mod words;
