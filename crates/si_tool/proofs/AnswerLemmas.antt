@@ -10,8 +10,9 @@ use Rattle.si_io.specs.Outside.{Rose}
 use Rattle.si_netlist_reader.specs.NetlistFault.{netlist_fault}
 use Rattle.si_netlist_reader.specs.NetlistValue.{netlist_of}
 use Rattle.si_system.specs.ScheduleText.{signal_names, schedule_fault, schedule_of}
+use Rattle.si_tool.specs.About.{about_text}
 use Rattle.si_tool.specs.Checks.{IsSound}
-use Rattle.si_tool.specs.Command.{Asked, AsksOfGraph, AsksReplay, files_of}
+use Rattle.si_tool.specs.Command.{Asked, AsksAbout, AsksOfGraph, AsksReplay, files_of}
 use Rattle.si_tool.specs.Laws.{AtMostOne, HasResult, EndsOrDeparts}
 use Rattle.si_tool.specs.Loads.{Contents, Counts, loads, load_well, loads_well, AreTold}
 use Rattle.si_tool.specs.Meaning.{check, synth, replay, meaning, ComesTo}
@@ -40,6 +41,7 @@ replay_one g a n b s c = then_one _ _ (graph_one g a) (λ given is. then_one _ _
     (λ coded sound. then_one _ _ (matched_one n coded net) (λ _ same. replayed_one given net events)))))
 
 pub meaning_one : (asked : Asked) (texts : List (List ℕ)) → AtMostOne (meaning asked texts)
+meaning_one (AsksAbout topic) [] = gives_one (about_text topic)
 meaning_one (AsksOfGraph Check file) (text ∷ []) = check_one file text
 meaning_one (AsksOfGraph (Synth style) file) (text ∷ []) = synth_one style file text
 meaning_one (AsksReplay g n s) (a ∷ b ∷ c ∷ []) = replay_one g a n b s c
@@ -61,6 +63,8 @@ replay_some g a n b s c = then_some _ _ (graph_some g a) (λ given is. then_some
 
 pub meaning_some : (asked : Asked) (texts : List (List ℕ)) → length texts ≡ length (files_of asked)
     → HasResult (meaning asked texts)
+meaning_some (AsksAbout topic) [] many = gives_some (about_text topic)
+meaning_some (AsksAbout topic) (text ∷ texts) many = absurd (omega arith)
 meaning_some (AsksOfGraph Check file) (text ∷ []) many = check_some file text
 meaning_some (AsksOfGraph (Synth style) file) (text ∷ []) many = synth_some style file text
 meaning_some (AsksReplay g n s) (a ∷ b ∷ c ∷ []) many = replay_some g a n b s c

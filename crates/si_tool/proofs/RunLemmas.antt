@@ -4,7 +4,8 @@ use Rattle.std.proofs.Common.{◌∙◌, arith, ◌⊎◌, inl, inr, codes, Stri
 use Rattle.si_circuit.specs.declared.style.Style.{Style}
 use Rattle.si_circuit.specs.declared.style.Style.TheVariants.{Complex, GeneralisedC}
 use Rattle.si_io.specs.Outside.{Rose, Appends, AppendsPrefix}
-use Rattle.si_tool.specs.Command.{Asked, AsksOfGraph, AsksReplay, Asks, AsksNothing, words_for, files_of}
+use Rattle.si_tool.specs.Command.{Asked, AsksAbout, AsksOfGraph, AsksReplay, Asks, AsksNothing, words_for, files_of}
+use Rattle.si_tool.specs.declared.about.Topic.TheVariants.{Help, Version}
 use Rattle.si_tool.specs.declared.command.GraphTask.TheVariants.{Check, Synth}
 use Rattle.si_tool.specs.Ending.{Ending, NoMemory, Usage, WriteFault, Answered, IsRefusal, status_of}
 use Rattle.si_tool.specs.Ending.{line_of, ending_of}
@@ -30,6 +31,9 @@ style_by word = if bytes_eq word (codes "complex") then Some Complex
     else if bytes_eq word (codes "gc") then Some GeneralisedC else None
 
 asked_by : List (List ℕ) → Option Asked
+asked_by (word ∷ []) =
+    if bytes_eq word (codes "--help") then Some (AsksAbout Help)
+    else if bytes_eq word (codes "--version") then Some (AsksAbout Version) else None
 asked_by (word ∷ file ∷ []) = if bytes_eq word (codes "check") then Some (AsksOfGraph Check file) else None
 asked_by (word ∷ file ∷ style ∷ []) =
     if bytes_eq word (codes "synth") then option_map (λ s. AsksOfGraph (Synth s) file) (style_by style) else None
@@ -39,6 +43,8 @@ asked_by words = None
 
 asked_back : (asked : Asked) → asked_by (words_for asked) ≡ Some asked
 unfolding asked_by style_by
+asked_back (AsksAbout Help) = refl
+asked_back (AsksAbout Version) = refl
 asked_back (AsksOfGraph Check file) = refl
 asked_back (AsksOfGraph (Synth Complex) file) = refl
 asked_back (AsksOfGraph (Synth GeneralisedC) file) = refl

@@ -1,6 +1,7 @@
 pub mod Refusal
 pub mod Stages
 pub mod Ending
+pub mod About
 pub mod Command
 pub mod Loads
 pub mod Readings

@@ -2,8 +2,9 @@
 use Rattle.std.specs.Prelude.{ℕ, List, [], ◌∷◌, String, Ok, Err}
 use Rattle.std.specs.declared.alloc.Global.{Global}
 use Rattle.si_circuit.specs.declared.style.Style.{Style}
+use Rattle.si_tool.specs.About.{about_text}
 use Rattle.si_tool.specs.Checks.{proper, without_conflict, matched}
-use Rattle.si_tool.specs.Command.{Asked, AsksOfGraph, AsksReplay, Asks, files_of}
+use Rattle.si_tool.specs.Command.{Asked, AsksAbout, AsksOfGraph, AsksReplay, Asks, files_of}
 use Rattle.si_tool.specs.Ending.{Ending, NoMemory, Answered}
 use Rattle.si_tool.specs.Readings.{graph_in, netlist_in, schedule_in}
 use Rattle.si_tool.specs.Refusal.{FileRefusal, TextRefusal, Answer, Output, FileRefused, TextRefused}
@@ -41,6 +42,7 @@ replay graph graph_text netlist netlist_text schedule schedule_text = do
 
 -- what is asked for, over as many texts as it has files
 abbrev pub meaning : Asked → List (List ℕ) → Stage TextRefusal (List ℕ)
+meaning (AsksAbout topic) [] = gives (about_text topic)
 meaning (AsksOfGraph Check file) (text ∷ []) = check file text
 meaning (AsksOfGraph (Synth style) file) (text ∷ []) = synth style file text
 meaning (AsksReplay g n s) (graph ∷ netlist ∷ schedule ∷ []) = replay g graph n netlist s schedule

@@ -2,8 +2,11 @@
 
 ghost use Rattle.std.specs.Prelude.{◌≢◌, ◌≡◌, ℕ, List, MatchOption};
 ghost use Rattle.si_circuit.specs.declared.style.Style as gates;
-ghost use Rattle.si_tool.specs.Command.{Asks, AsksNothing, AsksOfGraph, AsksReplay, asked_now, style_word};
+ghost use Rattle.si_tool.specs.Command.{Asks, AsksAbout, AsksNothing, AsksOfGraph, AsksReplay};
+ghost use Rattle.si_tool.specs.Command.{asked_now, style_word};
+ghost use Rattle.si_tool.specs.declared.about.Topic.{Topic as Topics};
 
+use crate::about::Topic;
 use si_circuit::style::Style;
 
 /// What is asked of one graph.
@@ -18,6 +21,10 @@ pub enum GraphTask {
 /// A command, with the names of its files.
 #[derive(Clone, Copy)]
 pub enum Command<'w> {
+    /// What the program tells of itself.
+    About {
+        topic: Topic,
+    },
     /// Something asked of one graph.
     OfGraph {
         task: GraphTask,
@@ -36,6 +43,9 @@ pub fn command_of(words: &[String]) -> Option<Command<'_>>
     ensures { MatchOption result (AsksNothing words.now)
         (λ command. Asks words.now (asked_now command)) }
 {
+    if let Some(command) = about_of(words) {
+        return Some(command);
+    }
     if let Some(command) = check_of(words) {
         return Some(command);
     }
@@ -46,6 +56,20 @@ pub fn command_of(words: &[String]) -> Option<Command<'_>>
         return Some(command);
     }
     None
+}
+
+/// `--help` and `--version`.
+fn about_of(words: &[String]) -> Option<Command<'_>>
+    ensures { MatchOption result ((topic : Topics) → Asks words.now (AsksAbout topic) → ⊥)
+        (λ command. Asks words.now (asked_now command)) }
+{
+    match words {
+        [word] if word.as_str() == "--help" => Some(Command::About { topic: Topic::Help }),
+        [word] if word.as_str() == "--version" => Some(Command::About {
+            topic: Topic::Version,
+        }),
+        _ => None,
+    }
 }
 
 /// `check F`.

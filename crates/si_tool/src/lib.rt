@@ -1,6 +1,7 @@
 //! The tool: from the words of a command line to the status.
 #![tactic(auto)]
 
+pub mod about;
 pub mod breach;
 pub mod check;
 pub mod checks;

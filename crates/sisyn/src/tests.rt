@@ -469,6 +469,28 @@ fn summaries(rt: HostRuntime) -> Result<(), Fail> {
 }
 
 #[test]
+fn what_the_program_tells_of_itself(rt: HostRuntime) -> Result<(), Fail> {
+    let alloc = rt.alloc();
+    let none = only(b"");
+    let version = (Status::Done, b"sisyn 0.1\n".as_slice(), b"".as_slice());
+    expect(&rt, alloc, &["--version"], none, version)?;
+    let mut shelf = SureShelf::new(files(alloc, none)?);
+    let mut out = SureSink::new(alloc);
+    let mut err = SureSink::new(alloc);
+    let help = words(alloc, &["--help"])?;
+    let status = run_in_memory(alloc, &help, &mut shelf, &mut out, &mut err);
+    assert_eq!(rt; status, Status::Done);
+    let lines = out.bytes().split(|b| *b == b'\n');
+    let mut count: usize = 0;
+    for line in lines {
+        assert!(rt; line.len() <= 80);
+        count += 1;
+    }
+    assert!(rt; count <= 41 && err.bytes().is_empty());
+    Ok(())
+}
+
+#[test]
 fn refusals(rt: HostRuntime) -> Result<(), Fail> {
     let alloc = rt.alloc();
     let rows: [(&[u8], Status, &[u8]); 6] = [
