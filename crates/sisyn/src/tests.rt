@@ -480,13 +480,9 @@ fn what_the_program_tells_of_itself(rt: HostRuntime) -> Result<(), Fail> {
     let help = words(alloc, &["--help"])?;
     let status = run_in_memory(alloc, &help, &mut shelf, &mut out, &mut err);
     assert_eq!(rt; status, Status::Done);
-    let lines = out.bytes().split(|b| *b == b'\n');
-    let mut count: usize = 0;
-    for line in lines {
-        assert!(rt; line.len() <= 80);
-        count += 1;
-    }
-    assert!(rt; count <= 41 && err.bytes().is_empty());
+    let mut lines = out.bytes().split(|b| *b == b'\n');
+    assert!(rt; lines.all(|line| line.len() <= 80));
+    assert!(rt; out.bytes().split(|b| *b == b'\n').count() <= 41);
     Ok(())
 }
 
