@@ -17,7 +17,7 @@ use Rattle.si_base.specs.Faults.{when, ◌otherwise◌, first_in, at_line}
 use Rattle.si_base.specs.Lines.{Line, has_bad_byte, numbered}
 use Rattle.si_base.specs.TextFaults.{Gives}
 use Rattle.si_words.specs.Names.{stands_in}
-use Rattle.si_netlist.proofs.LawFitLemmas.{both, not_when}
+use Rattle.si_words.proofs.FaultLemmas.{both, not_when}
 use Rattle.si_base.specs.Words.{is_signal_name}
 use Rattle.si_words.specs.Events.{event_fault, event_name, event_sign, sign_fault, event_of}
 use Rattle.si_system.specs.ScheduleText.{signal_names, words, line_fault, schedule_fault, schedule_of}

@@ -2,7 +2,8 @@
 use Rattle.std.proofs.Common.{◌≡◌, ◌≢◌, ℕ, zero, suc, List, [], ◌∷◌, Option, Some, None, take, refl, sym, ap, subst}
 use Rattle.std.proofs.Common.{◌∙◌, arith, ◌⊎◌, inl, inr, codes, String, Global, bytes_eq, if◌then◌else◌}
 use Rattle.si_io.specs.Outside.{Rose, Appends, AppendsPrefix}
-use Rattle.si_tool.specs.Command.{Asked, AsksSynth, AsksReplay, Asks, AsksNothing, words_for, files_of}
+use Rattle.si_tool.specs.Command.{Asked, AsksOfGraph, AsksReplay, Asks, AsksNothing, words_for, files_of}
+use Rattle.si_tool.specs.declared.command.GraphTask.TheVariants.{Check, Synth}
 use Rattle.si_tool.specs.Ending.{Ending, NoMemory, Usage, WriteFault, Answered, IsRefusal, status_of}
 use Rattle.si_tool.specs.Ending.{line_of, ending_of}
 use Rattle.si_tool.specs.Laws.{ShowsCause}
@@ -23,14 +24,16 @@ use Rattle.si_tool.proofs.SinkLemmas.{nothing_put, put_nothing}
 
 -- ---- words ask for one thing
 asked_by : List (List ℕ) → Option Asked
-asked_by (word ∷ file ∷ style ∷ []) = if bytes_eq word (codes "synth") then Some (AsksSynth file) else None
+asked_by (word ∷ file ∷ []) = if bytes_eq word (codes "check") then Some (AsksOfGraph Check file) else None
+asked_by (word ∷ file ∷ style ∷ []) = if bytes_eq word (codes "synth") then Some (AsksOfGraph Synth file) else None
 asked_by (word ∷ graph ∷ netlist ∷ schedule ∷ []) =
     if bytes_eq word (codes "replay") then Some (AsksReplay graph netlist schedule) else None
 asked_by words = None
 
 asked_back : (asked : Asked) → asked_by (words_for asked) ≡ Some asked
 unfolding asked_by
-asked_back (AsksSynth file) = refl
+asked_back (AsksOfGraph Check file) = refl
+asked_back (AsksOfGraph Synth file) = refl
 asked_back (AsksReplay graph netlist schedule) = refl
 
 one_asked : (words : List (String Global)) (a b : Asked) → Asks words a → Asks words b → a ≡ b

@@ -2,21 +2,29 @@
 use Rattle.std.specs.Prelude.{ℕ, List, [], ◌∷◌, String, Ok, Err}
 use Rattle.std.specs.declared.alloc.Global.{Global}
 use Rattle.si_tool.specs.Checks.{proper, without_conflict, matched}
-use Rattle.si_tool.specs.Command.{Asked, AsksSynth, AsksReplay, Asks, files_of}
+use Rattle.si_tool.specs.Command.{Asked, AsksOfGraph, AsksReplay, Asks, files_of}
 use Rattle.si_tool.specs.Ending.{Ending, NoMemory, Answered}
 use Rattle.si_tool.specs.Readings.{graph_in, netlist_in, schedule_in}
 use Rattle.si_tool.specs.Refusal.{FileRefusal, TextRefusal, Answer, Output, FileRefused, TextRefused}
 use Rattle.si_tool.specs.Replayed.{replayed}
-use Rattle.si_tool.specs.Stages.{Stage, ◌>>=◌}
+use Rattle.si_tool.specs.Stages.{Stage, ◌>>=◌, gives}
+use Rattle.si_tool.specs.Summary.{summary}
 use Rattle.si_tool.specs.Synthesis.{synthesised}
+use Rattle.si_tool.specs.declared.command.GraphTask.TheVariants.{Check, Synth}
 
 -- ---- each command over the text of its file, or the texts of its files
+
+abbrev pub check : (file text : List ℕ) → Stage TextRefusal (List ℕ)
+check file text = do
+  given ← graph_in file text
+  coded ← proper given.graph given.states
+  gives (summary coded)
 
 abbrev pub synth : (file text : List ℕ) → Stage TextRefusal (List ℕ)
 synth file text = do
   given ← graph_in file text
-  coded ← proper given.graph
-  _ ← without_conflict coded
+  coded ← proper given.graph given.states
+  _ ← without_conflict coded given.states
   synthesised given coded
 
 -- each file with its text
@@ -26,13 +34,14 @@ replay graph graph_text netlist netlist_text schedule schedule_text = do
   given ← graph_in graph graph_text
   circuit ← netlist_in netlist netlist_text
   events ← schedule_in schedule circuit schedule_text
-  coded ← proper given.graph
+  coded ← proper given.graph given.states
   _ ← matched netlist coded circuit
   replayed given circuit events
 
 -- what is asked for, over as many texts as it has files
 abbrev pub meaning : Asked → List (List ℕ) → Stage TextRefusal (List ℕ)
-meaning (AsksSynth file) (text ∷ []) = synth file text
+meaning (AsksOfGraph Check file) (text ∷ []) = check file text
+meaning (AsksOfGraph Synth file) (text ∷ []) = synth file text
 meaning (AsksReplay g n s) (graph ∷ netlist ∷ schedule ∷ []) = replay g graph n netlist s schedule
 meaning asked texts = λ answer. ⊥
 

@@ -1,33 +1,71 @@
-//! Why a graph isn't proper.
+//! Why a graph isn't proper, by the names of its states and the words of its events.
 
-use si_base::ids::{Event, Sig, StateId};
+ghost use Rattle.std.specs.Prelude.{◌≡◌, ◌<◌, length, IfOk};
+ghost use Rattle.si_base.specs.NetlistText.{name_of};
+ghost use Rattle.si_sg.specs.CanonicalText as word;
+ghost use Rattle.si_sg.specs.CanonicalText.{state_at};
 
-/// A breach of what makes a graph proper, with its states and events.
-#[derive(Clone, Copy, PartialEq, Eq, Debug)]
-pub enum Breach {
-    /// The state `s` leads by `e` to both `t` and `u`.
+use si_base::graph::Signal;
+use si_base::ids::{Event, NoMemory, Sig, StateId};
+use si_base::names::Names;
+use si_base::text::{Name, Text};
+use si_sg::write::{name_at, sign, signal_name};
+use std::alloc::Global;
+
+/// A breach of what makes a graph proper, with the names of its states and the words of its events.
+#[derive(Drop)]
+pub enum NamedBreach {
+    /// The state leads by the event to both `one` and `other`.
     Nondeterministic {
-        s: StateId,
-        e: Event,
-        t: StateId,
-        u: StateId,
+        state: Name,
+        event: Text,
+        one: Name,
+        other: Name,
     },
     /// No values of the signal suit the arcs.
     Inconsistent {
-        sig: Sig,
+        signal: Name,
     },
-    /// The state `s` leads by `a` and then `c` to `w`, and by `c` and then `a` to another state `w2`.
+    /// The state leads by `first` and then `second` to `one`, and by `second` and then `first` to another state,
+    /// `other`.
     Noncommutative {
-        s: StateId,
-        a: Event,
-        c: Event,
-        w: StateId,
-        w2: StateId,
+        state: Name,
+        first: Text,
+        second: Text,
+        one: Name,
+        other: Name,
     },
-    /// At `s` the event `by` disables the enabled non-input event `lost`.
+    /// At the state the event `by` disables the enabled non-input event `lost`.
     Nonpersistent {
-        s: StateId,
-        lost: Event,
-        by: Event,
+        state: Name,
+        lost: Text,
+        by: Text,
     },
+}
+
+/// The name of a state.
+pub fn state_name(alloc: Global, states: &Names, s: StateId) -> Result<Name, NoMemory>
+    requires { s < length states.now }
+    ensures { IfOk result (λ name. name ≡ state_at states.now s) }
+{
+    Name::copy_of(alloc, name_at(states, s))
+}
+
+/// The name of a signal.
+pub fn name_of_signal(alloc: Global, signals: &[Signal], z: Sig) -> Result<Name, NoMemory>
+    requires { z < length signals.now }
+    ensures { IfOk result (λ name. name ≡ name_of signals.now z) }
+{
+    Name::copy_of(alloc, signal_name(signals, z))
+}
+
+/// The word of an event.
+pub fn event_word(alloc: Global, signals: &[Signal], event: Event) -> Result<Text, NoMemory>
+    requires { event.sig < length signals.now }
+    ensures { IfOk result (λ word. word ≡ word.event_word signals.now event) }
+{
+    let Event { sig, up } = event;
+    let mut word = Text::copy_of(alloc, signal_name(signals, sig))?;
+    word.add(sign(up))?;
+    Ok(word)
 }

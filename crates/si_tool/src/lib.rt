@@ -2,6 +2,7 @@
 #![tactic(auto)]
 
 pub mod breach;
+pub mod check;
 pub mod checks;
 pub mod command;
 pub mod laws;

@@ -1,14 +1,15 @@
 //! What a command puts on `out`.
 
 ghost use Rattle.std.specs.Prelude.{◌≡◌, ℕ, ◌≤◌, List, [], ◌∷◌, IfOk, IfErr, Ok};
-ghost use Rattle.si_tool.specs.Command.{AsksReplay, AsksSynth, asked_now};
-ghost use Rattle.si_tool.specs.Ending.{MayStopLoading, ending_of};
+ghost use Rattle.si_tool.specs.Command.{AsksOfGraph, AsksReplay, asked_now};
+ghost use Rattle.si_tool.specs.Ending.{MayStop, MayStopLoading, ending_of};
 ghost use Rattle.si_tool.specs.Loads as stage;
 ghost use Rattle.si_tool.specs.Loads.{loads};
-ghost use Rattle.si_tool.specs.Meaning.{ComesTo, MayStopCommand};
+ghost use Rattle.si_tool.specs.Meaning.{ComesTo, MayStopCommand, meaning};
 ghost use Rattle.si_tool.specs.Refusal.{Output};
 
-use crate::command::Command;
+use crate::check::check;
+use crate::command::{Command, GraphTask};
 use crate::refusals::Refusal;
 use crate::replayed::replay_texts;
 use crate::synth::synth;
@@ -33,7 +34,7 @@ pub fn output<'w, H: Shelf>(
     ensures same { (n : List ℕ) → H.content shelf.new n ≡ H.content shelf.old n }
 {
     match command {
-        Command::Synth { file } => synth_output(alloc, file, shelf),
+        Command::OfGraph { task, file } => graph_output(alloc, task, file, shelf),
         Command::Replay {
             graph,
             netlist,
@@ -42,23 +43,42 @@ pub fn output<'w, H: Shelf>(
     }
 }
 
-/// The netlist of the graph in the file.
-fn synth_output<'w, H: Shelf>(
+/// What is asked of the graph in the file.
+fn graph_output<'w, H: Shelf>(
     alloc: Global,
+    task: GraphTask,
     file: &'w str,
     shelf: &mut H,
 ) -> Result<Text, Refusal<'w>>
     ensures ok { IfOk result (λ text. ComesTo
         (loads (H.content shelf.old) (H.faults shelf.old) (H.faults shelf.new))
-        (AsksSynth file.now) (Output text)) }
+        (AsksOfGraph task file.now) (Output text)) }
     ensures err { IfErr result (λ r. MayStopCommand
         (loads (H.content shelf.old) (H.faults shelf.old) (H.faults shelf.new))
-        (AsksSynth file.now) (ending_of r)) }
+        (AsksOfGraph task file.now) (ending_of r)) }
     ensures later { (n : List ℕ) → H.faults shelf.old n ≤ H.faults shelf.new n }
     ensures same { (n : List ℕ) → H.content shelf.new n ≡ H.content shelf.old n }
 {
     let text = load_one(alloc, file, shelf)?;
-    synth(alloc, file, &text)
+    graph_text(alloc, task, file, &text)
+}
+
+/// What is asked of the graph that the text spells.
+fn graph_text<'w>(
+    alloc: Global,
+    task: GraphTask,
+    file: &'w str,
+    text: &[u8],
+) -> Result<Text, Refusal<'w>>
+    ensures ok { IfOk result (λ output.
+        meaning (AsksOfGraph task file.now) (text.now ∷ []) (Ok output)) }
+    ensures err { IfErr result (λ r.
+        MayStop (meaning (AsksOfGraph task file.now) (text.now ∷ [])) (ending_of r)) }
+{
+    match task {
+        GraphTask::Check => check(alloc, file, text),
+        GraphTask::Synth => synth(alloc, file, text),
+    }
 }
 
 /// The end of the schedule over the netlist beside the graph.

@@ -5,3 +5,4 @@ pub mod RowLemmas
 pub mod SumWordLemmas
 pub mod WritingLemmas
 pub mod NameLemmas
+pub mod FaultLemmas

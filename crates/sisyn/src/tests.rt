@@ -8,8 +8,8 @@ use si_base::text::{Name, Text};
 use si_graph::coded::Coded;
 use si_io::memory::{MemFile, MemShelf, MemSink, SinkFail, SureShelf, SureSink};
 use si_netlist::netlist::Netlist;
-use si_netlist::reader::read_netlist;
-use si_strict::read::read_strict;
+use si_netlist_reader::reader::read_netlist;
+use si_sg::read::read_sg;
 use si_system::schedule::read_schedule;
 use si_system::system::System;
 use si_system::verdict::Verdict;
@@ -523,7 +523,7 @@ fn fired_at_start(graph: &Coded, netlist: &Netlist, events: &Vec<Event>) -> Opti
 #[test]
 fn an_event_that_is_no_step_changes_nothing(rt: HostRuntime) -> Result<(), Fail> {
     let alloc = rt.alloc();
-    let given = read_strict(alloc, C_ELEMENT)?;
+    let given = read_sg(alloc, C_ELEMENT)?;
     let graph = Coded::make(alloc, given.graph).ok().ok_or("no codes")?;
     let netlist = read_netlist(alloc, C_ELEMENT_NETLIST)?;
     let events = read_schedule(alloc, b"c+", &netlist)?;

@@ -1,10 +1,10 @@
 use Rattle.si_tool.proofs.output.output.Goals as goal
 
-pub returns-in-Synth-clause-ok : goal.returns-in-Synth-clause-ok
-returns-in-Synth-clause-ok g c = rw c.in-Synth.is c.synth_output.ensures.ok
+pub returns-in-OfGraph-clause-ok : goal.returns-in-OfGraph-clause-ok
+returns-in-OfGraph-clause-ok g c = rw c.in-OfGraph.is c.graph_output.ensures.ok
 
-pub returns-in-Synth-clause-err : goal.returns-in-Synth-clause-err
-returns-in-Synth-clause-err g c = rw c.in-Synth.is c.synth_output.ensures.err
+pub returns-in-OfGraph-clause-err : goal.returns-in-OfGraph-clause-err
+returns-in-OfGraph-clause-err g c = rw c.in-OfGraph.is c.graph_output.ensures.err
 
 pub returns-in-Replay-clause-ok : goal.returns-in-Replay-clause-ok
 returns-in-Replay-clause-ok g c = rw c.in-Replay.is c.replay_output.ensures.ok

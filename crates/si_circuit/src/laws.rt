@@ -1,0 +1,58 @@
+//! Laws of chosen gates. Each function does nothing: its contract is the law.
+
+ghost use Rattle.std.specs.Prelude.{ℕ, List};
+ghost use Rattle.si_base.specs.Behaviour.{Implements};
+ghost use Rattle.si_base.specs.Codes.{CodedGraph, IsCoded};
+ghost use Rattle.si_base.specs.Netlist.{Insertion, Netlist};
+ghost use Rattle.si_base.specs.Proper.{HasNoConflict, IsProper};
+ghost use Rattle.si_base.specs.RightGates.{GivesNextValues, HasNoneInserted, IsRight};
+ghost use Rattle.si_base.specs.WellFormed.{IsNetlist};
+ghost use Rattle.si_circuit.specs.declared.style.Style.{Style};
+ghost use Rattle.si_circuit.specs.Covered.{HasCoverGates, HasPrimeGates};
+ghost use Rattle.si_circuit.specs.Gates.{chosen_netlist, gate_of, netlist_of};
+ghost use Rattle.si_circuit.specs.Spelled.{AreInserted, AreSpelled};
+
+/// Gates whose sums are covers give the next values: complex gates by covers of the next-value
+/// codes, generalised C-elements by covers of the set and of the reset codes. Whether the sums are
+/// prime doesn't matter.
+pub fn cover_gates_give_next_values()
+    ensures { (c : CodedGraph) (n : Netlist) → IsCoded c → HasCoverGates c n
+        → GivesNextValues c n }
+{}
+
+/// The chosen gates of a graph without conflicts are prime and irredundant covers, in each style.
+pub fn chosen_gates_are_prime()
+    ensures { (style : Style) (c : CodedGraph) (model : List ℕ) (inserts : List Insertion)
+        → IsCoded c → HasNoConflict c
+        → HasPrimeGates c (netlist_of (gate_of style c) model inserts c) }
+{}
+
+/// The chosen gates of a graph without conflicts give the next values, in each style.
+pub fn chosen_gates_give_next_values()
+    ensures { (style : Style) (c : CodedGraph) (model : List ℕ) (inserts : List Insertion)
+        → IsCoded c → HasNoConflict c
+        → GivesNextValues c (netlist_of (gate_of style c) model inserts c) }
+{}
+
+/// The netlists of the chosen gates of a graph without conflicts have right gates, in each style.
+pub fn chosen_gates_are_right()
+    ensures { (style : Style) (c : CodedGraph) (model : List ℕ) → IsCoded c → HasNoConflict c
+        → HasNoneInserted (chosen_netlist style model c)
+        → IsRight c (chosen_netlist style model c) }
+{}
+
+/// The netlist of the chosen gates of a proper graph without conflicts implements the graph, in
+/// each style: it loses no excitation, is weakly bisimilar to the graph, and has no silent cycle.
+pub fn chosen_netlists_implement()
+    ensures { (style : Style) (c : CodedGraph) (model : List ℕ) → IsCoded c → IsProper c.graph
+        → HasNoConflict c → HasNoneInserted (chosen_netlist style model c)
+        → Implements (chosen_netlist style model c) c.graph }
+{}
+
+/// The chosen gates of a graph make a netlist of the format, in each style: the gates are as many
+/// as the signals that the circuit drives, and the literals of each cube stand in signal order.
+pub fn chosen_gates_make_netlists()
+    ensures { (style : Style) (c : CodedGraph) (model : List ℕ) (inserts : List Insertion)
+        → IsCoded c → AreSpelled model c.graph.signals → AreInserted inserts c.graph.signals
+        → IsNetlist (netlist_of (gate_of style c) model inserts c) }
+{}

@@ -1,0 +1,8 @@
+//! Netlists of a graph without conflicts: a gate of one style for each signal that the circuit
+//! drives.
+#![tactic(auto)]
+
+pub mod chosen;
+mod gates;
+pub mod laws;
+pub mod style;

@@ -1,0 +1,8 @@
+pub mod NeededLemmas
+pub mod CubeFacts
+pub mod RuleLemmas
+pub mod DemandLemmas
+pub mod LoopLemmas
+pub mod OrderLemmas
+pub mod WrittenLemmas
+pub mod Examples

@@ -1,0 +1,5 @@
+pub mod Demands
+pub mod Covers
+pub mod Needed
+pub mod Rule
+pub mod Order

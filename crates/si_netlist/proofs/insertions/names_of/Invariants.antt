@@ -1,6 +1,0 @@
-use Rattle.std.proofs.Common.{◌≡◌, take}
-use Rattle.si_words.specs.Reads.{words_now}
-use Rattle.si_netlist.proofs.insertions.names_of.Given as goal
-
-abbrev pub invariant-loop-word : goal.invariant-loop-word
-invariant-loop-word l = l.names.items ≡ take l.word-index (words_now l.words)

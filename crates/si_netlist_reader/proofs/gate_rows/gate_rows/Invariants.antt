@@ -1,0 +1,10 @@
+use Rattle.std.proofs.Common.{map}
+use Rattle.si_netlist_reader.specs.Headers.{gate_in}
+use Rattle.si_words.specs.GateLines.{gate_fault}
+use Rattle.si_netlist.specs.Parts.{gate_seen}
+use Rattle.si_netlist_reader.proofs.LoopLemmas.{Doing}
+use Rattle.si_netlist_reader.proofs.gate_rows.gate_rows.Given as goal
+
+abbrev pub invariant-loop-k : goal.invariant-loop-k
+invariant-loop-k l =
+    Doing (gate_fault l.signals) (gate_in l.signals) l.signals l.from l.fn.rows l.k l.rows (map gate_seen l.gates.items)

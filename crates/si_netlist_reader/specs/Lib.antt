@@ -1,0 +1,4 @@
+pub mod NetlistFault
+pub mod NetlistValue
+pub mod Headers
+pub mod Reading

@@ -1,0 +1,308 @@
+//! Gates, read from the words of gate lines. Each literal is looked up once.
+
+ghost use Rattle.std.specs.Prelude.{◌≡◌, ℕ, ◌≤◌, List, length, codes, ◌<◌, IfOk, IfSome, MatchResult, None, Some, map};
+ghost use Rattle.std.specs.List.{list_all};
+ghost use Rattle.si_base.specs.Limits.{max_signals};
+ghost use Rattle.si_base.specs.Faults.{◌otherwise◌, first_in};
+ghost use Rattle.si_words.specs.GateLines as gates;
+ghost use Rattle.si_words.specs.Reads.{words_now, parts_now};
+ghost use Rattle.si_words.specs.Sums as sums;
+ghost use Rattle.si_base.specs.Netlist as base;
+ghost use Rattle.si_netlist_reader.specs.Headers.{gate_in};
+ghost use Rattle.si_netlist_reader.specs.NetlistValue as value;
+ghost use Rattle.si_netlist.specs.Parts.{gate_seen};
+ghost use Rattle.si_netlist_reader.specs.Reading.{Reads};
+
+use si_netlist::gate::Gate;
+use si_base::fault::TextKind;
+use si_base::ids::{Code, Literal, NoMemory, Sig};
+use si_base::names::Names;
+use si_base::text::Name;
+use si_cube::cube::Cube;
+use si_cube::sum::Sum;
+use si_words::gate_lines::{cut_at, is_one};
+use si_words::lists::place_of;
+use si_words::words::{is_signal_name, literal_name};
+use std::alloc::{AllocError, Global};
+
+/// The literal of a word.
+fn read_literal(signals: &Names, word: &[u8]) -> Option<Result<Literal, TextKind>>
+    requires { length signals.now ≤ max_signals }
+    ensures read { Reads (λ l. l) (sums.is_literal word.now) (gates.pin_fault signals.now word.now)
+        (value.literal_of signals.now word.now) result }
+    ensures within { IfSome result (λ read. IfOk read (λ l. l.sig < max_signals)) }
+{
+    let name = literal_name(word);
+    if !is_signal_name(name) {
+        return None;
+    }
+    match place_of(signals, name) {
+        Some(place) => Some(Ok(Literal {
+            sig: Sig(place as u8),
+            plain: word == name,
+        })),
+        None => Some(Err(TextKind::Undeclared)),
+    }
+}
+
+/// The cube of words: `1`, or literals whose signals rise.
+fn read_cube(signals: &Names, words: &[&[u8]]) -> Option<Result<Cube, TextKind>>
+    requires { length signals.now ≤ max_signals }
+    ensures { Reads (λ cube. cube) (sums.is_cube (words_now words.now))
+        (gates.sum_fault signals.now (words_now words.now))
+        (value.cube_of signals.now (words_now words.now)) result }
+{
+    let mut care = Code(0);
+    let mut value = Code(0);
+    if words.is_empty() {
+        return None;
+    }
+    if is_one(b"1", words) {
+        return Some(Ok(Cube { care, value }));
+    }
+    // The first signal that a further literal may have.
+    let mut next = 0;
+    let mut fault = None;
+    for word in words {
+        let literal = read_literal(signals, *word)?;
+        if fault.is_some() {
+            continue;
+        }
+        let literal = match literal {
+            Ok(literal) => literal,
+            Err(kind) => {
+                fault = Some(kind);
+                continue;
+            }
+        };
+        if literal.sig.0 < next {
+            fault = Some(TextKind::BadLine);
+            continue;
+        }
+        care = care.set(literal.sig, true);
+        value = value.set(literal.sig, literal.plain);
+        next = literal.sig.0 + 1;
+    }
+    match fault {
+        Some(kind) => Some(Err(kind)),
+        None => Some(Ok(Cube { care, value })),
+    }
+}
+
+/// The first of two faults, of which there may be no earlier one.
+fn first_fault(earlier: Option<TextKind>, later: TextKind) -> TextKind
+    ensures { Some result ≡ (earlier otherwise Some later) }
+{
+    earlier.unwrap_or(later)
+}
+
+/// The words between the words `+`.
+fn parts_of<'s, 'a>(alloc: Global, words: &'s [&'a [u8]]) -> Result<Vec<&'s [&'a [u8]]>, AllocError>
+    ensures { IfOk result
+        (λ parts. parts_now parts.items ≡ sums.parts_at (codes "+") (words_now words.now)) }
+{
+    words.split(|w| b"+".as_slice() == *w).collect(alloc)
+}
+
+/// The sum of words: `0`, or cubes with `+` between them.
+fn read_sum(
+    alloc: Global,
+    signals: &Names,
+    words: &[&[u8]],
+) -> Result<Option<Result<Sum, TextKind>>, NoMemory>
+    requires { length signals.now ≤ max_signals }
+    ensures { IfOk result (Reads (λ sum. sum) (sums.is_sum (words_now words.now))
+        (gates.sum_fault signals.now (words_now words.now))
+        (value.sum_of signals.now (words_now words.now))) }
+{
+    if is_one(b"0", words) {
+        return Ok(Some(Ok(Sum::new(Vec::new(alloc)))));
+    }
+    let parts = parts_of(alloc, words)?;
+    let mut cubes = Vec::new(alloc);
+    let mut fault = None;
+    for part in &parts {
+        let Some(cube) = read_cube(signals, *part) else {
+            return Ok(None);
+        };
+        let cube = match cube {
+            Ok(cube) => cube,
+            Err(kind) => {
+                fault = Some(first_fault(fault, kind));
+                continue;
+            }
+        };
+        cubes.push(cube)?;
+    }
+    match fault {
+        Some(kind) => Ok(Some(Err(kind))),
+        None => Ok(Some(Ok(Sum::new(cubes)))),
+    }
+}
+
+/// The gate of a sum.
+fn read_sum_gate(
+    alloc: Global,
+    signals: &Names,
+    words: &[&[u8]],
+) -> Result<Option<Result<Gate, TextKind>>, NoMemory>
+    requires { length signals.now ≤ max_signals }
+    ensures { IfOk result (Reads gate_seen (sums.is_sum (words_now words.now))
+        (gates.sum_fault signals.now (words_now words.now))
+        (base.SumGate (value.sum_of signals.now (words_now words.now)))) }
+{
+    match read_sum(alloc, signals, words)? {
+        None => Ok(None),
+        Some(Err(kind)) => Ok(Some(Err(kind))),
+        Some(Ok(sum)) => Ok(Some(Ok(Gate::Sum(sum)))),
+    }
+}
+
+/// The generalised C-element of the words before and after `|`.
+fn read_gc(
+    alloc: Global,
+    signals: &Names,
+    words: &[&[u8]],
+) -> Result<Option<Result<Gate, TextKind>>, NoMemory>
+    requires { length signals.now ≤ max_signals }
+    ensures { IfOk result
+        (Reads gate_seen (gates.are_sums (sums.cut_at (codes "|") (words_now words.now)))
+        (gates.sum_fault signals.now (words_now words.now))
+        (value.gc_of signals.now (sums.cut_at (codes "|") (words_now words.now)))) }
+{
+    let Some((set, reset)) = cut_at(b"|", words) else {
+        return Ok(None);
+    };
+    let Some(set) = read_sum(alloc, signals, set)? else {
+        return Ok(None);
+    };
+    let Some(reset) = read_sum(alloc, signals, reset)? else {
+        return Ok(None);
+    };
+    match (set, reset) {
+        (Err(kind), _) => Ok(Some(Err(kind))),
+        (Ok(_), Err(kind)) => Ok(Some(Err(kind))),
+        (Ok(set), Ok(reset)) => Ok(Some(Ok(Gate::Gc { set, reset }))),
+    }
+}
+
+/// The literals of words, in their order.
+fn read_literals(
+    alloc: Global,
+    signals: &Names,
+    words: &[&[u8]],
+) -> Result<Option<Result<Vec<Literal>, TextKind>>, NoMemory>
+    requires { length signals.now ≤ max_signals }
+    ensures { IfOk result
+        (Reads (λ literals. literals.items) (list_all sums.is_literal (words_now words.now))
+        (first_in (gates.pin_fault signals.now) (words_now words.now))
+        (map (value.literal_of signals.now) (words_now words.now))) }
+{
+    let mut literals = Vec::new(alloc);
+    let mut fault = None;
+    for word in words {
+        let Some(literal) = read_literal(signals, *word) else {
+            return Ok(None);
+        };
+        let literal = match literal {
+            Ok(literal) => literal,
+            Err(kind) => {
+                fault = Some(first_fault(fault, kind));
+                continue;
+            }
+        };
+        literals.push(literal)?;
+    }
+    match fault {
+        Some(kind) => Ok(Some(Err(kind))),
+        None => Ok(Some(Ok(literals))),
+    }
+}
+
+/// The cell of the words before and after `:`.
+fn read_cell(
+    alloc: Global,
+    signals: &Names,
+    words: &[&[u8]],
+) -> Result<Option<Result<Gate, TextKind>>, NoMemory>
+    requires { length signals.now ≤ max_signals }
+    ensures { IfOk result
+        (Reads gate_seen (gates.are_pins_and_sum (sums.cut_at (codes ":") (words_now words.now)))
+        (gates.cell_fault signals.now (sums.cut_at (codes ":") (words_now words.now)))
+        (value.cell_of signals.now (sums.cut_at (codes ":") (words_now words.now)))) }
+{
+    let Some((pins, sum)) = cut_at(b":", words) else {
+        return Ok(None);
+    };
+    let [cell, literals @ ..] = pins else {
+        return Ok(None);
+    };
+    if !is_signal_name(*cell) || literals.len() > 4 {
+        return Ok(None);
+    }
+    let Some(literals) = read_literals(alloc, signals, literals)? else {
+        return Ok(None);
+    };
+    let Some(sum) = read_sum(alloc, signals, sum)? else {
+        return Ok(None);
+    };
+    match (literals, sum) {
+        (Err(kind), _) => Ok(Some(Err(kind))),
+        (Ok(_), Err(kind)) => Ok(Some(Err(kind))),
+        (Ok(literals), Ok(sum)) => Ok(Some(Ok(Gate::Cell {
+            name: Name::copy_of(alloc, *cell)?,
+            literals,
+            sum,
+        }))),
+    }
+}
+
+/// The gate that the words after the signal's name spell.
+fn read_gate(
+    alloc: Global,
+    signals: &Names,
+    words: &[&[u8]],
+) -> Result<Option<Result<Gate, TextKind>>, NoMemory>
+    requires { length signals.now ≤ max_signals }
+    ensures { IfOk result (Reads gate_seen (gates.is_gate (words_now words.now))
+        (gates.literals_fault signals.now (words_now words.now))
+        (value.gate_of signals.now (words_now words.now))) }
+{
+    let [kind, rest @ ..] = words else {
+        return Ok(None);
+    };
+    if b"sum".as_slice() == *kind {
+        read_sum_gate(alloc, signals, rest)
+    } else if b"gc".as_slice() == *kind {
+        read_gc(alloc, signals, rest)
+    } else if b"cell".as_slice() == *kind {
+        read_cell(alloc, signals, rest)
+    } else {
+        Ok(None)
+    }
+}
+
+/// The gate of the signal of that name, from the words of its line, or the fault of the line.
+pub fn read_gate_line(
+    alloc: Global,
+    signals: &Names,
+    name: &[u8],
+    words: &[&[u8]],
+) -> Result<Result<Gate, TextKind>, NoMemory>
+    requires { length signals.now ≤ max_signals }
+    ensures { IfOk result (λ read. MatchResult read
+        (λ gate. (gates.gate_fault signals.now name.now (words_now words.now) ≡ None)
+        × (gate_seen gate ≡ gate_in signals.now (words_now words.now)))
+        (λ kind. gates.gate_fault signals.now name.now (words_now words.now) ≡ Some kind)) }
+{
+    let [head, rest @ ..] = words else {
+        return Ok(Err(TextKind::BadLine));
+    };
+    if name != *head {
+        return Ok(Err(TextKind::BadLine));
+    }
+    match read_gate(alloc, signals, rest)? {
+        Some(gate) => Ok(gate),
+        None => Ok(Err(TextKind::BadLine)),
+    }
+}

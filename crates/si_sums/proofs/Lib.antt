@@ -1,4 +1,0 @@
-pub mod FullSums
-pub mod CubeLemmas
-pub mod SumLemmas
-pub mod FullLemmas
