@@ -85,7 +85,7 @@ impl Class {
     }
 
     /// Whether the new signal may switch in that direction at states of the class.
-    pub(crate) fn switches(self, up: bool) -> bool
+    pub fn switches(self, up: bool) -> bool
         ensures { result ≡ made.switches up self }
     {
         match self {
