@@ -1,3 +1,6 @@
 pub mod RightLemmas
 pub mod GateLemmas
 pub mod Examples
+pub mod DescentLemmas
+pub mod WordLemmas
+pub mod TraceLemmas
