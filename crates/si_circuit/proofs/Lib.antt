@@ -4,3 +4,5 @@ pub mod Examples
 pub mod DescentLemmas
 pub mod WordLemmas
 pub mod TraceLemmas
+pub mod InsertedLemmas
+pub mod CircuitLemmas

@@ -1,5 +1,6 @@
 -- Circuits: a lineage without conflicts, and a netlist for it.
 use Rattle.std.specs.Prelude.{◌≡◌, ℕ, List, length, map, All}
+use Rattle.si_base.specs.Behaviour.{Implements}
 use Rattle.si_base.specs.Graph.{StateGraph}
 use Rattle.si_base.specs.Netlist.{Netlist}
 use Rattle.si_base.specs.Words.{IsStateName}
@@ -24,8 +25,9 @@ pub record LineageNetlist : Type 0 where
   pub lineage : History
   pub netlist : Netlist
 
--- the netlist has the signals, the start and the next values of the current graph, and its insertions are those of the
--- trace
+-- the netlist has the signals, the start and the next values of the current graph, and the insertions of the trace; so it
+-- implements the given graph
 pub record IsCircuit (l : History) (n : Netlist) : Type 0 where
   pub built : IsBuilt l.current n
   pub inserted : map (λ i. i.name) n.inserts ≡ map (λ p. p.name) l.trace
+  pub implements : Implements n l.given.graph
