@@ -3,6 +3,8 @@
 #![tactic(auto)]
 
 pub mod chosen;
+pub mod circuit;
 mod gates;
 pub mod laws;
+pub mod spelling;
 pub mod style;
