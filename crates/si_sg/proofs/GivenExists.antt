@@ -29,11 +29,11 @@ use Rattle.si_sg.proofs.SignalLemmas.{as_many, kinds_in_order, names_apart}
 
 -- what holds of the header of lines without fault: the section behind it has none, and its signals are distinct and
 -- few
-record IsHeaderOf (last : ℕ) (h : Header) (after : List Line) : Type 0 where
-  section : section_lines_fault last (declared h) no_section after ≡ None
-  signals : AreSignals (declared h)
+pub record IsHeaderOf (last : ℕ) (h : Header) (after : List Line) : Type 0 where
+  pub section : section_lines_fault last (declared h) no_section after ≡ None
+  pub signals : AreSignals (declared h)
 
-header_good : (last : ℕ) (h : Header) (lines : List Line) → AreSignals (declared h)
+pub header_good : (last : ℕ) (h : Header) (lines : List Line) → AreSignals (declared h)
     → header_lines_fault last h lines ≡ None → IsHeaderOf last (header_says h lines) (after_header lines)
 header_good last h [] are none = cc
 header_good last h (line ∷ lines) are none =
