@@ -2,7 +2,6 @@
 //! drives.
 #![tactic(auto)]
 
-pub mod chosen;
 pub mod circuit;
 mod gates;
 pub mod laws;
