@@ -14,7 +14,7 @@ use Rattle.si_graph.specs.declared.closure.Along.{Along}
 use Rattle.si_graph.specs.declared.closure.Along.TheVariants.{Out, In, Both}
 use Rattle.si_graph.specs.Closure.{IsBeside, IsNext, Leads}
 use Rattle.si_graph.specs.Reach.{IsIn, unmarked}
-use Rattle.si_graph.proofs.MarkLemmas.{stays_in, in_cases, is_set, in_below}
+use Rattle.si_graph.proofs.MarkLemmas.{stays_in, in_cases, in_below}
 use Rattle.si_graph.proofs.MemberLemmas.{Contains-cons_cases, Contains-here, Contains-there, Contains-nil, Contains-map, Contains-from_map, Contains-filter, Contains-from_filter}
 use Rattle.si_regions.specs.Regions.{IsSetOf}
 use Rattle.si_regions.specs.Searching.{AreMarksOf, IsReachedIn, IsSeed}
@@ -223,25 +223,24 @@ module _ (g : StateGraph) (along : Along) (within : List Bool) (seeds : List ℕ
   unfolding pairs
   all_reached marks are none =
       let marked = some_set g (IsIn marks) (λ s. same_bit (get_or marks s false) true)
-          (λ s is. omega (arith, in_below marks s is, are.size)) in
-      (
+      (λ s is. omega (arith, in_below marks s is, are.size)) in (
         marked.0,
         search_finds g along within seeds marks marked.0 marked.0
-        (record {
-          begun = are.begun;
-          sound = are.sound;
-          closed = λ s is. inr (λ t next. elim (cases_Bool (get_or marks t false)) [
-            | inl here ↦ here
-            | inr missing ↦ absurd (none ((s, t), pair_there g along s t next.0, (is, (next.1, missing))))
-          ]);
-          queued = λ t waits. absurd (Contains-nil t waits);
-        })
-        (λ t. (
-          λ is. inl ((marked.1.exactly t).1 is),
-          λ found. elim found [ inl there ↦ (marked.1.exactly t).0 there | inr waits ↦ absurd (Contains-nil t waits) ],
-        ))
-        (λ t. ((λ there. there), (λ there. there)))
-        marked.1.in_order,
+            (record {
+              begun = are.begun;
+              sound = are.sound;
+              closed = λ s is. inr (λ t next. elim (cases_Bool (get_or marks t false)) [
+                | inl here ↦ here
+                | inr missing ↦ absurd (none ((s, t), pair_there g along s t next.0, (is, (next.1, missing))))
+              ]);
+              queued = λ t waits. absurd (Contains-nil t waits);
+            })
+            (λ t. (
+              λ is. inl ((marked.1.exactly t).1 is),
+              λ found. elim found [ inl there ↦ (marked.1.exactly t).0 there | inr waits ↦ absurd (Contains-nil t waits) ],
+            ))
+            (λ t. ((λ there. there), (λ there. there)))
+            marked.1.in_order,
       )
 
   spread : (n : ℕ) (marks : List Bool) → unmarked marks < n → AreReached marks
