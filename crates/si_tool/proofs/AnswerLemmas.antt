@@ -16,11 +16,12 @@ use Rattle.si_tool.specs.Command.{Asked, AsksAbout, AsksOfGraph, AsksReplay, fil
 use Rattle.si_tool.specs.Laws.{AtMostOne, HasResult, EndsOrDeparts}
 use Rattle.si_tool.specs.Loads.{Contents, Counts, loads, load_well, loads_well, AreTold}
 use Rattle.si_tool.specs.Meaning.{check, synth, replay, meaning, ComesTo}
-use Rattle.si_tool.specs.Refusal.{FileRefusal, TextRefusal, ReadFault, Answer, Output, FileRefused, TextRefused}
+use Rattle.si_tool.specs.Refusal.{TextRefusal, ReadFault, Answer, Output, FileRefused, TextRefused}
 use Rattle.si_tool.specs.Stages.{Stage, Then, Passes}
 use Rattle.si_tool.specs.Summary.{summary}
 use Rattle.si_tool.specs.declared.command.GraphTask.TheVariants.{Check, Synth}
-use Rattle.si_tool.proofs.CheckLemmas.{graph_one, proper_one, conflict_one, matched_one, replayed_one, synthesised_one}
+use Rattle.si_tool.proofs.CheckLemmas.{graph_one, proper_one, conflict_one, matched_one, replayed_one}
+use Rattle.si_tool.proofs.CheckLemmas.{synthesised_one}
 use Rattle.si_tool.proofs.LoadLemmas.{all_one, all_some, all_or_fault, as_many}
 use Rattle.si_tool.proofs.SomeLemmas.{graph_some, proper_some, conflict_some, matched_some}
 use Rattle.si_tool.proofs.SomeLemmas.{replayed_ends, replayed_some, synthesised_some}
@@ -28,11 +29,13 @@ use Rattle.si_tool.proofs.StageLemmas.{then_one, then_some, gives_one, gives_som
 
 -- ---- by their texts: to one answer at most
 check_one : (file text : List ℕ) → AtMostOne (check file text)
-check_one file text = then_one _ _ (graph_one file text) (λ given is. then_one _ _ (proper_one given.graph given.states)
+check_one file text = then_one _ _ (graph_one file text)
+    (λ given is. then_one _ _ (proper_one given.graph given.states)
     (λ coded sound. gives_one (summary coded)))
 
 synth_one : (style : Style) (file text : List ℕ) → AtMostOne (synth style file text)
-synth_one style file text = then_one _ _ (graph_one file text) (λ given is. then_one _ _ (proper_one given.graph given.states)
+synth_one style file text = then_one _ _ (graph_one file text)
+    (λ given is. then_one _ _ (proper_one given.graph given.states)
     (λ coded sound. then_one _ _ (conflict_one coded given.states) (λ _ free. synthesised_one style given coded)))
 
 replay_one : (g a n b s c : List ℕ) → AtMostOne (replay g a n b s c)
@@ -53,8 +56,10 @@ check_some file text = then_some _ _ (graph_some file text) (λ given is. then_s
     (λ coded sound. gives_some (summary coded)))
 
 synth_some : (style : Style) (file text : List ℕ) → HasResult (synth style file text)
-synth_some style file text = then_some _ _ (graph_some file text) (λ given is. then_some _ _ (proper_some text given is)
-    (λ coded sound. then_some _ _ (conflict_some coded given.states) (λ _ free. synthesised_some style text given coded is sound free)))
+synth_some style file text = then_some _ _ (graph_some file text)
+    (λ given is. then_some _ _ (proper_some text given is)
+    (λ coded sound. then_some _ _ (conflict_some coded given.states)
+    (λ _ free. synthesised_some style text given coded is sound free)))
 
 replay_some : (g a n b s c : List ℕ) → HasResult (replay g a n b s c)
 replay_some g a n b s c = then_some _ _ (graph_some g a) (λ given is. then_some _ _ (spelled_some n _ _)
@@ -78,7 +83,8 @@ then_ends : {A : Type 0} (first : Stage TextRefusal A) (next : A → Stage TextR
 then_ends first next x is (inl ends) = inl (ends.0, Passes x is ends.1)
 then_ends first next x is (inr departs) = inr (departs.0, departs.1, departs.2, Passes x is departs.3)
 
-pub replay_ends : (g n s a b c : List ℕ) (given : Sg) (coded : CodedGraph) → IsGivenBy a given → netlist_fault b ≡ None
+pub replay_ends : (g n s a b c : List ℕ) (given : Sg) (coded : CodedGraph) → IsGivenBy a given → netlist_fault b
+    ≡ None
     → schedule_fault (signal_names (netlist_of b).signals) c ≡ None → IsSound given.graph coded
     → IsFor coded (netlist_of b) → EndsOrDeparts (replay g a n b s c)
 replay_ends g n s a b c given coded is netlist schedule sound fits =
@@ -152,10 +158,10 @@ command_some content asked told = go (all_some content (files_of asked) told)
   where
     answered : (texts : List (List ℕ)) → loads_well content (files_of asked) (Ok texts)
         → HasResult (meaning asked texts) → (a : Answer) × ComesTo (loads_well content) asked a
-    answered texts are (Ok output , means) = (Output output, (texts, are, means))
-    answered texts are (Err refusal , means) = (TextRefused refusal, (texts, are, means))
+    answered texts are (Ok output, means) = (Output output, (texts, are, means))
+    answered texts are (Err refusal, means) = (TextRefused refusal, (texts, are, means))
 
     go : HasResult (loads_well content (files_of asked)) → (a : Answer) × ComesTo (loads_well content) asked a
-    go (Err refusal , is) = (FileRefused refusal, is)
-    go (Ok texts , is) =
+    go (Err refusal, is) = (FileRefused refusal, is)
+    go (Ok texts, is) =
         answered texts is (meaning_some asked texts (as_many (load_well content) (files_of asked) texts is))

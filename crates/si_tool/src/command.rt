@@ -74,7 +74,8 @@ fn about_of(words: &[String]) -> Option<Command<'_>>
 
 /// `check F`.
 fn check_of(words: &[String]) -> Option<Command<'_>>
-    ensures { MatchOption result ((file : List ℕ) → Asks words.now (AsksOfGraph GraphTask.Check file) → ⊥)
+    ensures { MatchOption result
+        ((file : List ℕ) → Asks words.now (AsksOfGraph GraphTask.Check file) → ⊥)
         (λ command. Asks words.now (asked_now command)) }
 {
     match words {
@@ -90,7 +91,7 @@ fn check_of(words: &[String]) -> Option<Command<'_>>
 fn synth_of(words: &[String]) -> Option<Command<'_>>
     ensures { MatchOption result
         ((style : gates.Style) (file : List ℕ)
-            → Asks words.now (AsksOfGraph (GraphTask.Synth style) file) → ⊥)
+        → Asks words.now (AsksOfGraph (GraphTask.Synth style) file) → ⊥)
         (λ command. Asks words.now (asked_now command)) }
 {
     match words {

@@ -1,4 +1,4 @@
-use Rattle.std.proofs.Common.{ap, sym, ◌∙◌}
+use Rattle.std.proofs.Common.{ap, ◌∙◌}
 use Rattle.si_base.specs.Codes.{CodedGraph}
 use Rattle.si_sg.specs.GivenGraph.{sg_now}
 use Rattle.si_tool.specs.Meaning.{check}
