@@ -88,7 +88,7 @@ fn about_of(words: &[String]) -> Option<Command<'_>>
 fn report_of(words: &[String]) -> Option<Command<'_>>
     ensures { MatchOption result
         ((report : Reports) (file : List ℕ)
-            → Asks words.now (AsksOfGraph (GraphTask.Tell report) file) → ⊥)
+        → Asks words.now (AsksOfGraph (GraphTask.Tell report) file) → ⊥)
         (λ command. Asks words.now (asked_now command)) }
 {
     match words {
