@@ -42,7 +42,8 @@ module _ (c : CodedGraph) (coded : IsCoded c) (e : Event) where
   ]
 
   resting : (marks : List Bool) × AreMarksOf c.graph (λ s. (s < c.graph.states) × IsQuiet c e s) marks
-  resting = some_marks c.graph (λ s. (s < c.graph.states) × IsQuiet c e s) (λ s. both (below s) (quiet s)) (λ s is. is.0)
+  resting = some_marks c.graph (λ s. (s < c.graph.states) × IsQuiet c e s) (λ s. both (below s) (quiet s))
+      (λ s is. is.0)
 
   -- an arc by e from the set to t
   abbrev Enters : List ℕ → ℕ → Edge → Type 0
