@@ -1,5 +1,6 @@
 -- A text without fault gives a graph.
-use Rattle.std.proofs.Common.{◌≡◌, ◌≢◌, ◌<◌, ◌∙◌, ℕ, false, List, [], ◌∷◌, map, length, get_or, All, AllPairs, bytes_eq, refl, sym, arith, inl, inr, None}
+use Rattle.std.proofs.Common.{◌≡◌, ◌≢◌, ◌<◌, ◌∙◌, ℕ, false, List, [], ◌∷◌, map, length, get_or, All, AllPairs}
+use Rattle.std.proofs.Common.{bytes_eq, refl, sym, arith, inl, inr, None}
 use Rattle.std.specs.List.{slice_index_or}
 use Rattle.std.proofs.lemmas.Bool.{cases_Bool, true≢false}
 use Rattle.std.proofs.lemmas.List.{length-map}
@@ -17,19 +18,23 @@ use Rattle.si_graph.proofs.CutExists.{some_cut}
 use Rattle.si_sg.specs.Header.{Header, no_header, declared, is_state_graph}
 use Rattle.si_sg.specs.Section.{Section, no_section}
 use Rattle.si_sg.specs.GivenGraph.{IsGivenBy, IsSpelled, edge_of, model_in, signals_in, start_in}
-use Rattle.si_sg.specs.GraphText.{words, after_last, graph_fault, header_of, section_of, header_line_fault, header_line_with, header_lines_fault, section_lines_fault, header_says, after_header}
+use Rattle.si_sg.specs.GraphText.{words, after_last, graph_fault, header_of, section_of, header_line_fault}
+use Rattle.si_sg.specs.GraphText.{header_line_with, header_lines_fault, section_lines_fault, header_says}
+use Rattle.si_sg.specs.GraphText.{after_header}
 use Rattle.si_sg.specs.Reads.{Apart, AreSignals, IsWholeSection}
 use Rattle.si_sg.proofs.HeaderLemmas.{signals_kept, or_parts}
 use Rattle.si_sg.proofs.SectionLemmas.{line_none}
 use Rattle.si_sg.proofs.BuildLemmas.{edges_within, section_read}
 use Rattle.si_sg.proofs.SignalLemmas.{as_many, kinds_in_order, names_apart}
 
--- what holds of the header of lines without fault: the section behind it has none, and its signals are distinct and few
+-- what holds of the header of lines without fault: the section behind it has none, and its signals are distinct and
+-- few
 record IsHeaderOf (last : ℕ) (h : Header) (after : List Line) : Type 0 where
   section : section_lines_fault last (declared h) no_section after ≡ None
   signals : AreSignals (declared h)
 
-header_good : (last : ℕ) (h : Header) (lines : List Line) → AreSignals (declared h) → header_lines_fault last h lines ≡ None → IsHeaderOf last (header_says h lines) (after_header lines)
+header_good : (last : ℕ) (h : Header) (lines : List Line) → AreSignals (declared h)
+    → header_lines_fault last h lines ≡ None → IsHeaderOf last (header_says h lines) (after_header lines)
 header_good last h [] are none = cc
 header_good last h (line ∷ lines) are none =
     let parts = line_none line.0 (header_line_fault h line.1) _ none in
@@ -46,17 +51,20 @@ other_names : (n : List ℕ) (names : List (List ℕ)) → stands_in names n ≡
 other_names n [] none = All-nil (λ (m : List ℕ). n ≢ m)
 other_names n (m ∷ names) none =
     let parts = or_parts (bytes_eq n m) (stands_in names n) none in
-    All-cons (λ (k : List ℕ). n ≢ k) m names (λ same. true≢false (sym ((bytes_eq-Decides n m).1 same) ∙ parts.0)) (other_names n names parts.1)
+    All-cons (λ (k : List ℕ). n ≢ k) m names (λ same. true≢false (sym ((bytes_eq-Decides n m).1 same) ∙ parts.0))
+    (other_names n names parts.1)
 
 no_pairs : AllPairs (λ (a b : List ℕ). a ≢ b) []
 no_pairs i j d before within = absurd (omega arith)
 
 apart_pairs : (names : List (List ℕ)) → Apart names → AllPairs (λ a b. a ≢ b) names
 apart_pairs [] apart = no_pairs
-apart_pairs (n ∷ names) apart = AllPairs-cons (λ (a b : List ℕ). a ≢ b) n names (other_names n names apart.0) (apart_pairs names apart.1)
+apart_pairs (n ∷ names) apart = AllPairs-cons (λ (a b : List ℕ). a ≢ b) n names (other_names n names apart.0)
+    (apart_pairs names apart.1)
 
 -- ---- the graph that a header and a section spell
-module _ (h : Header) (x : Section) (are : AreSignals (declared h)) (section : IsWholeSection (length (signals_in h)) x) where
+module _ (h : Header) (x : Section) (are : AreSignals (declared h))
+    (section : IsWholeSection (length (signals_in h)) x) where
   abbrev Inside : Edge → Type 0
   Inside a = (a.from < length x.states) × (a.event.sig < length (signals_in h)) × (a.to < length x.states)
 
@@ -67,7 +75,12 @@ module _ (h : Header) (x : Section) (are : AreSignals (declared h)) (section : I
       let ordered = arcs_in_order arcs in
       let once = ordered.1 in
       let inside : All Inside arcs = edges_within (length signals) (length x.states) x.arcs section.section.within in
-      let g : StateGraph = record { signals = signals; states = length x.states; edges = ordered.0; start = start_in x.states x.marks } in (
+      let g : StateGraph = record {
+        signals = signals;
+        states = length x.states;
+        edges = ordered.0;
+        start = start_in x.states x.marks;
+      } in (
         g,
         record {
           signals_are = refl;
@@ -77,7 +90,8 @@ module _ (h : Header) (x : Section) (are : AreSignals (declared h)) (section : I
             few_states = omega (arith, section.section.few_states);
             few_signals = omega (arith, are.few, as_many h.inputs h.outputs h.internals signals refl);
             few_edges = omega (arith, once.no_longer, length-map x.arcs edge_of, section.section.few_arcs);
-            within = λ k d within. All-contains Inside arcs (get_or ordered.0 k d) inside ((once.same (get_or ordered.0 k d)).0 (Contains-get_or ordered.0 k d within));
+            within = λ k d within. All-contains Inside arcs (get_or ordered.0 k d) inside
+                ((once.same (get_or ordered.0 k d)).0 (Contains-get_or ordered.0 k d within));
             starts = section.start;
             kinds = kinds_in_order h.inputs h.outputs h.internals signals refl;
             names = names_apart h.inputs h.outputs h.internals signals refl (apart_pairs (declared h) are.apart);
@@ -93,13 +107,19 @@ some_given text none =
     let header = header_good (after_last text) no_header (numbered text) nothing none in
     let h : Header = header_of text in
     let x : Section = section_of text in
-    let section : IsWholeSection (length (signals_in h)) x = section_read (after_last text) h (declared h) (signals_in h) (after_header (numbered text)) x refl refl header.section refl in
+    let section : IsWholeSection (length (signals_in h)) x =
+    section_read (after_last text) h (declared h) (signals_in h)
+    (after_header (numbered text)) x refl refl header.section refl in
     let whole = some_graph h x header.signals section in
     let cut = some_cut whole.0 whole.1.graph in
     let names : List (List ℕ) = map (λ s. slice_index_or x.states s []) cut.0 in (
       record { model = model_in h.models; graph = cut.1; states = names },
       record {
         no_fault = none;
-        is = record { whole = whole.0; spelled = whole.1; given = record { kept = cut.0; cut = cut.2; model_is = refl; states_are = refl } };
+        is = record {
+          whole = whole.0;
+          spelled = whole.1;
+          given = record { kept = cut.0; cut = cut.2; model_is = refl; states_are = refl };
+        };
       },
     )

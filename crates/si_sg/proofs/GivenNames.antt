@@ -1,6 +1,7 @@
 -- The forms of the names that a text without fault gives: the model's name, the signals', and their kinds.
 use Rattle.std.proofs.Common.{◌≡◌, ℕ, ◌<◌, ◌≤◌, ◌==◌, ◌&&◌, ◌||◌, ◌⊎◌, not, Bool, true, false, List, [], ◌∷◌, ◌++◌}
-use Rattle.std.proofs.Common.{refl, sym, subst, ◌∙◌, arith, inl, inr, eqb-true, eq-eqb, nat_le, nat_lt, None, All, IsTrue}
+use Rattle.std.proofs.Common.{refl, sym, subst, ◌∙◌, arith, inl, inr, eqb-true, eq-eqb, nat_le, nat_lt, None, All}
+use Rattle.std.proofs.Common.{IsTrue}
 use Rattle.std.proofs.Common.{if◌then◌else◌, cond, take_while}
 use Rattle.std.specs.List.{AllByRecursion, list_all, list_any}
 use Rattle.std.proofs.lemmas.Bool.{and_parts, and_from, cases_Bool, cases_lt, lt-ltb, le-leb, or_cases, true≢false}
@@ -23,9 +24,11 @@ use Rattle.si_sg.specs.declared.heads.Head.{Head}
 use Rattle.si_sg.specs.declared.heads.Head.TheVariants.{Model, Inputs, Outputs, Internals, Dummy, State, Marking, End}
 use Rattle.si_sg.specs.declared.heads.Head.TheVariants.{Directive, Plain}
 use Rattle.si_sg.specs.GivenGraph.{IsGivenBy, model_in, signals_in}
-use Rattle.si_sg.specs.GraphText.{words, header_line_fault, header_line_with, header_lines_fault, header_says, header_of}
+use Rattle.si_sg.specs.GraphText.{words, header_line_fault, header_line_with, header_lines_fault, header_says}
+use Rattle.si_sg.specs.GraphText.{header_of}
 use Rattle.si_sg.specs.GraphText.{after_last}
-use Rattle.si_sg.specs.Header.{Header, no_header, declared, header_fault, header_with, header_words_fault, header_words_with}
+use Rattle.si_sg.specs.Header.{Header, no_header, declared, header_fault, header_with, header_words_fault}
+use Rattle.si_sg.specs.Header.{header_words_with}
 use Rattle.si_sg.specs.Header.{is_state_graph}
 use Rattle.si_sg.specs.Heads.{head_of}
 use Rattle.si_sg.specs.StateWords.{is_brace_word, is_none, is_one_name}
@@ -98,7 +101,8 @@ longer : (b : ℕ) (ws : List (List ℕ)) → is_word_byte b ≡ true → IsFirs
 longer b [] byte first all = absurd first
 longer b ([] ∷ ws) byte first all = absurd (true≢false (sym first))
 longer b ((c ∷ w) ∷ ws) byte first all =
-    let name : is_model_name (b ∷ c ∷ w) ≡ true = and_from (is_word_byte b) (list_all is_word_byte (c ∷ w)) byte first in
+    let name : is_model_name (b ∷ c ∷ w) ≡ true = and_from (is_word_byte b)
+    (list_all is_word_byte (c ∷ w)) byte first in
     ((inr name, all.1), name)
 
 brace_alone : (b : ℕ) → is_brace b ≡ true → is_brace_word (b ∷ []) ≡ true
@@ -128,8 +132,10 @@ words_named (b ∷ bs) fair =
     let ws : List (List ℕ) = words_in true bs in
     chosen (AreWords (b ∷ bs)) (is_blank b) ws _
     (λ blank. (rest.0, λ plain. absurd (no_blank_first (is_blank b) _ blank plain)))
-    (λ dark. chosen (AreWords (b ∷ bs)) (is_plain true b && begins (is_plain true) bs) (put_first b ws) ((b ∷ []) ∷ ws)
-    (λ both. joined dark rest (and_parts (is_plain true b) (begins (is_plain true) bs) both)) (λ alone. apart dark rest))
+    (λ dark. chosen (AreWords (b ∷ bs)) (is_plain true b && begins (is_plain true) bs) (put_first b ws)
+    ((b ∷ []) ∷ ws)
+    (λ both. joined dark rest (and_parts (is_plain true b) (begins (is_plain true) bs) both))
+    (λ alone. apart dark rest))
   where
     joined : is_blank b ≡ false → AreWords bs (words_in true bs)
         → (is_plain true b ≡ true) × (begins (is_plain true) bs ≡ true)
@@ -141,11 +147,15 @@ words_named (b ∷ bs) fair =
 
     apart : is_blank b ≡ false → AreWords bs (words_in true bs) → AreWords (b ∷ bs) ((b ∷ []) ∷ words_in true bs)
     apart dark rest = elim (cases_Bool (is_brace b)) [
-      | inl brace ↦ ((inl (brace_alone b brace), rest.0), λ plain. absurd (no_brace_first (is_brace b) (is_blank b) brace plain))
+      | inl brace ↦ (
+        (inl (brace_alone b brace), rest.0),
+        λ plain. absurd (no_brace_first (is_brace b) (is_blank b) brace plain),
+      )
       | inr other ↦ (
-          let name : is_model_name (b ∷ []) ≡ true = and_from (is_word_byte b) true (word_byte b fair.0 dark other) refl in
+          let name : is_model_name (b ∷ []) ≡ true = and_from (is_word_byte b) true
+          (word_byte b fair.0 dark other) refl in
           ((inr name, rest.0), λ plain. name)
-        )
+          )
     ]
 
 -- ---- a line without bad bytes
@@ -159,20 +169,22 @@ before_hash (b ∷ bs) = elim (cases_Bool (b == 35)) [
   | inl hash ↦ (
       let ends : before_comment (b ∷ bs) ≡ [] = take_while-cons (λ c. not (c == 35)) b bs ∙ rw hash refl in
       subst NoHash (sym ends) tt
-    )
+      )
   | inr other ↦ (
       let goes : before_comment (b ∷ bs) ≡ b ∷ before_comment bs =
       take_while-cons (λ c. not (c == 35)) b bs ∙ rw other refl in
       subst NoHash (sym goes) (other, before_hash bs)
-    )
+      )
 ]
 
 fair_bytes : (bs : List ℕ) → list_any is_bad bs ≡ false → NoHash bs → AllByRecursion IsFair bs
 fair_bytes [] none all = tt
-fair_bytes (b ∷ bs) none all = (let parts = or_parts (is_bad b) (list_any is_bad bs) none in ((parts.0, all.0), fair_bytes bs parts.1 all.1))
+fair_bytes (b ∷ bs) none all = (let parts = or_parts (is_bad b) (list_any is_bad bs) none in
+    ((parts.0, all.0), fair_bytes bs parts.1 all.1))
 
 line_words_named : (line : List ℕ) → has_bad_byte line ≡ false → AllByRecursion IsBraceOrName (words line)
-line_words_named line fair = (words_named (before_comment line) (fair_bytes (before_comment line) fair (before_hash line))).0
+line_words_named line fair = (words_named (before_comment line)
+    (fair_bytes (before_comment line) fair (before_hash line))).0
 
 -- ---- the header
 
@@ -189,7 +201,8 @@ pub record IsNamed (h : Header) : Type 0 where
   pub outputs : AllByRecursion IsSignalName h.outputs
   pub internals : AllByRecursion IsSignalName h.internals
 
-all_of_both : (P : List ℕ → Type 0) (xs ys : List (List ℕ)) → AllByRecursion P xs → AllByRecursion P ys → AllByRecursion P (xs ++ ys)
+all_of_both : (P : List ℕ → Type 0) (xs ys : List (List ℕ)) → AllByRecursion P xs → AllByRecursion P ys
+    → AllByRecursion P (xs ++ ys)
 all_of_both P [] ys one other = other
 all_of_both P (x ∷ xs) ys one other = (one.0, all_of_both P xs ys one.1 other)
 
@@ -199,32 +212,63 @@ name_form names w none = elim (cases_Bool (is_signal_name w)) [
   | inr bad ↦ absurd (some_none (rw bad at none))
 ]
 
-names_form : (names ws : List (List ℕ)) → first_after (name_fault max_signals) names ws ≡ None → AllByRecursion IsSignalName ws
+names_form : (names ws : List (List ℕ)) → first_after (name_fault max_signals) names ws ≡ None
+    → AllByRecursion IsSignalName ws
 names_form names [] none = tt
 names_form names (w ∷ ws) none =
-    let parts = both_none (name_fault max_signals names w) (first_after (name_fault max_signals) (names ++ w ∷ []) ws) none in
+    let parts = both_none (name_fault max_signals names w)
+    (first_after (name_fault max_signals) (names ++ w ∷ []) ws) none in
     (name_form names w parts.0, names_form (names ++ w ∷ []) ws parts.1)
 
-one_model : (ws : List (List ℕ)) → AllByRecursion IsBraceOrName ws → is_one_name ws ≡ true → AllByRecursion IsModelName ws
+one_model : (ws : List (List ℕ)) → AllByRecursion IsBraceOrName ws → is_one_name ws ≡ true
+    → AllByRecursion IsModelName ws
 one_model [] all is = tt
-one_model (w ∷ []) all is = (elim all.0 [
-  | inl brace ↦ absurd (true≢false (sym (rw brace at (and_parts (not (is_brace_word w)) true is).0)))
-  | inr name ↦ name
-], tt)
+one_model (w ∷ []) all is = (
+  elim all.0 [
+    | inl brace ↦ absurd (true≢false (sym (rw brace at (and_parts (not (is_brace_word w)) true is).0)))
+    | inr name ↦ name
+  ],
+  tt,
+)
 one_model (w ∷ v ∷ ws) all is = absurd (true≢false (sym (and_parts (not (is_brace_word w)) false is).1))
 
-model_form : (h : Header) (ws : List (List ℕ)) → AllByRecursion IsBraceOrName ws → header_fault h Model ws ≡ None → AllByRecursion IsModelName ws
+model_form : (h : Header) (ws : List (List ℕ)) → AllByRecursion IsBraceOrName ws → header_fault h Model ws ≡ None
+    → AllByRecursion IsModelName ws
 model_form h ws all none = elim (cases_Bool (is_one_name ws)) [
   | inl one ↦ one_model ws all one
   | inr other ↦ absurd (some_none (rw other at none))
 ]
 
 -- a line without fault keeps that
-with_words_named : (h : Header) (head : Head) (ws : List (List ℕ)) → AllByRecursion IsBraceOrName ws → header_fault h head ws ≡ None → IsNamed h → IsNamed (header_with h head ws)
-with_words_named h Model ws all none is = record { models = all_of_both IsModelName h.models ws is.models (model_form h ws all none); inputs = is.inputs; outputs = is.outputs; internals = is.internals }
-with_words_named h Inputs ws all none is = record { models = is.models; inputs = all_of_both IsSignalName h.inputs ws is.inputs (names_form (declared h) ws none); outputs = is.outputs; internals = is.internals }
-with_words_named h Outputs ws all none is = record { models = is.models; inputs = is.inputs; outputs = all_of_both IsSignalName h.outputs ws is.outputs (names_form (declared h) ws none); internals = is.internals }
-with_words_named h Internals ws all none is = record { models = is.models; inputs = is.inputs; outputs = is.outputs; internals = all_of_both IsSignalName h.internals ws is.internals (names_form (declared h) ws none) }
+with_words_named : (h : Header) (head : Head) (ws : List (List ℕ)) → AllByRecursion IsBraceOrName ws
+    → header_fault h head ws ≡ None → IsNamed h → IsNamed (header_with h head ws)
+with_words_named h Model ws all none is = record {
+  models = all_of_both IsModelName h.models ws is.models
+      (model_form h ws all none);
+  inputs = is.inputs;
+  outputs = is.outputs;
+  internals = is.internals;
+}
+with_words_named h Inputs ws all none is = record {
+  models = is.models;
+  inputs = all_of_both IsSignalName h.inputs ws is.inputs (names_form (declared h) ws none);
+  outputs =
+      is.outputs;
+  internals = is.internals;
+}
+with_words_named h Outputs ws all none is = record {
+  models = is.models;
+  inputs = is.inputs;
+  outputs = all_of_both IsSignalName h.outputs ws is.outputs (names_form (declared h) ws none);
+  internals =
+      is.internals;
+}
+with_words_named h Internals ws all none is = record {
+  models = is.models;
+  inputs = is.inputs;
+  outputs = is.outputs;
+  internals = all_of_both IsSignalName h.internals ws is.internals (names_form (declared h) ws none);
+}
 with_words_named h Dummy ws all none is = is
 with_words_named h State ws all none is = is
 with_words_named h Marking ws all none is = is
@@ -232,11 +276,13 @@ with_words_named h End ws all none is = is
 with_words_named h Directive ws all none is = is
 with_words_named h Plain ws all none is = is
 
-of_words : (h : Header) (ws : List (List ℕ)) → AllByRecursion IsBraceOrName ws → header_words_fault h ws ≡ None → IsNamed h → IsNamed (header_words_with h ws)
+of_words : (h : Header) (ws : List (List ℕ)) → AllByRecursion IsBraceOrName ws → header_words_fault h ws ≡ None
+    → IsNamed h → IsNamed (header_words_with h ws)
 of_words h [] all none is = is
 of_words h (w ∷ ws) all none is = with_words_named h (head_of w) ws all.1 none is
 
-with_line_named : (h : Header) (line : Line) → header_line_fault h line.1 ≡ None → IsNamed h → IsNamed (header_line_with h line)
+with_line_named : (h : Header) (line : Line) → header_line_fault h line.1 ≡ None → IsNamed h
+    → IsNamed (header_line_with h line)
 with_line_named h line none is =
     let parts = both_none (when (has_bad_byte line.1) kind.BadByte) (header_words_fault h (words line.1)) none in
     of_words h (words line.1) (line_words_named line.1 (fair parts.0)) parts.1 is
@@ -247,7 +293,8 @@ with_line_named h line none is =
       | inr good ↦ good
     ]
 
-header_named : (last : ℕ) (h : Header) (lines : List Line) → header_lines_fault last h lines ≡ None → IsNamed h → IsNamed (header_says h lines)
+header_named : (last : ℕ) (h : Header) (lines : List Line) → header_lines_fault last h lines ≡ None → IsNamed h
+    → IsNamed (header_says h lines)
 header_named last h [] none is = is
 header_named last h (line ∷ lines) none is =
     let parts = line_none line.0 (header_line_fault h line.1) _ none in
@@ -262,11 +309,13 @@ header_named last h (line ∷ lines) none is =
 abbrev IsGivenSignal : Signal → Type 0
 IsGivenSignal x = IsTrue (is_signal_name x.name) × (is_inserted x.kind ≡ false)
 
-of_kind : (kind : SigKind) (names : List (List ℕ)) → is_inserted kind ≡ false → AllByRecursion IsSignalName names → AllByRecursion IsGivenSignal (signals_of kind names)
+of_kind : (kind : SigKind) (names : List (List ℕ)) → is_inserted kind ≡ false → AllByRecursion IsSignalName names
+    → AllByRecursion IsGivenSignal (signals_of kind names)
 of_kind kind [] given all = tt
 of_kind kind (n ∷ names) given all = ((all.0, given), of_kind kind names given all.1)
 
-both_lists : (xs ys : List Signal) → AllByRecursion IsGivenSignal xs → AllByRecursion IsGivenSignal ys → AllByRecursion IsGivenSignal (xs ++ ys)
+both_lists : (xs ys : List Signal) → AllByRecursion IsGivenSignal xs → AllByRecursion IsGivenSignal ys
+    → AllByRecursion IsGivenSignal (xs ++ ys)
 both_lists [] ys one other = other
 both_lists (x ∷ xs) ys one other = (one.0, both_lists xs ys one.1 other)
 

@@ -5,19 +5,22 @@ use Rattle.si_base.specs.Codes.{CodedGraph}
 use Rattle.si_base.specs.GivenGraph.{Sg}
 use Rattle.si_sg.specs.GivenGraph.{IsGivenBy}
 use Rattle.si_base.specs.System.{IsFor}
+use Rattle.si_circuit.specs.declared.style.Style.{Style}
 use Rattle.si_io.specs.Outside.{Rose}
 use Rattle.si_netlist_reader.specs.NetlistFault.{netlist_fault}
 use Rattle.si_netlist_reader.specs.NetlistValue.{netlist_of}
 use Rattle.si_system.specs.ScheduleText.{signal_names, schedule_fault, schedule_of}
+use Rattle.si_tool.specs.About.{about_text}
 use Rattle.si_tool.specs.Checks.{IsSound}
-use Rattle.si_tool.specs.Command.{Asked, AsksOfGraph, AsksReplay, files_of}
+use Rattle.si_tool.specs.Command.{Asked, AsksAbout, AsksOfGraph, AsksReplay, files_of}
 use Rattle.si_tool.specs.Laws.{AtMostOne, HasResult, EndsOrDeparts}
 use Rattle.si_tool.specs.Loads.{Contents, Counts, loads, load_well, loads_well, AreTold}
-use Rattle.si_tool.specs.Meaning.{check, synth, replay, meaning, ComesTo}
-use Rattle.si_tool.specs.Refusal.{FileRefusal, TextRefusal, ReadFault, Answer, Output, FileRefused, TextRefused}
+use Rattle.si_tool.specs.Meaning.{report, synth, replay, meaning, ComesTo}
+use Rattle.si_tool.specs.Refusal.{TextRefusal, ReadFault, Answer, Output, FileRefused, TextRefused}
 use Rattle.si_tool.specs.Stages.{Stage, Then, Passes}
-use Rattle.si_tool.specs.Summary.{summary}
-use Rattle.si_tool.specs.declared.command.GraphTask.TheVariants.{Check, Synth}
+use Rattle.si_tool.specs.declared.command.GraphTask.TheVariants.{Tell, Synth}
+use Rattle.si_tool.specs.declared.command.Report.{Report}
+use Rattle.si_tool.proofs.ReportLemmas.{told_one, told_some}
 use Rattle.si_tool.proofs.CheckLemmas.{graph_one, proper_one, conflict_one, matched_one, replayed_one, synthesised_one}
 use Rattle.si_tool.proofs.LoadLemmas.{all_one, all_some, all_or_fault, as_many}
 use Rattle.si_tool.proofs.SomeLemmas.{graph_some, proper_some, conflict_some, matched_some}
@@ -25,13 +28,14 @@ use Rattle.si_tool.proofs.SomeLemmas.{replayed_ends, replayed_some, synthesised_
 use Rattle.si_tool.proofs.StageLemmas.{then_one, then_some, gives_one, gives_some, spelled_one, spelled_some}
 
 -- ---- by their texts: to one answer at most
-check_one : (file text : List ℕ) → AtMostOne (check file text)
-check_one file text = then_one _ _ (graph_one file text) (λ given is. then_one _ _ (proper_one given.graph given.states)
-    (λ coded sound. gives_one (summary coded)))
+report_one : (what : Report) (file text : List ℕ) → AtMostOne (report what file text)
+report_one what file text = then_one _ _ (graph_one file text) (λ given is.
+    then_one _ _ (proper_one given.graph given.states) (λ coded sound. told_one what given.states coded))
 
-synth_one : (file text : List ℕ) → AtMostOne (synth file text)
-synth_one file text = then_one _ _ (graph_one file text) (λ given is. then_one _ _ (proper_one given.graph given.states)
-    (λ coded sound. then_one _ _ (conflict_one coded given.states) (λ _ free. synthesised_one given coded)))
+synth_one : (style : Style) (file text : List ℕ) → AtMostOne (synth style file text)
+synth_one style file text = then_one _ _ (graph_one file text)
+    (λ given is. then_one _ _ (proper_one given.graph given.states)
+    (λ coded sound. then_one _ _ (conflict_one coded given.states) (λ _ free. synthesised_one style given coded)))
 
 replay_one : (g a n b s c : List ℕ) → AtMostOne (replay g a n b s c)
 replay_one g a n b s c = then_one _ _ (graph_one g a) (λ given is. then_one _ _ (spelled_one n _ _)
@@ -39,19 +43,22 @@ replay_one g a n b s c = then_one _ _ (graph_one g a) (λ given is. then_one _ _
     (λ coded sound. then_one _ _ (matched_one n coded net) (λ _ same. replayed_one given net events)))))
 
 pub meaning_one : (asked : Asked) (texts : List (List ℕ)) → AtMostOne (meaning asked texts)
-meaning_one (AsksOfGraph Check file) (text ∷ []) = check_one file text
-meaning_one (AsksOfGraph Synth file) (text ∷ []) = synth_one file text
+meaning_one (AsksAbout topic) [] = gives_one (about_text topic)
+meaning_one (AsksOfGraph (Tell what) file) (text ∷ []) = report_one what file text
+meaning_one (AsksOfGraph (Synth style) file) (text ∷ []) = synth_one style file text
 meaning_one (AsksReplay g n s) (a ∷ b ∷ c ∷ []) = replay_one g a n b s c
 meaning_one asked texts = λ a b one other. absurd one
 
 -- ---- and to some answer
-check_some : (file text : List ℕ) → HasResult (check file text)
-check_some file text = then_some _ _ (graph_some file text) (λ given is. then_some _ _ (proper_some text given is)
-    (λ coded sound. gives_some (summary coded)))
+report_some : (what : Report) (file text : List ℕ) → HasResult (report what file text)
+report_some what file text = then_some _ _ (graph_some file text) (λ given is. then_some _ _ (proper_some text given is)
+    (λ coded sound. told_some what given.states coded sound.coded_is))
 
-synth_some : (file text : List ℕ) → HasResult (synth file text)
-synth_some file text = then_some _ _ (graph_some file text) (λ given is. then_some _ _ (proper_some text given is)
-    (λ coded sound. then_some _ _ (conflict_some coded given.states) (λ _ free. synthesised_some text given coded is sound free)))
+synth_some : (style : Style) (file text : List ℕ) → HasResult (synth style file text)
+synth_some style file text = then_some _ _ (graph_some file text)
+    (λ given is. then_some _ _ (proper_some text given is)
+    (λ coded sound. then_some _ _ (conflict_some coded given.states)
+    (λ _ free. synthesised_some style text given coded is sound free)))
 
 replay_some : (g a n b s c : List ℕ) → HasResult (replay g a n b s c)
 replay_some g a n b s c = then_some _ _ (graph_some g a) (λ given is. then_some _ _ (spelled_some n _ _)
@@ -60,8 +67,10 @@ replay_some g a n b s c = then_some _ _ (graph_some g a) (λ given is. then_some
 
 pub meaning_some : (asked : Asked) (texts : List (List ℕ)) → length texts ≡ length (files_of asked)
     → HasResult (meaning asked texts)
-meaning_some (AsksOfGraph Check file) (text ∷ []) many = check_some file text
-meaning_some (AsksOfGraph Synth file) (text ∷ []) many = synth_some file text
+meaning_some (AsksAbout topic) [] many = gives_some (about_text topic)
+meaning_some (AsksAbout topic) (text ∷ texts) many = absurd (omega arith)
+meaning_some (AsksOfGraph (Tell what) file) (text ∷ []) many = report_some what file text
+meaning_some (AsksOfGraph (Synth style) file) (text ∷ []) many = synth_some style file text
 meaning_some (AsksReplay g n s) (a ∷ b ∷ c ∷ []) many = replay_some g a n b s c
 meaning_some (AsksOfGraph task file) [] many = absurd (omega arith)
 meaning_some (AsksOfGraph task file) (text ∷ more ∷ texts) many = absurd (omega arith)
@@ -73,7 +82,8 @@ then_ends : {A : Type 0} (first : Stage TextRefusal A) (next : A → Stage TextR
 then_ends first next x is (inl ends) = inl (ends.0, Passes x is ends.1)
 then_ends first next x is (inr departs) = inr (departs.0, departs.1, departs.2, Passes x is departs.3)
 
-pub replay_ends : (g n s a b c : List ℕ) (given : Sg) (coded : CodedGraph) → IsGivenBy a given → netlist_fault b ≡ None
+pub replay_ends : (g n s a b c : List ℕ) (given : Sg) (coded : CodedGraph) → IsGivenBy a given → netlist_fault b
+    ≡ None
     → schedule_fault (signal_names (netlist_of b).signals) c ≡ None → IsSound given.graph coded
     → IsFor coded (netlist_of b) → EndsOrDeparts (replay g a n b s c)
 replay_ends g n s a b c given coded is netlist schedule sound fits =
@@ -147,10 +157,10 @@ command_some content asked told = go (all_some content (files_of asked) told)
   where
     answered : (texts : List (List ℕ)) → loads_well content (files_of asked) (Ok texts)
         → HasResult (meaning asked texts) → (a : Answer) × ComesTo (loads_well content) asked a
-    answered texts are (Ok output , means) = (Output output, (texts, are, means))
-    answered texts are (Err refusal , means) = (TextRefused refusal, (texts, are, means))
+    answered texts are (Ok output, means) = (Output output, (texts, are, means))
+    answered texts are (Err refusal, means) = (TextRefused refusal, (texts, are, means))
 
     go : HasResult (loads_well content (files_of asked)) → (a : Answer) × ComesTo (loads_well content) asked a
-    go (Err refusal , is) = (FileRefused refusal, is)
-    go (Ok texts , is) =
+    go (Err refusal, is) = (FileRefused refusal, is)
+    go (Ok texts, is) =
         answered texts is (meaning_some asked texts (as_many (load_well content) (files_of asked) texts is))

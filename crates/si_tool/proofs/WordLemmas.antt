@@ -1,7 +1,16 @@
--- Two words, three and four; and words that ask for nothing.
+-- One word, two, three and four; and words that ask for nothing.
 use Rattle.std.proofs.Common.{◌≡◌, ℕ, ◌<◌, ◌≤◌, List, [], ◌∷◌, length, get_or, String, string_bytes, Global, arith}
-use Rattle.si_tool.specs.Command.{AsksOfGraph, AsksReplay, Asks, AsksNothing, words_of}
-use Rattle.si_tool.specs.declared.command.GraphTask.TheVariants.{Check, Synth}
+use Rattle.si_circuit.specs.declared.style.Style.{Style}
+use Rattle.si_tool.specs.Command.{AsksAbout, AsksOfGraph, AsksReplay, Asks, AsksNothing, words_of}
+use Rattle.si_tool.specs.declared.about.Topic.{Topic}
+use Rattle.si_tool.specs.declared.command.GraphTask.TheVariants.{Tell, Synth}
+use Rattle.si_tool.specs.declared.command.Report.{Report}
+
+pub one_word : (words : List (String Global)) (a : String Global) → 1 ≤ length words → length words < 2
+    → a ≡ get_or words 0 a → words_of words ≡ string_bytes a ∷ []
+one_word [] a least most p = absurd (omega arith)
+one_word (x ∷ []) a least most p = cc
+one_word (x ∷ y ∷ ys) a least most p = absurd (omega arith)
 
 pub two_words : (words : List (String Global)) (a b : String Global) → 2 ≤ length words → length words < 3
     → a ≡ get_or words 0 a → b ≡ get_or words 1 b → words_of words ≡ string_bytes a ∷ string_bytes b ∷ []
@@ -30,9 +39,11 @@ four_words (x ∷ y ∷ z ∷ u ∷ []) a b c d least most p q r s = cc
 four_words (x ∷ y ∷ z ∷ u ∷ v ∷ us) a b c d least most p q r s = absurd (omega arith)
 
 -- words that ask for none of the commands
-pub asks_nothing : (words : List (String Global)) → ((f : List ℕ) → Asks words (AsksOfGraph Check f) → ⊥)
-    → ((f : List ℕ) → Asks words (AsksOfGraph Synth f) → ⊥)
+pub asks_nothing : (words : List (String Global)) → ((t : Topic) → Asks words (AsksAbout t) → ⊥)
+    → ((r : Report) (f : List ℕ) → Asks words (AsksOfGraph (Tell r) f) → ⊥)
+    → ((style : Style) (f : List ℕ) → Asks words (AsksOfGraph (Synth style) f) → ⊥)
     → ((g n s : List ℕ) → Asks words (AsksReplay g n s) → ⊥) → AsksNothing words
-asks_nothing words check synth replay (AsksOfGraph Check f) asks = check f asks
-asks_nothing words check synth replay (AsksOfGraph Synth f) asks = synth f asks
-asks_nothing words check synth replay (AsksReplay g n s) asks = replay g n s asks
+asks_nothing words about report synth replay (AsksAbout t) asks = about t asks
+asks_nothing words about report synth replay (AsksOfGraph (Tell r) f) asks = report r f asks
+asks_nothing words about report synth replay (AsksOfGraph (Synth style) f) asks = synth style f asks
+asks_nothing words about report synth replay (AsksReplay g n s) asks = replay g n s asks

@@ -1,13 +1,14 @@
 pub mod Refusal
 pub mod Stages
 pub mod Ending
+pub mod About
 pub mod Command
 pub mod Loads
 pub mod Readings
 pub mod Checks
 pub mod Synthesis
 pub mod Replayed
-pub mod Summary
+pub mod Reports
 pub mod Outcomes
 pub mod Meaning
 pub mod Run

@@ -1,31 +1,34 @@
 -- What each command means over its texts, and what it comes to over its files.
 use Rattle.std.specs.Prelude.{ℕ, List, [], ◌∷◌, String, Ok, Err}
 use Rattle.std.specs.declared.alloc.Global.{Global}
+use Rattle.si_circuit.specs.declared.style.Style.{Style}
+use Rattle.si_tool.specs.About.{about_text}
 use Rattle.si_tool.specs.Checks.{proper, without_conflict, matched}
-use Rattle.si_tool.specs.Command.{Asked, AsksOfGraph, AsksReplay, Asks, files_of}
+use Rattle.si_tool.specs.Command.{Asked, AsksAbout, AsksOfGraph, AsksReplay, Asks, files_of}
 use Rattle.si_tool.specs.Ending.{Ending, NoMemory, Answered}
 use Rattle.si_tool.specs.Readings.{graph_in, netlist_in, schedule_in}
 use Rattle.si_tool.specs.Refusal.{FileRefusal, TextRefusal, Answer, Output, FileRefused, TextRefused}
 use Rattle.si_tool.specs.Replayed.{replayed}
 use Rattle.si_tool.specs.Stages.{Stage, ◌>>=◌, gives}
-use Rattle.si_tool.specs.Summary.{summary}
+use Rattle.si_tool.specs.Reports.{told}
 use Rattle.si_tool.specs.Synthesis.{synthesised}
-use Rattle.si_tool.specs.declared.command.GraphTask.TheVariants.{Check, Synth}
+use Rattle.si_tool.specs.declared.command.GraphTask.TheVariants.{Tell, Synth}
+use Rattle.si_tool.specs.declared.command.Report.{Report}
 
 -- ---- each command over the text of its file, or the texts of its files
 
-abbrev pub check : (file text : List ℕ) → Stage TextRefusal (List ℕ)
-check file text = do
+abbrev pub report : Report → (file text : List ℕ) → Stage TextRefusal (List ℕ)
+report what file text = do
   given ← graph_in file text
   coded ← proper given.graph given.states
-  gives (summary coded)
+  told what given.states coded
 
-abbrev pub synth : (file text : List ℕ) → Stage TextRefusal (List ℕ)
-synth file text = do
+abbrev pub synth : Style → (file text : List ℕ) → Stage TextRefusal (List ℕ)
+synth style file text = do
   given ← graph_in file text
   coded ← proper given.graph given.states
   _ ← without_conflict coded given.states
-  synthesised given coded
+  synthesised style given coded
 
 -- each file with its text
 abbrev pub replay : (graph graph_text netlist netlist_text schedule schedule_text : List ℕ)
@@ -40,8 +43,9 @@ replay graph graph_text netlist netlist_text schedule schedule_text = do
 
 -- what is asked for, over as many texts as it has files
 abbrev pub meaning : Asked → List (List ℕ) → Stage TextRefusal (List ℕ)
-meaning (AsksOfGraph Check file) (text ∷ []) = check file text
-meaning (AsksOfGraph Synth file) (text ∷ []) = synth file text
+meaning (AsksAbout topic) [] = gives (about_text topic)
+meaning (AsksOfGraph (Tell what) file) (text ∷ []) = report what file text
+meaning (AsksOfGraph (Synth style) file) (text ∷ []) = synth style file text
 meaning (AsksReplay g n s) (graph ∷ netlist ∷ schedule ∷ []) = replay g graph n netlist s schedule
 meaning asked texts = λ answer. ⊥
 

@@ -2,8 +2,7 @@
 
 ghost use Rattle.std.specs.Prelude.{◌≡◌, ◌<◌, length, IfOk};
 ghost use Rattle.si_base.specs.NetlistText.{name_of};
-ghost use Rattle.si_sg.specs.CanonicalText as word;
-ghost use Rattle.si_sg.specs.CanonicalText.{state_at};
+ghost use Rattle.si_sg.specs.CanonicalText.{event_word as word_of_event, state_at};
 
 use si_base::graph::Signal;
 use si_base::ids::{Event, NoMemory, Sig, StateId};
@@ -62,7 +61,7 @@ pub fn name_of_signal(alloc: Global, signals: &[Signal], z: Sig) -> Result<Name,
 /// The word of an event.
 pub fn event_word(alloc: Global, signals: &[Signal], event: Event) -> Result<Text, NoMemory>
     requires { event.sig < length signals.now }
-    ensures { IfOk result (λ word. word ≡ word.event_word signals.now event) }
+    ensures { IfOk result (λ word. word ≡ word_of_event signals.now event) }
 {
     let Event { sig, up } = event;
     let mut word = Text::copy_of(alloc, signal_name(signals, sig))?;

@@ -1,20 +1,42 @@
 //! What the words of a command line ask for.
 
-ghost use Rattle.std.specs.Prelude.{ℕ, List, MatchOption};
-ghost use Rattle.si_tool.specs.Command.{Asks, AsksNothing, AsksOfGraph, AsksReplay, asked_now};
+ghost use Rattle.std.specs.Prelude.{◌≢◌, ◌≡◌, ℕ, List, MatchOption};
+ghost use Rattle.si_circuit.specs.declared.style.Style as gates;
+ghost use Rattle.si_tool.specs.Command.{Asks, AsksAbout, AsksNothing, AsksOfGraph, AsksReplay};
+ghost use Rattle.si_tool.specs.Command.{asked_now, report_word, style_word};
+ghost use Rattle.si_tool.specs.declared.about.Topic.{Topic as Topics};
+ghost use Rattle.si_tool.specs.declared.command.Report.{Report as Reports};
+
+use crate::about::Topic;
+use si_circuit::style::Style;
+
+/// What is told of a proper graph.
+#[derive(Clone, Copy, PartialEq, Eq, Debug)]
+pub enum Report {
+    /// That it is proper, and its size.
+    Summary,
+    /// The regions of all events.
+    Regions,
+    /// How many conflicts it has, and the first of them.
+    Conflicts,
+}
 
 /// What is asked of one graph.
 #[derive(Clone, Copy, PartialEq, Eq, Debug)]
 pub enum GraphTask {
-    /// Whether it is proper, and its summary.
-    Check,
-    /// Its netlist.
-    Synth,
+    /// A report on it.
+    Tell(Report),
+    /// Its netlist, with gates of the style.
+    Synth(Style),
 }
 
 /// A command, with the names of its files.
 #[derive(Clone, Copy)]
 pub enum Command<'w> {
+    /// What the program tells of itself.
+    About {
+        topic: Topic,
+    },
     /// Something asked of one graph.
     OfGraph {
         task: GraphTask,
@@ -33,7 +55,10 @@ pub fn command_of(words: &[String]) -> Option<Command<'_>>
     ensures { MatchOption result (AsksNothing words.now)
         (λ command. Asks words.now (asked_now command)) }
 {
-    if let Some(command) = check_of(words) {
+    if let Some(command) = about_of(words) {
+        return Some(command);
+    }
+    if let Some(command) = report_of(words) {
         return Some(command);
     }
     if let Some(command) = synth_of(words) {
@@ -45,32 +70,79 @@ pub fn command_of(words: &[String]) -> Option<Command<'_>>
     None
 }
 
-/// `check F`.
-fn check_of(words: &[String]) -> Option<Command<'_>>
-    ensures { MatchOption result ((file : List ℕ) → Asks words.now (AsksOfGraph GraphTask.Check file) → ⊥)
+/// `--help` and `--version`.
+fn about_of(words: &[String]) -> Option<Command<'_>>
+    ensures { MatchOption result ((topic : Topics) → Asks words.now (AsksAbout topic) → ⊥)
         (λ command. Asks words.now (asked_now command)) }
 {
     match words {
-        [command, file] if command.as_str() == "check" => Some(Command::OfGraph {
-            task: GraphTask::Check,
-            file: file.as_str(),
+        [word] if word.as_str() == "--help" => Some(Command::About { topic: Topic::Help }),
+        [word] if word.as_str() == "--version" => Some(Command::About {
+            topic: Topic::Version,
         }),
         _ => None,
     }
 }
 
-/// `synth F complex`.
-fn synth_of(words: &[String]) -> Option<Command<'_>>
-    ensures { MatchOption result ((file : List ℕ) → Asks words.now (AsksOfGraph GraphTask.Synth file) → ⊥)
+/// `check F`, `regions F` and `conflicts F`.
+fn report_of(words: &[String]) -> Option<Command<'_>>
+    ensures { MatchOption result
+        ((report : Reports) (file : List ℕ)
+        → Asks words.now (AsksOfGraph (GraphTask.Tell report) file) → ⊥)
         (λ command. Asks words.now (asked_now command)) }
 {
     match words {
-        [command, file, style] if command.as_str() == "synth" && style.as_str() == "complex" => {
+        [command, file] => {
+            let report = report_named(command.as_str())?;
             Some(Command::OfGraph {
-                task: GraphTask::Synth,
+                task: GraphTask::Tell(report),
                 file: file.as_str(),
             })
         }
+        _ => None,
+    }
+}
+
+/// The report for which the word asks.
+fn report_named(word: &str) -> Option<Report>
+    ensures { MatchOption result ((report : Reports) → word.now ≢ report_word report)
+        (λ report. word.now ≡ report_word report) }
+{
+    match word {
+        "check" => Some(Report::Summary),
+        "regions" => Some(Report::Regions),
+        "conflicts" => Some(Report::Conflicts),
+        _ => None,
+    }
+}
+
+/// `synth F complex` and `synth F gc`.
+fn synth_of(words: &[String]) -> Option<Command<'_>>
+    ensures { MatchOption result
+        ((style : gates.Style) (file : List ℕ)
+        → Asks words.now (AsksOfGraph (GraphTask.Synth style) file) → ⊥)
+        (λ command. Asks words.now (asked_now command)) }
+{
+    match words {
+        [command, file, style] if command.as_str() == "synth" => {
+            let style = style_of(style.as_str())?;
+            Some(Command::OfGraph {
+                task: GraphTask::Synth(style),
+                file: file.as_str(),
+            })
+        }
+        _ => None,
+    }
+}
+
+/// The style of gates that the word names.
+fn style_of(word: &str) -> Option<Style>
+    ensures { MatchOption result ((style : gates.Style) → word.now ≢ style_word style)
+        (λ style. word.now ≡ style_word style) }
+{
+    match word {
+        "complex" => Some(Style::Complex),
+        "gc" => Some(Style::GeneralisedC),
         _ => None,
     }
 }

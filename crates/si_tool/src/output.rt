@@ -1,17 +1,18 @@
 //! What a command puts on `out`.
 
 ghost use Rattle.std.specs.Prelude.{◌≡◌, ℕ, ◌≤◌, List, [], ◌∷◌, IfOk, IfErr, Ok};
-ghost use Rattle.si_tool.specs.Command.{AsksOfGraph, AsksReplay, asked_now};
+ghost use Rattle.si_tool.specs.Command.{AsksAbout, AsksOfGraph, AsksReplay, asked_now};
 ghost use Rattle.si_tool.specs.Ending.{MayStop, MayStopLoading, ending_of};
 ghost use Rattle.si_tool.specs.Loads as stage;
 ghost use Rattle.si_tool.specs.Loads.{loads};
 ghost use Rattle.si_tool.specs.Meaning.{ComesTo, MayStopCommand, meaning};
 ghost use Rattle.si_tool.specs.Refusal.{Output};
 
-use crate::check::check;
+use crate::about::{Topic, about};
 use crate::command::{Command, GraphTask};
 use crate::refusals::Refusal;
 use crate::replayed::replay_texts;
+use crate::report::report;
 use crate::synth::synth;
 use si_base::limits::MAX_TEXT;
 use si_base::text::Text;
@@ -34,12 +35,24 @@ pub fn output<'w, H: Shelf>(
     ensures same { (n : List ℕ) → H.content shelf.new n ≡ H.content shelf.old n }
 {
     match command {
+        Command::About { topic } => about_output(alloc, topic),
         Command::OfGraph { task, file } => graph_output(alloc, task, file, shelf),
         Command::Replay {
             graph,
             netlist,
             schedule,
         } => replay_output(alloc, graph, netlist, schedule, shelf),
+    }
+}
+
+/// What the program tells of itself.
+fn about_output<'w>(alloc: Global, topic: Topic) -> Result<Text, Refusal<'w>>
+    ensures ok { IfOk result (λ text. meaning (AsksAbout topic) [] (Ok text)) }
+    ensures err { IfErr result (λ r. MayStop (meaning (AsksAbout topic) []) (ending_of r)) }
+{
+    match about(alloc, topic) {
+        Ok(text) => Ok(text),
+        Err(_) => Err(Refusal::NoMemory),
     }
 }
 
@@ -76,8 +89,8 @@ fn graph_text<'w>(
         MayStop (meaning (AsksOfGraph task file.now) (text.now ∷ [])) (ending_of r)) }
 {
     match task {
-        GraphTask::Check => check(alloc, file, text),
-        GraphTask::Synth => synth(alloc, file, text),
+        GraphTask::Tell(what) => report(alloc, what, file, text),
+        GraphTask::Synth(style) => synth(alloc, style, file, text),
     }
 }
 

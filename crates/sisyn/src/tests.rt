@@ -38,6 +38,25 @@ s7 c- s0
 .end
 ";
 
+/// The same graph, as freely as the text allows.
+const C_ELEMENT_LENIENT: &[u8] = b"# C-element\r
+.outputs c\r
+.inputs a\r
+.name c2\r
+.inputs b\r
+.dummy\r
+\r
+.state graph # 8 states\r
+s0 a+ s1 b+/2 s3 c+ s4 a- s5 b- s7 c- s0\r
+s0 b+ s2 a+ s3\r
+s4 b- s6 a- s7\r
+s0 a+ s1\r
+u0 a+ u1\r
+.marking { s0 }\r
+.end\r
+any text ~~ { here\r
+";
+
 /// Its netlist in version 1 of the text, which is read.
 const C_ELEMENT_NETLIST: &[u8] = b".model c2
 .inputs a b
@@ -46,7 +65,7 @@ const C_ELEMENT_NETLIST: &[u8] = b".model c2
 .inserted
 .start 000
 .gates
-c sum a b c' + a b c + a' b c + a b' c
+c sum a b + b c + a c
 .end
 ";
 
@@ -65,14 +84,32 @@ s5 c- s0
 .end
 ";
 
-const EQUAL_CODES_NETLIST: &[u8] = b".model pulses
+/// An output that never switches, beside an input that does.
+const IDLE_OUTPUT: &[u8] = b".model idle
+.inputs a
+.outputs z
+.state graph
+s0 a+ s1
+s1 a- s0
+.marking {s0}
+.end
+";
+
+/// The output rises once either input has risen, and nothing falls.
+const EITHER_RISES: &[u8] = b".model either
 .inputs a b
-.outputs c
-.internal
-.inserted
-.start 000
-.gates
-c sum a' b c' + a' b c
+.outputs z
+.state graph
+s0 a+ s1
+s0 b+ s2
+s1 b+ s3
+s2 a+ s3
+s1 z+ s4
+s2 z+ s5
+s3 z+ s6
+s4 b+ s6
+s5 a+ s6
+.marking {s0}
 .end
 ";
 
@@ -203,7 +240,7 @@ csc0 sum DSr' + LDTACK csc0
 
 const VME_CYCLE: &[u8] = b"DSr+ csc0- LDS+ LDTACK+ D+ DTACK+ DSr- csc0+ D-";
 
-/// A gate with fewer literals than the sum of full cubes.
+/// The C-element's complex gate.
 const MAJORITY: &[u8] = b"c sum a b + b c + a c";
 
 /// The texts of a command's files.
@@ -260,7 +297,11 @@ fn netlist_with(alloc: Global, inputs: &[u8], gate: &[u8]) -> Result<Text, NoMem
 /// The first line of a netlist that is written.
 const VERSION: &[u8] = b".version 2\n";
 
+const CHECK: [&str; 2] = ["check", "graph.sg"];
+
 const SYNTH: [&str; 3] = ["synth", "graph.sg", "complex"];
+
+const SYNTH_GC: [&str; 3] = ["synth", "graph.sg", "gc"];
 
 const REPLAY: [&str; 4] = ["replay", "graph.sg", "c.net", "steps"];
 
@@ -288,19 +329,57 @@ fn expect(
     Ok(())
 }
 
+/// Synthesises, and expects a netlist with these lines before and after the line of the gates.
+fn expect_gates(
+    rt: &impl Abort,
+    alloc: Global,
+    command: &[&str],
+    graph: &[u8],
+    head: &[u8],
+    gates: &[u8],
+) -> Result<(), Fail> {
+    let mut written = Text::copy_of(alloc, VERSION)?;
+    written.add(head)?;
+    written.add(b".gates\n")?;
+    written.add(gates)?;
+    written.add(b".end\n")?;
+    let want = (Status::Done, written.bytes(), b"".as_slice());
+    expect(rt, alloc, command, only(graph), want)
+}
+
 #[test]
-fn netlists_of_full_cubes(rt: HostRuntime) -> Result<(), Fail> {
+fn netlists_in_both_styles(rt: HostRuntime) -> Result<(), Fail> {
     let alloc = rt.alloc();
-    let rows: [(&[u8], &[u8]); 3] = [
-        (C_ELEMENT, C_ELEMENT_NETLIST),
-        (EQUAL_CODES, EQUAL_CODES_NETLIST),
-        (INPUTS_ALONE, INPUTS_ALONE_NETLIST),
+    let element =
+        b".model c2\n.inputs a b\n.outputs c\n.internal\n.inserted\n.start 000\n".as_slice();
+    let pulses =
+        b".model pulses\n.inputs a b\n.outputs c\n.internal\n.inserted\n.start 000\n".as_slice();
+    let idle = b".model idle\n.inputs a\n.outputs z\n.internal\n.inserted\n.start 00\n".as_slice();
+    let either =
+        b".model either\n.inputs a b\n.outputs z\n.internal\n.inserted\n.start 000\n".as_slice();
+    let inputs =
+        b".model watched\n.inputs a b\n.outputs\n.internal\n.inserted\n.start 00\n".as_slice();
+    let rows: [(&[u8], &[u8], &[u8], &[u8]); 6] = [
+        (
+            C_ELEMENT,
+            element,
+            b"c sum a b + b c + a c\n",
+            b"c gc a b | a' b'\n",
+        ),
+        (
+            C_ELEMENT_LENIENT,
+            element,
+            b"c sum a b + b c + a c\n",
+            b"c gc a b | a' b'\n",
+        ),
+        (EQUAL_CODES, pulses, b"c sum b\n", b"c gc b | b'\n"),
+        (IDLE_OUTPUT, idle, b"z sum 0\n", b"z gc 0 | 0\n"),
+        (EITHER_RISES, either, b"z sum a + b\n", b"z gc a + b | 0\n"),
+        (INPUTS_ALONE, inputs, b"", b""),
     ];
-    for (graph, netlist) in rows {
-        let mut written = Text::copy_of(alloc, VERSION)?;
-        written.add(netlist)?;
-        let want = (Status::Done, written.bytes(), b"".as_slice());
-        expect(&rt, alloc, &SYNTH, only(graph), want)?;
+    for (graph, head, complex, generalised) in rows {
+        expect_gates(&rt, alloc, &SYNTH, graph, head, complex)?;
+        expect_gates(&rt, alloc, &SYNTH_GC, graph, head, generalised)?;
     }
     Ok(())
 }
@@ -352,7 +431,7 @@ fn a_text_of_over_100_000_bytes(rt: HostRuntime) -> Result<(), Fail> {
 .inserted
 .start 00
 .gates
-z sum a z' + a z
+z sum a
 .end
 ";
     let want = (Status::Done, netlist, b"".as_slice());
@@ -360,15 +439,67 @@ z sum a z' + a z
 }
 
 #[test]
+fn summaries(rt: HostRuntime) -> Result<(), Fail> {
+    let alloc = rt.alloc();
+    let element = b"proper\nsignals 3\nstates 8\narcs 10\nstart 000\n".as_slice();
+    let rows: [(&[u8], &[u8]); 4] = [
+        (C_ELEMENT, element),
+        (C_ELEMENT_LENIENT, element),
+        (
+            INPUTS_ALONE,
+            b"proper\nsignals 2\nstates 3\narcs 3\nstart 00\n",
+        ),
+        (
+            b".state graph\ns0\n.marking { s0 }\n.end",
+            b"proper\nsignals 0\nstates 1\narcs 0\nstart\n",
+        ),
+    ];
+    for (graph, summary) in rows {
+        expect(
+            &rt,
+            alloc,
+            &CHECK,
+            only(graph),
+            (Status::Done, summary, b""),
+        )?;
+    }
+    let line = b"nonpersistent s0 z+ a+\n".as_slice();
+    let refused = (Status::Improper, b"".as_slice(), line);
+    expect(&rt, alloc, &CHECK, only(DISABLED_OUTPUT), refused)
+}
+
+#[test]
+fn what_the_program_tells_of_itself(rt: HostRuntime) -> Result<(), Fail> {
+    let alloc = rt.alloc();
+    let none = only(b"");
+    let version = (Status::Done, b"sisyn 0.1\n".as_slice(), b"".as_slice());
+    expect(&rt, alloc, &["--version"], none, version)?;
+    let mut shelf = SureShelf::new(files(alloc, none)?);
+    let mut out = SureSink::new(alloc);
+    let mut err = SureSink::new(alloc);
+    let help = words(alloc, &["--help"])?;
+    let status = run_in_memory(alloc, &help, &mut shelf, &mut out, &mut err);
+    assert_eq!(rt; status, Status::Done);
+    let mut lines = out.bytes().split(|b| *b == b'\n');
+    assert!(rt; lines.all(|line| line.len() <= 80));
+    assert!(rt; out.bytes().split(|b| *b == b'\n').count() <= 41);
+    Ok(())
+}
+
+#[test]
 fn refusals(rt: HostRuntime) -> Result<(), Fail> {
     let alloc = rt.alloc();
     let rows: [(&[u8], Status, &[u8]); 6] = [
-        (CONFLICT, Status::Unresolved, b"unresolved\n"),
-        (SPLIT, Status::Improper, b"improper\n"),
-        (RISES_TWICE, Status::Improper, b"improper\n"),
-        (FORK, Status::Improper, b"improper\n"),
-        (DISABLED_OUTPUT, Status::Improper, b"improper\n"),
-        (b"", Status::BadText, b"badtext graph.sg 0 BadLine\n"),
+        (CONFLICT, Status::Unresolved, b"unresolved s0 s2\n"),
+        (SPLIT, Status::Improper, b"nondeterministic s0 a+ s1 s2\n"),
+        (RISES_TWICE, Status::Improper, b"inconsistent a\n"),
+        (FORK, Status::Improper, b"noncommutative s0 a+ b+ s3 s4\n"),
+        (
+            DISABLED_OUTPUT,
+            Status::Improper,
+            b"nonpersistent s0 z+ a+\n",
+        ),
+        (b"", Status::BadText, b"badtext graph.sg 1 NoStateGraph\n"),
     ];
     for (graph, status, line) in rows {
         expect(&rt, alloc, &SYNTH, only(graph), (status, b"", line))?;
@@ -377,7 +508,7 @@ fn refusals(rt: HostRuntime) -> Result<(), Fail> {
     expect(
         &rt,
         alloc,
-        &["synth", "graph.sg", "gc"],
+        &["synth", "graph.sg", "fast"],
         only(C_ELEMENT),
         usage,
     )?;
@@ -452,7 +583,7 @@ fn expect_line(
 fn faults_of_the_texts_of_a_replay(rt: HostRuntime) -> Result<(), Fail> {
     let alloc = rt.alloc();
     let rows: [(&[u8], &[u8], &[u8]); 4] = [
-        (b"", b"", b"badtext graph.sg 0 BadLine\n"),
+        (b".dummy d\n", b"", b"badtext graph.sg 1 Dummy\n"),
         (C_ELEMENT, b"", b"badtext c.net 1 NoEnd\n"),
         (
             C_ELEMENT,
@@ -478,7 +609,8 @@ fn faults_of_the_texts_of_a_replay(rt: HostRuntime) -> Result<(), Fail> {
         netlist: C_ELEMENT_NETLIST,
         schedule: b"",
     };
-    expect_line(&rt, alloc, improper, Status::Improper, b"improper\n")
+    let line = b"nonpersistent s0 z+ a+\n";
+    expect_line(&rt, alloc, improper, Status::Improper, line)
 }
 
 #[test]

@@ -1,0 +1,7 @@
+pub mod Counted
+pub mod KeyLemmas
+pub mod CountLemmas
+pub mod PairLemmas
+pub mod LinkLemmas
+pub mod BelowLemmas
+pub mod ConflictsExist

@@ -1,0 +1,56 @@
+//! What tells whether two states are a conflict.
+
+ghost use Rattle.std.specs.Prelude.{◌≡◌, ℕ, ◌<◌, ◌↔◌, IfOk, IsTrue, length, true};
+ghost use Rattle.si_conflicts.specs.Keys.{AreExcited, AreKeys, clashes, key_at};
+
+use si_base::ids::{Code, NoMemory, StateId};
+use si_graph::coded::Coded;
+use std::alloc::Global;
+
+/// The code of a state, and the signals of its enabled non-input events. Which event of a signal
+/// that is follows from the code.
+#[derive(Clone, Copy, PartialEq, Eq, PartialOrd, Ord, Debug)]
+pub struct Key {
+    pub code: Code,
+    pub excited: Code,
+}
+
+/// The keys of all states. It fails only where memory runs out.
+pub fn keys(alloc: Global, coded: &Coded) -> Result<Vec<Key>, NoMemory>
+    ensures { IfOk result (λ keys. AreKeys coded.now keys.items) }
+{
+    let states = coded.graph().states();
+    let mut keys: Vec<Key> = Vec::new(alloc);
+    for k in 0..states {
+        let s = StateId(k);
+        keys.push(Key {
+            code: coded.code(s),
+            excited: excited(coded, s),
+        })?;
+    }
+    Ok(keys)
+}
+
+/// The signals whose non-input events the state enables.
+fn excited(coded: &Coded, s: StateId) -> Code
+    requires { s < coded.now.graph.states }
+    ensures { AreExcited coded.now.graph s result }
+{
+    let graph = coded.graph();
+    let arcs = graph.arcs_out(s);
+    let mut excited = Code(0);
+    for arc in arcs {
+        if graph.is_driven(arc.event.sig) {
+            excited = excited.set(arc.event.sig, true);
+        }
+    }
+    excited
+}
+
+/// The key of a state.
+pub fn key_of(keys: &[Key], s: StateId) -> Key
+    requires { s < length keys.now }
+    ensures { result ≡ key_at keys.now s }
+{
+    keys[s.0 as usize]
+}

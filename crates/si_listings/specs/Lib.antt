@@ -1,0 +1,4 @@
+pub mod Words
+pub mod RegionText
+pub mod ConflictText
+pub mod Laws

@@ -1,0 +1,7 @@
+pub mod StateLists
+pub mod SearchLemmas
+pub mod UniqueRegions
+pub mod ComponentLemmas
+pub mod RegionLemmas
+pub mod SetsExist
+pub mod RegionsExist

@@ -1,0 +1,66 @@
+use Rattle.std.proofs.Common.{◌≡◌, ℕ, ◌≤◌, ◌++◌, ◌∷◌, ◌∙◌, List, [], Bool, get_or, true, false, IsTrue, arith, ap, sym, refl}
+use Rattle.std.proofs.lemmas.Bool.{true≢false}
+use Rattle.si_base.specs.Graph.{StateGraph, enables, event_place}
+use Rattle.si_graph.specs.Reach.{IsIn}
+use Rattle.si_regions.proofs.RegionLemmas.{regions_pass, regions_more, done_more, regions_event, enables_within}
+use Rattle.si_regions.proofs.StateLists.{all_below}
+use Rattle.si_regions.proofs.regions.add_regions.Goals as goal
+use Rattle.si_regions.proofs.regions.add_regions.Goals.{then-is_new+in_ok-region+in_ok-push, else-is_new}
+
+-- what isn't new stands already
+in_or : (b : Bool) (done : List Bool) (k : ℕ) → b ≡ false → ((IsIn done k → ⊥) → b ≡ true) → IsIn done k
+in_or b done k old fresh = pick (get_or done k false) refl
+  where
+    pick : (v : Bool) → get_or done k false ≡ v → IsIn done k
+    pick true e = e
+    pick false e = absurd (true≢false (sym (fresh (λ there. true≢false (sym there ∙ e))) ∙ old))
+
+pub add_all-requires : goal.add_all-requires
+add_all-requires c =
+    let r = c.in_ok-region.region in
+    let d = c.args.coded.now in
+    all_below c.as_slice.result.now r.er _ c.as_slice.ensures.states (λ t there. rw c.loop-k.invariant.size
+    (enables_within d.graph t r.event c.graph-g.ensures.coded.graph_is
+    (c.in_ok-region.ensures.region.excited.members t there)))
+
+pub loop-k-preserved : goal.loop-k-preserved
+loop-k-preserved c =
+    let d = c.args.coded.now in
+    let e = c.args.e.now in
+    let k = c.loop-k.k in
+    let x = c.loop-k.invariant in
+    let enabling = c.in_ok-enabling.ensures in
+    elim c.if-is_new.branch [
+      | then-is_new+in_ok-region+in_ok-push w ↦ (
+          let r = w.in_ok-region.region in
+          let new = c.is_new.ensures.0 w.if-is_new.true in
+          let is = w.in_ok-region.ensures in
+          let out : c.if-is_new.out.items ≡ c.loop-k.out.items ++ r ∷ [] =
+          ap (λ v. v.items) w.out-is ∙ w.in_ok-push.ensures.items in
+          let grown = rw w.as_slice.ensures.states at w.add_all.ensures.exactly in
+          rw (out, w.done-is, w.search-is) (record {
+            size = w.add_all.ensures.size ∙ x.size;
+            idle = is.idle;
+            done = done_more e c.loop-k.out.items c.loop-k.done w.add_all.new.set r is.event grown x.done;
+            to = regions_more d e k c.loop-k.out.items c.loop-k.done r x.done new.1 is.region is.event is.has x.to;
+          }))
+      | else-is_new w ↦ (
+          let old = ap (λ v. v.items) w.out-is in
+          let stands : IsTrue (enables d.graph k e) → IsIn c.loop-k.done k =
+          λ on. in_or c.is_new.result c.loop-k.done k w.if-is_new.false
+          (λ fresh. c.is_new.ensures.1 ((enabling.exactly k).1 on, fresh)) in
+          rw (old, w.done-is, w.search-is) (record {
+            size = x.size;
+            idle = x.idle;
+            done = x.done;
+            to = regions_pass d e k c.loop-k.out.items c.loop-k.done x.done stands x.to;
+          }))
+    ]
+
+pub returns-clause-after : goal.returns-clause-after
+returns-clause-after c =
+    let d = c.args.coded.now in
+    let states = c.states-k-end.ensures ∙ ap (λ (h : StateGraph). h.states) c.graph-g.ensures.same in
+    let all : d.graph.states ≤ c.loop-k.k = omega (arith, c.loop-k-test.false, states) in
+    regions_event d (event_place c.args.e.now) c.loop-k.k c.loop-k.out.items all
+    (λ t f on. enables_within d.graph t f c.graph-g.ensures.coded.graph_is on) c.loop-k.invariant.to

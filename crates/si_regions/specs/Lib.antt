@@ -1,0 +1,4 @@
+pub mod Connected
+pub mod Regions
+pub mod Searching
+pub mod Laws

@@ -1,0 +1,44 @@
+-- What a search for regions reaches, and how far the regions are found.
+use Rattle.std.specs.Prelude.{◌≡◌, ℕ, ◌↔◌, Bool, List, [], ◌∷◌, length, Contains, AllPairs, IsTrue}
+use Rattle.si_base.specs.declared.ids.Event.{Event}
+use Rattle.si_base.specs.Order.{Before}
+use Rattle.si_base.specs.Graph.{StateGraph, enables, event_place}
+use Rattle.si_base.specs.Codes.{CodedGraph}
+use Rattle.si_graph.specs.declared.closure.Along.{Along}
+use Rattle.si_graph.specs.Closure.{Path}
+use Rattle.si_graph.specs.Reach.{IsIn}
+use Rattle.si_regions.specs.declared.regions.Region.{Region}
+use Rattle.si_regions.specs.declared.search.Search.{Search}
+use Rattle.si_regions.specs.Regions.{IsRegion, region_place}
+
+-- the marks are those of the states of g that have P
+pub record AreMarksOf (g : StateGraph) (P : ℕ → Type 0) (marks : List Bool) : Type 0 where
+  pub size : length marks ≡ g.states
+  pub exactly : (s : ℕ) → IsIn marks s ↔ P s
+
+-- a seed that is in the set
+abbrev pub IsSeed : List Bool → List ℕ → ℕ → Type 0
+IsSeed within seeds s = Contains seeds s × IsIn within s
+
+-- a path through the set leads from such a seed to t
+pub record IsReachedIn (g : StateGraph) (along : Along) (within : List Bool) (seeds : List ℕ)
+    (t : ℕ) : Type 0 where
+  pub seed : ℕ
+  pub there : IsSeed within seeds seed
+  pub path : List ℕ
+  pub leads : Path g along within seed path t
+
+-- a search among so many states that has reached none of them
+pub record IsIdle (states : ℕ) (search : Search) : Type 0 where
+  pub size : length search.marks ≡ states
+  pub none : (t : ℕ) → IsIn search.marks t → ⊥
+  pub rests : search.work.items ≡ []
+
+-- the regions of events and least states before the place k and s, in order
+pub record RegionsTo (c : CodedGraph) (k s : ℕ) (regions : List Region) : Type 0 where
+  pub each : (r : Region) → Contains regions r
+      → IsRegion c r × Before (region_place r) (k ∷ s ∷ [])
+  pub all : (t : ℕ) (e : Event) → IsTrue (enables c.graph t e)
+      → Before (event_place e ∷ t ∷ []) (k ∷ s ∷ [])
+      → (r : Region) × Contains regions r × (r.event ≡ e) × Contains r.er t
+  pub in_order : AllPairs (λ x y. Before (region_place x) (region_place y)) regions

@@ -1,0 +1,59 @@
+//! What the program tells of itself.
+
+ghost use Rattle.std.specs.Prelude.{◌≡◌, IfOk};
+ghost use Rattle.si_tool.specs.About.{about_text};
+
+use si_base::ids::NoMemory;
+use si_base::text::Text;
+use std::alloc::Global;
+
+/// What is asked of the program itself.
+#[derive(Clone, Copy, PartialEq, Eq, Debug)]
+pub enum Topic {
+    /// How it is called.
+    Help,
+    /// Its version.
+    Version,
+}
+
+/// Each form of the command line, the statuses, and where the documents are.
+const HELP: &[u8] = b"sisyn makes circuits without a clock from state graphs.
+
+  sisyn check F                      the size of a graph, where it is proper
+  sisyn regions F                    where each event is excited, and what follows
+  sisyn conflicts F                  states that no gates can tell apart
+  sisyn synth F complex              a netlist of complex gates
+  sisyn synth F gc                   a netlist of generalised C-elements
+  sisyn replay F NETLIST SCHEDULE    where a schedule over a netlist ends
+  sisyn --help                       this text
+  sisyn --version                    the version
+
+F is a state graph, NETLIST a netlist and SCHEDULE a list of events, each the
+name of a file. A run that succeeds writes to standard output. A refused run
+writes one line to standard error, and ends with the status of its first word:
+
+  0  the command was done
+  1  nomemory: memory ran out
+  2  usage: the words are no command
+  3  readfault: a file could not be read
+  4  writefault: the output could not be written
+  5  toolong: a file has over 16777216 bytes
+  6  badtext: a text has a fault; lists: the netlist isn't for the graph
+  7  nondeterministic, inconsistent, noncommutative, nonpersistent:
+     the graph isn't proper
+  8  unresolved: two states of one code want different things of the circuit
+ 10  differs: the schedule has an event that the circuit or the graph refuses
+
+The documents stand beside the sources: README.md has a walk through the
+commands, docs/FORMATS.md each text and line, docs/THEOREM.md what is proved.
+";
+
+/// The text on a topic. It fails only where memory runs out.
+pub fn about(alloc: Global, topic: Topic) -> Result<Text, NoMemory>
+    ensures { IfOk result (λ text. text ≡ about_text topic) }
+{
+    match topic {
+        Topic::Help => Text::copy_of(alloc, HELP),
+        Topic::Version => Text::copy_of(alloc, b"sisyn 0.1\n"),
+    }
+}
