@@ -1,6 +1,6 @@
 //! The read cycle of a VME bus, with inserted signals, as circuits of both styles.
 
-ghost use Rattle.std.specs.Prelude.{◌≡◌, ◌≢◌, ◌≤◌, All, AllPairs, IfOk, IsTrue, length};
+ghost use Rattle.std.specs.Prelude.{◌≡◌, ◌≢◌, ◌<◌, ◌≤◌, All, AllPairs, IfOk, IsTrue, length};
 ghost use Rattle.si_base.specs.Graph.{kind_place};
 ghost use Rattle.si_base.specs.Words.{is_signal_name, IsStateName};
 ghost use Rattle.si_insert.specs.Accepted.{IsAccepted};
@@ -166,13 +166,33 @@ fn with_csc0(rt: &impl Abort, alloc: Global) -> Result<Lineage, Fail> {
     }
 }
 
-/// Whether the word is `s` and digits.
-fn is_numbered(word: &[u8]) -> bool
+/// Whether all bytes are between `0` and `z`, and none is `@`.
+fn are_plain(word: &[u8]) -> bool
+    ensures { IsTrue result → All (λ b. (47 < b) × (b < 123) × (b ≢ 64)) word.now }
+{
+    word.iter().all(|b| *b > 47 && *b < 123 && *b != 64)
+}
+
+/// Whether the word begins with `s`, and all its bytes are plain.
+fn is_state_word(word: &[u8]) -> bool
     ensures { IsTrue result → IsStateName word.now }
 {
-    match word {
-        [b's', digits @ ..] => digits.iter().all(|b| b.is_ascii_digit()),
-        _ => false,
+    if word.is_empty() || word[0] != b's' {
+        return false;
+    }
+    are_plain(word)
+}
+
+/// Adds a new state name, and says whether it was one.
+fn add_state(names: &mut Names, word: &[u8]) -> bool
+    ensures { All IsStateName names.old → All IsStateName names.new }
+{
+    if !is_state_word(word) {
+        return false;
+    }
+    match names.place(word) {
+        Some(_) => false,
+        None => names.add(word, STATES).is_ok(),
     }
 }
 
@@ -183,10 +203,7 @@ fn states(rt: &impl Abort, alloc: Global) -> Result<Names, Fail>
     let mut names = Names::new(alloc)?;
     for k in 0..STATES {
         let word = format!(in alloc; "s{k}")?;
-        assert!(rt; is_numbered(word.as_bytes()));
-        let Ok(_) = names.add(word.as_bytes(), STATES) else {
-            return Err(NoMemory)?;
-        };
+        assert!(rt; add_state(&mut names, word.as_bytes()));
     }
     Ok(names)
 }
@@ -198,23 +215,37 @@ fn all_named(signals: &[Signal]) -> bool
     signals.iter().all(|x| is_name(x.name.bytes()))
 }
 
-/// The text of the circuit of a style, with one insertion.
-fn text(rt: &impl Abort, alloc: Global, style: Style) -> Result<Text, Fail> {
-    let lineage = with_csc0(rt, alloc)?;
-    let states = states(rt, alloc)?;
+/// The circuit of a style, with these names of the given states.
+fn circuit(
+    rt: &impl Abort,
+    alloc: Global,
+    resolved: Resolved,
+    states: &Names,
+    style: Style,
+) -> Result<Circuit, Fail>
+    requires { All IsStateName states.now }
+{
     let model = Name::copy_of(alloc, b"vme")?;
+    let lineage = resolved.lineage();
     assert!(rt; states.len() == lineage.given().coded().graph().states());
     assert!(rt; all_named(lineage.current().coded().graph().signals()));
-    let Ok(resolved) = Resolved::make(alloc, lineage) else {
+    let made = match style {
+        Style::Complex => Circuit::of_sums(alloc, resolved, &model, states),
+        Style::GeneralisedC => Circuit::of_gc(alloc, resolved, &model, states),
+    };
+    match made {
+        Ok(circuit) => Ok(circuit),
+        Err(_) => Err(NoMemory)?,
+    }
+}
+
+/// The text of the circuit of a style, with one insertion.
+fn text(rt: &impl Abort, alloc: Global, style: Style) -> Result<Text, Fail> {
+    let Ok(resolved) = Resolved::make(alloc, with_csc0(rt, alloc)?) else {
         return Err(NoMemory)?;
     };
-    let circuit = match style {
-        Style::Complex => Circuit::of_sums(alloc, resolved, &model, &states),
-        Style::GeneralisedC => Circuit::of_gc(alloc, resolved, &model, &states),
-    };
-    let Ok(circuit) = circuit else {
-        return Err(NoMemory)?;
-    };
+    let states = states(rt, alloc)?;
+    let circuit = circuit(rt, alloc, resolved, &states, style)?;
     assert!(rt; circuit.resolved().lineage().trace().len() == 1);
     Ok(write_netlist(alloc, circuit.netlist())?)
 }
