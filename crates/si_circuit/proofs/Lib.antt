@@ -1,3 +1,9 @@
 pub mod RightLemmas
 pub mod GateLemmas
 pub mod Examples
+pub mod DescentLemmas
+pub mod WordLemmas
+pub mod TraceLemmas
+pub mod InsertedLemmas
+pub mod CircuitLemmas
+mod SpelledExamples

@@ -7,10 +7,13 @@ ghost use Rattle.si_base.specs.Netlist.{Insertion, Netlist};
 ghost use Rattle.si_base.specs.Proper.{HasNoConflict, IsProper};
 ghost use Rattle.si_base.specs.RightGates.{GivesNextValues, HasNoneInserted, IsRight};
 ghost use Rattle.si_base.specs.WellFormed.{IsNetlist};
+ghost use Rattle.si_insert.specs.declared.lineage.TraceStep.{TraceStep};
+ghost use Rattle.si_insert.specs.Lineage.{Current, IsLineage};
 ghost use Rattle.si_circuit.specs.declared.style.Style.{Style};
 ghost use Rattle.si_circuit.specs.Covered.{HasCoverGates, HasPrimeGates};
 ghost use Rattle.si_circuit.specs.Gates.{chosen_netlist, gate_of, netlist_of};
 ghost use Rattle.si_circuit.specs.Spelled.{AreInserted, AreSpelled};
+ghost use Rattle.si_circuit.specs.Spelling.{AreDescents, descents_along, given_descents};
 
 /// Gates whose sums are covers give the next values: complex gates by covers of the next-value
 /// codes, generalised C-elements by covers of the set and of the reset codes. Whether the sums are
@@ -55,4 +58,12 @@ pub fn chosen_gates_make_netlists()
     ensures { (style : Style) (c : CodedGraph) (model : List ℕ) (inserts : List Insertion)
         → IsCoded c → AreSpelled model c.graph.signals → AreInserted inserts c.graph.signals
         → IsNetlist (netlist_of (gate_of style c) model inserts c) }
+{}
+
+/// After the insertions of a lineage the spelled states are its current states: each with its
+/// origin, and with the values of the inserted signals in order of insertion.
+pub fn spelled_states_are_current()
+    ensures { (given : CodedGraph) (trace : List TraceStep) (v : Current)
+        → IsLineage given trace v
+        → AreDescents given v (descents_along 0 trace (given_descents given.graph.states)) }
 {}

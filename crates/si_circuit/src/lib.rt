@@ -3,6 +3,10 @@
 #![tactic(auto)]
 
 pub mod chosen;
+pub mod circuit;
 mod gates;
 pub mod laws;
+pub mod spelling;
 pub mod style;
+#[cfg(test)]
+mod tests;

@@ -1,10 +1,10 @@
 -- Conflicts found place by place.
-use Rattle.std.proofs.Common.{◌≡◌, ℕ, ◌+◌, ◌-◌, ◌<◌, ◌≤◌, ◌⊎◌, List, [], ◌∷◌, ◌++◌, length, get_or, Contains, Option, Some, None, refl, sym, ap, subst, ◌∙◌, arith, inl, inr}
+use Rattle.std.proofs.Common.{◌≡◌, ℕ, ◌+◌, ◌-◌, ◌<◌, ◌≤◌, ◌⊎◌, List, [], ◌∷◌, ◌++◌, length, get_or, Contains, Option, Some, None, refl, sym, subst, ◌∙◌, arith, inl, inr}
 use Rattle.std.proofs.lemmas.Bool.{cases_lt, cases_eq}
 use Rattle.std.proofs.lemmas.List.Elements.{Contains-push, Contains-push_cases, Contains-append_left, Contains-get_or}
 use Rattle.std.proofs.lemmas.List.Quantifiers.{all_pairs_push}
 use Rattle.si_base.specs.Order.{Before}
-use Rattle.si_base.specs.Codes.{CodedGraph, code}
+use Rattle.si_base.specs.Codes.{CodedGraph}
 use Rattle.si_base.specs.Proper.{IsConflict, pair_place}
 use Rattle.si_conflicts.specs.Conflicts.{AreConflicts, AreFirstConflicts}
 use Rattle.si_conflicts.specs.Links.{IsFirstClash}
@@ -53,7 +53,8 @@ at_places a b x y (inr (same, inr h)) = absurd h.1
 same_pair : (a b : ℕ × ℕ) → a.0 ≡ b.0 → a.1 ≡ b.1 → a ≡ b
 same_pair a b p q = λ i. (p i, q i)
 
-pub weaker : (pair : ℕ × ℕ) (p k m : ℕ) → k ≤ m → Before (pair_place pair) (p ∷ k ∷ []) → Before (pair_place pair) (p ∷ m ∷ [])
+pub weaker : (pair : ℕ × ℕ) (p k m : ℕ) → k ≤ m → Before (pair_place pair) (p ∷ k ∷ [])
+    → Before (pair_place pair) (p ∷ m ∷ [])
 weaker pair p k m more before = pick (at_places pair.0 pair.1 p k before)
   where
     pick : (pair.0 < p) ⊎ ((pair.0 ≡ p) × (pair.1 < k)) → Before (pair_place pair) (p ∷ m ∷ [])
@@ -82,7 +83,8 @@ below_gap c p k m pairs more gap are = record {
   in_order = are.in_order;
 }
   where
-    back : (pair : ℕ × ℕ) → IsConflict c pair → (pair.0 < p) ⊎ ((pair.0 ≡ p) × (pair.1 < m)) → (pair.1 < k) ⊎ (k ≤ pair.1)
+    back : (pair : ℕ × ℕ) → IsConflict c pair → (pair.0 < p) ⊎ ((pair.0 ≡ p) × (pair.1 < m))
+        → (pair.1 < k) ⊎ (k ≤ pair.1)
         → Before (pair_place pair) (p ∷ k ∷ [])
     back pair is (inl less) other = inl less
     back pair is (inr both) (inl below) = inr (both.0, inl below)
@@ -91,24 +93,31 @@ below_gap c p k m pairs more gap are = record {
         subst (λ x. IsConflict c x) (same_pair pair (p, pair.1) both.0 refl) is in
         absurd (gap pair.1 above both.1 here)
 
-pub below_take : (c : CodedGraph) (p q : ℕ) (pairs : List (ℕ × ℕ)) → IsConflict c (p, q) → AreBelow c p q pairs → AreBelow c p (q + 1) (pairs ++ (p, q) ∷ [])
+pub below_take : (c : CodedGraph) (p q : ℕ) (pairs : List (ℕ × ℕ)) → IsConflict c (p, q) → AreBelow c p q pairs
+    → AreBelow c p (q + 1) (pairs ++ (p, q) ∷ [])
 below_take c p q pairs here are = record {
   exactly = λ pair. (
     (λ there. elim (Contains-push_cases pairs (p, q) pair there) [
       | inl old ↦ (let is = (are.exactly pair).0 old in (is.0, weaker pair p q (q + 1) (omega arith) is.1))
-      | inr new ↦ subst (λ x. IsConflict c x × Before (pair_place x) (p ∷ (q + 1) ∷ [])) new (here, inr (refl, inl (omega arith)))
+      | inr new ↦ subst (λ x. IsConflict c x × Before (pair_place x) (p ∷ (q + 1) ∷ [])) new
+          (here, inr (refl, inl (omega arith)))
     ]),
     (λ is. back pair is.0 (at_places pair.0 pair.1 p (q + 1) is.1) (cases_lt pair.1 q)),
   );
-  in_order = all_pairs_push (λ x y. Before (pair_place x) (pair_place y)) pairs (p, q) are.in_order (λ k d within. ((are.exactly (get_or pairs k d)).0 (Contains-get_or pairs k d within)).1);
+  in_order = all_pairs_push (λ x y. Before (pair_place x) (pair_place y)) pairs (p, q) are.in_order
+      (λ k d within. ((are.exactly (get_or pairs k d)).0 (Contains-get_or pairs k d within)).1);
 }
   where
-    back : (pair : ℕ × ℕ) → IsConflict c pair → (pair.0 < p) ⊎ ((pair.0 ≡ p) × (pair.1 < q + 1)) → (pair.1 < q) ⊎ (q ≤ pair.1) → Contains (pairs ++ (p, q) ∷ []) pair
+    back : (pair : ℕ × ℕ) → IsConflict c pair → (pair.0 < p) ⊎ ((pair.0 ≡ p) × (pair.1 < q + 1))
+        → (pair.1 < q) ⊎ (q ≤ pair.1) → Contains (pairs ++ (p, q) ∷ []) pair
     back pair is (inl less) other = Contains-append_left pairs ((p, q) ∷ []) pair ((are.exactly pair).1 (is, inl less))
-    back pair is (inr both) (inl below) = Contains-append_left pairs ((p, q) ∷ []) pair ((are.exactly pair).1 (is, inr (both.0, inl below)))
-    back pair is (inr both) (inr above) = subst (λ x. Contains (pairs ++ (p, q) ∷ []) x) (sym (same_pair pair (p, q) both.0 (omega (arith, both.1, above)))) (Contains-push pairs (p, q))
+    back pair is (inr both) (inl below) = Contains-append_left pairs ((p, q) ∷ []) pair
+        ((are.exactly pair).1 (is, inr (both.0, inl below)))
+    back pair is (inr both) (inr above) = subst (λ x. Contains (pairs ++ (p, q) ∷ []) x)
+        (sym (same_pair pair (p, q) both.0 (omega (arith, both.1, above)))) (Contains-push pairs (p, q))
 
-pub below_row : (c : CodedGraph) (p : ℕ) (pairs : List (ℕ × ℕ)) → AreBelow c p c.graph.states pairs → AreBelow c (p + 1) 0 pairs
+pub below_row : (c : CodedGraph) (p : ℕ) (pairs : List (ℕ × ℕ)) → AreBelow c p c.graph.states pairs
+    → AreBelow c (p + 1) 0 pairs
 below_row c p pairs are = record {
   exactly = λ pair. (
     (λ there. (let is = (are.exactly pair).0 there in (is.0, on pair (at_places pair.0 pair.1 p c.graph.states is.1)))),
@@ -117,18 +126,24 @@ below_row c p pairs are = record {
   in_order = are.in_order;
 }
   where
-    on : (pair : ℕ × ℕ) → (pair.0 < p) ⊎ ((pair.0 ≡ p) × (pair.1 < c.graph.states)) → Before (pair_place pair) ((p + 1) ∷ 0 ∷ [])
+    on : (pair : ℕ × ℕ) → (pair.0 < p) ⊎ ((pair.0 ≡ p) × (pair.1 < c.graph.states))
+        → Before (pair_place pair) ((p + 1) ∷ 0 ∷ [])
     on pair (inl less) = inl (omega (arith, less))
     on pair (inr both) = inl (omega (arith, both.0))
 
-    back : (pair : ℕ × ℕ) → IsConflict c pair → (pair.0 < p + 1) ⊎ ((pair.0 ≡ p + 1) × (pair.1 < 0)) → (pair.0 < p) ⊎ (p ≤ pair.0) → Before (pair_place pair) (p ∷ c.graph.states ∷ [])
+    back : (pair : ℕ × ℕ) → IsConflict c pair → (pair.0 < p + 1) ⊎ ((pair.0 ≡ p + 1) × (pair.1 < 0))
+        → (pair.0 < p) ⊎ (p ≤ pair.0) → Before (pair_place pair) (p ∷ c.graph.states ∷ [])
     back pair is (inl less) (inl below) = inl below
     back pair is (inl less) (inr above) = inr (omega (arith, less, above), inl is.within)
     back pair is (inr both) other = absurd (omega (arith, both.1))
 
-pub below_all : (c : CodedGraph) (k : ℕ) (pairs : List (ℕ × ℕ)) → c.graph.states ≤ k → AreBelow c k 0 pairs → AreConflicts c pairs
+pub below_all : (c : CodedGraph) (k : ℕ) (pairs : List (ℕ × ℕ)) → c.graph.states ≤ k → AreBelow c k 0 pairs
+    → AreConflicts c pairs
 below_all c k pairs all are = record {
-  exactly = λ pair. ((λ there. ((are.exactly pair).0 there).0), (λ is. (are.exactly pair).1 (is, inl (let order = is.order in let within = is.within in omega arith))));
+  exactly = λ pair. (
+    (λ there. ((are.exactly pair).0 there).0),
+    (λ is. (are.exactly pair).1 (is, inl (let order = is.order in let within = is.within in omega arith))),
+  );
   in_order = are.in_order;
 }
 
@@ -148,7 +163,8 @@ walk_goes_on c p q pairs o is first are =
     (below_take c p q pairs is are)
 
 -- ---- a pair stands before a place, or behind all that do
-before_or : (pair : ℕ × ℕ) (p k : ℕ) → Before (pair_place pair) (p ∷ k ∷ []) ⊎ ((x : ℕ × ℕ) → Before (pair_place x) (p ∷ k ∷ []) → Before (pair_place x) (pair_place pair))
+before_or : (pair : ℕ × ℕ) (p k : ℕ) → Before (pair_place pair) (p ∷ k ∷ []) ⊎ ((x : ℕ × ℕ)
+    → Before (pair_place x) (p ∷ k ∷ []) → Before (pair_place x) (pair_place pair))
 before_or pair p k = elim (cases_lt pair.0 p) [
   | inl less ↦ inl (inl less)
   | inr more ↦ elim (cases_eq pair.0 p) [
@@ -160,7 +176,8 @@ before_or pair p k = elim (cases_lt pair.0 p) [
   ]
 ]
   where
-    on_row : (x : ℕ × ℕ) → pair.0 ≡ p → k ≤ pair.1 → (x.0 < p) ⊎ ((x.0 ≡ p) × (x.1 < k)) → Before (pair_place x) (pair_place pair)
+    on_row : (x : ℕ × ℕ) → pair.0 ≡ p → k ≤ pair.1 → (x.0 < p) ⊎ ((x.0 ≡ p) × (x.1 < k))
+        → Before (pair_place x) (pair_place pair)
     on_row x same above (inl less) = inl (omega (arith, less, same))
     on_row x same above (inr both) = inr (both.0 ∙ sym same, inl (omega (arith, both.1, above)))
 
@@ -168,7 +185,8 @@ before_or pair p k = elim (cases_lt pair.0 p) [
     later x more (inl less) = inl (omega (arith, less, more))
     later x more (inr both) = inl (omega (arith, both.0, more))
 
-pub first_full : (c : CodedGraph) (p k limit : ℕ) (xs : List (ℕ × ℕ)) → length xs ≡ limit → AreBelow c p k xs → AreFirstConflicts c limit xs
+pub first_full : (c : CodedGraph) (p k limit : ℕ) (xs : List (ℕ × ℕ)) → length xs ≡ limit → AreBelow c p k xs
+    → AreFirstConflicts c limit xs
 first_full c p k limit xs full are = record {
   each = λ pair there. ((are.exactly pair).0 there).0;
   in_order = are.in_order;
@@ -179,7 +197,14 @@ first_full c p k limit xs full are = record {
   ];
 }
 
-pub first_all : (c : CodedGraph) (k limit : ℕ) (xs : List (ℕ × ℕ)) → c.graph.states ≤ k → length xs ≤ limit → AreBelow c k 0 xs → AreFirstConflicts c limit xs
+pub first_all : (c : CodedGraph) (k limit : ℕ) (xs : List (ℕ × ℕ)) → c.graph.states ≤ k → length xs ≤ limit
+    → AreBelow c k 0 xs → AreFirstConflicts c limit xs
 first_all c k limit xs all few are =
     let whole = below_all c k xs all are in
-    record { each = λ pair there. (whole.exactly pair).0 there; in_order = whole.in_order; few = few; first = λ pair is. inl ((whole.exactly pair).1 is) }
+    record {
+      each = λ pair there. (whole.exactly pair).0 there;
+      in_order = whole.in_order;
+      few = few;
+      first = λ pair is.
+          inl ((whole.exactly pair).1 is);
+    }

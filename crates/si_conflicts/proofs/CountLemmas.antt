@@ -1,6 +1,6 @@
 -- The number of pairs of keys that clash, key by key.
-use Rattle.std.proofs.Common.{◌≡◌, ℕ, zero, suc, ◌+◌, ◌*◌, ◌<◌, ◌≤◌, ◌==◌, ◌&&◌, Bool, true, false, not, cond, List, [], ◌∷◌, ◌++◌, length, take, get_or, count_by, Option, Some, None, unwrap_or, refl, sym, ap, ap₂, subst, ◌∙◌, arith, inl, inr, eqb-true, eq-eqb}
-use Rattle.std.proofs.lemmas.Bool.{cases_Bool, and_parts, and_from, true≢false}
+use Rattle.std.proofs.Common.{◌≡◌, ℕ, ◌+◌, ◌<◌, ◌≤◌, ◌==◌, ◌&&◌, Bool, true, false, not, cond, List, [], ◌∷◌, ◌++◌, length, take, get_or, count_by, Option, Some, unwrap_or, refl, sym, ap, ap₂, subst, ◌∙◌, arith, inl, inr, eqb-true, eq-eqb}
+use Rattle.std.proofs.lemmas.Bool.{cases_Bool, and_parts, true≢false}
 use Rattle.std.proofs.lemmas.List.{take_more, length-take-le}
 use Rattle.std.proofs.lemmas.List.Sums.{count_by-le-length, sum_by-cons, sum_by_push}
 use Rattle.std.specs.Map.{count_at}
@@ -145,7 +145,8 @@ key_counted k xs count is q here =
     let same : q ≡ k = same_is q k (sym (key_hit k q) ∙ here) in
     subst (λ v. count ≡ count_by (same_key v) xs) (sym same) is
 
-pub at_most_counted : (f : Key → Bool) (keys : List Key) (i count : ℕ) → count ≡ count_by f (take i keys) → i < length keys
+pub at_most_counted : (f : Key → Bool) (keys : List Key) (i count : ℕ) → count ≡ count_by f (take i keys)
+    → i < length keys
     → count ≤ i
 at_most_counted f keys i count is inside =
     let most = count_by-le-length f (take i keys) in

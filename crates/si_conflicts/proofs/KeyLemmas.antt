@@ -131,7 +131,8 @@ other_bit m n (suc k) = elim (other_bit m n k) [
 
 module _ (c : CodedGraph) (coded : IsCoded c) where
   -- what p enables q enables too
-  carries : (p q : ℕ) (x y : Key) → IsKey c p x → IsKey c q y → x.excited ≡ y.excited → code c p ≡ code c q → (e : Event)
+  carries : (p q : ℕ) (x y : Key) → IsKey c p x → IsKey c q y → x.excited ≡ y.excited → code c p ≡ code c q
+      → (e : Event)
       → IsNonInput c.graph.signals e.sig → enables c.graph p e ≡ true → enables c.graph q e ≡ true
   carries p q x y is_x is_y same codes e non_input on =
       let here = (is_x.excited_are e.sig).1 (record { non_input = non_input; up = e.up; enabled = on }) in
@@ -164,9 +165,13 @@ module _ (c : CodedGraph) (coded : IsCoded c) where
       → bit y.excited z ≡ false → (e : Event) × IsNonInput c.graph.signals e.sig × (enables c.graph p e ≡ true)
       × (enables c.graph q e ≡ true → ⊥)
   differs_by p q x y is_x is_y z on off =
-      let s = (is_x.excited_are z).0 on in
-      (record { sig = z; up = s.up }, s.non_input, s.enabled, λ also. true≢false
-      (sym ((is_y.excited_are z).1 (record { non_input = s.non_input; up = s.up; enabled = also })) ∙ off))
+      let s = (is_x.excited_are z).0 on in (
+        record { sig = z; up = s.up },
+        s.non_input,
+        s.enabled,
+        λ also. true≢false
+            (sym ((is_y.excited_are z).1 (record { non_input = s.non_input; up = s.up; enabled = also })) ∙ off),
+      )
 
   apart_differ : (p q : ℕ) (x y : Key) → IsKey c p x → IsKey c q y → x.excited ≢ y.excited → Differ c.graph p q
   apart_differ p q x y is_x is_y apart =

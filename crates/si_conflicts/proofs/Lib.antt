@@ -4,3 +4,4 @@ pub mod CountLemmas
 pub mod PairLemmas
 pub mod LinkLemmas
 pub mod BelowLemmas
+pub mod ConflictsExist

@@ -1,6 +1,6 @@
 -- As many pairs of keys clash as states are a conflict.
-use Rattle.std.proofs.Common.{◌≡◌, ℕ, zero, suc, ◌+◌, ◌<◌, ◌≤◌, ◌⊎◌, Bool, true, false, cond, List, [], ◌∷◌, ◌++◌, length, get_or, Contains, refl, sym, ap, ap₂, subst, ◌∙◌, arith, inl, inr, count_by}
-use Rattle.std.proofs.lemmas.Bool.{cases_Bool, cases_eq, true≢false}
+use Rattle.std.proofs.Common.{◌≡◌, ℕ, zero, suc, ◌+◌, ◌<◌, ◌≤◌, ◌⊎◌, Bool, true, false, cond, List, [], ◌∷◌, ◌++◌, length, get_or, refl, sym, ap₂, subst, ◌∙◌, arith, inl, inr, count_by}
+use Rattle.std.proofs.lemmas.Bool.{cases_eq}
 use Rattle.std.proofs.lemmas.List.{length-append}
 use Rattle.std.proofs.lemmas.List.Elements.{Contains-get_or}
 use Rattle.std.proofs.lemmas.List.Sums.{sum_by-cons}
@@ -11,8 +11,8 @@ use Rattle.si_base.proofs.Sorted.{In}
 use Rattle.si_base.proofs.Unique.{contains_from_in}
 use Rattle.si_base.proofs.InOrder.{InOrder, in_contains}
 use Rattle.si_conflicts.specs.declared.keys.Key.{Key}
-use Rattle.si_conflicts.specs.Conflicts.{AreConflicts, HasConflicts}
-use Rattle.si_conflicts.specs.Keys.{IsKey, AreKeys, clashes, clash_count, key_at, no_key}
+use Rattle.si_conflicts.specs.Conflicts.{HasConflicts}
+use Rattle.si_conflicts.specs.Keys.{IsKey, AreKeys, clashes, clash_count, no_key}
 use Rattle.si_conflicts.proofs.KeyLemmas.{clash_conflict, conflict_clash}
 
 -- ---- pairs in order, one by one
@@ -70,7 +70,8 @@ abbrev rows : ℕ → List Key → List (ℕ × ℕ)
 rows p [] = []
 rows p (k ∷ ks) = row k p (p + 1) ks ++ rows (p + 1) ks
 
-with_length : (b : Bool) (pair : ℕ × ℕ) (pairs : List (ℕ × ℕ)) → length (with_last b pair pairs) ≡ cond b 1 0 + length pairs
+with_length : (b : Bool) (pair : ℕ × ℕ) (pairs : List (ℕ × ℕ))
+    → length (with_last b pair pairs) ≡ cond b 1 0 + length pairs
 with_length true pair pairs = omega arith
 with_length false pair pairs = omega arith
 
@@ -119,36 +120,39 @@ module _ (c : CodedGraph) (coded : IsCoded c) (p : ℕ) (k : Key) (is_k : IsKey 
   further n pair is = (is.0, (let l = is.1 in omega arith), is.2)
 
   -- one key more in front: x is that of n
-  module _ (n : ℕ) (x : Key) (is_x : IsKey c n x) (order : p < n) (within : n < c.graph.states) (rest : List (ℕ × ℕ)) where
-    sound_more : (pair : ℕ × ℕ) → (In pair rest → IsOfRow (n + 1) pair) → (b : Bool) → clashes k x ≡ b
-        → In pair (with_last b (p, n) rest) → IsOfRow n pair
-    sound_more pair sound true clash (inl same) =
-        let is = clash_conflict c coded p n k x is_k is_x order within clash in
-        subst (λ a. IsOfRow n a) (sym same) (refl, omega arith, is)
-    sound_more pair sound true clash (inr later) = further n pair (sound later)
-    sound_more pair sound false none later = further n pair (sound later)
+  module _ (n : ℕ) (x : Key) (is_x : IsKey c n x) (order : p < n) (within : n < c.graph.states) (rest : List (ℕ × ℕ))
+    where
+      sound_more : (pair : ℕ × ℕ) → (In pair rest → IsOfRow (n + 1) pair) → (b : Bool) → clashes k x ≡ b
+          → In pair (with_last b (p, n) rest) → IsOfRow n pair
+      sound_more pair sound true clash (inl same) =
+          let is = clash_conflict c coded p n k x is_k is_x order within clash in
+          subst (λ a. IsOfRow n a) (sym same) (refl, omega arith, is)
+      sound_more pair sound true clash (inr later) = further n pair (sound later)
+      sound_more pair sound false none later = further n pair (sound later)
 
-    complete_here : (pair : ℕ × ℕ) → pair ≡ (p, n) → IsConflict c pair → In pair (with_last (clashes k x) (p, n) rest)
-    complete_here pair same is =
-        let clash = conflict_clash c coded p n k x is_k is_x (subst (λ a. IsConflict c a) same is) in
-        subst (λ b. In pair (with_last b (p, n) rest)) (sym clash) (inl same)
+      complete_here : (pair : ℕ × ℕ) → pair ≡ (p, n) → IsConflict c pair → In pair (with_last (clashes k x) (p, n) rest)
+      complete_here pair same is =
+          let clash = conflict_clash c coded p n k x is_k is_x (subst (λ a. IsConflict c a) same is) in
+          subst (λ b. In pair (with_last b (p, n) rest)) (sym clash) (inl same)
 
-    ordered_more : ((y : ℕ × ℕ) → In y rest → IsOfRow (n + 1) y) → Ordered rest → (b : Bool)
-        → Ordered (with_last b (p, n) rest)
-    ordered_more sound order_rest true = (λ y there. after y (sound y there), order_rest)
-      where
-        after : (y : ℕ × ℕ) → IsOfRow (n + 1) y → Before (p ∷ n ∷ []) (pair_place y)
-        after y is = inr (sym is.0, inl (let l = is.1 in omega arith))
-    ordered_more sound order_rest false = order_rest
+      ordered_more : ((y : ℕ × ℕ) → In y rest → IsOfRow (n + 1) y) → Ordered rest → (b : Bool)
+          → Ordered (with_last b (p, n) rest)
+      ordered_more sound order_rest true = (λ y there. after y (sound y there), order_rest)
+        where
+          after : (y : ℕ × ℕ) → IsOfRow (n + 1) y → Before (p ∷ n ∷ []) (pair_place y)
+          after y is = inr (sym is.0, inl (let l = is.1 in omega arith))
+      ordered_more sound order_rest false = order_rest
 
-  behind : (b : Bool) (first : ℕ × ℕ) (rest : List (ℕ × ℕ)) (pair : ℕ × ℕ) → In pair rest → In pair (with_last b first rest)
+  behind : (b : Bool) (first : ℕ × ℕ) (rest : List (ℕ × ℕ)) (pair : ℕ × ℕ) → In pair rest
+      → In pair (with_last b first rest)
   behind true first rest pair later = inr later
   behind false first rest pair later = later
 
   below_states : (n : ℕ) (x : Key) (xs : List Key) → KeysFrom c n (x ∷ xs) → n < c.graph.states
   below_states n x xs from = let l = from.count in omega arith
 
-  row_sound : (n : ℕ) (xs : List Key) → p < n → KeysFrom c n xs → (pair : ℕ × ℕ) → In pair (row k p n xs) → IsOfRow n pair
+  row_sound : (n : ℕ) (xs : List Key) → p < n → KeysFrom c n xs → (pair : ℕ × ℕ) → In pair (row k p n xs)
+      → IsOfRow n pair
   row_sound n [] order from pair there = absurd there
   row_sound n (x ∷ xs) order from pair there =
       sound_more n x (keys_head c n x xs from) order (below_states n x xs from) (row k p (n + 1) xs) pair
@@ -215,9 +219,9 @@ module _ (c : CodedGraph) (coded : IsCoded c) where
       ordered_append (row k p (p + 1) ks) (rows (p + 1) ks)
       (row_ordered c coded p k head (p + 1) ks (omega arith) tail) (rows_ordered (p + 1) ks tail)
       (λ a b left right. (
-          let one = row_sound c coded p k head (p + 1) ks (omega arith) tail a left in
-          let two = rows_sound (p + 1) ks tail b right in
-          inl (let l = one.0 in let m = two.1 in omega arith)))
+      let one = row_sound c coded p k head (p + 1) ks (omega arith) tail a left in
+      let two = rows_sound (p + 1) ks tail b right in
+      inl (let l = one.0 in let m = two.1 in omega arith)))
 
   pub as_many : (keys : List Key) (n : ℕ) → AreKeys c keys → n ≡ clash_count keys → HasConflicts c n
   as_many keys n are count =

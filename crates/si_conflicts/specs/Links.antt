@@ -11,7 +11,8 @@ IsFirstOfCode c low k o = IsFirstPlace (λ t. code c t ≡ k) low c.graph.states
 -- for each state the next later one of its code
 pub record AreNextEquals (c : CodedGraph) (next : List (Option ℕ)) : Type 0 where
   pub count : length next ≡ c.graph.states
-  pub links : (s : ℕ) → s < c.graph.states → IsFirstOfCode c (s + 1) (code c s) (slice_index_or next s None)
+  pub links : (s : ℕ) → s < c.graph.states
+      → IsFirstOfCode c (s + 1) (code c s) (slice_index_or next s None)
 
 -- the first state from `low` on with which s is in conflict, or None where there is none
 abbrev pub IsFirstClash : CodedGraph → ℕ → ℕ → Option ℕ → Type 0

@@ -32,7 +32,15 @@ pub fn conflicts(alloc: Global, graph: &Coded, limit: u32) -> Result<Vec<Pair>, 
         if pairs.len() as u64 >= limit as u64 {
             return Ok(pairs);
         }
-        add_conflicts(graph, &keys, &equals, &clashes, StateId(s), limit, &mut pairs)?;
+        add_conflicts(
+            graph,
+            &keys,
+            &equals,
+            &clashes,
+            StateId(s),
+            limit,
+            &mut pairs,
+        )?;
     }
     Ok(pairs)
 }

@@ -1,4 +1,4 @@
--- A coded graph has few arcs; so G[P] meets the limits of a graph.
+-- A coded graph has few arcs; so the inserted graph meets the limits of a graph.
 use Rattle.std.proofs.Common.{◌≡◌, ℕ, zero, suc, ◌+◌, ◌*◌, ◌<◌, ◌≤◌, ◌==◌, Bool, true, false, length, get_or, Contains, refl, sym, subst, ◌∙◌, arith, inl, inr, Less, Equal, Greater, nat_lt, le-ltb, eq-eqb, ne_eqb}
 use Rattle.std.proofs.lemmas.Bool.{true≢false, cases_order, cases_lt}
 use Rattle.std.proofs.lemmas.List.Elements.{Contains-get_or}
@@ -56,7 +56,7 @@ above c a b is has_a has_b small_a small_b less = elim (cases_order a.from b.fro
         let Q : ℕ → Type 0 = λ s. Step c.graph s (record { sig = a.event.sig; up = b.event.up }) b.to in
         let R : ℕ → Type 0 = λ i. Step c.graph b.from (record { sig = i; up = b.event.up }) b.to in
         let moved : Step c.graph a.from (record { sig = a.event.sig; up = b.event.up }) b.to = subst Q (sym same)
-            (subst R (sym also) has_b) in
+        (subst R (sym also) has_b) in
         let r = one_arc c a.from a.event.sig a.event.up b.event.up a.to b.to is small_a has_a moved in
         let make : ℕ → ℕ → Bool → ℕ → Edge = λ s i up t. arc s (record { sig = i; up = up }) t in
         let up : a.event.up ≡ b.event.up = r.0 in
@@ -79,8 +79,8 @@ at_least c (suc k) is within =
     let has_b : Contains c.graph.edges b = Contains-get_or c.graph.edges (suc k) d within in
     let less = sorted_at edge_cmp c.graph.edges is.graph_is.ordered k (suc k) d (omega arith) within in
     let more =
-        above c a b is has_a has_b (is.graph_is.within k d (omega arith)).1 (is.graph_is.within (suc k) d within).1
-            less in
+    above c a b is has_a has_b (is.graph_is.within k d (omega arith)).1 (is.graph_is.within (suc k) d within).1
+    less in
     omega (arith, before, more)
 
 -- at most one arc for each state and signal

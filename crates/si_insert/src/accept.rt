@@ -72,42 +72,12 @@ pub enum Rejected {
     NoCodeBit,
 }
 
-/// Whether a state of the class has a copy at the value.
-pub(crate) fn has_copy(c: Class, value: bool) -> bool
-    ensures { result ≡ Insertion.has_copy c value }
-{
-    match c {
-        Class::Low => !value,
-        Class::Rising => true,
-        Class::High => value,
-        Class::Falling => true,
-    }
-}
-
-/// Whether an arc between the classes waits at the value.
-pub(crate) fn waits(from: Class, to: Class, value: bool) -> bool
-    ensures { result ≡ Insertion.waits from to value }
-{
-    match (from, to) {
-        (Class::Rising, Class::Rising) => false,
-        (Class::Rising, _) => !value,
-        (Class::Falling, Class::Falling) => false,
-        (Class::Falling, _) => value,
-        _ => false,
-    }
-}
-
 /// Whether the signal is an input.
 fn is_input(graph: &Graph, z: Sig) -> bool
     requires { z < length graph.now.signals }
     ensures { IsTrue result ↔ IsInput graph.now.signals z }
 {
-    match graph.signals()[z.0 as usize].kind {
-        SigKind::Input => true,
-        SigKind::Output => false,
-        SigKind::Internal => false,
-        SigKind::Inserted => false,
-    }
+    graph.signals()[z.0 as usize].kind == SigKind::Input
 }
 
 /// Whether the input's arc waits at some value.
@@ -120,13 +90,14 @@ fn arc_waits(graph: &Graph, classes: &[Class], a: Edge) -> bool
 {
     let s = classes[a.from.0 as usize];
     let t = classes[a.to.0 as usize];
-    is_input(graph, a.event.sig) && (waits(s, t, false) || waits(s, t, true))
+    is_input(graph, a.event.sig) && (s.waits(t, false) || s.waits(t, true))
 }
 
 /// The first arc of an input that waits.
 fn waiting_arc(graph: &Graph, classes: &[Class]) -> Option<Edge>
     requires { length classes.now ≡ graph.now.states }
-    ensures { MatchOption result ((a : Edge) → ArcWaits graph.now classes.now a → ⊥) (IsFirst edge_place (ArcWaits graph.now classes.now)) }
+    ensures { MatchOption result ((a : Edge) → ArcWaits graph.now classes.now a → ⊥)
+        (IsFirst edge_place (ArcWaits graph.now classes.now)) }
 {
     for a in graph.arcs() {
         if arc_waits(graph, classes, *a) {
@@ -140,7 +111,7 @@ fn waiting_arc(graph: &Graph, classes: &[Class]) -> Option<Edge>
 fn breaks_at(s: Class, t: Class, u: Class, w: Class, value: bool) -> bool
     ensures { result ≡ breaks s t u w value }
 {
-    has_copy(s, value) && !waits(s, t, value) && !waits(s, u, value) && waits(u, w, value)
+    s.has_copy(value) && !s.waits(t, value) && !s.waits(u, value) && u.waits(w, value)
 }
 
 /// The same at some value.
@@ -183,7 +154,8 @@ fn breaking_arc(graph: &Graph, classes: &[Class], a: &Edge) -> Option<Edge>
     requires graph { IsGraph graph.now }
     requires from { a.now.from < graph.now.states }
     requires to { a.now.to < graph.now.states }
-    ensures { MatchOption result ((b : Edge) → PairBreaks graph.now classes.now a.now b → ⊥) (IsFirst edge_place (PairBreaks graph.now classes.now a.now)) }
+    ensures { MatchOption result ((b : Edge) → PairBreaks graph.now classes.now a.now b → ⊥)
+        (IsFirst edge_place (PairBreaks graph.now classes.now a.now)) }
 {
     let arcs = graph.arcs_out(a.from);
     for b in arcs {
@@ -207,7 +179,8 @@ fn broken_arc(graph: &Graph, classes: &[Class]) -> Option<Breach>
     requires one { IsDeterministic graph.now }
     ensures none { IfNone result ((a : Edge) → ArcBreaks graph.now classes.now a → ⊥) }
     ensures arc { IfSome result (λ r. IsFirst edge_place (ArcBreaks graph.now classes.now) r.a) }
-    ensures by { IfSome result (λ r. IsFirst edge_place (PairBreaks graph.now classes.now r.a) r.b) }
+    ensures by { IfSome result
+        (λ r. IsFirst edge_place (PairBreaks graph.now classes.now r.a) r.b) }
 {
     for a in graph.arcs() {
         if graph.is_driven(a.event.sig) {
@@ -220,19 +193,6 @@ fn broken_arc(graph: &Graph, classes: &[Class]) -> Option<Breach>
     None
 }
 
-/// The number of copies of a state of that class.
-pub(crate) fn copies_in(c: Class) -> u32
-    ensures is { result ≡ copy_count (c ∷ []) }
-    ensures few { result ≤ 2 }
-{
-    match c {
-        Class::Low => 1,
-        Class::Rising => 2,
-        Class::High => 1,
-        Class::Falling => 2,
-    }
-}
-
 /// The number of copies.
 pub(crate) fn count_copies(classes: &[Class]) -> u32
     requires { length classes.now ≤ max_states }
@@ -240,7 +200,7 @@ pub(crate) fn count_copies(classes: &[Class]) -> u32
 {
     let mut n = 0;
     for c in classes {
-        n += copies_in(*c);
+        n += c.copies();
     }
     n
 }
@@ -248,7 +208,9 @@ pub(crate) fn count_copies(classes: &[Class]) -> u32
 /// The most states of any graph, after insertion of signals too.
 const MAX_STATES: u32 = 262_144;
 
-/// The partition, or the first reason against it. The partition comes back.
+/// The partition where the inserted graph is proper, within the limits, and delays no input; or the
+/// first reason against it. The partition comes back. It takes no memory: the arcs of the graph and
+/// pairs of steps from one state decide.
 pub fn accept(graph: &Proper, partition: Partition) -> Result<Accepted, (Partition, Rejected)>
     requires { IsLawful graph.now.graph partition }
     ensures same { IfOk result (λ a. a ≡ partition) }

@@ -12,7 +12,7 @@ ghost use Rattle.si_insert.specs.Insertion.{new_signal};
 ghost use Rattle.si_insert.specs.Made;
 ghost use Rattle.si_insert.specs.Made.{AreFirsts, CanBeMade, new_edges, new_start};
 
-use crate::accept::{Accepted, count_copies, has_copy, waits};
+use crate::accept::{Accepted, count_copies};
 use crate::partition::Class;
 use crate::state_copies::{StateCopy, copies_of, firsts_of, place};
 use si_base::graph::{Edge, SigKind, Signal};
@@ -30,7 +30,8 @@ pub(crate) struct WithCopies {
     pub(crate) copies: Vec<StateCopy>,
 }
 
-/// The graph into which the new signal of that name is inserted by the partition. It fails only for want of memory.
+/// The graph into which the new signal of that name is inserted by the partition (the book's event
+/// insertion). It fails only where memory runs out.
 pub fn apply(
     alloc: Global,
     graph: &Proper,
@@ -77,8 +78,12 @@ fn made_graph(
     requires graph { IsGraph graph.now }
     requires count { length classes.now ≡ graph.now.states }
     requires room { length graph.now.signals < max_signals }
-    requires conditions { CanBeMade (graph.now.signals ++ new_signal name.now ∷ []) (copy_count classes.now) (new_edges graph.now classes.now) (new_start graph.now classes.now) }
-    ensures { IfOk result (IsMadeOf (graph.now.signals ++ new_signal name.now ∷ []) (copy_count classes.now) (new_edges graph.now classes.now) (new_start graph.now classes.now)) }
+    requires conditions { CanBeMade (graph.now.signals ++ new_signal name.now ∷ [])
+        (copy_count classes.now) (new_edges graph.now classes.now)
+        (new_start graph.now classes.now) }
+    ensures { IfOk result (IsMadeOf (graph.now.signals ++ new_signal name.now ∷ [])
+        (copy_count classes.now) (new_edges graph.now classes.now)
+        (new_start graph.now classes.now)) }
 {
     let firsts = firsts_of(alloc, classes)?;
     let firsts = firsts.as_slice();
@@ -89,13 +94,14 @@ fn made_graph(
     add_switches(&mut edges, graph, classes, firsts, false)?;
     let signals = with_new(alloc, graph, name)?;
     let start = graph.start();
-    let start = place(firsts, classes, start, entry(classes[start.0 as usize]));
+    let start = place(firsts, classes, start, classes[start.0 as usize].entry());
     Graph::make(alloc, signals, count_copies(classes), edges, start)
 }
 
 /// The signals of the graph, and the new one of that name last.
 fn with_new(alloc: Global, graph: &Graph, name: &Name) -> Result<Vec<Signal>, NoMemory>
-    ensures { IfOk result (λ signals. signals.items ≡ graph.now.signals ++ new_signal name.now ∷ []) }
+    ensures { IfOk result
+        (λ signals. signals.items ≡ graph.now.signals ++ new_signal name.now ∷ []) }
 {
     let mut signals = graph.copied_signals(alloc)?;
     signals.push(Signal {
@@ -115,7 +121,8 @@ fn add_copied(
 ) -> Result<(), NoMemory>
     requires count { length classes.now ≡ graph.now.states }
     requires firsts { AreFirsts classes.now firsts.now }
-    ensures { OnOk result (edges.new.items ≡ edges.old.items ++ Made.copied_edges graph.now classes.now value) }
+    ensures { OnOk result
+        (edges.new.items ≡ edges.old.items ++ Made.copied_edges graph.now classes.now value) }
 {
     let arcs = graph.arcs();
     for a in arcs {
@@ -134,7 +141,7 @@ fn goes(classes: &[Class], a: Edge, value: bool) -> bool
 {
     let from = classes[a.from.0 as usize];
     let to = classes[a.to.0 as usize];
-    has_copy(from, value) && !waits(from, to, value)
+    from.has_copy(value) && !from.waits(to, value)
 }
 
 /// The copy of an arc at the value.
@@ -163,12 +170,13 @@ fn add_switches(
     requires graph { IsGraph graph.now }
     requires count { length classes.now ≡ graph.now.states }
     requires firsts { AreFirsts classes.now firsts.now }
-    ensures { OnOk result (edges.new.items ≡ edges.old.items ++ Made.switch_edges graph.now classes.now up) }
+    ensures { OnOk result
+        (edges.new.items ≡ edges.old.items ++ Made.switch_edges graph.now classes.now up) }
 {
     let new = Sig(graph.signals().len() as u8);
     for k in 0..graph.states() {
         let s = StateId(k);
-        if switches(up, classes[s.0 as usize]) {
+        if classes[s.0 as usize].switches(up) {
             edges.push(Edge {
                 from: place(firsts, classes, s, !up),
                 event: Event { sig: new, up },
@@ -177,29 +185,6 @@ fn add_switches(
         }
     }
     Ok(())
-}
-
-/// Whether the new signal may switch in that direction at the states of the class.
-fn switches(up: bool, c: Class) -> bool
-    ensures { result ≡ Made.switches up c }
-{
-    match (up, c) {
-        (true, Class::Rising) => true,
-        (false, Class::Falling) => true,
-        _ => false,
-    }
-}
-
-/// The value of the new signal with which states of the class are entered.
-fn entry(c: Class) -> bool
-    ensures { result ≡ Insertion.entry c }
-{
-    match c {
-        Class::Low => false,
-        Class::Rising => false,
-        Class::High => true,
-        Class::Falling => true,
-    }
 }
 
 /// The codes of the copies.

@@ -7,7 +7,7 @@ ghost use Rattle.si_base.specs.Codes.{code};
 ghost use Rattle.si_base.specs.Limits.{max_signals};
 ghost use Rattle.si_insert.specs.Accepted.{IsAccepted};
 ghost use Rattle.si_insert.specs.Fresh.{IsTaken};
-ghost use Rattle.si_insert.specs.Lineage.{AllGiven, Extends, IsLineage, Keeps, as_given, origin};
+ghost use Rattle.si_insert.specs.Lineage.{AllGiven, Extends, Inserts, IsLineage, Keeps, as_given, origin};
 
 use crate::accept::Accepted;
 use crate::apply::{WithCopies, apply_with_copies};
@@ -28,7 +28,8 @@ pub struct TraceStep {
 
 /// A given proper graph without inserted signals, the insertions, and the graph that they make.
 ///
-/// Contracts see it as a `History`. What insertions keep is a fact of each lineage: `current` hands it out.
+/// Contracts see it as a `History`. What insertions keep is a fact of each lineage: `current` hands
+/// it out.
 #[derive(Drop)]
 pub struct Lineage {
     given: Proper,
@@ -42,16 +43,23 @@ impl Model for Lineage {
 
     ghost Value = { History };
 
-    ghost view = { λ l. record { given = l.given; trace = l.trace.items; current = record { coded = l.current; origins = l.origins.items } } };
+    ghost view = { λ l. record {
+      given = l.given;
+      trace = l.trace.items;
+      current = record { coded = l.current; origins = l.origins.items };
+    } };
 
-    ghost invariant = { λ l. IsLineage l.given l.trace.items (record { coded = l.current; origins = l.origins.items }) };
+    ghost invariant = { λ l. IsLineage l.given l.trace.items
+        (record { coded = l.current; origins = l.origins.items }) };
 }
 
 impl Lineage {
-    /// The lineage of a graph into which nothing is inserted yet. After want of memory the graph comes back.
+    /// The lineage of a graph into which nothing is inserted yet. After want of memory the graph
+    /// comes back.
     pub fn start(alloc: Global, graph: Proper) -> Result<Lineage, (Proper, NoMemory)>
         requires { AllGiven graph.graph.signals }
-        ensures line { IfOk result (λ l. l ≡ record { given = graph; trace = []; current = as_given graph }) }
+        ensures line { IfOk result
+            (λ l. l ≡ record { given = graph; trace = []; current = as_given graph }) }
         ensures back { IfErr result (λ e. e.0 ≡ graph) }
     {
         let Ok(current) = graph.copy(alloc) else {
@@ -83,17 +91,8 @@ impl Lineage {
         ensures line { IfOk result (Extends self (record { name = name; partition = accepted })) }
         ensures back { IfErr result (λ e. (e.0 ≡ self) × (e.1 ≡ accepted)) }
     {
-        let applied = apply_with_copies(alloc, &self.current, &accepted, &name);
-        let Ok(
-            WithCopies {
-                graph: next,
-                copies,
-            },
-        ) = applied
-        else {
-            return Err((self, accepted, NoMemory));
-        };
-        let Ok(next_origins) = origins_of(alloc, self.origins.as_slice(), copies.as_slice()) else {
+        let origins = self.origins.as_slice();
+        let Ok(next) = grow(alloc, &self.current, origins, &accepted, &name) else {
             return Err((self, accepted, NoMemory));
         };
         let Lineage {
@@ -102,27 +101,23 @@ impl Lineage {
             origins,
             trace,
         } = self;
-        let step = TraceStep {
-            name,
-            partition: accepted.into_partition(),
-        };
-        match with_step(trace, step) {
+        let partition = accepted.into_partition();
+        match with_step(trace, TraceStep { name, partition }) {
             Ok(trace) => Ok(Lineage {
                 given,
-                current: next,
-                origins: next_origins,
+                current: next.graph,
+                origins: next.origins,
                 trace,
             }),
-            Err((trace, partition)) => Err((
-                Lineage {
+            Err((trace, partition)) => {
+                let lineage = Lineage {
                     given,
                     current,
                     origins,
                     trace,
-                },
-                Accepted::of(partition),
-                NoMemory,
-            )),
+                };
+                Err((lineage, Accepted::of(partition), NoMemory))
+            }
         }
     }
 
@@ -158,10 +153,12 @@ impl Lineage {
         self.origins[p.0 as usize]
     }
 
-    /// The values of the inserted signals at a state: bit k is that of the inserted signal number k, counted from 0.
+    /// The values of the inserted signals at a state: bit k is that of inserted signal number k,
+    /// counted from 0 in order of insertion.
     pub fn bits(&self, p: StateId) -> Code
         requires { p < self.now.current.coded.graph.states }
-        ensures { (k : ℕ) → bit result k ≡ bit (code self.now.current.coded p) (length self.now.given.graph.signals + k) }
+        ensures { let given = length self.now.given.graph.signals in
+            (k : ℕ) → bit result k ≡ bit (code self.now.current.coded p) (given + k) }
     {
         let current = self.current.coded();
         let given = self.given.coded().graph().signals().len();
@@ -194,6 +191,33 @@ fn own_origins(alloc: Global, states: u32) -> Result<Vec<StateId>, NoMemory>
     Ok(origins)
 }
 
+/// A graph with one more signal, and the given state from which each of its states comes.
+#[derive(Drop)]
+struct Grown {
+    graph: Proper,
+    origins: Vec<StateId>,
+}
+
+/// The graph with the new signal of that name, and the origins of its states.
+fn grow(
+    alloc: Global,
+    graph: &Proper,
+    origins: &[StateId],
+    accepted: &Accepted,
+    name: &Name,
+) -> Result<Grown, NoMemory>
+    requires accepted { IsAccepted graph.now.graph accepted.now }
+    requires new { ¬ IsTaken graph.now.graph.signals name.now }
+    requires count { length origins.now ≡ graph.now.graph.states }
+    ensures { IfOk result (λ next. Inserts (record { coded = graph.now; origins = origins.now })
+        (record { name = name.now; partition = accepted.now })
+        (record { coded = next.graph; origins = next.origins.items })) }
+{
+    let WithCopies { graph, copies } = apply_with_copies(alloc, graph, accepted, name)?;
+    let origins = origins_of(alloc, origins, copies.as_slice())?;
+    Ok(Grown { graph, origins })
+}
+
 /// The origins of the copies: those of their states.
 fn origins_of(
     alloc: Global,
@@ -201,7 +225,8 @@ fn origins_of(
     copies: &[StateCopy],
 ) -> Result<Vec<StateId>, NoMemory>
     requires { All (λ x. x.state < length origins.now) copies.now }
-    ensures { IfOk result (λ next. next.items ≡ map (λ x. slice_index origins.now x.state) copies.now) }
+    ensures { IfOk result
+        (λ next. next.items ≡ map (λ x. slice_index origins.now x.state) copies.now) }
 {
     let mut next = Vec::new(alloc);
     for x in copies {

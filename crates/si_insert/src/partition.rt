@@ -24,6 +24,78 @@ pub enum Class {
     Falling,
 }
 
+impl Class {
+    ghost use Rattle.std.specs.Prelude.{◌≡◌, ◌≤◌, ◌∷◌, []};
+    ghost use Rattle.si_insert.specs.Accepted.{copy_count};
+    ghost use Rattle.si_insert.specs.Insertion as insertion;
+    ghost use Rattle.si_insert.specs.Made as made;
+    ghost use Rattle.si_insert.specs.Partition.{may_lead};
+
+    /// Whether an arc may lead from a state of the class to one of the other.
+    fn may_lead_to(self, to: Class) -> bool
+        ensures { result ≡ may_lead self to }
+    {
+        match self {
+            Class::Low => matches!(to, Class::Low | Class::Rising),
+            Class::Rising => to != Class::Low,
+            Class::High => matches!(to, Class::High | Class::Falling),
+            Class::Falling => to != Class::High,
+        }
+    }
+
+    /// Whether a state of the class has a copy at the value.
+    pub(crate) fn has_copy(self, value: bool) -> bool
+        ensures { result ≡ insertion.has_copy self value }
+    {
+        match self {
+            Class::Low => !value,
+            Class::High => value,
+            Class::Rising | Class::Falling => true,
+        }
+    }
+
+    /// How many copies a state of the class has.
+    pub(crate) fn copies(self) -> u32
+        ensures is { result ≡ copy_count (self ∷ []) }
+        ensures few { result ≤ 2 }
+    {
+        match self {
+            Class::Low | Class::High => 1,
+            Class::Rising | Class::Falling => 2,
+        }
+    }
+
+    /// Whether an arc from a state of the class to one of the other waits, at the value, for the
+    /// new signal to switch.
+    pub(crate) fn waits(self, to: Class, value: bool) -> bool
+        ensures { result ≡ insertion.waits self to value }
+    {
+        match self {
+            Class::Rising => to != Class::Rising && !value,
+            Class::Falling => to != Class::Falling && value,
+            Class::Low | Class::High => false,
+        }
+    }
+
+    /// The value of the new signal with which states of the class are entered.
+    pub(crate) fn entry(self) -> bool
+        ensures { result ≡ insertion.entry self }
+    {
+        matches!(self, Class::High | Class::Falling)
+    }
+
+    /// Whether the new signal may switch in that direction at states of the class.
+    pub fn switches(self, up: bool) -> bool
+        ensures { result ≡ made.switches up self }
+    {
+        match self {
+            Class::Rising => up,
+            Class::Falling => !up,
+            Class::Low | Class::High => false,
+        }
+    }
+}
+
 /// Why classes are no lawful partition.
 #[derive(Clone, Copy, PartialEq, Eq, Debug)]
 pub enum Unlawful {
@@ -31,7 +103,7 @@ pub enum Unlawful {
     NoRise,
     /// No state is Falling.
     NoFall,
-    /// The arc from `s` by `e` to `t` leads to a class to which none may lead from the class of `s`.
+    /// The arc from `s` by `e` to `t` leads between classes between which none may lead.
     Arc { s: StateId, e: Event, t: StateId },
 }
 
@@ -50,25 +122,6 @@ impl Model for Partition {
     ghost view = { λ p. p.classes.items };
 }
 
-/// Whether an arc may lead from the one class to the other.
-fn may_lead(from: Class, to: Class) -> bool
-    ensures { result ≡ Rattle.si_insert.specs.Partition.may_lead from to }
-{
-    match (from, to) {
-        (Class::Low, Class::Low) => true,
-        (Class::Low, Class::Rising) => true,
-        (Class::Rising, Class::Rising) => true,
-        (Class::Rising, Class::High) => true,
-        (Class::Rising, Class::Falling) => true,
-        (Class::High, Class::High) => true,
-        (Class::High, Class::Falling) => true,
-        (Class::Falling, Class::Falling) => true,
-        (Class::Falling, Class::Low) => true,
-        (Class::Falling, Class::Rising) => true,
-        _ => false,
-    }
-}
-
 /// Whether some state has the class.
 fn has(classes: &[Class], c: Class) -> bool
     ensures { IsTrue result ↔ ((s : ℕ) × (s < length classes.now) × (class_of classes.now s ≡ c)) }
@@ -84,10 +137,11 @@ fn has(classes: &[Class], c: Class) -> bool
 /// The first unlawful arc.
 fn unlawful_arc(graph: &Graph, classes: &[Class]) -> Option<Edge>
     requires { length classes.now ≡ graph.now.states }
-    ensures { MatchOption result ((a : Edge) → IsUnlawfulArc graph.now classes.now a → ⊥) (IsFirst edge_place (IsUnlawfulArc graph.now classes.now)) }
+    ensures { MatchOption result ((a : Edge) → IsUnlawfulArc graph.now classes.now a → ⊥)
+        (IsFirst edge_place (IsUnlawfulArc graph.now classes.now)) }
 {
     for a in graph.arcs() {
-        if !may_lead(classes[a.from.0 as usize], classes[a.to.0 as usize]) {
+        if !classes[a.from.0 as usize].may_lead_to(classes[a.to.0 as usize]) {
             return Some(*a);
         }
     }
@@ -121,7 +175,8 @@ impl Partition {
         self.classes[s.0 as usize]
     }
 
-    /// The partition of these classes, or the first reason why it isn't lawful. The classes come back.
+    /// The partition of these classes where it is lawful (the book's conditions for an insertion by
+    /// a partition of the states), or the first reason why it isn't. The classes come back.
     pub fn lawful(graph: &Proper, classes: Vec<Class>) -> Result<Partition, (Vec<Class>, Unlawful)>
         requires { length classes.items ≡ graph.now.graph.states }
         ensures same { IfOk result (λ p. p ≡ classes.items) }

@@ -1,5 +1,5 @@
 -- What the writers of listings have still to add, a step at a time.
-use Rattle.std.proofs.Common.{◌≡◌, ℕ, suc, ◌+◌, ◌<◌, ◌≤◌, List, [], ◌∷◌, ◌++◌, map, take, drop, length, get_or, All, Contains, refl, sym, ap, ap₂, subst, ◌∙◌, add-one, append_assoc, codes, decimal, arith}
+use Rattle.std.proofs.Common.{◌≡◌, ℕ, suc, ◌+◌, ◌<◌, ◌≤◌, List, [], ◌∷◌, ◌++◌, map, take, drop, length, get_or, All, Contains, refl, sym, ap, ap₂, ◌∙◌, add-one, append_assoc, codes, decimal, arith}
 use Rattle.std.proofs.Math.Seq.{drop-cons}
 use Rattle.std.proofs.lemmas.Grind.{flat_map-append}
 use Rattle.std.proofs.lemmas.List.{append-nil, drop_all, get_or-map, length-map, take_more}
@@ -22,7 +22,8 @@ use Rattle.si_listings.specs.ConflictText.{max_printed, pair_line, conflicts_tex
 pub one_region_text : (c : CodedGraph) (states : List (List ℕ)) (x y : List ℕ) → IsRegionText c states x
     → IsRegionText c states y → x ≡ y
 one_region_text c states x y a b =
-    a.text_is ∙ ap (regions_text c.graph.signals states) (unique.one_list c a.regions b.regions a.are b.are) ∙ sym b.text_is
+    a.text_is ∙ ap (regions_text c.graph.signals states) (unique.one_list c a.regions b.regions a.are b.are) ∙ sym
+    b.text_is
 
 pub one_conflict_text : (c : CodedGraph) (states : List (List ℕ)) (x y : List ℕ) → IsConflictText c states x
     → IsConflictText c states y → x ≡ y
@@ -35,12 +36,14 @@ abbrev pub states_from : List (List ℕ) → List ℕ → ℕ → List ℕ
 states_from names states i = spaced (map (state_word names) (drop i states))
 
 pub state_more : (names : List (List ℕ)) (states : List ℕ) (i s : ℕ) (name old text new : List ℕ) → i < length states
-    → s ≡ get_or states i s → text ++ states_from names states i ≡ old → name ≡ state_word names s → new ≡ text ++ 32 ∷ name
+    → s ≡ get_or states i s → text ++ states_from names states i ≡ old → name ≡ state_word names s
+    → new ≡ text ++ 32 ∷ name
     → new ++ states_from names states (i + 1) ≡ old
 state_more names states i s name old text new within at so_far named is =
     let left : states_from names states i ≡ (32 ∷ name) ++ states_from names states (i + 1) =
     ap (λ (l : List ℕ). spaced (map (state_word names) l)) (drop-cons states i s within)
-    ∙ ap (λ (n : List ℕ). (32 ∷ n) ++ states_from names states (suc i)) (ap (state_word names) (sym at) ∙ sym named) ∙ rw add-one refl in
+    ∙ ap (λ (n : List ℕ). (32 ∷ n) ++ states_from names states (suc i)) (ap (state_word names) (sym at) ∙ sym named) ∙
+    rw add-one refl in
     ap (λ (t : List ℕ). t ++ states_from names states (i + 1)) is
     ∙ append_assoc text (32 ∷ name) (states_from names states (i + 1))
     ∙ ap (λ (t : List ℕ). text ++ t) (sym left) ∙ so_far
@@ -101,7 +104,8 @@ module _ (text : List ℕ) (signals : List Signal) (states : List (List ℕ)) (r
       → first ≡ text ++ part (codes "er") r.er word → second ≡ first ++ part (codes "sr") r.sr word
       → second ++ part (codes "qr") r.qr word ≡ text ++ text_of (region_lines signals states number r)
   region_by_calls number word first second e1 e2 e3 =
-      ap (λ (t : List ℕ). t ++ part (codes "qr") r.qr word) (e3 ∙ ap (λ (t : List ℕ). t ++ part (codes "sr") r.sr word) e2)
+      ap (λ (t : List ℕ). t ++ part (codes "qr") r.qr word)
+      (e3 ∙ ap (λ (t : List ℕ). t ++ part (codes "sr") r.sr word) e2)
       ∙ three text (part (codes "er") r.er word) (part (codes "sr") r.sr word) (part (codes "qr") r.qr word)
       ∙ ap (λ (w : List ℕ). text ++ parts w) e1
 
@@ -112,7 +116,8 @@ regions_from signals states regions k = text_of (lines_after signals states (tak
 pub region_more : (signals : List Signal) (states : List (List ℕ)) (regions : List Region) (k number : ℕ) (r : Region)
     (old text new : List ℕ) → k < length regions → text ++ regions_from signals states regions k ≡ old
     → r ≡ get_or regions k r → number ≡ number_after (take k regions) r
-    → new ≡ text ++ text_of (region_lines signals states number r) → new ++ regions_from signals states regions (k + 1) ≡ old
+    → new ≡ text ++ text_of (region_lines signals states number r)
+    → new ++ regions_from signals states regions (k + 1) ≡ old
 region_more signals states regions k number r old text new within so_far at number_is is =
     let rest : List Region → List ℕ = λ earlier. text_of (lines_after signals states earlier (drop (k + 1) regions)) in
     let lines : ℕ → List ℕ = λ n. text_of (region_lines signals states n r) in
@@ -141,14 +146,15 @@ regions_written signals states regions k text all so_far =
 abbrev pair_of : Pair → ℕ × ℕ
 pair_of y = (y.p, y.q)
 
-pub pairs_within : (c : CodedGraph) (limit : ℕ) (states : List (List ℕ)) (pairs : List Pair) → length states ≡ c.graph.states
+pub pairs_within : (c : CodedGraph) (limit : ℕ) (states : List (List ℕ)) (pairs : List Pair)
+    → length states ≡ c.graph.states
     → AreFirstConflicts c limit (pairs_of pairs) → All (λ x. (x.p < length states) × (x.q < length states)) pairs
 pairs_within c limit states pairs size are k d inside =
     let x = get_or pairs k d in
     let there : Contains (pairs_of pairs) (x.p, x.q) = (
-        k,
-        omega (arith, inside, length-map pairs pair_of),
-        get_or-map pair_of pairs k d (x.p, x.q) inside,
+      k,
+      omega (arith, inside, length-map pairs pair_of),
+      get_or-map pair_of pairs k d (x.p, x.q) inside,
     ) in
     let is = are.each (x.p, x.q) there in
     (omega (arith, is.order, is.within, size), omega (arith, is.within, size))

@@ -1,18 +1,17 @@
 -- The numbers of components: regions of one event stand together. And what the words of regions name is there.
-use Rattle.std.proofs.Common.{◌≡◌, ◌≢◌, ℕ, zero, suc, ◌+◌, ◌-◌, ◌*◌, ◌<◌, ◌≤◌, ◌⊎◌, Bool, true, false, cond, List, [], ◌∷◌, ◌++◌, length, take, get_or, count_by, Contains, All, AllPairs, refl, sym, ap, subst, ◌∙◌, arith, inl, inr}
-use Rattle.std.proofs.lemmas.Bool.{cases_Bool, cases_eq, true≢false}
+use Rattle.std.proofs.Common.{◌≡◌, ℕ, suc, ◌+◌, ◌-◌, ◌<◌, ◌≤◌, Bool, false, cond, List, [], ◌∷◌, ◌++◌, length, take, get_or, count_by, Contains, AllPairs, refl, sym, ap, subst, ◌∙◌, arith, inl, inr}
+use Rattle.std.proofs.lemmas.Bool.{cases_Bool, cases_eq}
 use Rattle.std.proofs.lemmas.List.{get_or_default, get_or-take, take_more, length-take-le}
 use Rattle.std.proofs.lemmas.List.Sums.{sum_by-cons, sum_by_push}
 use Rattle.si_base.specs.declared.ids.Event.{Event}
-use Rattle.si_base.specs.declared.graph.Signal.{Signal}
 use Rattle.si_base.specs.Order.{Before}
-use Rattle.si_base.specs.Graph.{StateGraph, Step, IsGraph, event_place, same_event}
+use Rattle.si_base.specs.Graph.{StateGraph, IsGraph, event_place, same_event}
 use Rattle.si_base.specs.Codes.{CodedGraph, IsCoded}
 use Rattle.si_base.proofs.StepFacts.{step_within}
 use Rattle.si_base.proofs.Steps.{same_event-refl, same_event-true, step_from_enables}
 use Rattle.si_graph.proofs.OrderLemmas.{event_from_place}
 use Rattle.si_regions.specs.declared.regions.Region.{Region}
-use Rattle.si_regions.specs.Regions.{IsRegion, AreRegions, IsReachedThrough, WalkThrough, region_place}
+use Rattle.si_regions.specs.Regions.{IsRegion, WalkThrough, region_place}
 use Rattle.si_regions.proofs.ComponentLemmas.{entered_within}
 use Rattle.si_regions.proofs.RegionLemmas.{enables_within}
 use Rattle.si_regions.proofs.StateLists.{all_below}
@@ -82,13 +81,15 @@ module _ (regions : List Region) (k : ℕ) (r : Region) (inside : k < length reg
 
       apart : (j : ℕ) (d : Region) → j < k → (get_or regions j d).event ≡ r.event → ⊥
       apart j d below same = elim (cases_eq j last) [
-        | inl is ↦ off (goes_on (omega arith) (ap (λ (x : Region). x.event) (get_or_default regions last r d (omega arith))
+        | inl is ↦ off (goes_on (omega arith) (ap (λ (x : Region). x.event)
+            (get_or_default regions last r d (omega arith))
             ∙ ap (λ i. (get_or regions i d).event) (sym is) ∙ same))
         | inr other ↦ (
             let one = place_le (get_or regions j r) before (order j last r (omega arith) (omega arith)) in
             let two = place_le before (get_or regions k r) (order last k r (omega arith) inside) in
             let from : event_place (get_or regions j r).event ≡ event_place r.event =
-            ap (λ (x : Region). event_place x.event) (get_or_default regions j r d (omega arith)) ∙ ap event_place same in
+            ap (λ (x : Region). event_place x.event) (get_or_default regions j r d (omega arith)) ∙ ap event_place same
+            in
             let to : event_place (get_or regions k r).event ≡ event_place r.event =
             ap (λ (x : Region). event_place x.event) (sym at) in
             let equal : event_place before.event ≡ event_place r.event = omega (arith, one, two, from, to) in
@@ -137,7 +138,8 @@ names_within c states r coded size is =
           (λ t there. (let within = entered t there in omega (arith, within, size)));
       quiescent = all_below r.qr r.qr (length states) refl (λ t there. (
           let walk = (is.quiescent.exactly t).0 there in
-          let within = walk_within c.graph _ walk.begin walk.events t coded.graph_is (entered walk.begin walk.there) walk.walk in
+          let within = walk_within c.graph _ walk.begin walk.events t coded.graph_is (entered walk.begin walk.there)
+          walk.walk in
           omega (arith, within, size)));
     }
 

@@ -17,7 +17,8 @@ unfoldable pub conflicts_text : List (List ℕ) → ℕ → List (ℕ × ℕ) �
 conflicts_text states count pairs =
     text_of ((codes "conflicts" ∷ decimal count ∷ []) ∷ map (pair_line states) pairs)
 
--- the text of the number of all conflicts of c and of the first of them, with these names of its states
+-- the text of the number of all conflicts of c and of the first of them, with these names of its
+-- states
 pub record IsConflictText (c : CodedGraph) (states : List (List ℕ)) (text : List ℕ) : Type 0 where
   pub count : ℕ
   pub counted : HasConflicts c count

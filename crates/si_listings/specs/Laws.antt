@@ -1,6 +1,6 @@
 -- The laws of the listings, one word each.
 use Rattle.std.specs.Prelude.{◌≡◌, ℕ, List}
-use Rattle.si_base.specs.Codes.{CodedGraph}
+use Rattle.si_base.specs.Codes.{CodedGraph, IsCoded}
 use Rattle.si_listings.specs.RegionText.{IsRegionText}
 use Rattle.si_listings.specs.ConflictText.{IsConflictText}
 
@@ -13,3 +13,13 @@ RegionTextsAreUnique = (c : CodedGraph) (states : List (List ℕ)) (x y : List �
 abbrev pub ConflictTextsAreUnique : Type 0
 ConflictTextsAreUnique = (c : CodedGraph) (states : List (List ℕ)) (x y : List ℕ)
     → IsConflictText c states x → IsConflictText c states y → x ≡ y
+
+-- each coded graph with names for its states has a text of regions
+abbrev pub RegionTextsExist : Type 0
+RegionTextsExist = (c : CodedGraph) (states : List (List ℕ)) → IsCoded c
+    → (text : List ℕ) × IsRegionText c states text
+
+-- and one of conflicts
+abbrev pub ConflictTextsExist : Type 0
+ConflictTextsExist = (c : CodedGraph) (states : List (List ℕ))
+    → (text : List ℕ) × IsConflictText c states text

@@ -17,7 +17,8 @@ set_line kind signals states e number set =
 
 -- a region: its excitation, switching and quiescent region
 abbrev pub region_lines : List Signal → List (List ℕ) → ℕ → Region → List (List (List ℕ))
-region_lines signals states number r = set_line (codes "er") signals states r.event (decimal number) r.er
+region_lines signals states number r = set_line (codes "er") signals states r.event (decimal number)
+    r.er
     ∷ set_line (codes "sr") signals states r.event (decimal number) r.sr
     ∷ set_line (codes "qr") signals states r.event (decimal number) r.qr ∷ []
 
@@ -51,4 +52,5 @@ pub record IsWithinNames (states : List (List ℕ)) (r : Region) : Type 0 where
 -- the k-th region has the event of the one before it
 pub record GoesOn (regions : List Region) (k : ℕ) : Type 0 where
   pub later : 0 < k
-  pub same : (d : Region) → (slice_index_or regions (k - 1) d).event ≡ (slice_index_or regions k d).event
+  pub same : (d : Region) → (slice_index_or regions (k - 1) d).event ≡
+      (slice_index_or regions k d).event

@@ -1,9 +1,15 @@
 //! The laws of the listings, as contracts of functions that do nothing.
 
-ghost use Rattle.si_listings.specs.Laws.{RegionTextsAreUnique, ConflictTextsAreUnique};
+ghost use Rattle.si_listings.specs.Laws.{RegionTextsAreUnique, ConflictTextsAreUnique, RegionTextsExist, ConflictTextsExist};
 
 /// A graph with names for its states has one text of each kind.
 pub fn listings_are_unique()
     ensures regions { RegionTextsAreUnique }
     ensures conflicts { ConflictTextsAreUnique }
+{}
+
+/// A coded graph with names for its states has a text of each kind.
+pub fn listings_exist()
+    ensures regions { RegionTextsExist }
+    ensures conflicts { ConflictTextsExist }
 {}

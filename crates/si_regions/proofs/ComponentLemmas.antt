@@ -1,7 +1,7 @@
 -- What is reached from a state along arcs either way is a component, and what is reached along arcs out is a rest.
-use Rattle.std.proofs.Common.{◌≡◌, ℕ, ◌<◌, Bool, ◌∙◌, sym, refl, subst, arith, List, [], ◌∷◌, ◌++◌, Contains, inl, inr}
+use Rattle.std.proofs.Common.{◌≡◌, ℕ, ◌<◌, Bool, sym, refl, subst, List, [], ◌∷◌, ◌++◌, Contains, inl, inr}
 use Rattle.si_base.specs.declared.ids.Event.{Event}
-use Rattle.si_base.specs.Graph.{StateGraph, Step, IsGraph}
+use Rattle.si_base.specs.Graph.{StateGraph, IsGraph}
 use Rattle.si_base.specs.Codes.{CodedGraph}
 use Rattle.si_base.proofs.StepFacts.{step_within}
 use Rattle.si_graph.specs.declared.closure.Along.TheVariants.{Out, Both}

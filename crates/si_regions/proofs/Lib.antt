@@ -3,3 +3,5 @@ pub mod SearchLemmas
 pub mod UniqueRegions
 pub mod ComponentLemmas
 pub mod RegionLemmas
+pub mod SetsExist
+pub mod RegionsExist

@@ -1,6 +1,6 @@
 -- Sets made state by state, and regions in order.
-use Rattle.std.proofs.Common.{◌≡◌, ℕ, zero, suc, ◌+◌, ◌*◌, ◌<◌, ◌≤◌, Bool, true, false, not, ◌∙◌, sym, refl, ap, subst, arith, List, [], ◌∷◌, ◌++◌, length, get_or, set, Contains, IsTrue, inl, inr, ◌⊎◌, ◌↔◌, length-set, replicate, nat_cmp}
-use Rattle.std.proofs.lemmas.Bool.{cases_eq, cases_lt, true≢false}
+use Rattle.std.proofs.Common.{◌≡◌, ℕ, ◌+◌, ◌*◌, ◌<◌, ◌≤◌, Bool, true, false, ◌∙◌, sym, refl, ap, subst, arith, List, [], ◌∷◌, ◌++◌, length, get_or, set, Contains, IsTrue, inl, inr, ◌⊎◌, ◌↔◌, length-set, replicate, nat_cmp}
+use Rattle.std.proofs.lemmas.Bool.{cases_eq, cases_lt}
 use Rattle.std.proofs.lemmas.List.{length-replicate, get_or_default}
 use Rattle.std.proofs.lemmas.List.Elements.{Contains-push, Contains-push_cases, Contains-append_left, Contains-get_or}
 use Rattle.std.proofs.lemmas.List.Quantifiers.{all_pairs_push}
@@ -47,7 +47,8 @@ made_more Q n k t marks inside here one x = record {
           (let is : u ≡ t = one u (subst (λ j. Q j u) same b.2) in
           subst (λ v. IsIn (set marks t true) v) (sym is) (is_set marks t (omega (arith, x.size))))
       | inr other ↦
-          stays_in marks t u (omega (arith, x.size)) ((x.exactly u).1 (b.0, (let l = b.1 in omega (arith, l, other)), b.2))
+          stays_in marks t u (omega (arith, x.size))
+          ((x.exactly u).1 (b.0, (let l = b.1 in omega (arith, l, other)), b.2))
     ]),
   );
 }
@@ -76,9 +77,9 @@ enabling_all g e k marks all x = record {
   exactly = λ t. (
     (λ i. (let b = (x.exactly t).0 i in on t b.0 b.2)),
     (λ on. (
-      let step = step_from_enables g t e on in
-      let place = step.1 in
-      (x.exactly t).1 (place.0, (let l = place.1 in omega arith), (arc t e step.0, place.1, place.2, refl, refl)))),
+        let step = step_from_enables g t e on in
+        let place = step.1 in
+        (x.exactly t).1 (place.0, (let l = place.1 in omega arith), (arc t e step.0, place.1, place.2, refl, refl)))),
   );
 }
   where
@@ -151,8 +152,8 @@ targets_all g from e n targets list all x same order = record {
   exactly = λ t. (
     λ there. (let b = (x t).0 ((same t).0 there) in (b.1, (b.0, b.3, b.4), b.5)),
     λ entered. (
-      let place = entered.1 in
-      (same t).1 ((x t).1 (place.0, entered.0, (let l = place.1 in omega arith), place.1, place.2, entered.2))),
+        let place = entered.1 in
+        (same t).1 ((x t).1 (place.0, entered.0, (let l = place.1 in omega arith), place.1, place.2, entered.2))),
   );
 }
 
@@ -188,47 +189,70 @@ regions_none c = record {
 abbrev pub AreDone : Event → List Region → List Bool → Type 0
 AreDone e regions done = (t : ℕ) → IsIn done t ↔ ((r : Region) × Contains regions r × (r.event ≡ e) × Contains r.er t)
 
-pub done_none : (c : CodedGraph) (e : Event) (n : ℕ) (regions : List Region) → RegionsTo c (event_place e) 0 regions → AreDone e regions (replicate n false)
+pub done_none : (c : CodedGraph) (e : Event) (n : ℕ) (regions : List Region) → RegionsTo c (event_place e) 0 regions
+    → AreDone e regions (replicate n false)
 done_none c e n regions to t = (
   (λ i. absurd (in_none n t i)),
-  (λ found. absurd (none found.0 found.2 (at_places (event_place found.0.event) (least found.0.er) (event_place e) 0 (to.each found.0 found.1).1))),
+  (λ found. absurd (none found.0 found.2 (at_places (event_place found.0.event) (least found.0.er) (event_place e) 0
+      (to.each found.0 found.1).1))),
 )
   where
-    none : (r : Region) → r.event ≡ e → (event_place r.event < event_place e) ⊎ ((event_place r.event ≡ event_place e) × (least r.er < 0)) → ⊥
+    none : (r : Region) → r.event ≡ e → (event_place r.event < event_place e) ⊎
+        ((event_place r.event ≡ event_place e) × (least r.er < 0)) → ⊥
     none r same (inl h) = omega (arith, h, ap event_place same)
     none r same (inr h) = omega (arith, h.1)
 
-pub regions_pass : (c : CodedGraph) (e : Event) (s : ℕ) (regions : List Region) (done : List Bool) → AreDone e regions done → (IsTrue (enables c.graph s e) → IsIn done s) → RegionsTo c (event_place e) s regions → RegionsTo c (event_place e) (s + 1) regions
+pub regions_pass : (c : CodedGraph) (e : Event) (s : ℕ) (regions : List Region) (done : List Bool)
+    → AreDone e regions done → (IsTrue (enables c.graph s e) → IsIn done s) → RegionsTo c (event_place e) s regions
+    → RegionsTo c (event_place e) (s + 1) regions
 regions_pass c e s regions done are stands to = record {
-  each = λ r there. (let k = to.each r there in (k.0, weaker (event_place r.event) (least r.er) (event_place e) s (s + 1) (omega arith) k.1));
+  each = λ r there. (let k = to.each r there in (
+    k.0,
+    weaker (event_place r.event) (least r.er) (event_place e) s
+        (s + 1) (omega arith) k.1,
+  ));
   all = λ t f on before. pick t f on (at_places (event_place f) t (event_place e) (s + 1) before) (cases_lt t s);
   in_order = to.in_order;
 }
   where
-    pick : (t : ℕ) (f : Event) → IsTrue (enables c.graph t f) → (event_place f < event_place e) ⊎ ((event_place f ≡ event_place e) × (t < s + 1)) → (t < s) ⊎ (s ≤ t) → (r : Region) × Contains regions r × (r.event ≡ f) × Contains r.er t
+    pick : (t : ℕ) (f : Event) → IsTrue (enables c.graph t f)
+        → (event_place f < event_place e) ⊎ ((event_place f ≡ event_place e) × (t < s + 1)) → (t < s) ⊎ (s ≤ t)
+        → (r : Region) × Contains regions r × (r.event ≡ f) × Contains r.er t
     pick t f on (inl h) other = to.all t f on (inl h)
     pick t f on (inr h) (inl below) = to.all t f on (inr (h.0, inl below))
     pick t f on (inr h) (inr above) =
         let same : t ≡ s = omega (arith, h.1, above) in
         let event : f ≡ e = event_from_place f e h.0 in
-        let on_e : IsTrue (enables c.graph s e) = subst (λ x. IsTrue (enables c.graph x e)) same (subst (λ x. IsTrue (enables c.graph t x)) event on) in
+        let on_e : IsTrue (enables c.graph s e) = subst (λ x. IsTrue (enables c.graph x e)) same
+        (subst (λ x. IsTrue (enables c.graph t x)) event on) in
         let found = (are s).0 (stands on_e) in
         (found.0, found.1, found.2 ∙ sym event, subst (λ x. Contains found.0.er x) (sym same) found.3)
 
-pub least_new : (c : CodedGraph) (e : Event) (s : ℕ) (regions : List Region) (done : List Bool) (r : Region) → AreDone e regions done → (IsIn done s → ⊥) → IsRegion c r → r.event ≡ e → Contains r.er s → RegionsTo c (event_place e) s regions → least r.er ≡ s
+pub least_new : (c : CodedGraph) (e : Event) (s : ℕ) (regions : List Region) (done : List Bool) (r : Region)
+    → AreDone e regions done → (IsIn done s → ⊥) → IsRegion c r → r.event ≡ e → Contains r.er s
+    → RegionsTo c (event_place e) s regions → least r.er ≡ s
 least_new c e s regions done r are fresh is same here to = least_is r.er s is.excited.in_order here (λ t less there.
-    (let on : IsTrue (enables c.graph t e) = subst (λ x. IsTrue (enables c.graph t x)) same (is.excited.members t there) in
+    (let on : IsTrue (enables c.graph t e) = subst (λ x. IsTrue (enables c.graph t x)) same (is.excited.members t there)
+    in
     let found = to.all t e on (inr (refl, inl less)) in
     let E : Event → Type 0 = λ x. IsComponent c.graph (Enables c.graph x) r.er in
     let F : Event → Type 0 = λ x. IsComponent c.graph (Enables c.graph x) found.0.er in
-    let one = one_component c.graph (Enables c.graph e) r.er found.0.er t (subst E same is.excited) (subst F found.2 (to.each found.0 found.1).0.excited) there found.3 in
+    let one = one_component c.graph (Enables c.graph e) r.er found.0.er t (subst E same is.excited)
+    (subst F found.2 (to.each found.0 found.1).0.excited) there found.3 in
     fresh ((are s).1 (found.0, found.1, found.2, subst (λ x. Contains x s) one here))))
 
-pub regions_more : (c : CodedGraph) (e : Event) (s : ℕ) (regions : List Region) (done : List Bool) (r : Region) → AreDone e regions done → (IsIn done s → ⊥) → IsRegion c r → r.event ≡ e → Contains r.er s → RegionsTo c (event_place e) s regions → RegionsTo c (event_place e) (s + 1) (regions ++ r ∷ [])
+pub regions_more : (c : CodedGraph) (e : Event) (s : ℕ) (regions : List Region) (done : List Bool) (r : Region)
+    → AreDone e regions done → (IsIn done s → ⊥) → IsRegion c r → r.event ≡ e → Contains r.er s
+    → RegionsTo c (event_place e) s regions → RegionsTo c (event_place e) (s + 1) (regions ++ r ∷ [])
 regions_more c e s regions done r are fresh is same here to = record {
   each = λ q there. elim (Contains-push_cases regions r q there) [
-    | inl old ↦ (let k = to.each q old in (k.0, weaker (event_place q.event) (least q.er) (event_place e) s (s + 1) (omega arith) k.1))
-    | inr new ↦ subst (λ x. IsRegion c x × Before (region_place x) (event_place e ∷ (s + 1) ∷ [])) new (is, inr (ap event_place same, inl (omega (arith, at))))
+    | inl old ↦ (let k = to.each q old in (
+      k.0,
+      weaker (event_place q.event) (least q.er) (event_place e) s (s + 1)
+          (omega arith) k.1,
+    ))
+    | inr new ↦ subst (λ x. IsRegion c x × Before (region_place x) (event_place e ∷ (s + 1) ∷ [])) new
+        (is, inr (ap event_place same, inl (omega (arith, at))))
   ];
   all = λ t f on before. pick t f on (at_places (event_place f) t (event_place e) (s + 1) before) (cases_lt t s);
   in_order = all_pairs_push (λ x y. Before (region_place x) (region_place y)) regions r to.in_order (λ k d within.
@@ -241,17 +265,27 @@ regions_more c e s regions done r are fresh is same here to = record {
     at : least r.er ≡ s
     at = least_new c e s regions done r are fresh is same here to
 
-    on_left : (t : ℕ) (f : Event) → ((q : Region) × Contains regions q × (q.event ≡ f) × Contains q.er t) → (q : Region) × Contains (regions ++ r ∷ []) q × (q.event ≡ f) × Contains q.er t
+    on_left : (t : ℕ) (f : Event) → ((q : Region) × Contains regions q × (q.event ≡ f) × Contains q.er t)
+        → (q : Region) × Contains (regions ++ r ∷ []) q × (q.event ≡ f) × Contains q.er t
     on_left t f found = (found.0, Contains-append_left regions (r ∷ []) found.0 found.1, found.2, found.3)
 
-    pick : (t : ℕ) (f : Event) → IsTrue (enables c.graph t f) → (event_place f < event_place e) ⊎ ((event_place f ≡ event_place e) × (t < s + 1)) → (t < s) ⊎ (s ≤ t) → (q : Region) × Contains (regions ++ r ∷ []) q × (q.event ≡ f) × Contains q.er t
+    pick : (t : ℕ) (f : Event) → IsTrue (enables c.graph t f)
+        → (event_place f < event_place e) ⊎ ((event_place f ≡ event_place e) × (t < s + 1)) → (t < s) ⊎ (s ≤ t)
+        → (q : Region) × Contains (regions ++ r ∷ []) q × (q.event ≡ f) × Contains q.er t
     pick t f on (inl h) other = on_left t f (to.all t f on (inl h))
     pick t f on (inr h) (inl below) = on_left t f (to.all t f on (inr (h.0, inl below)))
     pick t f on (inr h) (inr above) =
-        let same_state : t ≡ s = omega (arith, h.1, above) in
-        (r, Contains-push regions r, same ∙ sym (event_from_place f e h.0), subst (λ x. Contains r.er x) (sym same_state) here)
+        let same_state : t ≡ s = omega (arith, h.1, above) in (
+          r,
+          Contains-push regions r,
+          same ∙ sym (event_from_place f e h.0),
+          subst (λ x. Contains r.er x)
+              (sym same_state) here,
+        )
 
-pub done_more : (e : Event) (regions : List Region) (done new : List Bool) (r : Region) → r.event ≡ e → ((t : ℕ) → IsIn new t ↔ (IsIn done t ⊎ Contains r.er t)) → AreDone e regions done → AreDone e (regions ++ r ∷ []) new
+pub done_more : (e : Event) (regions : List Region) (done new : List Bool) (r : Region) → r.event ≡ e
+    → ((t : ℕ) → IsIn new t ↔ (IsIn done t ⊎ Contains r.er t)) → AreDone e regions done
+    → AreDone e (regions ++ r ∷ []) new
 done_more e regions done new r same grown are t = (
   (λ i. elim ((grown t).0 i) [
     | inl old ↦ (let k = (are t).0 old in (k.0, Contains-append_left regions (r ∷ []) k.0 k.1, k.2, k.3))
@@ -263,23 +297,30 @@ done_more e regions done new r same grown are t = (
   ]),
 )
 
-pub regions_event : (c : CodedGraph) (k s : ℕ) (regions : List Region) → c.graph.states ≤ s → ((t : ℕ) (e : Event) → IsTrue (enables c.graph t e) → t < c.graph.states) → RegionsTo c k s regions → RegionsTo c (k + 1) 0 regions
+pub regions_event : (c : CodedGraph) (k s : ℕ) (regions : List Region) → c.graph.states ≤ s
+    → ((t : ℕ) (e : Event) → IsTrue (enables c.graph t e) → t < c.graph.states) → RegionsTo c k s regions
+    → RegionsTo c (k + 1) 0 regions
 regions_event c k s regions all bound to = record {
   each = λ r there. (let q = to.each r there in (q.0, later r (at_places (event_place r.event) (least r.er) k s q.1)));
-  all = λ t e on before. to.all t e on (pick t e (bound t e on) (at_places (event_place e) t (k + 1) 0 before) (cases_lt (event_place e) k));
+  all = λ t e on before. to.all t e on (pick t e (bound t e on) (at_places (event_place e) t (k + 1) 0 before)
+      (cases_lt (event_place e) k));
   in_order = to.in_order;
 }
   where
-    later : (r : Region) → (event_place r.event < k) ⊎ ((event_place r.event ≡ k) × (least r.er < s)) → Before (region_place r) ((k + 1) ∷ 0 ∷ [])
+    later : (r : Region) → (event_place r.event < k) ⊎ ((event_place r.event ≡ k) × (least r.er < s))
+        → Before (region_place r) ((k + 1) ∷ 0 ∷ [])
     later r (inl h) = inl (omega (arith, h))
     later r (inr h) = inl (omega (arith, h.0))
 
-    pick : (t : ℕ) (e : Event) → t < c.graph.states → (event_place e < k + 1) ⊎ ((event_place e ≡ k + 1) × (t < 0)) → (event_place e < k) ⊎ (k ≤ event_place e) → Before (event_place e ∷ t ∷ []) (k ∷ s ∷ [])
+    pick : (t : ℕ) (e : Event) → t < c.graph.states → (event_place e < k + 1) ⊎ ((event_place e ≡ k + 1) × (t < 0))
+        → (event_place e < k) ⊎ (k ≤ event_place e) → Before (event_place e ∷ t ∷ []) (k ∷ s ∷ [])
     pick t e inside (inl h) (inl below) = inl below
     pick t e inside (inl h) (inr above) = inr (omega (arith, h, above), inl (omega (arith, inside)))
     pick t e inside (inr h) other = absurd (omega (arith, h.1))
 
-pub regions_all : (c : CodedGraph) (k : ℕ) (regions : List Region) → ((t : ℕ) (e : Event) → IsTrue (enables c.graph t e) → event_place e < k) → RegionsTo c k 0 regions → AreRegions c regions
+pub regions_all : (c : CodedGraph) (k : ℕ) (regions : List Region)
+    → ((t : ℕ) (e : Event) → IsTrue (enables c.graph t e) → event_place e < k) → RegionsTo c k 0 regions
+    → AreRegions c regions
 regions_all c k regions all to = record {
   each = λ r there. (to.each r there).0;
   all = λ s e on. to.all s e on (inl (all s e on));
@@ -290,10 +331,13 @@ regions_all c k regions all to = record {
 pub enables_within : (g : StateGraph) (t : ℕ) (e : Event) → IsGraph g → IsTrue (enables g t e) → t < g.states
 enables_within g t e graph on = let step = step_from_enables g t e on in (step_within g t e step.0 graph step.1).0
 
-pub place_below : (c : CodedGraph) (n t : ℕ) (e : Event) → IsGraph c.graph → length c.graph.signals ≤ n → IsTrue (enables c.graph t e) → event_place e < 2 * n
+pub place_below : (c : CodedGraph) (n t : ℕ) (e : Event) → IsGraph c.graph → length c.graph.signals ≤ n
+    → IsTrue (enables c.graph t e) → event_place e < 2 * n
 place_below c n t e graph many on =
     below e.up
   where
     below : (up : Bool) → event_place (record { sig = e.sig; up = up }) < 2 * n
-    below true = let step = step_from_enables c.graph t e on in let b = (step_within c.graph t e step.0 graph step.1).1 in omega (arith, b, many)
-    below false = let step = step_from_enables c.graph t e on in let b = (step_within c.graph t e step.0 graph step.1).1 in omega (arith, b, many)
+    below true = let step = step_from_enables c.graph t e on in let b = (step_within c.graph t e step.0 graph step.1).1
+        in omega (arith, b, many)
+    below false = let step = step_from_enables c.graph t e on in let b = (step_within c.graph t e step.0 graph step.1).1
+        in omega (arith, b, many)

@@ -1,5 +1,5 @@
 -- What a search reaches: the seeds in a set, and along arcs what is beside them in it.
-use Rattle.std.proofs.Common.{◌≡◌, ℕ, ◌+◌, ◌<◌, ◌≤◌, Bool, true, false, ◌∙◌, sym, refl, ap, subst, arith, List, [], ◌∷◌, ◌++◌, length, get_or, replicate, Contains, inl, inr, ◌⊎◌, ◌↔◌, nat_cmp}
+use Rattle.std.proofs.Common.{◌≡◌, ℕ, ◌+◌, ◌<◌, ◌≤◌, Bool, ◌∙◌, sym, refl, ap, subst, arith, List, [], ◌∷◌, ◌++◌, length, get_or, Contains, inl, inr, ◌⊎◌, ◌↔◌, nat_cmp}
 use Rattle.std.proofs.lemmas.Bool.{cases_eq}
 use Rattle.std.proofs.lemmas.List.{get_or_default}
 use Rattle.std.proofs.lemmas.List.Elements.{Contains-push, Contains-push_cases, Contains-append_left}
@@ -27,7 +27,8 @@ reached_on g along within seeds s t r next = record {
   leads = path_push g along within r.seed r.path s t r.leads next;
 }
 
-pub reached_seed : (g : StateGraph) (along : Along) (within : List Bool) (seeds : List ℕ) (s : ℕ) → IsSeed within seeds s
+pub reached_seed : (g : StateGraph) (along : Along) (within : List Bool) (seeds : List ℕ) (s : ℕ)
+    → IsSeed within seeds s
     → IsReachedIn g along within seeds s
 reached_seed g along within seeds s there = record { seed = s; there = there; path = []; leads = refl }
 
@@ -44,13 +45,15 @@ abbrev pub AreTaken : List ℕ → List Bool → ℕ → List Bool → Type 0
 AreTaken seeds within n marks = (j : ℕ) → j < n → IsIn within (get_or seeds j 0) → IsIn marks (get_or seeds j 0)
 
 module _ (within : List Bool) (seeds : List ℕ) where
-  pub seeds_more : (n s : ℕ) (marks : List Bool) (work : List ℕ) (b : List Bool) (v : List ℕ) (d : List Bool) (u : List ℕ)
+  pub seeds_more : (n s : ℕ) (marks : List Bool) (work : List ℕ) (b : List Bool) (v : List ℕ) (d : List Bool)
+      (u : List ℕ)
       → n < length seeds → s ≡ get_or seeds n s
       → Marks (IsSeed within seeds) marks work b v → MarksAll (λ x. (x ≡ s) × IsIn within x) b v d u
       → Marks (IsSeed within seeds) marks work d u
   seeds_more n s marks work b v d u inside at before one =
       marks_both (IsSeed within seeds) (λ x. (x ≡ s) × IsIn within x) (IsSeed within seeds) marks work b v d u
-      (λ t seed. seed) (λ t is. (subst (λ x. Contains seeds x) (sym is.0) (n, inside, sym at), is.1)) before one.marks_are
+      (λ t seed. seed) (λ t is. (subst (λ x. Contains seeds x) (sym is.0) (n, inside, sym at), is.1)) before
+      one.marks_are
 
   pub taken_more : (n s : ℕ) (b : List Bool) (v : List ℕ) (d : List Bool) (u : List ℕ) → n < length seeds
       → s ≡ get_or seeds n s → MarksAll (λ x. (x ≡ s) × IsIn within x) b v d u → AreTaken seeds within n b
@@ -83,7 +86,8 @@ abbrev pub Searches : StateGraph → Along → List Bool → List ℕ → List B
 Searches g along within seeds marks work =
     Explores (IsNext g along within) (IsSeed within seeds) (IsReachedIn g along within seeds) marks work
 
-pub search_starts : (g : StateGraph) (along : Along) (within : List Bool) (seeds : List ℕ) (none : List Bool) (rest : List ℕ)
+pub search_starts : (g : StateGraph) (along : Along) (within : List Bool) (seeds : List ℕ) (none : List Bool)
+    (rest : List ℕ)
     (marks : List Bool) (work : List ℕ) → ((t : ℕ) → IsIn none t → ⊥) → rest ≡ []
     → MarksAll (IsSeed within seeds) none rest marks work → Searches g along within seeds marks work
 search_starts g along within seeds none rest marks work empty rests taken = record {
@@ -144,7 +148,8 @@ split_more Q marks found rest s after work m split t = (
 )
 
 -- what is found when nothing waits
-pub all_found : (marks : List Bool) (found : List ℕ) → AreSplit marks found [] → (t : ℕ) → IsIn marks t ↔ Contains found t
+pub all_found : (marks : List Bool) (found : List ℕ) → AreSplit marks found [] → (t : ℕ)
+    → IsIn marks t ↔ Contains found t
 all_found marks found split t = (
   λ i. elim ((split t).0 i) [ inl there ↦ there | inr none ↦ absurd (omega (arith, none.1)) ],
   λ there. (split t).1 (inl there),

@@ -1,5 +1,6 @@
--- Excitation, switching and quiescent regions of events. Source: the book, on excitation and quiescent regions.
-use Rattle.std.specs.Prelude.{◌≡◌, ℕ, ◌↔◌, Bool, not, false, List, [], ◌∷◌, Contains, AllPairs, IsTrue}
+-- Excitation, switching and quiescent regions of events. Source: the book, on excitation and
+-- quiescent regions.
+use Rattle.std.specs.Prelude.{◌≡◌, ℕ, ◌↔◌, not, false, List, [], ◌∷◌, Contains, AllPairs, IsTrue}
 use Rattle.std.specs.List.Sorted.{IsStrictlySortedBy}
 use Rattle.std.specs.Ordering.{nat_cmp}
 use Rattle.si_base.specs.declared.ids.Event.{Event}
@@ -44,7 +45,8 @@ pub record IsReachedThrough (g : StateGraph) (P : ℕ → Type 0) (set : List �
   pub events : List Event
   pub walk : WalkThrough g P begin events t
 
--- a component of the states that enable the event, the states that the event enters from it, and where its signal then
+-- a component of the states that enable the event, the states that the event enters from it, and
+-- where its signal then
 -- rests: the walks begin in entered states that are themselves quiet
 pub record IsRegion (c : CodedGraph) (r : Region) : Type 0 where
   pub excited : IsComponent c.graph (Enables c.graph r.event) r.er

@@ -33,8 +33,10 @@ pub fn regions(alloc: Global, graph: &Coded) -> Result<Vec<Region>, NoMemory>
     let mut out: Vec<Region> = Vec::new(alloc);
     for z in 0..g.signals().len() {
         let sig = Sig(z as u8);
-        add_regions(alloc, graph, &Event { sig, up: true }, &mut search, &mut out)?;
-        add_regions(alloc, graph, &Event { sig, up: false }, &mut search, &mut out)?;
+        let rise = Event { sig, up: true };
+        let fall = Event { sig, up: false };
+        add_regions(alloc, graph, &rise, &mut search, &mut out)?;
+        add_regions(alloc, graph, &fall, &mut search, &mut out)?;
     }
     Ok(out)
 }
@@ -160,12 +162,7 @@ fn rests_at(coded: &Coded, leaving: &StateSet, s: StateId, e: &Event) -> bool
 }
 
 /// The states that the event enters from these, each of which enables it.
-fn entered(
-    alloc: Global,
-    coded: &Coded,
-    from: &[StateId],
-    e: &Event,
-) -> Result<StateList, NoMemory>
+fn entered(alloc: Global, coded: &Coded, from: &[StateId], e: &Event) -> Result<StateList, NoMemory>
     ensures { IfOk result (IsSetOf (IsEntered coded.now.graph from.now e.now)) }
 {
     let g = coded.graph();

@@ -15,23 +15,22 @@ use Rattle.si_tool.specs.Checks.{IsSound}
 use Rattle.si_tool.specs.Command.{Asked, AsksAbout, AsksOfGraph, AsksReplay, files_of}
 use Rattle.si_tool.specs.Laws.{AtMostOne, HasResult, EndsOrDeparts}
 use Rattle.si_tool.specs.Loads.{Contents, Counts, loads, load_well, loads_well, AreTold}
-use Rattle.si_tool.specs.Meaning.{check, synth, replay, meaning, ComesTo}
+use Rattle.si_tool.specs.Meaning.{report, synth, replay, meaning, ComesTo}
 use Rattle.si_tool.specs.Refusal.{TextRefusal, ReadFault, Answer, Output, FileRefused, TextRefused}
 use Rattle.si_tool.specs.Stages.{Stage, Then, Passes}
-use Rattle.si_tool.specs.Summary.{summary}
-use Rattle.si_tool.specs.declared.command.GraphTask.TheVariants.{Check, Synth}
-use Rattle.si_tool.proofs.CheckLemmas.{graph_one, proper_one, conflict_one, matched_one, replayed_one}
-use Rattle.si_tool.proofs.CheckLemmas.{synthesised_one}
+use Rattle.si_tool.specs.declared.command.GraphTask.TheVariants.{Tell, Synth}
+use Rattle.si_tool.specs.declared.command.Report.{Report}
+use Rattle.si_tool.proofs.ReportLemmas.{told_one, told_some}
+use Rattle.si_tool.proofs.CheckLemmas.{graph_one, proper_one, conflict_one, matched_one, replayed_one, synthesised_one}
 use Rattle.si_tool.proofs.LoadLemmas.{all_one, all_some, all_or_fault, as_many}
 use Rattle.si_tool.proofs.SomeLemmas.{graph_some, proper_some, conflict_some, matched_some}
 use Rattle.si_tool.proofs.SomeLemmas.{replayed_ends, replayed_some, synthesised_some}
 use Rattle.si_tool.proofs.StageLemmas.{then_one, then_some, gives_one, gives_some, spelled_one, spelled_some}
 
 -- ---- by their texts: to one answer at most
-check_one : (file text : List ℕ) → AtMostOne (check file text)
-check_one file text = then_one _ _ (graph_one file text)
-    (λ given is. then_one _ _ (proper_one given.graph given.states)
-    (λ coded sound. gives_one (summary coded)))
+report_one : (what : Report) (file text : List ℕ) → AtMostOne (report what file text)
+report_one what file text = then_one _ _ (graph_one file text) (λ given is.
+    then_one _ _ (proper_one given.graph given.states) (λ coded sound. told_one what given.states coded))
 
 synth_one : (style : Style) (file text : List ℕ) → AtMostOne (synth style file text)
 synth_one style file text = then_one _ _ (graph_one file text)
@@ -45,15 +44,15 @@ replay_one g a n b s c = then_one _ _ (graph_one g a) (λ given is. then_one _ _
 
 pub meaning_one : (asked : Asked) (texts : List (List ℕ)) → AtMostOne (meaning asked texts)
 meaning_one (AsksAbout topic) [] = gives_one (about_text topic)
-meaning_one (AsksOfGraph Check file) (text ∷ []) = check_one file text
+meaning_one (AsksOfGraph (Tell what) file) (text ∷ []) = report_one what file text
 meaning_one (AsksOfGraph (Synth style) file) (text ∷ []) = synth_one style file text
 meaning_one (AsksReplay g n s) (a ∷ b ∷ c ∷ []) = replay_one g a n b s c
 meaning_one asked texts = λ a b one other. absurd one
 
 -- ---- and to some answer
-check_some : (file text : List ℕ) → HasResult (check file text)
-check_some file text = then_some _ _ (graph_some file text) (λ given is. then_some _ _ (proper_some text given is)
-    (λ coded sound. gives_some (summary coded)))
+report_some : (what : Report) (file text : List ℕ) → HasResult (report what file text)
+report_some what file text = then_some _ _ (graph_some file text) (λ given is. then_some _ _ (proper_some text given is)
+    (λ coded sound. told_some what given.states coded sound.coded_is))
 
 synth_some : (style : Style) (file text : List ℕ) → HasResult (synth style file text)
 synth_some style file text = then_some _ _ (graph_some file text)
@@ -70,7 +69,7 @@ pub meaning_some : (asked : Asked) (texts : List (List ℕ)) → length texts �
     → HasResult (meaning asked texts)
 meaning_some (AsksAbout topic) [] many = gives_some (about_text topic)
 meaning_some (AsksAbout topic) (text ∷ texts) many = absurd (omega arith)
-meaning_some (AsksOfGraph Check file) (text ∷ []) many = check_some file text
+meaning_some (AsksOfGraph (Tell what) file) (text ∷ []) many = report_some what file text
 meaning_some (AsksOfGraph (Synth style) file) (text ∷ []) many = synth_some style file text
 meaning_some (AsksReplay g n s) (a ∷ b ∷ c ∷ []) many = replay_some g a n b s c
 meaning_some (AsksOfGraph task file) [] many = absurd (omega arith)

@@ -6,7 +6,9 @@ use Rattle.si_circuit.specs.declared.style.Style.TheVariants.{Complex, Generalis
 use Rattle.si_io.specs.Outside.{Rose, Appends, AppendsPrefix}
 use Rattle.si_tool.specs.Command.{Asked, AsksAbout, AsksOfGraph, AsksReplay, Asks, AsksNothing, words_for, files_of}
 use Rattle.si_tool.specs.declared.about.Topic.TheVariants.{Help, Version}
-use Rattle.si_tool.specs.declared.command.GraphTask.TheVariants.{Check, Synth}
+use Rattle.si_tool.specs.declared.command.GraphTask.TheVariants.{Tell, Synth}
+use Rattle.si_tool.specs.declared.command.Report.{Report}
+use Rattle.si_tool.specs.declared.command.Report.TheVariants.{Summary, Regions, Conflicts}
 use Rattle.si_tool.specs.Ending.{Ending, NoMemory, Usage, WriteFault, Answered, IsRefusal, status_of}
 use Rattle.si_tool.specs.Ending.{line_of, ending_of}
 use Rattle.si_tool.specs.Laws.{ShowsCause}
@@ -30,11 +32,16 @@ style_by : List ℕ → Option Style
 style_by word = if bytes_eq word (codes "complex") then Some Complex
     else if bytes_eq word (codes "gc") then Some GeneralisedC else None
 
+report_by : List ℕ → Option Report
+report_by word = if bytes_eq word (codes "check") then Some Summary
+    else if bytes_eq word (codes "regions") then Some Regions
+    else if bytes_eq word (codes "conflicts") then Some Conflicts else None
+
 asked_by : List (List ℕ) → Option Asked
 asked_by (word ∷ []) =
     if bytes_eq word (codes "--help") then Some (AsksAbout Help)
     else if bytes_eq word (codes "--version") then Some (AsksAbout Version) else None
-asked_by (word ∷ file ∷ []) = if bytes_eq word (codes "check") then Some (AsksOfGraph Check file) else None
+asked_by (word ∷ file ∷ []) = option_map (λ r. AsksOfGraph (Tell r) file) (report_by word)
 asked_by (word ∷ file ∷ style ∷ []) =
     if bytes_eq word (codes "synth") then option_map (λ s. AsksOfGraph (Synth s) file) (style_by style) else None
 asked_by (word ∷ graph ∷ netlist ∷ schedule ∷ []) =
@@ -42,10 +49,12 @@ asked_by (word ∷ graph ∷ netlist ∷ schedule ∷ []) =
 asked_by words = None
 
 asked_back : (asked : Asked) → asked_by (words_for asked) ≡ Some asked
-unfolding asked_by style_by
+unfolding asked_by style_by report_by
 asked_back (AsksAbout Help) = refl
 asked_back (AsksAbout Version) = refl
-asked_back (AsksOfGraph Check file) = refl
+asked_back (AsksOfGraph (Tell Summary) file) = refl
+asked_back (AsksOfGraph (Tell Regions) file) = refl
+asked_back (AsksOfGraph (Tell Conflicts) file) = refl
 asked_back (AsksOfGraph (Synth Complex) file) = refl
 asked_back (AsksOfGraph (Synth GeneralisedC) file) = refl
 asked_back (AsksReplay graph netlist schedule) = refl

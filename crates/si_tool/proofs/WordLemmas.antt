@@ -3,7 +3,8 @@ use Rattle.std.proofs.Common.{◌≡◌, ℕ, ◌<◌, ◌≤◌, List, [], ◌�
 use Rattle.si_circuit.specs.declared.style.Style.{Style}
 use Rattle.si_tool.specs.Command.{AsksAbout, AsksOfGraph, AsksReplay, Asks, AsksNothing, words_of}
 use Rattle.si_tool.specs.declared.about.Topic.{Topic}
-use Rattle.si_tool.specs.declared.command.GraphTask.TheVariants.{Check, Synth}
+use Rattle.si_tool.specs.declared.command.GraphTask.TheVariants.{Tell, Synth}
+use Rattle.si_tool.specs.declared.command.Report.{Report}
 
 pub one_word : (words : List (String Global)) (a : String Global) → 1 ≤ length words → length words < 2
     → a ≡ get_or words 0 a → words_of words ≡ string_bytes a ∷ []
@@ -39,10 +40,10 @@ four_words (x ∷ y ∷ z ∷ u ∷ v ∷ us) a b c d least most p q r s = absur
 
 -- words that ask for none of the commands
 pub asks_nothing : (words : List (String Global)) → ((t : Topic) → Asks words (AsksAbout t) → ⊥)
-    → ((f : List ℕ) → Asks words (AsksOfGraph Check f) → ⊥)
+    → ((r : Report) (f : List ℕ) → Asks words (AsksOfGraph (Tell r) f) → ⊥)
     → ((style : Style) (f : List ℕ) → Asks words (AsksOfGraph (Synth style) f) → ⊥)
     → ((g n s : List ℕ) → Asks words (AsksReplay g n s) → ⊥) → AsksNothing words
-asks_nothing words about check synth replay (AsksAbout t) asks = about t asks
-asks_nothing words about check synth replay (AsksOfGraph Check f) asks = check f asks
-asks_nothing words about check synth replay (AsksOfGraph (Synth style) f) asks = synth style f asks
-asks_nothing words about check synth replay (AsksReplay g n s) asks = replay g n s asks
+asks_nothing words about report synth replay (AsksAbout t) asks = about t asks
+asks_nothing words about report synth replay (AsksOfGraph (Tell r) f) asks = report r f asks
+asks_nothing words about report synth replay (AsksOfGraph (Synth style) f) asks = synth style f asks
+asks_nothing words about report synth replay (AsksReplay g n s) asks = replay g n s asks

@@ -8,7 +8,7 @@ pub mod Readings
 pub mod Checks
 pub mod Synthesis
 pub mod Replayed
-pub mod Summary
+pub mod Reports
 pub mod Outcomes
 pub mod Meaning
 pub mod Run

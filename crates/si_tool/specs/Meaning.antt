@@ -10,17 +10,18 @@ use Rattle.si_tool.specs.Readings.{graph_in, netlist_in, schedule_in}
 use Rattle.si_tool.specs.Refusal.{FileRefusal, TextRefusal, Answer, Output, FileRefused, TextRefused}
 use Rattle.si_tool.specs.Replayed.{replayed}
 use Rattle.si_tool.specs.Stages.{Stage, ◌>>=◌, gives}
-use Rattle.si_tool.specs.Summary.{summary}
+use Rattle.si_tool.specs.Reports.{told}
 use Rattle.si_tool.specs.Synthesis.{synthesised}
-use Rattle.si_tool.specs.declared.command.GraphTask.TheVariants.{Check, Synth}
+use Rattle.si_tool.specs.declared.command.GraphTask.TheVariants.{Tell, Synth}
+use Rattle.si_tool.specs.declared.command.Report.{Report}
 
 -- ---- each command over the text of its file, or the texts of its files
 
-abbrev pub check : (file text : List ℕ) → Stage TextRefusal (List ℕ)
-check file text = do
+abbrev pub report : Report → (file text : List ℕ) → Stage TextRefusal (List ℕ)
+report what file text = do
   given ← graph_in file text
   coded ← proper given.graph given.states
-  gives (summary coded)
+  told what given.states coded
 
 abbrev pub synth : Style → (file text : List ℕ) → Stage TextRefusal (List ℕ)
 synth style file text = do
@@ -43,7 +44,7 @@ replay graph graph_text netlist netlist_text schedule schedule_text = do
 -- what is asked for, over as many texts as it has files
 abbrev pub meaning : Asked → List (List ℕ) → Stage TextRefusal (List ℕ)
 meaning (AsksAbout topic) [] = gives (about_text topic)
-meaning (AsksOfGraph Check file) (text ∷ []) = check file text
+meaning (AsksOfGraph (Tell what) file) (text ∷ []) = report what file text
 meaning (AsksOfGraph (Synth style) file) (text ∷ []) = synth style file text
 meaning (AsksReplay g n s) (graph ∷ netlist ∷ schedule ∷ []) = replay g graph n netlist s schedule
 meaning asked texts = λ answer. ⊥

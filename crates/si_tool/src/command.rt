@@ -3,17 +3,29 @@
 ghost use Rattle.std.specs.Prelude.{◌≢◌, ◌≡◌, ℕ, List, MatchOption};
 ghost use Rattle.si_circuit.specs.declared.style.Style as gates;
 ghost use Rattle.si_tool.specs.Command.{Asks, AsksAbout, AsksNothing, AsksOfGraph, AsksReplay};
-ghost use Rattle.si_tool.specs.Command.{asked_now, style_word};
+ghost use Rattle.si_tool.specs.Command.{asked_now, report_word, style_word};
 ghost use Rattle.si_tool.specs.declared.about.Topic.{Topic as Topics};
+ghost use Rattle.si_tool.specs.declared.command.Report.{Report as Reports};
 
 use crate::about::Topic;
 use si_circuit::style::Style;
 
+/// What is told of a proper graph.
+#[derive(Clone, Copy, PartialEq, Eq, Debug)]
+pub enum Report {
+    /// That it is proper, and its size.
+    Summary,
+    /// The regions of all events.
+    Regions,
+    /// How many conflicts it has, and the first of them.
+    Conflicts,
+}
+
 /// What is asked of one graph.
 #[derive(Clone, Copy, PartialEq, Eq, Debug)]
 pub enum GraphTask {
-    /// Whether it is proper, and its summary.
-    Check,
+    /// A report on it.
+    Tell(Report),
     /// Its netlist, with gates of the style.
     Synth(Style),
 }
@@ -46,7 +58,7 @@ pub fn command_of(words: &[String]) -> Option<Command<'_>>
     if let Some(command) = about_of(words) {
         return Some(command);
     }
-    if let Some(command) = check_of(words) {
+    if let Some(command) = report_of(words) {
         return Some(command);
     }
     if let Some(command) = synth_of(words) {
@@ -72,17 +84,34 @@ fn about_of(words: &[String]) -> Option<Command<'_>>
     }
 }
 
-/// `check F`.
-fn check_of(words: &[String]) -> Option<Command<'_>>
+/// `check F`, `regions F` and `conflicts F`.
+fn report_of(words: &[String]) -> Option<Command<'_>>
     ensures { MatchOption result
-        ((file : List ℕ) → Asks words.now (AsksOfGraph GraphTask.Check file) → ⊥)
+        ((report : Reports) (file : List ℕ)
+        → Asks words.now (AsksOfGraph (GraphTask.Tell report) file) → ⊥)
         (λ command. Asks words.now (asked_now command)) }
 {
     match words {
-        [command, file] if command.as_str() == "check" => Some(Command::OfGraph {
-            task: GraphTask::Check,
-            file: file.as_str(),
-        }),
+        [command, file] => {
+            let report = report_named(command.as_str())?;
+            Some(Command::OfGraph {
+                task: GraphTask::Tell(report),
+                file: file.as_str(),
+            })
+        }
+        _ => None,
+    }
+}
+
+/// The report for which the word asks.
+fn report_named(word: &str) -> Option<Report>
+    ensures { MatchOption result ((report : Reports) → word.now ≢ report_word report)
+        (λ report. word.now ≡ report_word report) }
+{
+    match word {
+        "check" => Some(Report::Summary),
+        "regions" => Some(Report::Regions),
+        "conflicts" => Some(Report::Conflicts),
         _ => None,
     }
 }

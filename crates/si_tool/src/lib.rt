@@ -3,7 +3,6 @@
 
 pub mod about;
 pub mod breach;
-pub mod check;
 pub mod checks;
 pub mod command;
 pub mod laws;
@@ -11,6 +10,7 @@ mod output;
 pub mod readings;
 pub mod refusals;
 pub mod replayed;
+pub mod report;
 pub mod run;
 pub mod status;
 pub mod sure;

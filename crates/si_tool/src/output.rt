@@ -9,10 +9,10 @@ ghost use Rattle.si_tool.specs.Meaning.{ComesTo, MayStopCommand, meaning};
 ghost use Rattle.si_tool.specs.Refusal.{Output};
 
 use crate::about::{Topic, about};
-use crate::check::check;
 use crate::command::{Command, GraphTask};
 use crate::refusals::Refusal;
 use crate::replayed::replay_texts;
+use crate::report::report;
 use crate::synth::synth;
 use si_base::limits::MAX_TEXT;
 use si_base::text::Text;
@@ -89,7 +89,7 @@ fn graph_text<'w>(
         MayStop (meaning (AsksOfGraph task file.now) (text.now ∷ [])) (ending_of r)) }
 {
     match task {
-        GraphTask::Check => check(alloc, file, text),
+        GraphTask::Tell(what) => report(alloc, what, file, text),
         GraphTask::Synth(style) => synth(alloc, style, file, text),
     }
 }

@@ -65,7 +65,7 @@ const C_ELEMENT_NETLIST: &[u8] = b".model c2
 .inserted
 .start 000
 .gates
-c sum a b c' + a b c + a' b c + a b' c
+c sum a b + b c + a c
 .end
 ";
 
@@ -84,14 +84,32 @@ s5 c- s0
 .end
 ";
 
-const EQUAL_CODES_NETLIST: &[u8] = b".model pulses
+/// An output that never switches, beside an input that does.
+const IDLE_OUTPUT: &[u8] = b".model idle
+.inputs a
+.outputs z
+.state graph
+s0 a+ s1
+s1 a- s0
+.marking {s0}
+.end
+";
+
+/// The output rises once either input has risen, and nothing falls.
+const EITHER_RISES: &[u8] = b".model either
 .inputs a b
-.outputs c
-.internal
-.inserted
-.start 000
-.gates
-c sum a' b c' + a' b c
+.outputs z
+.state graph
+s0 a+ s1
+s0 b+ s2
+s1 b+ s3
+s2 a+ s3
+s1 z+ s4
+s2 z+ s5
+s3 z+ s6
+s4 b+ s6
+s5 a+ s6
+.marking {s0}
 .end
 ";
 
@@ -222,7 +240,7 @@ csc0 sum DSr' + LDTACK csc0
 
 const VME_CYCLE: &[u8] = b"DSr+ csc0- LDS+ LDTACK+ D+ DTACK+ DSr- csc0+ D-";
 
-/// A gate with fewer literals than the sum of full cubes.
+/// The C-element's complex gate.
 const MAJORITY: &[u8] = b"c sum a b + b c + a c";
 
 /// The texts of a command's files.
@@ -283,6 +301,8 @@ const CHECK: [&str; 2] = ["check", "graph.sg"];
 
 const SYNTH: [&str; 3] = ["synth", "graph.sg", "complex"];
 
+const SYNTH_GC: [&str; 3] = ["synth", "graph.sg", "gc"];
+
 const REPLAY: [&str; 4] = ["replay", "graph.sg", "c.net", "steps"];
 
 /// Runs over files that are told, and compares the status and all that was put.
@@ -309,19 +329,57 @@ fn expect(
     Ok(())
 }
 
+/// Synthesises, and expects a netlist with these lines before and after the line of the gates.
+fn expect_gates(
+    rt: &impl Abort,
+    alloc: Global,
+    command: &[&str],
+    graph: &[u8],
+    head: &[u8],
+    gates: &[u8],
+) -> Result<(), Fail> {
+    let mut written = Text::copy_of(alloc, VERSION)?;
+    written.add(head)?;
+    written.add(b".gates\n")?;
+    written.add(gates)?;
+    written.add(b".end\n")?;
+    let want = (Status::Done, written.bytes(), b"".as_slice());
+    expect(rt, alloc, command, only(graph), want)
+}
+
 #[test]
-fn netlists_of_full_cubes(rt: HostRuntime) -> Result<(), Fail> {
+fn netlists_in_both_styles(rt: HostRuntime) -> Result<(), Fail> {
     let alloc = rt.alloc();
-    let rows: [(&[u8], &[u8]); 3] = [
-        (C_ELEMENT, C_ELEMENT_NETLIST),
-        (EQUAL_CODES, EQUAL_CODES_NETLIST),
-        (INPUTS_ALONE, INPUTS_ALONE_NETLIST),
+    let element =
+        b".model c2\n.inputs a b\n.outputs c\n.internal\n.inserted\n.start 000\n".as_slice();
+    let pulses =
+        b".model pulses\n.inputs a b\n.outputs c\n.internal\n.inserted\n.start 000\n".as_slice();
+    let idle = b".model idle\n.inputs a\n.outputs z\n.internal\n.inserted\n.start 00\n".as_slice();
+    let either =
+        b".model either\n.inputs a b\n.outputs z\n.internal\n.inserted\n.start 000\n".as_slice();
+    let inputs =
+        b".model watched\n.inputs a b\n.outputs\n.internal\n.inserted\n.start 00\n".as_slice();
+    let rows: [(&[u8], &[u8], &[u8], &[u8]); 6] = [
+        (
+            C_ELEMENT,
+            element,
+            b"c sum a b + b c + a c\n",
+            b"c gc a b | a' b'\n",
+        ),
+        (
+            C_ELEMENT_LENIENT,
+            element,
+            b"c sum a b + b c + a c\n",
+            b"c gc a b | a' b'\n",
+        ),
+        (EQUAL_CODES, pulses, b"c sum b\n", b"c gc b | b'\n"),
+        (IDLE_OUTPUT, idle, b"z sum 0\n", b"z gc 0 | 0\n"),
+        (EITHER_RISES, either, b"z sum a + b\n", b"z gc a + b | 0\n"),
+        (INPUTS_ALONE, inputs, b"", b""),
     ];
-    for (graph, netlist) in rows {
-        let mut written = Text::copy_of(alloc, VERSION)?;
-        written.add(netlist)?;
-        let want = (Status::Done, written.bytes(), b"".as_slice());
-        expect(&rt, alloc, &SYNTH, only(graph), want)?;
+    for (graph, head, complex, generalised) in rows {
+        expect_gates(&rt, alloc, &SYNTH, graph, head, complex)?;
+        expect_gates(&rt, alloc, &SYNTH_GC, graph, head, generalised)?;
     }
     Ok(())
 }
@@ -373,7 +431,7 @@ fn a_text_of_over_100_000_bytes(rt: HostRuntime) -> Result<(), Fail> {
 .inserted
 .start 00
 .gates
-z sum a z' + a z
+z sum a
 .end
 ";
     let want = (Status::Done, netlist, b"".as_slice());
@@ -397,7 +455,13 @@ fn summaries(rt: HostRuntime) -> Result<(), Fail> {
         ),
     ];
     for (graph, summary) in rows {
-        expect(&rt, alloc, &CHECK, only(graph), (Status::Done, summary, b""))?;
+        expect(
+            &rt,
+            alloc,
+            &CHECK,
+            only(graph),
+            (Status::Done, summary, b""),
+        )?;
     }
     let line = b"nonpersistent s0 z+ a+\n".as_slice();
     let refused = (Status::Improper, b"".as_slice(), line);
@@ -430,7 +494,11 @@ fn refusals(rt: HostRuntime) -> Result<(), Fail> {
         (SPLIT, Status::Improper, b"nondeterministic s0 a+ s1 s2\n"),
         (RISES_TWICE, Status::Improper, b"inconsistent a\n"),
         (FORK, Status::Improper, b"noncommutative s0 a+ b+ s3 s4\n"),
-        (DISABLED_OUTPUT, Status::Improper, b"nonpersistent s0 z+ a+\n"),
+        (
+            DISABLED_OUTPUT,
+            Status::Improper,
+            b"nonpersistent s0 z+ a+\n",
+        ),
         (b"", Status::BadText, b"badtext graph.sg 1 NoStateGraph\n"),
     ];
     for (graph, status, line) in rows {
@@ -440,7 +508,7 @@ fn refusals(rt: HostRuntime) -> Result<(), Fail> {
     expect(
         &rt,
         alloc,
-        &["synth", "graph.sg", "gc"],
+        &["synth", "graph.sg", "fast"],
         only(C_ELEMENT),
         usage,
     )?;

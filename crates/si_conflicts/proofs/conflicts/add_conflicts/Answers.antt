@@ -1,11 +1,11 @@
-use Rattle.std.proofs.Common.{◌≡◌, ℕ, ◌+◌, ◌∙◌, arith, sym, ap, subst, inl, inr, Option, Some, List, [], ◌∷◌, ◌++◌, length}
+use Rattle.std.proofs.Common.{◌≡◌, ℕ, ◌+◌, arith, ap, inl, inr, List, [], ◌∷◌, ◌++◌, length}
 use Rattle.std.proofs.lemmas.List.{length-map, map-append, length_push}
 use Rattle.si_base.specs.Proper.{IsConflict}
 use Rattle.si_conflicts.specs.declared.conflicts.Pair.{Pair}
 use Rattle.si_conflicts.specs.Conflicts.{pairs_of}
 use Rattle.si_conflicts.specs.Links.{IsFirstClash}
 use Rattle.si_conflicts.specs.Search.{AreBelow}
-use Rattle.si_conflicts.proofs.BelowLemmas.{at_first, walk_starts, walk_goes_on, left_falls, below_take, below_row, first_full}
+use Rattle.si_conflicts.proofs.BelowLemmas.{at_first, walk_starts, walk_goes_on, below_take, below_row, first_full}
 use Rattle.si_conflicts.proofs.conflicts.add_conflicts.Goals as goal
 
 abbrev pair_of : Pair → ℕ × ℕ
@@ -40,8 +40,16 @@ returns-then-len-limit c =
     let is : IsConflict d (p, q) = rw c.in-Some.is at c.loop-at.invariant.at in
     let new : c.push.new.self.items ≡ xs ++ record { p = p; q = q } ∷ [] = c.in_ok-push.ensures.items in
     let size : length (pairs_of xs ++ (p, q) ∷ []) ≡ c.args.limit =
-    omega (arith, length_push (pairs_of xs) (p, q), same_length xs, c.loop-at.invariant.few, c.if-len-limit.true,
-    c.len.ensures, ap length new, length_push xs (record { p = p; q = q })) in
+    omega (
+      arith,
+      length_push (pairs_of xs) (p, q),
+      same_length xs,
+      c.loop-at.invariant.few,
+      c.if-len-limit.true,
+      c.len.ensures,
+      ap length new,
+      length_push xs (record { p = p; q = q }),
+    ) in
     let full = first_full d p (q + 1) c.args.limit (pairs_of xs ++ (p, q) ∷ []) size
     (below_take d p q (pairs_of xs) is here) in
     record { after = rw (new, pushed xs p q) (inr (full, size)) }

@@ -14,7 +14,8 @@ returns-then-len-limit c =
     let d = c.args.graph.now in
     let xs = c.loop-s.pairs.items in
     elim c.loop-s.invariant [
-      | inl so ↦ first_full d c.loop-s.s 0 c.args.limit (pairs_of xs) (omega (arith, same_length xs, so.1, c.if-len-limit.true, c.len.ensures)) so.0
+      | inl so ↦ first_full d c.loop-s.s 0 c.args.limit (pairs_of xs)
+          (omega (arith, same_length xs, so.1, c.if-len-limit.true, c.len.ensures)) so.0
       | inr full ↦ full.0
     ]
 
@@ -22,7 +23,12 @@ pub returns : goal.returns
 returns c =
     let d = c.args.graph.now in
     let xs = c.loop-s.pairs.items in
-    let all : d.graph.states ≤ c.loop-s.s = omega (arith, c.loop-s-test.false, c.states-s-end.ensures ∙ ap (λ (g : StateGraph). g.states) c.graph.ensures.same) in
+    let all : d.graph.states ≤ c.loop-s.s = omega (
+      arith,
+      c.loop-s-test.false,
+      c.states-s-end.ensures ∙ ap
+          (λ (g : StateGraph). g.states) c.graph.ensures.same,
+    ) in
     elim c.loop-s.invariant [
       | inl so ↦ first_all d c.loop-s.s c.args.limit (pairs_of xs) all (omega (arith, same_length xs, so.1)) so.0
       | inr full ↦ full.0

@@ -5,4 +5,5 @@ use Rattle.std.proofs.Common.{◌≡◌, ◌⊎◌}
 use Rattle.si_conflicts.proofs.conflicts.conflicts.Given as goal
 
 abbrev pub invariant-loop-s : goal.invariant-loop-s
-invariant-loop-s l = (AreBelow l.graph l.s 0 (pairs_of l.pairs.items) × (length l.pairs.items ≤ l.limit)) ⊎ (AreFirstConflicts l.graph l.limit (pairs_of l.pairs.items) × (length l.pairs.items ≡ l.limit))
+invariant-loop-s l = (AreBelow l.graph l.s 0 (pairs_of l.pairs.items) × (length l.pairs.items ≤ l.limit)) ⊎
+    (AreFirstConflicts l.graph l.limit (pairs_of l.pairs.items) × (length l.pairs.items ≡ l.limit))

@@ -1,4 +1,4 @@
-use Rattle.std.proofs.Common.{◌≡◌, ℕ, ◌+◌, ◌-◌, ◌*◌, ◌≤◌, ◌==◌, ◌∙◌, arith, ap, unwrap_or, take, count_by}
+use Rattle.std.proofs.Common.{◌==◌, ◌∙◌, arith, ap, unwrap_or, take}
 use Rattle.std.specs.BTreeMap.{get}
 use Rattle.std.specs.Ordering.{nat_cmp, is_eq}
 use Rattle.si_conflicts.specs.Keys.{key_cmp}
@@ -20,7 +20,8 @@ overflow_add-before c =
     let k = c.key-item.result in
     let before = c.unwrap_or-before.ensures ∙ ap (λ o. unwrap_or o 0) (c.copied.ensures ∙ c.get.ensures.value)
     ∙ c.loop-key.invariant.of_code k.code in
-    let most = at_most_counted (λ x. k.code == x.code) c.args.keys.now c.loop-key.key-index _ before c.loop-key-test.true in
+    let most = at_most_counted (λ x. k.code == x.code) c.args.keys.now c.loop-key.key-index _ before
+    c.loop-key-test.true in
     omega (arith, most, c.requires, c.loop-key-test.true)
 
 pub overflow_add-equal : goal.overflow_add-equal
@@ -46,7 +47,8 @@ loop-key-preserved c =
     let most = at_most_counted (λ x. k.code == x.code) keys i _ before c.loop-key-test.true in
     record {
       of_code = counts_more (λ q x. q == x.code) (λ q. is_eq (nat_cmp k.code q)) keys i k c.unwrap_or-before.result
-          (λ q. get nat_cmp c.loop-key.of_code q) (λ q. get nat_cmp c.insert.new.self q) c.loop-key-test.true c.key-item.is
+          (λ q. get nat_cmp c.loop-key.of_code q) (λ q. get nat_cmp c.insert.new.self q) c.loop-key-test.true
+          c.key-item.is
           c.in_ok-insert.ensures.updates.0 (code_hit k) (code_counted k (take i keys) _ before)
           c.loop-key.invariant.of_code;
       of_key = counts_more same_key (λ q. is_eq (key_cmp k q)) keys i k c.unwrap_or-equal.result

@@ -1,7 +1,6 @@
-use Rattle.std.proofs.Common.{◌≤◌, ◌<◌, ◌∙◌, ℕ, length, arith, ap, sym, subst}
+use Rattle.std.proofs.Common.{◌∙◌, arith, sym, subst}
 use Rattle.std.proofs.lemmas.Bool.{true≢false}
 use Rattle.si_base.specs.Graph.{StateGraph, IsNonInput}
-use Rattle.si_base.specs.Limits.{code_width}
 use Rattle.si_checks.proofs.OutLemmas.{out_signal}
 use Rattle.si_conflicts.proofs.KeyLemmas.{excited_more, excited_pass, excited_all}
 use Rattle.si_conflicts.proofs.keys.excited.Goals as goal

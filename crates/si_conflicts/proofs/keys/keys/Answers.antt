@@ -1,4 +1,4 @@
-use Rattle.std.proofs.Common.{◌≡◌, ◌≤◌, ◌∙◌, arith, ap, length}
+use Rattle.std.proofs.Common.{◌∙◌, arith, ap}
 use Rattle.si_base.specs.Graph.{StateGraph}
 use Rattle.si_conflicts.proofs.KeyLemmas.{keys_more}
 use Rattle.si_conflicts.proofs.keys.keys.Goals as goal

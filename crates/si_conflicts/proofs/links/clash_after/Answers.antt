@@ -1,4 +1,4 @@
-use Rattle.std.proofs.Common.{ℕ, ◌+◌, arith, sym, subst}
+use Rattle.std.proofs.Common.{◌+◌, arith, sym, subst}
 use Rattle.si_conflicts.specs.Links.{IsFirstOfCode}
 use Rattle.si_conflicts.proofs.links.clash_after.Goals as goal
 

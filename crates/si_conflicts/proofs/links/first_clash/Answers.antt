@@ -1,7 +1,5 @@
-use Rattle.std.proofs.Common.{◌≡◌, ℕ, Option, Some, sym, ap, subst, ◌∙◌, eqb-true, eq-eqb, not}
-use Rattle.std.proofs.lemmas.Bool.{true≢false, cases_Bool}
+use Rattle.std.proofs.Common.{Some, subst}
 use Rattle.si_base.specs.Codes.{code}
-use Rattle.si_conflicts.specs.declared.keys.Key.{Key}
 use Rattle.si_conflicts.specs.Keys.{key_at}
 use Rattle.si_conflicts.specs.Links.{IsFirstOfCode}
 use Rattle.si_conflicts.proofs.LinkLemmas.{clash_here, clash_behind, signals_apart, signals_same}

@@ -9,5 +9,6 @@ abbrev pub invariant-loop-s : goal.invariant-loop-s
 invariant-loop-s l = record {
   size : length l.next.items ≡ l.coded.graph.states;
   firsts : (k : ℕ) → IsFirstOfCode l.coded l.s k (get nat_cmp l.firsts k);
-  links : (j : ℕ) → l.s ≤ j → j < l.coded.graph.states → IsFirstOfCode l.coded (j + 1) (code l.coded j) (get_or l.next.items j None);
+  links : (j : ℕ) → l.s ≤ j → j < l.coded.graph.states
+      → IsFirstOfCode l.coded (j + 1) (code l.coded j) (get_or l.next.items j None);
 }

@@ -1,6 +1,5 @@
-use Rattle.std.proofs.Common.{◌≡◌, ℕ, ◌+◌, ◌≤◌, ◌∙◌, arith, ap, sym, length, take}
+use Rattle.std.proofs.Common.{◌≡◌, ◌+◌, ◌≤◌, ◌∙◌, arith, sym, take}
 use Rattle.std.proofs.lemmas.Bool.{true≢false}
-use Rattle.si_base.specs.Graph.{StateGraph}
 use Rattle.si_listings.specs.RegionText.{number_after}
 use Rattle.si_listings.proofs.ListingLemmas.{region_more, regions_written}
 use Rattle.si_listings.proofs.NumberLemmas.{goes_on_number, first_number, number_next, names_within, event_within}

@@ -1,4 +1,4 @@
-use Rattle.std.proofs.Common.{◌≡◌, ◌++◌, ◌≤◌, length}
+use Rattle.std.proofs.Common.{◌≡◌, ◌++◌, ◌≤◌}
 use Rattle.si_listings.proofs.ListingLemmas.{regions_from}
 use Rattle.si_listings.proofs.NumberLemmas.{IsNumber}
 use Rattle.si_listings.proofs.region_listing.write_regions.Given as goal

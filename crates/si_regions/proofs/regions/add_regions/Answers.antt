@@ -1,10 +1,8 @@
-use Rattle.std.proofs.Common.{◌≡◌, ℕ, ◌≤◌, ◌+◌, ◌++◌, ◌∷◌, ◌∙◌, List, [], Bool, length, get_or, true, false, IsTrue, arith, ap, sym, subst, refl}
+use Rattle.std.proofs.Common.{◌≡◌, ℕ, ◌≤◌, ◌++◌, ◌∷◌, ◌∙◌, List, [], Bool, get_or, true, false, IsTrue, arith, ap, sym, refl}
 use Rattle.std.proofs.lemmas.Bool.{true≢false}
 use Rattle.si_base.specs.Graph.{StateGraph, enables, event_place}
 use Rattle.si_graph.specs.Reach.{IsIn}
-use Rattle.si_regions.specs.declared.regions.Region.{Region}
-use Rattle.si_regions.specs.Searching.{RegionsTo}
-use Rattle.si_regions.proofs.RegionLemmas.{AreDone, regions_pass, regions_more, done_more, regions_event, enables_within}
+use Rattle.si_regions.proofs.RegionLemmas.{regions_pass, regions_more, done_more, regions_event, enables_within}
 use Rattle.si_regions.proofs.StateLists.{all_below}
 use Rattle.si_regions.proofs.regions.add_regions.Goals as goal
 use Rattle.si_regions.proofs.regions.add_regions.Goals.{then-is_new+in_ok-region+in_ok-push, else-is_new}

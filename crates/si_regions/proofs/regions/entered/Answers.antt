@@ -1,7 +1,7 @@
-use Rattle.std.proofs.Common.{List, ℕ, ◌∙◌, ap, subst, sym}
+use Rattle.std.proofs.Common.{◌∙◌, ap, subst, sym}
 use Rattle.si_base.specs.Graph.{StateGraph, Step}
 use Rattle.si_base.proofs.Steps.{enables-step}
-use Rattle.si_regions.proofs.RegionLemmas.{AreTargets, targets_more, targets_pass, targets_all}
+use Rattle.si_regions.proofs.RegionLemmas.{targets_more, targets_pass, targets_all}
 use Rattle.si_regions.proofs.regions.entered.Goals as goal
 use Rattle.si_regions.proofs.regions.entered.Goals.{in-Some+in_ok-push, in_default}
 

@@ -1,8 +1,3 @@
-use Rattle.std.proofs.Common.{List, ℕ, ap, subst, sym, []}
-use Rattle.si_base.specs.Graph.{StateGraph}
-use Rattle.si_graph.specs.declared.closure.Along.TheVariants.{Out, Both}
-use Rattle.si_regions.specs.Regions.{IsSetOf, IsEntered}
-use Rattle.si_regions.specs.Searching.{IsReachedIn}
 use Rattle.si_regions.proofs.ComponentLemmas.{is_component, is_rest, er_has, entered_within}
 use Rattle.si_regions.proofs.StateLists.{all_below}
 use Rattle.si_regions.proofs.regions.region_of.Goals as goal

@@ -1,7 +1,7 @@
 use Rattle.std.proofs.Common.{◌≡◌, ℕ, ◌+◌, ◌*◌, ◌∙◌, length, arith, ap, subst}
 use Rattle.si_base.specs.Graph.{StateGraph}
 use Rattle.si_regions.specs.Searching.{RegionsTo}
-use Rattle.si_regions.proofs.RegionLemmas.{regions_none, regions_all, place_below}
+use Rattle.si_regions.proofs.RegionLemmas.{regions_all, place_below}
 use Rattle.si_regions.proofs.regions.regions.Goals as goal
 
 pub add_regions-requires-clause-before : goal.add_regions-requires-clause-before
