@@ -6,7 +6,6 @@
 pub mod fault;
 pub mod graph;
 pub mod ids;
-pub mod laws;
 pub mod limits;
 pub mod lines;
 pub mod names;

@@ -52,7 +52,7 @@ circuit_made style model read states l seen k inserts n same lineage none graph_
     n_is ∙ ap (λ (g : CodedGraph). netlist_of (gate_of style g) read inserts g) graph_is
     ∙ ap (λ (w : List ℕ). netlist_of (gate_of style c) w inserts c) read_is
     ∙ ap (λ (xs : List Insertion). netlist_of (gate_of style c) model xs c)
-        (inserts_are ∙ ap (insertions_of states) same) in
+    (inserts_are ∙ ap (insertions_of states) same) in
     subst (IsCircuit l) (sym is) (is_circuit style model states l (subst L same lineage) none)
 
 pub inserted_made : (states : List (List ℕ)) (l seen : History) (k : CodedGraph) (inserts : List Insertion) → seen ≡ l
@@ -62,4 +62,4 @@ inserted_made states l seen k inserts same lineage names graph_is inserts_are =
     let L : History → Type 0 = λ h. IsLineage h.given h.trace h.current in
     let P : List Insertion → CodedGraph → Type 0 = λ xs g. AreInserted xs g.graph.signals in
     subst₂ P (sym (inserts_are ∙ ap (insertions_of states) same)) (sym graph_is)
-        (are_inserted states l (subst L same lineage) names)
+    (are_inserted states l (subst L same lineage) names)

@@ -86,7 +86,7 @@ copied_descents given v p u k ds size ins are = record {
       let new : ℕ → ℕ = λ m. if x.copy.value then flip (code v.coded x.copy.state) m else code v.coded x.copy.state in
       ap (λ (d : Descent). bit d.bits j) (descent_at v ins.copies k s ds x inside)
       ∙ copied_bit n k j (descent ds x.copy.state).bits (code v.coded x.copy.state) x.copy.value
-          (λ i. are.values x.copy.state i x.within)
+      (λ i. are.values x.copy.state i x.within)
       ∙ ap (λ (m : ℕ). bit (new m) (n + j)) (sym size)
       ∙ ap (λ (c : ℕ). bit c (n + j)) (sym (code_at v.coded ins.copies ins.graph s x.copy x.at)));
 }

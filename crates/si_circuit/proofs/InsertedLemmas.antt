@@ -53,7 +53,7 @@ names_append : (xs ys : List Signal) → names_of Inserted (xs ++ ys) ≡ names_
 names_append xs ys =
     ap (map (λ (x : Signal). x.name)) (filter-append (λ (x : Signal). same_kind Inserted x.kind) xs ys)
     ∙ map-append (λ (x : Signal). x.name) (filter (λ (x : Signal). same_kind Inserted x.kind) xs)
-        (filter (λ (x : Signal). same_kind Inserted x.kind) ys)
+    (filter (λ (x : Signal). same_kind Inserted x.kind) ys)
 
 names_new : (trace : List TraceStep) → names_of Inserted (new_signals trace) ≡ map (λ p. p.name) trace
 names_new [] = refl
@@ -120,7 +120,7 @@ not_down name zero bits other same = other (sym (append-nil name) ∙ same)
 not_down name (suc k) bits other same =
     let all : list_all no_at (name ++ mark (suc k) bits) ≡ true = ap (list_all no_at) same in
     let parts = and_parts (list_all no_at name) (list_all no_at (mark (suc k) bits))
-        (sym (list_all-append no_at name (mark (suc k) bits)) ∙ all) in
+    (sym (list_all-append no_at name (mark (suc k) bits)) ∙ all) in
     true≢false (sym parts.1)
 
 abbrev IsPlain : List ℕ → Type 0
@@ -148,10 +148,10 @@ words_are states k ds classes up named within count =
     let n = length classes in
     let at : (s : ℕ) → s < n → IsPlain (word s) =
     λ s small. state_word_is _ k (descent ds s).bits
-        (named (descent ds s).origin [] (within s (record { origin = 0; bits = 0 }) (omega (arith, small, count)))) in
+    (named (descent ds s).origin [] (within s (record { origin = 0; bits = 0 }) (omega (arith, small, count)))) in
     let all : All (λ s. IsPlain (word s)) (range_with_len 0 n) =
     λ i d small. (let below : i < n = omega (arith, small, length-range_with_len 0 n) in
-        subst (λ s. IsPlain (word s)) (sym (at_place n i d below)) (at i below)) in
+    subst (λ s. IsPlain (word s)) (sym (at_place n i d below)) (at i below)) in
     All-map IsPlain word (filter p (range_with_len 0 n)) (All-filter p (λ s. IsPlain (word s)) (range_with_len 0 n) all)
 
 some_word : (states : List (List ℕ)) (k : ℕ) (ds : List Descent) (classes : List Class) (up : Bool) (s : ℕ)
@@ -189,7 +189,7 @@ all_insertions given states (p ∷ rest) v k ds names at =
     let P : ℕ → Type 0 = λ n. All (λ (d : Descent). d.origin < n) ds in
     All-cons IsInsertion (insertion_of states k ds p) (insertions_from states (k + 1) (descents_after k p.partition ds) rest)
     (insertion_is states at.now.coded.graph k ds p names.each (subst P (sym names.count) fits.within) fits.count
-        at.grows.1.accepted.lawful)
+    at.grows.1.accepted.lawful)
     (all_insertions given states rest v (k + 1) (descents_after k p.partition ds) names (at_next given p rest v k ds at))
 
 pub are_inserted : (states : List (List ℕ)) (l : History) → IsLineage l.given l.trace l.current

@@ -6,3 +6,4 @@ pub mod WordLemmas
 pub mod TraceLemmas
 pub mod InsertedLemmas
 pub mod CircuitLemmas
+mod SpelledExamples

@@ -9,7 +9,7 @@ use Rattle.si_base.specs.Codes.{CodedGraph, IsCoded, code, next_value}
 use Rattle.si_base.specs.Proper.{HasNoConflict, IsProper}
 use Rattle.si_base.specs.Netlist.{Sum, Gate, SumGate, Gc, Cell, Insertion, Netlist, gate_place, sum_value, value_of, value_if_there}
 use Rattle.si_base.specs.RightGates.{GivesNextValues, HasNoneInserted, IsRight}
-use Rattle.si_base.proofs.Circuit.{implements}
+use Rattle.si_insert.proofs.Chain.{right_implement}
 use Rattle.si_cover.specs.declared.kind.SumKind.{SumKind}
 use Rattle.si_cover.specs.declared.kind.SumKind.TheVariants.{Next, Set, Reset}
 use Rattle.si_cover.specs.Demands.{is_required, is_forbidden, demand}
@@ -153,4 +153,4 @@ pub chosen_implement : (style : Style) (c : CodedGraph) (model : List ℕ) → I
     → HasNoConflict c → HasNoneInserted (chosen_netlist style model c)
     → Implements (chosen_netlist style model c) c.graph
 chosen_implement style c model is proper none given =
-    implements c (chosen_netlist style model c) is proper (chosen_are_right style c model is none given)
+    right_implement c (chosen_netlist style model c) is proper (chosen_are_right style c model is none given)

@@ -41,7 +41,7 @@ one_spelled states l k ds next done more p within item next_is made is =
     let after = descents_after k p.partition ds in
     let here = at_step states l k ds done p within item is in
     let joined : (done ++ insertion_of states k ds p ∷ []) ++ insertions_from states (k + 1) after rest
-        ≡ insertions_of states l =
+    ≡ insertions_of states l =
     append_assoc done (insertion_of states k ds p ∷ []) (insertions_from states (k + 1) after rest)
     ∙ ap (λ (steps : List TraceStep). done ++ insertions_from states k ds steps) (sym (rest_is l.trace k p within item))
     ∙ is.so_far in
@@ -69,7 +69,7 @@ step_spelled states l k trace ds read again next classes done more p insert same
     one_spelled states l k ds next done more p (subst W same within) (subst I same item)
     (next_is ∙ ap (λ (xs : List Class). descents_after k xs again) classes_are ∙ ap (descents_after k p.partition) again_is)
     (made ∙ ap (λ (i : Insertion). done ++ i ∷ [])
-        (insert_is ∙ ap (λ (xs : List Descent). insertion_of states k xs p) read_is))
+    (insert_is ∙ ap (λ (xs : List Descent). insertion_of states k xs p) read_is))
     is
 
 pub next_step_fits : (states : List (List ℕ)) (l : History) (k : ℕ) (trace : List TraceStep) (ds : List Descent)

@@ -37,7 +37,7 @@ descent ds s = slice_index_or ds s (record { origin = 0; bits = 0 })
 abbrev pub switching_words : List (List ℕ) → ℕ → List Descent → List Class → Bool → List (List ℕ)
 switching_words states k ds classes up =
     map (λ s. state_word states k (descent ds s))
-        (filter (λ s. switches up (class_of classes s)) (range_with_len 0 (length classes)))
+    (filter (λ s. switches up (class_of classes s)) (range_with_len 0 (length classes)))
 
 abbrev pub insertion_of : List (List ℕ) → ℕ → List Descent → TraceStep → Insertion
 insertion_of states k ds p = record {

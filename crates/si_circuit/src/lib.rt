@@ -7,3 +7,5 @@ mod gates;
 pub mod laws;
 pub mod spelling;
 pub mod style;
+#[cfg(test)]
+mod tests;

@@ -26,11 +26,7 @@ pub(crate) struct Descent {
 /// rises and falls, in state order. A state is spelled by the name of the given state from which it
 /// comes, and, where signals were inserted before, `@` and their values in order of insertion. It
 /// fails only where memory runs out.
-pub fn insertions(
-    alloc: Global,
-    lineage: &Lineage,
-    states: &Names,
-) -> Result<Vec<Insert>, NoMemory>
+pub fn insertions(alloc: Global, lineage: &Lineage, states: &Names) -> Result<Vec<Insert>, NoMemory>
     requires { length states.now ≡ lineage.now.given.graph.states }
     ensures { IfOk result (λ inserts. inserts.items ≡ insertions_of states.now lineage.now) }
 {
@@ -87,7 +83,11 @@ fn copied(k: usize, descents: &[Descent], x: StateCopy) -> Descent
     ensures { result ≡ spelled.copied k descents.now x }
 {
     let Descent { origin, bits } = descents[x.state.0 as usize];
-    let bits = if x.value { bits.flip(Sig(k as u8)) } else { bits };
+    let bits = if x.value {
+        bits.flip(Sig(k as u8))
+    } else {
+        bits
+    };
     Descent { origin, bits }
 }
 
@@ -138,12 +138,7 @@ fn switching_words(
 }
 
 /// The word of a state after k insertions.
-fn state_word(
-    alloc: Global,
-    states: &Names,
-    k: usize,
-    descent: Descent,
-) -> Result<Name, NoMemory>
+fn state_word(alloc: Global, states: &Names, k: usize, descent: Descent) -> Result<Name, NoMemory>
     requires room { k ≤ code_width }
     requires within { descent.origin < length states.now }
     ensures { IfOk result (λ word. word ≡ spelled.state_word states.now k descent) }

@@ -1,5 +1,5 @@
 -- Each coded graph has a list of conflicts, a number of them, and for each limit a list of the first.
-use Rattle.std.proofs.Common.{◌≡◌, ◌≢◌, ℕ, zero, suc, ◌+◌, ◌<◌, ◌≤◌, ◌⊎◌, List, [], ◌∷◌, ◌++◌, length, take, get_or, Contains, AllPairs, refl, sym, subst, ◌∙◌, arith, inl, inr}
+use Rattle.std.proofs.Common.{◌≡◌, ◌≢◌, ℕ, zero, suc, ◌+◌, ◌<◌, ◌⊎◌, List, [], ◌∷◌, ◌++◌, length, take, get_or, Contains, refl, sym, subst, ◌∙◌, arith, inl, inr}
 use Rattle.std.proofs.lemmas.Bool.{cases_Bool, cases_eq, cases_lt}
 use Rattle.std.proofs.lemmas.List.{get_or_default, get_or-take, length-take}
 use Rattle.si_base.specs.declared.ids.Event.{Event}
@@ -47,16 +47,16 @@ module _ (c : CodedGraph) where
   conflict : (p q : ℕ) → Decided (IsConflict c (p, q))
   conflict p q = elim (decide.both (decide.less p q) (decide.both (decide.less q c.graph.states)
       (decide.both (cases_eq (code c p) (code c q)) (some_tells c.graph p q)))) [
-    | inl is ↦ inl (record {
-      order = is.0;
-      within = is.1.0;
-      same_code = is.1.1.0;
-      event = is.1.1.1.0;
-      non_input = is.1.1.1.1.0;
-      differ = is.1.1.1.1.1;
-    })
-    | inr none ↦ inr (λ is. none (is.order, (is.within, (is.same_code, (is.event, (is.non_input, is.differ))))))
-  ]
+        | inl is ↦ inl (record {
+          order = is.0;
+          within = is.1.0;
+          same_code = is.1.1.0;
+          event = is.1.1.1.0;
+          non_input = is.1.1.1.1.0;
+          differ = is.1.1.1.1.1;
+        })
+        | inr none ↦ inr (λ is. none (is.order, (is.within, (is.same_code, (is.event, (is.non_input, is.differ))))))
+      ]
 
   -- ---- place by place
   abbrev Found : ℕ → ℕ → Type 0
@@ -65,8 +65,11 @@ module _ (c : CodedGraph) where
   found_next : (p q : ℕ) → Found p q → Found p (q + 1)
   found_next p q (pairs, are) = elim (conflict p q) [
     | inl is ↦ (pairs ++ (p, q) ∷ [], below_take c p q pairs is are)
-    | inr none ↦ (pairs, below_gap c p q (q + 1) pairs (omega arith)
-        (λ t from to is. (let same : t ≡ q = omega arith in none (subst (λ k. IsConflict c (p, k)) same is))) are)
+    | inr none ↦ (
+      pairs,
+      below_gap c p q (q + 1) pairs (omega arith)
+          (λ t from to is. (let same : t ≡ q = omega arith in none (subst (λ k. IsConflict c (p, k)) same is))) are,
+    )
   ]
 
   found_in_row : (p k : ℕ) → Found p 0 → Found p k

@@ -1,3 +1,4 @@
+mod Examples
 pub mod Counted
 pub mod KeyLemmas
 pub mod CountLemmas

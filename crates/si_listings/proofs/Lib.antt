@@ -1,3 +1,4 @@
+mod Examples
 pub mod ListingLemmas
 pub mod NumberLemmas
 pub mod ListingsExist

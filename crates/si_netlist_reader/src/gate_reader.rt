@@ -13,13 +13,13 @@ ghost use Rattle.si_netlist_reader.specs.NetlistValue as value;
 ghost use Rattle.si_netlist.specs.Parts.{gate_seen};
 ghost use Rattle.si_netlist_reader.specs.Reading.{Reads};
 
-use si_netlist::gate::Gate;
 use si_base::fault::TextKind;
 use si_base::ids::{Code, Literal, NoMemory, Sig};
 use si_base::names::Names;
 use si_base::text::Name;
 use si_cube::cube::Cube;
 use si_cube::sum::Sum;
+use si_netlist::gate::Gate;
 use si_words::gate_lines::{cut_at, is_one};
 use si_words::lists::place_of;
 use si_words::words::{is_signal_name, literal_name};

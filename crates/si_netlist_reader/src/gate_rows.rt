@@ -10,10 +10,10 @@ ghost use Rattle.si_words.specs.Rows.{fault_of};
 ghost use Rattle.si_netlist_reader.specs.Headers.{gate_in};
 ghost use Rattle.si_netlist.specs.Parts.{gate_seen};
 
-use si_netlist::gate::Gate;
 use crate::gate_reader::read_gate_line;
 use si_base::fault::TextFault;
 use si_base::names::Names;
+use si_netlist::gate::Gate;
 use si_words::rows::Rows;
 use std::alloc::Global;
 

@@ -13,11 +13,11 @@ ghost use Rattle.si_netlist_reader.specs.NetlistFault as netlist;
 ghost use Rattle.si_netlist_reader.specs.NetlistValue.{insertion_of};
 ghost use Rattle.si_netlist_reader.specs.Reading.{Inserts};
 
-use si_netlist::gate::Insert;
 use si_base::fault::{TextFault, TextKind};
 use si_base::ids::NoMemory;
 use si_base::names::Names;
 use si_base::text::Name;
+use si_netlist::gate::Insert;
 use si_words::gate_lines::cut_at;
 use si_words::rows::{Rows, has_empty};
 use std::alloc::Global;

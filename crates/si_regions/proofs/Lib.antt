@@ -1,3 +1,4 @@
+mod Examples
 pub mod StateLists
 pub mod SearchLemmas
 pub mod UniqueRegions

@@ -1,10 +1,10 @@
 -- Each coded graph has a list of regions.
-use Rattle.std.proofs.Common.{◌≡◌, ℕ, zero, suc, ◌+◌, ◌*◌, ◌<◌, ◌≤◌, ◌⊎◌, Bool, true, false, List, [], ◌∷◌, ◌++◌, length, get_or, Contains, IsTrue, refl, sym, ap, subst, ◌∙◌, arith, inl, inr}
+use Rattle.std.proofs.Common.{◌≡◌, ℕ, zero, suc, ◌+◌, ◌*◌, ◌<◌, Bool, true, false, List, [], ◌∷◌, ◌++◌, length, get_or, Contains, IsTrue, refl, sym, ap, subst, ◌∙◌, arith, inl, inr}
 use Rattle.std.proofs.lemmas.Bool.{cases_Bool, cases_eq, cases_lt, true≢false}
 use Rattle.si_base.specs.declared.ids.Event.{Event}
 use Rattle.si_base.specs.declared.graph.Edge.{Edge}
 use Rattle.si_base.specs.Bits.{bit}
-use Rattle.si_base.specs.Graph.{StateGraph, arc, rise, fall, enables, event_place, same_event}
+use Rattle.si_base.specs.Graph.{arc, rise, fall, enables, event_place, same_event}
 use Rattle.si_base.specs.Codes.{CodedGraph, IsCoded, code}
 use Rattle.si_base.proofs.StepFacts.{step_within}
 use Rattle.si_base.proofs.Steps.{same_event-true, same_event-refl}
@@ -14,7 +14,6 @@ use Rattle.si_regions.specs.declared.regions.Region.{Region}
 use Rattle.si_regions.specs.Regions.{Enables, IsSetOf, IsEntered, IsQuiet, IsRegion, AreRegions, opposite}
 use Rattle.si_regions.specs.Searching.{AreMarksOf, RegionsTo}
 use Rattle.si_regions.proofs.SetsExist.{Decided, both, same_bit, some_of, listed, some_set, some_marks, some_reached}
-use Rattle.si_regions.proofs.StateLists.{contains_only}
 use Rattle.si_regions.proofs.ComponentLemmas.{is_component, is_rest, er_has, entered_within}
 use Rattle.si_regions.proofs.RegionLemmas.{AreDone, regions_none, regions_pass, regions_more, regions_event, regions_all, enables_within, place_below}
 
@@ -43,7 +42,8 @@ module _ (c : CodedGraph) (coded : IsCoded c) (e : Event) where
   ]
 
   resting : (marks : List Bool) × AreMarksOf c.graph (λ s. (s < c.graph.states) × IsQuiet c e s) marks
-  resting = some_marks c.graph (λ s. (s < c.graph.states) × IsQuiet c e s) (λ s. both (below s) (quiet s)) (λ s is. is.0)
+  resting = some_marks c.graph (λ s. (s < c.graph.states) × IsQuiet c e s) (λ s. both (below s) (quiet s))
+      (λ s is. is.0)
 
   -- an arc by e from the set to t
   abbrev Enters : List ℕ → ℕ → Edge → Type 0
@@ -52,16 +52,16 @@ module _ (c : CodedGraph) (coded : IsCoded c) (e : Event) where
   entered_or_not : (from : List ℕ) (t : ℕ) → Decided (IsEntered c.graph from e t)
   entered_or_not from t = elim (some_of (Enters from t)
       (λ a. both (listed from a.from) (both (same_events a.event e) (cases_eq a.to t))) c.graph.edges) [
-    | inl (a, there, is) ↦ inl (
-      a.from,
-      is.0,
-      (
-          let by : Contains c.graph.edges (arc a.from e a.to) =
-          subst (λ (f : Event). Contains c.graph.edges (arc a.from f a.to)) is.1.0 there in
-          subst (λ u. Contains c.graph.edges (arc a.from e u)) is.1.1 by),
-    )
-    | inr none ↦ inr (λ (s, there, step). none (arc s e t, step, (there, (refl, refl))))
-  ]
+        | inl (a, there, is) ↦ inl (
+          a.from,
+          is.0,
+          (
+              let by : Contains c.graph.edges (arc a.from e a.to) =
+              subst (λ (f : Event). Contains c.graph.edges (arc a.from f a.to)) is.1.0 there in
+              subst (λ u. Contains c.graph.edges (arc a.from e u)) is.1.1 by),
+        )
+        | inr none ↦ inr (λ (s, there, step). none (arc s e t, step, (there, (refl, refl))))
+      ]
 
   entered : (from : List ℕ) → (sr : List ℕ) × IsSetOf (IsEntered c.graph from e) sr
   entered from = some_set c.graph (IsEntered c.graph from e) (entered_or_not from)
@@ -74,8 +74,7 @@ module _ (c : CodedGraph) (coded : IsCoded c) (e : Event) where
       let here = (marks.exactly s).1 on in
       let er = some_reached c.graph Both enabling.0 (s ∷ []) marks.size in
       let sr = entered er.0 in
-      let qr = some_reached c.graph Out resting.0 sr.0 resting.1.size in
-      (
+      let qr = some_reached c.graph Out resting.0 sr.0 resting.1.size in (
         record { event = e; er = er.0; sr = sr.0; qr = qr.0 },
         refl,
         record {
@@ -99,9 +98,9 @@ module _ (c : CodedGraph) (coded : IsCoded c) where
   done_or_not : (e : Event) (regions : List Region) (t : ℕ) → Decided (Done e regions t)
   done_or_not e regions t = elim (some_of (λ (r : Region). (r.event ≡ e) × Contains r.er t)
       (λ r. both (same_events r.event e) (listed r.er t)) regions) [
-    | inl (r, there, is) ↦ inl (r, there, is.0, is.1)
-    | inr none ↦ inr (λ (r, there, by, has). none (r, there, (by, has)))
-  ]
+        | inl (r, there, is) ↦ inl (r, there, is.0, is.1)
+        | inr none ↦ inr (λ (r, there, by, has). none (r, there, (by, has)))
+      ]
 
   done_within : (e : Event) (k s : ℕ) (regions : List Region) → RegionsTo c k s regions → (t : ℕ) → Done e regions t
       → t < c.graph.states
@@ -139,8 +138,7 @@ module _ (c : CodedGraph) (coded : IsCoded c) where
 
   found_event : (e : Event) → Found (event_place e) 0 → Found (event_place e + 1) 0
   found_event e found =
-      let all = found_to e c.graph.states found in
-      (
+      let all = found_to e c.graph.states found in (
         all.0,
         regions_event c (event_place e) c.graph.states all.0 (omega arith)
             (λ t f on. enables_within c.graph t f coded.graph_is on) all.1,
@@ -159,8 +157,7 @@ module _ (c : CodedGraph) (coded : IsCoded c) where
   pub some_regions : (regions : List Region) × AreRegions c regions
   some_regions =
       let n = length c.graph.signals in
-      let all = found_signals n in
-      (
+      let all = found_signals n in (
         all.0,
         regions_all c (2 * n) all.0 (λ t e on. place_below c n t e coded.graph_is (omega arith) on) all.1,
       )

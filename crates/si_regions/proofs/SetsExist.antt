@@ -14,7 +14,7 @@ use Rattle.si_graph.specs.declared.closure.Along.{Along}
 use Rattle.si_graph.specs.declared.closure.Along.TheVariants.{Out, In, Both}
 use Rattle.si_graph.specs.Closure.{IsBeside, IsNext, Leads}
 use Rattle.si_graph.specs.Reach.{IsIn, unmarked}
-use Rattle.si_graph.proofs.MarkLemmas.{stays_in, in_cases, is_set, in_below}
+use Rattle.si_graph.proofs.MarkLemmas.{stays_in, in_cases, in_below}
 use Rattle.si_graph.proofs.MemberLemmas.{Contains-cons_cases, Contains-here, Contains-there, Contains-nil, Contains-map, Contains-from_map, Contains-filter, Contains-from_filter}
 use Rattle.si_regions.specs.Regions.{IsSetOf}
 use Rattle.si_regions.specs.Searching.{AreMarksOf, IsReachedIn, IsSeed}
@@ -85,7 +85,8 @@ number_there n s within =
     (s, omega arith, at ∙ omega arith)
 
 -- ---- decided sets
-module _ (g : StateGraph) (P : ℕ → Type 0) (decided : (s : ℕ) → Decided (P s)) (inside : (s : ℕ) → P s → s < g.states) where
+module _ (g : StateGraph) (P : ℕ → Type 0) (decided : (s : ℕ) → Decided (P s))
+    (inside : (s : ℕ) → P s → s < g.states) where
   has : ℕ → Bool
   has s = holds (decided s)
 
@@ -97,7 +98,8 @@ module _ (g : StateGraph) (P : ℕ → Type 0) (decided : (s : ℕ) → Decided 
       in_order = IsStrictlySortedBy-filter nat_cmp has (numbers g.states) (numbers_rise g.states);
       exactly = λ s. (
         λ there. (holds_true (decided s)).0 (Contains-from_filter has (numbers g.states) s there).1,
-        λ is. Contains-filter has (numbers g.states) s (number_there g.states s (inside s is)) ((holds_true (decided s)).1 is),
+        λ is. Contains-filter has (numbers g.states) s (number_there g.states s (inside s is))
+            ((holds_true (decided s)).1 is),
       );
     },
   )
@@ -183,7 +185,8 @@ leaves : (within marks : List Bool) (p : ℕ × ℕ) → Decided (Leaves within 
 leaves within marks p = both (same_bit (get_or marks p.0 false) true)
     (both (same_bit (get_or within p.1 false) true) (same_bit (get_or marks p.1 false) false))
 
-module _ (g : StateGraph) (along : Along) (within : List Bool) (seeds : List ℕ) (states : length within ≡ g.states) where
+module _ (g : StateGraph) (along : Along) (within : List Bool) (seeds : List ℕ)
+    (states : length within ≡ g.states) where
   -- marks of states that are reached, the seeds among them
   record AreReached (marks : List Bool) : Type 0 where
     size : length marks ≡ g.states
@@ -223,25 +226,27 @@ module _ (g : StateGraph) (along : Along) (within : List Bool) (seeds : List ℕ
   unfolding pairs
   all_reached marks are none =
       let marked = some_set g (IsIn marks) (λ s. same_bit (get_or marks s false) true)
-          (λ s is. omega (arith, in_below marks s is, are.size)) in
-      (
+      (λ s is. omega (arith, in_below marks s is, are.size)) in (
         marked.0,
         search_finds g along within seeds marks marked.0 marked.0
-        (record {
-          begun = are.begun;
-          sound = are.sound;
-          closed = λ s is. inr (λ t next. elim (cases_Bool (get_or marks t false)) [
-            | inl here ↦ here
-            | inr missing ↦ absurd (none ((s, t), pair_there g along s t next.0, (is, (next.1, missing))))
-          ]);
-          queued = λ t waits. absurd (Contains-nil t waits);
-        })
-        (λ t. (
-          λ is. inl ((marked.1.exactly t).1 is),
-          λ found. elim found [ inl there ↦ (marked.1.exactly t).0 there | inr waits ↦ absurd (Contains-nil t waits) ],
-        ))
-        (λ t. ((λ there. there), (λ there. there)))
-        marked.1.in_order,
+            (record {
+              begun = are.begun;
+              sound = are.sound;
+              closed = λ s is. inr (λ t next. elim (cases_Bool (get_or marks t false)) [
+                | inl here ↦ here
+                | inr missing ↦ absurd (none ((s, t), pair_there g along s t next.0, (is, (next.1, missing))))
+              ]);
+              queued = λ t waits. absurd (Contains-nil t waits);
+            })
+            (λ t. (
+              λ is. inl ((marked.1.exactly t).1 is),
+              λ found. elim found [
+                | inl there ↦ (marked.1.exactly t).0 there
+                | inr waits ↦ absurd (Contains-nil t waits)
+              ],
+            ))
+            (λ t. ((λ there. there), (λ there. there)))
+            marked.1.in_order,
       )
 
   spread : (n : ℕ) (marks : List Bool) → unmarked marks < n → AreReached marks

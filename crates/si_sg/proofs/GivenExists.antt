@@ -52,7 +52,7 @@ other_names n [] none = All-nil (λ (m : List ℕ). n ≢ m)
 other_names n (m ∷ names) none =
     let parts = or_parts (bytes_eq n m) (stands_in names n) none in
     All-cons (λ (k : List ℕ). n ≢ k) m names (λ same. true≢false (sym ((bytes_eq-Decides n m).1 same) ∙ parts.0))
-        (other_names n names parts.1)
+    (other_names n names parts.1)
 
 no_pairs : AllPairs (λ (a b : List ℕ). a ≢ b) []
 no_pairs i j d before within = absurd (omega arith)
@@ -75,8 +75,12 @@ module _ (h : Header) (x : Section) (are : AreSignals (declared h))
       let ordered = arcs_in_order arcs in
       let once = ordered.1 in
       let inside : All Inside arcs = edges_within (length signals) (length x.states) x.arcs section.section.within in
-      let g : StateGraph = record { signals = signals; states = length x.states; edges = ordered.0;
-      start = start_in x.states x.marks } in (
+      let g : StateGraph = record {
+        signals = signals;
+        states = length x.states;
+        edges = ordered.0;
+        start = start_in x.states x.marks;
+      } in (
         g,
         record {
           signals_are = refl;
@@ -112,7 +116,10 @@ some_given text none =
       record { model = model_in h.models; graph = cut.1; states = names },
       record {
         no_fault = none;
-        is = record { whole = whole.0; spelled = whole.1;
-            given = record { kept = cut.0; cut = cut.2; model_is = refl; states_are = refl } };
+        is = record {
+          whole = whole.0;
+          spelled = whole.1;
+          given = record { kept = cut.0; cut = cut.2; model_is = refl; states_are = refl };
+        };
       },
     )

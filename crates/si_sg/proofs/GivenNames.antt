@@ -147,13 +147,15 @@ words_named (b ∷ bs) fair =
 
     apart : is_blank b ≡ false → AreWords bs (words_in true bs) → AreWords (b ∷ bs) ((b ∷ []) ∷ words_in true bs)
     apart dark rest = elim (cases_Bool (is_brace b)) [
-      | inl brace ↦ ((inl (brace_alone b brace), rest.0),
-          λ plain. absurd (no_brace_first (is_brace b) (is_blank b) brace plain))
+      | inl brace ↦ (
+        (inl (brace_alone b brace), rest.0),
+        λ plain. absurd (no_brace_first (is_brace b) (is_blank b) brace plain),
+      )
       | inr other ↦ (
           let name : is_model_name (b ∷ []) ≡ true = and_from (is_word_byte b) true
           (word_byte b fair.0 dark other) refl in
           ((inr name, rest.0), λ plain. name)
-        )
+          )
     ]
 
 -- ---- a line without bad bytes
@@ -167,12 +169,12 @@ before_hash (b ∷ bs) = elim (cases_Bool (b == 35)) [
   | inl hash ↦ (
       let ends : before_comment (b ∷ bs) ≡ [] = take_while-cons (λ c. not (c == 35)) b bs ∙ rw hash refl in
       subst NoHash (sym ends) tt
-    )
+      )
   | inr other ↦ (
       let goes : before_comment (b ∷ bs) ≡ b ∷ before_comment bs =
       take_while-cons (λ c. not (c == 35)) b bs ∙ rw other refl in
       subst NoHash (sym goes) (other, before_hash bs)
-    )
+      )
 ]
 
 fair_bytes : (bs : List ℕ) → list_any is_bad bs ≡ false → NoHash bs → AllByRecursion IsFair bs
@@ -221,10 +223,13 @@ names_form names (w ∷ ws) none =
 one_model : (ws : List (List ℕ)) → AllByRecursion IsBraceOrName ws → is_one_name ws ≡ true
     → AllByRecursion IsModelName ws
 one_model [] all is = tt
-one_model (w ∷ []) all is = (elim all.0 [
-  | inl brace ↦ absurd (true≢false (sym (rw brace at (and_parts (not (is_brace_word w)) true is).0)))
-  | inr name ↦ name
-], tt)
+one_model (w ∷ []) all is = (
+  elim all.0 [
+    | inl brace ↦ absurd (true≢false (sym (rw brace at (and_parts (not (is_brace_word w)) true is).0)))
+    | inr name ↦ name
+  ],
+  tt,
+)
 one_model (w ∷ v ∷ ws) all is = absurd (true≢false (sym (and_parts (not (is_brace_word w)) false is).1))
 
 model_form : (h : Header) (ws : List (List ℕ)) → AllByRecursion IsBraceOrName ws → header_fault h Model ws ≡ None
@@ -237,16 +242,33 @@ model_form h ws all none = elim (cases_Bool (is_one_name ws)) [
 -- a line without fault keeps that
 with_words_named : (h : Header) (head : Head) (ws : List (List ℕ)) → AllByRecursion IsBraceOrName ws
     → header_fault h head ws ≡ None → IsNamed h → IsNamed (header_with h head ws)
-with_words_named h Model ws all none is = record { models = all_of_both IsModelName h.models ws is.models
-    (model_form h ws all none); inputs = is.inputs; outputs = is.outputs; internals = is.internals }
-with_words_named h Inputs ws all none is = record { models = is.models;
-    inputs = all_of_both IsSignalName h.inputs ws is.inputs (names_form (declared h) ws none); outputs =
-    is.outputs; internals = is.internals }
-with_words_named h Outputs ws all none is = record { models = is.models; inputs = is.inputs;
-    outputs = all_of_both IsSignalName h.outputs ws is.outputs (names_form (declared h) ws none); internals =
-    is.internals }
-with_words_named h Internals ws all none is = record { models = is.models; inputs = is.inputs; outputs = is.outputs;
-    internals = all_of_both IsSignalName h.internals ws is.internals (names_form (declared h) ws none) }
+with_words_named h Model ws all none is = record {
+  models = all_of_both IsModelName h.models ws is.models
+      (model_form h ws all none);
+  inputs = is.inputs;
+  outputs = is.outputs;
+  internals = is.internals;
+}
+with_words_named h Inputs ws all none is = record {
+  models = is.models;
+  inputs = all_of_both IsSignalName h.inputs ws is.inputs (names_form (declared h) ws none);
+  outputs =
+      is.outputs;
+  internals = is.internals;
+}
+with_words_named h Outputs ws all none is = record {
+  models = is.models;
+  inputs = is.inputs;
+  outputs = all_of_both IsSignalName h.outputs ws is.outputs (names_form (declared h) ws none);
+  internals =
+      is.internals;
+}
+with_words_named h Internals ws all none is = record {
+  models = is.models;
+  inputs = is.inputs;
+  outputs = is.outputs;
+  internals = all_of_both IsSignalName h.internals ws is.internals (names_form (declared h) ws none);
+}
 with_words_named h Dummy ws all none is = is
 with_words_named h State ws all none is = is
 with_words_named h Marking ws all none is = is

@@ -16,7 +16,7 @@ use Rattle.si_tool.specs.Command.{Asked, AsksAbout, AsksOfGraph, AsksReplay, fil
 use Rattle.si_tool.specs.Laws.{AtMostOne, HasResult, EndsOrDeparts}
 use Rattle.si_tool.specs.Loads.{Contents, Counts, loads, load_well, loads_well, AreTold}
 use Rattle.si_tool.specs.Meaning.{report, synth, replay, meaning, ComesTo}
-use Rattle.si_tool.specs.Refusal.{FileRefusal, TextRefusal, ReadFault, Answer, Output, FileRefused, TextRefused}
+use Rattle.si_tool.specs.Refusal.{TextRefusal, ReadFault, Answer, Output, FileRefused, TextRefused}
 use Rattle.si_tool.specs.Stages.{Stage, Then, Passes}
 use Rattle.si_tool.specs.declared.command.GraphTask.TheVariants.{Tell, Synth}
 use Rattle.si_tool.specs.declared.command.Report.{Report}
@@ -33,7 +33,8 @@ report_one what file text = then_one _ _ (graph_one file text) (λ given is.
     then_one _ _ (proper_one given.graph given.states) (λ coded sound. told_one what given.states coded))
 
 synth_one : (style : Style) (file text : List ℕ) → AtMostOne (synth style file text)
-synth_one style file text = then_one _ _ (graph_one file text) (λ given is. then_one _ _ (proper_one given.graph given.states)
+synth_one style file text = then_one _ _ (graph_one file text)
+    (λ given is. then_one _ _ (proper_one given.graph given.states)
     (λ coded sound. then_one _ _ (conflict_one coded given.states) (λ _ free. synthesised_one style given coded)))
 
 replay_one : (g a n b s c : List ℕ) → AtMostOne (replay g a n b s c)
@@ -54,8 +55,10 @@ report_some what file text = then_some _ _ (graph_some file text) (λ given is. 
     (λ coded sound. told_some what given.states coded sound.coded_is))
 
 synth_some : (style : Style) (file text : List ℕ) → HasResult (synth style file text)
-synth_some style file text = then_some _ _ (graph_some file text) (λ given is. then_some _ _ (proper_some text given is)
-    (λ coded sound. then_some _ _ (conflict_some coded given.states) (λ _ free. synthesised_some style text given coded is sound free)))
+synth_some style file text = then_some _ _ (graph_some file text)
+    (λ given is. then_some _ _ (proper_some text given is)
+    (λ coded sound. then_some _ _ (conflict_some coded given.states)
+    (λ _ free. synthesised_some style text given coded is sound free)))
 
 replay_some : (g a n b s c : List ℕ) → HasResult (replay g a n b s c)
 replay_some g a n b s c = then_some _ _ (graph_some g a) (λ given is. then_some _ _ (spelled_some n _ _)
@@ -79,7 +82,8 @@ then_ends : {A : Type 0} (first : Stage TextRefusal A) (next : A → Stage TextR
 then_ends first next x is (inl ends) = inl (ends.0, Passes x is ends.1)
 then_ends first next x is (inr departs) = inr (departs.0, departs.1, departs.2, Passes x is departs.3)
 
-pub replay_ends : (g n s a b c : List ℕ) (given : Sg) (coded : CodedGraph) → IsGivenBy a given → netlist_fault b ≡ None
+pub replay_ends : (g n s a b c : List ℕ) (given : Sg) (coded : CodedGraph) → IsGivenBy a given → netlist_fault b
+    ≡ None
     → schedule_fault (signal_names (netlist_of b).signals) c ≡ None → IsSound given.graph coded
     → IsFor coded (netlist_of b) → EndsOrDeparts (replay g a n b s c)
 replay_ends g n s a b c given coded is netlist schedule sound fits =
@@ -153,10 +157,10 @@ command_some content asked told = go (all_some content (files_of asked) told)
   where
     answered : (texts : List (List ℕ)) → loads_well content (files_of asked) (Ok texts)
         → HasResult (meaning asked texts) → (a : Answer) × ComesTo (loads_well content) asked a
-    answered texts are (Ok output , means) = (Output output, (texts, are, means))
-    answered texts are (Err refusal , means) = (TextRefused refusal, (texts, are, means))
+    answered texts are (Ok output, means) = (Output output, (texts, are, means))
+    answered texts are (Err refusal, means) = (TextRefused refusal, (texts, are, means))
 
     go : HasResult (loads_well content (files_of asked)) → (a : Answer) × ComesTo (loads_well content) asked a
-    go (Err refusal , is) = (FileRefused refusal, is)
-    go (Ok texts , is) =
+    go (Err refusal, is) = (FileRefused refusal, is)
+    go (Ok texts, is) =
         answered texts is (meaning_some asked texts (as_many (load_well content) (files_of asked) texts is))

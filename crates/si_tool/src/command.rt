@@ -88,7 +88,7 @@ fn about_of(words: &[String]) -> Option<Command<'_>>
 fn report_of(words: &[String]) -> Option<Command<'_>>
     ensures { MatchOption result
         ((report : Reports) (file : List ℕ)
-            → Asks words.now (AsksOfGraph (GraphTask.Tell report) file) → ⊥)
+        → Asks words.now (AsksOfGraph (GraphTask.Tell report) file) → ⊥)
         (λ command. Asks words.now (asked_now command)) }
 {
     match words {
@@ -120,7 +120,7 @@ fn report_named(word: &str) -> Option<Report>
 fn synth_of(words: &[String]) -> Option<Command<'_>>
     ensures { MatchOption result
         ((style : gates.Style) (file : List ℕ)
-            → Asks words.now (AsksOfGraph (GraphTask.Synth style) file) → ⊥)
+        → Asks words.now (AsksOfGraph (GraphTask.Synth style) file) → ⊥)
         (λ command. Asks words.now (asked_now command)) }
 {
     match words {

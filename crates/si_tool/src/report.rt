@@ -52,12 +52,7 @@ pub fn report<'w>(
 }
 
 /// What is told of a proper graph with these names of its states.
-fn told(
-    alloc: Global,
-    what: Report,
-    graph: &Coded,
-    states: &Names,
-) -> Result<Text, NoMemory>
+fn told(alloc: Global, what: Report, graph: &Coded, states: &Names) -> Result<Text, NoMemory>
     requires { length states.now ≡ graph.now.graph.states }
     ensures { IfOk result (λ text. reports.told what states.now graph.now (Ok text)) }
 {

@@ -14,12 +14,12 @@ loop-s-preserved c =
       | then-switches+in_ok-state_word+in_ok-push w ↦
           (let here : w.index-descents-s.result ≡ descent ds c.loop-s.s =
           w.index-descents-s.is ∙ get_or_default ds c.loop-s.s w.index-descents-s.result (record { origin = 0; bits = 0 })
-              (omega (arith, c.loop-s-test.true, c.requires.count)) in
+          (omega (arith, c.loop-s-test.true, c.requires.count)) in
           word_more c.args.states.now c.args.k ds c.args.classes.now c.args.up c.loop-s.s old c.if-switches.words.items
-              c.loop-s.invariant (sym c.switches.ensures ∙ w.if-switches.true)
-              (ap (λ (v : Vec Name Global). v.items) w.words-is ∙ w.in_ok-push.ensures.items
-              ∙ ap (λ (word : List ℕ). old ++ word ∷ [])
-                  (w.in_ok-state_word.ensures ∙ ap (state_word c.args.states.now c.args.k) here)))
+          c.loop-s.invariant (sym c.switches.ensures ∙ w.if-switches.true)
+          (ap (λ (v : Vec Name Global). v.items) w.words-is ∙ w.in_ok-push.ensures.items
+          ∙ ap (λ (word : List ℕ). old ++ word ∷ [])
+          (w.in_ok-state_word.ensures ∙ ap (state_word c.args.states.now c.args.k) here)))
       | else-switches w ↦ word_passed c.args.states.now c.args.k ds c.args.classes.now c.args.up c.loop-s.s
           c.if-switches.words.items (ap (λ (v : Vec Name Global). v.items) w.words-is ∙ c.loop-s.invariant)
           (sym c.switches.ensures ∙ w.if-switches.false)

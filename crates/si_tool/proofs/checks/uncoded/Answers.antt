@@ -1,7 +1,4 @@
-use Rattle.std.proofs.Common.{◌∙◌, ap}
-use Rattle.si_base.specs.declared.graph.Signal.{Signal}
 use Rattle.si_base.specs.Proper.{Split}
-use Rattle.si_tool.specs.Checks.{HasSplit}
 use Rattle.si_tool.proofs.Breaches.{split_shown, values_shown}
 use Rattle.si_tool.proofs.checks.uncoded.Goals as goal
 
@@ -10,7 +7,8 @@ returns-in_ok-state_name-in-Nondeterministic-3 c =
     let told = c.in-Nondeterministic in
     let split : Split = record { s = told.s; e = told.e; t = told.t; u = told.u } in
     split_shown c.args.graph.now c.args.states.now split _ _ _ _ (rw told.is at c.requires.shown)
-    c.in_ok-state_name-in-Nondeterministic.ensures (rw (← c.signals-signals.ensures) c.in_ok-event_word-in-Nondeterministic.ensures)
+    c.in_ok-state_name-in-Nondeterministic.ensures (rw
+    (← c.signals-signals.ensures) c.in_ok-event_word-in-Nondeterministic.ensures)
     c.in_ok-state_name-in-Nondeterministic-2.ensures c.in_ok-state_name-in-Nondeterministic-3.ensures
 
 pub returns-in_ok-name_of_signal-in-Inconsistent : goal.returns-in_ok-name_of_signal-in-Inconsistent

@@ -1,0 +1,34 @@
+-- The listings of small graphs, as texts.
+use Rattle.std.proofs.Common.{◌≡◌, ℕ, List, [], ◌∷◌, refl, codes}
+use Rattle.si_base.specs.declared.graph.Signal.{Signal}
+use Rattle.si_base.specs.declared.graph.SigKind.TheVariants.{Input, Output}
+use Rattle.si_base.specs.Graph.{rise, fall}
+use Rattle.si_regions.specs.declared.regions.Region.{Region}
+use Rattle.si_listings.specs.RegionText.{regions_text}
+use Rattle.si_listings.specs.ConflictText.{conflicts_text}
+
+-- ---- two regions of `a+`, where nothing rests after it, and one of `z+`
+abbrev signals : List Signal
+signals = record { name = codes "a"; kind = Input } ∷ record { name = codes "z"; kind = Output } ∷ []
+
+abbrev names : List (List ℕ)
+names = codes "s0" ∷ codes "s1" ∷ codes "s2" ∷ codes "s3" ∷ codes "s4" ∷ codes "s5" ∷ []
+
+abbrev regions : List Region
+regions = record { event = rise 0; er = 0 ∷ []; sr = 1 ∷ []; qr = [] }
+    ∷ record { event = rise 0; er = 3 ∷ []; sr = 4 ∷ []; qr = [] }
+    ∷ record { event = rise 1; er = 2 ∷ []; sr = 3 ∷ []; qr = 3 ∷ 4 ∷ [] } ∷ []
+
+listed : regions_text signals names regions
+    ≡ codes "er a+ 1 s0\nsr a+ 1 s1\nqr a+ 1\ner a+ 2 s3\nsr a+ 2 s4\nqr a+ 2\ner z+ 1 s2\nsr z+ 1 s3\nqr z+ 1 s3 s4\n"
+unfolding regions_text
+listed = refl
+
+-- ---- two conflicts, and none
+two : conflicts_text names 2 ((0, 2) ∷ (3, 5) ∷ []) ≡ codes "conflicts 2\ns0 s2\ns3 s5\n"
+unfolding conflicts_text
+two = refl
+
+none : conflicts_text names 0 [] ≡ codes "conflicts 0\n"
+unfolding conflicts_text
+none = refl
