@@ -1,8 +1,9 @@
 -- The listings of small graphs, as texts.
-use Rattle.std.proofs.Common.{◌≡◌, ℕ, List, [], ◌∷◌, refl, codes}
+use Rattle.std.proofs.Common.{◌≡◌, ℕ, List, [], ◌∷◌, refl, codes, lit<}
+use Rattle.std.proofs.lemmas.Fmt.{decimal_digit}
 use Rattle.si_base.specs.declared.graph.Signal.{Signal}
 use Rattle.si_base.specs.declared.graph.SigKind.TheVariants.{Input, Output}
-use Rattle.si_base.specs.Graph.{rise, fall}
+use Rattle.si_base.specs.Graph.{rise}
 use Rattle.si_regions.specs.declared.regions.Region.{Region}
 use Rattle.si_listings.specs.RegionText.{regions_text}
 use Rattle.si_listings.specs.ConflictText.{conflicts_text}
@@ -22,13 +23,13 @@ regions = record { event = rise 0; er = 0 ∷ []; sr = 1 ∷ []; qr = [] }
 listed : regions_text signals names regions
     ≡ codes "er a+ 1 s0\nsr a+ 1 s1\nqr a+ 1\ner a+ 2 s3\nsr a+ 2 s4\nqr a+ 2\ner z+ 1 s2\nsr z+ 1 s3\nqr z+ 1 s3 s4\n"
 unfolding regions_text
-listed = refl
+listed = rw (decimal_digit 1 (lit< tt), decimal_digit 2 (lit< tt)) refl
 
 -- ---- two conflicts, and none
 two : conflicts_text names 2 ((0, 2) ∷ (3, 5) ∷ []) ≡ codes "conflicts 2\ns0 s2\ns3 s5\n"
 unfolding conflicts_text
-two = refl
+two = rw (decimal_digit 2 (lit< tt)) refl
 
 none : conflicts_text names 0 [] ≡ codes "conflicts 0\n"
 unfolding conflicts_text
-none = refl
+none = rw (decimal_digit 0 (lit< tt)) refl
