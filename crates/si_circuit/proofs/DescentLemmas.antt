@@ -1,5 +1,5 @@
 -- Descents along a trace are the origins and the values of the inserted signals.
-use Rattle.std.proofs.Common.{◌≡◌, ℕ, zero, suc, ◌+◌, ◌<◌, ◌≤◌, ◌^◌, ◌==◌, not, Bool, true, false, List, [], ◌∷◌, ◌++◌, length, map, get_or, slice_get, Some, All, if◌then◌else◌, refl, sym, ap, subst, ◌∙◌, arith, inl, inr}
+use Rattle.std.proofs.Common.{◌≡◌, ℕ, ◌+◌, ◌<◌, ◌≤◌, ◌==◌, not, Bool, true, false, List, [], ◌∷◌, length, map, get_or, slice_get, Some, All, if◌then◌else◌, refl, sym, ap, subst, ◌∙◌, arith, inl, inr}
 use Rattle.std.proofs.lemmas.Bool.{cases_eq}
 use Rattle.std.proofs.lemmas.List.{get_or-map, get_or_default, length-map, length_push}
 use Rattle.std.proofs.lemmas.List.Elements.{Contains-get_or}
@@ -10,14 +10,13 @@ use Rattle.std.specs.List.{range_with_len}
 use Rattle.si_base.specs.declared.graph.Signal.{Signal}
 use Rattle.si_base.specs.Bits.{bit, flip}
 use Rattle.si_base.specs.Limits.{code_width, max_states}
-use Rattle.si_base.specs.Graph.{StateGraph}
 use Rattle.si_base.specs.Codes.{CodedGraph, code, IsCoded}
 use Rattle.si_base.proofs.BitFacts.{flip-same, flip-other}
 use Rattle.si_base.proofs.StepFacts.{code_fits}
 use Rattle.si_insert.specs.declared.lineage.TraceStep.{TraceStep}
-use Rattle.si_insert.specs.Insertion.{Copy, coded, new_signal}
+use Rattle.si_insert.specs.Insertion.{Copy, new_signal}
 use Rattle.si_insert.specs.Made.{copies_of}
-use Rattle.si_insert.specs.Lineage.{Current, Inserts, Grows, IsLineage, Keeps, as_given, grown, origin}
+use Rattle.si_insert.specs.Lineage.{Current, Inserts, Grows, IsLineage, Keeps, as_given, grown}
 use Rattle.si_insert.proofs.Kept.{keeps_next, keeps_first, origin_at}
 use Rattle.si_insert.proofs.Making.{made_is_insertion}
 use Rattle.si_insert.proofs.OneGraph.{same_copies}

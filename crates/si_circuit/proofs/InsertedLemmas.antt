@@ -1,6 +1,6 @@
 -- The insertions of a lineage are those of its inserted signals, and have the form of a netlist's.
-use Rattle.std.proofs.Common.{◌≡◌, ◌≢◌, ℕ, zero, suc, ◌+◌, ◌<◌, ◌≤◌, ◌==◌, ◌&&◌, not, Bool, true, false, List, [], ◌∷◌, ◌++◌, length, map, filter, get_or, slice_get, Some, All, Contains, IsTrue, codes, append_assoc, zero-add, refl, sym, ap, subst, ◌∙◌, arith, inl, inr}
-use Rattle.std.proofs.lemmas.Bool.{and_parts, and_from, cases_Bool, true≢false}
+use Rattle.std.proofs.Common.{◌≡◌, ◌≢◌, ℕ, zero, suc, ◌+◌, ◌<◌, ◌==◌, ◌&&◌, not, Bool, true, false, List, [], ◌∷◌, ◌++◌, length, map, filter, get_or, All, Contains, codes, append_assoc, zero-add, refl, sym, ap, subst, ◌∙◌, arith}
+use Rattle.std.proofs.lemmas.Bool.{and_parts, and_from, true≢false}
 use Rattle.std.proofs.lemmas.List.{append-nil, length-append, length-map, map-append}
 use Rattle.std.proofs.lemmas.List.FromFn.{get_or-range_with_len, length-range_with_len}
 use Rattle.std.proofs.lemmas.List.Elements.{All-nil, All-cons, All-map, All-filter, filter-append}
@@ -13,24 +13,21 @@ use Rattle.si_base.specs.Bits.{bit}
 use Rattle.si_base.specs.Bytes.{at_sign, hash, opening_brace, closing_brace, first_visible, tilde}
 use Rattle.si_base.specs.Codes.{CodedGraph}
 use Rattle.si_base.specs.Graph.{StateGraph}
-use Rattle.si_base.specs.Netlist.{Insertion}
 use Rattle.si_base.specs.NetlistText.{same_kind, names_of}
-use Rattle.si_base.specs.System.{is_inserted}
 use Rattle.si_base.specs.WellFormed.{IsWord, IsInsertion}
 use Rattle.si_base.specs.Words.{is_between, is_word_byte, IsStateName}
 use Rattle.si_insert.specs.declared.lineage.TraceStep.{TraceStep}
 use Rattle.si_insert.specs.declared.partition.Class.{Class}
-use Rattle.si_insert.specs.declared.partition.Class.TheVariants.{Rising, Falling}
 use Rattle.si_graph.proofs.MemberLemmas.{Contains-filter}
 use Rattle.si_insert.specs.Partition.{class_of, IsLawful}
 use Rattle.si_insert.specs.Insertion.{new_signal}
 use Rattle.si_insert.specs.Made.{switches}
-use Rattle.si_insert.specs.Lineage.{Current, History, Inserts, Grows, IsLineage, AllGiven, as_given}
+use Rattle.si_insert.specs.Lineage.{Current, History, Grows, IsLineage, AllGiven, as_given}
 use Rattle.si_circuit.specs.declared.spelling.Descent.{Descent}
 use Rattle.si_circuit.specs.Circuits.{AreStateNames}
 use Rattle.si_circuit.specs.Spelled.{AreInserted}
-use Rattle.si_circuit.specs.Spelling.{digit, digits, mark, state_word, descent, switching_words, insertion_of, insertions_from, insertions_of, descents_after, given_descents}
-use Rattle.si_circuit.proofs.DescentLemmas.{At, StepFits, at_start, at_next, step_fits}
+use Rattle.si_circuit.specs.Spelling.{digit, mark, state_word, descent, switching_words, insertion_of, insertions_from, insertions_of, descents_after, given_descents}
+use Rattle.si_circuit.proofs.DescentLemmas.{At, at_start, at_next, step_fits}
 use Rattle.si_circuit.proofs.GateLemmas.{nothing_inserted}
 
 -- ---- names

@@ -1,10 +1,6 @@
 -- Worked examples of spelled insertions and of a circuit with one.
-use Rattle.std.proofs.Common.{◌≡◌, ℕ, List, [], ◌∷◌, refl, map, codes}
-use Rattle.si_base.specs.Graph.{StateGraph}
-use Rattle.si_base.specs.Codes.{CodedGraph}
+use Rattle.std.proofs.Common.{◌≡◌, ℕ, List, [], ◌∷◌, refl, codes}
 use Rattle.si_base.specs.Netlist.{Insertion}
-use Rattle.si_base.specs.NetlistText.{netlist_text}
-use Rattle.si_cover.specs.Rule.{chosen_sum}
 use Rattle.si_insert.specs.declared.lineage.TraceStep.{TraceStep}
 use Rattle.si_insert.specs.declared.partition.Class.{Class}
 use Rattle.si_insert.specs.declared.partition.Class.TheVariants.{Low, Rising, High, Falling}
