@@ -10,7 +10,7 @@ help_lines =
     codes "sisyn makes circuits without a clock from state graphs." ∷
     codes "" ∷
     codes "  sisyn check F                      the size of a graph, where it is proper" ∷
-    codes "  sisyn regions F                    where each event is excited, and what follows" ∷
+    codes "  sisyn regions F                    where events are excited, and what follows" ∷
     codes "  sisyn conflicts F                  states that no gates can tell apart" ∷
     codes "  sisyn synth F complex              a netlist of complex gates" ∷
     codes "  sisyn synth F gc                   a netlist of generalised C-elements" ∷

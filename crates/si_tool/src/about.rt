@@ -20,7 +20,7 @@ pub enum Topic {
 const HELP: &[u8] = b"sisyn makes circuits without a clock from state graphs.
 
   sisyn check F                      the size of a graph, where it is proper
-  sisyn regions F                    where each event is excited, and what follows
+  sisyn regions F                    where events are excited, and what follows
   sisyn conflicts F                  states that no gates can tell apart
   sisyn synth F complex              a netlist of complex gates
   sisyn synth F gc                   a netlist of generalised C-elements
