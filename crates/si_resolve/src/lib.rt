@@ -1,0 +1,5 @@
+//! Resolving of conflicts by the insertion of signals.
+#![tactic(auto)]
+
+pub mod best;
+pub mod resolve;
