@@ -199,8 +199,8 @@ pub meets_after : (g : StateGraph) (old new : List Class) (s : ℕ) → map lowe
     → MeetsFalling g new s → MeetsFalling g old s
 meets_after g old new s stays (t, leads, falling) = (t, leads, (falling_stays old new stays t).0 falling)
 
--- only from High may an arc be torn
-pub not_torn : (is : Bool) (M : Type 0) (class : Class) → class ≢ High → (is ≡ false → (class ≡ High) × M)
+-- only a strict pass ends early
+pub not_torn : (is : Bool) (M : Type 0) (strict : Bool) → strict ≡ false → (is ≡ false → (strict ≡ true) × M)
     → is ≡ true
-not_torn true M class other torn = refl
-not_torn false M class other torn = absurd (other (torn refl).0)
+not_torn true M strict other torn = refl
+not_torn false M strict other torn = absurd (true≢false (sym (torn refl).0 ∙ other))

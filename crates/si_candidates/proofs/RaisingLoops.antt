@@ -56,9 +56,12 @@ module _ (g : StateGraph) (s : ℕ) (arcs : List Edge) (out : AreOut g s arcs) w
       (λ t. (
         (λ k. (let leads = target_leads k.0 (edge_at arcs k.0) k.2 (get_or_default arcs k.0 no_edge (edge_at arcs k.0) k.2) in
             subst (λ (x : ℕ). Leads g s x) k.3 leads)),
-        (λ leads. (let there = (out.exactly (arc s leads.0 t)).1 (leads.1, refl) in
-            (there.0, (let k = there.1 in omega arith), there.1,
-            ap (λ (x : Edge). x.to) (get_or_default arcs there.0 no_edge (arc s leads.0 t) there.1 ∙ there.2)))),
+        (λ leads. (let there = (out.exactly (arc s leads.0 t)).1 (leads.1, refl) in (
+          there.0,
+          (let k = there.1 in omega arith),
+          there.1,
+          ap (λ (x : Edge). x.to) (get_or_default arcs there.0 no_edge (arc s leads.0 t) there.1 ∙ there.2),
+        ))),
       ))
 
   pub none_more : (n : ℕ) (a : Edge) (A : List Class) → n < length arcs → a ≡ get_or arcs n a
@@ -90,9 +93,11 @@ NoneFalls g s classes n = (j : ℕ) → j < n → j < length g.edges → IsInto 
 module _ (g : StateGraph) (s : ℕ) where
   pub source_leads : (k : ℕ) → k < length g.edges → IsInto g.edges s k → Leads g (edge_at g.edges k).from s
   source_leads k inside into =
-      let a : Edge = edge_at g.edges k in
-      (a.event, subst (λ (x : ℕ). Step g a.from a.event x) into
-      (k, inside, get_or_default g.edges k a no_edge inside))
+      let a : Edge = edge_at g.edges k in (
+        a.event,
+        subst (λ (x : ℕ). Step g a.from a.event x) into
+            (k, inside, get_or_default g.edges k a no_edge inside),
+      )
 
   pub sources_none : (at : Option ℕ) (A : List Class) (w : List ℕ)
       → IsFirstPlace (IsInto g.edges s) 0 (length g.edges) at

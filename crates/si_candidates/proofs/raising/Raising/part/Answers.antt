@@ -53,4 +53,4 @@ returns-clause-parted c =
     let flooded = subst (λ (h : StateGraph). Floods h plus minus classes []) c.graph-g.ensures.same ends in
     let coded = c.graph-g.ensures.coded in
     λ _. flood_ends c.args.graph.now.graph plus minus classes coded.graph_is coded.connected c.requires.plus_size
-        c.requires.minus_size c.requires.some_plus c.requires.some_minus flooded
+    c.requires.minus_size c.requires.some_plus c.requires.some_minus flooded
