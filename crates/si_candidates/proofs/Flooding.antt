@@ -4,11 +4,10 @@ use Rattle.std.proofs.lemmas.Bool.{cases_Bool, true≢false}
 use Rattle.std.proofs.lemmas.List.Elements.{Contains-push, Contains-push_cases}
 use Rattle.si_base.specs.declared.ids.Event.{Event}
 use Rattle.si_base.specs.Graph.{StateGraph, Step, IsGraph}
-use Rattle.si_base.specs.Codes.{CodedGraph, IsCoded, IsConnected}
-use Rattle.si_base.specs.Order.{Before, IsFirst}
+use Rattle.si_base.specs.Codes.{IsConnected}
+use Rattle.si_base.specs.Order.{IsFirst}
 use Rattle.si_base.specs.Sets.{IsIn}
 use Rattle.si_base.proofs.StepFacts.{step_within}
-use Rattle.si_graph.specs.Closure.{Leads}
 use Rattle.si_graph.specs.Reach.{MarksAll}
 use Rattle.si_graph.proofs.MarkLemmas.{Explores, explores_more, in_below}
 use Rattle.si_graph.proofs.MemberLemmas.{Contains-nil}

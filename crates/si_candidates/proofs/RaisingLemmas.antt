@@ -1,22 +1,16 @@
 -- Classes that are raised: which states are High then, and that the blocks stay.
-use Rattle.std.proofs.Common.{◌≡◌, ◌≢◌, ℕ, suc, zero, ◌+◌, ◌<◌, ◌≤◌, ◌↔◌, ◌⊎◌, Bool, true, false, List, [], ◌∷◌, ◌++◌, length, get_or, set, map, Contains, Option, Some, None, refl, sym, ap, subst, ◌∙◌, arith, inl, inr, length-set}
-use Rattle.std.proofs.lemmas.Bool.{cases_Bool, cases_eq, cases_lt, cases_order, true≢false}
-use Rattle.std.proofs.lemmas.List.{map-set, get_or-map, length-map, get_or_default, get_or_past}
+use Rattle.std.proofs.Common.{◌≡◌, ◌≢◌, ℕ, suc, zero, ◌<◌, ◌↔◌, ◌⊎◌, Bool, true, false, List, [], ◌∷◌, ◌++◌, length, set, map, refl, sym, ap, subst, ◌∙◌, arith, inl, inr}
+use Rattle.std.proofs.lemmas.Bool.{cases_lt, true≢false}
+use Rattle.std.proofs.lemmas.List.{map-set, get_or-map, length-map, get_or_past}
 use Rattle.std.proofs.Math.Seq.{map-set_same}
-use Rattle.si_base.specs.declared.ids.Event.{Event}
-use Rattle.si_base.specs.declared.graph.Edge.{Edge}
-use Rattle.si_base.specs.Graph.{StateGraph, Step, IsGraph, arc}
+use Rattle.si_base.specs.Graph.{StateGraph}
 use Rattle.si_base.specs.Sets.{IsIn}
-use Rattle.si_base.proofs.StepFacts.{step_within}
-use Rattle.si_graph.specs.Arcs.{AreOut, edge_at, no_edge, IsFirstPlace, IsInto}
-use Rattle.si_graph.specs.Closure.{Leads}
-use Rattle.si_graph.specs.Reach.{Marks, MarksAll}
+use Rattle.si_graph.specs.Reach.{MarksAll}
 use Rattle.si_graph.proofs.MarkLemmas.{marks_same, marks_both, one_taken, one_left, in_below}
-use Rattle.si_graph.proofs.ClosureLemmas.{Stands, place_in_walk, none_between}
 use Rattle.si_insert.specs.declared.partition.Class.{Class}
 use Rattle.si_insert.specs.declared.partition.Class.TheVariants.{Low, Rising, High, Falling}
 use Rattle.si_insert.specs.Partition.{class_of}
-use Rattle.si_candidates.specs.Raising.{lowered, is_high, is_between, Raises, IsEnteredBy, LeadsInto, MeetsRising, MeetsFalling}
+use Rattle.si_candidates.specs.Raising.{lowered, is_high, is_between, Raises, MeetsFalling}
 
 -- ---- classes by their tests
 high_only : (c : Class) → is_high c ≡ true → c ≡ High

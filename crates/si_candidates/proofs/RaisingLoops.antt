@@ -1,18 +1,18 @@
 -- The loops that raise states: along the arcs out of a state, along those into it, and from a list of states on.
-use Rattle.std.proofs.Common.{◌≡◌, ◌≢◌, ℕ, ◌+◌, ◌<◌, ◌≤◌, ◌↔◌, ◌⊎◌, Bool, true, false, List, [], length, get_or, Contains, Option, Some, None, IsTrue, refl, sym, ap, subst, ◌∙◌, arith, inl, inr}
-use Rattle.std.proofs.lemmas.Bool.{cases_eq, cases_order, true≢false}
+use Rattle.std.proofs.Common.{◌≡◌, ◌≢◌, ℕ, ◌+◌, ◌<◌, ◌≤◌, List, [], length, get_or, Contains, Option, Some, None, refl, sym, ap, subst, ◌∙◌, arith, inl, inr}
+use Rattle.std.proofs.lemmas.Bool.{cases_eq, cases_order}
 use Rattle.std.proofs.lemmas.List.{get_or_default}
 use Rattle.si_base.specs.declared.graph.Edge.{Edge}
-use Rattle.si_base.specs.Graph.{StateGraph, Step, IsGraph, arc}
+use Rattle.si_base.specs.Graph.{StateGraph, Step, arc}
 use Rattle.si_base.proofs.StepFacts.{step_within}
 use Rattle.si_graph.specs.Arcs.{AreOut, edge_at, no_edge, IsFirstPlace, IsInto}
 use Rattle.si_graph.specs.Closure.{Leads}
 use Rattle.si_graph.proofs.ClosureLemmas.{Stands, place_in_walk, none_between}
 use Rattle.si_insert.specs.declared.partition.Class.{Class}
-use Rattle.si_insert.specs.declared.partition.Class.TheVariants.{Low, Rising, High, Falling}
+use Rattle.si_insert.specs.declared.partition.Class.TheVariants.{Rising, Falling}
 use Rattle.si_insert.specs.Partition.{class_of}
-use Rattle.si_candidates.specs.Raising.{Raises, IsEnteredBy, LeadsInto, MeetsRising, MeetsFalling}
-use Rattle.si_candidates.proofs.RaisingLemmas.{raises_both, raises_as, raises_none, rising_stays, falling_stays}
+use Rattle.si_candidates.specs.Raising.{Raises, MeetsRising, MeetsFalling}
+use Rattle.si_candidates.proofs.RaisingLemmas.{raises_both, raises_as, raises_none}
 
 -- ---- the arcs out of a state
 -- one of the first n arcs leads to t

@@ -1,4 +1,4 @@
-use Rattle.std.proofs.Common.{◌≡◌, ◌∙◌, ◌≤◌, ◌+◌, length, List, Bool, ℕ, refl, sym, ap, arith}
+use Rattle.std.proofs.Common.{◌∙◌, ◌≤◌, length, sym, ap, arith}
 use Rattle.si_graph.proofs.MarkLemmas.{seeded_more, seeded_pass, seeded_all}
 use Rattle.si_candidates.proofs.BlockStates.{seeds_same, listed}
 use Rattle.si_candidates.proofs.block.Block.of.Goals as goal

@@ -1,4 +1,4 @@
-use Rattle.std.proofs.Common.{◌≡◌, ◌∙◌, ◌<◌, ◌+◌, ℕ, [], length, map, ap, subst, sym, arith}
+use Rattle.std.proofs.Common.{◌∙◌, [], length, map, ap, subst, sym, arith}
 use Rattle.std.proofs.lemmas.List.{nil_from_length, length_push}
 use Rattle.si_base.specs.Graph.{StateGraph}
 use Rattle.si_graph.specs.Reach.{unmarked}

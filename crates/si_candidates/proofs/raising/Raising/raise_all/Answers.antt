@@ -1,4 +1,4 @@
-use Rattle.std.proofs.Common.{◌≡◌, ◌∙◌, ℕ, false, [], length, map, ap, refl, arith, inl, inr}
+use Rattle.std.proofs.Common.{◌∙◌, false, length, map, ap, refl, arith, inl, inr}
 use Rattle.std.proofs.lemmas.List.{nil_from_length, length_push}
 use Rattle.si_graph.specs.Closure.{Leads}
 use Rattle.si_graph.specs.Reach.{unmarked}

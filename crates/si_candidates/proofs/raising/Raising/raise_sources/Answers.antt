@@ -1,4 +1,4 @@
-use Rattle.std.proofs.Common.{◌∙◌, ◌≡◌, ◌+◌, ℕ, [], length, ap, sym, subst}
+use Rattle.std.proofs.Common.{◌∙◌, ◌+◌, ℕ, [], length, ap, sym, subst}
 use Rattle.si_base.specs.declared.graph.Edge.{Edge}
 use Rattle.si_graph.specs.Arcs.{IsFirstPlace, IsInto}
 use Rattle.si_graph.specs.Closure.{Leads}

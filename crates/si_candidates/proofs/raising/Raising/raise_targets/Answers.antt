@@ -1,5 +1,4 @@
-use Rattle.std.proofs.Common.{◌∙◌, ◌≡◌, map, sym}
-use Rattle.si_candidates.specs.Raising.{lowered}
+use Rattle.std.proofs.Common.{◌∙◌, sym}
 use Rattle.si_candidates.proofs.RaisingLemmas.{same_size, rising_stays, not_beside}
 use Rattle.si_candidates.proofs.RaisingLoops.{target_leads, target_in, targets_more, targets_all, none_more, none_all}
 use Rattle.si_candidates.proofs.raising.Raising.raise_targets.Goals as goal
