@@ -1,0 +1,6 @@
+pub mod SetTests
+pub mod MarkedSets
+pub mod IntervalLemmas
+pub mod IntervalsExist
+pub mod BlockLists
+pub mod BlocksExist

@@ -5,4 +5,5 @@ pub mod block;
 pub mod blocks;
 pub mod classes;
 pub mod interval;
+pub mod laws;
 pub mod parting;
