@@ -72,7 +72,7 @@ some_blocks c coded =
     )
 
 -- ---- one more
-from_push : (g : StateGraph) (from : List Bool) (stops : List Event) (stop : Event) (sets : List (List Bool))
+pub from_push : (g : StateGraph) (from : List Bool) (stops : List Event) (stop : Event) (sets : List (List Bool))
     (set : List Bool) → AreIntervalsFrom g from stops sets → IsInterval g from stop set
     → AreIntervalsFrom g from (stops ++ stop ∷ []) (sets ++ set ∷ [])
 from_push g from [] stop [] set are is = (is, tt)
@@ -81,7 +81,7 @@ from_push g from (s ∷ stops) stop [] set are is = absurd are
 from_push g from (s ∷ stops) stop (x ∷ sets) set (here, rest) is =
     (here, from_push g from stops stop sets set rest is)
 
-each_push : (g : StateGraph) (stops : List Event) (regions : List Region) (r : Region) (sets here : List (List Bool))
+pub each_push : (g : StateGraph) (stops : List Event) (regions : List Region) (r : Region) (sets here : List (List Bool))
     → AreIntervals g stops regions sets → AreIntervalsFrom g (marked g.states r.sr) stops here
     → AreIntervals g stops (regions ++ r ∷ []) (sets ++ here)
 each_push g stops [] r sets here are is = (here, [], ap (λ zs. zs ++ here) are ∙ sym (append-nil here), is, refl)

@@ -4,3 +4,4 @@ pub mod IntervalLemmas
 pub mod IntervalsExist
 pub mod BlockLists
 pub mod BlocksExist
+pub mod AddingLemmas
