@@ -1,4 +1,4 @@
-use Rattle.std.proofs.Common.{◌≡◌, ◌∙◌, length, sym, ap, arith}
+use Rattle.std.proofs.Common.{◌≡◌, ◌∙◌, length, ap, arith}
 use Rattle.si_base.specs.Graph.{StateGraph}
 use Rattle.si_base.specs.Codes.{CodedGraph}
 use Rattle.si_candidates.specs.Blocks.{marked}

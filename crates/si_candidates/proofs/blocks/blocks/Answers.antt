@@ -1,4 +1,4 @@
-use Rattle.std.proofs.Common.{◌≡◌, ◌∙◌, map}
+use Rattle.std.proofs.Common.{◌∙◌, map}
 use Rattle.si_regions.specs.declared.regions.Region.{Region}
 use Rattle.si_candidates.specs.Blocks.{marked}
 use Rattle.si_candidates.proofs.BlockLists.{all_parts}
