@@ -7,3 +7,5 @@ pub mod classes;
 pub mod interval;
 pub mod laws;
 pub mod parting;
+#[cfg(test)]
+mod block_tests;
