@@ -1,3 +1,4 @@
+mod BlockExamples
 pub mod SetTests
 pub mod MarkedSets
 pub mod IntervalLemmas
