@@ -1,1 +1,5 @@
 pub mod Decisions
+pub mod PartLaws
+pub mod LawfulParts
+mod Separable
+mod CopyCount
