@@ -3,3 +3,4 @@ pub mod PartLaws
 pub mod LawfulParts
 mod Separable
 mod CopyCount
+pub mod ClassesExist
