@@ -4,3 +4,4 @@ pub mod LawfulParts
 mod Separable
 mod CopyCount
 pub mod ClassesExist
+pub mod AcceptanceDecided
