@@ -1,0 +1,4 @@
+pub mod PartLaws
+pub mod LawfulParts
+mod Separable
+mod CopyCount

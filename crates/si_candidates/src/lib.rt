@@ -5,4 +5,5 @@ pub mod block;
 pub mod blocks;
 pub mod classes;
 pub mod interval;
+pub mod part_laws;
 pub mod parting;
