@@ -1,0 +1,4 @@
+pub mod Cited
+pub mod OneBest
+pub mod Searching
+pub mod Traces

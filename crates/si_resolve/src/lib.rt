@@ -2,4 +2,5 @@
 #![tactic(auto)]
 
 pub mod best;
+pub mod laws;
 pub mod resolve;
