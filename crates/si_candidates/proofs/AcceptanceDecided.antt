@@ -12,7 +12,7 @@ use Rattle.si_insert.specs.declared.partition.Class.{Class}
 use Rattle.si_insert.specs.Partition.{IsLawful}
 use Rattle.si_insert.specs.Accepted.{IsAccepted, copy_count}
 use Rattle.si_candidates.specs.Blocks.{AreDisjoint}
-use Rattle.si_candidates.specs.Parts.{AreClasses, IsTorn}
+use Rattle.si_candidates.specs.Parts.{AreClasses}
 use Rattle.si_candidates.proofs.ClassesExist.{first_of, classes_or_torn_within}
 use Rattle.si_candidates.proofs.Decisions.{member, may_switch_or_not}
 use Rattle.si_candidates.proofs.PartLaws.{torn_have_none, classes_lawful, classes_unique}

@@ -101,9 +101,9 @@ module _ (c : CodedGraph) (blocks : List (List Bool)) (n : ℕ) (is : IsCoded c)
     | inr above ↦ (
         let high : (y : Choice) → IsChoice c blocks y → y.j ≡ j → y.i ≡ i → bar n o ≤ y.conflicts =
         λ y choice at_j at_i. (
-            let same =
-            one_number c blocks x y is chosen.choice choice (chosen.at_j ∙ sym at_j) (chosen.at_i ∙ sym at_i) in
-            omega (arith, same, above)) in
+        let same =
+        one_number c blocks x y is chosen.choice choice (chosen.at_j ∙ sym at_j) (chosen.at_i ∙ sym at_i) in
+        omega (arith, same, above)) in
         (o, search_skip c blocks n j i o high so))
   ]
 

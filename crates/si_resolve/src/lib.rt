@@ -2,5 +2,6 @@
 #![tactic(auto)]
 
 pub mod best;
+pub mod ends;
 pub mod laws;
 pub mod resolve;
