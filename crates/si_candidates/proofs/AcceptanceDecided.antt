@@ -83,7 +83,8 @@ module _ (c : CodedGraph) (plus minus : List Bool) (coded : IsCoded c) (proper :
 
     of_parts : AreDisjoint plus minus → Decided ((found : List Class) × Accepts found)
     of_parts disjoint =
-        elim (classes_or_torn_within c.graph plus minus rises.0 coded.graph_is coded.connected disjoint rises.2 rises.1) [
+        let (r, r_in, in_plus) = rises in
+        elim (classes_or_torn_within c.graph plus minus r coded.graph_is coded.connected disjoint in_plus r_in) [
           | inl (classes, are) ↦ of_classes classes are
           | inr (s, torn) ↦ inr (λ (found, is). torn_have_none c.graph plus minus found s is.0 torn)
         ]

@@ -46,7 +46,8 @@ module _ (g : StateGraph) (plus minus : List Bool) where
 
   comes_or_not : (set : List Bool) (t : ℕ) → Decided (ComesFrom g set t)
   comes_or_not set t =
-      elim (some_of (λ (a : Edge). IsIn set a.from × (a.to ≡ t)) (λ a. both (member set a.from) (cases_eq a.to t)) g.edges) [
+      let P : Edge → Type 0 = λ a. IsIn set a.from × (a.to ≡ t) in
+      elim (some_of P (λ a. both (member set a.from) (cases_eq a.to t)) g.edges) [
         | inl (a, there, is) ↦ inl
             (a.from, a.event, is.0, subst (λ u. Contains g.edges (arc a.from a.event u)) is.1 there)
         | inr none ↦ inr (λ (s, e, here, step). none (arc s e t, step, (here, refl)))
@@ -54,7 +55,8 @@ module _ (g : StateGraph) (plus minus : List Bool) where
 
   goes_or_not : (set : List Bool) (t : ℕ) → Decided (GoesInto g set t)
   goes_or_not set t =
-      elim (some_of (λ (a : Edge). IsIn set a.to × (a.from ≡ t)) (λ a. both (member set a.to) (cases_eq a.from t)) g.edges) [
+      let P : Edge → Type 0 = λ a. IsIn set a.to × (a.from ≡ t) in
+      elim (some_of P (λ a. both (member set a.to) (cases_eq a.from t)) g.edges) [
         | inl (a, there, is) ↦ inl
             (a.to, a.event, is.0, subst (λ u. Contains g.edges (arc u a.event a.to)) is.1 there)
         | inr none ↦ inr (λ (s, e, here, step). none (arc t e s, step, (here, refl)))
@@ -227,7 +229,8 @@ module _ (g : StateGraph) (plus minus : List Bool) (r : ℕ) (graph : IsGraph g)
       low = λ s within. has_class s within Low (low_class s within);
     }
 
-  pub classes_or_torn_within : ((classes : List Class) × AreClasses g plus minus classes) ⊎ ((s : ℕ) × IsTorn g plus minus s)
+  pub classes_or_torn_within : ((classes : List Class) × AreClasses g plus minus classes)
+      ⊎ ((s : ℕ) × IsTorn g plus minus s)
   classes_or_torn_within = elim (torn_or_not g plus minus) [
     | inl torn ↦ inr torn
     | inr none ↦ inl (listed_classes, are_classes (λ s torn. none (s, torn)))

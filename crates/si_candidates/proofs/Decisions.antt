@@ -112,7 +112,8 @@ module _ (g : StateGraph) (set : List Bool) where
       (follows (decide.not (member set d.to)) (both (member set a.from) (decide.not (member set a.to)))))
 
   abbrev AllExit : Type 0
-  AllExit = (a : Edge) → Contains g.edges a → (b : Edge) → Contains g.edges b → (d : Edge) → Contains g.edges d → Exits a b d
+  AllExit = (a : Edge) → Contains g.edges a → (b : Edge) → Contains g.edges b → (d : Edge) → Contains g.edges d
+      → Exits a b d
 
   all_exit_or_not : Decided AllExit
   all_exit_or_not =

@@ -59,7 +59,8 @@ module _ (c : CodedGraph) (blocks : List (List Bool)) (n : ℕ) (is : IsCoded c)
   abbrev Accepts : ℕ → ℕ → List Class → Type 0
   Accepts i j classes = AreClasses c.graph (block_at blocks i) (block_at blocks j) classes × IsAccepted c.graph classes
 
-  chosen_by : (i j : ℕ) → IsCandidate blocks i j → (classes : List Class) → Accepts i j classes → (x : Choice) × Chosen i j x
+  chosen_by : (i j : ℕ) → IsCandidate blocks i j → (classes : List Class) → Accepts i j classes
+      → (x : Choice) × Chosen i j x
   chosen_by i j candidate classes (are, accepted) =
       let left = some_left c classes is accepted.lawful in
       let x : Choice = record { i = i; j = j; classes = classes; conflicts = left.0 } in
@@ -78,10 +79,13 @@ module _ (c : CodedGraph) (blocks : List (List Bool)) (n : ℕ) (is : IsCoded c)
   choice_or_none : (i j : ℕ) → Decided ((x : Choice) × Chosen i j x)
   choice_or_none i j = elim (candidate_or_not i j) [
     | inr none ↦ inr (λ (x, chosen). none (candidate_by i j x chosen))
-    | inl candidate ↦ elim (accepted_classes_or_none c (block_at blocks i) (block_at blocks j) is proper candidate.disjoint) [
-      | inl (classes, accepts) ↦ inl (chosen_by i j candidate classes accepts)
-      | inr none ↦ inr (λ (x, chosen). none (x.classes, accepts_by i j x chosen))
-    ]
+    | inl candidate ↦ (
+        let plus = block_at blocks i in
+        let minus = block_at blocks j in
+        elim (accepted_classes_or_none c plus minus is proper candidate.disjoint) [
+          | inl (classes, accepts) ↦ inl (chosen_by i j candidate classes accepts)
+          | inr none ↦ inr (λ (x, chosen). none (x.classes, accepts_by i j x chosen))
+        ])
   ]
 
   -- ---- one candidate after another

@@ -68,7 +68,8 @@ ends_resolved : (v : Current) → HasConflicts v.coded 0 → Ends v
 ends_resolved v counted =
     ([], v, inl (record { goes = refl; done = (none_is_none v.coded 0 counted).1 refl }))
 
-first_conflict : (c : CodedGraph) (n : ℕ) → HasConflicts c n → 0 < n → (pair : ℕ × ℕ) × IsFirst pair_place (IsConflict c) pair
+first_conflict : (c : CodedGraph) (n : ℕ) → HasConflicts c n → 0 < n
+    → (pair : ℕ × ℕ) × IsFirst pair_place (IsConflict c) pair
 first_conflict c n counted some =
     let first = first_is_first c counted.pairs counted.are (omega (arith, counted.count, some)) in
     (first.0, first.2)

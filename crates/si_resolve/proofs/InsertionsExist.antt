@@ -75,7 +75,8 @@ module _ (c : CodedGraph) (classes : List Class) (name : List ℕ) (coded : IsCo
       (new_start c.graph classes)
   can_be = can_be_made c classes (new_signal name) coded accepted refl other_names
 
-  pub some_insertion : (h : StateGraph) × IsInsertedGraph c.graph classes (new_signal name) (copies_of classes) h × IsGraph h
+  pub some_insertion : (h : StateGraph) × IsInsertedGraph c.graph classes (new_signal name) (copies_of classes) h
+      × IsGraph h
   some_insertion =
       let arcs : List Edge = new_edges c.graph classes in
       let o = arcs_in_order arcs in
