@@ -5,3 +5,9 @@ mod Separable
 mod CopyCount
 pub mod ClassesExist
 pub mod AcceptanceDecided
+pub mod SetTests
+pub mod MarkedSets
+pub mod IntervalLemmas
+pub mod IntervalsExist
+pub mod BlockLists
+pub mod BlocksExist

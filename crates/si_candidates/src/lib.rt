@@ -6,4 +6,5 @@ pub mod blocks;
 pub mod classes;
 pub mod interval;
 pub mod part_laws;
+pub mod laws;
 pub mod parting;
