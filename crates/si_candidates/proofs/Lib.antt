@@ -11,3 +11,5 @@ pub mod IntervalLemmas
 pub mod IntervalsExist
 pub mod BlockLists
 pub mod BlocksExist
+mod BlockStates
+mod Switching
