@@ -2,3 +2,4 @@ pub mod Cited
 pub mod OneBest
 pub mod Searching
 pub mod Traces
+pub mod Going
