@@ -1,18 +1,12 @@
 -- What the crates below prove.
-use Rattle.si_candidates.specs.Laws.{BlocksAreUnique, ClassesAreUnique, AcceptedByBlocks, TornHaveNone, CopiesByBlocks}
+use Rattle.si_candidates.specs.Laws.{BlocksAreUnique, AcceptedByBlocks, CopiesByBlocks}
 use Rattle.si_conflicts.specs.Laws.{LeftIsUnique}
 
 pub one_blocks : BlocksAreUnique
 one_blocks = ?
 
-pub classes_unique : ClassesAreUnique
-classes_unique = ?
-
 pub accepted_by_blocks : AcceptedByBlocks
 accepted_by_blocks = ?
-
-pub torn_have_none : TornHaveNone
-torn_have_none = ?
 
 pub copies_by_blocks : CopiesByBlocks
 copies_by_blocks = ?

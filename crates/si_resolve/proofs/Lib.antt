@@ -5,3 +5,4 @@ pub mod Traces
 pub mod InsertionsExist
 pub mod BestExists
 pub mod EndsExist
+pub mod Going

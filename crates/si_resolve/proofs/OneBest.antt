@@ -7,7 +7,7 @@ use Rattle.si_conflicts.specs.Conflicts.{HasConflicts}
 use Rattle.si_candidates.specs.Blocks.{block_at}
 use Rattle.si_candidates.specs.Parts.{AreClasses}
 use Rattle.si_resolve.proofs.Cited.{one_blocks}
-use Rattle.si_resolve.proofs.Cited.{classes_unique}
+use Rattle.si_candidates.proofs.PartLaws.{classes_unique}
 use Rattle.si_resolve.specs.Best.{Choice, IsChoice, choice_place, IsBest, NoneImproves}
 
 -- two lists of places of which neither comes before the other

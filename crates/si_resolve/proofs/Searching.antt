@@ -13,7 +13,7 @@ use Rattle.si_candidates.specs.Blocks.{AreBlocks, block_at}
 use Rattle.si_candidates.specs.Parts.{AreClasses}
 use Rattle.si_candidates.specs.Blocking.{MaySwitch}
 use Rattle.si_resolve.proofs.Cited.{one_blocks}
-use Rattle.si_resolve.proofs.Cited.{classes_unique}
+use Rattle.si_candidates.proofs.PartLaws.{classes_unique}
 use Rattle.si_resolve.proofs.Cited.{accepted_by_blocks}
 use Rattle.si_conflicts.specs.Left.{LeavesConflicts}
 use Rattle.si_resolve.specs.Best.{Choice, IsChoice, choice_place, Improves, NoneImproves}
