@@ -1,8 +1,8 @@
 pub mod Decisions
 pub mod PartLaws
 pub mod LawfulParts
-mod Separable
-mod CopyCount
+pub mod Separable
+pub mod CopyCount
 pub mod ClassesExist
 pub mod AcceptanceDecided
 pub mod SetTests

@@ -5,6 +5,6 @@ pub mod block;
 pub mod blocks;
 pub mod classes;
 pub mod interval;
-pub mod part_laws;
 pub mod laws;
+pub mod part_laws;
 pub mod parting;
