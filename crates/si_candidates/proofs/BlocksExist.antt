@@ -1,11 +1,10 @@
 -- A coded graph has one list of blocks.
-use Rattle.std.proofs.Common.{◌≡◌, ℕ, ◌+◌, ◌<◌, ◌==◌, Bool, List, [], ◌∷◌, ◌++◌, length, get_or, take, Contains, refl, sym, ap, ap₂, subst, ◌∙◌, arith, append_assoc}
-use Rattle.std.proofs.lemmas.List.{take_more, append-nil}
+use Rattle.std.proofs.Common.{◌≡◌, Bool, List, [], ◌∷◌, ◌++◌, length, refl, sym, ap, ap₂, subst, ◌∙◌, append_assoc}
+use Rattle.std.proofs.lemmas.List.{append-nil}
 use Rattle.si_base.specs.declared.ids.Event.{Event}
 use Rattle.si_base.specs.Graph.{StateGraph, IsGraph}
 use Rattle.si_base.specs.Codes.{CodedGraph, IsCoded}
 use Rattle.si_regions.specs.declared.regions.Region.{Region}
-use Rattle.si_regions.specs.Regions.{AreRegions}
 use Rattle.si_regions.proofs.UniqueRegions.{one_list}
 use Rattle.si_regions.proofs.RegionsExist.{some_regions}
 use Rattle.si_candidates.specs.Interval.{IsInterval}
@@ -72,7 +71,7 @@ some_blocks c coded =
     )
 
 -- ---- one more
-from_push : (g : StateGraph) (from : List Bool) (stops : List Event) (stop : Event) (sets : List (List Bool))
+pub from_push : (g : StateGraph) (from : List Bool) (stops : List Event) (stop : Event) (sets : List (List Bool))
     (set : List Bool) → AreIntervalsFrom g from stops sets → IsInterval g from stop set
     → AreIntervalsFrom g from (stops ++ stop ∷ []) (sets ++ set ∷ [])
 from_push g from [] stop [] set are is = (is, tt)
@@ -81,10 +80,14 @@ from_push g from (s ∷ stops) stop [] set are is = absurd are
 from_push g from (s ∷ stops) stop (x ∷ sets) set (here, rest) is =
     (here, from_push g from stops stop sets set rest is)
 
-each_push : (g : StateGraph) (stops : List Event) (regions : List Region) (r : Region) (sets here : List (List Bool))
+pub each_push : (g : StateGraph) (stops : List Event) (regions : List Region) (r : Region) (sets here : List (List Bool))
     → AreIntervals g stops regions sets → AreIntervalsFrom g (marked g.states r.sr) stops here
     → AreIntervals g stops (regions ++ r ∷ []) (sets ++ here)
 each_push g stops [] r sets here are is = (here, [], ap (λ zs. zs ++ here) are ∙ sym (append-nil here), is, refl)
-each_push g stops (q ∷ regions) r sets here (first, rest, same, from, more) is =
-    (first, rest ++ here, ap (λ zs. zs ++ here) same ∙ append_assoc first rest here, from,
-    each_push g stops regions r rest here more is)
+each_push g stops (q ∷ regions) r sets here (first, rest, same, from, more) is = (
+  first,
+  rest ++ here,
+  ap (λ zs. zs ++ here) same ∙ append_assoc first rest here,
+  from,
+  each_push g stops regions r rest here more is,
+)

@@ -1,10 +1,10 @@
 -- A set of states and an event have an interval: what is reached along the arcs by other events.
-use Rattle.std.proofs.Common.{◌≡◌, ◌≢◌, ℕ, ◌<◌, ◌∙◌, Bool, true, false, not, List, [], ◌∷◌, length, get_or, filter, replicate, Contains, refl, sym, ap, arith, inl, inr}
+use Rattle.std.proofs.Common.{◌≡◌, ◌≢◌, ℕ, ◌<◌, ◌∙◌, Bool, true, false, not, List, [], ◌∷◌, length, get_or, filter, replicate, Contains, sym, ap, arith, inl, inr}
 use Rattle.std.proofs.lemmas.Bool.{cases_Bool, true≢false}
 use Rattle.std.proofs.lemmas.List.{length-replicate, get_or-replicate}
 use Rattle.si_base.specs.declared.ids.Event.{Event}
 use Rattle.si_base.specs.declared.graph.Edge.{Edge}
-use Rattle.si_base.specs.Graph.{StateGraph, Step, IsGraph, arc, same_event}
+use Rattle.si_base.specs.Graph.{StateGraph, IsGraph, arc, same_event}
 use Rattle.si_base.specs.Sets.{IsIn}
 use Rattle.si_base.proofs.StepFacts.{step_within}
 use Rattle.si_base.proofs.Steps.{same_event-true, same_event-refl}

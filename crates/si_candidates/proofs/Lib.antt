@@ -13,3 +13,4 @@ pub mod BlockLists
 pub mod BlocksExist
 mod BlockStates
 mod Switching
+pub mod AddingLemmas

@@ -10,7 +10,7 @@ apart a b h same =
     let e : beq a b ≡ true = ap (λ x. beq a x) (sym same) ∙ beq-refl a in true≢false (sym h ∙ ap not e)
 
 pub returns-then-size : goal.returns-then-size
-returns-then-size c = sym (same_set-not (λ (set : List Bool). length set) c.args.x.now c.args.y.now 
+returns-then-size c = sym (same_set-not (λ (set : List Bool). length set) c.args.x.now c.args.y.now
     (λ same. c.if-size.true (c.size.ensures ∙ same ∙ sym c.size-2.ensures)))
 
 pub returns-then-has : goal.returns-then-has

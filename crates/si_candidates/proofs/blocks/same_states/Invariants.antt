@@ -1,4 +1,4 @@
-use Rattle.std.proofs.Common.{◌≡◌, ℕ, ◌<◌, length, get_or, false}
+use Rattle.std.proofs.Common.{◌≡◌, ℕ, ◌<◌, get_or, false}
 use Rattle.si_candidates.proofs.blocks.same_states.Given as goal
 
 abbrev pub invariant-loop-s : goal.invariant-loop-s

@@ -1,4 +1,4 @@
-use Rattle.std.proofs.Common.{◌≡◌, ◌+◌, ◌<◌, ◌∙◌, true, false, length, sym, ap, arith}
+use Rattle.std.proofs.Common.{◌<◌, ◌∙◌, true, false, length, sym, arith}
 use Rattle.si_candidates.proofs.SetTests.{weight_more}
 use Rattle.si_candidates.proofs.blocks.weight.Goals as goal
 use Rattle.si_candidates.proofs.blocks.weight.Goals.{then-has, else-has}
