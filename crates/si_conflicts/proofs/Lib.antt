@@ -6,3 +6,7 @@ pub mod PairLemmas
 pub mod LinkLemmas
 pub mod BelowLemmas
 pub mod ConflictsExist
+pub mod PairSums
+pub mod Numbers
+pub mod CopyKeys
+pub mod Meeting
