@@ -2,5 +2,8 @@
 #![tactic(auto)]
 
 pub mod best;
+mod block_list;
 pub mod laws;
 pub mod resolve;
+mod search;
+mod stub;
