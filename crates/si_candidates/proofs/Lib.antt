@@ -2,3 +2,5 @@ pub mod PartLaws
 pub mod LawfulParts
 mod Separable
 mod CopyCount
+mod BlockStates
+mod Switching
