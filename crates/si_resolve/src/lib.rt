@@ -3,5 +3,8 @@
 
 pub mod best;
 pub mod ends;
+mod block_list;
 pub mod laws;
 pub mod resolve;
+mod search;
+mod stub;
