@@ -2,8 +2,8 @@
 #![tactic(auto)]
 
 pub mod best;
-pub mod ends;
 mod block_list;
+pub mod ends;
 pub mod laws;
 pub mod resolve;
 mod search;
