@@ -10,3 +10,6 @@ pub mod PairSums
 pub mod Numbers
 pub mod CopyKeys
 pub mod Meeting
+pub mod CopyCount
+pub mod LeftCount
+pub mod TallyLemmas

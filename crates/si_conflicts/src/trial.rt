@@ -28,7 +28,7 @@ pub fn told_apart(members: &[Member], classes: &[Class], bar: u64) -> u64
     requires within { All (λ m. m.state < length classes.now) members.now }
     ensures all { result < bar → result ≡ pair_sum (Apart.told_apart classes.now) members.now }
     ensures more { bar ≤ result → bar ≤ pair_sum (Apart.told_apart classes.now) members.now }
-    ensures few { result ≤ 4 * max_states * max_states }
+    ensures few { result ≤ 2 * max_states * max_states }
 {
     let mut low = Tally::none();
     let mut high = Tally::none();
