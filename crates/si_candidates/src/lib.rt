@@ -8,3 +8,5 @@ pub mod interval;
 pub mod laws;
 pub mod part_laws;
 pub mod parting;
+#[cfg(test)]
+mod block_tests;
