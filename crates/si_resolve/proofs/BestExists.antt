@@ -6,13 +6,9 @@ use Rattle.si_base.specs.Proper.{IsProper}
 use Rattle.si_checks.proofs.DecisionLemmas.{Decided, both, less}
 use Rattle.si_insert.specs.declared.partition.Class.{Class}
 use Rattle.si_insert.specs.Accepted.{IsAccepted}
-use Rattle.si_insert.specs.Insertion.{coded, new_signal}
-use Rattle.si_insert.specs.Made.{copies_of, made}
-use Rattle.si_insert.specs.Partition.{IsLawful}
-use Rattle.si_insert.proofs.Making.{made_is_insertion}
 use Rattle.si_conflicts.specs.Conflicts.{HasConflicts}
-use Rattle.si_conflicts.specs.Left.{LeavesConflicts}
 use Rattle.si_conflicts.proofs.ConflictsExist.{some_count}
+use Rattle.si_conflicts.proofs.LeftCount.{some_left}
 use Rattle.si_candidates.specs.Blocks.{AreBlocks, AreDisjoint, IsCandidate, block_at}
 use Rattle.si_candidates.specs.Parts.{AreClasses}
 use Rattle.si_candidates.proofs.Decisions.{disjoint_or_not}
@@ -20,23 +16,6 @@ use Rattle.si_candidates.proofs.AcceptanceDecided.{accepted_classes_or_none}
 use Rattle.si_resolve.specs.Best.{Choice, IsChoice, Improves, NoneImproves}
 use Rattle.si_resolve.specs.Search.{IsEarlier, IsBestSoFar, bar}
 use Rattle.si_resolve.proofs.Searching.{one_number, search_start, search_skip, search_take, search_row, search_finds, search_finds_none}
-
--- each lawful partition leaves a number of conflicts
-some_left : (c : CodedGraph) (classes : List Class) → IsCoded c → IsLawful c.graph classes
-    → (n : ℕ) × LeavesConflicts c classes n
-some_left c classes is lawful =
-    let new = new_signal [] in
-    let graph = made c.graph classes new in
-    let counted = some_count (coded c (copies_of classes) graph) in (
-      counted.0,
-      record {
-        new = new;
-        copies = copies_of classes;
-        graph = graph;
-        insertion = made_is_insertion c.graph classes new is.graph_is lawful refl;
-        counted = counted.1;
-      },
-    )
 
 module _ (c : CodedGraph) (blocks : List (List Bool)) (n : ℕ) (is : IsCoded c) (proper : IsProper c.graph) where
   -- ---- one candidate
@@ -62,7 +41,7 @@ module _ (c : CodedGraph) (blocks : List (List Bool)) (n : ℕ) (is : IsCoded c)
   chosen_by : (i j : ℕ) → IsCandidate blocks i j → (classes : List Class) → Accepts i j classes
       → (x : Choice) × Chosen i j x
   chosen_by i j candidate classes (are, accepted) =
-      let left = some_left c classes is accepted.lawful in
+      let left = some_left c is classes accepted.lawful in
       let x : Choice = record { i = i; j = j; classes = classes; conflicts = left.0 } in
       let choice : IsChoice c blocks x =
       record { candidate = candidate; are = are; accepted = accepted; leaves = left.1 } in
