@@ -1,5 +1,5 @@
 -- A proper graph has a best candidate that leaves fewer conflicts than it has, or none leaves fewer.
-use Rattle.std.proofs.Common.{◌≡◌, ℕ, zero, suc, ◌+◌, ◌<◌, ◌≤◌, ◌⊎◌, Bool, List, [], length, Option, Some, None, refl, sym, subst, subst₂, ◌∙◌, arith, inl, inr}
+use Rattle.std.proofs.Common.{◌≡◌, ℕ, zero, suc, ◌+◌, ◌<◌, ◌≤◌, ◌⊎◌, Bool, List, length, Option, Some, None, refl, sym, subst, subst₂, ◌∙◌, arith, inl, inr}
 use Rattle.std.proofs.lemmas.Bool.{cases_lt}
 use Rattle.si_base.specs.Codes.{CodedGraph, IsCoded}
 use Rattle.si_base.specs.Proper.{IsProper}
@@ -9,7 +9,7 @@ use Rattle.si_insert.specs.Accepted.{IsAccepted}
 use Rattle.si_conflicts.specs.Conflicts.{HasConflicts}
 use Rattle.si_conflicts.proofs.ConflictsExist.{some_count}
 use Rattle.si_conflicts.proofs.LeftCount.{some_left}
-use Rattle.si_candidates.specs.Blocks.{AreBlocks, AreDisjoint, IsCandidate, block_at}
+use Rattle.si_candidates.specs.Blocks.{AreBlocks, IsCandidate, block_at}
 use Rattle.si_candidates.specs.Parts.{AreClasses}
 use Rattle.si_candidates.proofs.Decisions.{disjoint_or_not}
 use Rattle.si_candidates.proofs.AcceptanceDecided.{accepted_classes_or_none}

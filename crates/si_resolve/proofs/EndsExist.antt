@@ -1,6 +1,5 @@
 -- Resolving has an end: at a graph without conflicts, or at one that no candidate betters.
-use Rattle.std.proofs.Common.{◌≡◌, ℕ, zero, suc, ◌+◌, ◌<◌, ◌⊎◌, List, [], ◌∷◌, length, codes, refl, sym, subst, arith, inl, inr}
-use Rattle.std.proofs.lemmas.Bool.{cases_eq}
+use Rattle.std.proofs.Common.{ℕ, zero, suc, ◌+◌, ◌<◌, ◌⊎◌, List, [], ◌∷◌, codes, refl, arith, inl, inr}
 use Rattle.si_base.specs.Codes.{CodedGraph, IsCoded}
 use Rattle.si_base.specs.Order.{IsFirst}
 use Rattle.si_base.specs.Proper.{IsConflict, IsProper, pair_place}
@@ -11,7 +10,7 @@ use Rattle.si_candidates.specs.Laws.{BlocksExist}
 use Rattle.si_insert.specs.declared.lineage.TraceStep.{TraceStep}
 use Rattle.si_insert.specs.Lineage.{Current}
 use Rattle.si_resolve.specs.Best.{Choice, Improves, NoneImproves, IsStuck}
-use Rattle.si_resolve.specs.Trace.{Resolves, IsResolving, ResolvesTo, EndsUnresolved}
+use Rattle.si_resolve.specs.Trace.{Resolves, ResolvesTo, EndsUnresolved}
 use Rattle.si_resolve.proofs.BestExists.{best_or_none}
 use Rattle.si_resolve.proofs.InsertionsExist.{some_fresh, some_next}
 use Rattle.si_resolve.proofs.OneBest.{none_improves_is_stuck}
