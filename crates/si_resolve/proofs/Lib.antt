@@ -3,3 +3,6 @@ pub mod OneBest
 pub mod Searching
 pub mod Traces
 pub mod Going
+pub mod BlockSizes
+pub mod StateCounts
+pub mod Trying

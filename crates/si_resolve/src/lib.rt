@@ -6,4 +6,3 @@ mod block_list;
 pub mod laws;
 pub mod resolve;
 mod search;
-mod stub;
