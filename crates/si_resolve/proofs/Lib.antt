@@ -6,3 +6,6 @@ pub mod InsertionsExist
 pub mod BestExists
 pub mod EndsExist
 pub mod Going
+pub mod BlockSizes
+pub mod StateCounts
+pub mod Trying

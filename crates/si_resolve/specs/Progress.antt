@@ -64,3 +64,15 @@ pub record LeavesBelow (c : CodedGraph) (plus minus : List Bool) (bar n : ℕ) :
 abbrev pub LeavesNoneBelow : CodedGraph → List Bool → List Bool → ℕ → Type 0
 LeavesNoneBelow c plus minus bar = (classes : List Class) (n : ℕ)
     → AreClasses c.graph plus minus classes → LeavesConflicts c classes n → bar ≤ n
+
+-- an accepted candidate at these places leaves no fewer
+abbrev pub NoneIsBelow : CodedGraph → List (List Bool) → ℕ → ℕ → ℕ → Type 0
+NoneIsBelow c blocks i j bar = (y : Choice) → IsChoice c blocks y → y.j ≡ j → y.i ≡ i
+    → bar ≤ y.conflicts
+
+-- the searches differ in nothing but the classes that the last candidate left in memory
+pub record HasSameRoom (s t : Search) : Type 0 where
+  pub given : t.given ≡ s.given
+  pub best : t.best ≡ s.best
+  pub chains : t.chains ≡ s.chains
+  pub room : length t.parting ≡ length s.parting

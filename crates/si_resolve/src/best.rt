@@ -46,8 +46,8 @@ fn accepted_of(
     requires found { IsFound graph.now list.now.blocks.items found.now }
     ensures { IfOk result (λ a. (x : Choice) × Improves graph.now x × (x.classes ≡ a)) }
 {
-    let plus = list.blocks[found.i].set();
-    let minus = list.blocks[found.j].set();
+    let plus = list.block(found.i).set();
+    let minus = list.block(found.j).set();
     let partition = match classes(alloc, graph, plus, minus) {
         Ok(partition) => partition,
         Err(ClassFault::NoMemory) => return Err(NoMemory),

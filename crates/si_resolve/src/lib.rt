@@ -7,4 +7,3 @@ pub mod ends;
 pub mod laws;
 pub mod resolve;
 mod search;
-mod stub;

@@ -1,20 +1,16 @@
 //! The search for the best candidate, candidate after candidate.
 
-ghost use Rattle.std.specs.Prelude.{◌≡◌, ℕ, ◌+◌, ◌<◌, ◌≤◌, ◌↔◌, Bool, List, IfOk, IfSome, IfNone, OnOk, IsTrue, length, count_by};
-ghost use Rattle.si_base.specs.Limits.{max_signals, max_states};
+ghost use Rattle.std.specs.Prelude.{◌≡◌, ℕ, ◌+◌, ◌<◌, ◌≤◌, ◌↔◌, Bool, false, List, IfOk, IfSome, IfNone, OnOk, IsTrue, length, count_by};
+ghost use Rattle.si_base.specs.Codes.{IsCoded};
 ghost use Rattle.si_base.specs.Sets.{IsIn};
-ghost use Rattle.si_insert.specs.declared.partition.Class.{Class};
 ghost use Rattle.si_candidates.specs.Blocks.{AreDisjoint, block_at};
-ghost use Rattle.si_candidates.specs.Parts.{AreClasses};
 ghost use Rattle.si_conflicts.specs.Chains.{AreChains};
 ghost use Rattle.si_conflicts.specs.Conflicts.{HasConflicts};
-ghost use Rattle.si_conflicts.specs.Left.{LeavesConflicts};
 ghost use Rattle.si_resolve.specs.Best.{NoneImproves};
 ghost use Rattle.si_resolve.specs.Usable.{IsUsable, AreSearched};
-ghost use Rattle.si_resolve.specs.Progress.{IsSearching, IsFound, MayBeAccepted, LeavesBelow, LeavesNoneBelow, bar_of};
+ghost use Rattle.si_resolve.specs.Progress.{IsSearching, IsFound, MayBeAccepted, LeavesBelow, LeavesNoneBelow, NoneIsBelow, HasSameRoom, bar_of};
 
 use crate::block_list::BlockList;
-use crate::stub::{is_apart, states};
 use si_base::ids::NoMemory;
 use si_candidates::block::Block;
 use si_candidates::parting::Parting;
@@ -51,7 +47,6 @@ pub(crate) fn find_best(
     list: &BlockList,
     conflicts: u64,
 ) -> Result<Option<Found>, NoMemory>
-    requires few { length graph.now.graph.signals < max_signals }
     requires list { AreSearched graph.now list.now }
     requires counted { HasConflicts graph.now conflicts }
     ensures none { IfOk result (λ o. IfNone o (NoneImproves graph.now)) }
@@ -88,7 +83,6 @@ impl Search {
         list: &BlockList,
         j: usize,
     ) -> Result<(), NoMemory>
-        requires few { length graph.now.graph.signals < max_signals }
         requires list { AreSearched graph.now list.now }
         requires within { j < length list.now.blocks.items }
         requires before { IsSearching graph.now list.now.blocks.items j 0 self.old }
@@ -96,7 +90,7 @@ impl Search {
         ensures after { OnOk result
             (IsSearching graph.now list.now.blocks.items (j + 1) 0 self.new) }
     {
-        if !list.usable[j] {
+        if !list.is_usable(j) {
             return Ok(());
         }
         for i in 0..j {
@@ -114,7 +108,6 @@ impl Search {
         i: usize,
         j: usize,
     ) -> Result<(), NoMemory>
-        requires few { length graph.now.graph.signals < max_signals }
         requires list { AreSearched graph.now list.now }
         requires order { i < j }
         requires within { j < length list.now.blocks.items }
@@ -124,24 +117,32 @@ impl Search {
         ensures after { OnOk result
             (IsSearching graph.now list.now.blocks.items j (i + 1) self.new) }
     {
-        let bar = self.bar();
-        let (plus, minus) = (&list.blocks[i], &list.blocks[j]);
-        if bar == 0 || !list.usable[i] || !may_be_accepted(graph, plus, minus) {
+        if !self.may_be_better(graph, list, i, j) {
             return Ok(());
         }
-        let left = left_below(
-            alloc,
-            graph,
-            plus,
-            minus,
-            &mut self.chains,
-            &mut self.parting,
-            bar,
-        )?;
+        let left = self.left_below(alloc, graph, list.block(i), list.block(j))?;
         if let Some(conflicts) = left {
             self.best = Some(Found { i, j, conflicts });
         }
         Ok(())
+    }
+
+    /// Whether, before anything is searched for it, the candidate of the two blocks may be accepted
+    /// and leave fewer conflicts than the best so far.
+    fn may_be_better(&self, graph: &Proper, list: &BlockList, i: usize, j: usize) -> bool
+        requires list { AreSearched graph.now list.now }
+        requires order { i < j }
+        requires within { j < length list.now.blocks.items }
+        ensures first { IsTrue result
+            → IsUsable graph.now.graph (block_at list.now.blocks.items i) }
+        ensures both { IsTrue result → MayBeAccepted graph.now.graph
+            (block_at list.now.blocks.items i) (block_at list.now.blocks.items j) }
+        ensures otherwise { result ≡ false
+            → NoneIsBelow graph.now list.now.blocks.items i j (bar_of self.now) }
+    {
+        self.bar() > 0
+            && list.is_usable(i)
+            && may_be_accepted(graph, list.block(i), list.block(j))
     }
 
     /// The number of conflicts that the next candidate has to get below.
@@ -153,6 +154,37 @@ impl Search {
             Some(found) => found.conflicts,
         }
     }
+
+    /// The number of conflicts that the candidate leaves, if it is below the bar.
+    fn left_below(
+        &mut self,
+        alloc: Global,
+        graph: &Proper,
+        plus: &Block,
+        minus: &Block,
+    ) -> Result<Option<u64>, NoMemory>
+        requires coded { IsCoded graph.now }
+        requires chains { AreChains graph.now self.old.chains }
+        requires room { length self.old.parting ≡ graph.now.graph.states }
+        requires plus_size { length plus.now ≡ graph.now.graph.states }
+        requires minus_size { length minus.now ≡ graph.now.graph.states }
+        requires some_plus { (s : ℕ) × IsIn plus.now s }
+        requires some_minus { (s : ℕ) × IsIn minus.now s }
+        requires disjoint { AreDisjoint plus.now minus.now }
+        ensures below { IfOk result
+            (λ o. IfSome o (LeavesBelow graph.now plus.now minus.now (bar_of self.old))) }
+        ensures none { IfOk result
+            (λ o. IfNone o (LeavesNoneBelow graph.now plus.now minus.now (bar_of self.old))) }
+        ensures same { HasSameRoom self.old self.new }
+    {
+        let bar = self.bar();
+        if !self.parting.part(graph, plus, minus)? {
+            return Ok(None);
+        }
+        let classes = self.parting.classes();
+        let left = self.chains.trial_below(alloc, graph, classes, bar)?;
+        Ok(left)
+    }
 }
 
 /// Whether the two blocks, in each of which a new signal may switch, share no state and leave room.
@@ -161,7 +193,7 @@ fn may_be_accepted(graph: &Proper, plus: &Block, minus: &Block) -> bool
     requires minus_size { length minus.now ≡ graph.now.graph.states }
     ensures { IsTrue result ↔ MayBeAccepted graph.now.graph plus.now minus.now }
 {
-    is_apart(plus, minus) && copies(graph, plus, minus) <= MAX_STATES
+    plus.is_apart(minus) && copies(graph, plus, minus) <= MAX_STATES
 }
 
 /// The number of states after the insertion where the new signal rises in the one block and falls
@@ -172,37 +204,6 @@ fn copies(graph: &Proper, plus: &Block, minus: &Block) -> u64
     ensures { result ≡ graph.now.graph.states + count_by (λ b. b) plus.now
         + count_by (λ b. b) minus.now }
 {
-    let given = graph.coded().graph().states();
-    given as u64 + states(plus).len() as u64 + states(minus).len() as u64
-}
-
-/// The number of conflicts that the candidate leaves, if it is below the bar.
-fn left_below(
-    alloc: Global,
-    graph: &Proper,
-    plus: &Block,
-    minus: &Block,
-    chains: &mut CodeChains,
-    parting: &mut Parting,
-    bar: u64,
-) -> Result<Option<u64>, NoMemory>
-    requires chains { AreChains graph.now chains.old }
-    requires room { length parting.old ≡ graph.now.graph.states }
-    requires plus_size { length plus.now ≡ graph.now.graph.states }
-    requires minus_size { length minus.now ≡ graph.now.graph.states }
-    requires some_plus { (s : ℕ) × IsIn plus.now s }
-    requires some_minus { (s : ℕ) × IsIn minus.now s }
-    requires disjoint { AreDisjoint plus.now minus.now }
-    ensures below { IfOk result
-        (λ o. IfSome o (LeavesBelow graph.now plus.now minus.now bar)) }
-    ensures none { IfOk result
-        (λ o. IfNone o (LeavesNoneBelow graph.now plus.now minus.now bar)) }
-    ensures chains { chains.new ≡ chains.old }
-    ensures room { length parting.new ≡ length parting.old }
-{
-    if !parting.part(graph, plus, minus)? {
-        return Ok(None);
-    }
-    let left = chains.trial_below(alloc, graph, parting.classes(), bar)?;
-    Ok(left)
+    let states = graph.coded().graph().states();
+    states as u64 + plus.states().len() as u64 + minus.states().len() as u64
 }
