@@ -1,5 +1,5 @@
 -- The number of conflicts that an insertion leaves.
-use Rattle.std.proofs.Common.{◌≡◌, ℕ, ◌+◌, List, [], map, refl, sym, ap, subst, ◌∙◌}
+use Rattle.std.proofs.Common.{◌≡◌, ℕ, ◌+◌, List, [], Option, Some, None, IfSome, IfNone, ◌≤◌, ◌<◌, map, arith, refl, sym, ap, ap₂, subst, ◌∙◌}
 use Rattle.si_base.specs.declared.graph.Signal.{Signal}
 use Rattle.si_base.specs.declared.graph.SigKind.TheVariants.{Inserted}
 use Rattle.si_base.specs.Graph.{StateGraph}
@@ -90,3 +90,62 @@ module _ (c : CodedGraph) (is : IsCoded c) (classes : List Class) (lawful : IsLa
       → LeavesConflicts c classes (pair_sum (told_apart classes) members + switching_count classes staying members)
   trial_count next members rings are = subst (λ n. LeavesConflicts c classes n)
       (copies_clash c is classes lawful.count own own_is staying stay next rings members are) leaves
+
+  pub trial_is : (next : List ℕ) (members : List Member) (told rest : ℕ) → AreRings c next → AreMembers c next members
+      → told ≡ pair_sum (told_apart classes) members
+      → ((staying : ℕ → ℕ) → AllStaying c.graph classes staying → rest ≡ switching_count classes staying members)
+      → LeavesConflicts c classes (told + rest)
+  trial_is next members told rest rings are told_is rest_is = subst (λ n. LeavesConflicts c classes n)
+      (sym (ap₂ (λ m n. m + n) told_is (rest_is staying (λ s within. stay s)))) (trial_count next members rings are)
+
+  -- the conflicts that are told apart are among them
+  pub at_least : (next : List ℕ) (members : List Member) (bar n : ℕ) → AreRings c next → AreMembers c next members
+      → bar ≤ pair_sum (told_apart classes) members → LeavesConflicts c classes n → bar ≤ n
+  at_least next members bar n rings are enough left_n =
+      let same = one_left n _ left_n (trial_count next members rings are) in
+      omega (arith, same)
+
+-- the same where the parts are known by equations
+pub trial_found : (c : CodedGraph) (classes : List Class) (next : List ℕ) (members : List Member)
+    (d : CodedGraph) (g : StateGraph) (given : List Class) (ms : List Member) (told rest : ℕ)
+    → d ≡ c → g ≡ d.graph → given ≡ classes → ms ≡ members → IsCoded d → IsLawful c.graph classes
+    → AreRings c next → AreMembers c next members
+    → told ≡ pair_sum (told_apart given) ms
+    → ((staying : ℕ → ℕ) → AllStaying g given staying → rest ≡ switching_count given staying ms)
+    → LeavesConflicts c classes (told + rest)
+trial_found c classes next members d g given ms told rest d_is g_is given_is ms_is coded lawful rings are told_is rest_is =
+    trial_is c (subst IsCoded d_is coded) classes lawful next members told rest rings are
+    (told_is ∙ ap₂ (λ xs ys. pair_sum (told_apart xs) ys) given_is ms_is)
+    (λ staying all. rest_is staying (there staying all)
+    ∙ ap₂ (λ xs ys. switching_count xs staying ys) given_is ms_is)
+  where
+    graph_is : g ≡ c.graph
+    graph_is = g_is ∙ ap (λ (x : CodedGraph). x.graph) d_is
+
+    there : (staying : ℕ → ℕ) → AllStaying c.graph classes staying → AllStaying g given staying
+    there staying all = subst (λ h. AllStaying h given staying) (sym graph_is)
+        (subst (λ xs. AllStaying c.graph xs staying) (sym given_is) all)
+
+pub none_below : (c : CodedGraph) (classes : List Class) (next : List ℕ) (members : List Member)
+    (d : CodedGraph) (ms : List Member) (bar : ℕ) → d ≡ c → ms ≡ members → IsCoded d → IsLawful c.graph classes
+    → AreRings c next → AreMembers c next members → bar ≤ pair_sum (told_apart classes) ms
+    → (n : ℕ) → LeavesConflicts c classes n → bar ≤ n
+none_below c classes next members d ms bar d_is ms_is coded lawful rings are enough n left_n =
+    at_least c (subst IsCoded d_is coded) classes lawful next members bar n rings are
+    (subst (λ xs. bar ≤ pair_sum (told_apart classes) xs) ms_is enough) left_n
+
+-- ---- the answer below a bar
+pub below_is : (c : CodedGraph) (classes : List Class) (n bar : ℕ) (o : Option ℕ) → LeavesConflicts c classes n
+    → IfSome o (λ m. (m ≡ n) × (n < bar)) → IfSome o (λ m. LeavesConflicts c classes m × (m < bar))
+below_is c classes n bar (Some m) left_n found =
+    let same = found.0 in
+    let few = found.1 in
+    (subst (λ k. LeavesConflicts c classes k) (sym same) left_n, omega arith)
+below_is c classes n bar None left_n found = found
+
+pub below_none : (c d : CodedGraph) → d ≡ c → IsCoded d → (classes : List Class) → IsLawful c.graph classes
+    → (n bar : ℕ) (o : Option ℕ) → LeavesConflicts c classes n → IfNone o (bar ≤ n)
+    → IfNone o ((m : ℕ) → LeavesConflicts c classes m → bar ≤ m)
+below_none c d d_is coded classes lawful n bar (Some m) left_n enough = enough
+below_none c d d_is coded classes lawful n bar None left_n enough = λ m left_m. (
+    let same = one_left c (subst IsCoded d_is coded) classes lawful m n left_m left_n in omega (arith, same, enough))

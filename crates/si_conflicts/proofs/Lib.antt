@@ -13,3 +13,5 @@ pub mod Meeting
 pub mod CopyCount
 pub mod LeftCount
 pub mod TallyLemmas
+pub mod StayLemmas
+pub mod RingLemmas

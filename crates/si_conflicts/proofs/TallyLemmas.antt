@@ -1,10 +1,11 @@
 -- Tallies of copies, and the pass over members that counts with them.
 use Rattle.std.proofs.Common.{◌≡◌, ◌≢◌, ℕ, zero, suc, ◌+◌, ◌*◌, ◌<◌, ◌≤◌, ◌==◌, ◌&&◌, ◌⊎◌, Bool, true, false, not, cond, List, [], ◌∷◌, ◌++◌, length, map, take, get_or, All, count_by, refl, sym, ap, ap₂, subst, ◌∙◌, arith, inl, inr, Less, Equal, eq-eqb, eqb-true, ne_eqb, nat_lt, lt-ltb, le-ltb}
 use Rattle.std.proofs.lemmas.Bool.{cases_Bool, cases_eq, cases_order, true≢false}
-use Rattle.std.proofs.lemmas.List.{take_more, length-map, length-take-le, map-append}
+use Rattle.std.proofs.lemmas.List.{take_more, get_or_default, length-map, length-take-le, map-append}
 use Rattle.std.proofs.lemmas.List.Elements.{All-weaker, All-more, All-map}
 use Rattle.std.proofs.lemmas.List.Sums.{count_by-le-length, sum_by-cons, sum_by-le-sum_by}
 use Rattle.std.specs.List.{sum_by}
+use Rattle.std.specs.List.Sorted.{IsSorted}
 use Rattle.std.specs.Ordering.{nat_cmp, is_lt}
 use Rattle.si_base.proofs.Sorted.{nat_same}
 use Rattle.si_insert.specs.declared.partition.Class.{Class}
@@ -151,6 +152,15 @@ module _ (from to : Key) (order : IsUpTo from to) (entries : List Entry) (all : 
     switching = is.switching ∙ ap (λ k. count_by (λ e. is_switching e.0 && (e.1.code == k)) entries) codes;
   }
 
+-- the tally of no copy is that of copies that count nothing
+pub no_tally : (key : Key) (entries : List Entry) (t : Tally) → IsTally key [] t
+    → IsTally key entries (record { plain = 0; equal = 0; switching = 0 }) → IsTally key entries t
+no_tally key entries t none is = record {
+  plain = none.plain ∙ is.plain;
+  equal = none.equal ∙ is.equal;
+  switching = none.switching ∙ is.switching;
+}
+
 pub tally_same : (from to : Key) (entries : List Entry) (t : Tally) → IsTally from entries t → from.code ≡ to.code
     → from.excited ≡ to.excited → IsTally to entries t
 tally_same from to entries t is codes excited =
@@ -187,34 +197,73 @@ module _ (classes : List Class) (ms : List Member) (i : ℕ) (m : Member) (insid
   taken : take (i + 1) ms ≡ take i ms ++ m ∷ []
   taken = take_more ms i m inside ∙ ap (λ x. take i ms ++ x ∷ []) (sym at)
 
-  pub pass_total : (total low high new : ℕ) → total ≡ pair_sum (told_apart classes) (take i ms)
-      → low ≡ count_by (λ e. are_apart e (entry_of classes false m)) (entries_to classes false ms i)
-      → high ≡ count_by (λ e. are_apart e (entry_of classes true m)) (entries_to classes true ms i)
-      → new ≡ total + (low + high) → new ≡ pair_sum (told_apart classes) (take (i + 1) ms)
-  pass_total total low high new old is_low is_high sum =
-      let more = ap (pair_sum (told_apart classes)) taken in
-      let push = pair_push (told_apart classes) (take i ms) m in
-      let two = sum_two (λ y. cond (are_apart (entry_of classes false y) (entry_of classes false m)) 1 0)
-      (λ y. cond (are_apart (entry_of classes true y) (entry_of classes true m)) 1 0) (take i ms) in
-      let lower = sum_map (entry_of classes false) (λ e. cond (are_apart e (entry_of classes false m)) 1 0) (take i ms) in
-      let higher = sum_map (entry_of classes true) (λ e. cond (are_apart e (entry_of classes true m)) 1 0) (take i ms) in
-      omega (arith, more, push, two, lower, higher, old, is_low, is_high, sum)
+  module _ (key : Key) (key_is : key ≡ m.key) where
+    entry_is : (b : Bool) (role : Role) → role ≡ role_at b (class_of classes m.state)
+        → entry_of classes b m ≡ (role, key)
+    entry_is b role is = sym (λ j. (is j, key_is j))
 
-  pub pass_tally : (b : Bool) (t : Tally)
-      → IsTally m.key (entries_to classes b ms i ++ entry_of classes b m ∷ []) t
-      → IsTally m.key (entries_to classes b ms (i + 1)) t
-  pass_tally b t is = subst (λ es. IsTally m.key es t) (sym all) is
-    where
-      all : entries_to classes b ms (i + 1) ≡ entries_to classes b ms i ++ entry_of classes b m ∷ []
-      all = ap (map (entry_of classes b)) taken ∙ map-append (entry_of classes b) (take i ms) (m ∷ [])
+    pub pass_total : (total low high new : ℕ) (at_low at_high : Role)
+        → at_low ≡ role_at false (class_of classes m.state) → at_high ≡ role_at true (class_of classes m.state)
+        → total ≡ pair_sum (told_apart classes) (take i ms)
+        → low ≡ count_by (λ e. are_apart e (at_low, key)) (entries_to classes false ms i)
+        → high ≡ count_by (λ e. are_apart e (at_high, key)) (entries_to classes true ms i)
+        → new ≡ total + (low + high) → new ≡ pair_sum (told_apart classes) (take (i + 1) ms)
+    pass_total total low high new at_low at_high low_is high_is old is_low is_high sum =
+        let more = ap (pair_sum (told_apart classes)) taken in
+        let push = pair_push (told_apart classes) (take i ms) m in
+        let two = sum_two (λ y. cond (are_apart (entry_of classes false y) (entry_of classes false m)) 1 0)
+        (λ y. cond (are_apart (entry_of classes true y) (entry_of classes true m)) 1 0) (take i ms) in
+        let lower = met false at_low low_is in
+        let higher = met true at_high high_is in
+        omega (arith, more, push, two, lower, higher, old, is_low, is_high, sum)
+      where
+        met : (b : Bool) (role : Role) → role ≡ role_at b (class_of classes m.state)
+            → count_by (λ e. are_apart e (role, key)) (entries_to classes b ms i)
+            ≡ sum_by (λ y. cond (are_apart (entry_of classes b y) (entry_of classes b m)) 1 0) (take i ms)
+        met b role is =
+            ap (λ (x : Entry). count_by (λ e. are_apart e x) (entries_to classes b ms i)) (sym (entry_is b role is))
+            ∙ sum_map (entry_of classes b) (λ e. cond (are_apart e (entry_of classes b m)) 1 0) (take i ms)
 
-  pub pass_order : (from : Key) → All (λ y. IsUpTo y.key from) (take i ms) → IsUpTo from m.key
-      → All (λ y. IsUpTo y.key m.key) (take (i + 1) ms)
-  pass_order from all order = All-more (λ y. IsUpTo y.key m.key) ms i m inside
-      (All-weaker (λ y. IsUpTo y.key from) (λ y. IsUpTo y.key m.key) (λ y up. up_to_later y.key from m.key up order)
-      (take i ms) all)
-      (subst (λ x. IsUpTo x.key m.key) at (inr (refl, omega arith)))
+    pub pass_tally : (b : Bool) (role : Role) (t : Tally) → role ≡ role_at b (class_of classes m.state)
+        → IsTally key (entries_to classes b ms i ++ (role, key) ∷ []) t
+        → IsTally key (entries_to classes b ms (i + 1)) t
+    pass_tally b role t role_is is = subst (λ es. IsTally key es t) (sym all) is
+      where
+        all : entries_to classes b ms (i + 1) ≡ entries_to classes b ms i ++ (role, key) ∷ []
+        all = ap (map (entry_of classes b)) taken ∙ map-append (entry_of classes b) (take i ms) (m ∷ [])
+            ∙ ap (λ e. entries_to classes b ms i ++ e ∷ []) (entry_is b role role_is)
+
+    pub pass_order : (from : Key) → All (λ y. IsUpTo y.key from) (take i ms) → IsUpTo from key
+        → All (λ y. IsUpTo y.key key) (take (i + 1) ms)
+    pass_order from all order = All-more (λ y. IsUpTo y.key key) ms i m inside
+        (All-weaker (λ y. IsUpTo y.key from) (λ y. IsUpTo y.key key) (λ y up. up_to_later y.key from key up order)
+        (take i ms) all)
+        (subst (λ x. IsUpTo x.key key) at (inr (ap (λ (k : Key). k.code) (sym key_is),
+        (let e = ap (λ (k : Key). k.excited) key_is in omega arith))))
+
+    -- the next member's key isn't before
+    pub pass_next : IsSorted member_cmp ms → (d : Member) → i + 1 < length ms → IsUpTo key (get_or ms (i + 1) d).key
+    pass_next sorted d within = subst (λ k. IsUpTo k (get_or ms (i + 1) d).key) (sym key_is)
+        (subst (λ x. IsUpTo x.key (get_or ms (i + 1) d).key) (sym here)
+        (up_to (get_or ms i d) (get_or ms (i + 1) d) (sorted i d (omega arith) within)))
+      where
+        here : m ≡ get_or ms i d
+        here = at ∙ get_or_default ms i m d inside
+
+    pub next_key : (from : Key) → ((d : Member) → i < length ms → IsUpTo from (get_or ms i d).key) → IsUpTo from key
+    next_key from next = subst (λ k. IsUpTo from k) (ap (λ (x : Member). x.key) (sym at) ∙ sym key_is) (next m inside)
 
 pub entries_up_to : (classes : List Class) (b : Bool) (ms : List Member) (key : Key)
     → All (λ y. IsUpTo y.key key) ms → AreUpTo (map (entry_of classes b) ms) key
 entries_up_to classes b ms key all = All-map (λ e. IsUpTo e.1 key) (entry_of classes b) ms all
+
+pub few_met : (q : Entry → Bool) (classes : List Class) (b : Bool) (ms : List Member) (i n : ℕ)
+    → n ≡ count_by q (entries_to classes b ms i) → i < length ms → n ≤ i
+few_met q classes b ms i n is inside =
+    let few = count_by-le-length q (entries_to classes b ms i) in
+    let size = entries_length classes b ms i inside in
+    omega arith
+
+-- no key is before the first
+pub first_key : (x : Key) → IsUpTo (record { code = 0; excited = 0 }) x
+first_key x = elim (cases_eq x.code 0) [ inl same ↦ inr (sym same, omega arith) | inr other ↦ inl (omega arith) ]

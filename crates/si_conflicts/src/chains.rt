@@ -71,11 +71,11 @@ impl CodeChains {
         ensures conflicts { IfOk result (LeavesConflicts graph.now accepted.now) }
         ensures chains { self.new ≡ self.old }
     {
-        let coded = graph.coded();
+        let given = graph.coded().graph();
         let classes = accepted.partition().classes();
         let members = self.members.as_slice();
         let told = told_apart(members, classes, u64::MAX);
-        let rest = count_switching(alloc, &mut self.scratch, coded, classes, members)?;
+        let rest = count_switching(alloc, &mut self.scratch, given, classes, members)?;
         Ok(told + rest)
     }
 
@@ -96,13 +96,13 @@ impl CodeChains {
             ((n : ℕ) → LeavesConflicts graph.now classes.now n → bar ≤ n)) }
         ensures chains { self.new ≡ self.old }
     {
-        let coded = graph.coded();
+        let given = graph.coded().graph();
         let members = self.members.as_slice();
         let told = told_apart(members, classes, bar);
         if told >= bar {
             return Ok(None);
         }
-        let rest = count_switching(alloc, &mut self.scratch, coded, classes, members)?;
+        let rest = count_switching(alloc, &mut self.scratch, given, classes, members)?;
         Ok(below(told + rest, bar))
     }
 }

@@ -1,7 +1,8 @@
 //! Copies of states of one code, counted at a value of the new signal.
 
 ghost use Rattle.std.specs.Prelude.{◌≡◌, ◌+◌, ◌<◌, ◌≤◌, ◌^◌, ℕ, List, [], ◌∷◌, ◌++◌, count_by, length};
-ghost use Rattle.si_conflicts.specs.Apart.{role_at, is_plain, is_switching, are_apart, Entry, IsTally, IsUpTo, AreUpTo};
+ghost use Rattle.si_conflicts.specs.Apart as Apart;
+ghost use Rattle.si_conflicts.specs.Apart.{role_at, are_apart, Entry, IsTally, IsUpTo, AreUpTo};
 
 use crate::keys::Key;
 use si_insert::partition::Class;
@@ -29,6 +30,13 @@ impl Role {
             (Class::High, false) => Role::Absent,
             _ => Role::Plain,
         }
+    }
+
+    /// Whether the new signal may switch.
+    pub fn is_switching(self) -> bool
+        ensures { result ≡ Apart.is_switching self }
+    {
+        matches!(self, Role::Switching)
     }
 }
 

@@ -15,7 +15,6 @@ use crate::members::Member;
 use crate::tally::{Role, Tally};
 use si_base::graph::Edge;
 use si_base::ids::{Code, NoMemory, StateId};
-use si_graph::coded::Coded;
 use si_graph::graph::Graph;
 use si_insert::partition::Class;
 use std::alloc::Global;
@@ -59,21 +58,21 @@ pub fn told_apart(members: &[Member], classes: &[Class], bar: u64) -> u64
 pub fn count_switching(
     alloc: Global,
     scratch: &mut Vec<Key>,
-    coded: &Coded,
+    graph: &Graph,
     classes: &[Class],
     members: &[Member],
 ) -> Result<u64, NoMemory>
     requires few { length members.now ≤ max_states }
-    requires within { All (λ m. m.state < coded.now.graph.states) members.now }
-    requires count { length classes.now ≡ coded.now.graph.states }
+    requires within { All (λ m. m.state < graph.now.states) members.now }
+    requires count { length classes.now ≡ graph.now.states }
     ensures count { IfOk result (λ n.
-        (staying : ℕ → ℕ) → AllStaying coded.now.graph classes.now staying
+        (staying : ℕ → ℕ) → AllStaying graph.now classes.now staying
         → n ≡ Apart.switching_count classes.now staying members.now) }
     ensures few { IfOk result (λ n. n ≤ 2 * max_states * max_states) }
 {
-    switching_keys(scratch, coded, classes, members, false)?;
+    switching_keys(scratch, graph, classes, members, false)?;
     let low = count_clashes(alloc, scratch.as_slice())?;
-    switching_keys(scratch, coded, classes, members, true)?;
+    switching_keys(scratch, graph, classes, members, true)?;
     let high = count_clashes(alloc, scratch.as_slice())?;
     Ok(low + high)
 }
@@ -81,24 +80,24 @@ pub fn count_switching(
 /// Replaces the keys by those of the copies, at the value, at which the new signal may switch.
 fn switching_keys(
     keys: &mut Vec<Key>,
-    coded: &Coded,
+    graph: &Graph,
     classes: &[Class],
     members: &[Member],
     value: bool,
 ) -> Result<(), NoMemory>
-    requires within { All (λ m. m.state < coded.now.graph.states) members.now }
-    requires count { length classes.now ≡ coded.now.graph.states }
+    requires within { All (λ m. m.state < graph.now.states) members.now }
+    requires count { length classes.now ≡ graph.now.states }
     ensures keys { OnOk result
-        ((staying : ℕ → ℕ) → AllStaying coded.now.graph classes.now staying
+        ((staying : ℕ → ℕ) → AllStaying graph.now classes.now staying
         → keys.new.items ≡ Apart.switching_keys classes.now staying value members.now) }
     ensures few { OnOk result (length keys.new.items ≤ length members.now) }
 {
     keys.clear();
     for m in members {
-        if Role::of(classes[m.state.0 as usize], value) == Role::Switching {
+        if Role::of(classes[m.state.0 as usize], value).is_switching() {
             keys.push(Key {
                 code: m.key.code,
-                excited: staying(coded.graph(), classes, m.state),
+                excited: staying(graph, classes, m.state),
             })?;
         }
     }
