@@ -6,3 +6,4 @@ pub mod Going
 pub mod BlockSizes
 pub mod StateCounts
 pub mod Trying
+pub mod Finding
