@@ -9,3 +9,4 @@ pub mod Going
 pub mod BlockSizes
 pub mod StateCounts
 pub mod Trying
+pub mod Finding

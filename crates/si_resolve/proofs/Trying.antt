@@ -223,8 +223,8 @@ at_blocks P plus x minus y one other is = subst (P x) other (subst (λ z. P z mi
 
 pub not_both : (g : StateGraph) (plus x minus y : List Bool) (b : Bool) → plus ≡ x → minus ≡ y
     → (IsTrue b ↔ MayBeAccepted g plus minus) → b ≡ false → MayBeAccepted g x y → ⊥
-not_both g plus x minus y b one other test no may =
-    true≢false (sym (test.1 (at_blocks (MayBeAccepted g) x plus y minus (sym one) (sym other) may)) ∙ no)
+not_both g plus x minus y b one other test refused may =
+    true≢false (sym (test.1 (at_blocks (MayBeAccepted g) x plus y minus (sym one) (sym other) may)) ∙ refused)
 
 pub block_size : (c : CodedGraph) (blocks : List (List Bool)) (k : ℕ) (block : List Bool) → AreBlocks c blocks
     → k < length blocks → block ≡ block_at blocks k → length block ≡ c.graph.states

@@ -19,10 +19,10 @@ pub returns-then-is_usable-clause-otherwise : goal.returns-then-is_usable-clause
 returns-then-is_usable-clause-otherwise c =
     let d = c.args.graph.now in
     let blocks = c.args.list.now.blocks.items in
-    λ no. none_by_both d blocks c.args.i c.args.j _ c.requires.list.are
+    λ refused. none_by_both d blocks c.args.i c.args.j _ c.requires.list.are
         (not_both d.graph c.block.result.now (block_at blocks c.args.i) c.block-then-is_usable.result.now
         (block_at blocks c.args.j) c.may_be_accepted.result c.block.ensures c.block-then-is_usable.ensures
-        c.may_be_accepted.ensures no)
+        c.may_be_accepted.ensures refused)
 
 pub returns-else-is_usable-clause-otherwise : goal.returns-else-is_usable-clause-otherwise
 returns-else-is_usable-clause-otherwise c =
@@ -30,9 +30,9 @@ returns-else-is_usable-clause-otherwise c =
     let list = c.args.list.now in
     let r = c.requires in
     let within : c.args.i < length list.blocks.items = omega (arith, r.order, r.within) in
-    λ no. elim c.if-bar-gt0.branch [
+    λ refused. elim c.if-bar-gt0.branch [
       | then-bar-gt0 w ↦ none_by_first d list.blocks.items c.args.i c.args.j _ r.list.coded r.list.proper
           (not_usable d.graph list.blocks.items list.usable.items c.args.i r.list.usable within
-          (sym w.is_usable.ensures ∙ (sym w.value-is ∙ no)))
+          (sym w.is_usable.ensures ∙ (sym w.value-is ∙ refused)))
       | else-bar-gt0 w ↦ none_by_zero d list.blocks.items c.args.i c.args.j _ (omega (arith, c.bar.ensures, w.if-bar-gt0.false))
     ]
