@@ -1,3 +1,4 @@
+pub mod Decisions
 pub mod PartLaws
 pub mod LawfulParts
 pub mod Separable
@@ -15,3 +16,5 @@ pub mod IntervalsExist
 pub mod BlockLists
 pub mod BlocksExist
 pub mod AddingLemmas
+pub mod ClassesExist
+pub mod AcceptanceDecided

@@ -4,6 +4,7 @@ ghost use Rattle.si_candidates.specs.Laws.{
   ClassesAreLawful,
   LawfulAreClasses,
   ClassesAreUnique,
+  ClassesOrTorn,
   TornHaveNone,
   InputsWaitByBlock,
   LossesByBlock,
@@ -11,13 +12,14 @@ ghost use Rattle.si_candidates.specs.Laws.{
   CopiesByBlocks,
 };
 
-/// Classes are determined: they are the lawful partitions, each pair of blocks has at most one, and
-/// none where some part is both High and Low.
+/// Classes are determined: they are the lawful partitions, and each pair of blocks has at most one.
+/// Disjoint blocks that aren't empty have none just where some part is both High and Low.
 pub fn candidates_are_determined()
     ensures lawful { ClassesAreLawful }
     ensures each_lawful { LawfulAreClasses }
     ensures unique { ClassesAreUnique }
     ensures torn { TornHaveNone }
+    ensures or_torn { ClassesOrTorn }
 {}
 
 /// Acceptance looks at each block alone.
