@@ -4,3 +4,6 @@ mod Separable
 mod CopyCount
 mod BlockStates
 mod Switching
+mod RaisingLemmas
+mod RaisingLoops
+mod Flooding

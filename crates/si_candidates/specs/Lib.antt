@@ -3,3 +3,4 @@ pub mod Blocks
 pub mod Parts
 pub mod Blocking
 pub mod Laws
+pub mod Raising

@@ -7,3 +7,4 @@ pub mod classes;
 pub mod interval;
 pub mod part_laws;
 pub mod parting;
+mod raising;
