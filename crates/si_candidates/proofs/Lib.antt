@@ -1,9 +1,16 @@
 pub mod PartLaws
 pub mod LawfulParts
-mod Separable
-mod CopyCount
+pub mod Separable
+pub mod CopyCount
 mod BlockStates
 mod Switching
 mod RaisingLemmas
 mod RaisingLoops
 mod Flooding
+pub mod SetTests
+pub mod MarkedSets
+pub mod IntervalLemmas
+pub mod IntervalsExist
+pub mod BlockLists
+pub mod BlocksExist
+pub mod AddingLemmas

@@ -5,6 +5,9 @@ pub mod block;
 pub mod blocks;
 pub mod classes;
 pub mod interval;
+pub mod laws;
 pub mod part_laws;
 pub mod parting;
 mod raising;
+#[cfg(test)]
+mod block_tests;
