@@ -1,23 +1,22 @@
 -- As many pairs of copies clash as the members of chains tell.
-use Rattle.std.proofs.Common.{◌≡◌, ◌≢◌, ℕ, zero, suc, ◌+◌, ◌<◌, ◌≤◌, ◌==◌, ◌&&◌, ◌⊎◌, Bool, true, false, not, cond, List, [], ◌∷◌, length, map, filter, get_or, All, Some, None, refl, sym, ap, ap₂, subst, ◌∙◌, arith, inl, inr, eqb-true, eq-eqb, ne_eqb}
+use Rattle.std.proofs.Common.{◌≡◌, ◌≢◌, ℕ, zero, suc, ◌+◌, ◌<◌, ◌≤◌, ◌==◌, ◌&&◌, Bool, true, false, not, cond, List, [], ◌∷◌, length, map, filter, get_or, refl, sym, ap, ap₂, subst, ◌∙◌, arith, inl, inr, eqb-true, ne_eqb}
 use Rattle.std.proofs.lemmas.Bool.{cases_Bool, cases_eq, cases_order, true≢false}
 use Rattle.std.proofs.lemmas.List.Sorted.{sum_by-IsPermutation}
 use Rattle.std.proofs.lemmas.List.Sums.{sum_by-cons}
 use Rattle.std.specs.List.{sum_by, range_with_len}
-use Rattle.std.specs.List.Sorted.{IsPermutation}
 use Rattle.si_base.specs.Bits.{bit}
 use Rattle.si_base.specs.Codes.{CodedGraph, IsCoded, code}
 use Rattle.si_base.proofs.Sorted.{In}
 use Rattle.si_insert.specs.declared.partition.Class.{Class}
 use Rattle.si_insert.specs.declared.partition.Class.TheVariants.{Low, Rising, High, Falling}
-use Rattle.si_insert.specs.Partition.{class_of, IsLawful}
+use Rattle.si_insert.specs.Partition.{class_of}
 use Rattle.si_insert.specs.Insertion.{Copy, has_copy, copy_code}
 use Rattle.si_insert.specs.Made.{copies_from, copies_of}
 use Rattle.si_insert.proofs.Copies.{copy}
 use Rattle.si_conflicts.specs.declared.keys.Key.{Key}
 use Rattle.si_conflicts.specs.declared.members.Member.{Member}
 use Rattle.si_conflicts.specs.declared.tally.Role.{Role}
-use Rattle.si_conflicts.specs.declared.tally.Role.TheVariants.{Absent, Plain, Switching}
+use Rattle.si_conflicts.specs.declared.tally.Role.TheVariants.{Absent}
 use Rattle.si_conflicts.specs.Keys.{IsKey, clashes, clash_count}
 use Rattle.si_conflicts.specs.Chains.{AreRings, AreMembers, IsNextInRing, has_equal, with_equals}
 use Rattle.si_conflicts.specs.Apart.{AreStaying, role_at, is_switching, are_apart, entry_of, told_apart, pair_sum, switching_keys, switching_count}

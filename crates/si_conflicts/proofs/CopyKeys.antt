@@ -1,5 +1,5 @@
 -- The keys of the states of an inserted graph, told by the graph alone.
-use Rattle.std.proofs.Common.{◌≡◌, ◌≢◌, ℕ, suc, ◌<◌, ◌≤◌, ◌↔◌, ◌⊎◌, Bool, true, false, not, List, [], ◌∷◌, ◌++◌, length, map, slice_get, Some, refl, sym, ap, subst, ◌∙◌, arith, inl, inr}
+use Rattle.std.proofs.Common.{◌≡◌, ◌≢◌, ℕ, ◌↔◌, ◌⊎◌, Bool, true, false, not, List, length, map, slice_get, Some, refl, sym, ap, subst, ◌∙◌, arith, inl, inr}
 use Rattle.std.proofs.lemmas.Bool.{cases_eq, cases_Bool, true≢false}
 use Rattle.std.proofs.lemmas.List.{length-map}
 use Rattle.std.proofs.lemmas.Option.{get_or_from_slice_get, slice_get-map}
@@ -8,15 +8,14 @@ use Rattle.si_base.specs.declared.ids.Event.{Event}
 use Rattle.si_base.specs.declared.graph.Signal.{Signal}
 use Rattle.si_base.specs.Bits.{bit, flip}
 use Rattle.si_base.specs.Graph.{StateGraph, Step, IsNonInput, enables}
-use Rattle.si_base.specs.Codes.{CodedGraph, IsCoded, code}
+use Rattle.si_base.specs.Codes.{CodedGraph, IsCoded}
 use Rattle.si_base.proofs.BitFacts.{flip-same, flip-other}
 use Rattle.si_base.proofs.StepFacts.{step_within}
 use Rattle.si_base.proofs.Steps.{enables-step, step_from_enables}
 use Rattle.si_insert.specs.declared.partition.Class.{Class}
 use Rattle.si_insert.specs.declared.partition.Class.TheVariants.{Low, Rising, High, Falling}
 use Rattle.si_insert.specs.Partition.{class_of, IsLawful}
-use Rattle.si_insert.specs.Insertion.{Copy, IsCopy, IsCopied, IsSwitch, Moves, has_copy, waits, switching, IsInsertedGraph, copy_code, coded}
-use Rattle.si_insert.specs.Accepted.{IsDriven}
+use Rattle.si_insert.specs.Insertion.{Copy, IsCopy, Moves, has_copy, waits, switching, IsInsertedGraph, copy_code, coded}
 use Rattle.si_insert.proofs.Classes.{stays_within, same_goes}
 use Rattle.si_insert.proofs.Copies.{copy, copy_at}
 use Rattle.si_insert.proofs.NewCodes.{values}
@@ -26,7 +25,7 @@ use Rattle.si_conflicts.specs.declared.keys.Key.{Key}
 use Rattle.si_conflicts.specs.declared.tally.Role.{Role}
 use Rattle.si_conflicts.specs.declared.tally.Role.TheVariants.{Absent, Plain, Switching}
 use Rattle.si_conflicts.specs.Keys.{Switches, AreExcited, IsKey, AreKeys, no_key}
-use Rattle.si_conflicts.specs.Apart.{Stays, AreStaying, AllStaying, role_at}
+use Rattle.si_conflicts.specs.Apart.{Stays, AreStaying, role_at}
 use Rattle.si_conflicts.proofs.KeyLemmas.{HaveValues}
 use Rattle.si_conflicts.proofs.Numbers.{driven_within}
 
@@ -150,12 +149,17 @@ module _ (c : CodedGraph) (is : IsCoded c) (classes : List Class) (lawful : IsLa
             → Goes z ⊎ ((z ≡ last) × (class ≡ switching (not x.value)))
         from y (inl copied) = elim (driven_before c.graph new z
             (subst (λ signals. IsNonInput signals z) inserted.signals s.non_input)) [
-          | inl non_input ↦ inl (non_input, s.up, y.state, copied.step,
-              subst (λ b. waits class (class_of classes y.state) b ≡ false) refl copied.goes)
-          | inr same ↦ absurd (
-              let below = step_within c.graph x.state (event z s.up) y.state is.graph_is copied.step in
-              let b = below.1 in omega arith)
-        ]
+              | inl non_input ↦ inl (
+                non_input,
+                s.up,
+                y.state,
+                copied.step,
+                subst (λ b. waits class (class_of classes y.state) b ≡ false) refl copied.goes,
+              )
+              | inr same ↦ absurd (
+                  let below = step_within c.graph x.state (event z s.up) y.state is.graph_is copied.step in
+                  let b = below.1 in omega arith)
+            ]
         from y (inr switch) = inr (
           switch.new,
           switch.class ∙ ap switching (other_way x.value s.up switch.from),
@@ -212,21 +216,21 @@ module _ (c : CodedGraph) (is : IsCoded c) (classes : List Class) (lawful : IsLa
       at_switching : AreExcited h k (flip (staying x.state) last)
       at_switching z = elim (cases_eq z last) as
           (λ w. (bit (flip (staying x.state) last) z ≡ true) ↔ Switches h k z) [
-        | inl same ↦ (
-          λ on. subst (λ y. Switches h k y) (sym same) switches_new,
-          λ s. ap (λ y. bit (flip (staying x.state) last) y) same ∙ flip-same (staying x.state) last
-              ∙ ap not (no_last x.state),
-        )
-        | inr other ↦ (
-          λ on. (
-              let s = (stay x.state z).0 (sym (flip-other (staying x.state) last z other) ∙ on) in
-              along z s.up s.to s.non_input s.step (same_class_goes s.to s.class)),
-          λ s. elim (switched z s) [
-            | inl goes ↦ flip-other (staying x.state) last z other ∙ (stay x.state z).1 (is_staying z goes)
-            | inr is_new ↦ absurd (other is_new.0)
-          ],
-        )
-      ]
+            | inl same ↦ (
+              λ on. subst (λ y. Switches h k y) (sym same) switches_new,
+              λ s. ap (λ y. bit (flip (staying x.state) last) y) same ∙ flip-same (staying x.state) last
+                  ∙ ap not (no_last x.state),
+            )
+            | inr other ↦ (
+              λ on. (
+                  let s = (stay x.state z).0 (sym (flip-other (staying x.state) last z other) ∙ on) in
+                  along z s.up s.to s.non_input s.step (same_class_goes s.to s.class)),
+              λ s. elim (switched z s) [
+                | inl goes ↦ flip-other (staying x.state) last z other ∙ (stay x.state z).1 (is_staying z goes)
+                | inr is_new ↦ absurd (other is_new.0)
+              ],
+            )
+          ]
 
     excited_are : AreExcited h k (excited_there (role_at x.value class) (own x.state).excited (staying x.state) last)
     excited_are = elim (role_cases x.value class x_is.there) [

@@ -1,7 +1,6 @@
 -- The number of conflicts that an insertion leaves.
 use Rattle.std.proofs.Common.{◌≡◌, ℕ, ◌+◌, List, [], Option, Some, None, IfSome, IfNone, ◌≤◌, ◌<◌, map, arith, refl, sym, ap, ap₂, subst, ◌∙◌}
 use Rattle.si_base.specs.declared.graph.Signal.{Signal}
-use Rattle.si_base.specs.declared.graph.SigKind.TheVariants.{Inserted}
 use Rattle.si_base.specs.Graph.{StateGraph}
 use Rattle.si_base.specs.Codes.{CodedGraph, IsCoded}
 use Rattle.si_insert.specs.declared.partition.Class.{Class}
@@ -17,7 +16,6 @@ use Rattle.si_conflicts.specs.Keys.{IsKey, clash_count}
 use Rattle.si_conflicts.specs.Chains.{AreRings, AreMembers}
 use Rattle.si_conflicts.specs.Apart.{AreStaying, AllStaying, told_apart, pair_sum, switching_count}
 use Rattle.si_conflicts.specs.Left.{LeavesConflicts}
-use Rattle.si_conflicts.proofs.ConflictsExist.{some_count}
 use Rattle.si_conflicts.proofs.Counted.{one_count}
 use Rattle.si_conflicts.proofs.CopyCount.{copies_clash}
 use Rattle.si_conflicts.proofs.CopyKeys.{copy_key, are_keys, have_values}

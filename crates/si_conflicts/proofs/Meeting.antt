@@ -1,11 +1,11 @@
 -- When two copies at one value are a conflict, by their roles, the keys of their states and what stays excited.
-use Rattle.std.proofs.Common.{◌≡◌, ◌≢◌, ℕ, ◌+◌, ◌<◌, ◌==◌, ◌&&◌, ◌↔◌, Bool, true, false, not, cond, length, refl, sym, ap, ap₂, subst, ◌∙◌, arith, inl, inr, eqb-true, eq-eqb, ne_eqb}
-use Rattle.std.proofs.lemmas.Bool.{cases_Bool, cases_eq, true≢false}
+use Rattle.std.proofs.Common.{◌≡◌, ◌≢◌, ℕ, ◌+◌, ◌<◌, ◌==◌, ◌&&◌, Bool, true, false, not, cond, length, refl, sym, ap, ap₂, subst, ◌∙◌, arith, inl, inr, eqb-true, eq-eqb, ne_eqb}
+use Rattle.std.proofs.lemmas.Bool.{cases_eq, true≢false}
 use Rattle.si_base.specs.Bits.{bit, flip}
 use Rattle.si_base.specs.Codes.{CodedGraph, IsCoded, code}
 use Rattle.si_base.proofs.BitFacts.{flip-same, flip-other, same_codes}
 use Rattle.si_base.proofs.StepFacts.{code_fits, no_bit}
-use Rattle.si_insert.specs.Insertion.{Copy, copy_code}
+use Rattle.si_insert.specs.Insertion.{copy_code}
 use Rattle.si_insert.proofs.Copies.{copy}
 use Rattle.si_insert.proofs.Places.{old_bit, new_bit}
 use Rattle.si_conflicts.specs.declared.keys.Key.{Key}

@@ -1,11 +1,11 @@
 -- A number for each decided set of bits, and so a key for each state.
-use Rattle.std.proofs.Common.{◌≡◌, ◌≢◌, ℕ, zero, suc, ◌<◌, ◌≤◌, ◌↔◌, ◌⊎◌, Bool, true, false, not, List, length, Contains, refl, sym, ap, subst, ◌∙◌, arith, inl, inr}
+use Rattle.std.proofs.Common.{◌≡◌, ℕ, zero, suc, ◌<◌, ◌↔◌, Bool, true, false, not, List, length, Contains, refl, sym, ap, subst, ◌∙◌, arith, inl, inr}
 use Rattle.std.proofs.lemmas.Bool.{cases_eq, cases_Bool, true≢false}
 use Rattle.std.proofs.lemmas.Option.{slice_get_within}
 use Rattle.si_base.specs.declared.ids.Event.{Event}
 use Rattle.si_base.specs.declared.graph.Edge.{Edge}
 use Rattle.si_base.specs.Bits.{bit, flip}
-use Rattle.si_base.specs.Graph.{StateGraph, Step, IsNonInput, arc, enables}
+use Rattle.si_base.specs.Graph.{StateGraph, IsNonInput, arc, enables}
 use Rattle.si_base.specs.Codes.{CodedGraph, code}
 use Rattle.si_base.proofs.BitFacts.{flip-same, flip-other, same_codes}
 use Rattle.si_base.proofs.StepFacts.{no_bit}
@@ -15,8 +15,8 @@ use Rattle.si_insert.specs.declared.partition.Class.{Class}
 use Rattle.si_insert.specs.declared.partition.Class.TheVariants.{Low, Rising, High, Falling}
 use Rattle.si_insert.specs.Partition.{class_of}
 use Rattle.si_conflicts.specs.declared.keys.Key.{Key}
-use Rattle.si_conflicts.specs.Keys.{Switches, AreExcited, IsKey}
-use Rattle.si_conflicts.specs.Apart.{Stays, AreStaying, AllStaying}
+use Rattle.si_conflicts.specs.Keys.{Switches, IsKey}
+use Rattle.si_conflicts.specs.Apart.{Stays, AreStaying}
 
 -- the bits of the number are the places where P holds
 abbrev pub AreBits : (ℕ → Type 0) → ℕ → Type 0

@@ -1,9 +1,9 @@
 -- Tallies of copies, and the pass over members that counts with them.
-use Rattle.std.proofs.Common.{◌≡◌, ◌≢◌, ℕ, zero, suc, ◌+◌, ◌*◌, ◌<◌, ◌≤◌, ◌==◌, ◌&&◌, ◌⊎◌, Bool, true, false, not, cond, List, [], ◌∷◌, ◌++◌, length, map, take, get_or, All, count_by, refl, sym, ap, ap₂, subst, ◌∙◌, arith, inl, inr, Less, Equal, eq-eqb, eqb-true, ne_eqb, nat_lt, lt-ltb, le-ltb}
-use Rattle.std.proofs.lemmas.Bool.{cases_Bool, cases_eq, cases_order, true≢false}
+use Rattle.std.proofs.Common.{◌≡◌, ◌≢◌, ℕ, ◌+◌, ◌<◌, ◌≤◌, ◌==◌, ◌&&◌, Bool, true, false, not, cond, List, [], ◌∷◌, ◌++◌, length, map, take, get_or, All, count_by, refl, sym, ap, subst, ◌∙◌, arith, inl, inr, Less, ne_eqb, lt-ltb}
+use Rattle.std.proofs.lemmas.Bool.{cases_eq, cases_order, true≢false}
 use Rattle.std.proofs.lemmas.List.{take_more, get_or_default, length-map, length-take-le, map-append}
 use Rattle.std.proofs.lemmas.List.Elements.{All-weaker, All-more, All-map}
-use Rattle.std.proofs.lemmas.List.Sums.{count_by-le-length, sum_by-cons, sum_by-le-sum_by}
+use Rattle.std.proofs.lemmas.List.Sums.{count_by-le-length, sum_by-le-sum_by}
 use Rattle.std.specs.List.{sum_by}
 use Rattle.std.specs.List.Sorted.{IsSorted}
 use Rattle.std.specs.Ordering.{nat_cmp, is_lt}
@@ -15,7 +15,6 @@ use Rattle.si_conflicts.specs.declared.members.Member.{Member}
 use Rattle.si_conflicts.specs.declared.tally.Role.{Role}
 use Rattle.si_conflicts.specs.declared.tally.Role.TheVariants.{Absent, Plain, Switching}
 use Rattle.si_conflicts.specs.declared.tally.Tally.{Tally}
-use Rattle.si_conflicts.specs.Keys.{clashes}
 use Rattle.si_conflicts.specs.Chains.{member_cmp}
 use Rattle.si_conflicts.specs.Apart.{role_at, is_plain, is_switching, Entry, are_apart, entry_of, told_apart, pair_sum, IsUpTo, AreUpTo, equal_keys, IsTally}
 use Rattle.si_conflicts.proofs.PairSums.{all_in, same_sum, sum_none, sum_two, sum_map, pair_push}
@@ -178,8 +177,10 @@ up_to x y sorted = elim (cases_order x.key.code y.key.code) [
   | inl same ↦ elim (cases_order x.key.excited y.key.excited) [
     | inl equal ↦ inr (same, omega arith)
     | inr (inl before) ↦ inr (same, omega arith)
-    | inr (inr after) ↦ absurd (true≢false (rw (ap (λ k. nat_cmp y.key.code k) same ∙ nat_same y.key.code,
-        less_code y.key.excited x.key.excited after) at sorted))
+    | inr (inr after) ↦ absurd (true≢false (rw (
+      ap (λ k. nat_cmp y.key.code k) same ∙ nat_same y.key.code,
+      less_code y.key.excited x.key.excited after,
+    ) at sorted))
   ]
 ]
 
@@ -193,65 +194,67 @@ entries_length classes b ms i inside =
     length-map (take i ms) (entry_of classes b) ∙ length-take-le i ms (omega arith)
 
 module _ (classes : List Class) (ms : List Member) (i : ℕ) (m : Member) (inside : i < length ms) (at : m ≡ get_or ms i m)
-    where
-  taken : take (i + 1) ms ≡ take i ms ++ m ∷ []
-  taken = take_more ms i m inside ∙ ap (λ x. take i ms ++ x ∷ []) (sym at)
+  where
+    taken : take (i + 1) ms ≡ take i ms ++ m ∷ []
+    taken = take_more ms i m inside ∙ ap (λ x. take i ms ++ x ∷ []) (sym at)
 
-  module _ (key : Key) (key_is : key ≡ m.key) where
-    entry_is : (b : Bool) (role : Role) → role ≡ role_at b (class_of classes m.state)
-        → entry_of classes b m ≡ (role, key)
-    entry_is b role is = sym (λ j. (is j, key_is j))
+    module _ (key : Key) (key_is : key ≡ m.key) where
+      entry_is : (b : Bool) (role : Role) → role ≡ role_at b (class_of classes m.state)
+          → entry_of classes b m ≡ (role, key)
+      entry_is b role is = sym (λ j. (is j, key_is j))
 
-    pub pass_total : (total low high new : ℕ) (at_low at_high : Role)
-        → at_low ≡ role_at false (class_of classes m.state) → at_high ≡ role_at true (class_of classes m.state)
-        → total ≡ pair_sum (told_apart classes) (take i ms)
-        → low ≡ count_by (λ e. are_apart e (at_low, key)) (entries_to classes false ms i)
-        → high ≡ count_by (λ e. are_apart e (at_high, key)) (entries_to classes true ms i)
-        → new ≡ total + (low + high) → new ≡ pair_sum (told_apart classes) (take (i + 1) ms)
-    pass_total total low high new at_low at_high low_is high_is old is_low is_high sum =
-        let more = ap (pair_sum (told_apart classes)) taken in
-        let push = pair_push (told_apart classes) (take i ms) m in
-        let two = sum_two (λ y. cond (are_apart (entry_of classes false y) (entry_of classes false m)) 1 0)
-        (λ y. cond (are_apart (entry_of classes true y) (entry_of classes true m)) 1 0) (take i ms) in
-        let lower = met false at_low low_is in
-        let higher = met true at_high high_is in
-        omega (arith, more, push, two, lower, higher, old, is_low, is_high, sum)
-      where
-        met : (b : Bool) (role : Role) → role ≡ role_at b (class_of classes m.state)
-            → count_by (λ e. are_apart e (role, key)) (entries_to classes b ms i)
-            ≡ sum_by (λ y. cond (are_apart (entry_of classes b y) (entry_of classes b m)) 1 0) (take i ms)
-        met b role is =
-            ap (λ (x : Entry). count_by (λ e. are_apart e x) (entries_to classes b ms i)) (sym (entry_is b role is))
-            ∙ sum_map (entry_of classes b) (λ e. cond (are_apart e (entry_of classes b m)) 1 0) (take i ms)
+      pub pass_total : (total low high new : ℕ) (at_low at_high : Role)
+          → at_low ≡ role_at false (class_of classes m.state) → at_high ≡ role_at true (class_of classes m.state)
+          → total ≡ pair_sum (told_apart classes) (take i ms)
+          → low ≡ count_by (λ e. are_apart e (at_low, key)) (entries_to classes false ms i)
+          → high ≡ count_by (λ e. are_apart e (at_high, key)) (entries_to classes true ms i)
+          → new ≡ total + (low + high) → new ≡ pair_sum (told_apart classes) (take (i + 1) ms)
+      pass_total total low high new at_low at_high low_is high_is old is_low is_high sum =
+          let more = ap (pair_sum (told_apart classes)) taken in
+          let push = pair_push (told_apart classes) (take i ms) m in
+          let two = sum_two (λ y. cond (are_apart (entry_of classes false y) (entry_of classes false m)) 1 0)
+          (λ y. cond (are_apart (entry_of classes true y) (entry_of classes true m)) 1 0) (take i ms) in
+          let lower = met false at_low low_is in
+          let higher = met true at_high high_is in
+          omega (arith, more, push, two, lower, higher, old, is_low, is_high, sum)
+        where
+          met : (b : Bool) (role : Role) → role ≡ role_at b (class_of classes m.state)
+              → count_by (λ e. are_apart e (role, key)) (entries_to classes b ms i)
+              ≡ sum_by (λ y. cond (are_apart (entry_of classes b y) (entry_of classes b m)) 1 0) (take i ms)
+          met b role is =
+              ap (λ (x : Entry). count_by (λ e. are_apart e x) (entries_to classes b ms i)) (sym (entry_is b role is))
+              ∙ sum_map (entry_of classes b) (λ e. cond (are_apart e (entry_of classes b m)) 1 0) (take i ms)
 
-    pub pass_tally : (b : Bool) (role : Role) (t : Tally) → role ≡ role_at b (class_of classes m.state)
-        → IsTally key (entries_to classes b ms i ++ (role, key) ∷ []) t
-        → IsTally key (entries_to classes b ms (i + 1)) t
-    pass_tally b role t role_is is = subst (λ es. IsTally key es t) (sym all) is
-      where
-        all : entries_to classes b ms (i + 1) ≡ entries_to classes b ms i ++ (role, key) ∷ []
-        all = ap (map (entry_of classes b)) taken ∙ map-append (entry_of classes b) (take i ms) (m ∷ [])
-            ∙ ap (λ e. entries_to classes b ms i ++ e ∷ []) (entry_is b role role_is)
+      pub pass_tally : (b : Bool) (role : Role) (t : Tally) → role ≡ role_at b (class_of classes m.state)
+          → IsTally key (entries_to classes b ms i ++ (role, key) ∷ []) t
+          → IsTally key (entries_to classes b ms (i + 1)) t
+      pass_tally b role t role_is is = subst (λ es. IsTally key es t) (sym all) is
+        where
+          all : entries_to classes b ms (i + 1) ≡ entries_to classes b ms i ++ (role, key) ∷ []
+          all = ap (map (entry_of classes b)) taken ∙ map-append (entry_of classes b) (take i ms) (m ∷ [])
+              ∙ ap (λ e. entries_to classes b ms i ++ e ∷ []) (entry_is b role role_is)
 
-    pub pass_order : (from : Key) → All (λ y. IsUpTo y.key from) (take i ms) → IsUpTo from key
-        → All (λ y. IsUpTo y.key key) (take (i + 1) ms)
-    pass_order from all order = All-more (λ y. IsUpTo y.key key) ms i m inside
-        (All-weaker (λ y. IsUpTo y.key from) (λ y. IsUpTo y.key key) (λ y up. up_to_later y.key from key up order)
-        (take i ms) all)
-        (subst (λ x. IsUpTo x.key key) at (inr (ap (λ (k : Key). k.code) (sym key_is),
-        (let e = ap (λ (k : Key). k.excited) key_is in omega arith))))
+      pub pass_order : (from : Key) → All (λ y. IsUpTo y.key from) (take i ms) → IsUpTo from key
+          → All (λ y. IsUpTo y.key key) (take (i + 1) ms)
+      pass_order from all order = All-more (λ y. IsUpTo y.key key) ms i m inside
+          (All-weaker (λ y. IsUpTo y.key from) (λ y. IsUpTo y.key key) (λ y up. up_to_later y.key from key up order)
+          (take i ms) all)
+          (subst (λ x. IsUpTo x.key key) at (inr (
+            ap (λ (k : Key). k.code) (sym key_is),
+            (let e = ap (λ (k : Key). k.excited) key_is in omega arith),
+          )))
 
-    -- the next member's key isn't before
-    pub pass_next : IsSorted member_cmp ms → (d : Member) → i + 1 < length ms → IsUpTo key (get_or ms (i + 1) d).key
-    pass_next sorted d within = subst (λ k. IsUpTo k (get_or ms (i + 1) d).key) (sym key_is)
-        (subst (λ x. IsUpTo x.key (get_or ms (i + 1) d).key) (sym here)
-        (up_to (get_or ms i d) (get_or ms (i + 1) d) (sorted i d (omega arith) within)))
-      where
-        here : m ≡ get_or ms i d
-        here = at ∙ get_or_default ms i m d inside
+      -- the next member's key isn't before
+      pub pass_next : IsSorted member_cmp ms → (d : Member) → i + 1 < length ms → IsUpTo key (get_or ms (i + 1) d).key
+      pass_next sorted d within = subst (λ k. IsUpTo k (get_or ms (i + 1) d).key) (sym key_is)
+          (subst (λ x. IsUpTo x.key (get_or ms (i + 1) d).key) (sym here)
+          (up_to (get_or ms i d) (get_or ms (i + 1) d) (sorted i d (omega arith) within)))
+        where
+          here : m ≡ get_or ms i d
+          here = at ∙ get_or_default ms i m d inside
 
-    pub next_key : (from : Key) → ((d : Member) → i < length ms → IsUpTo from (get_or ms i d).key) → IsUpTo from key
-    next_key from next = subst (λ k. IsUpTo from k) (ap (λ (x : Member). x.key) (sym at) ∙ sym key_is) (next m inside)
+      pub next_key : (from : Key) → ((d : Member) → i < length ms → IsUpTo from (get_or ms i d).key) → IsUpTo from key
+      next_key from next = subst (λ k. IsUpTo from k) (ap (λ (x : Member). x.key) (sym at) ∙ sym key_is) (next m inside)
 
 pub entries_up_to : (classes : List Class) (b : Bool) (ms : List Member) (key : Key)
     → All (λ y. IsUpTo y.key key) ms → AreUpTo (map (entry_of classes b) ms) key

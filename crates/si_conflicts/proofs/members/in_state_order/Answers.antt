@@ -1,4 +1,4 @@
-use Rattle.std.proofs.Common.{◌≡◌, ◌<◌, ◌==◌, ◌∙◌, not, arith, ap, sym, refl}
+use Rattle.std.proofs.Common.{◌<◌, ◌==◌, ◌∙◌, not, arith, ap, sym, refl}
 use Rattle.std.proofs.lemmas.List.{get_or_default}
 use Rattle.std.proofs.lemmas.List.Elements.{All-push}
 use Rattle.si_base.specs.Graph.{StateGraph}

@@ -1,4 +1,4 @@
-use Rattle.std.proofs.Common.{◌≡◌, ℕ, ◌<◌, ◌≤◌, All, map}
+use Rattle.std.proofs.Common.{◌≡◌, ◌<◌, ◌≤◌, All, map}
 use Rattle.si_conflicts.specs.Chains.{with_equals}
 use Rattle.si_conflicts.specs.Keys.{IsKey}
 use Rattle.si_conflicts.proofs.members.in_state_order.Given as goal

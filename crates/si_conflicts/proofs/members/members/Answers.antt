@@ -1,4 +1,4 @@
-use Rattle.std.proofs.Common.{◌≡◌, ◌<◌, ap, subst, sym, map}
+use Rattle.std.proofs.Common.{◌<◌, subst, map}
 use Rattle.std.proofs.lemmas.List.Sorted.{IsPermutation-map, All-permutation}
 use Rattle.std.specs.List.Sorted.{IsPermutation}
 use Rattle.si_conflicts.specs.declared.members.Member.{Member}

@@ -1,4 +1,4 @@
-use Rattle.std.proofs.Common.{◌≡◌, ◌<◌, ◌∙◌, arith, sym, subst, ap, false}
+use Rattle.std.proofs.Common.{◌∙◌, arith, sym}
 use Rattle.std.proofs.lemmas.Bool.{true≢false}
 use Rattle.si_base.proofs.StepFacts.{step_within}
 use Rattle.si_checks.proofs.OutLemmas.{out_item, out_source}

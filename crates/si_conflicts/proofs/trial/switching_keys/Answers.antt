@@ -1,4 +1,4 @@
-use Rattle.std.proofs.Common.{◌≡◌, ◌<◌, ◌+◌, ◌∙◌, ◌++◌, ◌∷◌, [], List, arith, ap, ap₂, sym, subst, true, false, take, length}
+use Rattle.std.proofs.Common.{◌<◌, ◌∙◌, ◌++◌, ◌∷◌, [], List, arith, ap, ap₂, sym, subst}
 use Rattle.std.proofs.lemmas.List.{length_push}
 use Rattle.si_insert.specs.Partition.{class_of}
 use Rattle.si_conflicts.specs.declared.keys.Key.{Key}

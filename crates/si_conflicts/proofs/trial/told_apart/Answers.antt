@@ -1,8 +1,5 @@
-use Rattle.std.proofs.Common.{◌≡◌, ◌<◌, ◌+◌, ◌∙◌, arith, ap, sym, inl, inr, refl, true, false, length, take, count_by}
-use Rattle.std.proofs.lemmas.List.{take_all}
-use Rattle.si_insert.specs.declared.partition.Class.{Class}
+use Rattle.std.proofs.Common.{◌+◌, ◌∙◌, arith, ap, refl, true, false, take}
 use Rattle.si_insert.specs.Partition.{class_of}
-use Rattle.si_conflicts.specs.declared.keys.Key.{Key}
 use Rattle.si_conflicts.specs.declared.members.Member.{Member}
 use Rattle.si_conflicts.specs.Apart as Apart
 use Rattle.si_conflicts.specs.Apart.{are_apart, role_at, IsTally, IsUpTo, pair_sum}
@@ -31,9 +28,12 @@ conflicts-requires c =
     let ms = c.args.members.now in
     let i = c.loop-m.m-index in
     let entries = entries_to classes false ms i in
-    let size = entries_length classes false ms i c.loop-m-test.true in
-    (entries, omega (arith, size, c.loop-m-test.true, c.requires.few), c.moved-low.ensures entries
-    (entries_up_to classes false (take i ms) c.loop-m.key c.loop-m.invariant.order) c.loop-m.invariant.low)
+    let size = entries_length classes false ms i c.loop-m-test.true in (
+      entries,
+      omega (arith, size, c.loop-m-test.true, c.requires.few),
+      c.moved-low.ensures entries
+          (entries_up_to classes false (take i ms) c.loop-m.key c.loop-m.invariant.order) c.loop-m.invariant.low,
+    )
 
 pub conflicts-requires-in-loop-m : goal.conflicts-requires-in-loop-m
 conflicts-requires-in-loop-m c =
@@ -41,9 +41,12 @@ conflicts-requires-in-loop-m c =
     let ms = c.args.members.now in
     let i = c.loop-m.m-index in
     let entries = entries_to classes true ms i in
-    let size = entries_length classes true ms i c.loop-m-test.true in
-    (entries, omega (arith, size, c.loop-m-test.true, c.requires.few), c.moved-high.ensures entries
-    (entries_up_to classes true (take i ms) c.loop-m.key c.loop-m.invariant.order) c.loop-m.invariant.high)
+    let size = entries_length classes true ms i c.loop-m-test.true in (
+      entries,
+      omega (arith, size, c.loop-m-test.true, c.requires.few),
+      c.moved-high.ensures entries
+          (entries_up_to classes true (take i ms) c.loop-m.key c.loop-m.invariant.order) c.loop-m.invariant.high,
+    )
 
 pub with-low-requires : goal.with-low-requires
 with-low-requires c =
@@ -51,9 +54,12 @@ with-low-requires c =
     let ms = c.args.members.now in
     let i = c.loop-m.m-index in
     let entries = entries_to classes false ms i in
-    let size = entries_length classes false ms i c.loop-m-test.true in
-    (entries, omega (arith, size, c.loop-m-test.true, c.requires.few), c.moved-low.ensures entries
-    (entries_up_to classes false (take i ms) c.loop-m.key c.loop-m.invariant.order) c.loop-m.invariant.low)
+    let size = entries_length classes false ms i c.loop-m-test.true in (
+      entries,
+      omega (arith, size, c.loop-m-test.true, c.requires.few),
+      c.moved-low.ensures entries
+          (entries_up_to classes false (take i ms) c.loop-m.key c.loop-m.invariant.order) c.loop-m.invariant.low,
+    )
 
 pub with-high-requires : goal.with-high-requires
 with-high-requires c =
@@ -61,9 +67,12 @@ with-high-requires c =
     let ms = c.args.members.now in
     let i = c.loop-m.m-index in
     let entries = entries_to classes true ms i in
-    let size = entries_length classes true ms i c.loop-m-test.true in
-    (entries, omega (arith, size, c.loop-m-test.true, c.requires.few), c.moved-high.ensures entries
-    (entries_up_to classes true (take i ms) c.loop-m.key c.loop-m.invariant.order) c.loop-m.invariant.high)
+    let size = entries_length classes true ms i c.loop-m-test.true in (
+      entries,
+      omega (arith, size, c.loop-m-test.true, c.requires.few),
+      c.moved-high.ensures entries
+          (entries_up_to classes true (take i ms) c.loop-m.key c.loop-m.invariant.order) c.loop-m.invariant.high,
+    )
 
 pub loop-m-preserved : goal.loop-m-preserved
 loop-m-preserved c =

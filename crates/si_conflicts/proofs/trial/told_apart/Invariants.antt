@@ -1,4 +1,4 @@
-use Rattle.std.proofs.Common.{◌≡◌, ℕ, true, false, ◌*◌, ◌<◌, ◌≤◌, All, length, take, get_or}
+use Rattle.std.proofs.Common.{◌≡◌, true, false, ◌*◌, ◌<◌, ◌≤◌, All, length, take, get_or}
 use Rattle.si_base.specs.Limits.{max_states}
 use Rattle.si_conflicts.specs.declared.members.Member.{Member}
 use Rattle.si_conflicts.specs.Apart as Apart

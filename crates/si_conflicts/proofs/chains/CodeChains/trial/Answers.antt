@@ -1,4 +1,4 @@
-use Rattle.std.proofs.Common.{◌≡◌, ◌<◌, ◌≤◌, ◌∙◌, List, length, arith, ap, subst, sym}
+use Rattle.std.proofs.Common.{◌∙◌, List, length, arith, ap}
 use Rattle.si_base.specs.Codes.{CodedGraph}
 use Rattle.si_conflicts.specs.declared.members.Member.{Member}
 use Rattle.si_conflicts.specs.Chains.{Chains}

@@ -1,8 +1,7 @@
-use Rattle.std.proofs.Common.{◌≡◌, ◌<◌, ◌≤◌, ◌+◌, ◌∙◌, ℕ, List, Option, Some, None, IfSome, IfNone, refl, length, arith, ap, subst, sym}
+use Rattle.std.proofs.Common.{◌+◌, ◌∙◌, List, refl, length, arith, ap}
 use Rattle.si_base.specs.Codes.{CodedGraph}
 use Rattle.si_conflicts.specs.declared.members.Member.{Member}
 use Rattle.si_conflicts.specs.Chains.{Chains}
-use Rattle.si_conflicts.specs.Left.{LeavesConflicts}
 use Rattle.si_conflicts.proofs.RingLemmas.{few_members}
 use Rattle.si_conflicts.proofs.LeftCount.{trial_found, none_below, below_is, below_none}
 use Rattle.si_conflicts.proofs.chains.CodeChains.trial_below.Goals as goal

@@ -1,6 +1,5 @@
 use Rattle.std.proofs.Common.{◌≡◌, ◌≢◌, ◌==◌, ◌∙◌, ℕ, Bool, true, false, not, refl, sym, eq-eqb, eqb-true, ap}
 use Rattle.std.proofs.lemmas.Bool.{true≢false}
-use Rattle.si_conflicts.specs.Apart.{IsTally}
 use Rattle.si_conflicts.proofs.TallyLemmas.{tally_of_code, tally_of_key, no_tally}
 use Rattle.si_conflicts.proofs.tally.Tally.moved.Goals as goal
 
