@@ -7,3 +7,4 @@ mod Switching
 mod RaisingLemmas
 mod RaisingLoops
 mod Flooding
+mod PartExamples
