@@ -21,7 +21,8 @@ high_only Falling h = absurd (true≢false (sym h))
 
 pub high_in : (classes : List Class) (s : ℕ) → IsIn (map is_high classes) s → class_of classes s ≡ High
 high_in classes s there =
-    let below : s < length classes = (let k = in_below (map is_high classes) s there in omega (arith, k, length-map classes is_high)) in
+    let below : s < length classes =
+    (let k = in_below (map is_high classes) s there in omega (arith, k, length-map classes is_high)) in
     high_only (class_of classes s) (sym (get_or-map is_high classes s Low false below) ∙ there)
 
 pub in_high : (classes : List Class) (s : ℕ) → class_of classes s ≡ High → IsIn (map is_high classes) s
@@ -37,7 +38,8 @@ between_in classes s below is = get_or-map is_between classes s Low false below 
 pub in_between : (classes : List Class) (s : ℕ) → IsIn (map is_between classes) s
     → (s < length classes) × (is_between (class_of classes s) ≡ true)
 in_between classes s there =
-    let below : s < length classes = (let k = in_below (map is_between classes) s there in omega (arith, k, length-map classes is_between)) in
+    let below : s < length classes =
+    (let k = in_below (map is_between classes) s there in omega (arith, k, length-map classes is_between)) in
     (below, sym (get_or-map is_between classes s Low false below) ∙ there)
 
 -- ---- what lowering keeps

@@ -54,7 +54,8 @@ module _ (g : StateGraph) (s : ℕ) (arcs : List Edge) (out : AreOut g s arcs) w
       → Raises (IsTargetBefore arcs n) A w D u → Raises (Leads g s) A w D u
   targets_all n A w D u all = raises_as (IsTargetBefore arcs n) (Leads g s) A w D u
       (λ t. (
-        (λ k. (let leads = target_leads k.0 (edge_at arcs k.0) k.2 (get_or_default arcs k.0 no_edge (edge_at arcs k.0) k.2) in
+        (λ k. (let leads = target_leads k.0 (edge_at arcs k.0) k.2
+            (get_or_default arcs k.0 no_edge (edge_at arcs k.0) k.2) in
             subst (λ (x : ℕ). Leads g s x) k.3 leads)),
         (λ leads. (let there = (out.exactly (arc s leads.0 t)).1 (leads.1, refl) in (
           there.0,

@@ -148,7 +148,8 @@ PassFrom g set s = (a : Edge) → Contains g.edges a → a.from ≡ s → MayPas
 
 pub all_pass : (g : StateGraph) (set : List Bool) (s : ℕ) (arcs : List Edge) → AreOut g s arcs
     → All (MayPass g (IsIn set)) arcs → PassFrom g set s
-all_pass g set s arcs out pass a there from = at_each (MayPass g (IsIn set)) arcs a pass ((out.exactly a).1 (there, from))
+all_pass g set s arcs out pass a there from =
+    at_each (MayPass g (IsIn set)) arcs a pass ((out.exactly a).1 (there, from))
 
 pub out_there : (g : StateGraph) (s : ℕ) (arcs : List Edge) → AreOut g s arcs → (n : ℕ) (a : Edge) → n < length arcs
     → a ≡ get_or arcs n a → Contains g.edges a × (a.from ≡ s)

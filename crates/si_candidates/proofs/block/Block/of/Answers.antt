@@ -11,7 +11,8 @@ loop-s-preserved c =
     elim c.if-has.branch [
       | then-has+in_ok-push w ↦
           rw (w.copy-is ∙ w.add.ensures, ap (λ v. v.items) w.states-is ∙ w.in_ok-push.ensures.items)
-          (seeded_more set c.loop-s.copy c.loop-s.states.items s (omega (arith, c.loop-s-test.true, c.size-s-end.ensures))
+          (seeded_more set c.loop-s.copy c.loop-s.states.items s
+          (omega (arith, c.loop-s-test.true, c.size-s-end.ensures))
           (sym c.has.ensures ∙ w.if-has.true) c.loop-s.invariant)
       | else-has w ↦
           rw (w.copy-is, ap (λ v. v.items) w.states-is)

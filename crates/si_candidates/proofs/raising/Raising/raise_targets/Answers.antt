@@ -5,7 +5,8 @@ use Rattle.si_candidates.proofs.raising.Raising.raise_targets.Goals as goal
 
 pub raise-requires : goal.raise-requires
 raise-requires c =
-    let size = same_size c.args.self.now.classes.items c.loop-arc.self.classes.items c.loop-arc.invariant.raised.stays in
+    let stays = c.loop-arc.invariant.raised.stays in
+    let size = same_size c.args.self.now.classes.items c.loop-arc.self.classes.items stays in
     target_in c.args.graph.now c.args.s c.arcs_out-arc-items.result.now c.arcs_out-arc-items.ensures
     c.loop-arc.arc-index c.arc-item.result _ c.loop-arc-test.true c.arc-item.is (size ∙ c.requires)
 
