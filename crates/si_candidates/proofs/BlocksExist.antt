@@ -80,8 +80,9 @@ from_push g from (s ∷ stops) stop [] set are is = absurd are
 from_push g from (s ∷ stops) stop (x ∷ sets) set (here, rest) is =
     (here, from_push g from stops stop sets set rest is)
 
-pub each_push : (g : StateGraph) (stops : List Event) (regions : List Region) (r : Region) (sets here : List (List Bool))
-    → AreIntervals g stops regions sets → AreIntervalsFrom g (marked g.states r.sr) stops here
+pub each_push : (g : StateGraph) (stops : List Event) (regions : List Region) (r : Region)
+    (sets here : List (List Bool)) → AreIntervals g stops regions sets
+    → AreIntervalsFrom g (marked g.states r.sr) stops here
     → AreIntervals g stops (regions ++ r ∷ []) (sets ++ here)
 each_push g stops [] r sets here are is = (here, [], ap (λ zs. zs ++ here) are ∙ sym (append-nil here), is, refl)
 each_push g stops (q ∷ regions) r sets here (first, rest, same, from, more) is = (

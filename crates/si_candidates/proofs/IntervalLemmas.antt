@@ -30,9 +30,6 @@ module _ (g : StateGraph) (stop : Event) where
       let longer = walk_push r.begin r.events s t r.walk next in
       record { begin = r.begin; there = r.there; events = longer.0; walk = longer.1 }
 
-  pub reached_first : (from : List Bool) (s : ℕ) → IsIn from s → IsReachedBefore g stop from s
-  reached_first from s there = record { begin = s; there = there; events = []; walk = refl }
-
   along_walk : (P : ℕ → Type 0) → ((s t : ℕ) → P s → LeadsWithout g stop s t → P t)
       → (s : ℕ) (es : List Event) (t : ℕ) → P s → WalkWithout g stop s es t → P t
   along_walk P closed s [] t here walk = subst P walk here

@@ -9,10 +9,6 @@ use Rattle.si_candidates.specs.Adding.{weight_from}
 use Rattle.si_candidates.specs.Blocks.{same_set}
 
 -- ---- the test
-pub same_set-refl : (xs : List Bool) → same_set xs xs ≡ true
-same_set-refl [] = refl
-same_set-refl (x ∷ xs) = rw (beq-refl x) (same_set-refl xs)
-
 pub same_set-true : (xs ys : List Bool) → same_set xs ys ≡ true → xs ≡ ys
 same_set-true [] [] h = refl
 same_set-true [] (y ∷ ys) h = absurd (true≢false (sym h))
