@@ -6,7 +6,7 @@ use Rattle.si_base.specs.Codes.{CodedGraph, IsCoded}
 use Rattle.si_conflicts.specs.Conflicts.{HasConflicts}
 use Rattle.si_candidates.specs.Blocks.{block_at}
 use Rattle.si_candidates.specs.Parts.{AreClasses}
-use Rattle.si_resolve.proofs.Cited.{one_blocks}
+use Rattle.si_candidates.proofs.BlocksExist.{one_blocks}
 use Rattle.si_candidates.proofs.PartLaws.{classes_unique}
 use Rattle.si_resolve.specs.Best.{Choice, IsChoice, choice_place, IsBest, NoneImproves}
 

@@ -12,13 +12,13 @@ use Rattle.si_insert.specs.declared.partition.Class.{Class}
 use Rattle.si_candidates.specs.Blocks.{AreBlocks, block_at}
 use Rattle.si_candidates.specs.Parts.{AreClasses}
 use Rattle.si_candidates.specs.Blocking.{MaySwitch}
-use Rattle.si_resolve.proofs.Cited.{one_blocks}
+use Rattle.si_candidates.proofs.BlocksExist.{one_blocks}
 use Rattle.si_candidates.proofs.PartLaws.{classes_unique}
-use Rattle.si_resolve.proofs.Cited.{accepted_by_blocks}
+use Rattle.si_candidates.proofs.Separable.{accepted_by_blocks}
 use Rattle.si_conflicts.specs.Left.{LeavesConflicts}
 use Rattle.si_resolve.specs.Best.{Choice, IsChoice, choice_place, Improves, NoneImproves}
 use Rattle.si_resolve.specs.Search.{IsEarlier, IsBestSoFar, bar}
-use Rattle.si_resolve.proofs.Cited.{one_left}
+use Rattle.si_conflicts.proofs.LeftCount.{one_left}
 
 -- ---- the order
 at_places : (a b x y : ℕ) → Before (a ∷ b ∷ []) (x ∷ y ∷ []) → (a < x) ⊎ ((a ≡ x) × (b < y))
@@ -73,7 +73,7 @@ one_number c blocks x y is a b same_j same_i =
     let classes : x.classes ≡ y.classes = classes_unique c.graph (block_at blocks x.i) (block_at blocks x.j) x.classes y.classes r.0 f.0 is.graph_is is.connected
     ((a.are.rising r.0 r.1).0 r.2) r.1 ((a.are.falling f.0 f.1).0 f.2) f.1 a.are are in
     let P : List Class → Type 0 = λ z. LeavesConflicts c z y.conflicts in
-    one_left c x.classes x.conflicts y.conflicts is a.accepted.lawful a.leaves (subst P (sym classes) b.leaves)
+    one_left c is x.classes a.accepted.lawful x.conflicts y.conflicts a.leaves (subst P (sym classes) b.leaves)
 
 -- ---- steps
 pub search_start : (c : CodedGraph) (blocks : List (List Bool)) (n : ℕ) → IsBestSoFar c blocks n 0 0 None

@@ -22,7 +22,7 @@ use Rattle.si_conflicts.specs.Left.{LeavesConflicts}
 use Rattle.si_resolve.specs.Best.{Choice, IsStuck}
 use Rattle.si_insert.specs.Fresh.{IsTaken, IsFresh}
 use Rattle.si_resolve.specs.Trace.{Resolves, IsResolving, ResolvesTo, EndsUnresolved}
-use Rattle.si_resolve.proofs.Cited.{one_left}
+use Rattle.si_conflicts.proofs.LeftCount.{one_left}
 use Rattle.si_resolve.proofs.OneBest.{neither, one_best}
 
 -- ---- names
@@ -73,7 +73,7 @@ count_next v p u is r =
       insertion = ins.insertion;
       counted = counted.1;
     } in
-    let same = one_left v.coded p.partition counted.0 r.choice.conflicts is ins.accepted.lawful here left in
+    let same = one_left v.coded is p.partition ins.accepted.lawful counted.0 r.choice.conflicts here left in
     let Q : Current → Type 0 = λ x. HasConflicts x.coded r.choice.conflicts in
     subst Q (sym ins.makes) (subst (HasConflicts (coded v.coded ins.copies ins.graph)) same counted.1)
 

@@ -21,7 +21,8 @@ use Rattle.si_resolve.specs.Best.{Choice, IsChoice, NoneImproves}
 use Rattle.si_resolve.specs.Search.{IsBestSoFar, IsEarlier, bar}
 use Rattle.si_resolve.specs.Usable.{IsUsable, AreUsable}
 use Rattle.si_resolve.specs.Progress.{told, told_best, IsSearching, IsFound, bar_by, bar_of, MayBeAccepted, LeavesBelow, LeavesNoneBelow, NoneIsBelow, HasSameRoom}
-use Rattle.si_resolve.proofs.Cited.{accepted_by_blocks, copies_by_blocks}
+use Rattle.si_candidates.proofs.Separable.{accepted_by_blocks}
+use Rattle.si_candidates.proofs.CopyCount.{copies_by_blocks}
 use Rattle.si_resolve.proofs.BlockSizes.{size_at}
 use Rattle.si_resolve.proofs.Searching.{search_start, search_skip, search_take, search_row, search_finds, search_finds_none, block_refuses}
 
