@@ -6,3 +6,5 @@ mod block_list;
 pub mod laws;
 pub mod resolve;
 mod search;
+#[cfg(test)]
+mod tests;
