@@ -1,5 +1,5 @@
 -- The states of a block: its list, and blocks that share none.
-use Rattle.std.proofs.Common.{◌≡◌, ℕ, ◌<◌, ◌+◌, ◌↔◌, Bool, true, false, List, length, get_or, All, Contains, nat_cmp, refl, sym, subst, ◌∙◌, arith, inl, inr}
+use Rattle.std.proofs.Common.{◌≡◌, ℕ, ◌<◌, ◌↔◌, Bool, false, List, length, get_or, All, Contains, nat_cmp, sym, subst, ◌∙◌, arith, inl, inr}
 use Rattle.std.proofs.lemmas.Bool.{cases_Bool, true≢false}
 use Rattle.std.proofs.lemmas.List.Elements.{Contains-get_or}
 use Rattle.std.proofs.lemmas.List.{get_or_default, same_lists}
@@ -20,7 +20,8 @@ for_each P xs each k d inside = each (get_or xs k d) (Contains-get_or xs k d ins
 -- sets with the same states are equal
 pub same_sets : (x y : List Bool) → length x ≡ length y → ((s : ℕ) → IsIn x s ↔ IsIn y s) → x ≡ y
 same_sets x y size same = same_lists x y size (λ k d inside.
-    get_or_default x k d false inside ∙ at k ∙ get_or_default y k false d ((let below : k < length y = omega (arith, size) in below)))
+    get_or_default x k d false inside ∙ at k ∙ get_or_default y k false d
+    ((let below : k < length y = omega (arith, size) in below)))
   where
     at : (k : ℕ) → get_or x k false ≡ get_or y k false
     at k = elim (cases_Bool (get_or x k false)) [

@@ -14,3 +14,4 @@ pub mod IntervalsExist
 pub mod BlockLists
 pub mod BlocksExist
 pub mod AddingLemmas
+mod PartExamples

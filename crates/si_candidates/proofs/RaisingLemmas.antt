@@ -1,22 +1,16 @@
 -- Classes that are raised: which states are High then, and that the blocks stay.
-use Rattle.std.proofs.Common.{◌≡◌, ◌≢◌, ℕ, suc, zero, ◌+◌, ◌<◌, ◌≤◌, ◌↔◌, ◌⊎◌, Bool, true, false, List, [], ◌∷◌, ◌++◌, length, get_or, set, map, Contains, Option, Some, None, refl, sym, ap, subst, ◌∙◌, arith, inl, inr, length-set}
-use Rattle.std.proofs.lemmas.Bool.{cases_Bool, cases_eq, cases_lt, cases_order, true≢false}
-use Rattle.std.proofs.lemmas.List.{map-set, get_or-map, length-map, get_or_default, get_or_past}
+use Rattle.std.proofs.Common.{◌≡◌, ◌≢◌, ℕ, suc, zero, ◌<◌, ◌↔◌, ◌⊎◌, Bool, true, false, List, [], ◌∷◌, ◌++◌, length, set, map, refl, sym, ap, subst, ◌∙◌, arith, inl, inr}
+use Rattle.std.proofs.lemmas.Bool.{cases_lt, true≢false}
+use Rattle.std.proofs.lemmas.List.{map-set, get_or-map, length-map, get_or_past}
 use Rattle.std.proofs.Math.Seq.{map-set_same}
-use Rattle.si_base.specs.declared.ids.Event.{Event}
-use Rattle.si_base.specs.declared.graph.Edge.{Edge}
-use Rattle.si_base.specs.Graph.{StateGraph, Step, IsGraph, arc}
+use Rattle.si_base.specs.Graph.{StateGraph}
 use Rattle.si_base.specs.Sets.{IsIn}
-use Rattle.si_base.proofs.StepFacts.{step_within}
-use Rattle.si_graph.specs.Arcs.{AreOut, edge_at, no_edge, IsFirstPlace, IsInto}
-use Rattle.si_graph.specs.Closure.{Leads}
-use Rattle.si_graph.specs.Reach.{Marks, MarksAll}
+use Rattle.si_graph.specs.Reach.{MarksAll}
 use Rattle.si_graph.proofs.MarkLemmas.{marks_same, marks_both, one_taken, one_left, in_below}
-use Rattle.si_graph.proofs.ClosureLemmas.{Stands, place_in_walk, none_between}
 use Rattle.si_insert.specs.declared.partition.Class.{Class}
 use Rattle.si_insert.specs.declared.partition.Class.TheVariants.{Low, Rising, High, Falling}
 use Rattle.si_insert.specs.Partition.{class_of}
-use Rattle.si_candidates.specs.Raising.{lowered, is_high, is_between, Raises, IsEnteredBy, LeadsInto, MeetsRising, MeetsFalling}
+use Rattle.si_candidates.specs.Raising.{lowered, is_high, is_between, Raises, MeetsFalling}
 
 -- ---- classes by their tests
 high_only : (c : Class) → is_high c ≡ true → c ≡ High
@@ -27,7 +21,8 @@ high_only Falling h = absurd (true≢false (sym h))
 
 pub high_in : (classes : List Class) (s : ℕ) → IsIn (map is_high classes) s → class_of classes s ≡ High
 high_in classes s there =
-    let below : s < length classes = (let k = in_below (map is_high classes) s there in omega (arith, k, length-map classes is_high)) in
+    let below : s < length classes =
+    (let k = in_below (map is_high classes) s there in omega (arith, k, length-map classes is_high)) in
     high_only (class_of classes s) (sym (get_or-map is_high classes s Low false below) ∙ there)
 
 pub in_high : (classes : List Class) (s : ℕ) → class_of classes s ≡ High → IsIn (map is_high classes) s
@@ -43,7 +38,8 @@ between_in classes s below is = get_or-map is_between classes s Low false below 
 pub in_between : (classes : List Class) (s : ℕ) → IsIn (map is_between classes) s
     → (s < length classes) × (is_between (class_of classes s) ≡ true)
 in_between classes s there =
-    let below : s < length classes = (let k = in_below (map is_between classes) s there in omega (arith, k, length-map classes is_between)) in
+    let below : s < length classes =
+    (let k = in_below (map is_between classes) s there in omega (arith, k, length-map classes is_between)) in
     (below, sym (get_or-map is_between classes s Low false below) ∙ there)
 
 -- ---- what lowering keeps
@@ -199,8 +195,8 @@ pub meets_after : (g : StateGraph) (old new : List Class) (s : ℕ) → map lowe
     → MeetsFalling g new s → MeetsFalling g old s
 meets_after g old new s stays (t, leads, falling) = (t, leads, (falling_stays old new stays t).0 falling)
 
--- only from High may an arc be torn
-pub not_torn : (is : Bool) (M : Type 0) (class : Class) → class ≢ High → (is ≡ false → (class ≡ High) × M)
+-- only a strict pass ends early
+pub not_torn : (is : Bool) (M : Type 0) (strict : Bool) → strict ≡ false → (is ≡ false → (strict ≡ true) × M)
     → is ≡ true
-not_torn true M class other torn = refl
-not_torn false M class other torn = absurd (other (torn refl).0)
+not_torn true M strict other torn = refl
+not_torn false M strict other torn = absurd (true≢false (sym (torn refl).0 ∙ other))

@@ -1,18 +1,18 @@
 -- The loops that raise states: along the arcs out of a state, along those into it, and from a list of states on.
-use Rattle.std.proofs.Common.{◌≡◌, ◌≢◌, ℕ, ◌+◌, ◌<◌, ◌≤◌, ◌↔◌, ◌⊎◌, Bool, true, false, List, [], length, get_or, Contains, Option, Some, None, IsTrue, refl, sym, ap, subst, ◌∙◌, arith, inl, inr}
-use Rattle.std.proofs.lemmas.Bool.{cases_eq, cases_order, true≢false}
+use Rattle.std.proofs.Common.{◌≡◌, ◌≢◌, ℕ, ◌+◌, ◌<◌, ◌≤◌, List, [], length, get_or, Contains, Option, Some, None, refl, sym, ap, subst, ◌∙◌, arith, inl, inr}
+use Rattle.std.proofs.lemmas.Bool.{cases_eq, cases_order}
 use Rattle.std.proofs.lemmas.List.{get_or_default}
 use Rattle.si_base.specs.declared.graph.Edge.{Edge}
-use Rattle.si_base.specs.Graph.{StateGraph, Step, IsGraph, arc}
+use Rattle.si_base.specs.Graph.{StateGraph, Step, arc}
 use Rattle.si_base.proofs.StepFacts.{step_within}
 use Rattle.si_graph.specs.Arcs.{AreOut, edge_at, no_edge, IsFirstPlace, IsInto}
 use Rattle.si_graph.specs.Closure.{Leads}
 use Rattle.si_graph.proofs.ClosureLemmas.{Stands, place_in_walk, none_between}
 use Rattle.si_insert.specs.declared.partition.Class.{Class}
-use Rattle.si_insert.specs.declared.partition.Class.TheVariants.{Low, Rising, High, Falling}
+use Rattle.si_insert.specs.declared.partition.Class.TheVariants.{Rising, Falling}
 use Rattle.si_insert.specs.Partition.{class_of}
-use Rattle.si_candidates.specs.Raising.{Raises, IsEnteredBy, LeadsInto, MeetsRising, MeetsFalling}
-use Rattle.si_candidates.proofs.RaisingLemmas.{raises_both, raises_as, raises_none, rising_stays, falling_stays}
+use Rattle.si_candidates.specs.Raising.{Raises, MeetsRising, MeetsFalling}
+use Rattle.si_candidates.proofs.RaisingLemmas.{raises_both, raises_as, raises_none}
 
 -- ---- the arcs out of a state
 -- one of the first n arcs leads to t
@@ -54,11 +54,15 @@ module _ (g : StateGraph) (s : ℕ) (arcs : List Edge) (out : AreOut g s arcs) w
       → Raises (IsTargetBefore arcs n) A w D u → Raises (Leads g s) A w D u
   targets_all n A w D u all = raises_as (IsTargetBefore arcs n) (Leads g s) A w D u
       (λ t. (
-        (λ k. (let leads = target_leads k.0 (edge_at arcs k.0) k.2 (get_or_default arcs k.0 no_edge (edge_at arcs k.0) k.2) in
+        (λ k. (let leads = target_leads k.0 (edge_at arcs k.0) k.2
+            (get_or_default arcs k.0 no_edge (edge_at arcs k.0) k.2) in
             subst (λ (x : ℕ). Leads g s x) k.3 leads)),
-        (λ leads. (let there = (out.exactly (arc s leads.0 t)).1 (leads.1, refl) in
-            (there.0, (let k = there.1 in omega arith), there.1,
-            ap (λ (x : Edge). x.to) (get_or_default arcs there.0 no_edge (arc s leads.0 t) there.1 ∙ there.2)))),
+        (λ leads. (let there = (out.exactly (arc s leads.0 t)).1 (leads.1, refl) in (
+          there.0,
+          (let k = there.1 in omega arith),
+          there.1,
+          ap (λ (x : Edge). x.to) (get_or_default arcs there.0 no_edge (arc s leads.0 t) there.1 ∙ there.2),
+        ))),
       ))
 
   pub none_more : (n : ℕ) (a : Edge) (A : List Class) → n < length arcs → a ≡ get_or arcs n a
@@ -90,9 +94,11 @@ NoneFalls g s classes n = (j : ℕ) → j < n → j < length g.edges → IsInto 
 module _ (g : StateGraph) (s : ℕ) where
   pub source_leads : (k : ℕ) → k < length g.edges → IsInto g.edges s k → Leads g (edge_at g.edges k).from s
   source_leads k inside into =
-      let a : Edge = edge_at g.edges k in
-      (a.event, subst (λ (x : ℕ). Step g a.from a.event x) into
-      (k, inside, get_or_default g.edges k a no_edge inside))
+      let a : Edge = edge_at g.edges k in (
+        a.event,
+        subst (λ (x : ℕ). Step g a.from a.event x) into
+            (k, inside, get_or_default g.edges k a no_edge inside),
+      )
 
   pub sources_none : (at : Option ℕ) (A : List Class) (w : List ℕ)
       → IsFirstPlace (IsInto g.edges s) 0 (length g.edges) at

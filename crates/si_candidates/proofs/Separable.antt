@@ -41,7 +41,8 @@ pub waits_at : (s t : Class) (b : Bool) → waits s t b ≡ true → (s ≡ wait
 waits_at s t b h = (
   waits_switching s t b h,
   λ same. (let from = waits_switching s t b h in
-      let e : waits s t b ≡ false = subst (λ c. waits c t b ≡ false) (sym from) (subst (λ d. waits (waiting b) d b ≡ false) (sym same) (same_goes (waiting b) b)) in
+      let e : waits s t b ≡ false = subst (λ c. waits c t b ≡ false) (sym from)
+      (subst (λ d. waits (waiting b) d b ≡ false) (sym same) (same_goes (waiting b) b)) in
       true≢false (sym h ∙ e)),
 )
 
@@ -60,32 +61,46 @@ goes_elsewhere s t b other = elim (either (waits s t b)) [
 ]
 
 pub goes_within : (s t : Class) (b : Bool) → s ≡ waiting b → t ≡ waiting b → waits s t b ≡ false
-goes_within s t b from to = subst (λ c. waits c t b ≡ false) (sym from) (subst (λ d. waits (waiting b) d b ≡ false) (sym to) (same_goes (waiting b) b))
+goes_within s t b from to =
+    subst (λ c. waits c t b ≡ false) (sym from)
+    (subst (λ d. waits (waiting b) d b ≡ false) (sym to) (same_goes (waiting b) b))
 
 entry_of : (b : Bool) → entry (waiting b) ≡ b
 entry_of true = refl
 entry_of false = refl
 
 -- an arc into that class stands at the value, and doesn't wait
-pub there : (s u : Class) (b : Bool) → may_lead s u ≡ true → u ≡ waiting b → (has_copy s b ≡ true) × (waits s u b ≡ false)
+pub there : (s u : Class) (b : Bool) → may_lead s u ≡ true → u ≡ waiting b
+    → (has_copy s b ≡ true) × (waits s u b ≡ false)
 there s u b lawful into =
     let e : entry u ≡ b = ap entry into ∙ entry_of b in
     (subst (λ v. has_copy s v ≡ true) e (leaves s u lawful), subst (λ v. waits s u v ≡ false) e (enters s u lawful))
 
 -- ---- inputs
-closed_at : (g : StateGraph) (classes : List Class) (b : Bool) → ((d : Delay) → InputWaits g classes d → ⊥) → IsClosedUnderInputs g (Waiting classes b)
+closed_at : (g : StateGraph) (classes : List Class) (b : Bool) → ((d : Delay) → InputWaits g classes d → ⊥)
+    → IsClosedUnderInputs g (Waiting classes b)
 closed_at g classes b none s e t input step from = elim (is_or_not (class_of classes t) b) [
   | inl h ↦ h
-  | inr other ↦ absurd (none (record { s = s; e = e }) (record { input = input; to = t; step = step; value = b; late = waits_if (class_of classes s) (class_of classes t) b from other }))
+  | inr other ↦ absurd (none (record { s = s; e = e })
+      (record {
+        input = input;
+        to = t;
+        step = step;
+        value = b;
+        late = waits_if (class_of classes s)
+            (class_of classes t) b from other;
+      }))
 ]
 
-none_waits : (g : StateGraph) (classes : List Class) → ((b : Bool) → IsClosedUnderInputs g (Waiting classes b)) → (d : Delay) → InputWaits g classes d → ⊥
+none_waits : (g : StateGraph) (classes : List Class) → ((b : Bool) → IsClosedUnderInputs g (Waiting classes b))
+    → (d : Delay) → InputWaits g classes d → ⊥
 none_waits g classes closed d w =
     let h = waits_at (class_of classes d.s) (class_of classes w.to) w.value w.late in
     h.1 (closed w.value d.s d.e w.to w.input w.step h.0)
 
 -- ---- losses
-exits_at : (g : StateGraph) (classes : List Class) (b : Bool) → IsLawful g classes → ((l : Loss) → WaitsAfter g classes l → ⊥) → KeepsExits g (Waiting classes b)
+exits_at : (g : StateGraph) (classes : List Class) (b : Bool) → IsLawful g classes
+    → ((l : Loss) → WaitsAfter g classes l → ⊥) → KeepsExits g (Waiting classes b)
 exits_at g classes b lawful none s lost by t u w d in_u out_w = elim (is_or_not (class_of classes s) b) [
   | inl in_s ↦ (
     in_s,
@@ -114,11 +129,18 @@ exits_at g classes b lawful none s lost by t u w d in_u out_w = elim (is_or_not 
       late = waits_if (class_of classes u) (class_of classes w) b in_u out_w;
     })
 
-none_lost : (g : StateGraph) (classes : List Class) → ((b : Bool) → KeepsExits g (Waiting classes b)) → (l : Loss) → WaitsAfter g classes l → ⊥
+none_lost : (g : StateGraph) (classes : List Class) → ((b : Bool) → KeepsExits g (Waiting classes b)) → (l : Loss)
+    → WaitsAfter g classes l → ⊥
 none_lost g classes keeps l w =
     let b = w.value in
     let h = waits_at (class_of classes w.u) (class_of classes w.w) b w.late in
-    let d : Diamond g l.s l.lost l.by w.t w.u w.w = record { non_input = w.non_input; apart = w.apart; first = w.first; other = w.other; next = w.next } in
+    let d : Diamond g l.s l.lost l.by w.t w.u w.w = record {
+      non_input = w.non_input;
+      apart = w.apart;
+      first = w.first;
+      other = w.other;
+      next = w.next;
+    } in
     let k = keeps b l.s l.lost l.by w.t w.u w.w d h.0 h.1 in
     true≢false (sym (waits_if (class_of classes l.s) (class_of classes w.t) b k.0 k.1) ∙ w.first_goes)
 
@@ -126,22 +148,29 @@ at_each : (P : Bool → Type 0) → P false → P true → (b : Bool) → P b
 at_each P low high true = high
 at_each P low high false = low
 
-pub inputs_by_block : (g : StateGraph) (classes : List Class) → ((d : Delay) → InputWaits g classes d → ⊥) ↔ (IsClosedUnderInputs g (λ s. class_of classes s ≡ Rising) × IsClosedUnderInputs g (λ s. class_of classes s ≡ Falling))
+pub inputs_by_block : (g : StateGraph) (classes : List Class)
+    → ((d : Delay) → InputWaits g classes d → ⊥) ↔
+    (IsClosedUnderInputs g (λ s. class_of classes s ≡ Rising) × IsClosedUnderInputs g
+    (λ s. class_of classes s ≡ Falling))
 inputs_by_block g classes = (
   (λ none. (closed_at g classes false none, closed_at g classes true none)),
   (λ both. none_waits g classes (at_each (λ b. IsClosedUnderInputs g (Waiting classes b)) both.0 both.1)),
 )
 
-pub losses_by_block : (g : StateGraph) (classes : List Class) → IsLawful g classes → ((b : Loss) → WaitsAfter g classes b → ⊥) ↔ (KeepsExits g (λ s. class_of classes s ≡ Rising) × KeepsExits g (λ s. class_of classes s ≡ Falling))
+pub losses_by_block : (g : StateGraph) (classes : List Class) → IsLawful g classes
+    → ((b : Loss) → WaitsAfter g classes b → ⊥) ↔
+    (KeepsExits g (λ s. class_of classes s ≡ Rising) × KeepsExits g (λ s. class_of classes s ≡ Falling))
 losses_by_block g classes lawful = (
   (λ none. (exits_at g classes false lawful none, exits_at g classes true lawful none)),
   (λ both. none_lost g classes (at_each (λ b. KeepsExits g (Waiting classes b)) both.0 both.1)),
 )
 
 -- ---- of the blocks themselves
-pub may_switch_same : (g : StateGraph) (P Q : ℕ → Type 0) → IsGraph g → ((s : ℕ) → s < g.states → P s ↔ Q s) → MaySwitch g P → MaySwitch g Q
+pub may_switch_same : (g : StateGraph) (P Q : ℕ → Type 0) → IsGraph g → ((s : ℕ) → s < g.states → P s ↔ Q s)
+    → MaySwitch g P → MaySwitch g Q
 may_switch_same g P Q graph same m = record {
-  inputs = λ s e t input step at. (let in' = step_within g s e t graph step in (same t in'.2).0 (m.inputs s e t input step ((same s in'.0).1 at)));
+  inputs = λ s e t input step at.
+      (let in' = step_within g s e t graph step in (same t in'.2).0 (m.inputs s e t input step ((same s in'.0).1 at)));
   exits = λ s lost by t u w d at out. (
       let one = step_within g s lost t graph d.first in
       let two = step_within g u lost w graph d.next in
@@ -152,8 +181,10 @@ may_switch_same g P Q graph same m = record {
 flip : (P Q : ℕ → Type 0) (n : ℕ) → ((s : ℕ) → s < n → P s ↔ Q s) → (s : ℕ) → s < n → Q s ↔ P s
 flip P Q n same s h = ((same s h).1, (same s h).0)
 
-pub accepted_by_blocks : (c : CodedGraph) (plus minus : List Bool) (classes : List Class) → IsCoded c → IsProper c.graph → IsLawful c.graph classes → AreClasses c.graph plus minus classes
-    → IsAccepted c.graph classes ↔ (MaySwitch c.graph (IsIn plus) × MaySwitch c.graph (IsIn minus) × (copy_count classes ≤ max_states) × (length c.graph.signals < max_signals))
+pub accepted_by_blocks : (c : CodedGraph) (plus minus : List Bool) (classes : List Class) → IsCoded c
+    → IsProper c.graph → IsLawful c.graph classes → AreClasses c.graph plus minus classes
+    → IsAccepted c.graph classes ↔ (MaySwitch c.graph (IsIn plus) × MaySwitch c.graph (IsIn minus) ×
+    (copy_count classes ≤ max_states) × (length c.graph.signals < max_signals))
 accepted_by_blocks c plus minus classes is proper lawful a =
     let g = c.graph in
     let tests = accepts_at_tests c classes is proper lawful in

@@ -1,5 +1,5 @@
 -- Whether a new signal may switch in a set of states, arc by arc.
-use Rattle.std.proofs.Common.{◌≡◌, ◌≢◌, ℕ, ◌+◌, ◌<◌, ◌↔◌, ◌⊎◌, Bool, true, false, not, List, length, get_or, slice_get, All, Contains, Option, Some, None, IsTrue, refl, sym, ap, subst, ◌∙◌, arith, inl, inr}
+use Rattle.std.proofs.Common.{◌≡◌, ◌≢◌, ℕ, ◌+◌, ◌<◌, ◌⊎◌, Bool, true, false, List, length, get_or, slice_get, All, Contains, Option, Some, refl, sym, ap, subst, ◌∙◌, arith, inl, inr}
 use Rattle.std.proofs.lemmas.Bool.{cases_Bool, cases_order, true≢false}
 use Rattle.std.proofs.lemmas.List.{get_or_default}
 use Rattle.std.proofs.lemmas.Option.{slice_get_cases}
@@ -13,11 +13,11 @@ use Rattle.si_base.specs.Codes.{IsDeterministic}
 use Rattle.si_base.specs.Sets.{IsIn}
 use Rattle.si_base.proofs.StepFacts.{step_within}
 use Rattle.si_graph.specs.Arcs.{AreOut, edge_at, no_edge, IsFirstPlace, IsInto}
-use Rattle.si_graph.proofs.ClosureLemmas.{Stands, place_in_walk, none_between}
+use Rattle.si_graph.proofs.ClosureLemmas.{place_in_walk, none_between}
 use Rattle.si_base.proofs.Steps.{same_event-refl}
 use Rattle.si_regions.specs.Regions.{IsSetOf}
 use Rattle.si_insert.specs.Accepted.{IsInput}
-use Rattle.si_candidates.specs.Blocking.{Diamond, MaySwitch, MayPass, MayLeave, KeepsExit}
+use Rattle.si_candidates.specs.Blocking.{MaySwitch, MayPass, MayLeave, KeepsExit}
 use Rattle.si_candidates.proofs.BlockStates.{at_each}
 
 -- ---- kinds of signals
@@ -148,7 +148,8 @@ PassFrom g set s = (a : Edge) → Contains g.edges a → a.from ≡ s → MayPas
 
 pub all_pass : (g : StateGraph) (set : List Bool) (s : ℕ) (arcs : List Edge) → AreOut g s arcs
     → All (MayPass g (IsIn set)) arcs → PassFrom g set s
-all_pass g set s arcs out pass a there from = at_each (MayPass g (IsIn set)) arcs a pass ((out.exactly a).1 (there, from))
+all_pass g set s arcs out pass a there from =
+    at_each (MayPass g (IsIn set)) arcs a pass ((out.exactly a).1 (there, from))
 
 pub out_there : (g : StateGraph) (s : ℕ) (arcs : List Edge) → AreOut g s arcs → (n : ℕ) (a : Edge) → n < length arcs
     → a ≡ get_or arcs n a → Contains g.edges a × (a.from ≡ s)

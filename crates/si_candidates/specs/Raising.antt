@@ -1,5 +1,5 @@
 -- How the parts of a candidate become High: from the blocks on, state after state.
-use Rattle.std.specs.Prelude.{◌≡◌, ℕ, ◌<◌, ◌↔◌, Bool, true, false, List, length, map, Contains}
+use Rattle.std.specs.Prelude.{◌≡◌, ℕ, ◌↔◌, Bool, true, false, List, length, map, Contains}
 use Rattle.si_base.specs.Graph.{StateGraph}
 use Rattle.si_base.specs.Sets.{IsIn}
 use Rattle.si_graph.specs.Closure.{Leads}
@@ -7,6 +7,7 @@ use Rattle.si_graph.specs.Reach.{MarksAll}
 use Rattle.si_insert.specs.declared.partition.Class.{Class}
 use Rattle.si_insert.specs.declared.partition.Class.TheVariants.{Low, Rising, High, Falling}
 use Rattle.si_insert.specs.Partition.{class_of}
+use Rattle.si_candidates.specs.Parts.{IsHigh}
 
 -- the class before anything was raised
 abbrev pub lowered : Class → Class
@@ -33,6 +34,16 @@ pub record AreBegun (plus minus : List Bool) (classes : List Class) : Type 0 whe
   pub rising : (s : ℕ) → (class_of classes s ≡ Rising) ↔ IsIn plus s
   pub falling : (s : ℕ) → (class_of classes s ≡ Falling) ↔ IsIn minus s
   pub none_high : (s : ℕ) → class_of classes s ≡ High → ⊥
+
+-- all states of High parts are High then, torn parts too
+pub record AreRaised (g : StateGraph) (plus minus : List Bool) (classes : List Class) : Type 0 where
+  pub size : length classes ≡ g.states
+  pub rising : (s : ℕ) → (class_of classes s ≡ Rising) ↔ IsIn plus s
+  pub falling : (s : ℕ) → (class_of classes s ≡ Falling) ↔ IsIn minus s
+  pub high : (s : ℕ) → (class_of classes s ≡ High) ↔ IsHigh g plus minus s
+
+abbrev pub IsHighInBoth : List Class → List Class → ℕ → Type 0
+IsHighInBoth one other s = (class_of one s ≡ High) × (class_of other s ≡ High)
 
 -- the states with Q in neither block are High after it, those that were Low are queued, and nothing
 -- else changes

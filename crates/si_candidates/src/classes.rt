@@ -1,15 +1,19 @@
 //! The classes of a candidate.
 
-ghost use Rattle.std.specs.Prelude.{◌≡◌, ℕ, IfOk, IfErr, length};
+ghost use Rattle.std.specs.Prelude.{◌≡◌, ℕ, ◌↔◌, ◌∷◌, [], IfOk, IfErr, IsTrue, MatchOption, length};
+ghost use Rattle.si_base.specs.Order.{IsFirst};
 ghost use Rattle.si_base.specs.Sets.{IsIn};
 ghost use Rattle.si_insert.specs.Partition.{IsLawful};
 ghost use Rattle.si_candidates.specs.Blocks.{AreDisjoint};
 ghost use Rattle.si_candidates.specs.Parts.{AreClasses, ShowsNoClasses};
+ghost use Rattle.si_candidates.specs.Raising.{IsHighInBoth};
 
+use crate::block::Block;
+use crate::raising::Raising;
 use si_base::ids::{NoMemory, StateId};
 use si_base::sets::StateSet;
 use si_checks::proper::Proper;
-use si_insert::partition::Partition;
+use si_insert::partition::{Class, Partition};
 use std::alloc::Global;
 
 /// Why two blocks have no classes.
@@ -49,9 +53,37 @@ pub fn classes(
     ensures lawful { IfOk result (IsLawful graph.now.graph) }
     ensures fault { IfErr result (ShowsNoClasses graph.now.graph plus.now minus.now) }
 {
-    let _ = alloc;
-    let _ = graph;
-    let _ = plus;
-    let _ = minus;
-    Err(ClassFault::NoMemory)
+    let g = graph.coded().graph();
+    let rising = Block::of(alloc, plus)?;
+    let falling = Block::of(alloc, minus)?;
+    let mut high = Raising::new(alloc, g.states())?;
+    high.raise_all(g, &rising, &falling)?;
+    let mut low = Raising::new(alloc, g.states())?;
+    low.raise_all(g, &falling, &rising)?;
+    if let Some(s) = first_high_in_both(g.states(), high.classes(), low.classes()) {
+        return Err(ClassFault::NoClasses { s });
+    }
+    Ok(Partition::known(graph, high.into_classes()))
+}
+
+/// The first of so many states that is High in both lists.
+fn first_high_in_both(states: u32, one: &[Class], other: &[Class]) -> Option<StateId>
+    requires one_size { length one.now ≡ states }
+    requires other_size { length other.now ≡ states }
+    ensures { MatchOption result ((s : ℕ) → IsHighInBoth one.now other.now s → ⊥)
+        (IsFirst (λ s. s ∷ []) (IsHighInBoth one.now other.now)) }
+{
+    for s in 0..states {
+        if are_high(one[s as usize], other[s as usize]) {
+            return Some(StateId(s));
+        }
+    }
+    None
+}
+
+/// Whether both classes are High.
+fn are_high(one: Class, other: Class) -> bool
+    ensures { IsTrue result ↔ ((one ≡ Class.High) × (other ≡ Class.High)) }
+{
+    one == Class::High && other == Class::High
 }

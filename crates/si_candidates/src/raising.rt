@@ -7,7 +7,7 @@ ghost use Rattle.si_regions.specs.Connected.{Adjoins};
 ghost use Rattle.si_insert.specs.Partition.{class_of};
 ghost use Rattle.si_candidates.specs.Blocks.{AreDisjoint};
 ghost use Rattle.si_candidates.specs.Parts.{AreClasses, IsTorn};
-ghost use Rattle.si_candidates.specs.Raising.{AreBegun, IsEnteredBy, LeadsInto, MeetsRising, MeetsFalling, Raises};
+ghost use Rattle.si_candidates.specs.Raising.{AreBegun, AreRaised, IsEnteredBy, LeadsInto, MeetsRising, MeetsFalling, Raises};
 
 use crate::block::Block;
 use si_base::ids::{NoMemory, StateId};
@@ -84,6 +84,31 @@ impl Raising {
         Ok(true)
     }
 
+    /// Raises all states of High parts, torn ones too.
+    pub(crate) fn raise_all(
+        &mut self,
+        graph: &Graph,
+        plus: &Block,
+        minus: &Block,
+    ) -> Result<(), NoMemory>
+        requires room { length self.old.classes.items ≡ graph.now.states }
+        requires plus_size { length plus.now ≡ graph.now.states }
+        requires minus_size { length minus.now ≡ graph.now.states }
+        requires disjoint { AreDisjoint plus.now minus.now }
+        ensures size { length self.new.classes.items ≡ length self.old.classes.items }
+        ensures raised { OnOk result
+            (AreRaised graph.now plus.now minus.now self.new.classes.items) }
+    {
+        self.begin(plus, minus);
+        self.raise_after(graph, plus.states())?;
+        self.raise_before(graph, minus.states())?;
+        while let Some(s) = self.work.pop() {
+            self.raise_targets(graph, s, false)?;
+            self.raise_sources(graph, s, false)?;
+        }
+        Ok(())
+    }
+
     /// The blocks are Rising and Falling, and every other state is Low.
     fn begin(&mut self, plus: &Block, minus: &Block)
         requires plus_size { length plus.now ≡ length self.old.classes.items }
@@ -134,7 +159,7 @@ impl Raising {
             self.new.classes.items self.new.work.items) }
     {
         for s in rising {
-            self.raise_targets(graph, *s, Class::Rising)?;
+            self.raise_targets(graph, *s, false)?;
         }
         Ok(())
     }
@@ -148,7 +173,7 @@ impl Raising {
             self.new.classes.items self.new.work.items) }
     {
         for s in falling {
-            self.raise_sources(graph, *s, Class::Falling)?;
+            self.raise_sources(graph, *s, false)?;
         }
         Ok(())
     }
@@ -168,51 +193,51 @@ impl Raising {
             → MeetsRising graph.now self.old.classes.items s
             ⊎ MeetsFalling graph.now self.old.classes.items s) }
     {
-        if !self.raise_targets(graph, s, Class::High)? {
+        if !self.raise_targets(graph, s, true)? {
             return Ok(false);
         }
-        let clean = self.raise_sources(graph, s, Class::High)?;
+        let clean = self.raise_sources(graph, s, true)?;
         Ok(clean)
     }
 
-    /// Raises the states that a state of the class enters. `false` at an arc from High to Rising.
-    fn raise_targets(&mut self, graph: &Graph, s: StateId, class: Class) -> Result<bool, NoMemory>
+    /// Raises the states that the state enters. A strict pass ends with `false` at a Rising one.
+    fn raise_targets(&mut self, graph: &Graph, s: StateId, strict: bool) -> Result<bool, NoMemory>
         requires { length self.old.classes.items ≡ graph.now.states }
         ensures size { length self.new.classes.items ≡ length self.old.classes.items }
         ensures raised { IfOk result (λ is. is ≡ true → Raises (Leads graph.now s)
             self.old.classes.items self.old.work.items
             self.new.classes.items self.new.work.items) }
-        ensures clean { IfOk result (λ is. is ≡ true → class ≡ Class.High
+        ensures clean { IfOk result (λ is. is ≡ true → IsTrue strict
             → MeetsRising graph.now self.old.classes.items s → ⊥) }
         ensures torn { IfOk result (λ is. is ≡ false
-            → (class ≡ Class.High) × MeetsRising graph.now self.old.classes.items s) }
+            → IsTrue strict × MeetsRising graph.now self.old.classes.items s) }
     {
         for arc in graph.arcs_out(s) {
             let target = self.raise(arc.to)?;
-            if is_high_beside(class, target, Class::Rising) {
+            if is_barred(strict, target, Class::Rising) {
                 return Ok(false);
             }
         }
         Ok(true)
     }
 
-    /// Raises the states that lead into a state of the class. `false` at an arc from Falling to
-    /// High.
-    fn raise_sources(&mut self, graph: &Graph, s: StateId, class: Class) -> Result<bool, NoMemory>
+    /// Raises the states that lead into the state. A strict pass ends with `false` at a Falling
+    /// one.
+    fn raise_sources(&mut self, graph: &Graph, s: StateId, strict: bool) -> Result<bool, NoMemory>
         requires { length self.old.classes.items ≡ graph.now.states }
         ensures size { length self.new.classes.items ≡ length self.old.classes.items }
         ensures raised { IfOk result (λ is. is ≡ true → Raises (λ t. Leads graph.now t s)
             self.old.classes.items self.old.work.items
             self.new.classes.items self.new.work.items) }
-        ensures clean { IfOk result (λ is. is ≡ true → class ≡ Class.High
+        ensures clean { IfOk result (λ is. is ≡ true → IsTrue strict
             → MeetsFalling graph.now self.old.classes.items s → ⊥) }
         ensures torn { IfOk result (λ is. is ≡ false
-            → (class ≡ Class.High) × MeetsFalling graph.now self.old.classes.items s) }
+            → IsTrue strict × MeetsFalling graph.now self.old.classes.items s) }
     {
         let mut at = graph.first_in(s);
         while let Some(k) = at {
             let source = self.raise(graph.edge(k).from)?;
-            if is_high_beside(class, source, Class::Falling) {
+            if is_barred(strict, source, Class::Falling) {
                 return Ok(false);
             }
             at = graph.next_in(k);
@@ -241,9 +266,9 @@ impl Raising {
     }
 }
 
-/// Whether a state is High, and one beside it has the other class.
-fn is_high_beside(class: Class, beside: Class, other: Class) -> bool
-    ensures { IsTrue result ↔ ((class ≡ Class.High) × (beside ≡ other)) }
+/// Whether the pass is strict, and the class the barred one.
+fn is_barred(strict: bool, class: Class, barred: Class) -> bool
+    ensures { IsTrue result ↔ (IsTrue strict × (class ≡ barred)) }
 {
-    class == Class::High && beside == other
+    strict && class == barred
 }

@@ -1,4 +1,4 @@
-use Rattle.std.proofs.Common.{◌∙◌, ℕ, sym, subst}
+use Rattle.std.proofs.Common.{◌∙◌, sym}
 use Rattle.std.proofs.lemmas.Bool.{not-true, true≢false, false_from_ne_true, not_from_false}
 use Rattle.si_base.specs.Sets.{IsIn}
 use Rattle.si_candidates.proofs.Switching.{keeps_at, apart_events}

@@ -1,5 +1,5 @@
-use Rattle.std.proofs.Common.{◌∙◌, ◌↔◌, length, IsTrue, List, Bool, subst, sym, ap}
-use Rattle.si_candidates.proofs.BlockStates.{HasNone, states_below, apart_by_mine, apart_by_others}
+use Rattle.std.proofs.Common.{◌∙◌, length, sym, ap}
+use Rattle.si_candidates.proofs.BlockStates.{states_below, apart_by_mine, apart_by_others}
 use Rattle.si_candidates.proofs.block.Block.is_apart.Goals as goal
 
 pub has_none-requires : goal.has_none-requires

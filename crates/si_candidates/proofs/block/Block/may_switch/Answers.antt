@@ -1,8 +1,8 @@
-use Rattle.std.proofs.Common.{◌≡◌, ◌∙◌, ◌↔◌, ℕ, IsTrue, refl, subst, sym, ap}
+use Rattle.std.proofs.Common.{◌∙◌, ℕ, refl, subst, sym, ap}
 use Rattle.std.proofs.lemmas.Bool.{true≢false}
 use Rattle.std.proofs.lemmas.List.{take_all}
 use Rattle.std.proofs.lemmas.List.Elements.{All-more}
-use Rattle.si_base.specs.Graph.{StateGraph, IsGraph}
+use Rattle.si_base.specs.Graph.{StateGraph}
 use Rattle.si_base.specs.Codes.{CodedGraph, IsCoded, IsDeterministic}
 use Rattle.si_candidates.proofs.Switching.{PassFrom, all_from, from_each}
 use Rattle.si_candidates.proofs.block.Block.may_switch.Goals as goal

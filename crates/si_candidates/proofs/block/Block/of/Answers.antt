@@ -1,4 +1,4 @@
-use Rattle.std.proofs.Common.{◌≡◌, ◌∙◌, ◌≤◌, ◌+◌, length, List, Bool, ℕ, refl, sym, ap, arith}
+use Rattle.std.proofs.Common.{◌∙◌, ◌≤◌, length, sym, ap, arith}
 use Rattle.si_graph.proofs.MarkLemmas.{seeded_more, seeded_pass, seeded_all}
 use Rattle.si_candidates.proofs.BlockStates.{seeds_same, listed}
 use Rattle.si_candidates.proofs.block.Block.of.Goals as goal
@@ -11,7 +11,8 @@ loop-s-preserved c =
     elim c.if-has.branch [
       | then-has+in_ok-push w ↦
           rw (w.copy-is ∙ w.add.ensures, ap (λ v. v.items) w.states-is ∙ w.in_ok-push.ensures.items)
-          (seeded_more set c.loop-s.copy c.loop-s.states.items s (omega (arith, c.loop-s-test.true, c.size-s-end.ensures))
+          (seeded_more set c.loop-s.copy c.loop-s.states.items s
+          (omega (arith, c.loop-s-test.true, c.size-s-end.ensures))
           (sym c.has.ensures ∙ w.if-has.true) c.loop-s.invariant)
       | else-has w ↦
           rw (w.copy-is, ap (λ v. v.items) w.states-is)

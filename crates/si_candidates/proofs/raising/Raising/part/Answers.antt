@@ -1,4 +1,4 @@
-use Rattle.std.proofs.Common.{◌≡◌, ◌∙◌, ◌<◌, ◌+◌, ℕ, [], length, map, ap, subst, sym, arith}
+use Rattle.std.proofs.Common.{◌∙◌, [], length, map, ap, subst, sym, arith}
 use Rattle.std.proofs.lemmas.List.{nil_from_length, length_push}
 use Rattle.si_base.specs.Graph.{StateGraph}
 use Rattle.si_graph.specs.Reach.{unmarked}
@@ -53,4 +53,4 @@ returns-clause-parted c =
     let flooded = subst (λ (h : StateGraph). Floods h plus minus classes []) c.graph-g.ensures.same ends in
     let coded = c.graph-g.ensures.coded in
     λ _. flood_ends c.args.graph.now.graph plus minus classes coded.graph_is coded.connected c.requires.plus_size
-        c.requires.minus_size c.requires.some_plus c.requires.some_minus flooded
+    c.requires.minus_size c.requires.some_plus c.requires.some_minus flooded

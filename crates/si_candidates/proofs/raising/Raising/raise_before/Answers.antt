@@ -1,6 +1,5 @@
-use Rattle.std.proofs.Common.{◌≡◌, ◌∙◌, ℕ}
+use Rattle.std.proofs.Common.{◌∙◌, ℕ, false, refl}
 use Rattle.si_graph.specs.Closure.{Leads}
-use Rattle.si_insert.specs.declared.partition.Class.TheVariants.{Falling, High}
 use Rattle.si_candidates.proofs.RaisingLemmas.{same_size, not_torn}
 use Rattle.si_candidates.proofs.RaisingLoops.{beside_more, beside_all}
 use Rattle.si_candidates.proofs.raising.Raising.raise_before.Goals as goal
@@ -11,8 +10,7 @@ raise_sources-requires c =
 
 pub loop-s-preserved : goal.loop-s-preserved
 loop-s-preserved c =
-    let never = not_torn c.in_ok-raise_sources.field-0 _ Falling (λ (h : Falling ≡ High). absurd cc)
-    c.in_ok-raise_sources.ensures.torn in
+    let never = not_torn c.in_ok-raise_sources.field-0 _ false refl c.in_ok-raise_sources.ensures.torn in
     let From : ℕ → ℕ → Type 0 = λ s t. Leads c.args.graph.now t s in
     beside_more From c.args.falling.now c.loop-s.s-index c.s-item.result _ _ _ _ _ _
     c.loop-s-test.true c.s-item.is c.loop-s.invariant (c.in_ok-raise_sources.ensures.raised never)

@@ -1,4 +1,4 @@
-use Rattle.std.proofs.Common.{◌∙◌, ◌≡◌, ◌+◌, ℕ, [], length, ap, sym, subst}
+use Rattle.std.proofs.Common.{◌∙◌, ◌+◌, ℕ, [], length, ap, sym, subst}
 use Rattle.si_base.specs.declared.graph.Edge.{Edge}
 use Rattle.si_graph.specs.Arcs.{IsFirstPlace, IsInto}
 use Rattle.si_graph.specs.Closure.{Leads}
@@ -7,19 +7,25 @@ use Rattle.si_candidates.proofs.RaisingLemmas.{falling_stays, not_beside}
 use Rattle.si_candidates.proofs.RaisingLoops.{source_leads, sources_more, sources_all, falls_more, falls_all}
 use Rattle.si_candidates.proofs.raising.Raising.raise_sources.Goals as goal
 
-pub returns-then-is_high_beside-clause-torn : goal.returns-then-is_high_beside-clause-torn
-returns-then-is_high_beside-clause-torn c =
+pub returns-then-is_barred-clause-torn : goal.returns-then-is_barred-clause-torn
+returns-then-is_barred-clause-torn c =
     let g = c.args.graph.now in
     let s = c.args.s in
     let k = c.in-Some.k in
     let t = c.edge.result.from in
-    let high = c.is_high_beside.ensures.0 c.if-is_high_beside.true in
+    let barred = c.is_barred.ensures.0 c.if-is_barred.true in
     let stays = c.in_ok-source.ensures.raised.stays ∙ c.loop-at.invariant.raised.stays in
     let stands = rw c.in-Some.is at c.loop-at.invariant.stands in
     let from = ap (λ (a : Edge). a.from) c.edge.ensures.edge in
-    λ _. (high.0, (t, subst (λ (x : ℕ). Leads g x s) (sym from) (source_leads g s k stands.0 stands.1),
+    λ _. (
+      barred.0,
+      (
+        t,
+        subst (λ (x : ℕ). Leads g x s) (sym from) (source_leads g s k stands.0 stands.1),
         (falling_stays c.args.self.now.classes.items c.raise.new.self.classes.items stays t).0
-        (sym c.in_ok-source.ensures.class ∙ high.1)))
+            (sym c.in_ok-source.ensures.class ∙ barred.1),
+      ),
+    )
 
 pub loop-at-preserved : goal.loop-at-preserved
 loop-at-preserved c =
@@ -39,10 +45,13 @@ loop-at-preserved c =
       stands = stands_first g [] s (k + 1) c.next_in-at.result next;
       raised = sources_more g s k t c.next_in-at.result _ _ _ _ _ _ stands from next before
           c.in_ok-source.ensures.raised;
-      clean = λ high. falls_more g s k t c.next_in-at.result old from next
-          (λ falling. not_beside _ _ c.is_high_beside.ensures c.if-is_high_beside.false (high, c.in_ok-source.ensures.class
-          ∙ (falling_stays old c.raise.new.self.classes.items stays t).1 falling))
-          (clean high);
+      clean = λ strict. falls_more g s k t c.next_in-at.result old from next
+          (λ falling. not_beside _ _ c.is_barred.ensures c.if-is_barred.false (
+            strict,
+            c.in_ok-source.ensures.class
+                ∙ (falling_stays old c.raise.new.self.classes.items stays t).1 falling,
+          ))
+          (clean strict);
     }
 
 pub returns-clause-raised : goal.returns-clause-raised
@@ -50,5 +59,5 @@ returns-clause-raised c = λ _. sources_all c.args.graph.now c.args.s _ _ _ _
     (rw c.in_default.is at c.loop-at.invariant.raised)
 
 pub returns-clause-clean : goal.returns-clause-clean
-returns-clause-clean c = λ _ high. falls_all c.args.graph.now c.args.s c.args.self.now.classes.items
-    ((rw c.in_default.is at c.loop-at.invariant.clean) high)
+returns-clause-clean c = λ _ strict. falls_all c.args.graph.now c.args.s c.args.self.now.classes.items
+    ((rw c.in_default.is at c.loop-at.invariant.clean) strict)
