@@ -7,6 +7,7 @@ mod Switching
 mod RaisingLemmas
 mod RaisingLoops
 mod Flooding
+mod BlockExamples
 pub mod SetTests
 pub mod MarkedSets
 pub mod IntervalLemmas

@@ -173,6 +173,9 @@ fn blocks_in_order(rt: HostRuntime) -> Result<(), Fail> {
         b"0 3 1 4 2 5 12 12345 01245 45 2345 0125 012345 345 012 ".as_slice()
     );
     let text = spelled_blocks(alloc, &vme(&rt, alloc)?)?;
-    assert!(rt; text.as_slice().starts_with(b"08b 5 2 9bd 3 6 4 79c 1 78a 1ad 01c 7 "));
+    assert!(rt;
+        text.as_slice()
+            .starts_with(b"08b 5 2 9bd 3 6 4 79c 1 78a 1ad 01c 7 ")
+    );
     Ok(())
 }

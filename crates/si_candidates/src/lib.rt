@@ -2,6 +2,8 @@
 #![tactic(auto)]
 
 pub mod block;
+#[cfg(test)]
+mod block_tests;
 pub mod blocks;
 pub mod classes;
 pub mod interval;
@@ -9,5 +11,3 @@ pub mod laws;
 pub mod part_laws;
 pub mod parting;
 mod raising;
-#[cfg(test)]
-mod block_tests;
