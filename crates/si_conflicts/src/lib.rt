@@ -7,7 +7,9 @@ mod count;
 pub mod keys;
 pub mod laws;
 mod links;
-pub mod members;
+mod members;
 mod rings;
-pub mod tally;
+mod tally;
+#[cfg(test)]
+mod tests;
 mod trial;
