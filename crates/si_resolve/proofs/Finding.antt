@@ -36,12 +36,15 @@ pub choice_classes : (c : CodedGraph) (blocks : List (List Bool)) (f : Found) (p
     → (of : AreBlocksOf c blocks f plus minus) → AreClasses c.graph plus minus of.found.choice.classes
 choice_classes c blocks f plus minus of =
     let x = of.found.choice in
-    let one : block_at blocks x.i ≡ plus = ap (block_at blocks) (sym (ap (λ (z : Found). z.i) of.found.tells)) ∙ sym of.plus_is in
-    let other : block_at blocks x.j ≡ minus = ap (block_at blocks) (sym (ap (λ (z : Found). z.j) of.found.tells)) ∙ sym of.minus_is in
+    let one : block_at blocks x.i ≡ plus =
+    ap (block_at blocks) (sym (ap (λ (z : Found). z.i) of.found.tells)) ∙ sym of.plus_is in
+    let other : block_at blocks x.j ≡ minus =
+    ap (block_at blocks) (sym (ap (λ (z : Found). z.j) of.found.tells)) ∙ sym of.minus_is in
     at_blocks (λ a b. AreClasses c.graph a b x.classes) (block_at blocks x.i) plus (block_at blocks x.j) minus one other
-        of.found.is_choice.are
+    of.found.is_choice.are
 
-pub never_torn : (c : CodedGraph) (blocks : List (List Bool)) (f : Found) (plus minus : List Bool) (e : ClassFault) (s : ℕ)
+pub never_torn : (c : CodedGraph) (blocks : List (List Bool)) (f : Found) (plus minus : List Bool)
+    (e : ClassFault) (s : ℕ)
     → AreBlocksOf c blocks f plus minus → e ≡ NoClasses s → ShowsNoClasses c.graph plus minus e → ⊥
 never_torn c blocks f plus minus e s of is shows =
     let first = subst (ShowsNoClasses c.graph plus minus) is shows in
@@ -55,7 +58,7 @@ same_classes c blocks f plus minus p is of are =
     let r = of.found.is_choice.accepted.lawful.rises in
     let d = of.found.is_choice.accepted.lawful.falls in
     classes_unique c.graph plus minus of.found.choice.classes p r.0 d.0 is.graph_is is.connected
-        ((mine.rising r.0 r.1).0 r.2) r.1 ((mine.falling d.0 d.1).0 d.2) d.1 mine are
+    ((mine.rising r.0 r.1).0 r.2) r.1 ((mine.falling d.0 d.1).0 d.2) d.1 mine are
 
 pub never_refused : (c : CodedGraph) (blocks : List (List Bool)) (f : Found) (plus minus : List Bool) (p : List Class)
     (why : Rejected) → IsCoded c → IsProper c.graph → AreBlocksOf c blocks f plus minus

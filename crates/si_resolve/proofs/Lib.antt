@@ -1,4 +1,3 @@
-pub mod Cited
 pub mod OneBest
 pub mod Searching
 pub mod Traces

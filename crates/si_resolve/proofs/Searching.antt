@@ -12,13 +12,13 @@ use Rattle.si_insert.specs.declared.partition.Class.{Class}
 use Rattle.si_candidates.specs.Blocks.{AreBlocks, block_at}
 use Rattle.si_candidates.specs.Parts.{AreClasses}
 use Rattle.si_candidates.specs.Blocking.{MaySwitch}
-use Rattle.si_resolve.proofs.Cited.{one_blocks}
+use Rattle.si_candidates.proofs.BlocksExist.{one_blocks}
 use Rattle.si_candidates.proofs.PartLaws.{classes_unique}
-use Rattle.si_resolve.proofs.Cited.{accepted_by_blocks}
+use Rattle.si_candidates.proofs.Separable.{accepted_by_blocks}
 use Rattle.si_conflicts.specs.Left.{LeavesConflicts}
 use Rattle.si_resolve.specs.Best.{Choice, IsChoice, choice_place, Improves, NoneImproves}
 use Rattle.si_resolve.specs.Search.{IsEarlier, IsBestSoFar, bar}
-use Rattle.si_resolve.proofs.Cited.{one_left}
+use Rattle.si_conflicts.proofs.LeftCount.{one_left}
 
 -- ---- the order
 at_places : (a b x y : ℕ) → Before (a ∷ b ∷ []) (x ∷ y ∷ []) → (a < x) ⊎ ((a ≡ x) × (b < y))
@@ -63,17 +63,21 @@ before_le a b xs ys (inl h) = omega arith
 before_le a b xs ys (inr h) = omega (arith, h.0)
 
 -- ---- one candidate, one choice
-pub one_number : (c : CodedGraph) (blocks : List (List Bool)) (x y : Choice) → IsCoded c → IsChoice c blocks x → IsChoice c blocks y → x.j ≡ y.j → x.i ≡ y.i → x.conflicts ≡ y.conflicts
+pub one_number : (c : CodedGraph) (blocks : List (List Bool)) (x y : Choice) → IsCoded c → IsChoice c blocks x
+    → IsChoice c blocks y → x.j ≡ y.j → x.i ≡ y.i → x.conflicts ≡ y.conflicts
 one_number c blocks x y is a b same_j same_i =
     let Q : ℕ → Type 0 = λ k. AreClasses c.graph (block_at blocks k) (block_at blocks y.j) y.classes in
     let R : ℕ → Type 0 = λ k. AreClasses c.graph (block_at blocks x.i) (block_at blocks k) y.classes in
-    let are : AreClasses c.graph (block_at blocks x.i) (block_at blocks x.j) y.classes = subst R (sym same_j) (subst Q (sym same_i) b.are) in
+    let are : AreClasses c.graph (block_at blocks x.i) (block_at blocks x.j) y.classes =
+    subst R (sym same_j) (subst Q (sym same_i) b.are) in
     let r = a.accepted.lawful.rises in
     let f = a.accepted.lawful.falls in
-    let classes : x.classes ≡ y.classes = classes_unique c.graph (block_at blocks x.i) (block_at blocks x.j) x.classes y.classes r.0 f.0 is.graph_is is.connected
+    let classes : x.classes ≡ y.classes =
+    classes_unique c.graph (block_at blocks x.i) (block_at blocks x.j) x.classes y.classes
+        r.0 f.0 is.graph_is is.connected
     ((a.are.rising r.0 r.1).0 r.2) r.1 ((a.are.falling f.0 f.1).0 f.2) f.1 a.are are in
     let P : List Class → Type 0 = λ z. LeavesConflicts c z y.conflicts in
-    one_left c x.classes x.conflicts y.conflicts is a.accepted.lawful a.leaves (subst P (sym classes) b.leaves)
+    one_left c is x.classes a.accepted.lawful x.conflicts y.conflicts a.leaves (subst P (sym classes) b.leaves)
 
 -- ---- steps
 pub search_start : (c : CodedGraph) (blocks : List (List Bool)) (n : ℕ) → IsBestSoFar c blocks n 0 0 None
@@ -84,7 +88,9 @@ search_start c blocks n = λ y is earlier fewer. none y (at_places y.j y.i 0 0 e
     none y (inr both) = omega (arith, both.1)
 
 -- a candidate that doesn't get below the bar changes nothing
-pub search_skip : (c : CodedGraph) (blocks : List (List Bool)) (n j i : ℕ) (o : Option Choice) → ((y : Choice) → IsChoice c blocks y → y.j ≡ j → y.i ≡ i → bar n o ≤ y.conflicts) → IsBestSoFar c blocks n j i o → IsBestSoFar c blocks n j (i + 1) o
+pub search_skip : (c : CodedGraph) (blocks : List (List Bool)) (n j i : ℕ) (o : Option Choice)
+    → ((y : Choice) → IsChoice c blocks y → y.j ≡ j → y.i ≡ i → bar n o ≤ y.conflicts) → IsBestSoFar c blocks n j i o
+    → IsBestSoFar c blocks n j (i + 1) o
 search_skip c blocks n j i None high so = λ y is earlier fewer. elim (earlier_next y j i earlier) [
   | inl before ↦ so y is before fewer
   | inr there ↦ (let more = high y is there.0 there.1 in omega (arith, more, fewer))
@@ -99,7 +105,8 @@ search_skip c blocks n j i (Some x) high so = record {
   ];
 }
   where
-    behind : (y : Choice) → (y.j ≡ j) × (y.i ≡ i) → x.conflicts ≤ y.conflicts → Before (choice_place y) (choice_place x) → ⊥
+    behind : (y : Choice) → (y.j ≡ j) × (y.i ≡ i) → x.conflicts ≤ y.conflicts → Before (choice_place y) (choice_place x)
+        → ⊥
     behind y there more (inl less) = omega (arith, more, less)
     behind y there more (inr (same, before)) =
         let P : ℕ → Type 0 = λ k. Before (x.j ∷ x.i ∷ []) (k ∷ i ∷ []) in
@@ -107,7 +114,9 @@ search_skip c blocks n j i (Some x) high so = record {
         before_apart (y.j ∷ y.i ∷ []) (x.j ∷ x.i ∷ []) before (subst Q (sym there.1) (subst P (sym there.0) so.earlier))
 
 -- one that does is the best so far
-pub search_take : (c : CodedGraph) (blocks : List (List Bool)) (n j i : ℕ) (o : Option Choice) (x : Choice) → IsCoded c → IsChoice c blocks x → x.j ≡ j → x.i ≡ i → x.conflicts < bar n o → IsBestSoFar c blocks n j i o → IsBestSoFar c blocks n j (i + 1) (Some x)
+pub search_take : (c : CodedGraph) (blocks : List (List Bool)) (n j i : ℕ) (o : Option Choice) (x : Choice) → IsCoded c
+    → IsChoice c blocks x → x.j ≡ j → x.i ≡ i → x.conflicts < bar n o → IsBestSoFar c blocks n j i o
+    → IsBestSoFar c blocks n j (i + 1) (Some x)
 search_take c blocks n j i o x is choice at_j at_i below so = record {
   choice = choice;
   earlier = inr (at_j, inl (omega (arith, at_i)));
@@ -122,9 +131,14 @@ search_take c blocks n j i o x is choice at_j at_i below so = record {
     under None below so = below
     under (Some z) below so = omega (arith, below, so.fewer)
 
-    ahead : (o : Option Choice) → x.conflicts < bar n o → IsBestSoFar c blocks n j i o → (y : Choice) → IsChoice c blocks y → IsEarlier y j i → Before (choice_place y) (choice_place x) → ⊥
-    ahead None below so y is_y at before = (let le = before_le y.conflicts x.conflicts (y.j ∷ y.i ∷ []) (x.j ∷ x.i ∷ []) before in so y is_y at (omega (arith, le, below)))
-    ahead (Some z) below so y is_y at before = (let le = before_le y.conflicts x.conflicts (y.j ∷ y.i ∷ []) (x.j ∷ x.i ∷ []) before in so.none_before y is_y at (inl (omega (arith, le, below))))
+    ahead : (o : Option Choice) → x.conflicts < bar n o → IsBestSoFar c blocks n j i o → (y : Choice)
+        → IsChoice c blocks y → IsEarlier y j i → Before (choice_place y) (choice_place x) → ⊥
+    ahead None below so y is_y at before =
+          (let le = before_le y.conflicts x.conflicts (y.j ∷ y.i ∷ []) (x.j ∷ x.i ∷ []) before in
+          so y is_y at (omega (arith, le, below)))
+    ahead (Some z) below so y is_y at before =
+          (let le = before_le y.conflicts x.conflicts (y.j ∷ y.i ∷ []) (x.j ∷ x.i ∷ []) before in
+          so.none_before y is_y at (inl (omega (arith, le, below))))
 
     same : (y : Choice) → IsChoice c blocks y → (y.j ≡ j) × (y.i ≡ i) → Before (choice_place y) (choice_place x) → ⊥
     same y is_y there before =
@@ -136,7 +150,10 @@ search_take c blocks n j i o x is choice at_j at_i below so = record {
         before_itself (choice_place x) (subst (λ p. Before p (choice_place x)) e before)
 
 -- the rest of a row is passed over where none of it gets below the bar, as at its end
-pub search_row : (c : CodedGraph) (blocks : List (List Bool)) (n j i : ℕ) (o : Option Choice) → ((y : Choice) → IsChoice c blocks y → y.j ≡ j → IsEarlier y j i ⊎ ((IsEarlier y j i → ⊥) × (bar n o ≤ y.conflicts))) → IsBestSoFar c blocks n j i o → IsBestSoFar c blocks n (j + 1) 0 o
+pub search_row : (c : CodedGraph) (blocks : List (List Bool)) (n j i : ℕ) (o : Option Choice)
+    → ((y : Choice) → IsChoice c blocks y → y.j ≡ j
+        → IsEarlier y j i ⊎ ((IsEarlier y j i → ⊥) × (bar n o ≤ y.conflicts)))
+    → IsBestSoFar c blocks n j i o → IsBestSoFar c blocks n (j + 1) 0 o
 search_row c blocks n j i None high so = λ y is earlier fewer. elim (earlier_row y j i earlier) [
   | inl before ↦ so y is before fewer
   | inr there ↦ elim (high y is there) [ inl at ↦ so y is at fewer | inr late ↦ omega (arith, late.1, fewer) ]
@@ -147,14 +164,17 @@ search_row c blocks n j i (Some x) high so = record {
   fewer = so.fewer;
   none_before = λ y is earlier before. elim (earlier_row y j i earlier) [
     | inl at ↦ so.none_before y is at before
-    | inr there ↦ elim (high y is there) [ inl at ↦ so.none_before y is at before | inr late ↦ behind y there late.0 late.1 before ]
+    | inr there ↦ elim (high y is there) [ inl at ↦ so.none_before y is at before
+        | inr late ↦ behind y there late.0 late.1 before ]
   ];
 }
   where
     -- what stands earlier than (j, i) stands earlier than the rest of the row
-    behind : (y : Choice) → y.j ≡ j → (IsEarlier y j i → ⊥) → x.conflicts ≤ y.conflicts → Before (choice_place y) (choice_place x) → ⊥
+    behind : (y : Choice) → y.j ≡ j → (IsEarlier y j i → ⊥) → x.conflicts ≤ y.conflicts
+        → Before (choice_place y) (choice_place x) → ⊥
     behind y there late more (inl less) = omega (arith, more, less)
-    behind y there late more (inr (same, before)) = apart (at_places y.j y.i x.j x.i before) (at_places x.j x.i j i so.earlier)
+    behind y there late more (inr (same, before)) =
+        apart (at_places y.j y.i x.j x.i before) (at_places x.j x.i j i so.earlier)
       where
         apart : (y.j < x.j) ⊎ ((y.j ≡ x.j) × (y.i < x.i)) → (x.j < j) ⊎ ((x.j ≡ j) × (x.i < i)) → ⊥
         apart (inl h) (inl k) = omega (arith, h, k, there)
@@ -162,15 +182,22 @@ search_row c blocks n j i (Some x) high so = record {
         apart (inr h) (inl k) = omega (arith, h.0, k, there)
         apart (inr h) (inr k) = late (inr (there, inl (omega (arith, h.1, k.1))))
 
-pub search_finds : (c : CodedGraph) (blocks : List (List Bool)) (n : ℕ) (x : Choice) → AreBlocks c blocks → HasConflicts c n → IsBestSoFar c blocks n (length blocks) 0 (Some x) → Improves c x
+pub search_finds : (c : CodedGraph) (blocks : List (List Bool)) (n : ℕ) (x : Choice) → AreBlocks c blocks
+    → HasConflicts c n → IsBestSoFar c blocks n (length blocks) 0 (Some x) → Improves c x
 search_finds c blocks n x are counted so = record {
-  best = record { blocks = blocks; are = are; first = record { holds = so.choice; none_before = λ y is before. so.none_before y is (inl is.candidate.within) before } };
+  best = record { blocks = blocks; are = are;
+    first = record {
+      holds = so.choice;
+      none_before = λ y is before. so.none_before y is (inl is.candidate.within) before;
+    };
+  };
   before = n;
   counted = counted;
   fewer = so.fewer;
 }
 
-pub search_finds_none : (c : CodedGraph) (blocks : List (List Bool)) (n : ℕ) → AreBlocks c blocks → HasConflicts c n → IsBestSoFar c blocks n (length blocks) 0 None → NoneImproves c
+pub search_finds_none : (c : CodedGraph) (blocks : List (List Bool)) (n : ℕ) → AreBlocks c blocks → HasConflicts c n
+    → IsBestSoFar c blocks n (length blocks) 0 None → NoneImproves c
 search_finds_none c blocks n are counted so x others m also is count =
     let P : List (List Bool) → Type 0 = λ b. IsChoice c b x in
     let is_x = subst P (one_blocks c others blocks also are) is in
@@ -180,7 +207,10 @@ search_finds_none c blocks n are counted so x others m also is count =
       | inr more ↦ omega (arith, same, more)
     ]
 
-pub block_refuses : (c : CodedGraph) (blocks : List (List Bool)) (x : Choice) → IsCoded c → IsProper c.graph → IsChoice c blocks x → MaySwitch c.graph (IsIn (block_at blocks x.i)) × MaySwitch c.graph (IsIn (block_at blocks x.j))
+pub block_refuses : (c : CodedGraph) (blocks : List (List Bool)) (x : Choice) → IsCoded c → IsProper c.graph
+    → IsChoice c blocks x
+    → MaySwitch c.graph (IsIn (block_at blocks x.i)) × MaySwitch c.graph (IsIn (block_at blocks x.j))
 block_refuses c blocks x is proper choice =
-    let m = (accepted_by_blocks c (block_at blocks x.i) (block_at blocks x.j) x.classes is proper choice.accepted.lawful choice.are).0 choice.accepted in
+    let m = (accepted_by_blocks c (block_at blocks x.i) (block_at blocks x.j) x.classes is proper
+        choice.accepted.lawful choice.are).0 choice.accepted in
     (m.0, m.1)

@@ -21,7 +21,8 @@ use Rattle.si_resolve.specs.Best.{Choice, IsChoice, NoneImproves}
 use Rattle.si_resolve.specs.Search.{IsBestSoFar, IsEarlier, bar}
 use Rattle.si_resolve.specs.Usable.{IsUsable, AreUsable}
 use Rattle.si_resolve.specs.Progress.{told, told_best, IsSearching, IsFound, bar_by, bar_of, MayBeAccepted, LeavesBelow, LeavesNoneBelow, NoneIsBelow, HasSameRoom}
-use Rattle.si_resolve.proofs.Cited.{accepted_by_blocks, copies_by_blocks}
+use Rattle.si_candidates.proofs.Separable.{accepted_by_blocks}
+use Rattle.si_candidates.proofs.CopyCount.{copies_by_blocks}
 use Rattle.si_resolve.proofs.BlockSizes.{size_at}
 use Rattle.si_resolve.proofs.Searching.{search_start, search_skip, search_take, search_row, search_finds, search_finds_none, block_refuses}
 
@@ -72,7 +73,8 @@ choice_may_be c blocks x are choice =
     let within = choice.candidate.within in
     let size_i = size_at c blocks x.i are (omega (arith, order, within)) in
     let size_j = size_at c blocks x.j are within in
-    let copies = copies_by_blocks c.graph (block_at blocks x.i) (block_at blocks x.j) x.classes size_i size_j choice.are in
+    let copies = copies_by_blocks c.graph (block_at blocks x.i) (block_at blocks x.j) x.classes
+        size_i size_j choice.are in
     record { disjoint = choice.candidate.disjoint; room = omega (arith, copies, choice.accepted.few_states) }
 
 pub candidate_choice : (c : CodedGraph) (blocks : List (List Bool)) (i j low n : ℕ) → IsCoded c → IsProper c.graph
@@ -87,7 +89,8 @@ candidate_choice c blocks i j low n is proper few are order within one other may
     let minus = block_at blocks j in
     let size_i = size_at c blocks i are (omega (arith, order, within)) in
     let size_j = size_at c blocks j are within in
-    let lawful = lawful_classes g plus minus left.classes is.graph_is size_i size_j (one.state, one.there) (other.state, other.there) left.are in
+    let lawful = lawful_classes g plus minus left.classes is.graph_is size_i size_j
+        (one.state, one.there) (other.state, other.there) left.are in
     let copies = copies_by_blocks g plus minus left.classes size_i size_j left.are in
     record {
       candidate = record { order = order; within = within; disjoint = may.disjoint };
@@ -182,7 +185,8 @@ at_both P x i j at_j at_i is = subst (P i) at_j (subst (λ k. P k x.j) at_i is)
 pub none_by_first : (c : CodedGraph) (blocks : List (List Bool)) (i j low : ℕ) → IsCoded c → IsProper c.graph
     → (IsUsable c.graph (block_at blocks i) → ⊥) → NoneIsBelow c blocks i j low
 none_by_first c blocks i j low is proper not_usable y choice at_j at_i =
-    absurd (not_usable (subst (λ k. IsUsable c.graph (block_at blocks k)) at_i (choice_usable c blocks y is proper choice).0))
+    absurd (not_usable (subst (λ k. IsUsable c.graph (block_at blocks k)) at_i
+        (choice_usable c blocks y is proper choice).0))
 
 pub none_by_later : (c : CodedGraph) (blocks : List (List Bool)) (j : ℕ) → IsCoded c → IsProper c.graph
     → (IsUsable c.graph (block_at blocks j) → ⊥) → (y : Choice) → IsChoice c blocks y → y.j ≡ j → ⊥
@@ -198,7 +202,9 @@ none_by_both c blocks i j low are never y choice at_j at_i =
 pub none_by_left : (c : CodedGraph) (blocks : List (List Bool)) (i j low : ℕ)
     → LeavesNoneBelow c (block_at blocks i) (block_at blocks j) low → NoneIsBelow c blocks i j low
 none_by_left c blocks i j low none y choice at_j at_i =
-    none y.classes y.conflicts (at_both (λ a b. AreClasses c.graph (block_at blocks a) (block_at blocks b) y.classes) y i j at_j at_i choice.are)
+    none y.classes y.conflicts
+        (at_both (λ a b. AreClasses c.graph (block_at blocks a) (block_at blocks b) y.classes)
+        y i j at_j at_i choice.are)
     choice.leaves
 
 -- what a test of the list tells

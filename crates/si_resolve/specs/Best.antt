@@ -46,8 +46,8 @@ abbrev pub NoneImproves : CodedGraph → Type 0
 NoneImproves c = (x : Choice) (blocks : List (List Bool)) (n : ℕ)
     → AreBlocks c blocks → IsChoice c blocks x → HasConflicts c n → n ≤ x.conflicts
 
--- a graph with a conflict, the first of which is the pair, whose best candidate doesn't exist or has
--- no fewer conflicts
+-- a graph with a conflict, the first of which is the pair, whose best candidate doesn't exist or
+-- has no fewer conflicts
 pub record IsStuck (c : CodedGraph) (pair : ℕ × ℕ) : Type 0 where
   pub conflict : IsFirst pair_place (IsConflict c) pair
   pub no_better : (x : Choice) (n : ℕ) → IsBest c x → HasConflicts c n → n ≤ x.conflicts

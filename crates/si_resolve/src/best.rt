@@ -16,9 +16,9 @@ use si_conflicts::conflicts::count;
 use si_insert::accept::{Accepted, accept};
 use std::alloc::Global;
 
-/// The best candidate: the accepted one that leaves the fewest conflicts, the first among equals. It
-/// is None exactly where no accepted candidate leaves fewer conflicts than the graph has. It fails
-/// only where memory runs out.
+/// The best candidate: the accepted one that leaves the fewest conflicts, the first among equals.
+/// It is None exactly where no accepted candidate leaves fewer conflicts than the graph has. It
+/// fails only where memory runs out.
 pub fn best(alloc: Global, graph: &Proper) -> Result<Option<Accepted>, NoMemory>
     ensures best { IfOk result (λ o. MatchOption o (NoneImproves graph.now)
         (λ a. (x : Choice) × Improves graph.now x × (x.classes ≡ a))) }

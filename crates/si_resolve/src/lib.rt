@@ -7,3 +7,5 @@ pub mod ends;
 pub mod laws;
 pub mod resolve;
 mod search;
+#[cfg(test)]
+mod tests;

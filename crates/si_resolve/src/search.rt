@@ -140,9 +140,7 @@ impl Search {
         ensures otherwise { result ≡ false
             → NoneIsBelow graph.now list.now.blocks.items i j (bar_of self.now) }
     {
-        self.bar() > 0
-            && list.is_usable(i)
-            && may_be_accepted(graph, list.block(i), list.block(j))
+        self.bar() > 0 && list.is_usable(i) && may_be_accepted(graph, list.block(i), list.block(j))
     }
 
     /// The number of conflicts that the next candidate has to get below.

@@ -30,8 +30,9 @@ unreachable-requires c =
       plus_is = c.set-plus.ensures ∙ c.block.ensures;
       minus_is = c.set-minus.ensures ∙ c.block-2.ensures;
     } in
-    never_torn d blocks f c.set-plus.result.now c.set-minus.result.now c.in-Err-NoClasses.field-0 c.in-Err-NoClasses.field-0-0
-        of c.in-Err-NoClasses.field-0-is c.in-Err-NoClasses.ensures.fault
+    never_torn d blocks f c.set-plus.result.now c.set-minus.result.now
+        c.in-Err-NoClasses.field-0 c.in-Err-NoClasses.field-0-0
+    of c.in-Err-NoClasses.field-0-is c.in-Err-NoClasses.ensures.fault
 
 pub unreachable-requires-in-Err : goal.unreachable-requires-in-Err
 unreachable-requires-in-Err c =
@@ -45,7 +46,7 @@ unreachable-requires-in-Err c =
       minus_is = c.set-minus.ensures ∙ c.block-2.ensures;
     } in
     never_refused d blocks f c.set-plus.result.now c.set-minus.result.now c.in-Ok.partition c.in-Err._refused.1
-        list.coded list.proper of c.in-Ok.ensures.classes c.in-Err.ensures.fault
+    list.coded list.proper of c.in-Ok.ensures.classes c.in-Err.ensures.fault
 
 pub returns : goal.returns
 returns c =
@@ -58,4 +59,4 @@ returns c =
       minus_is = c.set-minus.ensures ∙ c.block-2.ensures;
     } in
     best_is d blocks f c.set-plus.result.now c.set-minus.result.now c.in-Ok.partition c.in-Ok-accept.accepted
-        c.requires.list.coded of c.in-Ok.ensures.classes c.in-Ok-accept.ensures.same
+    c.requires.list.coded of c.in-Ok.ensures.classes c.in-Ok-accept.ensures.same

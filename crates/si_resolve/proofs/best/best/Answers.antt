@@ -14,8 +14,8 @@ returns-then-conflicts-eq0 c = record {
         w.if-conflicts-eq0.true
     | then-conflicts-eq0-via-else-conflicts-eq0+then-signals-ge-MAX_SIGNALS w ↦
         none_without_room c.args.graph.now w.signals.result.now
-            (w.signals.ensures ∙ (ap (λ (g : StateGraph). g.signals) w.graph.ensures.same
-            ∙ ap (λ (d : CodedGraph). d.graph.signals) w.coded-else-conflicts-eq0.ensures.same))
-            w.if-signals-ge-MAX_SIGNALS.true
+        (w.signals.ensures ∙ (ap (λ (g : StateGraph). g.signals) w.graph.ensures.same
+        ∙ ap (λ (d : CodedGraph). d.graph.signals) w.coded-else-conflicts-eq0.ensures.same))
+        w.if-signals-ge-MAX_SIGNALS.true
   ];
 }

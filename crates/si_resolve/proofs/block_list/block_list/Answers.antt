@@ -6,4 +6,4 @@ pub usable_ones-requires : goal.usable_ones-requires
 usable_ones-requires c =
     let d = c.args.graph.now in
     subst (All (HasSize d.graph.states)) (sym c.deref.ensures.value)
-        (block_sizes d c.in_ok-blocks.blocks.items c.in_ok-blocks.ensures)
+    (block_sizes d c.in_ok-blocks.blocks.items c.in_ok-blocks.ensures)

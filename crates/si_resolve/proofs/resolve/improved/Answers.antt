@@ -5,7 +5,9 @@ use Rattle.si_resolve.proofs.resolve.improved.Goals as goal
 pub returns-in_default-found-clause-unresolved : goal.returns-in_default-found-clause-unresolved
 returns-in_default-found-clause-unresolved c =
     let none = rw (c.in_default-found.is, c.current.ensures.same) at c.in-Ok.ensures in
-    (refl, stuck_at c.args.lineage.current.coded c.args.fault c.in-Conflict.p c.in-Conflict.q c.in-Conflict.is c.requires none)
+    let stuck = stuck_at c.args.lineage.current.coded c.args.fault c.in-Conflict.p c.in-Conflict.q c.in-Conflict.is
+        c.requires none in
+    (refl, stuck)
 
 pub insert-requires-clause-new : goal.insert-requires-clause-new
 insert-requires-clause-new c =

@@ -11,8 +11,10 @@ trial_below-requires-clause-lawful c =
     let minus = c.args.minus.now in
     let r = c.requires in
     let are : AreClasses g plus minus c.classes-classes.result.now =
-    subst (AreClasses g plus minus) (sym c.classes-classes.ensures) (c.in_ok-part.ensures.parted c.if-not-branch.false) in
-    lawful_classes g plus minus c.classes-classes.result.now r.coded.graph_is r.plus_size r.minus_size r.some_plus r.some_minus are
+    subst (AreClasses g plus minus) (sym c.classes-classes.ensures)
+        (c.in_ok-part.ensures.parted c.if-not-branch.false) in
+    lawful_classes g plus minus c.classes-classes.result.now r.coded.graph_is r.plus_size r.minus_size
+        r.some_plus r.some_minus are
 
 pub returns-clause-below : goal.returns-clause-below
 returns-clause-below c =
@@ -20,7 +22,8 @@ returns-clause-below c =
     let plus = c.args.plus.now in
     let minus = c.args.minus.now in
     let are : AreClasses g plus minus c.classes-classes.result.now =
-    subst (AreClasses g plus minus) (sym c.classes-classes.ensures) (c.in_ok-part.ensures.parted c.if-not-branch.false) in
+    subst (AreClasses g plus minus) (sym c.classes-classes.ensures)
+        (c.in_ok-part.ensures.parted c.if-not-branch.false) in
     if_some _ _ c.in_ok-left.left (λ n is. record {
       classes = c.classes-classes.result.now;
       are = are;
@@ -36,8 +39,8 @@ returns-clause-none c =
     let r = c.requires in
     let are : AreClasses d.graph plus minus c.classes-classes.result.now =
     subst (AreClasses d.graph plus minus) (sym c.classes-classes.ensures)
-        (c.in_ok-part.ensures.parted c.if-not-branch.false) in
+    (c.in_ok-part.ensures.parted c.if-not-branch.false) in
     let P : ℕ → Type 0 = LeavesNoneBelow d plus minus in
     if_none c.in_ok-left.left (λ high. subst P c.bar-bar.ensures
-        (one_leaves_none d plus minus c.classes-classes.result.now _ r.coded r.plus_size r.minus_size
-        r.some_plus r.some_minus are high)) c.in_ok-left.ensures.none
+    (one_leaves_none d plus minus c.classes-classes.result.now _ r.coded r.plus_size r.minus_size
+    r.some_plus r.some_minus are high)) c.in_ok-left.ensures.none

@@ -13,16 +13,17 @@ may_be_accepted-requires-clause-plus_size c =
 pub may_be_accepted-requires-clause-minus_size : goal.may_be_accepted-requires-clause-minus_size
 may_be_accepted-requires-clause-minus_size c =
     let r = c.requires in
-    block_size c.args.graph.now c.args.list.now.blocks.items c.args.j _ r.list.are r.within c.block-then-is_usable.ensures
+    block_size c.args.graph.now c.args.list.now.blocks.items c.args.j _ r.list.are r.within
+        c.block-then-is_usable.ensures
 
 pub returns-then-is_usable-clause-otherwise : goal.returns-then-is_usable-clause-otherwise
 returns-then-is_usable-clause-otherwise c =
     let d = c.args.graph.now in
     let blocks = c.args.list.now.blocks.items in
     λ refused. none_by_both d blocks c.args.i c.args.j _ c.requires.list.are
-        (not_both d.graph c.block.result.now (block_at blocks c.args.i) c.block-then-is_usable.result.now
-        (block_at blocks c.args.j) c.may_be_accepted.result c.block.ensures c.block-then-is_usable.ensures
-        c.may_be_accepted.ensures refused)
+    (not_both d.graph c.block.result.now (block_at blocks c.args.i) c.block-then-is_usable.result.now
+    (block_at blocks c.args.j) c.may_be_accepted.result c.block.ensures c.block-then-is_usable.ensures
+    c.may_be_accepted.ensures refused)
 
 pub returns-else-is_usable-clause-otherwise : goal.returns-else-is_usable-clause-otherwise
 returns-else-is_usable-clause-otherwise c =
@@ -34,5 +35,6 @@ returns-else-is_usable-clause-otherwise c =
       | then-bar-gt0 w ↦ none_by_first d list.blocks.items c.args.i c.args.j _ r.list.coded r.list.proper
           (not_usable d.graph list.blocks.items list.usable.items c.args.i r.list.usable within
           (sym w.is_usable.ensures ∙ (sym w.value-is ∙ refused)))
-      | else-bar-gt0 w ↦ none_by_zero d list.blocks.items c.args.i c.args.j _ (omega (arith, c.bar.ensures, w.if-bar-gt0.false))
+      | else-bar-gt0 w ↦ none_by_zero d list.blocks.items c.args.i c.args.j _
+          (omega (arith, c.bar.ensures, w.if-bar-gt0.false))
     ]
