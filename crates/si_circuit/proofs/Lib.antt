@@ -6,4 +6,5 @@ pub mod WordLemmas
 pub mod TraceLemmas
 pub mod InsertedLemmas
 pub mod CircuitLemmas
+pub mod CurrentLemmas
 mod SpelledExamples
