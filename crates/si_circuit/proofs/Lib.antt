@@ -7,4 +7,5 @@ pub mod TraceLemmas
 pub mod InsertedLemmas
 pub mod CircuitLemmas
 pub mod CurrentLemmas
+pub mod LineLemmas
 mod SpelledExamples
