@@ -1,5 +1,6 @@
 pub mod Interval
 pub mod Blocks
+pub mod Adding
 pub mod Parts
 pub mod Blocking
 pub mod Laws

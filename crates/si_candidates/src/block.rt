@@ -1,13 +1,19 @@
 //! A block with what a search asks of it again and again.
 
-ghost use Rattle.std.specs.Prelude.{◌≡◌, ◌↔◌, IfOk, IsTrue, length, count_by};
+ghost use Rattle.std.specs.Prelude.{◌≡◌, ℕ, ◌<◌, ◌↔◌, IfOk, IsTrue, All, Contains, length};
+ghost use Rattle.si_base.specs.declared.graph.Edge.{Edge};
 ghost use Rattle.si_base.specs.Sets.{IsIn};
+ghost use Rattle.si_base.specs.Graph.{IsGraph};
+ghost use Rattle.si_base.specs.Codes.{IsDeterministic};
 ghost use Rattle.si_candidates.specs.Blocks.{AreDisjoint};
-ghost use Rattle.si_candidates.specs.Blocking.{MaySwitch};
+ghost use Rattle.si_candidates.specs.Blocking.{MaySwitch, MayPass, MayLeave, KeepsExit};
 
+use si_base::graph::Edge;
 use si_base::ids::{NoMemory, StateId};
 use si_base::sets::StateSet;
 use si_checks::proper::Proper;
+use si_graph::graph::Graph;
+use si_regions::state_list::StateList;
 use std::alloc::Global;
 use std::marker::Model;
 
@@ -15,15 +21,19 @@ use std::marker::Model;
 #[derive(Drop)]
 pub struct Block {
     set: StateSet,
-    states: Vec<StateId>,
+    states: StateList,
 }
 
 impl Model for Block {
     ghost use Rattle.std.specs.Prelude.{List, Bool};
+    ghost use Rattle.si_base.specs.Sets.{IsIn};
+    ghost use Rattle.si_regions.specs.Regions.{IsSetOf};
 
     ghost Value = { List Bool };
 
     ghost view = { λ b. b.set };
+
+    ghost invariant = { λ b. IsSetOf (IsIn b.set) b.states };
 }
 
 impl Block {
@@ -33,9 +43,18 @@ impl Block {
     pub fn of(alloc: Global, set: &StateSet) -> Result<Block, NoMemory>
         ensures { IfOk result (λ b. b ≡ set.now) }
     {
-        let _ = alloc;
-        let _ = set;
-        Err(NoMemory)
+        let mut copy = StateSet::new(alloc, set.size())?;
+        let mut states = Vec::new(alloc);
+        for s in 0..set.size() {
+            if set.has(StateId(s)) {
+                copy.add(StateId(s));
+                states.push(StateId(s))?;
+            }
+        }
+        Ok(Block {
+            set: copy,
+            states: StateList::of(states),
+        })
     }
 
     /// The set.
@@ -43,5 +62,121 @@ impl Block {
         ensures { result.now ≡ self.now }
     {
         &self.set
+    }
+
+    /// The states in order.
+    pub fn states(&self) -> &[StateId]
+        ensures { IsSetOf (IsIn self.now) result.now }
+    {
+        self.states.as_slice()
+    }
+
+    /// Whether no state is in both blocks. It looks at the states of the smaller one alone.
+    pub fn is_apart(&self, other: &Block) -> bool
+        requires { length self.now ≡ length other.now }
+        ensures { IsTrue result ↔ AreDisjoint self.now other.now }
+    {
+        let mine = self.states();
+        let others = other.states();
+        if mine.len() <= others.len() {
+            has_none(other.set(), mine)
+        } else {
+            has_none(self.set(), others)
+        }
+    }
+
+    /// Whether a new signal may switch in the block: no input leads out of it, and what leads out
+    /// of it and was enabled before led out of it then too. It looks at the arcs of its states and
+    /// at those into the sources of its exits.
+    pub fn may_switch(&self, graph: &Proper) -> bool
+        requires { length self.now ≡ graph.now.graph.states }
+        ensures { IsTrue result ↔ MaySwitch graph.now.graph (IsIn self.now) }
+    {
+        let g = graph.coded().graph();
+        let set = self.set();
+        for s in self.states() {
+            if !arcs_may_pass(g, set, *s) {
+                return false;
+            }
+        }
+        true
+    }
+}
+
+/// Whether none of the states is in the set.
+fn has_none(set: &StateSet, states: &[StateId]) -> bool
+    requires { All (λ s. s < length set.now) states.now }
+    ensures { IsTrue result ↔ ((s : ℕ) → Contains states.now s → IsIn set.now s → ⊥) }
+{
+    for s in states {
+        if set.has(*s) {
+            return false;
+        }
+    }
+    true
+}
+
+/// Whether each arc out of the state stays in the set or may leave it.
+fn arcs_may_pass(graph: &Graph, set: &StateSet, s: StateId) -> bool
+    requires graph { IsGraph graph.now }
+    requires deterministic { IsDeterministic graph.now }
+    requires size { length set.now ≡ graph.now.states }
+    ensures { IsTrue result ↔ ((arc : Edge) → Contains graph.now.edges arc → arc.from ≡ s
+        → MayPass graph.now (IsIn set.now) arc) }
+{
+    for arc in graph.arcs_out(s) {
+        if !may_pass(graph, set, arc) {
+            return false;
+        }
+    }
+    true
+}
+
+/// Whether the arc stays in the set or may leave it.
+fn may_pass(graph: &Graph, set: &StateSet, arc: &Edge) -> bool
+    requires graph { IsGraph graph.now }
+    requires deterministic { IsDeterministic graph.now }
+    requires size { length set.now ≡ graph.now.states }
+    requires there { Contains graph.now.edges arc.now }
+    ensures { IsTrue result ↔ MayPass graph.now (IsIn set.now) arc.now }
+{
+    set.has(arc.to) || may_leave(graph, set, arc)
+}
+
+/// Whether the arc may lead out of the set.
+fn may_leave(graph: &Graph, set: &StateSet, arc: &Edge) -> bool
+    requires graph { IsGraph graph.now }
+    requires deterministic { IsDeterministic graph.now }
+    requires size { length set.now ≡ graph.now.states }
+    requires sig { arc.now.event.sig < length graph.now.signals }
+    ensures { IsTrue result ↔ MayLeave graph.now (IsIn set.now) arc.now }
+{
+    if !graph.is_driven(arc.event.sig) {
+        return false;
+    }
+    let mut at = graph.first_in(arc.from);
+    while let Some(k) = at {
+        if !keeps_exit(graph, set, arc, &graph.edge(k)) {
+            return false;
+        }
+        at = graph.next_in(k);
+    }
+    true
+}
+
+/// Whether the event of the exit led out of the set before `before` too, if it was enabled then.
+fn keeps_exit(graph: &Graph, set: &StateSet, exit: &Edge, before: &Edge) -> bool
+    requires graph { IsGraph graph.now }
+    requires deterministic { IsDeterministic graph.now }
+    requires size { length set.now ≡ graph.now.states }
+    requires from { before.now.from < graph.now.states }
+    ensures { IsTrue result ↔ KeepsExit graph.now (IsIn set.now) exit.now before.now }
+{
+    if before.event == exit.event {
+        return true;
+    }
+    match graph.succ(before.from, exit.event) {
+        None => true,
+        Some(t) => set.has(before.from) && !set.has(t),
     }
 }

@@ -1,14 +1,24 @@
 //! The blocks of a graph: sets of states in which a new signal may switch.
 
-ghost use Rattle.std.specs.Prelude.{◌≡◌, IfOk};
+ghost use Rattle.std.specs.Prelude.{◌≡◌, ◌≤◌, ◌<◌, ℕ, IfOk, OnOk, All, length, map};
+ghost use Rattle.std.specs.List.{list_any};
+ghost use Rattle.si_base.specs.Graph.{IsGraph};
+ghost use Rattle.si_base.specs.Limits.{max_signals};
 ghost use Rattle.si_regions.specs.Regions.{AreRegions};
-ghost use Rattle.si_candidates.specs.Blocks.{AreBlocks};
+ghost use Rattle.si_candidates.specs.Adding.{weight_from, with_block, with_blocks, AddsInterval, AddsIntervalsFrom, AddsIntervals};
+ghost use Rattle.si_candidates.specs.Blocks.{AreBlocks, driven_events, marked, same_set};
 
-use si_base::ids::NoMemory;
+use crate::interval::interval;
+use si_base::graph::Signal;
+use si_base::ids::{Event, NoMemory, Sig, StateId};
 use si_base::sets::StateSet;
 use si_checks::proper::Proper;
 use si_regions::regions::Region;
 use std::alloc::Global;
+use std::marker::Model;
+
+/// The most blocks of a graph.
+const MAX_BLOCKS: usize = 1024;
 
 /// The blocks of the graph, of which these are the regions: the excitation regions, the switching
 /// regions, then for each region and each event that the circuit drives the interval from the
@@ -22,8 +32,268 @@ pub fn blocks(
     requires { AreRegions graph.now regions.now.items }
     ensures { IfOk result (λ blocks. AreBlocks graph.now blocks.items) }
 {
-    let _ = alloc;
-    let _ = graph;
-    let _ = regions;
-    Err(NoMemory)
+    let mut found: Vec<Weighed> = Vec::new(alloc);
+    add_excited(alloc, graph, regions.as_slice(), &mut found)?;
+    add_switched(alloc, graph, regions.as_slice(), &mut found)?;
+    add_intervals(alloc, graph, regions.as_slice(), &mut found)?;
+    let sets = sets_of(alloc, found)?;
+    Ok(sets)
+}
+
+/// Adds the excitation regions.
+fn add_excited(
+    alloc: Global,
+    graph: &Proper,
+    regions: &[Region],
+    found: &mut Vec<Weighed>,
+) -> Result<(), NoMemory>
+    requires { AreRegions graph.now regions.now }
+    ensures { OnOk result (found.new.items ≡ with_blocks found.old.items
+        (map (λ r. marked graph.now.graph.states r.er) regions.now)) }
+{
+    let g = graph.coded().graph();
+    for r in regions {
+        add_states(alloc, g.states(), r.er.as_slice(), found)?;
+    }
+    Ok(())
+}
+
+/// Adds the switching regions.
+fn add_switched(
+    alloc: Global,
+    graph: &Proper,
+    regions: &[Region],
+    found: &mut Vec<Weighed>,
+) -> Result<(), NoMemory>
+    requires { AreRegions graph.now regions.now }
+    ensures { OnOk result (found.new.items ≡ with_blocks found.old.items
+        (map (λ r. marked graph.now.graph.states r.sr) regions.now)) }
+{
+    let g = graph.coded().graph();
+    for r in regions {
+        add_states(alloc, g.states(), r.sr.as_slice(), found)?;
+    }
+    Ok(())
+}
+
+/// Adds the intervals from each switching region up to each event that the circuit drives.
+fn add_intervals(
+    alloc: Global,
+    graph: &Proper,
+    regions: &[Region],
+    found: &mut Vec<Weighed>,
+) -> Result<(), NoMemory>
+    requires { AreRegions graph.now regions.now }
+    ensures { OnOk result (AddsIntervals graph.now.graph
+        (driven_events 0 graph.now.graph.signals) regions.now found.old.items found.new.items) }
+{
+    let g = graph.coded().graph();
+    let stops = driven(alloc, g.signals())?;
+    for r in regions {
+        add_intervals_from(alloc, graph, r.sr.as_slice(), stops.as_slice(), found)?;
+    }
+    Ok(())
+}
+
+/// Adds the intervals from these states up to each of the events.
+fn add_intervals_from(
+    alloc: Global,
+    graph: &Proper,
+    from: &[StateId],
+    stops: &[Event],
+    found: &mut Vec<Weighed>,
+) -> Result<(), NoMemory>
+    requires graph { IsGraph graph.now.graph }
+    requires from { All (λ s. s < graph.now.graph.states) from.now }
+    ensures { OnOk result (AddsIntervalsFrom graph.now.graph
+        (marked graph.now.graph.states from.now) stops.now found.old.items found.new.items) }
+{
+    if found.len() >= MAX_BLOCKS {
+        return Ok(());
+    }
+    let from = marked_set(alloc, graph.coded().graph().states(), from)?;
+    for stop in stops {
+        add_interval(alloc, graph, &from, stop, found)?;
+    }
+    Ok(())
+}
+
+/// Adds the interval from the set up to the event.
+fn add_interval(
+    alloc: Global,
+    graph: &Proper,
+    from: &StateSet,
+    stop: &Event,
+    found: &mut Vec<Weighed>,
+) -> Result<(), NoMemory>
+    requires graph { IsGraph graph.now.graph }
+    requires from { length from.now ≡ graph.now.graph.states }
+    ensures { OnOk result (AddsInterval graph.now.graph from.now stop.now
+        found.old.items found.new.items) }
+{
+    if found.len() >= MAX_BLOCKS {
+        return Ok(());
+    }
+    let set = interval(alloc, graph, from, *stop)?;
+    add_block(set, found)?;
+    Ok(())
+}
+
+/// Adds the set of these states.
+fn add_states(
+    alloc: Global,
+    size: u32,
+    states: &[StateId],
+    found: &mut Vec<Weighed>,
+) -> Result<(), NoMemory>
+    requires { All (λ s. s < size) states.now }
+    ensures { OnOk result
+        (found.new.items ≡ with_block found.old.items (marked size states.now)) }
+{
+    if found.len() >= MAX_BLOCKS {
+        return Ok(());
+    }
+    let set = marked_set(alloc, size, states)?;
+    add_block(set, found)?;
+    Ok(())
+}
+
+/// Puts a set last, unless it stands already or enough sets stand.
+fn add_block(set: StateSet, found: &mut Vec<Weighed>) -> Result<(), NoMemory>
+    ensures { OnOk result (found.new.items ≡ with_block found.old.items set) }
+{
+    if found.len() >= MAX_BLOCKS {
+        return Ok(());
+    }
+    let block = Weighed::of(set);
+    if is_among(found.as_slice(), &block) {
+        return Ok(());
+    }
+    found.push(block)?;
+    Ok(())
+}
+
+/// Whether the set is among these.
+fn is_among(sets: &[Weighed], set: &Weighed) -> bool
+    ensures { result ≡ list_any (same_set set.now) sets.now }
+{
+    for x in sets {
+        if set.is_same(x) {
+            return true;
+        }
+    }
+    false
+}
+
+/// The sets alone.
+fn sets_of(alloc: Global, found: Vec<Weighed>) -> Result<Vec<StateSet>, NoMemory>
+    ensures { IfOk result (λ sets. sets.items ≡ found.items) }
+{
+    let mut sets: Vec<StateSet> = Vec::new(alloc);
+    for block in found {
+        sets.push(block.into_set())?;
+    }
+    Ok(sets)
+}
+
+/// A set with the sum of its states: sets of other sums differ, and needn't be compared.
+#[derive(Drop)]
+struct Weighed {
+    set: StateSet,
+    weight: u64,
+}
+
+impl Model for Weighed {
+    ghost use Rattle.std.specs.Prelude.{◌≡◌, List, Bool};
+    ghost use Rattle.si_candidates.specs.Adding.{weight_from};
+
+    ghost Value = { List Bool };
+
+    ghost view = { λ w. w.set };
+
+    ghost invariant = { λ w. w.weight ≡ weight_from 0 w.set };
+}
+
+impl Weighed {
+    /// The set, weighed.
+    fn of(set: StateSet) -> Weighed
+        ensures { result ≡ set }
+    {
+        let weight = weight(&set);
+        Weighed { set, weight }
+    }
+
+    /// Whether the sets have the same states.
+    fn is_same(&self, other: &Weighed) -> bool
+        ensures { result ≡ same_set self.now other.now }
+    {
+        if self.weight != other.weight {
+            return false;
+        }
+        same_states(&self.set, &other.set)
+    }
+
+    /// The set alone.
+    fn into_set(self) -> StateSet
+        ensures { result ≡ self }
+    {
+        let Weighed { set, weight: _ } = self;
+        set
+    }
+}
+
+/// The sum of the states of a set.
+fn weight(set: &StateSet) -> u64
+    ensures { result ≡ weight_from 0 set.now }
+{
+    let mut sum: u64 = 0;
+    for s in 0..set.size() {
+        if set.has(StateId(s)) {
+            sum += s as u64;
+        }
+    }
+    sum
+}
+
+/// Whether two sets have one size and the same states.
+fn same_states(x: &StateSet, y: &StateSet) -> bool
+    ensures { result ≡ same_set x.now y.now }
+{
+    if x.size() != y.size() {
+        return false;
+    }
+    for s in 0..x.size() {
+        if x.has(StateId(s)) != y.has(StateId(s)) {
+            return false;
+        }
+    }
+    true
+}
+
+/// The set of these states, among so many.
+fn marked_set(alloc: Global, size: u32, states: &[StateId]) -> Result<StateSet, NoMemory>
+    requires { All (λ s. s < size) states.now }
+    ensures { IfOk result (λ set. set ≡ marked size states.now) }
+{
+    let mut set = StateSet::new(alloc, size)?;
+    for s in states {
+        set.add(*s);
+    }
+    Ok(set)
+}
+
+/// The events of the signals that the circuit drives, in event order.
+fn driven(alloc: Global, signals: &[Signal]) -> Result<Vec<Event>, NoMemory>
+    requires { length signals.now ≤ max_signals }
+    ensures { IfOk result (λ events. events.items ≡ driven_events 0 signals.now) }
+{
+    let mut events: Vec<Event> = Vec::new(alloc);
+    for z in 0..signals.len() {
+        if signals[z].kind.is_driven() {
+            let sig = Sig(z as u8);
+            events.push(Event { sig, up: true })?;
+            events.push(Event { sig, up: false })?;
+        }
+    }
+    Ok(events)
 }

@@ -2,7 +2,11 @@
 #![tactic(auto)]
 
 pub mod block;
+#[cfg(test)]
+mod block_tests;
 pub mod blocks;
 pub mod classes;
 pub mod interval;
+pub mod laws;
+pub mod part_laws;
 pub mod parting;

@@ -27,7 +27,7 @@ count_last f xs x = sum_by_push (λ y. cond (f y) 1 0) xs x
 count_first : {A : Type 0} (f : A → Bool) (x : A) (xs : List A) → count_by f (x ∷ xs) ≡ cond (f x) 1 0 + count_by f xs
 count_first f x xs = sum_by-cons (λ y. cond (f y) 1 0) x xs
 
-eq_back : (a b : ℕ) → (a == b) ≡ (b == a)
+pub eq_back : (a b : ℕ) → (a == b) ≡ (b == a)
 eq_back a b = elim (cases_Bool (a == b)) [
   | inl same ↦ same ∙ sym (eq-eqb b a (sym (eqb-true a b same)))
   | inr apart ↦ elim (cases_Bool (b == a)) [
@@ -36,7 +36,7 @@ eq_back a b = elim (cases_Bool (a == b)) [
   ]
 ]
 
-clash_back : (x y : Key) → clashes x y ≡ clashes y x
+pub clash_back : (x y : Key) → clashes x y ≡ clashes y x
 clash_back x y = ap₂ (λ a b. a && not b) (eq_back x.code y.code) (eq_back x.excited y.excited)
 
 clashes_last : (xs : List Key) (k : Key) → clash_count (xs ++ k ∷ []) ≡ clash_count xs + count_by (clashes k) xs

@@ -7,7 +7,7 @@ use Rattle.si_base.specs.declared.ids.Event.{Event}
 use Rattle.si_base.specs.declared.graph.Edge.{Edge}
 use Rattle.si_base.specs.Bits.{bit, IsSet}
 use Rattle.si_base.specs.Graph.{StateGraph, Step, IsNonInput, arc, enables}
-use Rattle.si_base.specs.Codes.{CodedGraph, IsCoded, code}
+use Rattle.si_base.specs.Codes.{CodedGraph, AreValues, code}
 use Rattle.si_base.specs.Proper.{IsConflict}
 use Rattle.si_base.proofs.BitFacts.{same_codes}
 use Rattle.si_base.proofs.StepFacts.{no_bit, old_value}
@@ -17,38 +17,42 @@ use Rattle.si_checks.specs.Searches.{Differ}
 use Rattle.si_conflicts.specs.declared.keys.Key.{Key}
 use Rattle.si_conflicts.specs.Keys.{Switches, AreExcited, IsKey, clashes, key_at, no_key}
 
--- ---- the signals of the first n arcs
-abbrev pub ExcitedTo : StateGraph → List Edge → ℕ → ℕ → Type 0
-ExcitedTo g arcs n excited = (z : ℕ) → (bit excited z ≡ true)
+-- ---- the signals of those of the first n arcs that are P
+abbrev pub ExcitedTo : (Edge → Type 0) → List Edge → ℕ → ℕ → Type 0
+ExcitedTo P arcs n excited = (z : ℕ) → (bit excited z ≡ true)
     ↔ ((j : ℕ) × (a : Edge) × (j < n) × (j < length arcs) × (get_or arcs j a ≡ a)
-    × IsNonInput g.signals a.event.sig × (a.event.sig ≡ z))
+    × P a × (a.event.sig ≡ z))
 
-pub excited_none : (g : StateGraph) (arcs : List Edge) → ExcitedTo g arcs 0 0
-excited_none g arcs z = (
+-- the arc is of a non-input
+abbrev pub IsDrivenArc : StateGraph → Edge → Type 0
+IsDrivenArc g a = IsNonInput g.signals a.event.sig
+
+pub excited_none : (P : Edge → Type 0) (arcs : List Edge) → ExcitedTo P arcs 0 0
+excited_none P arcs z = (
   λ is. absurd (true≢false (sym is ∙ no_bit 0 0 z (omega arith) (omega arith))),
   λ found. absurd (let l = found.2 in omega arith),
 )
 
-module _ (g : StateGraph) (arcs : List Edge) (k : ℕ) (a : Edge) (old : ℕ) (inside : k < length arcs)
-    (at : a ≡ get_or arcs k a) (x : ExcitedTo g arcs k old) where
+module _ (P : Edge → Type 0) (arcs : List Edge) (k : ℕ) (a : Edge) (old : ℕ) (inside : k < length arcs)
+    (at : a ≡ get_or arcs k a) (x : ExcitedTo P arcs k old) where
   later : (z : ℕ) → bit old z ≡ true → (j : ℕ) × (b : Edge) × (j < k + 1) × (j < length arcs) × (get_or arcs j b ≡ b)
-      × IsNonInput g.signals b.event.sig × (b.event.sig ≡ z)
+      × P b × (b.event.sig ≡ z)
   later z is = let b = (x z).0 is in (b.0, b.1, (let l = b.2 in omega arith), b.3, b.4, b.5, b.6)
 
   earlier : (z : ℕ) → ((j : ℕ) × (b : Edge) × (j < k + 1) × (j < length arcs) × (get_or arcs j b ≡ b)
-      × IsNonInput g.signals b.event.sig × (b.event.sig ≡ z))
-      → (bit old z ≡ true) ⊎ (IsNonInput g.signals a.event.sig × (a.event.sig ≡ z))
+      × P b × (b.event.sig ≡ z))
+      → (bit old z ≡ true) ⊎ (P a × (a.event.sig ≡ z))
   earlier z (j, b, below, within, is, non_input, same) = elim (cases_eq j k) [
     | inl here ↦ (
         let b_is : b ≡ a =
         sym (subst (λ i. get_or arcs i b ≡ b) here is) ∙ get_or_default arcs k b a inside ∙ sym at in
-        let P : Edge → Type 0 = λ e. IsNonInput g.signals e.event.sig × (e.event.sig ≡ z) in
-        inr (subst P b_is (non_input, same)))
+        let Q : Edge → Type 0 = λ e. P e × (e.event.sig ≡ z) in
+        inr (subst Q b_is (non_input, same)))
     | inr other ↦ inl ((x z).1 (j, b, omega arith, within, is, non_input, same))
   ]
 
-  pub excited_more : (new : ℕ) → IsNonInput g.signals a.event.sig → IsSet old a.event.sig true new
-      → ExcitedTo g arcs (k + 1) new
+  pub excited_more : (new : ℕ) → P a → IsSet old a.event.sig true new
+      → ExcitedTo P arcs (k + 1) new
   excited_more new non_input set z = (
     λ is. elim (cases_eq z a.event.sig) [
       | inl same ↦ (k, a, omega arith, inside, sym at, non_input, sym same)
@@ -63,14 +67,14 @@ module _ (g : StateGraph) (arcs : List Edge) (k : ℕ) (a : Edge) (old : ℕ) (i
     ],
   )
 
-  pub excited_pass : (IsNonInput g.signals a.event.sig → ⊥) → ExcitedTo g arcs (k + 1) old
+  pub excited_pass : (P a → ⊥) → ExcitedTo P arcs (k + 1) old
   excited_pass input z = (
     λ is. later z is,
     λ found. elim (earlier z found) [ inl is ↦ is | inr here ↦ absurd (input here.0) ],
   )
 
 pub excited_all : (g : StateGraph) (s : ℕ) (arcs : List Edge) (n excited : ℕ) → AreOut g s arcs → length arcs ≤ n
-    → ExcitedTo g arcs n excited → AreExcited g s excited
+    → ExcitedTo (IsDrivenArc g) arcs n excited → AreExcited g s excited
 excited_all g s arcs n excited out all x z = (
   λ is. (
       let found = (x z).0 is in
@@ -99,12 +103,16 @@ not_same false false same = refl
 signal_within : (c : CodedGraph) (z : ℕ) → IsNonInput c.graph.signals z → z < length c.graph.signals
 signal_within c z non_input = slice_get_within c.graph.signals z non_input.0 non_input.1
 
+-- the codes are values of each signal
+abbrev pub HaveValues : CodedGraph → Type 0
+HaveValues c = (a : ℕ) → a < length c.graph.signals → AreValues c.graph a (λ s. bit (code c s) a)
+
 -- an enabled event of a signal tells its value
-value_at : (c : CodedGraph) (s z : ℕ) (up : Bool) → IsCoded c → z < length c.graph.signals
+value_at : (c : CodedGraph) (s z : ℕ) (up : Bool) → HaveValues c → z < length c.graph.signals
     → enables c.graph s (record { sig = z; up = up }) ≡ true → bit (code c s) z ≡ not up
-value_at c s z up coded within on =
+value_at c s z up values within on =
     let step = step_from_enables c.graph s (record { sig = z; up = up }) on in
-    old_value c.graph z (λ t. bit (code c t) z) s step.0 up (coded.values z within) step.1
+    old_value c.graph z (λ t. bit (code c t) z) s step.0 up (values z within) step.1
 
 -- the first place below k at which two numbers have different bits, if there is one
 other_bit : (m n k : ℕ) → ((z : ℕ) → z < k → bit m z ≡ bit n z) ⊎ ((z : ℕ) × (bit m z ≡ bit n z → ⊥))
@@ -129,7 +137,7 @@ other_bit m n (suc k) = elim (other_bit m n k) [
       | inr other ↦ all z (omega arith)
     ]
 
-module _ (c : CodedGraph) (coded : IsCoded c) where
+module _ (c : CodedGraph) (coded : HaveValues c) where
   -- what p enables q enables too
   carries : (p q : ℕ) (x y : Key) → IsKey c p x → IsKey c q y → x.excited ≡ y.excited → code c p ≡ code c q
       → (e : Event)

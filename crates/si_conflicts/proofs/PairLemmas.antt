@@ -5,7 +5,7 @@ use Rattle.std.proofs.lemmas.List.{length-append}
 use Rattle.std.proofs.lemmas.List.Elements.{Contains-get_or}
 use Rattle.std.proofs.lemmas.List.Sums.{sum_by-cons}
 use Rattle.si_base.specs.Order.{Before}
-use Rattle.si_base.specs.Codes.{CodedGraph, IsCoded}
+use Rattle.si_base.specs.Codes.{CodedGraph}
 use Rattle.si_base.specs.Proper.{IsConflict, pair_place}
 use Rattle.si_base.proofs.Sorted.{In}
 use Rattle.si_base.proofs.Unique.{contains_from_in}
@@ -13,7 +13,7 @@ use Rattle.si_base.proofs.InOrder.{InOrder, in_contains}
 use Rattle.si_conflicts.specs.declared.keys.Key.{Key}
 use Rattle.si_conflicts.specs.Conflicts.{HasConflicts}
 use Rattle.si_conflicts.specs.Keys.{IsKey, AreKeys, clashes, clash_count, no_key}
-use Rattle.si_conflicts.proofs.KeyLemmas.{clash_conflict, conflict_clash}
+use Rattle.si_conflicts.proofs.KeyLemmas.{HaveValues, clash_conflict, conflict_clash}
 
 -- ---- pairs in order, one by one
 abbrev Ordered : List (ℕ × ℕ) → Type 0
@@ -111,7 +111,7 @@ keys_tail c n x xs from = record {
 same_pair : (a : ℕ × ℕ) (p q : ℕ) → a.0 ≡ p → a.1 ≡ q → a ≡ (p, q)
 same_pair a p q one two = λ i. (one i, two i)
 
-module _ (c : CodedGraph) (coded : IsCoded c) (p : ℕ) (k : Key) (is_k : IsKey c p k) where
+module _ (c : CodedGraph) (values : HaveValues c) (p : ℕ) (k : Key) (is_k : IsKey c p k) where
   -- what a pair of the row is
   abbrev IsOfRow : ℕ → ℕ × ℕ → Type 0
   IsOfRow n pair = (pair.0 ≡ p) × (n ≤ pair.1) × IsConflict c pair
@@ -125,14 +125,14 @@ module _ (c : CodedGraph) (coded : IsCoded c) (p : ℕ) (k : Key) (is_k : IsKey 
       sound_more : (pair : ℕ × ℕ) → (In pair rest → IsOfRow (n + 1) pair) → (b : Bool) → clashes k x ≡ b
           → In pair (with_last b (p, n) rest) → IsOfRow n pair
       sound_more pair sound true clash (inl same) =
-          let is = clash_conflict c coded p n k x is_k is_x order within clash in
+          let is = clash_conflict c values p n k x is_k is_x order within clash in
           subst (λ a. IsOfRow n a) (sym same) (refl, omega arith, is)
       sound_more pair sound true clash (inr later) = further n pair (sound later)
       sound_more pair sound false none later = further n pair (sound later)
 
       complete_here : (pair : ℕ × ℕ) → pair ≡ (p, n) → IsConflict c pair → In pair (with_last (clashes k x) (p, n) rest)
       complete_here pair same is =
-          let clash = conflict_clash c coded p n k x is_k is_x (subst (λ a. IsConflict c a) same is) in
+          let clash = conflict_clash c values p n k x is_k is_x (subst (λ a. IsConflict c a) same is) in
           subst (λ b. In pair (with_last b (p, n) rest)) (sym clash) (inl same)
 
       ordered_more : ((y : ℕ × ℕ) → In y rest → IsOfRow (n + 1) y) → Ordered rest → (b : Bool)
@@ -179,7 +179,7 @@ module _ (c : CodedGraph) (coded : IsCoded c) (p : ℕ) (k : Key) (is_k : IsKey 
       (λ y there. row_sound (n + 1) xs (omega arith) tail y there) (row_ordered (n + 1) xs (omega arith) tail)
       (clashes k x)
 
-module _ (c : CodedGraph) (coded : IsCoded c) where
+module _ (c : CodedGraph) (values : HaveValues c) where
   abbrev IsFrom : ℕ → ℕ × ℕ → Type 0
   IsFrom p pair = IsConflict c pair × (p ≤ pair.0)
 
@@ -189,7 +189,7 @@ module _ (c : CodedGraph) (coded : IsCoded c) where
       let tail = keys_tail c p k ks from in
       elim (in_append (row k p (p + 1) ks) (rows (p + 1) ks) pair there) [
         | inl left ↦ (
-            let is = row_sound c coded p k (keys_head c p k ks from) (p + 1) ks (omega arith) tail pair left in
+            let is = row_sound c values p k (keys_head c p k ks from) (p + 1) ks (omega arith) tail pair left in
             (is.2, (let l = is.0 in omega arith)))
         | inr right ↦ (
             let is = rows_sound (p + 1) ks tail pair right in
@@ -205,7 +205,7 @@ module _ (c : CodedGraph) (coded : IsCoded c) where
         | inl same ↦ (
             let later : p + 1 ≤ pair.1 = (let o = is.0.order in omega arith) in
             in_left (row k p (p + 1) ks) (rows (p + 1) ks) pair
-            (row_complete c coded p k (keys_head c p k ks from) (p + 1) ks (omega arith) tail pair (same, later, is.0)))
+            (row_complete c values p k (keys_head c p k ks from) (p + 1) ks (omega arith) tail pair (same, later, is.0)))
         | inr other ↦ (
             let more : p + 1 ≤ pair.0 = (let l = is.1 in omega arith) in
             in_right (row k p (p + 1) ks) (rows (p + 1) ks) pair (rows_complete (p + 1) ks tail pair (is.0, more)))
@@ -217,9 +217,9 @@ module _ (c : CodedGraph) (coded : IsCoded c) where
       let tail = keys_tail c p k ks from in
       let head = keys_head c p k ks from in
       ordered_append (row k p (p + 1) ks) (rows (p + 1) ks)
-      (row_ordered c coded p k head (p + 1) ks (omega arith) tail) (rows_ordered (p + 1) ks tail)
+      (row_ordered c values p k head (p + 1) ks (omega arith) tail) (rows_ordered (p + 1) ks tail)
       (λ a b left right. (
-      let one = row_sound c coded p k head (p + 1) ks (omega arith) tail a left in
+      let one = row_sound c values p k head (p + 1) ks (omega arith) tail a left in
       let two = rows_sound (p + 1) ks tail b right in
       inl (let l = one.0 in let m = two.1 in omega arith)))
 

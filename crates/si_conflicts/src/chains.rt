@@ -7,6 +7,9 @@ ghost use Rattle.si_conflicts.specs.Chains.{AreChains};
 ghost use Rattle.si_conflicts.specs.Left.{LeavesConflicts};
 
 use crate::keys::Key;
+use crate::members::{Member, members};
+use crate::rings::rings;
+use crate::trial::{count_switching, told_apart};
 use si_base::ids::{NoMemory, StateId};
 use si_checks::proper::Proper;
 use si_insert::accept::Accepted;
@@ -18,7 +21,9 @@ use std::marker::Model;
 #[derive(Drop)]
 pub struct CodeChains {
     next: Vec<StateId>,
-    keys: Vec<Key>,
+    members: Vec<Member>,
+    /// Room for the keys of copies in a trial. Contracts don't see it.
+    scratch: Vec<Key>,
 }
 
 impl Model for CodeChains {
@@ -26,7 +31,7 @@ impl Model for CodeChains {
 
     ghost Value = { Chains };
 
-    ghost view = { λ c. record { next = c.next.items; keys = c.keys.items } };
+    ghost view = { λ c. record { next = c.next.items; members = c.members.items } };
 }
 
 impl CodeChains {
@@ -34,9 +39,15 @@ impl CodeChains {
     pub fn new(alloc: Global, graph: &Proper) -> Result<CodeChains, NoMemory>
         ensures { IfOk result (AreChains graph.now) }
     {
-        let _ = alloc;
-        let _ = graph;
-        Err(NoMemory)
+        let coded = graph.coded();
+        let next = rings(alloc, coded)?;
+        let members = members(alloc, coded, next.as_slice())?;
+        let scratch = Vec::new(alloc);
+        Ok(CodeChains {
+            next,
+            members,
+            scratch,
+        })
     }
 
     /// The next state of the state's ring: the state itself where no other has its code.
@@ -60,10 +71,12 @@ impl CodeChains {
         ensures conflicts { IfOk result (LeavesConflicts graph.now accepted.now) }
         ensures chains { self.new ≡ self.old }
     {
-        let _ = alloc;
-        let _ = graph;
-        let _ = accepted;
-        Err(NoMemory)
+        let given = graph.coded().graph();
+        let classes = accepted.partition().classes();
+        let members = self.members.as_slice();
+        let told = told_apart(members, classes, u64::MAX);
+        let rest = count_switching(alloc, &mut self.scratch, given, classes, members)?;
+        Ok(told + rest)
     }
 
     /// The same for the classes of a lawful partition, or None where it leaves `bar` conflicts or
@@ -83,10 +96,21 @@ impl CodeChains {
             ((n : ℕ) → LeavesConflicts graph.now classes.now n → bar ≤ n)) }
         ensures chains { self.new ≡ self.old }
     {
-        let _ = alloc;
-        let _ = graph;
-        let _ = classes;
-        let _ = bar;
-        Err(NoMemory)
+        let given = graph.coded().graph();
+        let members = self.members.as_slice();
+        let told = told_apart(members, classes, bar);
+        if told >= bar {
+            return Ok(None);
+        }
+        let rest = count_switching(alloc, &mut self.scratch, given, classes, members)?;
+        Ok(below(told + rest, bar))
     }
+}
+
+/// The number where it is below the bar.
+fn below(n: u64, bar: u64) -> Option<u64>
+    ensures some { IfSome result (λ m. (m ≡ n) × (n < bar)) }
+    ensures none { IfNone result (bar ≤ n) }
+{
+    if n < bar { Some(n) } else { None }
 }

@@ -1,6 +1,6 @@
 //! The number of pairs of keys that are a conflict.
 
-ghost use Rattle.std.specs.Prelude.{◌≡◌, ◌≢◌, ℕ, ◌+◌, ◌<◌, ◌≤◌, ◌^◌, IfOk, OnOk, length};
+ghost use Rattle.std.specs.Prelude.{◌≡◌, ◌≢◌, ℕ, ◌+◌, ◌*◌, ◌<◌, ◌≤◌, ◌^◌, IfOk, OnOk, length};
 ghost use Rattle.std.specs.BTreeMap.{get};
 ghost use Rattle.std.specs.Map.{count_at};
 ghost use Rattle.std.specs.Ordering.{nat_cmp};
@@ -16,7 +16,8 @@ use std::collections::BTreeMap;
 /// without those that are equal to it.
 pub fn count_clashes(alloc: Global, keys: &[Key]) -> Result<u64, NoMemory>
     requires { length keys.now ≤ max_states }
-    ensures { IfOk result (λ n. n ≡ clash_count keys.now) }
+    ensures is { IfOk result (λ n. n ≡ clash_count keys.now) }
+    ensures few { IfOk result (λ n. n ≤ max_states * max_states) }
 {
     let mut of_code: BTreeMap<Code, u32> = BTreeMap::new(alloc);
     let mut of_key: BTreeMap<Key, u32> = BTreeMap::new(alloc);

@@ -1,7 +1,7 @@
 //! What tells whether two states are a conflict.
 
 ghost use Rattle.std.specs.Prelude.{◌≡◌, ℕ, ◌<◌, ◌↔◌, IfOk, IsTrue, length, true};
-ghost use Rattle.si_conflicts.specs.Keys.{AreExcited, AreKeys, clashes, key_at};
+ghost use Rattle.si_conflicts.specs.Keys.{AreExcited, AreKeys, IsKey, clashes, key_at};
 
 use si_base::ids::{Code, NoMemory, StateId};
 use si_graph::coded::Coded;
@@ -23,12 +23,20 @@ pub fn keys(alloc: Global, coded: &Coded) -> Result<Vec<Key>, NoMemory>
     let mut keys: Vec<Key> = Vec::new(alloc);
     for k in 0..states {
         let s = StateId(k);
-        keys.push(Key {
-            code: coded.code(s),
-            excited: excited(coded, s),
-        })?;
+        keys.push(state_key(coded, s))?;
     }
     Ok(keys)
+}
+
+/// The key of a state, from the graph.
+pub fn state_key(coded: &Coded, s: StateId) -> Key
+    requires { s < coded.now.graph.states }
+    ensures { IsKey coded.now s result }
+{
+    Key {
+        code: coded.code(s),
+        excited: excited(coded, s),
+    }
 }
 
 /// The signals whose non-input events the state enables.

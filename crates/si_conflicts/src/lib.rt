@@ -7,3 +7,7 @@ mod count;
 pub mod keys;
 pub mod laws;
 mod links;
+pub mod members;
+mod rings;
+pub mod tally;
+mod trial;

@@ -31,7 +31,7 @@ pub fn next_equals(alloc: Global, coded: &Coded) -> Result<Vec<Option<StateId>>,
 }
 
 /// Puts the state at the code, and answers the one that stood there.
-fn put_first(
+pub fn put_first(
     firsts: &mut BTreeMap<Code, StateId>,
     code: Code,
     s: StateId,

@@ -1,0 +1,12 @@
+pub mod Cited
+pub mod OneBest
+pub mod Searching
+pub mod Traces
+pub mod InsertionsExist
+pub mod BestExists
+pub mod EndsExist
+pub mod Going
+pub mod BlockSizes
+pub mod StateCounts
+pub mod Trying
+pub mod Finding

@@ -2,4 +2,8 @@
 #![tactic(auto)]
 
 pub mod best;
+mod block_list;
+pub mod ends;
+pub mod laws;
 pub mod resolve;
+mod search;

@@ -2,7 +2,7 @@ use Rattle.std.proofs.Common.{◌∙◌, arith, sym, subst}
 use Rattle.std.proofs.lemmas.Bool.{true≢false}
 use Rattle.si_base.specs.Graph.{StateGraph, IsNonInput}
 use Rattle.si_checks.proofs.OutLemmas.{out_signal}
-use Rattle.si_conflicts.proofs.KeyLemmas.{excited_more, excited_pass, excited_all}
+use Rattle.si_conflicts.proofs.KeyLemmas.{IsDrivenArc, excited_more, excited_pass, excited_all}
 use Rattle.si_conflicts.proofs.keys.excited.Goals as goal
 use Rattle.si_conflicts.proofs.keys.excited.Goals.{then-is_driven, else-is_driven}
 
@@ -26,10 +26,10 @@ loop-arc-preserved c =
     let same = c.graph-graph.ensures.same in
     elim c.if-is_driven.branch [
       | then-is_driven w ↦ rw w.excited-is
-          (excited_more g arcs k a c.loop-arc.excited c.loop-arc-test.true c.arc-item.is c.loop-arc.invariant
+          (excited_more (IsDrivenArc g) arcs k a c.loop-arc.excited c.loop-arc-test.true c.arc-item.is c.loop-arc.invariant
           w.set-excited.result (subst Driven same (c.is_driven.ensures.0 w.if-is_driven.true)) w.set-excited.ensures)
       | else-is_driven w ↦ rw w.excited-is
-          (excited_pass g arcs k a c.loop-arc.excited c.loop-arc-test.true c.arc-item.is c.loop-arc.invariant
+          (excited_pass (IsDrivenArc g) arcs k a c.loop-arc.excited c.loop-arc-test.true c.arc-item.is c.loop-arc.invariant
           (λ driven. true≢false (sym (c.is_driven.ensures.1 (subst Driven (sym same) driven)) ∙ w.if-is_driven.false)))
     ]
 

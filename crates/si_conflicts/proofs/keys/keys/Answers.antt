@@ -12,5 +12,5 @@ loop-k-preserved c =
       most = omega (arith, c.loop-k-test.true, states);
       each = rw c.in_ok-push.ensures.items
           (keys_more d c.loop-k.k c.loop-k.keys.items _ c.loop-k.invariant.count c.loop-k.invariant.each
-          (record { code_is = c.code.ensures; excited_are = c.excited.ensures }));
+          c.state_key.ensures);
     }

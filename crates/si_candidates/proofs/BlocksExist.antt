@@ -1,0 +1,93 @@
+-- A coded graph has one list of blocks.
+use Rattle.std.proofs.Common.{◌≡◌, Bool, List, [], ◌∷◌, ◌++◌, length, refl, sym, ap, ap₂, subst, ◌∙◌, append_assoc}
+use Rattle.std.proofs.lemmas.List.{append-nil}
+use Rattle.si_base.specs.declared.ids.Event.{Event}
+use Rattle.si_base.specs.Graph.{StateGraph, IsGraph}
+use Rattle.si_base.specs.Codes.{CodedGraph, IsCoded}
+use Rattle.si_regions.specs.declared.regions.Region.{Region}
+use Rattle.si_regions.proofs.UniqueRegions.{one_list}
+use Rattle.si_regions.proofs.RegionsExist.{some_regions}
+use Rattle.si_candidates.specs.Interval.{IsInterval}
+use Rattle.si_candidates.specs.Blocks.{marked, driven_events, AreIntervalsFrom, AreIntervals, blocks_of, AreBlocks}
+use Rattle.si_candidates.proofs.IntervalLemmas.{one_interval}
+use Rattle.si_candidates.proofs.IntervalsExist.{some_interval}
+use Rattle.si_candidates.proofs.MarkedSets.{length-marked}
+
+-- ---- one list
+one_from : (g : StateGraph) (from : List Bool) (stops : List Event) (xs ys : List (List Bool))
+    → AreIntervalsFrom g from stops xs → AreIntervalsFrom g from stops ys → xs ≡ ys
+one_from g from [] [] [] a b = refl
+one_from g from [] [] (y ∷ ys) a b = absurd b
+one_from g from [] (x ∷ xs) ys a b = absurd a
+one_from g from (stop ∷ stops) [] ys a b = absurd a
+one_from g from (stop ∷ stops) (x ∷ xs) [] a b = absurd b
+one_from g from (stop ∷ stops) (x ∷ xs) (y ∷ ys) (here, rest) (other, others) =
+    ap₂ (λ z zs. z ∷ zs) (one_interval g stop from x y here other) (one_from g from stops xs ys rest others)
+
+one_each : (g : StateGraph) (stops : List Event) (regions : List Region) (xs ys : List (List Bool))
+    → AreIntervals g stops regions xs → AreIntervals g stops regions ys → xs ≡ ys
+one_each g stops [] xs ys a b = a ∙ sym b
+one_each g stops (r ∷ regions) xs ys (here, rest, is, are, more) (other, others, same, equal, again) =
+    is ∙ ap₂ (λ z zs. z ++ zs) (one_from g (marked g.states r.sr) stops here other are equal)
+    (one_each g stops regions rest others more again) ∙ sym same
+
+pub one_blocks : (c : CodedGraph) (xs ys : List (List Bool)) → AreBlocks c xs → AreBlocks c ys → xs ≡ ys
+one_blocks c xs ys a b =
+    let stops = driven_events 0 c.graph.signals in
+    let regions : a.regions ≡ b.regions = one_list c a.regions b.regions a.are b.are in
+    let same : a.intervals ≡ b.intervals = one_each c.graph stops b.regions a.intervals b.intervals
+    (subst (λ rs. AreIntervals c.graph stops rs a.intervals) regions a.intervals_are) b.intervals_are in
+    a.blocks_are ∙ ap₂ (blocks_of c.graph.states) regions same ∙ sym b.blocks_are
+
+-- ---- some list
+pub some_from : (g : StateGraph) (from : List Bool) (stops : List Event) → IsGraph g → length from ≡ g.states
+    → (sets : List (List Bool)) × AreIntervalsFrom g from stops sets
+some_from g from [] is size = ([], tt)
+some_from g from (stop ∷ stops) is size =
+    let here = some_interval g stop is from size in
+    let rest = some_from g from stops is size in
+    (here.0 ∷ rest.0, (here.1, rest.1))
+
+pub some_each : (g : StateGraph) (stops : List Event) (regions : List Region) → IsGraph g
+    → (sets : List (List Bool)) × AreIntervals g stops regions sets
+some_each g stops [] is = ([], refl)
+some_each g stops (r ∷ regions) is =
+    let here = some_from g (marked g.states r.sr) stops is (length-marked g.states r.sr) in
+    let rest = some_each g stops regions is in
+    (here.0 ++ rest.0, (here.0, rest.0, refl, here.1, rest.1))
+
+pub some_blocks : (c : CodedGraph) → IsCoded c → (blocks : List (List Bool)) × AreBlocks c blocks
+some_blocks c coded =
+    let regions = some_regions c coded in
+    let intervals = some_each c.graph (driven_events 0 c.graph.signals) regions.0 coded.graph_is in (
+      blocks_of c.graph.states regions.0 intervals.0,
+      record {
+        regions = regions.0;
+        are = regions.1;
+        intervals = intervals.0;
+        intervals_are = intervals.1;
+        blocks_are = refl;
+      },
+    )
+
+-- ---- one more
+pub from_push : (g : StateGraph) (from : List Bool) (stops : List Event) (stop : Event) (sets : List (List Bool))
+    (set : List Bool) → AreIntervalsFrom g from stops sets → IsInterval g from stop set
+    → AreIntervalsFrom g from (stops ++ stop ∷ []) (sets ++ set ∷ [])
+from_push g from [] stop [] set are is = (is, tt)
+from_push g from [] stop (x ∷ sets) set are is = absurd are
+from_push g from (s ∷ stops) stop [] set are is = absurd are
+from_push g from (s ∷ stops) stop (x ∷ sets) set (here, rest) is =
+    (here, from_push g from stops stop sets set rest is)
+
+pub each_push : (g : StateGraph) (stops : List Event) (regions : List Region) (r : Region) (sets here : List (List Bool))
+    → AreIntervals g stops regions sets → AreIntervalsFrom g (marked g.states r.sr) stops here
+    → AreIntervals g stops (regions ++ r ∷ []) (sets ++ here)
+each_push g stops [] r sets here are is = (here, [], ap (λ zs. zs ++ here) are ∙ sym (append-nil here), is, refl)
+each_push g stops (q ∷ regions) r sets here (first, rest, same, from, more) is = (
+  first,
+  rest ++ here,
+  ap (λ zs. zs ++ here) same ∙ append_assoc first rest here,
+  from,
+  each_push g stops regions r rest here more is,
+)

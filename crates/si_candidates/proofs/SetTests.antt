@@ -1,0 +1,72 @@
+-- When two sets are the same, and what they weigh.
+use Rattle.std.proofs.Common.{◌≡◌, ℕ, suc, ◌+◌, ◌<◌, Bool, true, false, if◌then◌else◌, List, [], ◌∷◌, ◌++◌, length, get_or, take, refl, sym, ap, ap₂, ◌∙◌, arith}
+use mathlib.Core.Bool.{beq}
+use Rattle.std.proofs.lemmas.Bool.{true≢false, and_parts}
+use Rattle.std.proofs.lemmas.List.{take_more, length-take-le}
+use Rattle.si_base.specs.Sets.{IsIn}
+use Rattle.si_base.proofs.Steps.{beq-refl, beq-true}
+use Rattle.si_candidates.specs.Adding.{weight_from}
+use Rattle.si_candidates.specs.Blocks.{same_set}
+
+-- ---- the test
+pub same_set-refl : (xs : List Bool) → same_set xs xs ≡ true
+same_set-refl [] = refl
+same_set-refl (x ∷ xs) = rw (beq-refl x) (same_set-refl xs)
+
+pub same_set-true : (xs ys : List Bool) → same_set xs ys ≡ true → xs ≡ ys
+same_set-true [] [] h = refl
+same_set-true [] (y ∷ ys) h = absurd (true≢false (sym h))
+same_set-true (x ∷ xs) [] h = absurd (true≢false (sym h))
+same_set-true (x ∷ xs) (y ∷ ys) h =
+    let p = and_parts (beq x y) (same_set xs ys) h in
+    ap₂ (λ a b. a ∷ b) (beq-true x y p.0) (same_set-true xs ys p.1)
+
+pub same_set-all : (xs ys : List Bool) → length xs ≡ length ys
+    → ((t : ℕ) → t < length xs → get_or xs t false ≡ get_or ys t false) → same_set xs ys ≡ true
+same_set-all [] [] size same = refl
+same_set-all [] (y ∷ ys) size same = absurd (omega arith)
+same_set-all (x ∷ xs) [] size same = absurd (omega arith)
+same_set-all (x ∷ xs) (y ∷ ys) size same =
+    let head : x ≡ y = same 0 (omega arith) in
+    let e : beq x y ≡ true = ap (λ b. beq x b) (sym head) ∙ beq-refl x in
+    rw e (same_set-all xs ys (omega arith) (λ t h. same (suc t) (omega arith)))
+
+-- sets of which something differs differ
+pub same_set-not : {A : Type 0} (of : List Bool → A) (xs ys : List Bool) → (of xs ≡ of ys → ⊥)
+    → same_set xs ys ≡ false
+same_set-not of xs ys differ = not_true (same_set xs ys) (λ same. differ (ap of (same_set-true xs ys same)))
+  where
+    not_true : (b : Bool) → (b ≡ true → ⊥) → b ≡ false
+    not_true true h = absurd (h refl)
+    not_true false h = refl
+
+-- ---- sets with the same states
+bool_same : (a b : Bool) → (a ≡ true → b ≡ true) → (b ≡ true → a ≡ true) → a ≡ b
+bool_same true true p q = refl
+bool_same true false p q = sym (p refl)
+bool_same false true p q = q refl
+bool_same false false p q = refl
+
+pub same_states : (xs ys : List Bool) → length xs ≡ length ys → ((s : ℕ) → IsIn xs s → IsIn ys s)
+    → ((s : ℕ) → IsIn ys s → IsIn xs s) → xs ≡ ys
+same_states [] [] size to back = refl
+same_states [] (y ∷ ys) size to back = absurd (omega arith)
+same_states (x ∷ xs) [] size to back = absurd (omega arith)
+same_states (x ∷ xs) (y ∷ ys) size to back =
+    ap₂ (λ a b. a ∷ b) (bool_same x y (to 0) (back 0))
+    (same_states xs ys (omega arith) (λ s. to (suc s)) (λ s. back (suc s)))
+
+-- ---- the weight
+weight_push : (a : ℕ) (xs : List Bool) (y : Bool)
+    → weight_from a (xs ++ y ∷ []) ≡ weight_from a xs + (if y then a + length xs else 0)
+weight_push a [] true = omega arith
+weight_push a [] false = omega arith
+weight_push a (x ∷ xs) true = let rest = weight_push (a + 1) xs true in omega arith
+weight_push a (x ∷ xs) false = let rest = weight_push (a + 1) xs false in omega arith
+
+pub weight_more : (xs : List Bool) (s : ℕ) (y : Bool) → s < length xs → get_or xs s false ≡ y
+    → weight_from 0 (take (s + 1) xs) ≡ weight_from 0 (take s xs) + (if y then s else 0)
+weight_more xs s y within at =
+    let size : 0 + length (take s xs) ≡ s = omega (arith, length-take-le s xs (omega arith)) in
+    ap (weight_from 0) (take_more xs s false within ∙ ap (λ b. take s xs ++ b ∷ []) at)
+    ∙ weight_push 0 (take s xs) y ∙ ap (λ n. weight_from 0 (take s xs) + (if y then n else 0)) size

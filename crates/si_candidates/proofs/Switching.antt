@@ -1,0 +1,166 @@
+-- Whether a new signal may switch in a set of states, arc by arc.
+use Rattle.std.proofs.Common.{◌≡◌, ◌≢◌, ℕ, ◌+◌, ◌<◌, ◌↔◌, ◌⊎◌, Bool, true, false, not, List, length, get_or, slice_get, All, Contains, Option, Some, None, IsTrue, refl, sym, ap, subst, ◌∙◌, arith, inl, inr}
+use Rattle.std.proofs.lemmas.Bool.{cases_Bool, cases_order, true≢false}
+use Rattle.std.proofs.lemmas.List.{get_or_default}
+use Rattle.std.proofs.lemmas.Option.{slice_get_cases}
+use Rattle.si_base.specs.declared.ids.Event.{Event}
+use Rattle.si_base.specs.declared.graph.Edge.{Edge}
+use Rattle.si_base.specs.declared.graph.Signal.{Signal}
+use Rattle.si_base.specs.declared.graph.SigKind.{SigKind}
+use Rattle.si_base.specs.declared.graph.SigKind.TheVariants.{Input, Output, Internal, Inserted}
+use Rattle.si_base.specs.Graph.{StateGraph, Step, IsGraph, IsNonInput, is_driven, arc, same_event}
+use Rattle.si_base.specs.Codes.{IsDeterministic}
+use Rattle.si_base.specs.Sets.{IsIn}
+use Rattle.si_base.proofs.StepFacts.{step_within}
+use Rattle.si_graph.specs.Arcs.{AreOut, edge_at, no_edge, IsFirstPlace, IsInto}
+use Rattle.si_graph.proofs.ClosureLemmas.{Stands, place_in_walk, none_between}
+use Rattle.si_base.proofs.Steps.{same_event-refl}
+use Rattle.si_regions.specs.Regions.{IsSetOf}
+use Rattle.si_insert.specs.Accepted.{IsInput}
+use Rattle.si_candidates.specs.Blocking.{Diamond, MaySwitch, MayPass, MayLeave, KeepsExit}
+use Rattle.si_candidates.proofs.BlockStates.{at_each}
+
+-- ---- kinds of signals
+input_drives : (x : Signal) → x.kind ≡ Input → is_driven x.kind ≡ true → ⊥
+input_drives x input driven = true≢false (sym driven ∙ ap is_driven input)
+
+pub input_is_no_other : (signals : List Signal) (a : ℕ) → IsInput signals a → IsNonInput signals a → ⊥
+input_is_no_other signals a (x, at, input) (y, also, driven) =
+    let same : x ≡ y = cc in
+    input_drives y (subst (λ (z : Signal). z.kind ≡ Input) same input) driven
+
+kind_or_input : (kind : SigKind) → (kind ≡ Input) ⊎ (is_driven kind ≡ true)
+kind_or_input Input = inl refl
+kind_or_input Output = inr refl
+kind_or_input Internal = inr refl
+kind_or_input Inserted = inr refl
+
+pub input_or_not : (signals : List Signal) (a : ℕ) → a < length signals → IsInput signals a ⊎ IsNonInput signals a
+input_or_not signals a inside = elim (slice_get_cases signals a).1 [
+  | inl found ↦ at found.0 found.2 (kind_or_input found.0.kind)
+  | inr past ↦ absurd (omega arith)
+]
+  where
+    at : (x : Signal) → slice_get signals a ≡ Some x → (x.kind ≡ Input) ⊎ (is_driven x.kind ≡ true)
+        → IsInput signals a ⊎ IsNonInput signals a
+    at x there (inl input) = inl (x, there, input)
+    at x there (inr driven) = inr (x, there, driven)
+
+-- ---- the arcs into the source of an exit
+-- those before a place keep the exit
+abbrev pub AreKept : StateGraph → List Bool → Edge → ℕ → Type 0
+AreKept g set exit n = (j : ℕ) → j < n → j < length g.edges → IsInto g.edges exit.from j
+    → KeepsExit g (IsIn set) exit (edge_at g.edges j)
+
+module _ (g : StateGraph) (set : List Bool) (exit : Edge) where
+  pub kept_none : (at : Option ℕ) → IsFirstPlace (IsInto g.edges exit.from) 0 (length g.edges) at
+      → AreKept g set exit (place_in_walk g at)
+  kept_none at first j before inside into =
+      absurd (none_between g set exit.from 0 at first j (omega arith) before inside into)
+
+  pub kept_more : (k : ℕ) (next : Option ℕ) → IsFirstPlace (IsInto g.edges exit.from) (k + 1) (length g.edges) next
+      → KeepsExit g (IsIn set) exit (edge_at g.edges k) → AreKept g set exit k
+      → AreKept g set exit (place_in_walk g next)
+  kept_more k next first here kept j before inside into = elim (cases_order j k) [
+    | inl same ↦ subst (λ (n : ℕ). KeepsExit g (IsIn set) exit (edge_at g.edges n)) (sym same) here
+    | inr (inl less) ↦ kept j less inside into
+    | inr (inr more) ↦
+        absurd (none_between g set exit.from (k + 1) next first j (omega arith) before inside into)
+  ]
+
+  pub kept_all : AreKept g set exit (length g.edges) → (before : Edge) → Contains g.edges before
+      → before.to ≡ exit.from → KeepsExit g (IsIn set) exit before
+  kept_all kept before there into =
+      let is : edge_at g.edges there.0 ≡ before = get_or_default g.edges there.0 no_edge before there.1 ∙ there.2 in
+      subst (λ (a : Edge). KeepsExit g (IsIn set) exit a) is
+      (kept there.0 there.1 there.1 (ap (λ (a : Edge). a.to) is ∙ into))
+
+-- ---- the arcs out of the set
+not_in : (set : List Bool) (s : ℕ) → (IsIn set s) ⊎ (IsIn set s → ⊥)
+not_in set s = elim (cases_Bool (get_or set s false)) [
+  | inl there ↦ inl there
+  | inr out ↦ inr (λ there. true≢false (sym there ∙ out))
+]
+
+pub switch_passes : (g : StateGraph) (set : List Bool) (a : Edge) → IsGraph g → MaySwitch g (IsIn set)
+    → Contains g.edges a → IsIn set a.from → MayPass g (IsIn set) a
+switch_passes g set a is may there from out = record { non_input = non_input; keeps = keeps }
+  where
+    non_input : IsNonInput g.signals a.event.sig
+    non_input = elim (input_or_not g.signals a.event.sig (step_within g a.from a.event a.to is there).1) [
+      | inl input ↦ absurd (out (may.inputs a.from a.event a.to input there from))
+      | inr other ↦ other
+    ]
+
+    keeps : (before : Edge) → Contains g.edges before → before.to ≡ a.from → KeepsExit g (IsIn set) a before
+    keeps before arc_in into apart t enabled = may.exits before.from a.event before.event t a.from a.to
+        (record {
+          non_input = non_input;
+          apart = λ same. apart (sym same);
+          first = enabled;
+          other = subst (λ (x : ℕ). Step g before.from before.event x) into arc_in;
+          next = there;
+        })
+        from out
+
+pub passes_switch : (g : StateGraph) (set : List Bool)
+    → ((a : Edge) → Contains g.edges a → IsIn set a.from → MayPass g (IsIn set) a) → MaySwitch g (IsIn set)
+passes_switch g set passes = record {
+  inputs = λ s e t input step from. elim (not_in set t) [
+    | inl stays ↦ stays
+    | inr out ↦ absurd (input_is_no_other g.signals e.sig input (passes (arc s e t) step from out).non_input)
+  ];
+  exits = λ s lost by t u w d from out. (passes (arc u lost w) d.next from out).keeps (arc s by u) d.other refl
+      (λ same. d.apart (sym same)) t d.first;
+}
+
+-- ---- the tests of one arc
+pub stays_passes : (g : StateGraph) (set : List Bool) (a : Edge) (has : Bool) → has ≡ get_or set a.to false
+    → has ≡ true → MayPass g (IsIn set) a
+stays_passes g set a has is stays out = absurd (out (sym is ∙ stays))
+
+pub leaves_passes : (g : StateGraph) (set : List Bool) (a : Edge) (has : Bool) → has ≡ get_or set a.to false
+    → has ≡ false → MayPass g (IsIn set) a → MayLeave g (IsIn set) a
+leaves_passes g set a has is leaves pass = pass (λ there. true≢false (sym there ∙ sym is ∙ leaves))
+
+-- the event leads from the source of the other arc to one target
+pub keeps_at : (g : StateGraph) (P : ℕ → Type 0) (exit before : Edge) (t : ℕ) → IsDeterministic g
+    → Step g before.from exit.event t → P before.from → (P t → ⊥) → KeepsExit g P exit before
+keeps_at g P exit before t one step from out apart u other =
+    (from, subst (λ x. P x → ⊥) (one before.from exit.event t u step other) out)
+
+pub apart_events : (e f : Event) → false ≡ same_event e f → e ≢ f
+apart_events e f not_same same =
+    let P : Event → Type 0 = λ x. false ≡ same_event e x in
+    true≢false (sym (same_event-refl e) ∙ sym (subst P (sym same) not_same))
+
+-- the arc at a place of the walk into s
+pub arc_there : (g : StateGraph) (s k : ℕ) (a : Edge) → (k < length g.edges) × IsInto g.edges s k
+    → a ≡ edge_at g.edges k → Contains g.edges a × (a.to ≡ s)
+arc_there g s k a stands is = (
+  (k, stands.0, get_or_default g.edges k a no_edge stands.0 ∙ sym is),
+  ap (λ (x : Edge). x.to) is ∙ stands.1,
+)
+
+-- ---- the arcs out of a state
+abbrev pub PassFrom : StateGraph → List Bool → ℕ → Type 0
+PassFrom g set s = (a : Edge) → Contains g.edges a → a.from ≡ s → MayPass g (IsIn set) a
+
+pub all_pass : (g : StateGraph) (set : List Bool) (s : ℕ) (arcs : List Edge) → AreOut g s arcs
+    → All (MayPass g (IsIn set)) arcs → PassFrom g set s
+all_pass g set s arcs out pass a there from = at_each (MayPass g (IsIn set)) arcs a pass ((out.exactly a).1 (there, from))
+
+pub out_there : (g : StateGraph) (s : ℕ) (arcs : List Edge) → AreOut g s arcs → (n : ℕ) (a : Edge) → n < length arcs
+    → a ≡ get_or arcs n a → Contains g.edges a × (a.from ≡ s)
+out_there g s arcs out n a inside at = (out.exactly a).0 (n, inside, sym at)
+
+-- the arcs out of all states of the set
+pub all_from : (g : StateGraph) (set : List Bool) (states : List ℕ) → IsSetOf (IsIn set) states
+    → All (PassFrom g set) states → MaySwitch g (IsIn set)
+all_from g set states are pass = passes_switch g set
+    (λ a there from. at_each (PassFrom g set) states a.from pass ((are.exactly a.from).1 from) a there refl)
+
+pub from_each : (g : StateGraph) (set : List Bool) (states : List ℕ) → IsGraph g → IsSetOf (IsIn set) states
+    → MaySwitch g (IsIn set) → (s : ℕ) → Contains states s → PassFrom g set s
+from_each g set states is are may s there a arc_in from = switch_passes g set a is may arc_in
+    (subst (λ (x : ℕ). IsIn set x) (sym from) ((are.exactly s).0 there))

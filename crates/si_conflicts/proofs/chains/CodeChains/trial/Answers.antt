@@ -1,0 +1,32 @@
+use Rattle.std.proofs.Common.{◌≡◌, ◌<◌, ◌≤◌, ◌∙◌, List, length, arith, ap, subst, sym}
+use Rattle.si_base.specs.Codes.{CodedGraph}
+use Rattle.si_conflicts.specs.declared.members.Member.{Member}
+use Rattle.si_conflicts.specs.Chains.{Chains}
+use Rattle.si_conflicts.proofs.RingLemmas.{few_members}
+use Rattle.si_conflicts.proofs.LeftCount.{trial_found}
+use Rattle.si_conflicts.proofs.chains.CodeChains.trial.Goals as goal
+
+pub told_apart-told-requires-clause-few : goal.told_apart-told-requires-clause-few
+told_apart-told-requires-clause-few c =
+    let few = few_members c.args.graph.now c.args.self.now.next c.args.self.now.members c.requires.chains.members_are in
+    let same = c.as_slice-members.ensures.value ∙ ap (λ (x : Chains). x.members) c.self.view_is in
+    let limit = ap (λ (d : CodedGraph). d.graph.states) c.coded.ensures.same in
+    omega (arith, few, ap (λ (xs : List Member). length xs) same, limit, c.graph-given.ensures.coded.graph_is.few_states)
+
+pub count_switching-requires-clause-few : goal.count_switching-requires-clause-few
+count_switching-requires-clause-few c =
+    let few = few_members c.args.graph.now c.args.self.now.next c.args.self.now.members c.requires.chains.members_are in
+    let same = c.as_slice-members.ensures.value ∙ ap (λ (x : Chains). x.members) c.self.view_is in
+    let limit = ap (λ (d : CodedGraph). d.graph.states) c.coded.ensures.same in
+    omega (arith, few, ap (λ (xs : List Member). length xs) same, limit, c.graph-given.ensures.coded.graph_is.few_states)
+
+pub returns-clause-conflicts : goal.returns-clause-conflicts
+returns-clause-conflicts c =
+    let few = c.told_apart-told.ensures.few in
+    let told = c.told_apart-told.ensures.all (omega (arith, few)) in
+    let members_are = c.as_slice-members.ensures.value ∙ ap (λ (x : Chains). x.members) c.self.view_is in
+    trial_found c.args.graph.now c.args.accepted.now c.args.self.now.next c.args.self.now.members
+    c.coded.result.now c.graph-given.result.now c.classes-classes.result.now c.as_slice-members.result.now
+    c.told_apart-told.result c.in_ok-rest.rest c.coded.ensures.same c.graph-given.ensures.same
+    (c.classes-classes.ensures ∙ c.partition.ensures) members_are c.graph-given.ensures.coded
+    c.requires.accepted.lawful c.requires.chains.rings c.requires.chains.members_are told c.in_ok-rest.ensures.count

@@ -1,0 +1,21 @@
+use Rattle.std.proofs.Common.{◌∙◌, arith, sym, subst, ap}
+use Rattle.si_conflicts.specs.declared.tally.Role.{Role}
+use Rattle.si_conflicts.specs.Apart.{are_apart}
+use Rattle.std.proofs.Common.{count_by, ◌≡◌, ◌+◌}
+use Rattle.si_conflicts.proofs.TallyLemmas.{meets_none, meets_plain, fewer_equal}
+use Rattle.si_conflicts.proofs.tally.Tally.conflicts.Goals as goal
+
+pub overflow_sub-result : goal.overflow_sub-result
+overflow_sub-result c = fewer_equal c.args.key.now c.requires.0 c.args.self c.requires.2
+
+pub returns-in-Absent : goal.returns-in-Absent
+returns-in-Absent c = λ entries is. sym
+    (ap (λ (r : Role). count_by (λ e. are_apart e (r, c.args.key.now)) entries) c.in-Absent.is
+    ∙ meets_none c.args.key.now entries)
+
+pub returns-in-Plain : goal.returns-in-Plain
+returns-in-Plain c = λ entries is. (
+    let few = fewer_equal c.args.key.now entries c.args.self is in
+    let met = meets_plain c.args.key.now entries c.args.self is in
+    let role = ap (λ (r : Role). count_by (λ e. are_apart e (r, c.args.key.now)) entries) c.in-Plain.is in
+    omega (arith, few, met, role))

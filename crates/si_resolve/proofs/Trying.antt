@@ -1,0 +1,257 @@
+-- What becomes of a search with each candidate.
+use Rattle.std.proofs.Common.{◌≡◌, ℕ, ◌+◌, ◌<◌, ◌≤◌, ◌⊎◌, ◌↔◌, Bool, true, false, List, [], ◌∷◌, length, count_by, slice_index_or, All, Option, Some, None, IfNone, IfSome, IsTrue, refl, sym, ap, subst, ◌∙◌, arith, inl, inr}
+use Rattle.std.proofs.lemmas.Bool.{true≢false}
+use Rattle.si_base.specs.Graph.{StateGraph, IsGraph}
+use Rattle.si_base.specs.Limits.{max_signals}
+use Rattle.si_base.specs.Codes.{CodedGraph, IsCoded}
+use Rattle.si_base.specs.Proper.{IsProper}
+use Rattle.si_base.specs.Sets.{IsIn}
+use Rattle.si_graph.proofs.MarkLemmas.{in_below}
+use Rattle.si_insert.specs.declared.partition.Class.{Class}
+use Rattle.si_insert.specs.Partition.{IsLawful}
+use Rattle.si_candidates.specs.Blocks.{AreBlocks, AreDisjoint, block_at}
+use Rattle.si_candidates.specs.Parts.{AreClasses, IsTorn}
+use Rattle.si_candidates.proofs.PartLaws.{classes_lawful, classes_unique, torn_have_none}
+use Rattle.si_conflicts.specs.Chains.{AreChains}
+use Rattle.si_conflicts.specs.Conflicts.{HasConflicts}
+use Rattle.si_conflicts.specs.Left.{LeavesConflicts}
+use Rattle.si_resolve.specs.declared.search.Found.{Found}
+use Rattle.si_resolve.specs.declared.search.Search.{Search}
+use Rattle.si_resolve.specs.Best.{Choice, IsChoice, NoneImproves}
+use Rattle.si_resolve.specs.Search.{IsBestSoFar, IsEarlier, bar}
+use Rattle.si_resolve.specs.Usable.{IsUsable, AreUsable}
+use Rattle.si_resolve.specs.Progress.{told, told_best, IsSearching, IsFound, bar_by, bar_of, MayBeAccepted, LeavesBelow, LeavesNoneBelow, NoneIsBelow, HasSameRoom}
+use Rattle.si_resolve.proofs.Cited.{accepted_by_blocks, copies_by_blocks}
+use Rattle.si_resolve.proofs.BlockSizes.{size_at}
+use Rattle.si_resolve.proofs.Searching.{search_start, search_skip, search_take, search_row, search_finds, search_finds_none, block_refuses}
+
+-- ---- a candidate alone
+pub lawful_classes : (g : StateGraph) (plus minus : List Bool) (classes : List Class) → IsGraph g
+    → length plus ≡ g.states → length minus ≡ g.states → ((s : ℕ) × IsIn plus s) → ((s : ℕ) × IsIn minus s)
+    → AreClasses g plus minus classes → IsLawful g classes
+lawful_classes g plus minus classes graph plus_size minus_size r f are =
+    let r_in = in_below plus r.0 r.1 in
+    let f_in = in_below minus f.0 f.1 in
+    classes_lawful g plus minus classes r.0 f.0 graph are r.1 (omega (arith, r_in)) f.1 (omega (arith, f_in))
+
+pub torn_leave_none : (c : CodedGraph) (plus minus : List Bool) (low s : ℕ) → IsTorn c.graph plus minus s
+    → LeavesNoneBelow c plus minus low
+torn_leave_none c plus minus low s torn classes n are leaves =
+    absurd (torn_have_none c.graph plus minus classes s are torn)
+
+pub one_leaves_none : (c : CodedGraph) (plus minus : List Bool) (classes : List Class) (low : ℕ) → IsCoded c
+    → length plus ≡ c.graph.states → length minus ≡ c.graph.states
+    → ((s : ℕ) × IsIn plus s) → ((s : ℕ) × IsIn minus s) → AreClasses c.graph plus minus classes
+    → ((n : ℕ) → LeavesConflicts c classes n → low ≤ n) → LeavesNoneBelow c plus minus low
+one_leaves_none c plus minus classes low is plus_size minus_size r f are high others n also leaves =
+    let r_in = in_below plus r.0 r.1 in
+    let f_in = in_below minus f.0 f.1 in
+    let same = classes_unique c.graph plus minus others classes r.0 f.0 is.graph_is is.connected
+    r.1 (omega (arith, r_in)) f.1 (omega (arith, f_in)) also are in
+    high n (subst (λ xs. LeavesConflicts c xs n) same leaves)
+
+pub if_none : {A : Type 0} {P Q : Type 0} (o : Option A) → (P → Q) → IfNone o P → IfNone o Q
+if_none None f is = f is
+if_none (Some x) f is = is
+
+-- ---- choices and candidates
+pub choice_usable : (c : CodedGraph) (blocks : List (List Bool)) (x : Choice) → IsCoded c → IsProper c.graph
+    → IsChoice c blocks x → IsUsable c.graph (block_at blocks x.i) × IsUsable c.graph (block_at blocks x.j)
+choice_usable c blocks x is proper choice =
+    let may = block_refuses c blocks x is proper choice in
+    let r = choice.accepted.lawful.rises in
+    let f = choice.accepted.lawful.falls in (
+      record { state = r.0; there = (choice.are.rising r.0 r.1).0 r.2; may_switch = may.0 },
+      record { state = f.0; there = (choice.are.falling f.0 f.1).0 f.2; may_switch = may.1 },
+    )
+
+pub choice_may_be : (c : CodedGraph) (blocks : List (List Bool)) (x : Choice) → AreBlocks c blocks
+    → IsChoice c blocks x → MayBeAccepted c.graph (block_at blocks x.i) (block_at blocks x.j)
+choice_may_be c blocks x are choice =
+    let order = choice.candidate.order in
+    let within = choice.candidate.within in
+    let size_i = size_at c blocks x.i are (omega (arith, order, within)) in
+    let size_j = size_at c blocks x.j are within in
+    let copies = copies_by_blocks c.graph (block_at blocks x.i) (block_at blocks x.j) x.classes size_i size_j choice.are in
+    record { disjoint = choice.candidate.disjoint; room = omega (arith, copies, choice.accepted.few_states) }
+
+pub candidate_choice : (c : CodedGraph) (blocks : List (List Bool)) (i j low n : ℕ) → IsCoded c → IsProper c.graph
+    → length c.graph.signals < max_signals → AreBlocks c blocks → i < j → j < length blocks
+    → IsUsable c.graph (block_at blocks i) → IsUsable c.graph (block_at blocks j)
+    → MayBeAccepted c.graph (block_at blocks i) (block_at blocks j)
+    → (left : LeavesBelow c (block_at blocks i) (block_at blocks j) low n)
+    → IsChoice c blocks (record { i = i; j = j; classes = left.classes; conflicts = n })
+candidate_choice c blocks i j low n is proper few are order within one other may left =
+    let g = c.graph in
+    let plus = block_at blocks i in
+    let minus = block_at blocks j in
+    let size_i = size_at c blocks i are (omega (arith, order, within)) in
+    let size_j = size_at c blocks j are within in
+    let lawful = lawful_classes g plus minus left.classes is.graph_is size_i size_j (one.state, one.there) (other.state, other.there) left.are in
+    let copies = copies_by_blocks g plus minus left.classes size_i size_j left.are in
+    record {
+      candidate = record { order = order; within = within; disjoint = may.disjoint };
+      are = left.are;
+      accepted = (accepted_by_blocks c plus minus left.classes is proper lawful left.are).1
+          (one.may_switch, other.may_switch, omega (arith, copies, may.room), few);
+      leaves = left.leaves;
+    }
+
+-- ---- the search
+bar_told : (n : ℕ) (o : Option Choice) → bar_by n (told_best o) ≡ bar n o
+bar_told n None = refl
+bar_told n (Some x) = refl
+
+pub same_room : (s : Search) → HasSameRoom s s
+same_room s = record { given = refl; best = refl; chains = refl; room = refl }
+
+pub skip : (c : CodedGraph) (blocks : List (List Bool)) (j i : ℕ) (s t : Search) → IsSearching c blocks j i s
+    → HasSameRoom s t
+    → NoneIsBelow c blocks i j (bar_of s) → IsSearching c blocks j (i + 1) t
+skip c blocks j i s t so same high =
+    let n = s.given in
+    let low : bar_by n s.best ≡ bar n so.best = ap (bar_by n) so.found ∙ bar_told n so.best in
+    let above : (y : Choice) → IsChoice c blocks y → y.j ≡ j → y.i ≡ i → bar n so.best ≤ y.conflicts =
+    λ y choice at_j at_i. (let more = high y choice at_j at_i in omega (arith, low, more)) in
+    let next = search_skip c blocks n j i so.best above so.is_best in
+    record {
+      room = same.room ∙ so.room;
+      chains = subst (AreChains c) (sym same.chains) so.chains;
+      best = so.best;
+      is_best = subst (λ m. IsBestSoFar c blocks m j (i + 1) so.best) (sym same.given) next;
+      found = same.best ∙ so.found;
+    }
+
+pub keep : (c : CodedGraph) (blocks : List (List Bool)) (j i : ℕ) (s t : Search) (x : Choice) → IsCoded c
+    → IsSearching c blocks j i s → HasSameRoom s t → IsChoice c blocks x → x.j ≡ j → x.i ≡ i
+    → x.conflicts < bar_of s → IsSearching c blocks j (i + 1) (record t { best = Some (told x) })
+keep c blocks j i s t x is so same choice at_j at_i fewer =
+    let n = s.given in
+    let low : bar_by n s.best ≡ bar n so.best = ap (bar_by n) so.found ∙ bar_told n so.best in
+    let under : x.conflicts < bar n so.best = omega (arith, low, fewer) in
+    let next = search_take c blocks n j i so.best x is choice at_j at_i under so.is_best in
+    record {
+      room = same.room ∙ so.room;
+      chains = subst (AreChains c) (sym same.chains) so.chains;
+      best = Some x;
+      is_best = subst (λ m. IsBestSoFar c blocks m j (i + 1) (Some x)) (sym same.given) next;
+      found = refl;
+    }
+
+-- a row that no accepted candidate is in, and the end of each row
+pub skip_row : (c : CodedGraph) (blocks : List (List Bool)) (j : ℕ) (s : Search) → IsSearching c blocks j 0 s
+    → ((y : Choice) → IsChoice c blocks y → y.j ≡ j → ⊥) → IsSearching c blocks (j + 1) 0 s
+skip_row c blocks j s so none = record {
+  room = so.room;
+  chains = so.chains;
+  best = so.best;
+  is_best = search_row c blocks s.given j 0 so.best (λ y choice at. absurd (none y choice at)) so.is_best;
+  found = so.found;
+}
+
+pub end_row : (c : CodedGraph) (blocks : List (List Bool)) (j : ℕ) (s : Search) → IsSearching c blocks j j s
+    → IsSearching c blocks (j + 1) 0 s
+end_row c blocks j s so = record {
+  room = so.room;
+  chains = so.chains;
+  best = so.best;
+  is_best = search_row c blocks s.given j j so.best (λ y choice at. inl (before y choice at)) so.is_best;
+  found = so.found;
+}
+  where
+    before : (y : Choice) → IsChoice c blocks y → y.j ≡ j → IsEarlier y j j
+    before y choice at = (let order = choice.candidate.order in inr (at, inl (omega (arith, order, at))))
+
+pub begin : (c : CodedGraph) (blocks : List (List Bool)) (s : Search) → s.best ≡ None → AreChains c s.chains
+    → length s.parting ≡ c.graph.states → IsSearching c blocks 0 0 s
+begin c blocks s best chains room = record {
+  room = room;
+  chains = chains;
+  best = None;
+  is_best = search_start c blocks s.given;
+  found = best;
+}
+
+-- ---- what passes a candidate over
+pub none_by_zero : (c : CodedGraph) (blocks : List (List Bool)) (i j low : ℕ) → low ≤ 0 → NoneIsBelow c blocks i j low
+none_by_zero c blocks i j low zero y choice at_j at_i = omega (arith, zero)
+
+at_both : (P : ℕ → ℕ → Type 0) (x : Choice) (i j : ℕ) → x.j ≡ j → x.i ≡ i → P x.i x.j → P i j
+at_both P x i j at_j at_i is = subst (P i) at_j (subst (λ k. P k x.j) at_i is)
+
+pub none_by_first : (c : CodedGraph) (blocks : List (List Bool)) (i j low : ℕ) → IsCoded c → IsProper c.graph
+    → (IsUsable c.graph (block_at blocks i) → ⊥) → NoneIsBelow c blocks i j low
+none_by_first c blocks i j low is proper not_usable y choice at_j at_i =
+    absurd (not_usable (subst (λ k. IsUsable c.graph (block_at blocks k)) at_i (choice_usable c blocks y is proper choice).0))
+
+pub none_by_later : (c : CodedGraph) (blocks : List (List Bool)) (j : ℕ) → IsCoded c → IsProper c.graph
+    → (IsUsable c.graph (block_at blocks j) → ⊥) → (y : Choice) → IsChoice c blocks y → y.j ≡ j → ⊥
+none_by_later c blocks j is proper not_usable y choice at_j =
+    not_usable (subst (λ k. IsUsable c.graph (block_at blocks k)) at_j (choice_usable c blocks y is proper choice).1)
+
+pub none_by_both : (c : CodedGraph) (blocks : List (List Bool)) (i j low : ℕ) → AreBlocks c blocks
+    → (MayBeAccepted c.graph (block_at blocks i) (block_at blocks j) → ⊥) → NoneIsBelow c blocks i j low
+none_by_both c blocks i j low are never y choice at_j at_i =
+    absurd (never (at_both (λ a b. MayBeAccepted c.graph (block_at blocks a) (block_at blocks b)) y i j at_j at_i
+    (choice_may_be c blocks y are choice)))
+
+pub none_by_left : (c : CodedGraph) (blocks : List (List Bool)) (i j low : ℕ)
+    → LeavesNoneBelow c (block_at blocks i) (block_at blocks j) low → NoneIsBelow c blocks i j low
+none_by_left c blocks i j low none y choice at_j at_i =
+    none y.classes y.conflicts (at_both (λ a b. AreClasses c.graph (block_at blocks a) (block_at blocks b) y.classes) y i j at_j at_i choice.are)
+    choice.leaves
+
+-- what a test of the list tells
+pub not_usable : (g : StateGraph) (blocks : List (List Bool)) (usable : List Bool) (k : ℕ) → AreUsable g blocks usable
+    → k < length blocks → slice_index_or usable k false ≡ false → IsUsable g (block_at blocks k) → ⊥
+not_usable g blocks usable k are within is_not is = true≢false (sym ((are.each k within).1 is) ∙ is_not)
+
+-- ---- in the words of the code
+pub if_some : {A : Type 0} (P Q : A → Type 0) (o : Option A) → ((x : A) → P x → Q x) → IfSome o P → IfSome o Q
+if_some P Q None f is = is
+if_some P Q (Some x) f is = f x is
+
+pub some_is : {A : Type 0} (P : A → Type 0) (o : Option A) (x : A) → o ≡ Some x → IfSome o P → P x
+some_is P o x same is = subst (λ z. IfSome z P) same is
+
+pub none_is : {A P : Type 0} (o : Option A) → o ≡ None → IfNone o P → P
+none_is {A} {P} o same is = subst (λ z. IfNone z P) same is
+
+pub at_blocks : (P : List Bool → List Bool → Type 0) (plus x minus y : List Bool) → plus ≡ x → minus ≡ y
+    → P plus minus → P x y
+at_blocks P plus x minus y one other is = subst (P x) other (subst (λ z. P z minus) one is)
+
+pub not_both : (g : StateGraph) (plus x minus y : List Bool) (b : Bool) → plus ≡ x → minus ≡ y
+    → (IsTrue b ↔ MayBeAccepted g plus minus) → b ≡ false → MayBeAccepted g x y → ⊥
+not_both g plus x minus y b one other test refused may =
+    true≢false (sym (test.1 (at_blocks (MayBeAccepted g) x plus y minus (sym one) (sym other) may)) ∙ refused)
+
+pub block_size : (c : CodedGraph) (blocks : List (List Bool)) (k : ℕ) (block : List Bool) → AreBlocks c blocks
+    → k < length blocks → block ≡ block_at blocks k → length block ≡ c.graph.states
+block_size c blocks k block are within same = ap (length {A = Bool}) same ∙ size_at c blocks k are within
+
+-- ---- the end of the search
+pub found_none : (c : CodedGraph) (blocks : List (List Bool)) (n : ℕ) (s : Search) → AreBlocks c blocks
+    → HasConflicts c n → s.given ≡ n → IsSearching c blocks (length blocks) 0 s → IfNone s.best (NoneImproves c)
+found_none c blocks n s are counted given so =
+    subst (λ o. IfNone o (NoneImproves c)) (sym so.found) (tell so.best
+    (subst (λ m. IsBestSoFar c blocks m (length blocks) 0 so.best) given so.is_best))
+  where
+    tell : (o : Option Choice) → IsBestSoFar c blocks n (length blocks) 0 o → IfNone (told_best o) (NoneImproves c)
+    tell None best = search_finds_none c blocks n are counted best
+    tell (Some x) best = tt
+
+pub found_some : (c : CodedGraph) (blocks : List (List Bool)) (n : ℕ) (s : Search) → AreBlocks c blocks
+    → HasConflicts c n → s.given ≡ n → IsSearching c blocks (length blocks) 0 s → IfSome s.best (IsFound c blocks)
+found_some c blocks n s are counted given so =
+    subst (λ o. IfSome o (IsFound c blocks)) (sym so.found) (tell so.best
+    (subst (λ m. IsBestSoFar c blocks m (length blocks) 0 so.best) given so.is_best))
+  where
+    tell : (o : Option Choice) → IsBestSoFar c blocks n (length blocks) 0 o → IfSome (told_best o) (IsFound c blocks)
+    tell None best = tt
+    tell (Some x) best = record {
+      choice = x;
+      improves = search_finds c blocks n x are counted best;
+      is_choice = best.choice;
+      tells = refl;
+    }

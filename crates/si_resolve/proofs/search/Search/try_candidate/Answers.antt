@@ -1,0 +1,52 @@
+use Rattle.std.proofs.Common.{◌<◌, length, refl, arith}
+use Rattle.si_candidates.specs.Blocks.{block_at}
+use Rattle.si_resolve.specs.Progress.{LeavesBelow, LeavesNoneBelow, bar_of}
+use Rattle.si_resolve.proofs.Trying.{at_blocks, block_size, candidate_choice, keep, none_by_left, none_is, same_room, skip, some_is}
+use Rattle.si_resolve.proofs.search.Search.try_candidate.Goals as goal
+
+pub returns-then-not-may_be_better-clause-after : goal.returns-then-not-may_be_better-clause-after
+returns-then-not-may_be_better-clause-after c =
+    skip c.args.graph.now c.args.list.now.blocks.items c.args.j c.args.i c.args.self.now c.args.self.now
+        c.requires.before (same_room c.args.self.now) (c.may_be_better.ensures.otherwise c.if-not-may_be_better.true)
+
+pub left_below-requires-clause-plus_size : goal.left_below-requires-clause-plus_size
+left_below-requires-clause-plus_size c =
+    let r = c.requires in
+    let within : c.args.i < length c.args.list.now.blocks.items = omega (arith, r.order, r.within) in
+    block_size c.args.graph.now c.args.list.now.blocks.items c.args.i _ r.list.are within c.block.ensures
+
+pub left_below-requires-clause-minus_size : goal.left_below-requires-clause-minus_size
+left_below-requires-clause-minus_size c =
+    let r = c.requires in
+    block_size c.args.graph.now c.args.list.now.blocks.items c.args.j _ r.list.are r.within c.block-2.ensures
+
+pub returns-in-Some-clause-after : goal.returns-in-Some-clause-after
+returns-in-Some-clause-after c =
+    let d = c.args.graph.now in
+    let blocks = c.args.list.now.blocks.items in
+    let i = c.args.i in
+    let j = c.args.j in
+    let r = c.requires in
+    let low = bar_of c.args.self.now in
+    let n = c.in-Some.conflicts in
+    let test = c.if-not-may_be_better.false in
+    let left : LeavesBelow d (block_at blocks i) (block_at blocks j) low n =
+    at_blocks (λ x y. LeavesBelow d x y low n) _ (block_at blocks i) _ (block_at blocks j) c.block.ensures c.block-2.ensures
+        (some_is _ c.in_ok-left.left n c.in-Some.is c.in_ok-left.ensures.below) in
+    let choice = candidate_choice d blocks i j low n r.list.coded r.list.proper r.list.few_signals r.list.are r.order r.within
+        (c.may_be_better.ensures.first test) r.usable (c.may_be_better.ensures.both test) left in
+    keep d blocks j i c.args.self.now c.left_below.new.self (record { i = i; j = j; classes = left.classes; conflicts = n })
+        r.list.coded r.before c.left_below.ensures.same choice refl refl left.fewer
+
+pub returns-in_default-clause-after : goal.returns-in_default-clause-after
+returns-in_default-clause-after c =
+    let d = c.args.graph.now in
+    let blocks = c.args.list.now.blocks.items in
+    let i = c.args.i in
+    let j = c.args.j in
+    let low = bar_of c.args.self.now in
+    let none : LeavesNoneBelow d (block_at blocks i) (block_at blocks j) low =
+    at_blocks (λ x y. LeavesNoneBelow d x y low) _ (block_at blocks i) _ (block_at blocks j) c.block.ensures c.block-2.ensures
+        (none_is c.in_ok-left.left c.in_default.is c.in_ok-left.ensures.none) in
+    skip d blocks j i c.args.self.now c.left_below.new.self c.requires.before c.left_below.ensures.same
+        (none_by_left d blocks i j low none)

@@ -1,0 +1,28 @@
+use Rattle.std.proofs.Common.{◌≡◌, length, subst, arith}
+use Rattle.si_resolve.specs.Progress.{IsSearching}
+use Rattle.si_resolve.proofs.Trying.{found_none, found_some}
+use Rattle.si_resolve.proofs.search.find_best.Goals as goal
+
+pub loop-j-init : goal.loop-j-init
+loop-j-init c = record {
+  searching = c.in_ok-search.ensures.starts c.args.list.now.blocks.items;
+  given = c.in_ok-search.ensures.given;
+}
+
+pub returns-clause-none : goal.returns-clause-none
+returns-clause-none c =
+    let d = c.args.graph.now in
+    let blocks = c.args.list.now.blocks.items in
+    let so = c.loop-j.invariant in
+    let all : c.loop-j.j ≡ length blocks = omega (arith, c.loop-j-test.false, c.loop-j.auto.j-end, c.len-j-end.ensures) in
+    found_none d blocks c.args.conflicts c.loop-j.search c.requires.list.are c.requires.counted so.given
+        (subst (λ k. IsSearching d blocks k 0 c.loop-j.search) all so.searching)
+
+pub returns-clause-some : goal.returns-clause-some
+returns-clause-some c =
+    let d = c.args.graph.now in
+    let blocks = c.args.list.now.blocks.items in
+    let so = c.loop-j.invariant in
+    let all : c.loop-j.j ≡ length blocks = omega (arith, c.loop-j-test.false, c.loop-j.auto.j-end, c.len-j-end.ensures) in
+    found_some d blocks c.args.conflicts c.loop-j.search c.requires.list.are c.requires.counted so.given
+        (subst (λ k. IsSearching d blocks k 0 c.loop-j.search) all so.searching)

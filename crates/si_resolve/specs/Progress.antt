@@ -1,0 +1,78 @@
+-- What a search for the best candidate keeps.
+use Rattle.std.specs.Prelude.{◌≡◌, ℕ, ◌+◌, ◌<◌, ◌≤◌, Bool, count_by, List, Option, Some, None, length}
+use Rattle.si_base.specs.Codes.{CodedGraph}
+use Rattle.si_base.specs.Graph.{StateGraph}
+use Rattle.si_base.specs.Limits.{max_states}
+use Rattle.si_insert.specs.declared.partition.Class.{Class}
+use Rattle.si_candidates.specs.Blocks.{AreDisjoint}
+use Rattle.si_candidates.specs.Parts.{AreClasses}
+use Rattle.si_conflicts.specs.Chains.{AreChains}
+use Rattle.si_conflicts.specs.Left.{LeavesConflicts}
+use Rattle.si_resolve.specs.Best.{Choice, IsChoice, Improves}
+use Rattle.si_resolve.specs.Search.{IsBestSoFar}
+use Rattle.si_resolve.specs.declared.search.Found.{Found}
+use Rattle.si_resolve.specs.declared.search.Search.{Search}
+
+-- the places of the blocks of a candidate and the number of conflicts, without the partition
+abbrev pub told : Choice → Found
+told x = record { i = x.i; j = x.j; conflicts = x.conflicts }
+
+abbrev pub told_best : Option Choice → Option Found
+told_best None = None
+told_best (Some x) = Some (told x)
+
+-- the search has looked at the candidates before the places j and i
+pub record IsSearching (c : CodedGraph) (blocks : List (List Bool)) (j i : ℕ) (search : Search)
+    : Type 0 where
+  pub room : length search.parting ≡ c.graph.states
+  pub chains : AreChains c search.chains
+  pub best : Option Choice
+  pub is_best : IsBestSoFar c blocks search.given j i best
+  pub found : search.best ≡ told_best best
+
+-- the search found the best candidate, which has fewer conflicts than the graph
+pub record IsFound (c : CodedGraph) (blocks : List (List Bool)) (found : Found) : Type 0 where
+  pub choice : Choice
+  pub improves : Improves c choice
+  pub is_choice : IsChoice c blocks choice
+  pub tells : found ≡ told choice
+
+-- ---- one candidate
+
+-- the given number, or that of the best so far
+abbrev pub bar_by : ℕ → Option Found → ℕ
+bar_by given None = given
+bar_by given (Some x) = x.conflicts
+
+-- the number of conflicts that the next candidate has to get below
+abbrev pub bar_of : Search → ℕ
+bar_of search = bar_by search.given search.best
+
+-- the blocks share no state, and the inserted graph has no more states than a graph may have
+pub record MayBeAccepted (g : StateGraph) (plus minus : List Bool) : Type 0 where
+  pub disjoint : AreDisjoint plus minus
+  pub room : g.states + count_by (λ b. b) plus + count_by (λ b. b) minus ≤ max_states
+
+-- the blocks have classes, which leave n conflicts, and these are fewer than the bar
+pub record LeavesBelow (c : CodedGraph) (plus minus : List Bool) (bar n : ℕ) : Type 0 where
+  pub classes : List Class
+  pub are : AreClasses c.graph plus minus classes
+  pub leaves : LeavesConflicts c classes n
+  pub fewer : n < bar
+
+-- whatever classes the blocks have leave no fewer
+abbrev pub LeavesNoneBelow : CodedGraph → List Bool → List Bool → ℕ → Type 0
+LeavesNoneBelow c plus minus bar = (classes : List Class) (n : ℕ)
+    → AreClasses c.graph plus minus classes → LeavesConflicts c classes n → bar ≤ n
+
+-- an accepted candidate at these places leaves no fewer
+abbrev pub NoneIsBelow : CodedGraph → List (List Bool) → ℕ → ℕ → ℕ → Type 0
+NoneIsBelow c blocks i j bar = (y : Choice) → IsChoice c blocks y → y.j ≡ j → y.i ≡ i
+    → bar ≤ y.conflicts
+
+-- the searches differ in nothing but the classes that the last candidate left in memory
+pub record HasSameRoom (s t : Search) : Type 0 where
+  pub given : t.given ≡ s.given
+  pub best : t.best ≡ s.best
+  pub chains : t.chains ≡ s.chains
+  pub room : length t.parting ≡ length s.parting

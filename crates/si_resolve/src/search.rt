@@ -1,0 +1,209 @@
+//! The search for the best candidate, candidate after candidate.
+
+ghost use Rattle.std.specs.Prelude.{◌≡◌, ℕ, ◌+◌, ◌<◌, ◌≤◌, ◌↔◌, Bool, false, List, IfOk, IfSome, IfNone, OnOk, IsTrue, length, count_by};
+ghost use Rattle.si_base.specs.Codes.{IsCoded};
+ghost use Rattle.si_base.specs.Sets.{IsIn};
+ghost use Rattle.si_candidates.specs.Blocks.{AreDisjoint, block_at};
+ghost use Rattle.si_conflicts.specs.Chains.{AreChains};
+ghost use Rattle.si_conflicts.specs.Conflicts.{HasConflicts};
+ghost use Rattle.si_resolve.specs.Best.{NoneImproves};
+ghost use Rattle.si_resolve.specs.Usable.{IsUsable, AreSearched};
+ghost use Rattle.si_resolve.specs.Progress.{IsSearching, IsFound, MayBeAccepted, LeavesBelow, LeavesNoneBelow, NoneIsBelow, HasSameRoom, bar_of};
+
+use crate::block_list::BlockList;
+use si_base::ids::NoMemory;
+use si_candidates::block::Block;
+use si_candidates::parting::Parting;
+use si_checks::proper::Proper;
+use si_conflicts::chains::CodeChains;
+use std::alloc::Global;
+
+/// The most states of any graph, after insertion of signals too.
+const MAX_STATES: u64 = 262_144;
+
+/// The places of the two blocks of an accepted candidate, that where the new signal rises first,
+/// and the number of conflicts that it leaves.
+#[derive(Clone, Copy, PartialEq, Eq, Debug)]
+pub(crate) struct Found {
+    pub(crate) i: usize,
+    pub(crate) j: usize,
+    pub(crate) conflicts: u64,
+}
+
+/// The number of conflicts of the given graph, the best candidate so far that leaves fewer, and the
+/// memory that each candidate takes in turn.
+#[derive(Drop)]
+struct Search {
+    given: u64,
+    best: Option<Found>,
+    chains: CodeChains,
+    parting: Parting,
+}
+
+/// The best candidate, if it leaves fewer conflicts than the graph has.
+pub(crate) fn find_best(
+    alloc: Global,
+    graph: &Proper,
+    list: &BlockList,
+    conflicts: u64,
+) -> Result<Option<Found>, NoMemory>
+    requires list { AreSearched graph.now list.now }
+    requires counted { HasConflicts graph.now conflicts }
+    ensures none { IfOk result (λ o. IfNone o (NoneImproves graph.now)) }
+    ensures some { IfOk result (λ o. IfSome o (IsFound graph.now list.now.blocks.items)) }
+{
+    let mut search = Search::new(alloc, graph, conflicts)?;
+    for j in 0..list.blocks.len() {
+        search.try_row(alloc, graph, list, j)?;
+    }
+    Ok(search.best)
+}
+
+impl Search {
+    /// The search before all candidates.
+    fn new(alloc: Global, graph: &Proper, conflicts: u64) -> Result<Search, NoMemory>
+        ensures given { IfOk result (λ s. s.given ≡ conflicts) }
+        ensures starts { IfOk result
+            (λ s. (blocks : List (List Bool)) → IsSearching graph.now blocks 0 0 s) }
+    {
+        let states = graph.coded().graph().states();
+        Ok(Search {
+            given: conflicts,
+            best: None,
+            chains: CodeChains::new(alloc, graph)?,
+            parting: Parting::new(alloc, states)?,
+        })
+    }
+
+    /// Looks at all candidates whose later block is that one.
+    fn try_row(
+        &mut self,
+        alloc: Global,
+        graph: &Proper,
+        list: &BlockList,
+        j: usize,
+    ) -> Result<(), NoMemory>
+        requires list { AreSearched graph.now list.now }
+        requires within { j < length list.now.blocks.items }
+        requires before { IsSearching graph.now list.now.blocks.items j 0 self.old }
+        ensures given { self.new.given ≡ self.old.given }
+        ensures after { OnOk result
+            (IsSearching graph.now list.now.blocks.items (j + 1) 0 self.new) }
+    {
+        if !list.is_usable(j) {
+            return Ok(());
+        }
+        for i in 0..j {
+            self.try_candidate(alloc, graph, list, i, j)?;
+        }
+        Ok(())
+    }
+
+    /// Looks at the candidate of the two blocks.
+    fn try_candidate(
+        &mut self,
+        alloc: Global,
+        graph: &Proper,
+        list: &BlockList,
+        i: usize,
+        j: usize,
+    ) -> Result<(), NoMemory>
+        requires list { AreSearched graph.now list.now }
+        requires order { i < j }
+        requires within { j < length list.now.blocks.items }
+        requires usable { IsUsable graph.now.graph (block_at list.now.blocks.items j) }
+        requires before { IsSearching graph.now list.now.blocks.items j i self.old }
+        ensures given { self.new.given ≡ self.old.given }
+        ensures after { OnOk result
+            (IsSearching graph.now list.now.blocks.items j (i + 1) self.new) }
+    {
+        if !self.may_be_better(graph, list, i, j) {
+            return Ok(());
+        }
+        let left = self.left_below(alloc, graph, list.block(i), list.block(j))?;
+        if let Some(conflicts) = left {
+            self.best = Some(Found { i, j, conflicts });
+        }
+        Ok(())
+    }
+
+    /// Whether, before anything is searched for it, the candidate of the two blocks may be accepted
+    /// and leave fewer conflicts than the best so far.
+    fn may_be_better(&self, graph: &Proper, list: &BlockList, i: usize, j: usize) -> bool
+        requires list { AreSearched graph.now list.now }
+        requires order { i < j }
+        requires within { j < length list.now.blocks.items }
+        ensures first { IsTrue result
+            → IsUsable graph.now.graph (block_at list.now.blocks.items i) }
+        ensures both { IsTrue result → MayBeAccepted graph.now.graph
+            (block_at list.now.blocks.items i) (block_at list.now.blocks.items j) }
+        ensures otherwise { result ≡ false
+            → NoneIsBelow graph.now list.now.blocks.items i j (bar_of self.now) }
+    {
+        self.bar() > 0
+            && list.is_usable(i)
+            && may_be_accepted(graph, list.block(i), list.block(j))
+    }
+
+    /// The number of conflicts that the next candidate has to get below.
+    fn bar(&self) -> u64
+        ensures { result ≡ bar_of self.now }
+    {
+        match self.best {
+            None => self.given,
+            Some(found) => found.conflicts,
+        }
+    }
+
+    /// The number of conflicts that the candidate leaves, if it is below the bar.
+    fn left_below(
+        &mut self,
+        alloc: Global,
+        graph: &Proper,
+        plus: &Block,
+        minus: &Block,
+    ) -> Result<Option<u64>, NoMemory>
+        requires coded { IsCoded graph.now }
+        requires chains { AreChains graph.now self.old.chains }
+        requires room { length self.old.parting ≡ graph.now.graph.states }
+        requires plus_size { length plus.now ≡ graph.now.graph.states }
+        requires minus_size { length minus.now ≡ graph.now.graph.states }
+        requires some_plus { (s : ℕ) × IsIn plus.now s }
+        requires some_minus { (s : ℕ) × IsIn minus.now s }
+        requires disjoint { AreDisjoint plus.now minus.now }
+        ensures below { IfOk result
+            (λ o. IfSome o (LeavesBelow graph.now plus.now minus.now (bar_of self.old))) }
+        ensures none { IfOk result
+            (λ o. IfNone o (LeavesNoneBelow graph.now plus.now minus.now (bar_of self.old))) }
+        ensures same { HasSameRoom self.old self.new }
+    {
+        let bar = self.bar();
+        if !self.parting.part(graph, plus, minus)? {
+            return Ok(None);
+        }
+        let classes = self.parting.classes();
+        let left = self.chains.trial_below(alloc, graph, classes, bar)?;
+        Ok(left)
+    }
+}
+
+/// Whether the two blocks, in each of which a new signal may switch, share no state and leave room.
+fn may_be_accepted(graph: &Proper, plus: &Block, minus: &Block) -> bool
+    requires plus_size { length plus.now ≡ graph.now.graph.states }
+    requires minus_size { length minus.now ≡ graph.now.graph.states }
+    ensures { IsTrue result ↔ MayBeAccepted graph.now.graph plus.now minus.now }
+{
+    plus.is_apart(minus) && copies(graph, plus, minus) <= MAX_STATES
+}
+
+/// The number of states after the insertion where the new signal rises in the one block and falls
+/// in the other.
+fn copies(graph: &Proper, plus: &Block, minus: &Block) -> u64
+    requires plus_size { length plus.now ≡ graph.now.graph.states }
+    requires minus_size { length minus.now ≡ graph.now.graph.states }
+    ensures { result ≡ graph.now.graph.states + count_by (λ b. b) plus.now
+        + count_by (λ b. b) minus.now }
+{
+    let states = graph.coded().graph().states();
+    states as u64 + plus.states().len() as u64 + minus.states().len() as u64
+}
