@@ -5,12 +5,15 @@ pub mod Separable
 pub mod CopyCount
 pub mod ClassesExist
 pub mod AcceptanceDecided
+mod BlockStates
+mod Switching
+mod RaisingLemmas
+mod RaisingLoops
+mod Flooding
 pub mod SetTests
 pub mod MarkedSets
 pub mod IntervalLemmas
 pub mod IntervalsExist
 pub mod BlockLists
 pub mod BlocksExist
-mod BlockStates
-mod Switching
 pub mod AddingLemmas

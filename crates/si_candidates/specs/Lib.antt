@@ -4,3 +4,4 @@ pub mod Adding
 pub mod Parts
 pub mod Blocking
 pub mod Laws
+pub mod Raising

@@ -10,3 +10,4 @@ pub mod interval;
 pub mod laws;
 pub mod part_laws;
 pub mod parting;
+mod raising;

@@ -6,7 +6,8 @@ ghost use Rattle.si_candidates.specs.Blocks.{AreDisjoint};
 ghost use Rattle.si_candidates.specs.Parts.{AreClasses, IsTorn};
 
 use crate::block::Block;
-use si_base::ids::{NoMemory, StateId};
+use crate::raising::Raising;
+use si_base::ids::NoMemory;
 use si_checks::proper::Proper;
 use si_insert::partition::Class;
 use std::alloc::Global;
@@ -16,8 +17,7 @@ use std::marker::Model;
 /// the list of the classes.
 #[derive(Drop)]
 pub struct Parting {
-    classes: Vec<Class>,
-    work: Vec<StateId>,
+    raising: Raising,
 }
 
 impl Model for Parting {
@@ -26,7 +26,7 @@ impl Model for Parting {
 
     ghost Value = { List Class };
 
-    ghost view = { λ p. p.classes.items };
+    ghost view = { λ p. p.raising.classes.items };
 }
 
 impl Parting {
@@ -34,16 +34,24 @@ impl Parting {
     pub fn new(alloc: Global, states: u32) -> Result<Parting, NoMemory>
         ensures { IfOk result (λ p. length p ≡ states) }
     {
-        let _ = alloc;
-        let _ = states;
-        Err(NoMemory)
+        Ok(Parting {
+            raising: Raising::new(alloc, states)?,
+        })
     }
 
     /// The classes of the candidate that was looked at last.
     pub fn classes(&self) -> &[Class]
         ensures { result.now ≡ self.now }
     {
-        self.classes.as_slice()
+        self.raising.classes()
+    }
+
+    /// The classes alone.
+    pub fn into_classes(self) -> Vec<Class>
+        ensures { result.items ≡ self }
+    {
+        let Parting { raising } = self;
+        raising.into_classes()
     }
 
     /// Finds the classes where the new signal rises in the one block and falls in the other, or
@@ -61,9 +69,7 @@ impl Parting {
         ensures torn { IfOk result
             (λ is. is ≡ false → (s : ℕ) × IsTorn graph.now.graph plus.now minus.now s) }
     {
-        let _ = graph;
-        let _ = plus;
-        let _ = minus;
-        Err(NoMemory)
+        let parted = self.raising.part(graph.coded(), plus, minus)?;
+        Ok(parted)
     }
 }

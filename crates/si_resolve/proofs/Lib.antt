@@ -9,4 +9,5 @@ pub mod Going
 pub mod BlockSizes
 pub mod StateCounts
 pub mod Trying
+pub mod Usability
 pub mod Finding

@@ -1,0 +1,11 @@
+use Rattle.std.proofs.Common.{◌≡◌, ℕ, ◌<◌, length}
+use Rattle.si_insert.specs.declared.partition.Class.TheVariants.{Low}
+use Rattle.si_insert.specs.Partition.{class_of}
+use Rattle.si_candidates.proofs.raising.Raising.lower.Given as goal
+
+abbrev pub invariant-loop-s : goal.invariant-loop-s
+invariant-loop-s l = record {
+  low : (k : ℕ) → k < l.s → class_of l.self.classes.items k ≡ Low;
+  size : length l.self.classes.items ≡ length l.fn.self.classes.items;
+  work : l.self.work.items ≡ l.fn.self.work.items;
+}
