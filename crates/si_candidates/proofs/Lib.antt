@@ -9,6 +9,7 @@ mod RaisingLemmas
 mod RaisingLoops
 mod Flooding
 mod BlockExamples
+mod PartExamples
 pub mod SetTests
 pub mod MarkedSets
 pub mod IntervalLemmas

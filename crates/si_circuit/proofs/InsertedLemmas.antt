@@ -31,11 +31,11 @@ use Rattle.si_circuit.proofs.DescentLemmas.{At, at_start, at_next, step_fits}
 use Rattle.si_circuit.proofs.GateLemmas.{nothing_inserted}
 
 -- ---- names
-abbrev new_signals : List TraceStep → List Signal
+abbrev pub new_signals : List TraceStep → List Signal
 new_signals trace = map (λ p. new_signal p.name) trace
 
 -- the signals of the current graph are those before, and the new ones
-signals_grow : (v : Current) (trace : List TraceStep) (u : Current) → Grows v trace u
+pub signals_grow : (v : Current) (trace : List TraceStep) (u : Current) → Grows v trace u
     → u.coded.graph.signals ≡ v.coded.graph.signals ++ new_signals trace
 signals_grow v [] u grows =
     ap (λ (w : Current). w.coded.graph.signals) (sym grows) ∙ sym (append-nil v.coded.graph.signals)

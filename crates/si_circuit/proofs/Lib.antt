@@ -6,4 +6,6 @@ pub mod WordLemmas
 pub mod TraceLemmas
 pub mod InsertedLemmas
 pub mod CircuitLemmas
+pub mod CurrentLemmas
+pub mod LineLemmas
 mod SpelledExamples

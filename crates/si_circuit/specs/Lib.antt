@@ -2,4 +2,5 @@ pub mod Gates
 pub mod Covered
 pub mod Spelled
 pub mod Spelling
+pub mod InsertionWords
 pub mod Circuits

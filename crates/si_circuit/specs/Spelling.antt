@@ -1,5 +1,5 @@
 -- How insertions are spelled: each by its name, and the words of the states at which the signal rises and falls.
-use Rattle.std.specs.Prelude.{◌≡◌, ℕ, zero, suc, ◌+◌, ◌<◌, Bool, true, false, List, [], ◌∷◌, ◌++◌, length, map, filter, if◌then◌else◌}
+use Rattle.std.specs.Prelude.{◌≡◌, ℕ, zero, suc, ◌+◌, ◌/◌, ◌^◌, ◌<◌, Bool, true, false, List, [], ◌∷◌, ◌++◌, length, map, filter, if◌then◌else◌}
 use Rattle.std.specs.List.{range_with_len, slice_index_or}
 use Rattle.si_base.specs.Bits.{bit, flip}
 use Rattle.si_base.specs.Bytes.{at_sign, digit_zero, digit_one}
@@ -82,3 +82,12 @@ pub record AreDescents (given : CodedGraph) (v : Current) (ds : List Descent) : 
   pub origins : (s : ℕ) → s < v.coded.graph.states → (descent ds s).origin ≡ origin v s
   pub values : (s k : ℕ) → s < v.coded.graph.states
       → bit (descent ds s).bits k ≡ bit (code v.coded s) (length given.graph.signals + k)
+
+-- the descent of state s of the current graph: its origin, and its code without the given signals
+abbrev pub current_descent : History → ℕ → Descent
+current_descent l s =
+    record { origin = origin l.current s; bits = code l.current.coded s / 2 ^ length l.given.graph.signals }
+
+-- the word of state s of the current graph
+unfoldable pub current_word : List (List ℕ) → History → ℕ → List ℕ
+current_word states l s = state_word states (length l.trace) (current_descent l s)

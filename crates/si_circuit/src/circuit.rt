@@ -79,7 +79,7 @@ impl Circuit {
     }
 
     /// The circuit of gates of a style.
-    fn of_style(
+    pub fn of_style(
         alloc: Global,
         resolved: Resolved,
         model: &Name,

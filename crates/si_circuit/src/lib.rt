@@ -4,6 +4,7 @@
 
 pub mod circuit;
 mod gates;
+pub mod insertion_words;
 pub mod laws;
 pub mod spelling;
 pub mod style;

@@ -3,7 +3,7 @@
 ghost use Rattle.std.specs.Prelude.{◌≡◌, ℕ, ◌<◌, ◌≤◌, ◌++◌, IfOk, OnOk, All, length};
 ghost use Rattle.si_base.specs.Limits.{code_width, max_states};
 ghost use Rattle.si_circuit.specs.Spelling as spelled;
-ghost use Rattle.si_circuit.specs.Spelling.{insertions_of};
+ghost use Rattle.si_circuit.specs.Spelling.{current_word, insertions_of};
 
 use si_base::ids::{Code, NoMemory, Sig, StateId};
 use si_base::names::Names;
@@ -39,6 +39,29 @@ pub fn insertions(alloc: Global, lineage: &Lineage, states: &Names) -> Result<Ve
         descents = descents_after(alloc, k, step.partition.classes(), descents.as_slice())?;
     }
     Ok(inserts)
+}
+
+/// The word of a state of the lineage's current graph, as `insertions` spells it: the name of the
+/// given state from which it comes, and, where signals are inserted, `@` and their values in order of
+/// insertion. It fails only where memory runs out.
+pub fn current_state_word(
+    alloc: Global,
+    lineage: &Lineage,
+    states: &Names,
+    s: StateId,
+) -> Result<Name, NoMemory>
+    requires count { length states.now ≡ lineage.now.given.graph.states }
+    requires within { s < lineage.now.current.coded.graph.states }
+    ensures { IfOk result (λ word. word ≡ current_word states.now lineage.now s) }
+{
+    // What holds of each lineage comes with its current graph.
+    let _current = lineage.current();
+    let inserted = lineage.trace().len();
+    let descent = Descent {
+        origin: lineage.origin(s),
+        bits: lineage.bits(s),
+    };
+    state_word(alloc, states, inserted, descent)
 }
 
 /// The given states, each its own origin.

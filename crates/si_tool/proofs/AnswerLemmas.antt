@@ -1,8 +1,16 @@
 -- A command comes to one answer: by its texts, and by its files where they are told.
-use Rattle.std.proofs.Common.{◌≡◌, ℕ, List, [], ◌∷◌, length, None, Result, Ok, Err, Contains, refl, ap, subst, arith}
+use Rattle.std.proofs.Common.{◌≡◌, ℕ, List, [], ◌∷◌, length, None, Result, Ok, Err, Contains, refl, sym, ap, subst, arith}
 use Rattle.std.proofs.Common.{◌⊎◌, inl, inr}
 use Rattle.si_base.specs.Codes.{CodedGraph}
 use Rattle.si_base.specs.GivenGraph.{Sg}
+use Rattle.si_base.specs.Graph.{StateGraph}
+use Rattle.si_base.specs.Netlist.{Netlist}
+use Rattle.si_base.specs.NetlistText.{netlist_text}
+use Rattle.si_base.specs.Proper.{IsProper, HasNoConflict}
+use Rattle.si_circuit.specs.Circuits.{circuit_of}
+use Rattle.si_insert.specs.Lineage.{History, as_given}
+use Rattle.si_tool.specs.Resolving.{IsResolved}
+use Rattle.si_tool.proofs.Synthesis.{is_synthesis}
 use Rattle.si_sg.specs.GivenGraph.{IsGivenBy}
 use Rattle.si_base.specs.System.{IsFor}
 use Rattle.si_circuit.specs.declared.style.Style.{Style}
@@ -13,7 +21,7 @@ use Rattle.si_system.specs.ScheduleText.{signal_names, schedule_fault, schedule_
 use Rattle.si_tool.specs.About.{about_text}
 use Rattle.si_tool.specs.Checks.{IsSound}
 use Rattle.si_tool.specs.Command.{Asked, AsksAbout, AsksOfGraph, AsksReplay, files_of}
-use Rattle.si_tool.specs.Laws.{AtMostOne, HasResult, EndsOrDeparts}
+use Rattle.si_tool.specs.Laws.{AtMostOne, HasResult, EndsOrDeparts, FreeGraphsAreSynthesised}
 use Rattle.si_tool.specs.Loads.{Contents, Counts, loads, load_well, loads_well, AreTold}
 use Rattle.si_tool.specs.Meaning.{report, synth, replay, meaning, ComesTo}
 use Rattle.si_tool.specs.Refusal.{TextRefusal, ReadFault, Answer, Output, FileRefused, TextRefused}
@@ -21,9 +29,10 @@ use Rattle.si_tool.specs.Stages.{Stage, Then, Passes}
 use Rattle.si_tool.specs.declared.command.GraphTask.TheVariants.{Tell, Synth}
 use Rattle.si_tool.specs.declared.command.Report.{Report}
 use Rattle.si_tool.proofs.ReportLemmas.{told_one, told_some}
-use Rattle.si_tool.proofs.CheckLemmas.{graph_one, proper_one, conflict_one, matched_one, replayed_one, synthesised_one}
+use Rattle.si_tool.proofs.ResolvingLemmas.{resolved_one, resolved_some}
+use Rattle.si_tool.proofs.CheckLemmas.{graph_one, proper_one, matched_one, replayed_one, synthesised_one}
 use Rattle.si_tool.proofs.LoadLemmas.{all_one, all_some, all_or_fault, as_many}
-use Rattle.si_tool.proofs.SomeLemmas.{graph_some, proper_some, conflict_some, matched_some}
+use Rattle.si_tool.proofs.SomeLemmas.{graph_some, proper_some, matched_some}
 use Rattle.si_tool.proofs.SomeLemmas.{replayed_ends, replayed_some, synthesised_some}
 use Rattle.si_tool.proofs.StageLemmas.{then_one, then_some, gives_one, gives_some, spelled_one, spelled_some}
 
@@ -35,7 +44,8 @@ report_one what file text = then_one _ _ (graph_one file text) (λ given is.
 synth_one : (style : Style) (file text : List ℕ) → AtMostOne (synth style file text)
 synth_one style file text = then_one _ _ (graph_one file text)
     (λ given is. then_one _ _ (proper_one given.graph given.states)
-    (λ coded sound. then_one _ _ (conflict_one coded given.states) (λ _ free. synthesised_one style given coded)))
+    (λ coded sound. then_one _ _ (resolved_one coded given.states sound.coded_is)
+    (λ l resolves. synthesised_one style given coded l)))
 
 replay_one : (g a n b s c : List ℕ) → AtMostOne (replay g a n b s c)
 replay_one g a n b s c = then_one _ _ (graph_one g a) (λ given is. then_one _ _ (spelled_one n _ _)
@@ -57,8 +67,22 @@ report_some what file text = then_some _ _ (graph_some file text) (λ given is. 
 synth_some : (style : Style) (file text : List ℕ) → HasResult (synth style file text)
 synth_some style file text = then_some _ _ (graph_some file text)
     (λ given is. then_some _ _ (proper_some text given is)
-    (λ coded sound. then_some _ _ (conflict_some coded given.states)
-    (λ _ free. synthesised_some style text given coded is sound free)))
+    (λ coded sound. then_some _ _ (resolved_some coded given.states sound.coded_is (is_proper given coded sound))
+    (λ l resolves. synthesised_some style text given coded l is sound resolves)))
+  where
+    is_proper : (given : Sg) (coded : CodedGraph) → IsSound given.graph coded → IsProper coded.graph
+    is_proper given coded sound = subst (λ (g : StateGraph). IsProper g) (sym sound.same_graph) sound.proper
+
+-- a graph without conflicts is its own lineage
+pub free_synthesised : FreeGraphsAreSynthesised
+free_synthesised style file text given coded is sound free =
+    let own : History = record { given = coded; trace = []; current = as_given coded } in
+    let resolves : IsResolved coded own =
+    record { given_is = refl; resolves = record { goes = refl; done = free } } in
+    let netlist : Netlist = circuit_of style given.model given.states own in
+    let output = netlist_text netlist in
+    let made = is_synthesis style text given coded own output is sound resolves refl in
+    (output, Passes given is (Passes coded sound (Passes own resolves made)))
 
 replay_some : (g a n b s c : List ℕ) → HasResult (replay g a n b s c)
 replay_some g a n b s c = then_some _ _ (graph_some g a) (λ given is. then_some _ _ (spelled_some n _ _)

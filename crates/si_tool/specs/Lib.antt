@@ -6,6 +6,7 @@ pub mod Command
 pub mod Loads
 pub mod Readings
 pub mod Checks
+pub mod Resolving
 pub mod Synthesis
 pub mod Replayed
 pub mod Reports

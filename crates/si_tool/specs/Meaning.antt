@@ -3,7 +3,7 @@ use Rattle.std.specs.Prelude.{ℕ, List, [], ◌∷◌, String, Ok, Err}
 use Rattle.std.specs.declared.alloc.Global.{Global}
 use Rattle.si_circuit.specs.declared.style.Style.{Style}
 use Rattle.si_tool.specs.About.{about_text}
-use Rattle.si_tool.specs.Checks.{proper, without_conflict, matched}
+use Rattle.si_tool.specs.Checks.{proper, matched}
 use Rattle.si_tool.specs.Command.{Asked, AsksAbout, AsksOfGraph, AsksReplay, Asks, files_of}
 use Rattle.si_tool.specs.Ending.{Ending, NoMemory, Answered}
 use Rattle.si_tool.specs.Readings.{graph_in, netlist_in, schedule_in}
@@ -11,6 +11,7 @@ use Rattle.si_tool.specs.Refusal.{FileRefusal, TextRefusal, Answer, Output, File
 use Rattle.si_tool.specs.Replayed.{replayed}
 use Rattle.si_tool.specs.Stages.{Stage, ◌>>=◌, gives}
 use Rattle.si_tool.specs.Reports.{told}
+use Rattle.si_tool.specs.Resolving.{resolved}
 use Rattle.si_tool.specs.Synthesis.{synthesised}
 use Rattle.si_tool.specs.declared.command.GraphTask.TheVariants.{Tell, Synth}
 use Rattle.si_tool.specs.declared.command.Report.{Report}
@@ -27,8 +28,8 @@ abbrev pub synth : Style → (file text : List ℕ) → Stage TextRefusal (List 
 synth style file text = do
   given ← graph_in file text
   coded ← proper given.graph given.states
-  _ ← without_conflict coded given.states
-  synthesised style given coded
+  lineage ← resolved coded given.states
+  synthesised style given coded lineage
 
 -- each file with its text
 abbrev pub replay : (graph graph_text netlist netlist_text schedule schedule_text : List ℕ)

@@ -50,12 +50,14 @@ pub fn state_name(alloc: Global, states: &Names, s: StateId) -> Result<Name, NoM
     Name::copy_of(alloc, name_at(states, s))
 }
 
-/// The name of a signal.
+/// The name of a signal, or nothing where there is no such signal.
 pub fn name_of_signal(alloc: Global, signals: &[Signal], z: Sig) -> Result<Name, NoMemory>
-    requires { z < length signals.now }
     ensures { IfOk result (λ name. name ≡ name_of signals.now z) }
 {
-    Name::copy_of(alloc, signal_name(signals, z))
+    match signals.get(z.0 as usize) {
+        Some(signal) => Name::copy_of(alloc, signal.name.bytes()),
+        None => Name::copy_of(alloc, b""),
+    }
 }
 
 /// The word of an event.

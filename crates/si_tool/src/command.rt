@@ -34,14 +34,9 @@ pub enum GraphTask {
 #[derive(Clone, Copy)]
 pub enum Command<'w> {
     /// What the program tells of itself.
-    About {
-        topic: Topic,
-    },
-    /// Something asked of one graph.
-    OfGraph {
-        task: GraphTask,
-        file: &'w str,
-    },
+    About(Topic),
+    /// Something asked of the graph in one file.
+    OfGraph(GraphTask, &'w str),
     /// The end of a schedule over a netlist beside a graph.
     Replay {
         graph: &'w str,
@@ -76,10 +71,8 @@ fn about_of(words: &[String]) -> Option<Command<'_>>
         (λ command. Asks words.now (asked_now command)) }
 {
     match words {
-        [word] if word.as_str() == "--help" => Some(Command::About { topic: Topic::Help }),
-        [word] if word.as_str() == "--version" => Some(Command::About {
-            topic: Topic::Version,
-        }),
+        [word] if word.as_str() == "--help" => Some(Command::About(Topic::Help)),
+        [word] if word.as_str() == "--version" => Some(Command::About(Topic::Version)),
         _ => None,
     }
 }
@@ -94,10 +87,7 @@ fn report_of(words: &[String]) -> Option<Command<'_>>
     match words {
         [command, file] => {
             let report = report_named(command.as_str())?;
-            Some(Command::OfGraph {
-                task: GraphTask::Tell(report),
-                file: file.as_str(),
-            })
+            Some(Command::OfGraph(GraphTask::Tell(report), file.as_str()))
         }
         _ => None,
     }
@@ -126,10 +116,7 @@ fn synth_of(words: &[String]) -> Option<Command<'_>>
     match words {
         [command, file, style] if command.as_str() == "synth" => {
             let style = style_of(style.as_str())?;
-            Some(Command::OfGraph {
-                task: GraphTask::Synth(style),
-                file: file.as_str(),
-            })
+            Some(Command::OfGraph(GraphTask::Synth(style), file.as_str()))
         }
         _ => None,
     }

@@ -11,6 +11,7 @@ pub mod readings;
 pub mod refusals;
 pub mod replayed;
 pub mod report;
+pub mod resolving;
 pub mod run;
 pub mod status;
 pub mod sure;

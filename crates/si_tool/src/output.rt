@@ -1,14 +1,14 @@
 //! What a command puts on `out`.
 
 ghost use Rattle.std.specs.Prelude.{◌≡◌, ℕ, ◌≤◌, List, [], ◌∷◌, IfOk, IfErr, Ok};
-ghost use Rattle.si_tool.specs.Command.{AsksAbout, AsksOfGraph, AsksReplay, asked_now};
-ghost use Rattle.si_tool.specs.Ending.{MayStop, MayStopLoading, ending_of};
+ghost use Rattle.si_tool.specs.Command.{AsksOfGraph, AsksReplay, asked_now};
+ghost use Rattle.si_tool.specs.Ending.{MayStopLoading, ending_of};
 ghost use Rattle.si_tool.specs.Loads as stage;
 ghost use Rattle.si_tool.specs.Loads.{loads};
-ghost use Rattle.si_tool.specs.Meaning.{ComesTo, MayStopCommand, meaning};
+ghost use Rattle.si_tool.specs.Meaning.{ComesTo, MayStopCommand};
 ghost use Rattle.si_tool.specs.Refusal.{Output};
 
-use crate::about::{Topic, about};
+use crate::about::about;
 use crate::command::{Command, GraphTask};
 use crate::refusals::Refusal;
 use crate::replayed::replay_texts;
@@ -35,24 +35,13 @@ pub fn output<'w, H: Shelf>(
     ensures same { (n : List ℕ) → H.content shelf.new n ≡ H.content shelf.old n }
 {
     match command {
-        Command::About { topic } => about_output(alloc, topic),
-        Command::OfGraph { task, file } => graph_output(alloc, task, file, shelf),
+        Command::About(topic) => Ok(about(alloc, topic)?),
+        Command::OfGraph(task, file) => graph_output(alloc, task, file, shelf),
         Command::Replay {
             graph,
             netlist,
             schedule,
         } => replay_output(alloc, graph, netlist, schedule, shelf),
-    }
-}
-
-/// What the program tells of itself.
-fn about_output<'w>(alloc: Global, topic: Topic) -> Result<Text, Refusal<'w>>
-    ensures ok { IfOk result (λ text. meaning (AsksAbout topic) [] (Ok text)) }
-    ensures err { IfErr result (λ r. MayStop (meaning (AsksAbout topic) []) (ending_of r)) }
-{
-    match about(alloc, topic) {
-        Ok(text) => Ok(text),
-        Err(_) => Err(Refusal::NoMemory),
     }
 }
 
@@ -73,24 +62,9 @@ fn graph_output<'w, H: Shelf>(
     ensures same { (n : List ℕ) → H.content shelf.new n ≡ H.content shelf.old n }
 {
     let text = load_one(alloc, file, shelf)?;
-    graph_text(alloc, task, file, &text)
-}
-
-/// What is asked of the graph that the text spells.
-fn graph_text<'w>(
-    alloc: Global,
-    task: GraphTask,
-    file: &'w str,
-    text: &[u8],
-) -> Result<Text, Refusal<'w>>
-    ensures ok { IfOk result (λ output.
-        meaning (AsksOfGraph task file.now) (text.now ∷ []) (Ok output)) }
-    ensures err { IfErr result (λ r.
-        MayStop (meaning (AsksOfGraph task file.now) (text.now ∷ [])) (ending_of r)) }
-{
     match task {
-        GraphTask::Tell(what) => report(alloc, what, file, text),
-        GraphTask::Synth(style) => synth(alloc, style, file, text),
+        GraphTask::Tell(what) => report(alloc, what, file, &text),
+        GraphTask::Synth(style) => synth(alloc, style, file, &text),
     }
 }
 

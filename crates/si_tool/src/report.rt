@@ -39,11 +39,7 @@ pub fn report<'w>(
     ensures err { IfErr result
         (λ r. MayStop (stage.report what file.now text.now) (ending_of r)) }
 {
-    let Sg {
-        model: _,
-        graph,
-        states,
-    } = graph_in(alloc, file, text)?;
+    let Sg { graph, states, .. } = graph_in(alloc, file, text)?;
     let proper = proper_of(alloc, graph, &states)?;
     match told(alloc, what, proper.coded(), &states) {
         Ok(text) => Ok(text),

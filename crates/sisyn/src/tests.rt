@@ -134,7 +134,8 @@ const INPUTS_ALONE_NETLIST: &[u8] = b".model watched
 .end
 ";
 
-/// The states `s0` and `s2` have one code, and `s2` alone enables `z+`.
+/// The states `s0` and `s2` have one code, and `s2` alone enables `z+`. Only the input switches between them, and no
+/// insertion may delay it.
 const CONFLICT: &[u8] = b".model conflict
 .inputs a
 .outputs z
@@ -382,6 +383,35 @@ fn netlists_in_both_styles(rt: HostRuntime) -> Result<(), Fail> {
         expect_gates(&rt, alloc, &SYNTH_GC, graph, head, generalised)?;
     }
     Ok(())
+}
+
+/// The lines before its gates where `csc0` is inserted.
+const VME_HEAD: &[u8] = b".model vme
+.inputs DSr LDTACK
+.outputs D DTACK LDS
+.internal
+.inserted csc0
+.start 000001
+.insert csc0 up s6 down s1
+";
+
+const VME_SUMS: &[u8] = b"D sum LDTACK csc0'
+DTACK sum D
+LDS sum csc0' + D
+csc0 sum DSr' + LDTACK csc0
+";
+
+const VME_ELEMENTS: &[u8] = b"D gc LDTACK csc0' | csc0
+DTACK gc D | D'
+LDS gc csc0' | D' csc0
+csc0 gc DSr' | DSr LDTACK'
+";
+
+#[test]
+fn conflicts_are_resolved(rt: HostRuntime) -> Result<(), Fail> {
+    let alloc = rt.alloc();
+    expect_gates(&rt, alloc, &SYNTH, VME, VME_HEAD, VME_SUMS)?;
+    expect_gates(&rt, alloc, &SYNTH_GC, VME, VME_HEAD, VME_ELEMENTS)
 }
 
 /// Handshakes one after another: state `p` of each round leads by `a+` to `q`, then by `z+` to `r`, by `a-` to `t` and
