@@ -1,0 +1,7 @@
+mod Examples
+pub mod WordLemmas
+pub mod LineLemmas
+pub mod OrderLemmas
+pub mod CubeLemmas
+pub mod CellLemmas
+pub mod PartLemmas
