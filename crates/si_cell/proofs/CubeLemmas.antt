@@ -63,7 +63,7 @@ same_is l m e = by_sig l m e
       | inr other ↦ absurd (true≢false (sym e ∙ rw other.0 refl))
     ]
 
-same_self : (l : Literal) → same_literal l l ≡ true
+pub same_self : (l : Literal) → same_literal l l ≡ true
 same_self l = elim (eqb_tells l.sig l.sig) [
   | inl same ↦ rw (same.0) (beq-refl l.plain)
   | inr other ↦ absurd (other.1 refl)

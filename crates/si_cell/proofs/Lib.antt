@@ -5,3 +5,5 @@ pub mod OrderLemmas
 pub mod CubeLemmas
 pub mod CellLemmas
 pub mod PartLemmas
+pub mod PlacedLemmas
+pub mod ExpandedLemmas

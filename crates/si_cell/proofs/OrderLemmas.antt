@@ -63,17 +63,6 @@ makes_more literals m care value care2 value2 made agree s t = record {
       | inr other ↦ rw (other.0, s.others l.sig other.1, t.others l.sig other.1) (or_false (bit care l.sig && beq (bit value l.sig) l.plain))
     ]
 
--- the complement of a literal that is there
-pub clash : (literals : List Literal) (m : Literal) (care value : ℕ) → Makes literals care value
-    → bit care m.sig ≡ true → beq (bit value m.sig) m.plain ≡ false → has_literal literals (complement m) ≡ true
-clash literals m care value made there other = made.holds (complement m) ∙ rw there (turned (bit value m.sig) m.plain other)
-  where
-    turned : (a b : Bool) → beq a b ≡ false → beq a (not b) ≡ true
-    turned true true e = absurd (true≢false e)
-    turned true false e = refl
-    turned false true e = refl
-    turned false false e = absurd (true≢false e)
-
 -- a literal of the signal of one that is there
 pub there_is : (literals : List Literal) (k care value : ℕ) → Makes literals care value → bit care k ≡ true
     → has_literal literals (record { sig = k; plain = bit value k }) ≡ true
@@ -109,7 +98,7 @@ makes_in_order literals care value made = in_order_from literals care value made
 
 -- ---- the literals of a cube rise
 
-from_on : (n i care value : ℕ) → All (λ (l : Literal). i ≤ l.sig) (literals_from n i care value)
+pub from_on : (n i care value : ℕ) → All (λ (l : Literal). i ≤ l.sig) (literals_from n i care value)
 from_on zero i care value = All-nil (λ (l : Literal). i ≤ l.sig)
 from_on (suc n) i care value = by_bit (bit care i) (λ k d inside. (let above = from_on n (i + 1) care value k d inside in omega (arith, above)))
   where

@@ -1,10 +1,11 @@
 //! The sums of instances.
 
-ghost use Rattle.std.specs.Prelude.{◌≡◌, ◌≢◌, ℕ, ◌<◌, ◌≤◌, ◌+◌, ◌++◌, ◌∷◌, [], All, MatchOption, IfOk, IsTrue, length, map, true, false};
+ghost use Rattle.std.specs.Prelude.{◌≡◌, ◌≢◌, ℕ, ◌<◌, ◌≤◌, ◌+◌, ◌++◌, ◌∷◌, [], All, MatchOption, IfOk, IsTrue, length, map, not, ◌&&◌, true, false};
+ghost use mathlib.Core.Bool.{beq};
 ghost use Rattle.si_base.specs.Bits.{bit};
 ghost use Rattle.si_base.specs.Limits.{code_width};
 ghost use Rattle.si_base.specs.Netlist.{sum_value};
-ghost use Rattle.si_base.specs.WellFormed.{IsSum};
+ghost use Rattle.si_cube.specs.Literals.{literals_of};
 ghost use Rattle.si_cell.specs.Expanded.{expanded, placed, sources};
 ghost use Rattle.si_cell.specs.Library.{IsInstance, instance_value};
 ghost use Rattle.si_cell.specs.Limits.{max_pins};
@@ -18,32 +19,62 @@ use si_cube::cube::Cube;
 use si_cube::sum::Sum;
 use std::alloc::Global;
 
-/// The cube in which each literal is replaced by what stands at its pin, or the complement of that;
-/// `None` where a literal and its complement meet.
-fn placed_cube(cube: &Cube, at_pins: &[PinLiteral]) -> Option<Cube>
-    requires pins { All (λ l. l.sig < length at_pins.now) cube.now }
+/// What stands for a literal of a cell's sum: the literal at its pin, or the complement of that.
+fn literal_at(at_pins: &[PinLiteral], pin: Sig, plain: bool) -> Literal
+    requires pin { pin < length at_pins.now }
+    requires signals { All (λ l. l.sig < code_width) at_pins.now }
+    ensures literal { result ≡ placed at_pins.now (record { sig = pin; plain = plain }) }
+    ensures signal { result.sig < code_width }
+{
+    let at_pin = at_pins[pin.0 as usize];
+    let literal = at_pin.0;
+    if plain {
+        literal
+    } else {
+        Literal {
+            sig: literal.sig,
+            plain: !literal.plain,
+        }
+    }
+}
+
+/// Whether the cube of this care and these values has the complement of the literal.
+fn has_complement(care: Code, value: Code, literal: &Literal) -> bool
+    requires { literal.now.sig < code_width }
+    ensures { result ≡ (bit care literal.now.sig && not (beq (bit value literal.now.sig) literal.now.plain)) }
+{
+    care.get(literal.sig) && value.get(literal.sig) != literal.plain
+}
+
+/// The cube in which each literal of the one of this care and these values is replaced by what
+/// stands at its pin, or the complement of that; `None` where a literal and its complement meet.
+fn placed_cube(care: Code, value: Code, at_pins: &[PinLiteral]) -> Option<Cube>
+    requires pins { All (λ l. l.sig < length at_pins.now) (literals_of care value) }
     requires few { length at_pins.now ≤ code_width }
     requires signals { All (λ l. l.sig < code_width) at_pins.now }
-    ensures { MatchOption result (IsTrue (clashes (map (placed at_pins.now) cube.now)))
-        (λ made. (clashes (map (placed at_pins.now) cube.now) ≡ false)
-        × (made ≡ in_literal_order (map (placed at_pins.now) cube.now))) }
+    ensures { MatchOption result
+        (clashes (map (placed at_pins.now) (literals_of care value)) ≡ true)
+        (λ cube. (clashes (map (placed at_pins.now) (literals_of care value)) ≡ false)
+        × (cube ≡ in_literal_order (map (placed at_pins.now) (literals_of care value)))) }
 {
-    let mut care = Code(0);
-    let mut value = Code(0);
+    let mut made_care = Code(0);
+    let mut made_value = Code(0);
     for i in 0..at_pins.len() {
         let pin = Sig(i as u8);
-        if !cube.care.get(pin) {
+        if !care.get(pin) {
             continue;
         }
-        let Literal { sig, plain } = at_pins[i].0;
-        let plain = cube.value.get(pin) == plain;
-        if care.get(sig) && value.get(sig) != plain {
+        let literal = literal_at(at_pins, pin, value.get(pin));
+        if has_complement(made_care, made_value, &literal) {
             return None;
         }
-        care = care.set(sig, true);
-        value = value.set(sig, plain);
+        made_care = made_care.set(literal.sig, true);
+        made_value = made_value.set(literal.sig, literal.plain);
     }
-    Some(Cube { care, value })
+    Some(Cube {
+        care: made_care,
+        value: made_value,
+    })
 }
 
 /// What stands at the pins of the instance and, after them, at its own output.
@@ -78,11 +109,11 @@ pub fn expand(
     ensures value { IfOk result (λ sum. (code : ℕ)
         → sum_value code sum ≡ instance_value library.now instance.now code (bit code z)) }
 {
-    let cell = &library.cells()[instance.cell as usize];
+    let cell = library.cell(instance.cell);
     let at_pins = sources_of(instance, z);
     let mut cubes = Vec::new(alloc);
     for cube in cell.sum.cubes() {
-        if let Some(made) = placed_cube(cube, at_pins.as_slice()) {
+        if let Some(made) = placed_cube(cube.care, cube.value, at_pins.as_slice()) {
             cubes.push(made)?;
         }
     }

@@ -3,7 +3,7 @@
 ghost use Rattle.std.specs.Prelude.{◌≡◌, ℕ, ◌<◌, ◌≤◌, All, length};
 ghost use Rattle.si_base.specs.Limits.{code_width};
 ghost use Rattle.si_base.specs.Netlist.{literal_value};
-ghost use Rattle.si_cell.specs.Library.{IsLibrary, IsInstance, instance_value, pin_values};
+ghost use Rattle.si_cell.specs.Library.{IsLibrary, IsInstance, cell_at, instance_value, pin_values};
 ghost use Rattle.si_cell.specs.Limits.{max_pins};
 
 use crate::cell::{Cell, Instance, PinLiteral};
@@ -52,14 +52,22 @@ impl Library {
         self.cells.as_slice()
     }
 
+    /// The cell at a place, and what holds of each library.
+    pub fn cell(&self, k: u8) -> &Cell
+        requires { k < length self.now.cells }
+        ensures cell { result.now ≡ cell_at self.now k }
+        ensures library { IsLibrary self.now }
+    {
+        &self.cells[k as usize]
+    }
+
     /// The value of the instance at the code, where the cell's own output has the value `q`.
     pub fn value(&self, instance: &Instance, code: Code, q: bool) -> bool
         requires { IsInstance self.now instance.now }
         ensures { result ≡ instance_value self.now instance.now code q }
     {
-        let cell = &self.cells[instance.cell as usize];
-        cell.sum
-            .value(values_of(instance.literals.as_slice(), code, q))
+        let values = values_of(instance.literals.as_slice(), code, q);
+        self.cell(instance.cell).sum.value(values)
     }
 }
 
@@ -79,8 +87,8 @@ pub fn values_of(literals: &[PinLiteral], code: Code, q: bool) -> Code
 {
     let mut values = u128::from(q);
     for i in 0..literals.len() {
-        let PinLiteral(literal) = literals[literals.len() - 1 - i];
-        let value = u128::from(is_true(literal, code));
+        let at_pin = literals[literals.len() - 1 - i];
+        let value = u128::from(is_true(at_pin.0, code));
         values = value + 2 * values;
     }
     Code(values)
