@@ -1,9 +1,9 @@
 -- Pins, sums and cells of lines without fault.
-use Rattle.std.proofs.Common.{◌≡◌, ◌≢◌, ℕ, ◌⊎◌, ◌+◌, ◌<◌, ◌≤◌, ◌==◌, ◌&&◌, ◌||◌, not, Bool, true, false, List, [], ◌∷◌, ◌++◌, length, map, take, drop, get_or, filter, position, bytes_eq, codes, Option, Some, None, refl, sym, ap, ◌∙◌, arith, inl, inr, unwrap_or, subst, AllPairs, All, IsTrue, nat_le}
+use Rattle.std.proofs.Common.{◌≡◌, ◌≢◌, ℕ, ◌⊎◌, ◌+◌, ◌<◌, ◌≤◌, ◌==◌, ◌&&◌, ◌||◌, not, Bool, true, false, List, [], ◌∷◌, ◌++◌, length, map, take, drop, get_or, filter, position, bytes_eq, codes, Option, Some, None, refl, sym, ap, ◌∙◌, arith, inl, inr, append_assoc, unwrap_or, subst, AllPairs, All, IsTrue, nat_le}
 use Rattle.std.specs.List.{list_any, list_all, slice_split, onto_first}
 use Rattle.std.proofs.lemmas.Bool.{true≢false, cases_Bool, false_from_ne_true}
 use Rattle.std.proofs.lemmas.Bool.Decides.{eqb_tells, leb_tells}
-use Rattle.std.proofs.lemmas.List.{length_push, length-map, get_or-map, get_or_append_left}
+use Rattle.std.proofs.lemmas.List.{length_push, length-map, get_or-map, get_or_append_left, append-nil}
 use Rattle.std.proofs.lemmas.List.Quantifiers.{all_pairs_push}
 use Rattle.std.proofs.lemmas.List.Elements.{All-nil, All-cons, All-push, filter_passes}
 use Rattle.std.proofs.lemmas.List.Folds.{list_any_none, list_any_at}
@@ -23,9 +23,14 @@ use Rattle.si_cell.specs.CellWords.{CellWords, cell_of, is_cell_sum, cell_words,
 use Rattle.si_cell.specs.Library.{Cell, IsCell, AreCells, IsPinName, own}
 use Rattle.si_cell.specs.Limits.{max_cells, max_pins}
 use Rattle.si_cell.specs.Literals.{has_literal, same_literal, in_literal_order, both_from, IsRising}
-use Rattle.si_cell.proofs.CubeLemmas.{is_declared, found, same_is, some_of, passes_at, names_same, same_name, and_first, and_second}
+use Rattle.si_base.proofs.BitFacts.{set_same, set_flip, beq_false}
+use Rattle.si_base.proofs.Steps.{beq-true}
+use Rattle.si_base.specs.Bits.{bit, flip, IsSet}
+use mathlib.Core.Bool.{beq}
+use Rattle.si_cell.proofs.OrderLemmas.{rising_of, makes_in_order}
+use Rattle.si_cell.proofs.CubeLemmas.{InCube, in_none, in_more, repeated, undeclared, is_declared, found, same_is, some_of, passes_at, names_same, same_name, and_first, and_second}
 
-not_true : (b : Bool) → not b ≡ false → b ≡ true
+pub not_true : (b : Bool) → not b ≡ false → b ≡ true
 not_true true e = refl
 not_true false e = absurd (true≢false e)
 
@@ -117,6 +122,58 @@ sum_there names ws none = sum_all names (λ (l : Literal). l.sig < length names)
     all_true [] = refl
     all_true (w ∷ ws) = all_true ws
 
+-- ---- cubes whose literals rise
+no_some : {A : Type 0} (x : A) → Some x ≡ None → ⊥
+no_some x e = cc
+
+set_exists : (code k : ℕ) (v : Bool) → (new : ℕ) × IsSet code k v new
+set_exists code k v = elim (cases_Bool (beq (bit code k) v)) [
+  | inl same ↦ (code, set_same code k v (beq-true (bit code k) v same))
+  | inr other ↦ (flip code k, set_flip code k v (beq_false (bit code k) v other))
+]
+
+place_of : (names before : List (List ℕ)) (care value : ℕ) → InCube names before care value → (w : List ℕ) → literal_fault names before w ≡ None
+    → (k : ℕ) × (Some k ≡ place_in names w)
+place_of names before care value so_far w none = by_place (place_in names w) refl
+  where
+    by_place : (o : Option ℕ) → o ≡ place_in names w → (k : ℕ) × (Some k ≡ place_in names w)
+    by_place (Some k) e = (k, e)
+    by_place None e = absurd (no_some Undeclared (sym (undeclared names before care value so_far w e) ∙ none))
+
+-- the words of a cube without fault make a cube of the code
+makes_cube : (names before ws : List (List ℕ)) (care value : ℕ) → InCube names before care value → first_after (literal_fault names) before ws ≡ None
+    → (care2 : ℕ) × (value2 : ℕ) × InCube names (before ++ ws) care2 value2
+makes_cube names before [] care value so_far none = (care, value, rw append-nil so_far)
+makes_cube names before (w ∷ ws) care value so_far none =
+    let parts = both (literal_fault names before w) _ none in
+    let (k, at) = place_of names before care value so_far w parts.0 in
+    let free : bit care k ≡ false = false_from_ne_true _ (λ there. no_some Repeated (sym (repeated names before care value so_far w k at there) ∙ parts.0)) in
+    let (care2, s) = set_exists care k true in
+    let (value2, t) = set_exists value k (bytes_eq w (literal_name w)) in
+    let more = in_more names before care value so_far w k at care2 value2 free s t in
+    let (care3, value3, whole) = makes_cube names (before ++ w ∷ []) ws care2 value2 more parts.1 in
+    (care3, value3, rw append_assoc at whole)
+
+cube_rising : (names ws : List (List ℕ)) → cube_fault names ws ≡ None → IsRising (cube_of names ws)
+cube_rising names ws none = elim (cases_Bool (is_one (codes "1") ws)) [
+  | inl one ↦ rw one (λ j k d order within. absurd (omega arith))
+  | inr many ↦
+      let (care, value, made) = makes_cube names [] ws 0 0 (in_none names) (rw many at none) in
+      rw (many, ← makes_in_order (map (literal_of names) ws) care value made.made) (rising_of care value)
+]
+
+sum_rising : (names ws : List (List ℕ)) → sum_fault names ws ≡ None → All IsRising (sum_of names ws)
+sum_rising names ws none = elim (cases_Bool (is_one (codes "0") ws)) [
+  | inl one ↦ rw one (All-nil IsRising)
+  | inr many ↦ rw many (each_cube (parts_at (codes "+") ws) (rw many at none))
+]
+  where
+    each_cube : (parts : List (List (List ℕ))) → first_in (cube_fault names) parts ≡ None → All IsRising (map (cube_of names) parts)
+    each_cube [] none = All-nil IsRising
+    each_cube (part ∷ parts) none =
+        let faults = both (cube_fault names part) _ none in
+        All-cons IsRising _ _ (cube_rising names part faults.0) (each_cube parts faults.1)
+
 -- a word whose name is that of the own output, and that is not complemented
 plain_own : (w : List ℕ) → literal_name w ≡ codes "q" → bytes_eq (codes "q'") w ≡ false → w ≡ codes "q"
 plain_own [] is other = absurd cc
@@ -178,10 +235,10 @@ good_name cells name none =
     )
 
 pub is_cell : (name : List ℕ) (pins ws : List (List ℕ)) (sum : Sum) → is_signal_name name ≡ true → All IsPinName pins
-    → AllPairs (λ x y. x ≢ y) (declared pins) → length pins ≤ max_pins → sum ≡ sum_of (declared pins) ws → All IsRising sum
+    → AllPairs (λ x y. x ≢ y) (declared pins) → length pins ≤ max_pins → sum ≡ sum_of (declared pins) ws
     → sum_fault (declared pins) ws ≡ None → stands_in ws (codes "q'") ≡ false
     → IsCell (record { name = name; pins = pins; sum = sum })
-is_cell name pins ws sum good pins_good distinct few is rising none other =
+is_cell name pins ws sum good pins_good distinct few is none other =
     let count : length (declared pins) ≡ length pins + 1 = length_push pins own in
     let there : All (All (λ (l : Literal). l.sig < length (declared pins))) sum =
     subst (All (All (λ (l : Literal). l.sig < length (declared pins)))) (sym is) (sum_there (declared pins) ws none) in
@@ -195,7 +252,7 @@ is_cell name pins ws sum good pins_good distinct few is rising none other =
           λ e. distinct j k d order wider (at_j ∙ e ∙ sym at_k));
       few_pins = few;
       sum = λ k d inside. record {
-        rising = rising k d inside;
+        rising = subst (All IsRising) (sym is) (sum_rising (declared pins) ws none) k d inside;
         there = λ i l within. (let below = there k d inside i l within in omega (arith, count, below));
       };
       own_plain = subst (All (All (λ (l : Literal). l.sig ≡ length pins → IsTrue l.plain))) (sym is) (own_plain pins ws none other);
@@ -227,11 +284,11 @@ plain_words ws form = not_false (stands_in ws (codes "q'")) (and_second (is_sum 
 -- the cell that was read from these words
 pub cell_read : (cells : List (List ℕ)) (named : List ℕ) (words ws : List (List ℕ)) (name : List ℕ) (pins table : List (List ℕ)) (sum : Sum)
     → cell_name_fault cells named ≡ None → is_cell_sum ws ≡ true → name ≡ named → pins ≡ words → table ≡ declared words
-    → All IsPinName words → AllPairs (λ x y. x ≢ y) table → length words ≤ max_pins → sum ≡ sum_of table ws → All IsRising sum
+    → All IsPinName words → AllPairs (λ x y. x ≢ y) table → length words ≤ max_pins → sum ≡ sum_of table ws
     → sum_fault table ws ≡ None → IsCell (record { name = name; pins = pins; sum = sum })
-cell_read cells named words ws name pins table sum good form name_is pins_are table_is pins_good distinct few is rising none =
+cell_read cells named words ws name pins table sum good form name_is pins_are table_is pins_good distinct few is none =
     rw (name_is, pins_are) (is_cell named words ws sum (good_name cells named good).0 pins_good
-    (subst (AllPairs (λ x y. x ≢ y)) table_is distinct) few (is ∙ ap (λ (t : List (List ℕ)). sum_of t ws) table_is) rising
+    (subst (AllPairs (λ x y. x ≢ y)) table_is distinct) few (is ∙ ap (λ (t : List (List ℕ)). sum_of t ws) table_is)
     (ap (λ (t : List (List ℕ)). sum_fault t ws) (sym table_is) ∙ none) (plain_words ws form))
 
 -- a line of this form that has no bad byte
@@ -244,3 +301,25 @@ line_told cells line ws w clean are some other form =
 pub line_adds : (cells : List Cell) (line : List ℕ) (ws : List (List ℕ)) (w : CellWords) → ws ≡ words line → Some w ≡ cell_words ws
     → with_line cells line ≡ cells ++ cell_of w ∷ []
 line_adds cells line ws w are form = rw (← are, ← form) refl
+
+-- pins without fault
+pins_from : (before pins : List (List ℕ)) → All IsPinName before → AllPairs (λ x y. x ≢ y) before → length before ≤ max_pins
+    → first_after pin_fault before pins ≡ None
+    → All IsPinName (before ++ pins) × AllPairs (λ x y. x ≢ y) (before ++ pins) × (length (before ++ pins) ≤ max_pins)
+pins_from before [] good distinct few none = rw append-nil (good, distinct, few)
+pins_from before (pin ∷ pins) good distinct few none =
+    let parts = both (pin_fault before pin) _ none in
+    let (here, new, room) = good_pin before pin parts.0 in
+    rw at_cons (pins_from (before ++ pin ∷ []) pins (All-push IsPinName before pin good here)
+    (all_pairs_push (λ x y. x ≢ y) before pin distinct
+    (λ k d inside e. true≢false (sym (list_any_at (bytes_eq pin) before k d inside (same_name _ _ (sym e))) ∙ new)))
+    (rw length_push (omega (arith, room))) parts.1)
+  where
+    at_cons : before ++ pin ∷ pins ≡ (before ++ pin ∷ []) ++ pins
+    at_cons = sym (append_assoc before (pin ∷ []) pins)
+
+pub good_pins : (pins : List (List ℕ)) → first_after pin_fault [] pins ≡ None
+    → All IsPinName pins × AllPairs (λ x y. x ≢ y) (declared pins) × (length pins ≤ max_pins)
+good_pins pins none =
+    let (good, distinct, few) = pins_from [] pins (All-nil IsPinName) (λ j k d order within. absurd (omega arith)) (omega arith) none in
+    (good, all_pairs_push (λ x y. x ≢ y) pins own distinct (λ k d inside e. (good k d inside).other e), few)

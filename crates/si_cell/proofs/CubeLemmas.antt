@@ -110,10 +110,13 @@ module _ (declared : List (List ℕ)) where
     earlier : list_any (λ w. bytes_eq (literal_name word) (literal_name w)) before ≡ true
         → (w : List ℕ) × (literal_name word ≡ literal_name w) × (is_declared w ≡ true) × (has_literal (map (literal_of declared) before) (literal_of declared w) ≡ true)
     earlier same =
-        let (w, e, all, any) = found (λ w. bytes_eq (literal_name word) (literal_name w)) before same in
-        (w, names_same _ _ e, all is_declared so_far.declared_are,
-        sym (list_any-map (literal_of declared) (same_literal (literal_of declared w)) before)
-        ∙ any (λ x. same_literal (literal_of declared w) (literal_of declared x)) (same_self (literal_of declared w)))
+        let (w, e, all, any) = found (λ w. bytes_eq (literal_name word) (literal_name w)) before same in (
+          w,
+          names_same _ _ e,
+          all is_declared so_far.declared_are,
+          sym (list_any-map (literal_of declared) (same_literal (literal_of declared w)) before)
+              ∙ any (λ x. same_literal (literal_of declared w) (literal_of declared x)) (same_self (literal_of declared w)),
+        )
 
     pub undeclared : None ≡ place_in declared word → literal_fault declared before word ≡ Some Undeclared
     undeclared none =
@@ -145,6 +148,22 @@ module _ (declared : List (List ℕ)) where
         true≢false (sym (cared_for _ (literal_of declared w) care value so_far.made has) ∙ ap (bit care) sig ∙ free))) in
         rw (fresh, there) refl
 
+    -- one more word, whose signal is not there yet
+    pub in_more : (k : ℕ) → Some k ≡ place_in declared word → (care2 value2 : ℕ) → bit care k ≡ false → IsSet care k true care2
+        → IsSet value k (bytes_eq word (literal_name word)) value2 → InCube (before ++ word ∷ []) care2 value2
+    in_more k at care2 value2 free s t =
+        let is : literal_of declared word ≡ record { sig = k; plain = bytes_eq word (literal_name word) } =
+        ap (λ (o : Option ℕ). record { sig = unwrap_or o 0; plain = bytes_eq word (literal_name word) }) (sym at) in
+        let there : is_declared word ≡ true =
+        list_any_at (λ n. bytes_eq (literal_name word) n) declared k [] (passes_at (λ n. bytes_eq (literal_name word) n) declared k at).0
+        (passes_at (λ n. bytes_eq (literal_name word) n) declared k at).1 in
+        let made = makes_more (map (literal_of declared) before) (record { sig = k; plain = bytes_eq word (literal_name word) }) care value care2 value2
+        so_far.made (λ on. absurd (true≢false (sym on ∙ free))) s t in
+        record {
+          declared_are = list_all-append is_declared before (word ∷ []) ∙ rw (so_far.declared_are, there) refl;
+          made = rw (map_push (literal_of declared) before word, is) made;
+        }
+
 -- ---- word after word
 module _ (declared : List (List ℕ)) (words : List (Bor (List ℕ))) where
   -- the words before the i-th have no fault, and their literals make this cube
@@ -174,19 +193,9 @@ module _ (declared : List (List ℕ)) (words : List (Bor (List ℕ))) where
         let before : List (List ℕ) = take i (words_now words) in
         let more : take (i + 1) (words_now words) ≡ before ++ word ∷ [] = take_word words i d inside in
         let none = good declared before care value reading.so_far word k at free in
-        let is : literal_of declared word ≡ record { sig = k; plain = bytes_eq word (literal_name word) } =
-        ap (λ (o : Option ℕ). record { sig = unwrap_or o 0; plain = bytes_eq word (literal_name word) }) (sym at) in
-        let there : stands_in declared (literal_name word) ≡ true =
-        list_any_at (λ n. bytes_eq (literal_name word) n) declared k [] (passes_at (λ n. bytes_eq (literal_name word) n) declared k at).0
-        (passes_at (λ n. bytes_eq (literal_name word) n) declared k at).1 in
-        let made = makes_more (map (literal_of declared) before) (record { sig = k; plain = bytes_eq word (literal_name word) }) care value care2 value2
-        reading.so_far.made (λ on. absurd (true≢false (sym on ∙ free))) s t in
         record {
           told = goes (literal_fault declared) before (take (i + 1) (words_now words)) words i d _ inside reading.told none more;
-          so_far = rw more (record {
-            declared_are = list_all-append (is_declared declared) before (word ∷ []) ∙ rw (reading.so_far.declared_are, there) refl;
-            made = rw (map_push (literal_of declared) before word, is) made;
-          });
+          so_far = rw more (in_more declared before care value reading.so_far word k at care2 value2 free s t);
         }
 
   pub all_read : (i care value : ℕ) → length words ≤ i → is_one (codes "1") (words_now words) ≡ false → Reading i care value

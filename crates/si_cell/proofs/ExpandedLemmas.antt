@@ -141,8 +141,8 @@ both_there (suc n) i l low high = elim (eqb_tells l.sig i) [
     by_sign false rest = refl
 
 -- a literal that is one of small ones
-all_small : (cube : List Literal) → All (λ (l : Literal). l.sig < code_width) cube → (l : Literal) → has_literal cube l ≡ true → l.sig < code_width
-all_small cube small l there =
+pub all_small : (n : ℕ) (cube : List Literal) → All (λ (l : Literal). l.sig < n) cube → (l : Literal) → has_literal cube l ≡ true → l.sig < n
+all_small n cube small l there =
     let (k, inside, same) = any_at cube l there in
     let e = same_is l (get_or cube k l) same in
     rw e (small k l inside)
@@ -159,20 +159,20 @@ pub order_value : (code : ℕ) (cube : List Literal) → All (λ (l : Literal). 
 unfolding in_literal_order
 order_value code cube small =
     ext _ _ (λ all. everyone (literal_value code) cube cube (λ l there.
-    at_literal (literal_value code) cube (both_from code_width 0) l (both_there code_width 0 l (omega arith) (omega (arith, all_small cube small l there))) there all))
+    at_literal (literal_value code) cube (both_from code_width 0) l (both_there code_width 0 l (omega arith) (omega (arith, all_small code_width cube small l there))) there all))
     (λ all. kept (literal_value code) cube (both_from code_width 0) all)
 
 -- ---- sums
-placed_small : (at_pins : List Literal) (cube : List Literal) → All (λ (l : Literal). l.sig < code_width) at_pins → All (λ (l : Literal). l.sig < length at_pins) cube
-    → All (λ (l : Literal). l.sig < code_width) (map (placed at_pins) cube)
-placed_small at_pins cube small inside = All-map (λ (l : Literal). l.sig < code_width) (placed at_pins) cube
+pub placed_small : (n : ℕ) (at_pins : List Literal) (cube : List Literal) → All (λ (l : Literal). l.sig < n) at_pins → All (λ (l : Literal). l.sig < length at_pins) cube
+    → All (λ (l : Literal). l.sig < n) (map (placed at_pins) cube)
+placed_small n at_pins cube small inside = All-map (λ (l : Literal). l.sig < n) (placed at_pins) cube
     (λ k d within. by_sign (get_or cube k d) (inside k d within))
   where
-    by_sign : (l : Literal) → l.sig < length at_pins → (placed at_pins l).sig < code_width
+    by_sign : (l : Literal) → l.sig < length at_pins → (placed at_pins l).sig < n
     by_sign l within = signs l.plain (small l.sig (plain 0) within)
       where
-        signs : (b : Bool) → (get_or at_pins l.sig (plain 0)).sig < code_width
-            → (if b then get_or at_pins l.sig (plain 0) else complement (get_or at_pins l.sig (plain 0))).sig < code_width
+        signs : (b : Bool) → (get_or at_pins l.sig (plain 0)).sig < n
+            → (if b then get_or at_pins l.sig (plain 0) else complement (get_or at_pins l.sig (plain 0))).sig < n
         signs true e = e
         signs false e = e
 
@@ -186,7 +186,7 @@ module _ (code z : ℕ) (literals : List Literal) (small : All (λ (l : Literal)
       let later = sum_placed cubes (λ k d below. inside (suc k) d (omega (arith, below))) in
       elim (cases_Bool (clashes (map (placed (sources literals z)) cube))) [
         | inl meets ↦ rw (meets, sym same ∙ clash_zero code (map (placed (sources literals z)) cube) meets) later
-        | inr apart ↦ rw (apart, order_value code (map (placed (sources literals z)) cube) (placed_small (sources literals z) cube small within), same, later) refl
+        | inr apart ↦ rw (apart, order_value code (map (placed (sources literals z)) cube) (placed_small code_width (sources literals z) cube small within), same, later) refl
       ]
 
 -- the literals of an instance's cell stand at its pins and at its own output

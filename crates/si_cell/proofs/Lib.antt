@@ -7,3 +7,4 @@ pub mod CellLemmas
 pub mod PartLemmas
 pub mod PlacedLemmas
 pub mod ExpandedLemmas
+pub mod LawLemmas

@@ -136,8 +136,11 @@ module _ (at_pins : List Literal) (cube_care cube_value : ℕ) where
 
 -- ---- cube after cube
 placed_sum-append : (at_pins : List Literal) (xs ys : Sum) → placed_sum at_pins (xs ++ ys) ≡ placed_sum at_pins xs ++ placed_sum at_pins ys
-placed_sum-append at_pins xs ys = rw (map-append (map (placed at_pins)) xs ys, filter-append (λ cube. not (clashes cube)) (map (map (placed at_pins)) xs) (map (map (placed at_pins)) ys),
-    map-append in_literal_order (filter (λ cube. not (clashes cube)) (map (map (placed at_pins)) xs)) (filter (λ cube. not (clashes cube)) (map (map (placed at_pins)) ys))) refl
+placed_sum-append at_pins xs ys = rw (
+  map-append (map (placed at_pins)) xs ys,
+  filter-append (λ cube. not (clashes cube)) (map (map (placed at_pins)) xs) (map (map (placed at_pins)) ys),
+  map-append in_literal_order (filter (λ cube. not (clashes cube)) (map (map (placed at_pins)) xs)) (filter (λ cube. not (clashes cube)) (map (map (placed at_pins)) ys)),
+) refl
 
 pub cube_left_out : (at_pins : List Literal) (sum : Sum) (i : ℕ) (d : List Literal) (cubes : Sum) → i < length sum
     → cubes ≡ placed_sum at_pins (take i sum) → clashes (map (placed at_pins) (get_or sum i d)) ≡ true → cubes ≡ placed_sum at_pins (take (i + 1) sum)

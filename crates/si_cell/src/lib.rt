@@ -5,8 +5,11 @@ pub mod cell;
 mod cell_reader;
 mod ends;
 pub mod expand;
+pub mod laws;
 pub mod library;
 pub mod limits;
 pub mod reader;
 mod sums;
+#[cfg(test)]
+mod tests;
 mod words;

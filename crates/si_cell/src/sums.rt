@@ -1,11 +1,10 @@
 //! The sums of cells, read from their words.
 
-ghost use Rattle.std.specs.Prelude.{◌≡◌, ℕ, ◌≤◌, ◌+◌, All, List, length, IfOk, MatchResult, None, Some};
+ghost use Rattle.std.specs.Prelude.{◌≡◌, ℕ, ◌≤◌, ◌+◌, List, length, IfOk, MatchResult, None, Some};
 ghost use Rattle.si_base.specs.TextFaults.{Tells};
 ghost use Rattle.si_words.specs.Reads.{words_now};
 ghost use Rattle.si_cell.specs.CellWords.{cube_fault, cube_of, sum_fault, sum_of};
 ghost use Rattle.si_cell.specs.Limits.{max_pins};
-ghost use Rattle.si_cell.specs.Literals.{IsRising};
 
 use crate::words::parts_of;
 use si_base::fault::{LineFault, TextKind};
@@ -23,11 +22,10 @@ use std::alloc::Global;
 /// Fails with its first fault: a name that stands in it already, or that isn't declared.
 fn read_cube(declared: &Names, words: &[&[u8]]) -> Result<Cube, TextKind>
     requires { length declared.now ≤ max_pins + 1 }
-    ensures read { MatchResult result
+    ensures { MatchResult result
         (λ cube. (cube_fault declared.now (words_now words.now) ≡ None)
         × (cube ≡ cube_of declared.now (words_now words.now)))
         (λ kind. cube_fault declared.now (words_now words.now) ≡ Some kind) }
-    ensures rising { IfOk result IsRising }
 {
     let mut care = Code(0);
     let mut value = Code(0);
@@ -57,7 +55,6 @@ pub(crate) fn read_sum(alloc: Global, declared: &Names, words: &[&[u8]]) -> Resu
     requires { length declared.now ≤ max_pins + 1 }
     ensures fault { Tells result (sum_fault declared.now (words_now words.now)) }
     ensures value { IfOk result (λ sum. sum ≡ sum_of declared.now (words_now words.now)) }
-    ensures rising { IfOk result (All IsRising) }
 {
     if is_one(b"0", words) {
         return Ok(Sum::new(Vec::new(alloc)));

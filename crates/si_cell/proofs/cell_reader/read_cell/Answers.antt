@@ -10,5 +10,5 @@ returns-clause-cell c =
     c.in_ok-name.name c.in_ok-pins.pins.items c.in_ok-declared.declared c.in_ok-sum.sum
     (sym c.cell_name_kind.ensures ∙ c.in_default.is) (rw c.is_cell_sum.ensures at c.if-not-is_cell_sum.false)
     c.in_ok-name.ensures c.in_ok-pins.ensures c.in_ok-declared.ensures.value c.in_ok-declared.ensures.good
-    c.in_ok-declared.ensures.distinct c.in_ok-declared.ensures.few c.in_ok-sum.ensures.value c.in_ok-sum.ensures.rising
+    c.in_ok-declared.ensures.distinct c.in_ok-declared.ensures.few c.in_ok-sum.ensures.value
     c.in_ok-sum.ensures.fault
