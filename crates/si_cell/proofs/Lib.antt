@@ -1,0 +1,10 @@
+mod Examples
+pub mod WordLemmas
+pub mod LineLemmas
+pub mod OrderLemmas
+pub mod CubeLemmas
+pub mod CellLemmas
+pub mod PartLemmas
+pub mod PlacedLemmas
+pub mod ExpandedLemmas
+pub mod LawLemmas

@@ -1,0 +1,7 @@
+pub mod Limits
+pub mod Library
+pub mod CellWords
+pub mod LibraryText
+pub mod Literals
+pub mod Expanded
+pub mod Reads

@@ -1,0 +1,10 @@
+-- The limits of libraries. The code has them under the same words, in `src/limits.rt`.
+use Rattle.std.specs.Prelude.{ℕ}
+
+-- the most cells of a library
+abbrev pub max_cells : ℕ
+max_cells = 64
+
+-- the most pins of a cell
+abbrev pub max_pins : ℕ
+max_pins = 4

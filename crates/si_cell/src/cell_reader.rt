@@ -1,0 +1,140 @@
+//! Cells, read from the words of their lines.
+
+ghost use Rattle.std.specs.Prelude.{◌≡◌, ◌≢◌, ℕ, ◌≤◌, ◌<◌, ◌+◌, ◌++◌, ◌∷◌, [], List, All, AllPairs, length, map, IfOk, OnOk, IfErr, None, Some, false};
+ghost use Rattle.std.specs.List.{list_any};
+ghost use Rattle.si_base.specs.Faults.{◌otherwise◌, first_after};
+ghost use Rattle.si_base.specs.TextFaults.{Tells};
+ghost use Rattle.si_base.specs.declared.fault.LineFault.TheVariants as line_faults;
+ghost use Rattle.si_words.specs.Names.{stands_in};
+ghost use Rattle.si_words.specs.Reads.{words_now};
+ghost use Rattle.si_cell.specs.CellWords.{cell_name_fault, pin_fault, cell_fault, cell_of, declared};
+ghost use Rattle.si_cell.specs.Library.{IsCell, IsPinName, own};
+ghost use Rattle.si_cell.specs.LibraryText.{names_of};
+ghost use Rattle.si_cell.specs.Limits.{max_cells, max_pins};
+ghost use Rattle.si_cell.specs.Reads.{cell_words_now};
+
+use crate::cell::Cell;
+use crate::limits::{MAX_CELLS, MAX_PINS};
+use crate::sums::read_sum;
+use crate::words::{CellWords, is_cell_sum};
+use si_base::fault::{LineFault, TextKind};
+use si_base::ids::NoMemory;
+use si_base::names::Names;
+use si_base::text::Name;
+use si_words::lists::has;
+use si_words::words::is_signal_name;
+use std::alloc::Global;
+
+/// The name that stands for a cell's own output.
+const OWN: &[u8] = b"q";
+
+/// Whether a cell of the name is there.
+fn has_cell(cells: &[Cell], name: &[u8]) -> bool
+    ensures { result ≡ stands_in (names_of cells.now) name.now }
+{
+    cells.iter().any(|cell| name == cell.name.bytes())
+}
+
+/// The fault of a cell's name after these cells.
+fn cell_name_kind(cells: &[Cell], name: &[u8]) -> Option<TextKind>
+    ensures { result ≡ cell_name_fault (names_of cells.now) name.now }
+{
+    if !is_signal_name(name) {
+        Some(TextKind::BadName)
+    } else if has_cell(cells, name) {
+        Some(TextKind::Repeated)
+    } else if cells.len() >= MAX_CELLS {
+        Some(TextKind::TooManyCells)
+    } else {
+        None
+    }
+}
+
+/// The fault of a pin after these.
+fn pin_kind(pins: &Names, name: &[u8]) -> Option<TextKind>
+    ensures { result ≡ pin_fault pins.now name.now }
+{
+    if !is_signal_name(name) || OWN == name {
+        Some(TextKind::BadName)
+    } else if has(pins, name) {
+        Some(TextKind::Repeated)
+    } else if pins.len() as usize >= MAX_PINS {
+        Some(TextKind::TooManyPins)
+    } else {
+        None
+    }
+}
+
+/// Puts a new name last.
+fn push(names: &mut Names, name: &[u8]) -> Result<(), LineFault>
+    requires new { stands_in names.old name.now ≡ false }
+    requires room { length names.old ≤ max_pins }
+    ensures ok { OnOk result (names.new ≡ names.old ++ name.now ∷ []) }
+    ensures err { IfErr result (λ e. e ≡ line_faults.NoMemory) }
+    ensures distinct { AllPairs (λ x y. x ≢ y) names.new }
+{
+    match names.add(name, MAX_PINS as u32 + 1) {
+        Ok(_) => Ok(()),
+        Err(_) => Err(LineFault::NoMemory),
+    }
+}
+
+/// The names that the literals of a cell may have: its pins, and the own output behind them.
+///
+/// Fails with the first fault of a pin, and where memory runs out.
+fn declared_names(alloc: Global, pins: &[&[u8]]) -> Result<Names, LineFault>
+    ensures fault { Tells result (first_after pin_fault [] (words_now pins.now)) }
+    ensures value { IfOk result (λ names. names ≡ declared (words_now pins.now)) }
+    ensures distinct { IfOk result (AllPairs (λ x y. x ≢ y)) }
+    ensures good { IfOk result (λ names. All IsPinName (words_now pins.now)) }
+    ensures few { IfOk result (λ names. length (words_now pins.now) ≤ max_pins) }
+{
+    let mut names = Names::new(alloc)?;
+    for pin in pins {
+        if let Some(kind) = pin_kind(&names, *pin) {
+            return Err(LineFault::Kind(kind));
+        }
+        push(&mut names, *pin)?;
+    }
+    push(&mut names, OWN)?;
+    Ok(names)
+}
+
+/// The words as names.
+fn names_of(alloc: Global, words: &[&[u8]]) -> Result<Vec<Name>, NoMemory>
+    ensures { IfOk result (λ names. names.items ≡ words_now words.now) }
+{
+    let mut names = Vec::new(alloc);
+    for word in words {
+        names.push(Name::copy_of(alloc, *word)?)?;
+    }
+    Ok(names)
+}
+
+/// The cell of these words, after these cells.
+///
+/// Fails with the first fault of the line, and where memory runs out.
+pub(crate) fn read_cell(
+    alloc: Global,
+    cells: &[Cell],
+    words: CellWords<'_, '_>,
+) -> Result<Cell, LineFault>
+    ensures fault { Tells result
+        (cell_fault (names_of cells.now) (Some (cell_words_now words.entry))) }
+    ensures value { IfOk result (λ cell. cell ≡ cell_of (cell_words_now words.entry)) }
+    ensures cell { IfOk result IsCell }
+    ensures new { IfOk result (λ cell. stands_in (names_of cells.now) cell.name ≡ false) }
+    ensures room { IfOk result (λ cell. length cells.now < max_cells) }
+{
+    if !is_cell_sum(words.sum) {
+        return Err(LineFault::Kind(TextKind::BadLine));
+    }
+    if let Some(kind) = cell_name_kind(cells, words.name) {
+        return Err(LineFault::Kind(kind));
+    }
+    let declared = declared_names(alloc, words.pins)?;
+    let sum = read_sum(alloc, &declared, words.sum)?;
+    let name = Name::copy_of(alloc, words.name)?;
+    let pins = names_of(alloc, words.pins)?;
+    Ok(Cell { name, pins, sum })
+}

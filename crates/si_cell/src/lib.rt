@@ -1,0 +1,15 @@
+//! Libraries of cells: their text, the values of their instances, and the sums of these.
+#![tactic(auto)]
+
+pub mod cell;
+mod cell_reader;
+mod ends;
+pub mod expand;
+pub mod laws;
+pub mod library;
+pub mod limits;
+pub mod reader;
+mod sums;
+#[cfg(test)]
+mod tests;
+mod words;

@@ -1,0 +1,95 @@
+//! Libraries of cells.
+
+ghost use Rattle.std.specs.Prelude.{◌≡◌, ℕ, ◌<◌, ◌≤◌, All, length};
+ghost use Rattle.si_base.specs.Limits.{code_width};
+ghost use Rattle.si_base.specs.Netlist.{literal_value};
+ghost use Rattle.si_cell.specs.Library.{IsLibrary, IsInstance, cell_at, instance_value, pin_values};
+ghost use Rattle.si_cell.specs.Limits.{max_pins};
+
+use crate::cell::{Cell, Instance, PinLiteral};
+use si_base::ids::{Code, Literal};
+use si_base::text::Name;
+use std::marker::Model;
+
+/// A library: its name, and its cells.
+#[derive(Drop)]
+pub struct Library {
+    name: Name,
+    cells: Vec<Cell>,
+}
+
+impl Model for Library {
+    ghost use Rattle.si_cell.specs.Library as spec;
+
+    ghost Value = { spec.Library };
+
+    ghost view = { λ l. record { name = l.name; cells = l.cells.items } };
+
+    ghost invariant = { λ l. spec.IsLibrary (record { name = l.name; cells = l.cells.items }) };
+}
+
+impl Library {
+    /// The library of these cells.
+    pub fn make(name: Name, cells: Vec<Cell>) -> Library
+        requires { IsLibrary (record { name = name; cells = cells.items }) }
+        ensures { result ≡ record { name = name; cells = cells.items } }
+    {
+        Library { name, cells }
+    }
+
+    /// Its name.
+    pub fn name(&self) -> &Name
+        ensures { result.now ≡ self.now.name }
+    {
+        &self.name
+    }
+
+    /// Its cells in order, and what holds of each library.
+    pub fn cells(&self) -> &[Cell]
+        ensures cells { result.now ≡ self.now.cells }
+        ensures library { IsLibrary self.now }
+    {
+        self.cells.as_slice()
+    }
+
+    /// The cell at a place, and what holds of each library.
+    pub fn cell(&self, k: u8) -> &Cell
+        requires { k < length self.now.cells }
+        ensures cell { result.now ≡ cell_at self.now k }
+        ensures library { IsLibrary self.now }
+    {
+        &self.cells[k as usize]
+    }
+
+    /// The value of the instance at the code, where the cell's own output has the value `q`.
+    pub fn value(&self, instance: &Instance, code: Code, q: bool) -> bool
+        requires { IsInstance self.now instance.now }
+        ensures { result ≡ instance_value self.now instance.now code q }
+    {
+        let values = values_of(instance.literals.as_slice(), code, q);
+        self.cell(instance.cell).sum.value(values)
+    }
+}
+
+/// Whether the literal is true at the code.
+fn is_true(literal: Literal, code: Code) -> bool
+    requires { literal.sig < code_width }
+    ensures { result ≡ literal_value code literal }
+{
+    code.get(literal.sig) == literal.plain
+}
+
+/// The values of the pins that have these literals at the code, and of the own output behind them.
+pub fn values_of(literals: &[PinLiteral], code: Code, q: bool) -> Code
+    requires few { length literals.now ≤ max_pins }
+    requires signals { All (λ l. l.sig < code_width) literals.now }
+    ensures { result ≡ pin_values literals.now code q }
+{
+    let mut values = u128::from(q);
+    for i in 0..literals.len() {
+        let at_pin = literals[literals.len() - 1 - i];
+        let value = u128::from(is_true(at_pin.0, code));
+        values = value + 2 * values;
+    }
+    Code(values)
+}

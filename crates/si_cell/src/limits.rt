@@ -1,0 +1,7 @@
+//! The limits of libraries. The definitions have them under the same words, in `specs/Limits.antt`.
+
+/// The most cells of a library.
+pub const MAX_CELLS: usize = 64;
+
+/// The most pins of a cell.
+pub const MAX_PINS: usize = 4;
