@@ -19,7 +19,7 @@ use Rattle.si_conflicts.specs.declared.tally.Role.{Role}
 use Rattle.si_conflicts.specs.declared.tally.Role.TheVariants.{Absent}
 use Rattle.si_conflicts.specs.Keys.{IsKey, clashes, clash_count}
 use Rattle.si_conflicts.specs.Chains.{AreRings, AreMembers, IsNextInRing, has_equal, with_equals}
-use Rattle.si_conflicts.specs.Apart.{AreStaying, role_at, is_switching, are_apart, entry_of, told_apart, pair_sum, switching_keys, switching_count}
+use Rattle.si_conflicts.specs.Apart.{AreStaying, role_at, is_switching, are_apart, tallied, told_apart, pair_sum, switching_keys, switching_count}
 use Rattle.si_conflicts.proofs.CountLemmas.{clash_back}
 use Rattle.si_conflicts.proofs.CopyKeys.{copy_key, there_or_absent}
 use Rattle.si_conflicts.proofs.Numbers.{driven_within, one_key}
@@ -336,7 +336,7 @@ module _ (c : CodedGraph) (is : IsCoded c) (classes : List Class) (count : lengt
         omega (arith, low, high)
       where
         at : (b : Bool) → cond (meet b x.state y.state) 1 0
-            ≡ cond (are_apart (entry_of classes b x) (entry_of classes b y)) 1 0 + left_over b x y
+            ≡ cond (are_apart (tallied classes b x) (tallied classes b y)) 1 0 + left_over b x y
         at b = ap₂ (λ k l. cond (meets (role b x.state) k (staying x.state) (role b y.state) l (staying y.state)) 1 0)
             (sym (member_key x x_in)) (sym (member_key y y_in))
             ∙ meets_parts (role b x.state) (role b y.state) x.key y.key (staying x.state) (staying y.state)
