@@ -147,7 +147,8 @@ module _ (c : CodedGraph) (is : IsCoded c) (classes : List Class) (count : lengt
 
   own_off : (s : ℕ) → bit (own s).excited last ≡ false
   own_off s = elim (cases_Bool (bit (own s).excited last)) [
-    | inl on ↦ absurd (let below = driven_within c.graph last (((own_is s).excited_are last).0 on).non_input in omega arith)
+    | inl on ↦ absurd (
+        let below = driven_within c.graph last (((own_is s).excited_are last).0 on).non_input in omega arith)
     | inr off ↦ off
   ]
 
@@ -259,7 +260,8 @@ module _ (c : CodedGraph) (is : IsCoded c) (classes : List Class) (count : lengt
   module _ (next : List ℕ) (rings : AreRings c next) (members : List Member) (are : AreMembers c next members) where
     both_other : (s t : ℕ) → (code c s ≡ code c t → ⊥) → both s t ≡ 0
     both_other s t other =
-        let apart : ((own s).code == (own t).code) ≡ false = sym (same_codes s t) ∙ ne_eqb (code c s) (code c t) other in
+        let apart : ((own s).code == (own t).code) ≡ false =
+        sym (same_codes s t) ∙ ne_eqb (code c s) (code c t) other in
         let at = λ (b : Bool). ap one_if
         (meets_other (role b s) (role b t) (own s) (own t) (staying s) (staying t) apart) in
         ap₂ (λ m n. m + n) (at false) (at true)
@@ -356,8 +358,8 @@ module _ (c : CodedGraph) (is : IsCoded c) (classes : List Class) (count : lengt
         let copies_twice = twice pair (λ x y. ap (λ w. cond w 1 0) (clash_back (key x) (key y)))
         (λ x. ap (λ w. cond w 1 0) (clashes_itself (key x))) (copies_of classes) in
         let members_twice = twice weight (λ x y. both_back x.state y.state) (λ x. both_itself x.state) members in
-        let split = pair_same weight (λ x y. told_apart classes x y + (left_over false x y + left_over true x y)) members
-        parts in
+        let split = pair_same weight (λ x y. told_apart classes x y + (left_over false x y + left_over true x y))
+        members parts in
         let two = pair_two (told_apart classes) (λ x y. left_over false x y + left_over true x y) members in
         let three = pair_two (left_over false) (left_over true) members in
         let low = left_sum false in

@@ -25,7 +25,8 @@ one_if b = cond b 1 0
 
 -- ---- counts
 count_none : {A : Type 0} (q : A → Bool) (xs : List A) → All (λ x. q x ≡ false) xs → count_by q xs ≡ 0
-count_none q xs none = sum_none (λ x. cond (q x) 1 0) xs (λ x there. ap one_if (all_in (λ x. q x ≡ false) xs x none there))
+count_none q xs none = sum_none (λ x. cond (q x) 1 0) xs
+    (λ x there. ap one_if (all_in (λ x. q x ≡ false) xs x none there))
 
 count_same : {A : Type 0} (p q : A → Bool) (xs : List A) → ((x : A) → p x ≡ q x) → count_by p xs ≡ count_by q xs
 count_same p q xs same = same_sum (λ x. cond (p x) 1 0) (λ x. cond (q x) 1 0) xs (λ x there. ap one_if (same x))
@@ -79,7 +80,8 @@ meets_plain key copies t is =
 pub meets_switching : (key : Key) (copies : List Tallied) (t : Tally) → IsTally key copies t
     → t.plain ≡ count_by (λ e. are_apart e (Switching, key)) copies
 meets_switching key copies t is = is.plain
-    ∙ count_same (λ e. is_plain e.0 && (e.1.code == key.code)) (λ e. are_apart e (Switching, key)) copies (λ e. at e.0 e.1)
+    ∙ count_same (λ e. is_plain e.0 && (e.1.code == key.code)) (λ e. are_apart e (Switching, key)) copies
+    (λ e. at e.0 e.1)
   where
     at : (r : Role) (x : Key) → (is_plain r && (x.code == key.code)) ≡ are_apart (r, x) (Switching, key)
     at Absent x = refl
@@ -139,7 +141,8 @@ module _ (from to : Key) (order : IsUpTo from to) (copies : List Tallied) (all :
         (ap (λ w. w && (e.1.excited == to.excited)) (other_code e.1 from to up order other))) copies all));
     switching = sym (count_none (λ e. is_switching e.0 && (e.1.code == to.code)) copies
         (All-weaker (λ e. IsUpTo e.1 from) (λ e. (is_switching e.0 && (e.1.code == to.code)) ≡ false)
-        (λ e up. and_false (is_switching e.0) (e.1.code == to.code) (other_code e.1 from to up order other)) copies all));
+        (λ e up. and_false (is_switching e.0) (e.1.code == to.code) (other_code e.1 from to up order other))
+        copies all));
   }
 
   pub tally_of_key : (t : Tally) → IsTally from copies t → from.code ≡ to.code → from.excited ≢ to.excited
@@ -194,7 +197,8 @@ pub tallied_length : (classes : List Class) (b : Bool) (ms : List Member) (i : �
 tallied_length classes b ms i inside =
     length-map (take i ms) (tallied classes b) ∙ length-take-le i ms (omega arith)
 
-module _ (classes : List Class) (ms : List Member) (i : ℕ) (m : Member) (inside : i < length ms) (at : m ≡ get_or ms i m)
+module _ (classes : List Class) (ms : List Member) (i : ℕ) (m : Member) (inside : i < length ms)
+    (at : m ≡ get_or ms i m)
   where
     taken : take (i + 1) ms ≡ take i ms ++ m ∷ []
     taken = take_more ms i m inside ∙ ap (λ x. take i ms ++ x ∷ []) (sym at)
@@ -223,7 +227,8 @@ module _ (classes : List Class) (ms : List Member) (i : ℕ) (m : Member) (insid
               → count_by (λ e. are_apart e (role, key)) (tallied_to classes b ms i)
               ≡ sum_by (λ y. cond (are_apart (tallied classes b y) (tallied classes b m)) 1 0) (take i ms)
           met b role is =
-              ap (λ (x : Tallied). count_by (λ e. are_apart e x) (tallied_to classes b ms i)) (sym (tallied_is b role is))
+              ap (λ (x : Tallied). count_by (λ e. are_apart e x) (tallied_to classes b ms i))
+              (sym (tallied_is b role is))
               ∙ sum_map (tallied classes b) (λ e. cond (are_apart e (tallied classes b m)) 1 0) (take i ms)
 
       pub pass_tally : (b : Bool) (role : Role) (t : Tally) → role ≡ role_at b (class_of classes m.state)

@@ -23,24 +23,40 @@ moved-low-requires c =
     _ (ap (λ (x : Member). x.key) c.m.view_is) c.loop-m.key c.loop-m.invariant.next
 
 pub conflicts-requires : goal.conflicts-requires
-conflicts-requires c = has_tally c.args.classes.now false c.args.members.now c.loop-m.m-index _ _ c.loop-m-test.true
-    c.requires.few (tally_at c.args.classes.now false c.args.members.now c.loop-m.m-index c.loop-m.key _ _ _ c.moved-low.ensures
-    c.loop-m.invariant.order c.loop-m.invariant.low)
+conflicts-requires c =
+    let classes = c.args.classes.now in
+    let ms = c.args.members.now in
+    let i = c.loop-m.m-index in
+    let low = tally_at classes false ms i c.loop-m.key _ _ _ c.moved-low.ensures c.loop-m.invariant.order
+    c.loop-m.invariant.low in
+    has_tally classes false ms i _ _ c.loop-m-test.true c.requires.few low
 
 pub conflicts-requires-in-loop-m : goal.conflicts-requires-in-loop-m
-conflicts-requires-in-loop-m c = has_tally c.args.classes.now true c.args.members.now c.loop-m.m-index _ _ c.loop-m-test.true
-    c.requires.few (tally_at c.args.classes.now true c.args.members.now c.loop-m.m-index c.loop-m.key _ _ _ c.moved-high.ensures
-    c.loop-m.invariant.order c.loop-m.invariant.high)
+conflicts-requires-in-loop-m c =
+    let classes = c.args.classes.now in
+    let ms = c.args.members.now in
+    let i = c.loop-m.m-index in
+    let high = tally_at classes true ms i c.loop-m.key _ _ _ c.moved-high.ensures c.loop-m.invariant.order
+    c.loop-m.invariant.high in
+    has_tally classes true ms i _ _ c.loop-m-test.true c.requires.few high
 
 pub with-low-requires : goal.with-low-requires
-with-low-requires c = has_tally c.args.classes.now false c.args.members.now c.loop-m.m-index _ _ c.loop-m-test.true
-    c.requires.few (tally_at c.args.classes.now false c.args.members.now c.loop-m.m-index c.loop-m.key _ _ _ c.moved-low.ensures
-    c.loop-m.invariant.order c.loop-m.invariant.low)
+with-low-requires c =
+    let classes = c.args.classes.now in
+    let ms = c.args.members.now in
+    let i = c.loop-m.m-index in
+    let low = tally_at classes false ms i c.loop-m.key _ _ _ c.moved-low.ensures c.loop-m.invariant.order
+    c.loop-m.invariant.low in
+    has_tally classes false ms i _ _ c.loop-m-test.true c.requires.few low
 
 pub with-high-requires : goal.with-high-requires
-with-high-requires c = has_tally c.args.classes.now true c.args.members.now c.loop-m.m-index _ _ c.loop-m-test.true
-    c.requires.few (tally_at c.args.classes.now true c.args.members.now c.loop-m.m-index c.loop-m.key _ _ _ c.moved-high.ensures
-    c.loop-m.invariant.order c.loop-m.invariant.high)
+with-high-requires c =
+    let classes = c.args.classes.now in
+    let ms = c.args.members.now in
+    let i = c.loop-m.m-index in
+    let high = tally_at classes true ms i c.loop-m.key _ _ _ c.moved-high.ensures c.loop-m.invariant.order
+    c.loop-m.invariant.high in
+    has_tally classes true ms i _ _ c.loop-m-test.true c.requires.few high
 
 pub loop-m-preserved : goal.loop-m-preserved
 loop-m-preserved c =
