@@ -1,9 +1,7 @@
 -- Worked examples: the order of choices, and the number that the next candidate has to get below.
-use Rattle.std.proofs.Common.{◌≡◌, ℕ, List, [], ◌∷◌, Some, None, refl, inl, inr, lit<}
+use Rattle.std.proofs.Common.{◌≡◌, ℕ, [], Some, None, refl, inl, inr, lit<}
 use Rattle.si_base.specs.Order.{Before}
-use Rattle.si_resolve.specs.declared.search.Found.{Found}
 use Rattle.si_resolve.specs.Best.{Choice, choice_place}
-use Rattle.si_resolve.specs.Search.{bar}
 use Rattle.si_resolve.specs.Progress.{told_best, bar_by}
 
 abbrev choice : ℕ → ℕ → ℕ → Choice
