@@ -1,0 +1,4 @@
+pub mod Fit
+pub mod Search
+pub mod Support
+pub mod Weight

@@ -1,0 +1,7 @@
+//! Cells for the signals of a graph: the first instance that fits, supports, and the weight.
+#![tactic(auto)]
+
+pub mod fit;
+mod refute;
+mod search;
+mod state;
