@@ -1,7 +1,6 @@
 //! A library text, the values of an instance, and its sum.
 
-ghost use Rattle.std.specs.Prelude.{◌≡◌, ◌<◌, [], ◌∷◌};
-ghost use Rattle.si_base.specs.Limits.{code_width};
+ghost use Rattle.std.specs.Prelude.{◌≡◌, true, false, [], ◌∷◌};
 
 use crate::cell::{Instance, PinLiteral};
 use crate::expand::expand;

@@ -94,7 +94,7 @@ fewer_within signals i there = same_codes _ _ (λ j. bit-and signals (flip signa
     ]
 
 -- ---- signals that determine the next value
-all_from : (c : CodedGraph) (test : ℕ × ℕ → Bool) → ((s : ℕ) → s < length c.codes → test (s, code c s) ≡ true) → list_all test (states_of c) ≡ true
+pub all_from : (c : CodedGraph) (test : ℕ × ℕ → Bool) → ((s : ℕ) → s < length c.codes → test (s, code c s) ≡ true) → list_all test (states_of c) ≡ true
 all_from c test each = list_all-from_AllPass test (states_of c)
     (λ k d inside. (let within : k < length c.codes = rw states_are at inside in ap test (state_at c k d within) ∙ each k within))
 
