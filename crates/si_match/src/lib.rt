@@ -1,0 +1,11 @@
+//! Cells for the signals of a graph: the first instance that fits, supports, and the weight.
+#![tactic(auto)]
+
+mod codes;
+pub mod fit;
+pub mod laws;
+mod refute;
+mod search;
+mod state;
+pub mod support;
+pub mod weight;
