@@ -65,8 +65,13 @@ module _ (c : CodedGraph) (z : ℕ) (value : Bool) (signals : ℕ) where
     λ (s, within, next_s, is_s). subst (λ xs. Contains xs k) (sym pushed) (elim (eqb_tells s count) [
       | inl same ↦ subst (λ x. Contains (codes ++ m ∷ []) x) (is ∙ ap (λ n. bit_and (code c n) signals) (sym same.1)
           ∙ is_s) (Contains-push codes m)
-      | inr different ↦ (let not_last = different.1 in Contains-append_left codes (m ∷ []) k ((so_far k).1 (s, grind
-          (arith, within, not_last), next_s, is_s)))
+      | inr different ↦ (let not_last = different.1 in Contains-append_left codes (m ∷ []) k ((so_far k).1 (
+        s,
+        grind
+            (arith, within, not_last),
+        next_s,
+        is_s,
+      )))
     ]),
   )
 
@@ -76,11 +81,15 @@ pub cut_further : (c : CodedGraph) (z : ℕ) (value : Bool) (signals fewer : ℕ
     → AreProjected codes fewer part → bit_and signals fewer ≡ fewer → AreCodes c z value fewer part
 cut_further c z value signals fewer codes part are projected within k = (
   λ there.
-  (let (m, in_codes, is) = (projected k).0 there in
-  let (s, inside, next, is_m) = (are m).0 in_codes in
-  (s, inside, next, cut s ∙ ap (λ n. bit_and n fewer) is_m ∙ is)),
-  λ (s, inside, next, is). (projected k).1 (bit_and (code c s) signals, (are (bit_and (code c s) signals)).1
-      (s, inside, next, refl), sym (cut s) ∙ is),
+      (let (m, in_codes, is) = (projected k).0 there in
+      let (s, inside, next, is_m) = (are m).0 in_codes in
+      (s, inside, next, cut s ∙ ap (λ n. bit_and n fewer) is_m ∙ is)),
+  λ (s, inside, next, is). (projected k).1 (
+    bit_and (code c s) signals,
+    (are (bit_and (code c s) signals)).1
+        (s, inside, next, refl),
+    sym (cut s) ∙ is,
+  ),
 )
   where
     cut : (s : ℕ) → bit_and (code c s) fewer ≡ bit_and (bit_and (code c s) signals) fewer
@@ -104,14 +113,14 @@ pub all_from : (c : CodedGraph) (test : ℕ × ℕ → Bool) → ((s : ℕ) → 
     → list_all test (states_of c) ≡ true
 all_from c test each = list_all-from_AllPass test (states_of c)
     (λ k d inside. (let within : k < length c.codes = rw states_are at inside in ap test (state_at c k d within)
-        ∙ each k within))
+    ∙ each k within))
 
 module _ (c : CodedGraph) (z signals : ℕ) (on off : List ℕ) (on_are : AreCodes c z true signals on)
     (off_are : AreCodes c z false signals off) where
   pub apart_determines : ((k : ℕ) → Contains on k → Contains off k → ⊥) → determines c z signals ≡ true
   apart_determines apart =
       all_from c _ (λ s inside_s. all_from c _ (λ t inside_t. by_agree (agree signals (code c s)
-          (code c t)) refl inside_s inside_t))
+      (code c t)) refl inside_s inside_t))
     where
       same_next : (s t : ℕ) → s < length c.codes → t < length c.codes
           → bit_and (code c s) signals ≡ bit_and (code c t) signals
@@ -120,10 +129,10 @@ module _ (c : CodedGraph) (z signals : ℕ) (on off : List ℕ) (on_are : AreCod
       same_next s t inside_s inside_t same false false ns nt = refl
       same_next s t inside_s inside_t same true false ns nt =
           absurd (apart (bit_and (code c t) signals) ((on_are _).1 (s, inside_s, ns, same)) ((off_are _).1
-              (t, inside_t, nt, refl)))
+          (t, inside_t, nt, refl)))
       same_next s t inside_s inside_t same false true ns nt =
           absurd (apart (bit_and (code c s) signals) ((on_are _).1 (t, inside_t, nt, sym same)) ((off_are _).1
-              (s, inside_s, ns, refl)))
+          (s, inside_s, ns, refl)))
 
       by_agree : {s t : ℕ} (b : Bool) → agree signals (code c s) (code c t) ≡ b → s < length c.codes
           → t < length c.codes
@@ -131,9 +140,9 @@ module _ (c : CodedGraph) (z signals : ℕ) (on off : List ℕ) (on_are : AreCod
       by_agree false e inside_s inside_t = refl
       by_agree {s} {t} true e inside_s inside_t = same_next s t inside_s inside_t (elim (eqb_tells (bit_and
           (code c s) signals) (bit_and (code c t) signals)) [
-        | inl same ↦ same.1
-        | inr other ↦ absurd (true≢false (sym e ∙ other.0))
-      ]) (next_value c s z) (next_value c t z) refl refl
+            | inl same ↦ same.1
+            | inr other ↦ absurd (true≢false (sym e ∙ other.0))
+          ]) (next_value c s z) (next_value c t z) refl refl
 
   pub meet_determines_not : (k : ℕ) × Contains on k × Contains off k → determines c z signals ≡ false
   meet_determines_not (k, in_on, in_off) =
@@ -141,11 +150,11 @@ module _ (c : CodedGraph) (z signals : ℕ) (on off : List ℕ) (on_are : AreCod
       let (t, inside_t, nt, is_t) = (off_are k).0 in_off in
       let same : agree signals (code c s) (code c t) ≡ true = eq-eqb _ _ (is_s ∙ sym is_t) in
       let fails : (not (agree signals (code c s) (code c t))
-          || beq (next_value c s z) (next_value c t z)) ≡ false = rw (same, ns, nt) refl in
+      || beq (next_value c s z) (next_value c t z)) ≡ false = rw (same, ns, nt) refl in
       one_fails c (λ p. list_all (λ q. not (agree signals p.1 q.1)
-          || beq (next_value c p.0 z) (next_value c q.0 z)) (states_of c)) s inside_s
+      || beq (next_value c p.0 z) (next_value c q.0 z)) (states_of c)) s inside_s
       (one_fails c (λ q. not (agree signals (code c s) q.1)
-          || beq (next_value c s z) (next_value c q.0 z)) t inside_t fails)
+      || beq (next_value c s z) (next_value c q.0 z)) t inside_t fails)
 
 -- ---- signal after signal
 whole : (c : CodedGraph) (z : ℕ) → dropped_from c z (length c.graph.signals) 0 (ones (length c.graph.signals))
@@ -164,14 +173,17 @@ in_start c z n signals on off count all on_are off_are = record {
 }
   where
     below : (j : ℕ) → j < length c.graph.signals → nat_lt j n ≡ true
-    below j high = elim (leb_tells (suc j) n) [ inl low ↦ low.0 | inr up ↦ absurd (let past = up.1 in omega
-        (arith, past, high, count)) ]
+    below j high = elim (leb_tells (suc j) n) [
+      | inl low ↦ low.0
+      | inr up ↦ absurd (let past = up.1 in omega
+          (arith, past, high, count))
+    ]
 
 module _ (c : CodedGraph) (z i signals : ℕ) (on off : List ℕ) (so_far : InSupport c z i signals on off)
     (inside : i < length c.graph.signals) where
   told_step : (b : Bool) → determines c z (flip signals i) ≡ b
       → dropped_from c z (length c.graph.signals - (i + 1)) (i + 1) (if b then flip signals i else signals)
-          ≡ support_of c z
+      ≡ support_of c z
   told_step b is =
       let e : length c.graph.signals - i ≡ suc (length c.graph.signals - (i + 1)) = omega arith in
       rw (← is) (rw e at so_far.told)
@@ -237,7 +249,7 @@ pub projected_are : (codes made part : List ℕ) (i signals : ℕ) → made ≡ 
     → AreProjected codes signals part
 projected_are codes made part i signals is past same k =
     let all : made ≡ map (λ m. bit_and m signals) codes = is
-        ∙ ap (map (λ m. bit_and m signals)) (take_all i codes past) in (
+    ∙ ap (map (λ m. bit_and m signals)) (take_all i codes past) in (
       λ there. Contains-from_map (λ m. bit_and m signals) codes k (subst (λ xs. Contains xs k) all ((same k).0 there)),
       λ (m, there, e). (same k).1 (subst (λ xs. Contains xs k) (sym all) (subst (Contains (map
           (λ n. bit_and n signals) codes)) e (Contains-map (λ n. bit_and n signals) codes m there))),
@@ -262,7 +274,7 @@ is_same a b v is same = sym is ∙ by_bits a b same
 module _ (c : CodedGraph) (z i signals fewer : ℕ) (on off one other on2 off2 : List ℕ)
     (so_far : InSupport c z i signals on off)
     (inside : i < length c.graph.signals) (fewer_is : fewer ≡ flip signals i) (one_is : one ≡ on) (other_is : other
-        ≡ off)
+    ≡ off)
     (on_cut : AreProjected one fewer on2) (off_cut : AreProjected other fewer off2) where
   within : bit_and signals (flip signals i) ≡ flip signals i
   within = fewer_within signals i (so_far.later i (omega arith) inside)

@@ -117,7 +117,7 @@ list_in n (l ∷ ls) small =
     in_flat (λ m. map (λ ms. m ∷ ms) (lists_of (length ls) (literals_of_signals n))) l (l ∷ ls) (literals_of_signals n)
     (literal_in n 0 l (omega arith) (let here = small 0 l (omega arith) in omega (arith, here)))
     (in_map (λ ms. l ∷ ms) ls (lists_of (length ls) (literals_of_signals n)) (list_in n ls (λ k d inside. small
-        (suc k) d (omega (arith, inside)))))
+    (suc k) d (omega (arith, inside)))))
 
 list_small : (n pins : ℕ) (ls : List Literal) → In ls (lists_of pins (literals_of_signals n)) → (length ls ≡ pins)
     × All (λ (l : Literal). l.sig < n) ls
@@ -125,11 +125,14 @@ list_small n zero ls (inl same) = rw same (refl, λ k d inside. absurd (omega ar
 list_small n zero ls (inr never) = absurd never
 list_small n (suc pins) ls here =
     let (l, there, at) = from_flat (λ m. map (λ ms. m ∷ ms) (lists_of pins (literals_of_signals n))) ls
-        (literals_of_signals n) here in
+    (literals_of_signals n) here in
     let (rest, rest_in, same) = from_map (λ ms. l ∷ ms) ls (lists_of pins (literals_of_signals n)) at in
     let (count, small) = list_small n pins rest rest_in in
-    rw same (ap suc count, All-cons (λ (m : Literal). m.sig < n) l rest (let low = literal_small n 0 l there in omega
-        (arith, low)) small)
+    rw same (
+      ap suc count,
+      All-cons (λ (m : Literal). m.sig < n) l rest (let low = literal_small n 0 l there in omega
+          (arith, low)) small,
+    )
 
 cell_in : (from : ℕ) (cells : List Cell) (k : ℕ) → k < length cells
     → In (from + k, get_or cells k no_cell) (enumerate_from from cells)
@@ -139,14 +142,17 @@ cell_in from (x ∷ cells) zero inside = inl (let pair : ℕ → ℕ
 cell_in from (x ∷ cells) (suc k) inside =
     let e : from + 1 + k ≡ from + suc k = omega arith in
     inr (subst (λ n. In (n, get_or cells k no_cell) (enumerate_from (from + 1) cells)) e (cell_in (from + 1) cells k
-        (omega (arith, inside))))
+    (omega (arith, inside))))
 
 from_cells : (from : ℕ) (cells : List Cell) (p : ℕ × Cell) → In p (enumerate_from from cells) → (k : ℕ)
     × (k < length cells) × (p ≡ (from + k, get_or cells k no_cell))
 from_cells from [] p here = absurd here
-from_cells from (x ∷ cells) p (inl same) =
-    (0, omega arith, same ∙ (let pair : ℕ → ℕ × Cell = λ n. (n, x) in let e : from
-        ≡ from + 0 = omega arith in ap pair e))
+from_cells from (x ∷ cells) p (inl same) = (
+  0,
+  omega arith,
+  same ∙ (let pair : ℕ → ℕ × Cell = λ n. (n, x) in let e : from
+      ≡ from + 0 = omega arith in ap pair e),
+)
 from_cells from (x ∷ cells) p (inr later) =
     let (k, inside, same) = from_cells (from + 1) cells p later in
     let e : from + 1 + k ≡ from + suc k = omega arith in
@@ -158,13 +164,13 @@ instance_in c library i over =
     let here : In (i.cell, cell_at library i.cell) (enumerate_from 0 library.cells) =
     (let e : 0 + i.cell ≡ i.cell = omega arith in
     subst (λ n. In (n, cell_at library i.cell) (enumerate_from 0 library.cells)) e
-        (cell_in 0 library.cells i.cell over.instance.cell)) in
+    (cell_in 0 library.cells i.cell over.instance.cell)) in
     let listed : In i.literals (lists_of (length (cell_at library i.cell).pins) (literals_of_signals
-        (length c.graph.signals))) =
+    (length c.graph.signals))) =
     subst (λ n. In i.literals (lists_of n (literals_of_signals (length c.graph.signals)))) over.instance.pins
     (list_in (length c.graph.signals) i.literals over.signals) in
     in_flat (instances_of (length c.graph.signals)) (i.cell, cell_at library i.cell) i
-        (enumerate_from 0 library.cells) here
+    (enumerate_from 0 library.cells) here
     (in_map (λ ls. record { cell = i.cell; literals = ls }) i.literals _ listed)
 
 instance_over : (c : CodedGraph) (library : Library) (i : Instance) → length c.graph.signals ≤ code_width
@@ -195,9 +201,9 @@ module _ (c : CodedGraph) (library : Library) (z : ℕ) (i : Instance) (coded : 
   tells all s within =
       let inside : s < length c.codes = omega (arith, within, coded.count) in
       let here = AllPass-from_list_all (suits c z (cell_at library i.cell) i.literals) (states_of c) all s
-          (s, code c s) (rw states_are inside) in
+      (s, code c s) (rw states_are inside) in
       let at : suits c z (cell_at library i.cell) i.literals (s, code c s) ≡ true = ap (suits c z
-          (cell_at library i.cell) i.literals) (sym (state_at c s (s, code c s) inside)) ∙ here in
+      (cell_at library i.cell) i.literals) (sym (state_at c s (s, code c s) inside)) ∙ here in
       beq-true _ _ at
 
   told : Fits c library z i → fits c z (cell_at library i.cell) i.literals ≡ true
@@ -209,7 +215,7 @@ pub fit_fits : (c : CodedGraph) (library : Library) (z : ℕ) (i : Instance) →
 unfolding first_fit
 fit_fits c library z i coded found =
     let (there, passes) = first_passes (λ j. fits c z (cell_at library j.cell) j.literals) (instances
-        (length c.graph.signals) library) i found in
+    (length c.graph.signals) library) i found in
     (instance_over c library i coded.graph_is.few_signals there, tells c library z i coded passes)
 
 pub none_fits : (c : CodedGraph) (library : Library) (z : ℕ) (i : Instance) → IsCoded c → first_fit c library z ≡ None
@@ -217,5 +223,5 @@ pub none_fits : (c : CodedGraph) (library : Library) (z : ℕ) (i : Instance) �
 unfolding first_fit
 none_fits c library z i coded none over fit =
     none_passes (λ j. fits c z (cell_at library j.cell) j.literals) (instances
-        (length c.graph.signals) library) i none (instance_in c library i over)
+    (length c.graph.signals) library) i none (instance_in c library i over)
     (told c library z i coded fit)

@@ -94,7 +94,7 @@ module _ (c : CodedGraph) (z : ℕ) (cell : Cell) where
       by_literal [] shorter = All-nil (λ (xs : List Literal). length xs ≡ suc more)
       by_literal (l ∷ ls) shorter = rw flat_map-cons (All-append (λ (xs : List Literal). length xs ≡ suc more) _ _
           (All-map (λ (xs : List Literal). length xs ≡ suc more) (λ xs. l ∷ xs) (lists_of more literals)
-              (λ k d inside. ap suc (shorter k d inside))) (by_literal ls shorter))
+          (λ k d inside. ap suc (shorter k d inside))) (by_literal ls shorter))
 
   pub refuted : (literals : List Literal) (more : ℕ) → IsRefuted c z cell literals more
       → first_completion c z cell literals more ≡ None
@@ -109,11 +109,11 @@ module _ (c : CodedGraph) (z : ℕ) (cell : Cell) where
   -- those with one more literal
   next_literal : (literals : List Literal) (more : ℕ) (l : Literal)
       → first_that (λ rest. fits c z cell (literals ++ rest)) (with_next more l) ≡ option_map (λ ls. l ∷ ls)
-          (first_completion c z cell (literals ++ l ∷ []) more)
+      (first_completion c z cell (literals ++ l ∷ []) more)
   next_literal literals more l =
       first-map (λ rest. fits c z cell (literals ++ rest)) (λ ls. l ∷ ls) (lists_of more all_literals)
       ∙ ap (option_map (λ ls. l ∷ ls)) (first_same _ _ (lists_of more all_literals) (λ ls. ap (fits c z cell) (sym
-          (append_assoc literals (l ∷ []) ls))))
+      (append_assoc literals (l ∷ []) ls))))
 
   module _ (literals : List Literal) (more place : ℕ) (l : Literal) (inside : place < length all_literals)
       (at : get_or all_literals place l ≡ l) where
@@ -121,26 +121,26 @@ module _ (c : CodedGraph) (z : ℕ) (cell : Cell) where
         ++ l ∷ []) more)) (from_place literals more (place + 1))
     split_at =
         let left : drop place all_literals ≡ l ∷ drop (place + 1) all_literals = rw
-            (drop-cons all_literals place l inside, at, add-one) refl in
+        (drop-cons all_literals place l inside, at, add-one) refl in
         ap (λ (ls : List Literal). first_that (λ rest. fits c z cell (literals
-            ++ rest)) (flat_map (with_next more) ls)) left
+        ++ rest)) (flat_map (with_next more) ls)) left
         ∙ ap (first_that (λ rest. fits c z cell (literals
-            ++ rest))) (flat_map-cons (with_next more) l (drop (place + 1) all_literals))
+        ++ rest))) (flat_map-cons (with_next more) l (drop (place + 1) all_literals))
         ∙ first-append (λ rest. fits c z cell (literals
-            ++ rest)) (with_next more l) (flat_map (with_next more) (drop (place + 1) all_literals))
+        ++ rest)) (with_next more l) (flat_map (with_next more) (drop (place + 1) all_literals))
         ∙ ap (λ (o : Option (List Literal)). either o (from_place literals more (place + 1)))
-            (next_literal literals more l)
+        (next_literal literals more l)
 
     pub place_found : (total : Option (List Literal)) (found : List Literal) → from_place literals more place ≡ total
         → option_map (λ rest. (literals ++ l ∷ []) ++ rest) (first_completion c z cell (literals
-            ++ l ∷ []) more) ≡ Some found
+        ++ l ∷ []) more) ≡ Some found
         → option_map (λ rest. literals ++ rest) total ≡ Some found
     place_found total found told here =
         rw (← told, split_at) (by_first (first_completion c z cell (literals ++ l ∷ []) more) here)
       where
         by_first : (o : Option (List Literal)) → option_map (λ rest. (literals ++ l ∷ []) ++ rest) o ≡ Some found
             → option_map (λ rest. literals ++ rest) (either (option_map (λ ls. l ∷ ls) o) (from_place literals more
-                (place + 1))) ≡ Some found
+            (place + 1))) ≡ Some found
         by_first (Some rest) e = ap Some (sym (append_assoc literals (l ∷ []) rest)) ∙ e
         by_first None e = absurd cc
 
@@ -180,7 +180,7 @@ module _ (c : CodedGraph) (z : ℕ) (cell : Cell) (literals : List Literal) wher
     pub found_now : (total : Option (List Literal)) (found : List Literal)
         → from_place c z cell literals less place ≡ total
         → option_map (λ rest. now ++ rest) (first_completion c z cell now less) ≡ Some found
-            → option_map (λ rest. literals ++ rest) total ≡ Some found
+        → option_map (λ rest. literals ++ rest) total ≡ Some found
     found_now total found told here = place_found c z cell literals less place l inside at total found told
         (rw now_is at here)
 
@@ -201,7 +201,7 @@ popped literals old new l is rest =
     let count : length old - 1 ≡ length literals = rw (is, length_push) (omega arith) in
     let within : length literals ≤ length literals = omega arith in
     rest ∙ rw (count, is, take-append-le (length literals) literals (l ∷ []) within) (take_all
-        (length literals) literals within)
+    (length literals) literals within)
 
 -- ---- cell after cell
 module _ (c : CodedGraph) (z : ℕ) (library : Library) where
@@ -235,13 +235,13 @@ module _ (c : CodedGraph) (z : ℕ) (library : Library) where
         let e : 0 + k ≡ k = omega arith in
         get_or-enumerate_from 0 library.cells k (k, no_cell) within ∙ ap (λ (n : ℕ). pair n (cell_at library k)) e) in
         let left : drop k (enumerate_from 0 library.cells) ≡ (k, cell_at library k) ∷ drop (k + 1)
-            (enumerate_from 0 library.cells) =
+        (enumerate_from 0 library.cells) =
         rw (drop-cons (enumerate_from 0 library.cells) k (k, no_cell) inside, at, add-one) refl in
         ap (λ ps. first_that fits_z (flat_map (instances_of (length c.graph.signals)) ps)) left
         ∙ ap (first_that fits_z) (flat_map-cons (instances_of (length c.graph.signals)) (k, cell_at library k) (drop
-            (k + 1) (enumerate_from 0 library.cells)))
+        (k + 1) (enumerate_from 0 library.cells)))
         ∙ first-append fits_z (instances_of (length c.graph.signals) (k, cell_at library k)) (flat_map (instances_of
-            (length c.graph.signals)) (drop (k + 1) (enumerate_from 0 library.cells)))
+        (length c.graph.signals)) (drop (k + 1) (enumerate_from 0 library.cells)))
         ∙ ap (λ (o : Option Instance). either o (from_cell (k + 1))) of_cell
 
     pub cell_found : (cell : Cell) (total : Option Instance) (found : List Literal) → cell ≡ cell_at library k
@@ -250,7 +250,7 @@ module _ (c : CodedGraph) (z : ℕ) (library : Library) where
         → Some (instance_with k found) ≡ total
     cell_found cell total found is told here =
         rw (← told, cell_split) (by_first (first_completion c z (cell_at library k) [] (length
-            (cell_at library k).pins)) (rw is at here))
+        (cell_at library k).pins)) (rw is at here))
       where
         by_first : (o : Option (List Literal)) → option_map (λ rest. [] ++ rest) o ≡ Some found
             → Some (instance_with k found) ≡ either (option_map (instance_with k) o) (from_cell (k + 1))
@@ -264,23 +264,23 @@ module _ (c : CodedGraph) (z : ℕ) (library : Library) where
   pub cells_done : (k : ℕ) (total : Option Instance) → length library.cells ≤ k → from_cell k ≡ total → None ≡ total
   cells_done k total past told =
       let none_left : drop k (enumerate_from 0 library.cells) ≡ [] = drop_all k (enumerate_from 0 library.cells)
-          (rw length-enumerate_from past) in
+      (rw length-enumerate_from past) in
       sym (rw none_left refl) ∙ told
 
 -- ---- the loop over the cells
 module _ (c g : CodedGraph) (z : ℕ) (library : Library) (k : ℕ) (cell : Cell) (start : List Literal) (pins : ℕ)
     (same : c ≡ g)
     (within : k < length library.cells) (is : cell ≡ cell_at library k) (begins : start ≡ []) (count : pins
-        ≡ length cell.pins)
+    ≡ length cell.pins)
     (told : from_cell c z library k ≡ first_fit c library z) where
   pub found_cell : (found : List Literal) → option_map (λ rest. start
       ++ rest) (first_completion c z cell start pins) ≡ Some found
       → Some (record { cell = k; literals = found }) ≡ first_fit g library z
   found_cell found here =
       let from_none : option_map (λ rest. [] ++ rest) (first_completion c z cell [] (length cell.pins))
-          ≡ Some found = rw (begins, count) at here in
+      ≡ Some found = rw (begins, count) at here in
       cell_found c z library k within cell (first_fit c library z) found is told from_none
-          ∙ ap (λ (x : CodedGraph). first_fit x library z) same
+      ∙ ap (λ (x : CodedGraph). first_fit x library z) same
 
   pub none_cell : first_completion c z cell start pins ≡ None → from_cell c z library (k + 1) ≡ first_fit c library z
   none_cell none =

@@ -78,26 +78,26 @@ value_at : (literals : List Literal) (code : ℕ) (q : Bool) (j : ℕ) → j < l
     → bit (pin_values literals code q) j ≡ get_or (map (literal_value code) literals) j false
 value_at literals code q j within =
     bit_of (map (literal_value code) literals ++ q ∷ []) j
-        ∙ get_or_append_left (map (literal_value code) literals) (q ∷ []) false j (rw length-map within)
+    ∙ get_or_append_left (map (literal_value code) literals) (q ∷ []) false j (rw length-map within)
 
 own_at : (literals : List Literal) (code : ℕ) (q : Bool) (j : ℕ) → j ≡ length literals
     → bit (pin_values literals code q) j ≡ q
 own_at literals code q j at =
     let e : j ≡ length (map (literal_value code) literals) = at ∙ sym (length-map literals (literal_value code)) in
     bit_of (map (literal_value code) literals ++ q ∷ []) j
-        ∙ rw e (get_or-append_seam (map (literal_value code) literals) q [] false)
+    ∙ rw e (get_or-append_seam (map (literal_value code) literals) q [] false)
 
 past_at : (literals : List Literal) (code : ℕ) (q : Bool) (j : ℕ) → length literals < j
     → bit (pin_values literals code q) j ≡ false
 past_at literals code q j past =
     bit_of (map (literal_value code) literals ++ q ∷ []) j ∙ get_or_past (map (literal_value code) literals
-        ++ q ∷ []) j false
+    ++ q ∷ []) j false
     (rw (length-append, length-map) (omega (arith, past)))
 
 -- a completion has the values of its first pins and of the own output
 pub completed : (literals rest : List Literal) (code pins values : ℕ) (q : Bool) → length literals + length rest ≡ pins
     → IsSet (pin_values literals code false) pins q values
-        → AgreeOutside (length literals) pins values (pin_values (literals ++ rest) code q)
+    → AgreeOutside (length literals) pins values (pin_values (literals ++ rest) code q)
 completed literals rest code pins values q count set j outside = elim (eqb_tells j pins) [
   | inl same ↦ own_at (literals ++ rest) code q j (same.1 ∙ sym count ∙ sym (length-append literals rest))
       ∙ sym (rw same.1 set.there)
@@ -113,7 +113,7 @@ completed literals rest code pins values q count set j outside = elim (eqb_tells
         value_at (literals ++ rest) code q j (rw length-append (omega (arith, first)))
         ∙ ap (λ (vs : List Bool). get_or vs j false) (map-append (literal_value code) literals rest)
         ∙ get_or_append_left (map (literal_value code) literals) (map (literal_value code) rest) false j
-            (rw length-map first)
+        (rw length-map first)
         ∙ sym (set.others j other ∙ value_at literals code false j first)
     before_or_past (inr later) other =
         let above : pins ≤ j = elim (leb_tells pins j) [ inl up ↦ up.1 | inr down ↦ absurd (outside later down.1) ] in
@@ -130,7 +130,7 @@ completed literals rest code pins values q count set j outside = elim (eqb_tells
 pub refutes_at : (c : CodedGraph) (z s : ℕ) (cell : Cell) (literals : List Literal) (sum : Sum)
     (at_state first pins values : ℕ) (q v : Bool)
     → length literals ≤ length cell.pins → sum ≡ cell.sum → pins ≡ length cell.pins → at_state ≡ code c s
-        → first ≡ pin_values literals at_state false
+    → first ≡ pin_values literals at_state false
     → q ≡ bit at_state z → v ≡ next_value c s z → IsSet first pins q values
     → ((other : ℕ) → AgreeOutside (length literals) pins values other → sum_value other sum ≡ v → ⊥)
     → IsRefutedAt c z cell literals (length cell.pins - length literals) (s, code c s)
@@ -140,10 +140,10 @@ refutes_at c z s cell literals sum at_state first pins values q v short sum_is p
     let start : IsSet (pin_values literals at_state false) pins q values = rw first_is at set in
     let agree = completed literals rest at_state pins values q done start in
     let fails : sum_value (pin_values (literals ++ rest) at_state q) sum ≡ v → ⊥ = none (pin_values (literals
-        ++ rest) at_state q) agree in
+    ++ rest) at_state q) agree in
     false_from_ne_true _ (λ same. fails (
     ap (λ (k : ℕ). sum_value (pin_values (literals ++ rest) k q) sum) state_is
     ∙ ap (λ (b : Bool). sum_value (pin_values (literals ++ rest) (code c s) b) sum) (own
-        ∙ ap (λ (k : ℕ). bit k z) state_is)
+    ∙ ap (λ (k : ℕ). bit k z) state_is)
     ∙ ap (sum_value (pin_values (literals ++ rest) (code c s) (bit (code c s) z))) sum_is
     ∙ beq-true _ _ same ∙ sym next))

@@ -73,14 +73,14 @@ all_determine : (c : CodedGraph) (z : ℕ) → IsCoded c → HasNoConflict c →
     → determines c z (ones (length c.graph.signals)) ≡ true
 all_determine c z coded none non_input =
     all_from c _ (λ s inside_s. all_from c _ (λ t inside_t. by_agree s t inside_s inside_t (agree (ones
-        (length c.graph.signals)) (code c s) (code c t)) refl))
+    (length c.graph.signals)) (code c s) (code c t)) refl))
   where
     same_code : (s t : ℕ) → s < length c.codes → t < length c.codes
         → agree (ones (length c.graph.signals)) (code c s) (code c t) ≡ true → code c s ≡ code c t
     same_code s t inside_s inside_t agrees =
         sym (whole_code (length c.graph.signals) (code c s) (coded.no_more s 0 inside_s))
         ∙ elim (eqb_tells (bit_and (code c s) (ones (length c.graph.signals))) (bit_and (code c t) (ones
-            (length c.graph.signals)))) [
+        (length c.graph.signals)))) [
           | inl same ↦ same.1
           | inr other ↦ absurd (true≢false (sym agrees ∙ other.0))
         ]
@@ -92,7 +92,7 @@ all_determine c z coded none non_input =
     by_agree s t inside_s inside_t false e = refl
     by_agree s t inside_s inside_t true e =
         let same = same_next c s t z none (omega (arith, inside_s, coded.count)) (omega
-            (arith, inside_t, coded.count)) (same_code s t inside_s inside_t e) non_input in
+        (arith, inside_t, coded.count)) (same_code s t inside_s inside_t e) non_input in
         rw same (beq-refl (next_value c t z))
 
 -- ---- signals that are dropped

@@ -19,13 +19,13 @@ module _ (count i signals : ℕ) (within : i < count) where
       → size + size_from (count - (i + 1)) (i + 1) signals ≡ whole
   not_there size whole absent told =
       let same : size + (0 + size_from (count - (i + 1)) (i + 1) signals) ≡ whole = rw (left, absent) at told in omega
-          (arith, same)
+      (arith, same)
 
   pub one_there : (size whole : ℕ) → bit signals i ≡ true → size + size_from (count - i) i signals ≡ whole
       → size + 1 + size_from (count - (i + 1)) (i + 1) signals ≡ whole
   one_there size whole there told =
       let more : size + (1 + size_from (count - (i + 1)) (i + 1) signals) ≡ whole = rw (left, there) at told in omega
-          (arith, more)
+      (arith, more)
 
 -- ---- signal after signal
 module _ (c : CodedGraph) (library : Library) where
@@ -44,21 +44,21 @@ module _ (c : CodedGraph) (library : Library) where
         + weight_from c library (i + 1) (drop (i + 1) c.graph.signals)
     split =
         let next : drop i c.graph.signals ≡ x ∷ drop (i + 1) c.graph.signals = rw
-            (drop-cons c.graph.signals i x inside, ← is, add-one) refl in
+        (drop-cons c.graph.signals i x inside, ← is, add-one) refl in
         ap (weight_from c library i) next
 
     pub input : is_driven x.kind ≡ false → weight + weight_from c library (i + 1) (drop (i + 1) c.graph.signals)
         ≡ weight_of c library
     input no_driver =
         let same : weight + (0 + weight_from c library (i + 1) (drop (i + 1) c.graph.signals))
-            ≡ weight_of c library = rw (split, no_driver) at told in
+        ≡ weight_of c library = rw (split, no_driver) at told in
         omega (arith, same)
 
     pub driven : (more : ℕ) → is_driven x.kind ≡ true → more ≡ part i
         → weight + more + weight_from c library (i + 1) (drop (i + 1) c.graph.signals) ≡ weight_of c library
     driven more drives added =
         let same : weight + (part i + weight_from c library (i + 1) (drop (i + 1) c.graph.signals))
-            ≡ weight_of c library = rw (split, drives) at told in
+        ≡ weight_of c library = rw (split, drives) at told in
         omega (arith, same, added)
 
   pub ends : (i weight : ℕ) → length c.graph.signals ≤ i
@@ -70,6 +70,9 @@ module _ (c : CodedGraph) (library : Library) where
 pub is_non_input : (all signals : List Signal) (i : ℕ) (x : Signal) (drives : Bool) → signals ≡ all
     → i < length signals → x ≡ get_or signals i x
     → drives ≡ is_driven x.kind → drives ≡ true → IsNonInput all i
-is_non_input all signals i x drives same inside is driven_is yes_it =
-    (x, ap (λ xs. slice_get xs i) (sym same) ∙ slice_get-get_or signals i x inside ∙ ap Some (sym is), sym driven_is
-        ∙ yes_it)
+is_non_input all signals i x drives same inside is driven_is yes_it = (
+  x,
+  ap (λ xs. slice_get xs i) (sym same) ∙ slice_get-get_or signals i x inside ∙ ap Some (sym is),
+  sym driven_is
+      ∙ yes_it,
+)
