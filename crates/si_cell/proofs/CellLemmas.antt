@@ -1,5 +1,5 @@
 -- Pins, sums and cells of lines without fault.
-use Rattle.std.proofs.Common.{◌≡◌, ◌≢◌, ℕ, ◌⊎◌, ◌+◌, ◌<◌, ◌≤◌, ◌==◌, ◌&&◌, ◌||◌, not, Bool, true, false, List, [], ◌∷◌, ◌++◌, length, map, take, drop, get_or, filter, position, bytes_eq, codes, Option, Some, None, refl, sym, ap, ◌∙◌, arith, inl, inr, append_assoc, unwrap_or, subst, AllPairs, All, IsTrue, nat_le}
+use Rattle.std.proofs.Common.{◌≡◌, ◌≢◌, ℕ, ◌+◌, ◌<◌, ◌≤◌, ◌==◌, ◌||◌, not, Bool, true, false, List, [], ◌∷◌, ◌++◌, length, map, get_or, filter, bytes_eq, codes, Option, Some, None, refl, sym, ap, ◌∙◌, arith, inl, inr, append_assoc, unwrap_or, subst, AllPairs, All, IsTrue, nat_le}
 use Rattle.std.specs.List.{list_any, list_all, slice_split, onto_first}
 use Rattle.std.proofs.lemmas.Bool.{true≢false, cases_Bool, false_from_ne_true}
 use Rattle.std.proofs.lemmas.Bool.Decides.{eqb_tells, leb_tells}
@@ -7,7 +7,7 @@ use Rattle.std.proofs.lemmas.List.{length_push, length-map, get_or-map, get_or_a
 use Rattle.std.proofs.lemmas.List.Quantifiers.{all_pairs_push}
 use Rattle.std.proofs.lemmas.List.Elements.{All-nil, All-cons, All-push, filter_passes}
 use Rattle.std.proofs.lemmas.List.Folds.{list_any_none, list_any_at}
-use Rattle.si_base.specs.Faults.{when, ◌otherwise◌, first_after, first_in}
+use Rattle.si_base.specs.Faults.{when, first_after, first_in}
 use Rattle.si_base.specs.Netlist.{Sum}
 use Rattle.si_base.specs.Words.{is_signal_name}
 use Rattle.si_base.specs.declared.fault.TextKind.TheVariants.{Repeated, Undeclared, BadName, TooManyPins, TooManyCells}
@@ -16,7 +16,7 @@ use Rattle.si_words.proofs.FaultLemmas.{both, not_when}
 use Rattle.si_words.proofs.SumWordLemmas.{list_any-map, unmarked}
 use Rattle.si_words.specs.GateLines.{place_in}
 use Rattle.si_words.specs.Names.{stands_in}
-use Rattle.si_words.specs.Sums.{is_one, is_sum, is_empty, literal_name, parts_at}
+use Rattle.si_words.specs.Sums.{is_one, is_sum, literal_name, parts_at}
 use Rattle.si_base.specs.Lines.{has_bad_byte}
 use Rattle.si_cell.specs.LibraryText.{is_end, names_of, cell_words_fault, cell_line_fault, words, with_line}
 use Rattle.si_cell.specs.CellWords.{CellWords, cell_of, is_cell_sum, cell_words, cell_fault, cell_name_fault, pin_fault, literal_fault, cube_fault, sum_fault, literal_of, cube_of, sum_of, declared}
@@ -55,17 +55,20 @@ good_pin before pin none =
     )
 
 pub no_own : (pins : List (List ℕ)) → All IsPinName pins → stands_in pins own ≡ false
-no_own pins good = list_any_none (bytes_eq own) pins (λ k d inside. false_from_ne_true _ (λ same. (good k d inside).other (sym (names_same _ _ same))))
+no_own pins good = list_any_none (bytes_eq own) pins (λ k d inside. false_from_ne_true _ (λ same.
+    (good k d inside).other (sym (names_same _ _ same))))
 
 -- ---- words of sums
-each_declared : (names before ws : List (List ℕ)) → first_after (literal_fault names) before ws ≡ None → list_all (is_declared names) ws ≡ true
+each_declared : (names before ws : List (List ℕ)) → first_after (literal_fault names) before ws ≡ None
+    → list_all (is_declared names) ws ≡ true
 each_declared names before [] none = refl
 each_declared names before (w ∷ ws) none =
     let parts = both (literal_fault names before w) _ none in
     let here = both (when (list_any (λ v. bytes_eq (literal_name w) (literal_name v)) before) Repeated) _ parts.0 in
     rw (not_true _ (not_when _ Undeclared here.1)) (each_declared names (before ++ w ∷ []) ws parts.1)
 
-split_all : (q p : List ℕ → Bool) (ws : List (List ℕ)) → list_all q ws ≡ true → list_all (list_all q) (slice_split p ws) ≡ true
+split_all : (q p : List ℕ → Bool) (ws : List (List ℕ)) → list_all q ws ≡ true
+    → list_all (list_all q) (slice_split p ws) ≡ true
 split_all q p [] all = refl
 split_all q p (w ∷ ws) all =
     let later = split_all q p ws (and_second (q w) _ all) in
@@ -74,7 +77,8 @@ split_all q p (w ∷ ws) all =
       | inr other ↦ rw other (onto w (and_first (q w) _ all) (slice_split p ws) later)
     ]
   where
-    onto : (w : List ℕ) → q w ≡ true → (parts : List (List (List ℕ))) → list_all (list_all q) parts ≡ true → list_all (list_all q) (onto_first w parts) ≡ true
+    onto : (w : List ℕ) → q w ≡ true → (parts : List (List (List ℕ))) → list_all (list_all q) parts ≡ true
+        → list_all (list_all q) (onto_first w parts) ≡ true
     onto w here [] all = rw here refl
     onto w here (part ∷ parts) all = rw here all
 
@@ -90,33 +94,41 @@ module _ (names : List (List ℕ)) (P : Literal → Type 0) (q : List ℕ → Bo
         let literals : List Literal = map (literal_of names) ws in
         let l : Literal = get_or (filter (has_literal literals) (both_from 128 0)) k d in
         let has : has_literal literals l ≡ true = filter_passes (has_literal literals) (both_from 128 0) k d inside in
-        let here : list_any (λ w. same_literal l (literal_of names w)) ws ≡ true = list_any-map (literal_of names) (same_literal l) ws ∙ has in
+        let here : list_any (λ w. same_literal l (literal_of names w)) ws ≡ true = list_any-map (literal_of names)
+        (same_literal l) ws ∙ has in
         let (w, e, passes, some) = found (λ w. same_literal l (literal_of names w)) ws here in
-        subst P (sym (same_is l (literal_of names w) e)) (each w (passes (is_declared names) declared_are) (passes q all)))
+        subst P (sym (same_is l (literal_of names w) e)) (each w (passes (is_declared names) declared_are)
+        (passes q all)))
   ]
 
-  cubes_all : (parts : List (List (List ℕ))) → first_in (cube_fault names) parts ≡ None → list_all (list_all q) parts ≡ true
+  cubes_all : (parts : List (List (List ℕ))) → first_in (cube_fault names) parts ≡ None
+      → list_all (list_all q) parts ≡ true
       → All (All P) (map (cube_of names) parts)
   cubes_all [] none all = All-nil (All P)
   cubes_all (part ∷ parts) none all =
       let faults = both (cube_fault names part) _ none in
-      All-cons (All P) _ _ (cube_all part faults.0 (and_first (list_all q part) _ all)) (cubes_all parts faults.1 (and_second (list_all q part) _ all))
+      All-cons (All P) _ _ (cube_all part faults.0 (and_first (list_all q part) _ all)) (cubes_all parts faults.1
+      (and_second (list_all q part) _ all))
 
   pub sum_all : (ws : List (List ℕ)) → sum_fault names ws ≡ None → list_all q ws ≡ true → All (All P) (sum_of names ws)
   sum_all ws none all = elim (cases_Bool (is_one (codes "0") ws)) [
     | inl one ↦ rw one (All-nil (All P))
-    | inr many ↦ rw many (cubes_all (parts_at (codes "+") ws) (rw many at none) (split_all q (bytes_eq (codes "+")) ws all))
+    | inr many ↦ rw many (cubes_all (parts_at (codes "+") ws) (rw many at none) (split_all q (bytes_eq
+        (codes "+")) ws all))
   ]
 
 -- ---- where the literals lie
-literal_within : (names : List (List ℕ)) (w : List ℕ) → is_declared names w ≡ true → (literal_of names w).sig < length names
+literal_within : (names : List (List ℕ)) (w : List ℕ) → is_declared names w ≡ true
+    → (literal_of names w).sig < length names
 literal_within names w there =
     let (k, at) = some_of (λ n. bytes_eq (literal_name w) n) names there in
     let is : (literal_of names w).sig ≡ k = ap (λ (o : Option ℕ). unwrap_or o 0) (sym at) in
     rw is (passes_at (λ n. bytes_eq (literal_name w) n) names k at).0
 
-pub sum_there : (names ws : List (List ℕ)) → sum_fault names ws ≡ None → All (All (λ (l : Literal). l.sig < length names)) (sum_of names ws)
-sum_there names ws none = sum_all names (λ (l : Literal). l.sig < length names) (λ w. true) (λ w there _. literal_within names w there) ws none (all_true ws)
+pub sum_there : (names ws : List (List ℕ)) → sum_fault names ws ≡ None
+    → All (All (λ (l : Literal). l.sig < length names)) (sum_of names ws)
+sum_there names ws none = sum_all names (λ (l : Literal). l.sig < length names) (λ w. true)
+    (λ w there _. literal_within names w there) ws none (all_true ws)
   where
     all_true : (ws : List (List ℕ)) → list_all (λ w. true) ws ≡ true
     all_true [] = refl
@@ -132,7 +144,8 @@ set_exists code k v = elim (cases_Bool (beq (bit code k) v)) [
   | inr other ↦ (flip code k, set_flip code k v (beq_false (bit code k) v other))
 ]
 
-place_of : (names before : List (List ℕ)) (care value : ℕ) → InCube names before care value → (w : List ℕ) → literal_fault names before w ≡ None
+place_of : (names before : List (List ℕ)) (care value : ℕ) → InCube names before care value → (w : List ℕ)
+    → literal_fault names before w ≡ None
     → (k : ℕ) × (Some k ≡ place_in names w)
 place_of names before care value so_far w none = by_place (place_in names w) refl
   where
@@ -141,13 +154,15 @@ place_of names before care value so_far w none = by_place (place_in names w) ref
     by_place None e = absurd (no_some Undeclared (sym (undeclared names before care value so_far w e) ∙ none))
 
 -- the words of a cube without fault make a cube of the code
-makes_cube : (names before ws : List (List ℕ)) (care value : ℕ) → InCube names before care value → first_after (literal_fault names) before ws ≡ None
+makes_cube : (names before ws : List (List ℕ)) (care value : ℕ) → InCube names before care value
+    → first_after (literal_fault names) before ws ≡ None
     → (care2 : ℕ) × (value2 : ℕ) × InCube names (before ++ ws) care2 value2
 makes_cube names before [] care value so_far none = (care, value, rw append-nil so_far)
 makes_cube names before (w ∷ ws) care value so_far none =
     let parts = both (literal_fault names before w) _ none in
     let (k, at) = place_of names before care value so_far w parts.0 in
-    let free : bit care k ≡ false = false_from_ne_true _ (λ there. no_some Repeated (sym (repeated names before care value so_far w k at there) ∙ parts.0)) in
+    let free : bit care k ≡ false = false_from_ne_true _ (λ there. no_some Repeated (sym
+    (repeated names before care value so_far w k at there) ∙ parts.0)) in
     let (care2, s) = set_exists care k true in
     let (value2, t) = set_exists value k (bytes_eq w (literal_name w)) in
     let more = in_more names before care value so_far w k at care2 value2 free s t in
@@ -168,7 +183,8 @@ sum_rising names ws none = elim (cases_Bool (is_one (codes "0") ws)) [
   | inr many ↦ rw many (each_cube (parts_at (codes "+") ws) (rw many at none))
 ]
   where
-    each_cube : (parts : List (List (List ℕ))) → first_in (cube_fault names) parts ≡ None → All IsRising (map (cube_of names) parts)
+    each_cube : (parts : List (List (List ℕ))) → first_in (cube_fault names) parts ≡ None
+        → All IsRising (map (cube_of names) parts)
     each_cube [] none = All-nil IsRising
     each_cube (part ∷ parts) none =
         let faults = both (cube_fault names part) _ none in
@@ -191,9 +207,14 @@ plain_own (b ∷ c ∷ []) is other = elim (cases_Bool (c == 39)) [
 ]
   where
     marks : (c : ℕ) → (c == 39) ≡ true → c ≡ 39
-    marks c mark = elim (eqb_tells c 39) [ inl same ↦ same.1 | inr no_mark ↦ absurd (true≢false (sym mark ∙ no_mark.0)) ]
+    marks c mark = elim (eqb_tells c 39) [
+      | inl same ↦ same.1
+      | inr no_mark ↦ absurd (true≢false (sym mark
+          ∙ no_mark.0))
+    ]
 plain_own (b ∷ c ∷ d ∷ bs) is other =
-    let long : b ∷ c ∷ literal_name (d ∷ bs) ≡ codes "q" = ap (λ (l : List ℕ). b ∷ l) (sym (unmarked c d bs)) ∙ sym (unmarked b c (d ∷ bs)) ∙ is in
+    let long : b ∷ c ∷ literal_name (d ∷ bs) ≡ codes "q" = ap (λ (l : List ℕ). b ∷ l) (sym (unmarked c d bs))
+    ∙ sym (unmarked b c (d ∷ bs)) ∙ is in
     absurd cc
 
 at_end : (pins : List (List ℕ)) → get_or (pins ++ own ∷ []) (length pins) [] ≡ own
@@ -203,9 +224,11 @@ at_end (p ∷ pins) = at_end pins
 pub own_plain : (pins ws : List (List ℕ)) → sum_fault (declared pins) ws ≡ None → stands_in ws (codes "q'") ≡ false
     → All (All (λ (l : Literal). l.sig ≡ length pins → IsTrue l.plain)) (sum_of (declared pins) ws)
 own_plain pins ws none other =
-    sum_all (declared pins) (λ (l : Literal). l.sig ≡ length pins → IsTrue l.plain) (λ w. not (bytes_eq (codes "q'") w)) each ws none (none_all ws other)
+    sum_all (declared pins) (λ (l : Literal). l.sig ≡ length pins
+    → IsTrue l.plain) (λ w. not (bytes_eq (codes "q'") w)) each ws none (none_all ws other)
   where
-    none_all : (ws : List (List ℕ)) → stands_in ws (codes "q'") ≡ false → list_all (λ w. not (bytes_eq (codes "q'") w)) ws ≡ true
+    none_all : (ws : List (List ℕ)) → stands_in ws (codes "q'") ≡ false
+        → list_all (λ w. not (bytes_eq (codes "q'") w)) ws ≡ true
     none_all [] e = refl
     none_all (w ∷ ws) e = let parts = or_false (bytes_eq (codes "q'") w) _ e in rw parts.0 (none_all ws parts.1)
 
@@ -214,9 +237,12 @@ own_plain pins ws none other =
     each w there plain last =
         let (k, at) = some_of (λ n. bytes_eq (literal_name w) n) (declared pins) there in
         let is : (literal_of (declared pins) w).sig ≡ k = ap (λ (o : Option ℕ). unwrap_or o 0) (sym at) in
-        let name : literal_name w ≡ get_or (declared pins) k [] = names_same _ _ (passes_at (λ n. bytes_eq (literal_name w) n) (declared pins) k at).1 in
-        let owns : literal_name w ≡ own = name ∙ ap (λ (i : ℕ). get_or (declared pins) i []) (sym is ∙ last) ∙ at_end pins in
-        let not_marked : bytes_eq (codes "q'") w ≡ false = false_from_ne_true _ (λ marked. true≢false (sym plain ∙ ap not marked)) in
+        let name : literal_name w ≡ get_or (declared pins) k [] = names_same _ _ (passes_at (λ n. bytes_eq
+        (literal_name w) n) (declared pins) k at).1 in
+        let owns : literal_name w ≡ own = name ∙ ap (λ (i : ℕ). get_or (declared pins) i []) (sym is ∙ last)
+        ∙ at_end pins in
+        let not_marked : bytes_eq (codes "q'") w ≡ false = false_from_ne_true _ (λ marked. true≢false (sym plain
+        ∙ ap not marked)) in
         same_name w (literal_name w) (plain_own w owns not_marked ∙ sym owns)
 
 -- ---- cells
@@ -255,15 +281,18 @@ is_cell name pins ws sum good pins_good distinct few is none other =
         rising = subst (All IsRising) (sym is) (sum_rising (declared pins) ws none) k d inside;
         there = λ i l within. (let below = there k d inside i l within in omega (arith, count, below));
       };
-      own_plain = subst (All (All (λ (l : Literal). l.sig ≡ length pins → IsTrue l.plain))) (sym is) (own_plain pins ws none other);
+      own_plain = subst (All (All (λ (l : Literal). l.sig ≡ length pins
+          → IsTrue l.plain))) (sym is) (own_plain pins ws none other);
     }
 
-pub more_cells : (cells : List Cell) (cell : Cell) → AreCells cells → IsCell cell → stands_in (map (λ c. c.name) cells) cell.name ≡ false
+pub more_cells : (cells : List Cell) (cell : Cell) → AreCells cells → IsCell cell
+    → stands_in (map (λ c. c.name) cells) cell.name ≡ false
     → length cells < max_cells → AreCells (cells ++ cell ∷ [])
 more_cells cells cell good is new few = record {
   each = All-push IsCell cells cell good.each is;
   distinct = all_pairs_push (λ (x y : Cell). x.name ≢ y.name) cells cell good.distinct
-      (λ k d inside e. true≢false (sym (list_any_at (λ n. bytes_eq cell.name n) (map (λ (c : Cell). c.name) cells) k [] (rw length-map inside)
+      (λ k d inside e. true≢false (sym (list_any_at (λ n. bytes_eq cell.name n) (map (λ
+      (c : Cell). c.name) cells) k [] (rw length-map inside)
       (same_name _ _ (sym e ∙ sym (get_or-map (λ (c : Cell). c.name) cells k d [] inside)))) ∙ new));
   few = rw length_push (omega (arith, few));
 }
@@ -282,7 +311,8 @@ plain_words ws form = not_false (stands_in ws (codes "q'")) (and_second (is_sum 
     not_false false e = refl
 
 -- the cell that was read from these words
-pub cell_read : (cells : List (List ℕ)) (named : List ℕ) (words ws : List (List ℕ)) (name : List ℕ) (pins table : List (List ℕ)) (sum : Sum)
+pub cell_read : (cells : List (List ℕ)) (named : List ℕ) (words ws : List (List ℕ)) (name : List ℕ) (pins table : List
+    (List ℕ)) (sum : Sum)
     → cell_name_fault cells named ≡ None → is_cell_sum ws ≡ true → name ≡ named → pins ≡ words → table ≡ declared words
     → All IsPinName words → AllPairs (λ x y. x ≢ y) table → length words ≤ max_pins → sum ≡ sum_of table ws
     → sum_fault table ws ≡ None → IsCell (record { name = name; pins = pins; sum = sum })
@@ -292,18 +322,22 @@ cell_read cells named words ws name pins table sum good form name_is pins_are ta
     (ap (λ (t : List (List ℕ)). sum_fault t ws) (sym table_is) ∙ none) (plain_words ws form))
 
 -- a line of this form that has no bad byte
-pub line_told : (cells : List Cell) (line : List ℕ) (ws : List (List ℕ)) (w : CellWords) → has_bad_byte line ≡ false → ws ≡ words line
+pub line_told : (cells : List Cell) (line : List ℕ) (ws : List (List ℕ)) (w : CellWords) → has_bad_byte line ≡ false
+    → ws ≡ words line
     → (length ws == 0) ≡ false → is_end ws ≡ false → Some w ≡ cell_words ws
     → cell_line_fault cells line ≡ cell_fault (names_of cells) (Some w)
 line_told cells line ws w clean are some other form =
-    rw clean (ap (cell_words_fault cells) (sym are) ∙ cell_line_is cells ws some other ∙ ap (cell_fault (names_of cells)) (sym form))
+    rw clean (ap (cell_words_fault cells) (sym are) ∙ cell_line_is cells ws some other
+    ∙ ap (cell_fault (names_of cells)) (sym form))
 
-pub line_adds : (cells : List Cell) (line : List ℕ) (ws : List (List ℕ)) (w : CellWords) → ws ≡ words line → Some w ≡ cell_words ws
+pub line_adds : (cells : List Cell) (line : List ℕ) (ws : List (List ℕ)) (w : CellWords) → ws ≡ words line
+    → Some w ≡ cell_words ws
     → with_line cells line ≡ cells ++ cell_of w ∷ []
 line_adds cells line ws w are form = rw (← are, ← form) refl
 
 -- pins without fault
-pins_from : (before pins : List (List ℕ)) → All IsPinName before → AllPairs (λ x y. x ≢ y) before → length before ≤ max_pins
+pins_from : (before pins : List (List ℕ)) → All IsPinName before → AllPairs (λ x y. x ≢ y) before
+    → length before ≤ max_pins
     → first_after pin_fault before pins ≡ None
     → All IsPinName (before ++ pins) × AllPairs (λ x y. x ≢ y) (before ++ pins) × (length (before ++ pins) ≤ max_pins)
 pins_from before [] good distinct few none = rw append-nil (good, distinct, few)
@@ -321,5 +355,6 @@ pins_from before (pin ∷ pins) good distinct few none =
 pub good_pins : (pins : List (List ℕ)) → first_after pin_fault [] pins ≡ None
     → All IsPinName pins × AllPairs (λ x y. x ≢ y) (declared pins) × (length pins ≤ max_pins)
 good_pins pins none =
-    let (good, distinct, few) = pins_from [] pins (All-nil IsPinName) (λ j k d order within. absurd (omega arith)) (omega arith) none in
+    let (good, distinct, few) = pins_from [] pins (All-nil IsPinName) (λ j k d order within. absurd (omega arith))
+    (omega arith) none in
     (good, all_pairs_push (λ x y. x ≢ y) pins own distinct (λ k d inside e. (good k d inside).other e), few)

@@ -2,14 +2,15 @@
 use Rattle.std.proofs.Common.{◌≡◌, ℕ, Bool, true, false, List, [], ◌∷◌, ◌++◌, refl, Some, None, codes}
 use Rattle.si_base.specs.declared.fault.TextKind.TheVariants as kinds
 use Rattle.si_base.specs.declared.ids.Literal.{Literal}
-use Rattle.si_cell.specs.Library.{Cell, Library, instance_value}
+use Rattle.si_cell.specs.Library.{Library, instance_value}
 use Rattle.si_cell.specs.Expanded.{expanded}
 use Rattle.si_cell.specs.Literals.{in_literal_order}
 use Rattle.si_cell.specs.LibraryText.{library_fault, library_of}
 
 -- the text with this as its second line
 abbrev four : List ℕ → List ℕ
-four two = codes ".library four\n" ++ two ++ codes "\n.cell AND2 a b = a b\n.cell OR2 a b = a + b\n.cell C2 a b = a b + a q + b q\n.end\n"
+four two = codes ".library four\n" ++ two ++ codes "\n.cell AND2 a b = a b\n.cell OR2 a b = a + b\n"
+    ++ codes ".cell C2 a b = a b + a q + b q\n.end\n"
 
 good : library_fault (four (codes ".cell BUF a = a")) ≡ None
 good = refl
@@ -21,10 +22,15 @@ lit s v = record { sig = s; plain = v }
 abbrev small : Library
 small = record {
   name = codes "small";
-  cells = record { name = codes "GATE"; pins = codes "a" ∷ codes "b" ∷ []; sum = (lit 0 false ∷ lit 1 true ∷ []) ∷ (lit 1 false ∷ lit 2 true ∷ []) ∷ [] ∷ [] } ∷ [];
+  cells = record {
+    name = codes "GATE";
+    pins = codes "a" ∷ codes "b" ∷ [];
+    sum = (lit 0 false ∷ lit 1 true ∷ []) ∷ (lit 1 false ∷ lit 2 true ∷ []) ∷ [] ∷ [];
+  } ∷ [];
 }
 
-spelled : library_of (codes "# a library\n.library small # the name\n\n.cell GATE a b = b a' + q b' + 1\n.end of it\n") ≡ small
+spelled : library_of (codes "# a library\n.library small # the name\n\n.cell GATE a b = b a' + q b' + 1\n.end of it\n")
+    ≡ small
 unfolding in_literal_order
 spelled = refl
 

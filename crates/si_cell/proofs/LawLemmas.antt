@@ -1,7 +1,6 @@
 -- What holds of each expanded sum, and of each library that a text spells.
-use Rattle.std.proofs.Common.{◌≡◌, ◌≢◌, ℕ, zero, suc, ◌⊎◌, ◌+◌, ◌<◌, ◌≤◌, ◌==◌, not, Bool, true, false, List, [], ◌∷◌, ◌++◌, length, map, filter, get_or, if◌then◌else◌, bytes_eq, codes, option_map, Option, Some, None, All, AllPairs, refl, sym, ap, ◌∙◌, arith, inl, inr, subst}
-use Rattle.std.specs.List.{list_any}
-use Rattle.std.proofs.lemmas.Bool.{true≢false, cases_Bool, false_from_ne_true}
+use Rattle.std.proofs.Common.{◌≡◌, ℕ, zero, suc, ◌+◌, ◌<◌, ◌≤◌, not, Bool, true, false, List, [], ◌∷◌, ◌++◌, length, map, filter, if◌then◌else◌, bytes_eq, codes, Option, Some, None, All, refl, sym, ◌∙◌, arith, inl, inr}
+use Rattle.std.proofs.lemmas.Bool.{true≢false, cases_Bool}
 use Rattle.std.proofs.lemmas.List.{append-nil, length-map}
 use Rattle.std.proofs.lemmas.List.Elements.{All-nil, All-cons, All-push, filter_passes}
 use Rattle.std.proofs.lemmas.List.Kept.{AllPairs-cons}
@@ -16,7 +15,7 @@ use Rattle.si_base.specs.declared.fault.TextKind.TheVariants.{BadByte, BadLine, 
 use Rattle.si_base.specs.declared.ids.Literal.{Literal}
 use Rattle.si_words.proofs.FaultLemmas.{both, not_when}
 use Rattle.si_words.specs.Sums.{is_empty}
-use Rattle.si_cell.specs.CellWords.{CellWords, cell_words, cell_fault, cell_name_fault, pin_fault, cell_of, is_cell_sum, declared, sum_fault}
+use Rattle.si_cell.specs.CellWords.{CellWords, cell_words, cell_fault, cell_name_fault, pin_fault, cell_of, is_cell_sum}
 use Rattle.si_cell.specs.Expanded.{placed, placed_sum, plain, sources, expanded}
 use Rattle.si_cell.specs.Library.{Library, Instance, Cell, IsCell, AreCells, IsLibrary, IsInstance, cell_at}
 use Rattle.si_cell.specs.LibraryText.{words, name_words_fault, name_fault, name_in, name_line_fault, is_end, names_of, cell_words_fault, cell_line_fault, with_line, spelled, cell_lines_fault, cells_in, lines_fault, library_in, library_fault, library_of}
@@ -28,44 +27,62 @@ use Rattle.si_cell.proofs.ExpandedLemmas.{all_small, placed_small, sum_inside}
 -- ---- expanded sums
 module _ (cube : List Literal) (apart : clashes cube ≡ false) where
   -- a literal and its complement are not both there
-  not_both : (i : ℕ) → has_literal cube (record { sig = i; plain = true }) ≡ true → has_literal cube (record { sig = i; plain = false }) ≡ true → ⊥
+  not_both : (i : ℕ) → has_literal cube (record { sig = i; plain = true }) ≡ true
+      → has_literal cube (record { sig = i; plain = false }) ≡ true → ⊥
   not_both i one other =
       let (m, same, every, any) = found (same_literal (record { sig = i; plain = true })) cube one in
-      let met : has_literal cube (complement m) ≡ true = rw (← same_is (record { sig = i; plain = true }) m same) other in
+      let met : has_literal cube (complement m) ≡ true = rw (← same_is
+      (record { sig = i; plain = true }) m same) other in
       true≢false (sym (any (λ l. has_literal cube (complement l)) met) ∙ apart)
 
   above : (n i : ℕ) → All (λ (l : Literal). i ≤ l.sig) (filter (has_literal cube) (both_from n i))
   above zero i = All-nil (λ (l : Literal). i ≤ l.sig)
-  above (suc n) i = by_there (has_literal cube (record { sig = i; plain = true })) (has_literal cube (record { sig = i; plain = false }))
-      (filter (has_literal cube) (both_from n (i + 1))) (λ k d inside. (let low = above n (i + 1) k d inside in omega (arith, low)))
+  above (suc n) i = by_there (has_literal cube (record { sig = i; plain = true })) (has_literal cube
+      (record { sig = i; plain = false }))
+      (filter (has_literal cube) (both_from n (i + 1))) (λ k d inside. (let low = above n (i + 1) k d inside in omega
+      (arith, low)))
     where
       by_there : (one other : Bool) (rest : List Literal) → All (λ (l : Literal). i ≤ l.sig) rest
-          → All (λ (l : Literal). i ≤ l.sig) (if one then record { sig = i; plain = true } ∷ (if other then record { sig = i; plain = false } ∷ rest else rest) else (if other then record { sig = i; plain = false } ∷ rest else rest))
-      by_there true true rest later = All-cons (λ (l : Literal). i ≤ l.sig) (record { sig = i; plain = true }) (record { sig = i; plain = false } ∷ rest) (omega arith) (All-cons (λ (l : Literal). i ≤ l.sig) (record { sig = i; plain = false }) rest (omega arith) later)
-      by_there true false rest later = All-cons (λ (l : Literal). i ≤ l.sig) (record { sig = i; plain = true }) rest (omega arith) later
-      by_there false true rest later = All-cons (λ (l : Literal). i ≤ l.sig) (record { sig = i; plain = false }) rest (omega arith) later
+          → All (λ (l : Literal). i ≤ l.sig) (if one then record { sig = i; plain = true } ∷
+          (if other then record { sig = i; plain = false } ∷ rest else rest) else
+          (if other then record { sig = i; plain = false } ∷ rest else rest))
+      by_there true true rest later = All-cons (λ (l : Literal). i ≤ l.sig) (record { sig = i; plain = true })
+          (record { sig = i; plain = false } ∷ rest) (omega arith) (All-cons (λ (l : Literal). i ≤ l.sig)
+          (record { sig = i; plain = false }) rest (omega arith) later)
+      by_there true false rest later = All-cons (λ (l : Literal). i ≤ l.sig) (record { sig = i; plain = true }) rest
+          (omega arith) later
+      by_there false true rest later = All-cons (λ (l : Literal). i ≤ l.sig) (record { sig = i; plain = false }) rest
+          (omega arith) later
       by_there false false rest later = later
 
   rises : (n i : ℕ) → IsRising (filter (has_literal cube) (both_from n i))
   rises zero i = λ j k d order within. absurd (omega arith)
-  rises (suc n) i = by_there (has_literal cube (record { sig = i; plain = true })) (has_literal cube (record { sig = i; plain = false })) (filter (has_literal cube) (both_from n (i + 1))) (not_both i)
+  rises (suc n) i = by_there (has_literal cube (record { sig = i; plain = true })) (has_literal cube
+      (record { sig = i; plain = false })) (filter (has_literal cube) (both_from n (i + 1))) (not_both i)
       (λ k d inside. (let low = above n (i + 1) k d inside in omega (arith, low))) (rises n (i + 1))
     where
-      by_there : (one other : Bool) (rest : List Literal) → (one ≡ true → other ≡ true → ⊥) → All (λ (l : Literal). i < l.sig) rest → IsRising rest
-          → IsRising (if one then record { sig = i; plain = true } ∷ (if other then record { sig = i; plain = false } ∷ rest else rest) else (if other then record { sig = i; plain = false } ∷ rest else rest))
+      by_there : (one other : Bool) (rest : List Literal) → (one ≡ true → other ≡ true → ⊥)
+          → All (λ (l : Literal). i < l.sig) rest → IsRising rest
+          → IsRising (if one then record { sig = i; plain = true } ∷
+          (if other then record { sig = i; plain = false } ∷ rest else rest) else
+          (if other then record { sig = i; plain = false } ∷ rest else rest))
       by_there true true rest never low later = absurd (never refl refl)
-      by_there true false rest never low later = AllPairs-cons (λ (k l : Literal). k.sig < l.sig) (record { sig = i; plain = true }) rest low later
-      by_there false true rest never low later = AllPairs-cons (λ (k l : Literal). k.sig < l.sig) (record { sig = i; plain = false }) rest low later
+      by_there true false rest never low later = AllPairs-cons (λ (k l : Literal). k.sig < l.sig)
+          (record { sig = i; plain = true }) rest low later
+      by_there false true rest never low later = AllPairs-cons (λ (k l : Literal). k.sig < l.sig)
+          (record { sig = i; plain = false }) rest low later
       by_there false false rest never low later = later
 
   is_cube : (n : ℕ) → All (λ (l : Literal). l.sig < n) cube → IsCube n (in_literal_order cube)
   unfolding in_literal_order
   is_cube n small = record {
     rising = rises code_width 0;
-    there = λ k d inside. all_small n cube small _ (filter_passes (has_literal cube) (both_from code_width 0) k d inside);
+    there = λ k d inside. all_small n cube small _ (filter_passes (has_literal cube)
+        (both_from code_width 0) k d inside);
   }
 
-placed_is_sum : (n : ℕ) (at_pins : List Literal) (sum : Sum) → All (λ (l : Literal). l.sig < n) at_pins → All (All (λ (l : Literal). l.sig < length at_pins)) sum
+placed_is_sum : (n : ℕ) (at_pins : List Literal) (sum : Sum) → All (λ (l : Literal). l.sig < n) at_pins
+    → All (All (λ (l : Literal). l.sig < length at_pins)) sum
     → IsSum n (placed_sum at_pins sum)
 placed_is_sum n at_pins [] small inside = All-nil (IsCube n)
 placed_is_sum n at_pins (cube ∷ cubes) small inside =
@@ -80,7 +97,8 @@ pub expanded_is_sum : (n : ℕ) (library : Library) (i : Instance) (z : ℕ) →
     → All (λ (l : Literal). l.sig < n) i.literals → z < n → IsSum n (expanded library i z)
 unfolding expanded
 expanded_is_sum n library i z good is small within =
-    placed_is_sum n (sources i.literals z) (cell_at library i.cell).sum (All-push (λ (l : Literal). l.sig < n) i.literals (plain z) small within)
+    placed_is_sum n (sources i.literals z) (cell_at library i.cell).sum (All-push (λ
+    (l : Literal). l.sig < n) i.literals (plain z) small within)
     (sum_inside library i z good is)
 
 -- ---- libraries of texts
@@ -89,7 +107,8 @@ line_none : (n : ℕ) (fault : Option TextKind) (later : Option (ℕ × TextKind
 line_none n None later none = (refl, none)
 line_none n (Some kind) later none = absurd cc
 
-cell_added : (cells : List Cell) (o : Option CellWords) → AreCells cells → cell_fault (names_of cells) o ≡ None → AreCells (cells ++ spelled o)
+cell_added : (cells : List Cell) (o : Option CellWords) → AreCells cells → cell_fault (names_of cells) o ≡ None
+    → AreCells (cells ++ spelled o)
 cell_added cells None good none = absurd (no_some none)
   where
     no_some : Some BadLine ≡ None → ⊥
@@ -101,14 +120,17 @@ cell_added cells (Some w) good none =
     let name = good_name (names_of cells) w.name named.0 in
     let pins = good_pins w.pins pinned.0 in
     let plain_form = plain_words w.sum (not_true _ (not_when _ BadLine form.0)) in
-    more_cells cells (cell_of w) good (is_cell w.name w.pins w.sum _ name.0 pins.0 pins.1 pins.2 refl pinned.1 plain_form) name.1
+    more_cells cells (cell_of w) good (is_cell w.name w.pins w.sum _ name.0 pins.0 pins.1 pins.2 refl pinned.1
+    plain_form) name.1
     (rw length-map at name.2)
 
-words_added : (cells : List Cell) (ws : List (List ℕ)) → AreCells cells → is_end ws ≡ false → cell_words_fault cells ws ≡ None → AreCells (cells ++ spelled (cell_words ws))
+words_added : (cells : List Cell) (ws : List (List ℕ)) → AreCells cells → is_end ws ≡ false
+    → cell_words_fault cells ws ≡ None → AreCells (cells ++ spelled (cell_words ws))
 words_added cells [] good other none = rw append-nil good
 words_added cells (w ∷ ws) good other none = cell_added cells (cell_words (w ∷ ws)) good (rw other at none)
 
-cells_good : (last : ℕ) (cells : List Cell) (lines : List Line) → AreCells cells → cell_lines_fault last cells lines ≡ None → AreCells (cells_in cells lines)
+cells_good : (last : ℕ) (cells : List Cell) (lines : List Line) → AreCells cells
+    → cell_lines_fault last cells lines ≡ None → AreCells (cells_in cells lines)
 cells_good last cells [] good none = good
 cells_good last cells (line ∷ lines) good none =
     let parts = line_none line.0 (cell_line_fault cells line.1) _ none in
@@ -116,7 +138,8 @@ cells_good last cells (line ∷ lines) good none =
       | inl ends ↦ rw ends good
       | inr other ↦
           let here = both (when (has_bad_byte line.1) BadByte) _ parts.0 in
-          rw other (cells_good last (with_line cells line.1) lines (words_added cells (words line.1) good other here.1) (rw other at parts.1))
+          rw other (cells_good last (with_line cells line.1) lines (words_added cells
+          (words line.1) good other here.1) (rw other at parts.1))
     ]
 
 no_cells : AreCells []
@@ -141,10 +164,16 @@ lines_good last (line ∷ lines) none =
     let here = both (when (has_bad_byte line.1) BadByte) _ parts.0 in
     by_words (words line.1) (lines_good last lines) here.1 parts.1
   where
-    by_words : (ws : List (List ℕ)) → (lines_fault last lines ≡ None → IsLibrary (library_in lines)) → name_words_fault ws ≡ None → (if is_empty ws then lines_fault last lines else cell_lines_fault last [] lines) ≡ None
+    by_words : (ws : List (List ℕ)) → (lines_fault last lines ≡ None → IsLibrary (library_in lines))
+        → name_words_fault ws ≡ None → (if is_empty ws then lines_fault last lines else cell_lines_fault last [] lines)
+        ≡ None
         → IsLibrary (if is_empty ws then library_in lines else record { name = name_in ws; cells = cells_in [] lines })
     by_words [] later named none = later none
-    by_words (w ∷ ws) later named none = record { name = name_good (w ∷ ws) named; cells = cells_good last [] lines no_cells none }
+    by_words (w ∷ ws) later named none = record {
+      name = name_good
+          (w ∷ ws) named;
+      cells = cells_good last [] lines no_cells none;
+    }
 
 pub text_is_library : (text : List ℕ) → library_fault text ≡ None → IsLibrary (library_of text)
 text_is_library text none = lines_good _ (numbered text) none

@@ -1,18 +1,18 @@
 -- Cubes that are built one literal after the other, and their literals in literal order.
-use Rattle.std.proofs.Common.{◌≡◌, ◌≢◌, ℕ, zero, suc, ◌⊎◌, ◌+◌, ◌<◌, ◌≤◌, ◌==◌, ◌&&◌, ◌||◌, not, Bool, true, false, List, [], ◌∷◌, ◌++◌, filter, if◌then◌else◌, AllPairs, All, refl, sym, ap, ◌∙◌, arith, inl, inr}
-use Rattle.std.proofs.lemmas.Bool.{true≢false, cases_Bool}
+use Rattle.std.proofs.Common.{◌≡◌, ℕ, zero, suc, ◌+◌, ◌<◌, ◌≤◌, ◌&&◌, ◌||◌, Bool, true, false, List, [], ◌∷◌, ◌++◌, filter, if◌then◌else◌, All, refl, sym, ◌∙◌, arith, inl, inr}
+use Rattle.std.proofs.lemmas.Bool.{true≢false}
 use Rattle.std.proofs.lemmas.Bool.Decides.{eqb_tells}
 use Rattle.std.proofs.lemmas.List.Folds.{list_any-append}
 use Rattle.std.proofs.lemmas.List.Elements.{All-nil, All-cons}
 use Rattle.std.proofs.lemmas.List.Kept.{AllPairs-cons}
 use Rattle.std.proofs.lemmas.Nat.Bits.{bit_at-zero}
 use mathlib.Core.Bool.{beq}
-use Rattle.si_base.proofs.Steps.{beq-refl, beq-true}
+use Rattle.si_base.proofs.Steps.{beq-refl}
 use Rattle.si_base.specs.Bits.{bit, IsSet}
 use Rattle.si_base.specs.Limits.{code_width}
 use Rattle.si_base.specs.declared.ids.Literal.{Literal}
 use Rattle.si_cube.specs.Literals.{literals_from, literals_of, IsWithin}
-use Rattle.si_cell.specs.Literals.{same_literal, has_literal, complement, both_from, in_literal_order, IsRising}
+use Rattle.si_cell.specs.Literals.{same_literal, has_literal, both_from, in_literal_order, IsRising}
 
 -- these literals make the cube of this care and these values
 pub record Makes (literals : List Literal) (care value : ℕ) : Type 0 where
@@ -25,7 +25,8 @@ makes_none = record {
   within = λ i there. absurd (true≢false (sym there ∙ rw (bit_at-zero i) refl));
 }
 
-either : (there one plain other : Bool) → (there ≡ true → one ≡ plain) → ((there && beq one other) || beq other plain) ≡ (true && beq plain other)
+either : (there one plain other : Bool) → (there ≡ true → one ≡ plain) → ((there && beq one other)
+    || beq other plain) ≡ (true && beq plain other)
 either true one plain other same = rw (same refl) (by_bits plain other)
   where
     by_bits : (a b : Bool) → (beq a b || beq b a) ≡ beq a b
@@ -47,7 +48,8 @@ or_false false = refl
 
 -- one more literal, which its complement doesn't precede
 pub makes_more : (literals : List Literal) (m : Literal) (care value care2 value2 : ℕ) → Makes literals care value
-    → (bit care m.sig ≡ true → bit value m.sig ≡ m.plain) → IsSet care m.sig true care2 → IsSet value m.sig m.plain value2
+    → (bit care m.sig ≡ true → bit value m.sig ≡ m.plain) → IsSet care m.sig true care2
+    → IsSet value m.sig m.plain value2
     → Makes (literals ++ m ∷ []) care2 value2
 makes_more literals m care value care2 value2 made agree s t = record {
   holds = λ l. list_any-append (same_literal l) literals (m ∷ []) ∙ rw (made.holds l) (by_sig l);
@@ -57,18 +59,23 @@ makes_more literals m care value care2 value2 made agree s t = record {
   ];
 }
   where
-    by_sig : (l : Literal) → ((bit care l.sig && beq (bit value l.sig) l.plain) || (same_literal l m || false)) ≡ (bit care2 l.sig && beq (bit value2 l.sig) l.plain)
+    by_sig : (l : Literal) → ((bit care l.sig && beq (bit value l.sig) l.plain) || (same_literal l m
+        || false)) ≡ (bit care2 l.sig && beq (bit value2 l.sig) l.plain)
     by_sig l = elim (eqb_tells l.sig m.sig) [
-      | inl same ↦ rw (or_false (same_literal l m), same.0, same.1, s.there, t.there) (either (bit care m.sig) (bit value m.sig) m.plain l.plain agree)
-      | inr other ↦ rw (other.0, s.others l.sig other.1, t.others l.sig other.1) (or_false (bit care l.sig && beq (bit value l.sig) l.plain))
+      | inl same ↦ rw (or_false (same_literal l m), same.0, same.1, s.there, t.there) (either (bit care m.sig)
+          (bit value m.sig) m.plain l.plain agree)
+      | inr other ↦ rw (other.0, s.others l.sig other.1, t.others l.sig other.1) (or_false (bit care l.sig
+          && beq (bit value l.sig) l.plain))
     ]
 
 -- a literal of the signal of one that is there
 pub there_is : (literals : List Literal) (k care value : ℕ) → Makes literals care value → bit care k ≡ true
     → has_literal literals (record { sig = k; plain = bit value k }) ≡ true
-there_is literals k care value made there = made.holds (record { sig = k; plain = bit value k }) ∙ rw there (beq-refl (bit value k))
+there_is literals k care value made there = made.holds (record { sig = k; plain = bit value k })
+    ∙ rw there (beq-refl (bit value k))
 
-pub cared_for : (literals : List Literal) (l : Literal) (care value : ℕ) → Makes literals care value → has_literal literals l ≡ true → bit care l.sig ≡ true
+pub cared_for : (literals : List Literal) (l : Literal) (care value : ℕ) → Makes literals care value
+    → has_literal literals l ≡ true → bit care l.sig ≡ true
 cared_for literals l care value made there = by_bit (bit care l.sig) (sym (made.holds l) ∙ there)
   where
     by_bit : (b : Bool) → (b && beq (bit value l.sig) l.plain) ≡ true → b ≡ true
@@ -79,13 +86,17 @@ in_order_from : (literals : List Literal) (care value : ℕ) → Makes literals 
     → literals_from n i care value ≡ filter (has_literal literals) (both_from n i)
 in_order_from literals care value made zero i = refl
 in_order_from literals care value made (suc n) i =
-    step (bit care i) (bit value i) (has_literal literals (record { sig = i; plain = true })) (has_literal literals (record { sig = i; plain = false }))
-    (made.holds (record { sig = i; plain = true })) (made.holds (record { sig = i; plain = false })) (in_order_from literals care value made n (i + 1))
+    step (bit care i) (bit value i) (has_literal literals (record { sig = i; plain = true })) (has_literal literals
+    (record { sig = i; plain = false }))
+    (made.holds (record { sig = i; plain = true })) (made.holds (record { sig = i; plain = false }))
+    (in_order_from literals care value made n (i + 1))
   where
-    step : {rest left : List Literal} (there one has_plain has_complemented : Bool) → has_plain ≡ (there && beq one true)
+    step : {rest left : List Literal} (there one has_plain has_complemented : Bool) → has_plain ≡ (there
+        && beq one true)
         → has_complemented ≡ (there && beq one false) → rest ≡ left
         → (if there then record { sig = i; plain = one } ∷ rest else rest)
-        ≡ (if has_plain then record { sig = i; plain = true } ∷ (if has_complemented then record { sig = i; plain = false } ∷ left else left)
+        ≡ (if has_plain then record { sig = i; plain = true } ∷
+        (if has_complemented then record { sig = i; plain = false } ∷ left else left)
         else (if has_complemented then record { sig = i; plain = false } ∷ left else left))
     step true true p c e f same = rw (e, f, same) refl
     step true false p c e f same = rw (e, f, same) refl
@@ -100,20 +111,26 @@ makes_in_order literals care value made = in_order_from literals care value made
 
 pub from_on : (n i care value : ℕ) → All (λ (l : Literal). i ≤ l.sig) (literals_from n i care value)
 from_on zero i care value = All-nil (λ (l : Literal). i ≤ l.sig)
-from_on (suc n) i care value = by_bit (bit care i) (λ k d inside. (let above = from_on n (i + 1) care value k d inside in omega (arith, above)))
+from_on (suc n) i care value = by_bit (bit care i) (λ k d inside. (let above = from_on n
+    (i + 1) care value k d inside in omega (arith, above)))
   where
     by_bit : (b : Bool) → All (λ (l : Literal). i ≤ l.sig) (literals_from n (i + 1) care value)
-        → All (λ (l : Literal). i ≤ l.sig) (if b then record { sig = i; plain = bit value i } ∷ literals_from n (i + 1) care value else literals_from n (i + 1) care value)
+        → All (λ (l : Literal). i ≤ l.sig) (if b then record { sig = i; plain = bit value i } ∷ literals_from n
+        (i + 1) care value else literals_from n (i + 1) care value)
     by_bit true later = All-cons (λ (l : Literal). i ≤ l.sig) _ _ (omega arith) later
     by_bit false later = later
 
 rising_from : (n i care value : ℕ) → IsRising (literals_from n i care value)
 rising_from zero i care value = λ j k d order within. absurd (omega arith)
-rising_from (suc n) i care value = by_bit (bit care i) (λ k d inside. (let above = from_on n (i + 1) care value k d inside in omega (arith, above))) (rising_from n (i + 1) care value)
+rising_from (suc n) i care value = by_bit (bit care i) (λ k d inside. (let above = from_on n
+    (i + 1) care value k d inside in omega (arith, above))) (rising_from n (i + 1) care value)
   where
-    by_bit : (b : Bool) → All (λ (l : Literal). i < l.sig) (literals_from n (i + 1) care value) → IsRising (literals_from n (i + 1) care value)
-        → IsRising (if b then record { sig = i; plain = bit value i } ∷ literals_from n (i + 1) care value else literals_from n (i + 1) care value)
-    by_bit true above later = AllPairs-cons (λ (k l : Literal). k.sig < l.sig) (record { sig = i; plain = bit value i }) _ above later
+    by_bit : (b : Bool) → All (λ (l : Literal). i < l.sig) (literals_from n (i + 1) care value)
+        → IsRising (literals_from n (i + 1) care value)
+        → IsRising (if b then record { sig = i; plain = bit value i } ∷ literals_from n
+        (i + 1) care value else literals_from n (i + 1) care value)
+    by_bit true above later = AllPairs-cons (λ (k l : Literal). k.sig < l.sig)
+        (record { sig = i; plain = bit value i }) _ above later
     by_bit false above later = later
 
 pub rising_of : (care value : ℕ) → IsRising (literals_of care value)

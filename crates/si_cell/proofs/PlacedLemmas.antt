@@ -1,10 +1,9 @@
 -- The cube of an instance, built pin after pin.
-use Rattle.std.proofs.Common.{◌≡◌, ◌≢◌, ℕ, zero, suc, ◌⊎◌, ◌+◌, ◌-◌, ◌<◌, ◌≤◌, ◌==◌, ◌&&◌, ◌||◌, not, Bool, true, false, List, [], ◌∷◌, ◌++◌, length, map, filter, take, get_or, if◌then◌else◌, All, refl, sym, ap, ◌∙◌, arith, inl, inr, subst, slice_index_or, IsTrue}
-use Rattle.std.specs.List.{list_any, list_all}
-use Rattle.std.proofs.lemmas.Bool.{true≢false, cases_Bool, false_from_ne_true}
+use Rattle.std.proofs.Common.{◌≡◌, ℕ, zero, suc, ◌+◌, ◌-◌, ◌<◌, ◌≤◌, ◌&&◌, ◌||◌, not, Bool, true, false, List, [], ◌∷◌, ◌++◌, length, map, filter, take, get_or, All, refl, sym, ap, ◌∙◌, arith, inl, inr, subst}
+use Rattle.std.proofs.lemmas.Bool.{true≢false, cases_Bool}
 use Rattle.std.proofs.lemmas.List.{map-append, map_push, append-nil, take_more, length-append}
 use Rattle.std.proofs.Math.Seq.{get_or-append_seam}
-use Rattle.std.proofs.lemmas.List.Elements.{filter-append, All-append}
+use Rattle.std.proofs.lemmas.List.Elements.{filter-append}
 use Rattle.std.proofs.lemmas.List.Folds.{list_any-append, list_any_none, list_any_at}
 use mathlib.Core.Bool.{beq}
 use Rattle.si_base.specs.Bits.{bit, IsSet}
@@ -18,7 +17,8 @@ use Rattle.si_cell.proofs.CubeLemmas.{same_self}
 use Rattle.si_cell.proofs.OrderLemmas.{Makes, makes_none, makes_more, makes_in_order, from_on}
 
 -- ---- literals of a cube, up to a signal and behind it
-split : (n m i j total care value : ℕ) → total ≡ n + m → j ≡ i + n → literals_from total i care value ≡ literals_from n i care value ++ literals_from m j care value
+split : (n m i j total care value : ℕ) → total ≡ n + m → j ≡ i + n
+    → literals_from total i care value ≡ literals_from n i care value ++ literals_from m j care value
 split zero m i j total care value count at =
     let e : total ≡ m = omega arith in
     let f : j ≡ i = omega arith in
@@ -26,7 +26,8 @@ split zero m i j total care value count at =
 split (suc n) m i j total care value count at =
     let e : total ≡ suc (n + m) = omega arith in
     rw e (elim (cases_Bool (bit care i)) [
-      | inl on ↦ rw on (ap (λ (ls : List Literal). record { sig = i; plain = bit value i } ∷ ls) (split n m (i + 1) j (n + m) care value refl (omega arith)))
+      | inl on ↦ rw on (ap (λ (ls : List Literal). record { sig = i; plain = bit value i } ∷ ls) (split n m (i + 1) j
+          (n + m) care value refl (omega arith)))
       | inr off ↦ rw off (split n m (i + 1) j (n + m) care value refl (omega arith))
     ])
 
@@ -35,24 +36,31 @@ abbrev pub before : ℕ → ℕ → ℕ → List Literal
 before i care value = literals_from i 0 care value
 
 next_off : (i care value : ℕ) → bit care i ≡ false → before (i + 1) care value ≡ before i care value
-next_off i care value off = split i 1 0 i (i + 1) care value refl (omega arith) ∙ rw off (append-nil (before i care value))
+next_off i care value off = split i 1 0 i (i + 1) care value refl (omega arith)
+    ∙ rw off (append-nil (before i care value))
 
-next_on : (i care value : ℕ) → bit care i ≡ true → before (i + 1) care value ≡ before i care value ++ record { sig = i; plain = bit value i } ∷ []
+next_on : (i care value : ℕ) → bit care i ≡ true → before (i + 1) care value ≡ before i care value
+    ++ record { sig = i; plain = bit value i } ∷ []
 next_on i care value on = split i 1 0 i (i + 1) care value refl (omega arith) ∙ rw on refl
 
 whole_on : (i care value : ℕ) → i < code_width → bit care i ≡ true
-    → literals_of care value ≡ before i care value ++ record { sig = i; plain = bit value i } ∷ literals_from (code_width - suc i) (i + 1) care value
+    → literals_of care value ≡ before i care value ++ record { sig = i; plain = bit value i } ∷ literals_from
+    (code_width - suc i) (i + 1) care value
 unfolding literals_of
 whole_on i care value within on =
     split i (suc (code_width - suc i)) 0 i code_width care value (omega arith) (omega arith) ∙ rw on refl
 
-whole_at : (i care value : ℕ) → i ≤ code_width → All (λ (l : Literal). l.sig < i) (literals_of care value) → literals_of care value ≡ before i care value
+whole_at : (i care value : ℕ) → i ≤ code_width → All (λ (l : Literal). l.sig < i) (literals_of care value)
+    → literals_of care value ≡ before i care value
 unfolding literals_of
 whole_at i care value within below =
     let parts = split i (code_width - i) 0 i code_width care value (omega arith) (omega arith) in
-    parts ∙ no_rest (literals_from (code_width - i) i care value) (from_on (code_width - i) i care value) (subst (All (λ (l : Literal). l.sig < i)) parts below)
+    parts ∙ no_rest (literals_from (code_width - i) i care value) (from_on (code_width - i) i care value) (subst (All
+    (λ (l : Literal). l.sig < i)) parts below)
   where
-    no_rest : (rest : List Literal) → All (λ (l : Literal). i ≤ l.sig) rest → All (λ (l : Literal). l.sig < i) (before i care value ++ rest) → before i care value ++ rest ≡ before i care value
+    no_rest : (rest : List Literal) → All (λ (l : Literal). i ≤ l.sig) rest
+        → All (λ (l : Literal). l.sig < i) (before i care value ++ rest) → before i care value
+        ++ rest ≡ before i care value
     no_rest [] above low = append-nil (before i care value)
     no_rest (l ∷ ls) above low = absurd (
         let from : i ≤ l.sig = above 0 l (omega arith) in
@@ -63,10 +71,12 @@ whole_at i care value within below =
 -- ---- literals of which none is the complement of another
 pub no_clash : (literals : List Literal) (care value : ℕ) → Makes literals care value → clashes literals ≡ false
 no_clash literals care value made = list_any_none (λ l. has_literal literals (complement l)) literals
-    (λ k d inside. by_holds (get_or literals k d) (list_any_at (same_literal (get_or literals k d)) literals k d inside (same_self (get_or literals k d))))
+    (λ k d inside. by_holds (get_or literals k d) (list_any_at (same_literal
+    (get_or literals k d)) literals k d inside (same_self (get_or literals k d))))
   where
     by_holds : (l : Literal) → has_literal literals l ≡ true → has_literal literals (complement l) ≡ false
-    by_holds l there = made.holds (complement l) ∙ turned (bit care l.sig) (bit value l.sig) l.plain (sym (made.holds l) ∙ there)
+    by_holds l there = made.holds (complement l) ∙ turned (bit care l.sig) (bit value l.sig) l.plain (sym
+        (made.holds l) ∙ there)
       where
         turned : (a b p : Bool) → (a && beq b p) ≡ true → (a && beq b (not p)) ≡ false
         turned true true true e = refl
@@ -76,9 +86,11 @@ no_clash literals care value made = list_any_none (λ l. has_literal literals (c
         turned false b p e = absurd (true≢false (sym e))
 
 -- a literal whose complement stands before it
-pub clash_at : (xs ys : List Literal) (m : Literal) → has_literal xs (complement m) ≡ true → clashes (xs ++ m ∷ ys) ≡ true
+pub clash_at : (xs ys : List Literal) (m : Literal) → has_literal xs (complement m) ≡ true → clashes (xs
+    ++ m ∷ ys) ≡ true
 clash_at xs ys m met =
-    let there : has_literal (xs ++ m ∷ ys) (complement m) ≡ true = list_any-append (same_literal (complement m)) xs (m ∷ ys) ∙ rw met refl in
+    let there : has_literal (xs ++ m ∷ ys) (complement m) ≡ true = list_any-append (same_literal (complement m)) xs
+    (m ∷ ys) ∙ rw met refl in
     list_any-append (λ l. has_literal (xs ++ m ∷ ys) (complement l)) xs (m ∷ ys) ∙ or_middle _ _ _ there
   where
     or_middle : (a b c : Bool) → b ≡ true → (a || (b || c)) ≡ true
@@ -101,11 +113,13 @@ module _ (at_pins : List Literal) (cube_care cube_value : ℕ) where
   passed i care value off so_far = record { made = rw (next_off i cube_care cube_value off) so_far.made }
 
   pub placed_one : (i care value care2 value2 : ℕ) (m : Literal) → bit cube_care i ≡ true → placed at_pins (lit i) ≡ m
-      → (bit care m.sig && not (beq (bit value m.sig) m.plain)) ≡ false → IsSet care m.sig true care2 → IsSet value m.sig m.plain value2
+      → (bit care m.sig && not (beq (bit value m.sig) m.plain)) ≡ false → IsSet care m.sig true care2
+      → IsSet value m.sig m.plain value2
       → InPlaced i care value → InPlaced (i + 1) care2 value2
   placed_one i care value care2 value2 m on is agree s t so_far = record {
     made = rw (next_on i cube_care cube_value on, map_push (placed at_pins) (before i cube_care cube_value) (lit i), is)
-        (makes_more (map (placed at_pins) (before i cube_care cube_value)) m care value care2 value2 so_far.made (agrees (bit care m.sig) (bit value m.sig) m.plain agree) s t);
+        (makes_more (map (placed at_pins) (before i cube_care cube_value)) m care value care2 value2 so_far.made
+        (agrees (bit care m.sig) (bit value m.sig) m.plain agree) s t);
   }
     where
       agrees : (a b p : Bool) → (a && not (beq b p)) ≡ false → a ≡ true → b ≡ p
@@ -116,11 +130,14 @@ module _ (at_pins : List Literal) (cube_care cube_value : ℕ) where
       agrees false b p e on = absurd (true≢false (sym on))
 
   pub met : (i care value : ℕ) (m : Literal) → i < code_width → bit cube_care i ≡ true → placed at_pins (lit i) ≡ m
-      → (bit care m.sig && not (beq (bit value m.sig) m.plain)) ≡ true → InPlaced i care value → clashes (map (placed at_pins) (literals_of cube_care cube_value)) ≡ true
+      → (bit care m.sig && not (beq (bit value m.sig) m.plain)) ≡ true → InPlaced i care value
+      → clashes (map (placed at_pins) (literals_of cube_care cube_value)) ≡ true
   met i care value m within on is meets so_far =
       let parts = ap (map (placed at_pins)) (whole_on i cube_care cube_value within on)
-      ∙ map-append (placed at_pins) (before i cube_care cube_value) (lit i ∷ literals_from (code_width - suc i) (i + 1) cube_care cube_value) in
-      rw (parts, is) (clash_at (map (placed at_pins) (before i cube_care cube_value)) _ m (so_far.made.holds (complement m) ∙ turned (bit care m.sig) (bit value m.sig) m.plain meets))
+      ∙ map-append (placed at_pins) (before i cube_care cube_value) (lit i ∷ literals_from (code_width - suc i)
+      (i + 1) cube_care cube_value) in
+      rw (parts, is) (clash_at (map (placed at_pins) (before i cube_care cube_value)) _ m (so_far.made.holds
+      (complement m) ∙ turned (bit care m.sig) (bit value m.sig) m.plain meets))
     where
       turned : (a b p : Bool) → (a && not (beq b p)) ≡ true → (a && beq b (not p)) ≡ true
       turned true true true e = absurd (true≢false (sym e))
@@ -129,28 +146,36 @@ module _ (at_pins : List Literal) (cube_care cube_value : ℕ) where
       turned true false false e = absurd (true≢false (sym e))
       turned false b p e = absurd (true≢false (sym e))
 
-  pub all_placed : (i care value : ℕ) → i ≤ code_width → All (λ (l : Literal). l.sig < i) (literals_of cube_care cube_value) → InPlaced i care value
-      → (clashes (map (placed at_pins) (literals_of cube_care cube_value)) ≡ false) × (literals_of care value ≡ in_literal_order (map (placed at_pins) (literals_of cube_care cube_value)))
+  pub all_placed : (i care value : ℕ) → i ≤ code_width → All (λ (l : Literal). l.sig < i)
+      (literals_of cube_care cube_value) → InPlaced i care value
+      → (clashes (map (placed at_pins) (literals_of cube_care cube_value)) ≡ false)
+      × (literals_of care value ≡ in_literal_order (map (placed at_pins) (literals_of cube_care cube_value)))
   all_placed i care value within below so_far =
-      rw (whole_at i cube_care cube_value within below) (no_clash _ care value so_far.made, makes_in_order _ care value so_far.made)
+      rw (whole_at i cube_care cube_value within below)
+      (no_clash _ care value so_far.made, makes_in_order _ care value so_far.made)
 
 -- ---- cube after cube
-placed_sum-append : (at_pins : List Literal) (xs ys : Sum) → placed_sum at_pins (xs ++ ys) ≡ placed_sum at_pins xs ++ placed_sum at_pins ys
+placed_sum-append : (at_pins : List Literal) (xs ys : Sum) → placed_sum at_pins (xs ++ ys) ≡ placed_sum at_pins xs
+    ++ placed_sum at_pins ys
 placed_sum-append at_pins xs ys = rw (
   map-append (map (placed at_pins)) xs ys,
   filter-append (λ cube. not (clashes cube)) (map (map (placed at_pins)) xs) (map (map (placed at_pins)) ys),
-  map-append in_literal_order (filter (λ cube. not (clashes cube)) (map (map (placed at_pins)) xs)) (filter (λ cube. not (clashes cube)) (map (map (placed at_pins)) ys)),
+  map-append in_literal_order (filter (λ cube. not (clashes cube)) (map (map (placed at_pins)) xs)) (filter
+      (λ cube. not (clashes cube)) (map (map (placed at_pins)) ys)),
 ) refl
 
 pub cube_left_out : (at_pins : List Literal) (sum : Sum) (i : ℕ) (d : List Literal) (cubes : Sum) → i < length sum
-    → cubes ≡ placed_sum at_pins (take i sum) → clashes (map (placed at_pins) (get_or sum i d)) ≡ true → cubes ≡ placed_sum at_pins (take (i + 1) sum)
+    → cubes ≡ placed_sum at_pins (take i sum) → clashes (map (placed at_pins) (get_or sum i d)) ≡ true
+    → cubes ≡ placed_sum at_pins (take (i + 1) sum)
 cube_left_out at_pins sum i d cubes inside so_far meets =
     let none : placed_sum at_pins (get_or sum i d ∷ []) ≡ [] = rw meets refl in
     rw (take_more sum i d inside, placed_sum-append at_pins (take i sum) (get_or sum i d ∷ []), none, append-nil) so_far
 
-pub cube_added : (at_pins : List Literal) (sum : Sum) (i : ℕ) (d made : List Literal) (cubes more : Sum) → i < length sum
+pub cube_added : (at_pins : List Literal) (sum : Sum) (i : ℕ) (d made : List Literal) (cubes more : Sum)
+    → i < length sum
     → cubes ≡ placed_sum at_pins (take i sum) → clashes (map (placed at_pins) (get_or sum i d)) ≡ false
-    → made ≡ in_literal_order (map (placed at_pins) (get_or sum i d)) → more ≡ cubes ++ made ∷ [] → more ≡ placed_sum at_pins (take (i + 1) sum)
+    → made ≡ in_literal_order (map (placed at_pins) (get_or sum i d)) → more ≡ cubes ++ made ∷ []
+    → more ≡ placed_sum at_pins (take (i + 1) sum)
 cube_added at_pins sum i d made cubes more inside so_far apart is pushed =
     let one : placed_sum at_pins (get_or sum i d ∷ []) ≡ made ∷ [] = rw (apart, is) refl in
     rw (take_more sum i d inside, placed_sum-append at_pins (take i sum) (get_or sum i d ∷ []), one, ← so_far) pushed

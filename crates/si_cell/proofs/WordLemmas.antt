@@ -1,12 +1,12 @@
 -- Words, and parts of words, that are borrowed.
-use Rattle.std.proofs.Common.{◌≡◌, ℕ, Bool, false, true, List, [], ◌∷◌, ◌++◌, length, map, refl, sym, ap, ◌∙◌, Bor, Vec, Global, Result, Ok, Err, IfOk, codes, bytes_eq, append_assoc}
+use Rattle.std.proofs.Common.{◌≡◌, ℕ, Bool, false, List, [], ◌∷◌, map, refl, ap, ◌∙◌, Bor, Vec, Global, Result, Ok, Err, IfOk, codes, bytes_eq}
 use Rattle.std.specs.List.{list_all, slice_split}
-use Rattle.std.proofs.lemmas.List.{map_push}
 use Rattle.si_words.proofs.SumWordLemmas.{slice_split-map}
 use Rattle.si_words.specs.Reads.{words_now, parts_now}
 use Rattle.si_words.specs.Sums.{is_one, is_cube, is_sum, parts_at}
 
-pub list_all-map : {A B : Type 0} (f : A → B) (p : B → Bool) (xs : List A) → list_all (λ x. p (f x)) xs ≡ list_all p (map f xs)
+pub list_all-map : {A B : Type 0} (f : A → B) (p : B → Bool) (xs : List A)
+    → list_all (λ x. p (f x)) xs ≡ list_all p (map f xs)
 list_all-map f p [] = refl
 list_all-map f p (x ∷ xs) = rw (list_all-map f p xs) refl
 

@@ -1,5 +1,5 @@
 -- The line of a cell: its fault, and the cell that it spells.
-use Rattle.std.specs.Prelude.{ℕ, ◌&&◌, ◌||◌, not, Bool, List, [], ◌∷◌, ◌++◌, length, map, nat_le, bytes_eq, codes, if◌then◌else◌, Option, Some, None, option_map, position, unwrap_or}
+use Rattle.std.specs.Prelude.{ℕ, ◌&&◌, ◌||◌, not, Bool, List, [], ◌∷◌, ◌++◌, length, map, nat_le, bytes_eq, codes, if◌then◌else◌, Option, Some, None, option_map, unwrap_or}
 use Rattle.std.specs.List.{list_any}
 use Rattle.si_base.specs.declared.ids.Literal.{Literal}
 use Rattle.si_base.specs.declared.fault.TextKind.{TextKind}
@@ -27,7 +27,8 @@ around name sides = record { name = name; pins = sides.0; sum = sides.1 }
 
 -- the word after `.cell` is the name, whatever it is
 abbrev pub cell_words : List (List ℕ) → Option CellWords
-cell_words (head ∷ name ∷ ws) = if bytes_eq (codes ".cell") head then option_map (around name) (cut_at (codes "=") ws) else None
+cell_words (head ∷ name ∷ ws) =
+    if bytes_eq (codes ".cell") head then option_map (around name) (cut_at (codes "=") ws) else None
 cell_words _ = None
 
 -- a sum in which the own output stands only plain
@@ -50,17 +51,20 @@ pin_fault before pin =
     otherwise when (stands_in before pin) Repeated
     otherwise when (nat_le max_pins (length before)) TooManyPins
 
--- a literal, after those before it in its cube, where these names are declared: the pins and the own output
+-- a literal, after those before it in its cube, where these names are declared:
+-- the pins and the own output
 abbrev pub literal_fault : List (List ℕ) → List (List ℕ) → List ℕ → Option TextKind
 literal_fault declared before word =
     when (list_any (λ w. bytes_eq (literal_name word) (literal_name w)) before) Repeated
     otherwise when (not (stands_in declared (literal_name word))) Undeclared
 
 abbrev pub cube_fault : List (List ℕ) → List (List ℕ) → Option TextKind
-cube_fault declared ws = if is_one (codes "1") ws then None else first_after (literal_fault declared) [] ws
+cube_fault declared ws =
+    if is_one (codes "1") ws then None else first_after (literal_fault declared) [] ws
 
 abbrev pub sum_fault : List (List ℕ) → List (List ℕ) → Option TextKind
-sum_fault declared ws = if is_one (codes "0") ws then None else first_in (cube_fault declared) (parts_at (codes "+") ws)
+sum_fault declared ws =
+    if is_one (codes "0") ws then None else first_in (cube_fault declared) (parts_at (codes "+") ws)
 
 -- the names that literals may have
 abbrev pub declared : List (List ℕ) → List (List ℕ)
@@ -79,14 +83,23 @@ cell_fault cells (Some words) =
 
 -- the literal of a word, where these names are declared: signal i has the i-th name
 abbrev pub literal_of : List (List ℕ) → List ℕ → Literal
-literal_of declared word = record { sig = unwrap_or (place_in declared word) 0; plain = bytes_eq word (literal_name word) }
+literal_of declared word = record {
+  sig = unwrap_or (place_in declared word) 0;
+  plain = bytes_eq word (literal_name word);
+}
 
 -- the literals in the order of the names, whatever their order in the text
 abbrev pub cube_of : List (List ℕ) → List (List ℕ) → List Literal
-cube_of declared ws = if is_one (codes "1") ws then [] else in_literal_order (map (literal_of declared) ws)
+cube_of declared ws =
+    if is_one (codes "1") ws then [] else in_literal_order (map (literal_of declared) ws)
 
 abbrev pub sum_of : List (List ℕ) → List (List ℕ) → Sum
-sum_of declared ws = if is_one (codes "0") ws then [] else map (cube_of declared) (parts_at (codes "+") ws)
+sum_of declared ws =
+    if is_one (codes "0") ws then [] else map (cube_of declared) (parts_at (codes "+") ws)
 
 abbrev pub cell_of : CellWords → Cell
-cell_of words = record { name = words.name; pins = words.pins; sum = sum_of (declared words.pins) words.sum }
+cell_of words = record {
+  name = words.name;
+  pins = words.pins;
+  sum = sum_of (declared words.pins) words.sum;
+}

@@ -14,11 +14,15 @@ sources literals z = literals ++ plain z ∷ []
 
 -- what stands for a literal of the cell's sum: the literal at its pin, or the complement of that
 abbrev pub placed : List Literal → Literal → Literal
-placed at_pins l = if l.plain then slice_index_or at_pins l.sig (plain 0) else complement (slice_index_or at_pins l.sig (plain 0))
+placed at_pins l =
+    if l.plain then slice_index_or at_pins l.sig (plain 0)
+    else complement (slice_index_or at_pins l.sig (plain 0))
 
--- the cubes in their order, with equal literals once and in signal order, but for those with a literal and its complement
+-- the cubes in their order, with equal literals once and in signal order, but for those with a
+-- literal and its complement
 abbrev pub placed_sum : List Literal → Sum → Sum
-placed_sum at_pins sum = map in_literal_order (filter (λ cube. not (clashes cube)) (map (map (placed at_pins)) sum))
+placed_sum at_pins sum =
+    map in_literal_order (filter (λ cube. not (clashes cube)) (map (map (placed at_pins)) sum))
 
 -- the sum of an instance that drives signal z
 unfoldable pub expanded : Library → Instance → ℕ → Sum

@@ -1,5 +1,5 @@
 -- Libraries of cells, and the values of their instances.
-use Rattle.std.specs.Prelude.{◌≡◌, ◌≢◌, ℕ, ◌<◌, ◌≤◌, ◌+◌, ◌*◌, Bool, true, List, [], ◌∷◌, ◌++◌, length, map, codes, if◌then◌else◌, slice_index_or, IsTrue, All, AllPairs}
+use Rattle.std.specs.Prelude.{◌≡◌, ◌≢◌, ℕ, ◌<◌, ◌≤◌, ◌+◌, ◌*◌, Bool, List, [], ◌∷◌, ◌++◌, length, map, codes, if◌then◌else◌, slice_index_or, IsTrue, All, AllPairs}
 use Rattle.si_base.specs.declared.ids.Literal.{Literal}
 use Rattle.si_base.specs.Limits.{code_width}
 use Rattle.si_base.specs.Netlist.{Sum, literal_value, sum_value}
@@ -11,8 +11,8 @@ use Rattle.si_cell.specs.Limits.{max_cells, max_pins}
 abbrev pub own : List ℕ
 own = codes "q"
 
--- a cell: its name, the names of its pins, and its sum, in which signal i is the i-th pin, from 0, and the signal
--- after the last pin is the cell's own output
+-- a cell: its name, the names of its pins, and its sum, in which signal i is the i-th pin, from 0,
+-- and the signal after the last pin is the cell's own output
 pub record Cell : Type 0 where
   pub name : List ℕ
   pub pins : List (List ℕ)
@@ -72,10 +72,11 @@ abbrev pub code_of : List Bool → ℕ
 code_of [] = 0
 code_of (v ∷ vs) = (if v then 1 else 0) + 2 * code_of vs
 
--- the values of the pins, which have the values of these literals at the code, and of the own output
+-- the values of the pins, which are those of these literals at the code, and of the own output
 abbrev pub pin_values : List Literal → ℕ → Bool → ℕ
 pin_values literals code q = code_of (map (literal_value code) literals ++ q ∷ [])
 
 -- the value of an instance at a code: that of its cell's sum, where the own output has the value q
 abbrev pub instance_value : Library → Instance → ℕ → Bool → Bool
-instance_value library i code q = sum_value (pin_values i.literals code q) (cell_at library i.cell).sum
+instance_value library i code q =
+    sum_value (pin_values i.literals code q) (cell_at library i.cell).sum

@@ -44,10 +44,12 @@ names_of cells = map (λ c. c.name) cells
 
 abbrev pub cell_words_fault : List Cell → List (List ℕ) → Option TextKind
 cell_words_fault cells [] = None
-cell_words_fault cells (w ∷ ws) = if is_end (w ∷ ws) then None else cell_fault (names_of cells) (cell_words (w ∷ ws))
+cell_words_fault cells (w ∷ ws) =
+    if is_end (w ∷ ws) then None else cell_fault (names_of cells) (cell_words (w ∷ ws))
 
 abbrev pub cell_line_fault : List Cell → List ℕ → Option TextKind
-cell_line_fault cells line = when (has_bad_byte line) BadByte otherwise cell_words_fault cells (words line)
+cell_line_fault cells line =
+    when (has_bad_byte line) BadByte otherwise cell_words_fault cells (words line)
 
 abbrev pub spelled : Option CellWords → List Cell
 spelled None = []
@@ -58,24 +60,32 @@ with_line cells line = cells ++ spelled (cell_words (words line))
 
 -- ---- lines
 
--- the first fault of these lines up to `.end`, after lines that spell these cells, where the text ends before the line
--- of number `last`
+-- the first fault of these lines up to `.end`, after lines that spell these cells, where the text
+-- ends before the line of number `last`
 abbrev pub cell_lines_fault : ℕ → List Cell → List Line → Option (ℕ × TextKind)
 cell_lines_fault last cells [] = Some (last, NoEnd)
 cell_lines_fault last cells (line ∷ lines) =
     at_line line.0 (cell_line_fault cells line.1)
-    otherwise (if is_end (words line.1) then None else cell_lines_fault last (with_line cells line.1) lines)
+    otherwise (
+    if is_end (words line.1) then None
+    else cell_lines_fault last (with_line cells line.1) lines
+    )
 
 abbrev pub cells_in : List Cell → List Line → List Cell
 cells_in cells [] = cells
-cells_in cells (line ∷ lines) = if is_end (words line.1) then cells else cells_in (with_line cells line.1) lines
+cells_in cells (line ∷ lines) =
+    if is_end (words line.1) then cells else cells_in (with_line cells line.1) lines
 
--- the first fault of these lines: the first that has words names the library, and those of the cells stand behind it
+-- the first fault of these lines: the first that has words names the library, and those of the
+-- cells stand behind it
 abbrev pub lines_fault : ℕ → List Line → Option (ℕ × TextKind)
 lines_fault last [] = Some (last, NoEnd)
 lines_fault last (line ∷ lines) =
     at_line line.0 (name_line_fault line.1)
-    otherwise (if is_empty (words line.1) then lines_fault last lines else cell_lines_fault last [] lines)
+    otherwise (
+    if is_empty (words line.1) then lines_fault last lines
+    else cell_lines_fault last [] lines
+    )
 
 abbrev pub library_in : List Line → Library
 library_in [] = record { name = []; cells = [] }

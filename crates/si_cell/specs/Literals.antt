@@ -19,7 +19,8 @@ complement l = record { sig = l.sig; plain = not l.plain }
 -- both literals of the next signals, so many, from the i-th on, in literal order
 abbrev pub both_from : ℕ → ℕ → List Literal
 both_from zero i = []
-both_from (suc count) i = record { sig = i; plain = true } ∷ record { sig = i; plain = false } ∷ both_from count (i + 1)
+both_from (suc count) i =
+    record { sig = i; plain = true } ∷ record { sig = i; plain = false } ∷ both_from count (i + 1)
 
 -- these literals in literal order, each once
 unfoldable pub in_literal_order : List Literal → List Literal

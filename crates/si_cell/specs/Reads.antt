@@ -14,7 +14,8 @@ cell_words_now words = record {
   sum = words_now words.sum.now;
 }
 
--- the line that names the library was read: the old lines up to it were taken, and the new ones stand behind it
+-- the line that names the library was read: the old lines up to it were taken, and the new ones
+-- stand behind it
 pub record ReadsName (last : ℕ) (old new : List Line) (name : List ℕ) : Type 0 where
   pub fault : lines_fault last old ≡ cell_lines_fault last [] new
   pub library : library_in old ≡ record { name = name; cells = cells_in [] new }

@@ -41,7 +41,8 @@ fn literal_at(at_pins: &[PinLiteral], pin: Sig, plain: bool) -> Literal
 /// Whether the cube of this care and these values has the complement of the literal.
 fn has_complement(care: Code, value: Code, literal: &Literal) -> bool
     requires { literal.now.sig < code_width }
-    ensures { result ≡ (bit care literal.now.sig && not (beq (bit value literal.now.sig) literal.now.plain)) }
+    ensures { result ≡ (bit care literal.now.sig
+        && not (beq (bit value literal.now.sig) literal.now.plain)) }
 {
     care.get(literal.sig) && value.get(literal.sig) != literal.plain
 }

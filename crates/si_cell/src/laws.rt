@@ -24,7 +24,7 @@ pub fn expanded_sums_have_the_value()
 /// The cubes of an expanded sum have their literals in rising signal order, each of a signal that
 /// is there, where the instance has only such.
 pub fn expanded_sums_are_well_formed()
-    ensures { (signals : ℕ) (library : LibraryValue) (i : InstanceValue) (z : ℕ) → IsLibrary library
-        → IsInstance library i → All (λ l. l.sig < signals) i.literals → z < signals
+    ensures { (signals : ℕ) (library : LibraryValue) (i : InstanceValue) (z : ℕ)
+        → IsLibrary library → IsInstance library i → All (λ l. l.sig < signals) i.literals → z < signals
         → IsSum signals (expanded library i z) }
 {}

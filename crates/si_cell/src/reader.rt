@@ -44,7 +44,8 @@ fn name_of_line(alloc: Global, line: &[u8]) -> Result<Option<Name>, LineFault>
     ensures value { IfOk result (λ found. MatchOption found
         (is_empty (library_text.words line.now) ≡ true)
         (λ name. (is_empty (library_text.words line.now) ≡ false)
-        × (name ≡ library_text.name_in (library_text.words line.now)) × IsTrue (is_signal_name name))) }
+        × (name ≡ library_text.name_in (library_text.words line.now))
+        × IsTrue (is_signal_name name))) }
 {
     if has_bad_byte(line) {
         return Err(LineFault::Kind(TextKind::BadByte));
@@ -61,7 +62,8 @@ fn name_of_line(alloc: Global, line: &[u8]) -> Result<Option<Name>, LineFault>
 fn read_name(alloc: Global, text: &[u8], lines: &mut Lines<'_>) -> Result<Name, TextFault>
     ensures ok { IfOk result
         (λ name. ReadsName (library_text.after_last text.now) lines.old lines.new name) }
-    ensures err { ToldBy result (library_text.lines_fault (library_text.after_last text.now) lines.old) }
+    ensures err { ToldBy result
+        (library_text.lines_fault (library_text.after_last text.now) lines.old) }
 {
     while let Some(line) = lines.next_line() {
         match name_of_line(alloc, line.bytes) {
@@ -81,7 +83,8 @@ fn add_line(alloc: Global, cells: &mut Vec<Cell>, line: &[u8]) -> Result<bool, L
     requires { AreCells cells.old.items }
     ensures fault { Tells result (library_text.cell_line_fault cells.old.items line.now) }
     ensures end { IfOk result (λ is. is ≡ library_text.is_end (library_text.words line.now)) }
-    ensures value { OnOk result (cells.new.items ≡ (if library_text.is_end (library_text.words line.now)
+    ensures value { OnOk result (cells.new.items
+        ≡ (if library_text.is_end (library_text.words line.now)
         then cells.old.items else library_text.with_line cells.old.items line.now)) }
     ensures cells { OnOk result (AreCells cells.new.items) }
 {

@@ -1,3 +1,4 @@
+mod Examples
 pub mod StateLemmas
 pub mod SearchLemmas
 pub mod CodeLemmas

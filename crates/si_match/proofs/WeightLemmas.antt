@@ -15,13 +15,17 @@ module _ (count i signals : ℕ) (within : i < count) where
   left : count - i ≡ suc (count - (i + 1))
   left = omega arith
 
-  pub not_there : (size whole : ℕ) → bit signals i ≡ false → size + size_from (count - i) i signals ≡ whole → size + size_from (count - (i + 1)) (i + 1) signals ≡ whole
+  pub not_there : (size whole : ℕ) → bit signals i ≡ false → size + size_from (count - i) i signals ≡ whole
+      → size + size_from (count - (i + 1)) (i + 1) signals ≡ whole
   not_there size whole absent told =
-      let same : size + (0 + size_from (count - (i + 1)) (i + 1) signals) ≡ whole = rw (left, absent) at told in omega (arith, same)
+      let same : size + (0 + size_from (count - (i + 1)) (i + 1) signals) ≡ whole = rw (left, absent) at told in omega
+      (arith, same)
 
-  pub one_there : (size whole : ℕ) → bit signals i ≡ true → size + size_from (count - i) i signals ≡ whole → size + 1 + size_from (count - (i + 1)) (i + 1) signals ≡ whole
+  pub one_there : (size whole : ℕ) → bit signals i ≡ true → size + size_from (count - i) i signals ≡ whole
+      → size + 1 + size_from (count - (i + 1)) (i + 1) signals ≡ whole
   one_there size whole there told =
-      let more : size + (1 + size_from (count - (i + 1)) (i + 1) signals) ≡ whole = rw (left, there) at told in omega (arith, more)
+      let more : size + (1 + size_from (count - (i + 1)) (i + 1) signals) ≡ whole = rw (left, there) at told in omega
+      (arith, more)
 
 -- ---- signal after signal
 module _ (c : CodedGraph) (library : Library) where
@@ -35,28 +39,40 @@ module _ (c : CodedGraph) (library : Library) where
 
   module _ (i : ℕ) (x : Signal) (weight : ℕ) (inside : i < length c.graph.signals) (is : x ≡ get_or c.graph.signals i x)
       (told : weight + weight_from c library i (drop i c.graph.signals) ≡ weight_of c library) where
-    split : weight_from c library i (drop i c.graph.signals) ≡ (if is_driven x.kind && is_none (first_fit c library i) then 1 + size_of_support c i else 0)
+    split : weight_from c library i (drop i c.graph.signals) ≡ (if is_driven x.kind
+        && is_none (first_fit c library i) then 1 + size_of_support c i else 0)
         + weight_from c library (i + 1) (drop (i + 1) c.graph.signals)
     split =
-        let next : drop i c.graph.signals ≡ x ∷ drop (i + 1) c.graph.signals = rw (drop-cons c.graph.signals i x inside, ← is, add-one) refl in
+        let next : drop i c.graph.signals ≡ x ∷ drop (i + 1) c.graph.signals = rw
+        (drop-cons c.graph.signals i x inside, ← is, add-one) refl in
         ap (weight_from c library i) next
 
-    pub input : is_driven x.kind ≡ false → weight + weight_from c library (i + 1) (drop (i + 1) c.graph.signals) ≡ weight_of c library
+    pub input : is_driven x.kind ≡ false → weight + weight_from c library (i + 1) (drop (i + 1) c.graph.signals)
+        ≡ weight_of c library
     input no_driver =
-        let same : weight + (0 + weight_from c library (i + 1) (drop (i + 1) c.graph.signals)) ≡ weight_of c library = rw (split, no_driver) at told in
+        let same : weight + (0 + weight_from c library (i + 1) (drop (i + 1) c.graph.signals))
+        ≡ weight_of c library = rw (split, no_driver) at told in
         omega (arith, same)
 
-    pub driven : (more : ℕ) → is_driven x.kind ≡ true → more ≡ part i → weight + more + weight_from c library (i + 1) (drop (i + 1) c.graph.signals) ≡ weight_of c library
+    pub driven : (more : ℕ) → is_driven x.kind ≡ true → more ≡ part i
+        → weight + more + weight_from c library (i + 1) (drop (i + 1) c.graph.signals) ≡ weight_of c library
     driven more drives added =
-        let same : weight + (part i + weight_from c library (i + 1) (drop (i + 1) c.graph.signals)) ≡ weight_of c library = rw (split, drives) at told in
+        let same : weight + (part i + weight_from c library (i + 1) (drop (i + 1) c.graph.signals))
+        ≡ weight_of c library = rw (split, drives) at told in
         omega (arith, same, added)
 
-  pub ends : (i weight : ℕ) → length c.graph.signals ≤ i → weight + weight_from c library i (drop i c.graph.signals) ≡ weight_of c library → weight ≡ weight_of c library
+  pub ends : (i weight : ℕ) → length c.graph.signals ≤ i
+      → weight + weight_from c library i (drop i c.graph.signals) ≡ weight_of c library → weight ≡ weight_of c library
   ends i weight past told =
       let none_left : drop i c.graph.signals ≡ [] = drop_all i c.graph.signals past in
       let same : weight + 0 ≡ weight_of c library = rw none_left at told in omega (arith, same)
 
-pub is_non_input : (all signals : List Signal) (i : ℕ) (x : Signal) (drives : Bool) → signals ≡ all → i < length signals → x ≡ get_or signals i x
+pub is_non_input : (all signals : List Signal) (i : ℕ) (x : Signal) (drives : Bool) → signals ≡ all
+    → i < length signals → x ≡ get_or signals i x
     → drives ≡ is_driven x.kind → drives ≡ true → IsNonInput all i
-is_non_input all signals i x drives same inside is driven_is yes_it =
-    (x, ap (λ xs. slice_get xs i) (sym same) ∙ slice_get-get_or signals i x inside ∙ ap Some (sym is), sym driven_is ∙ yes_it)
+is_non_input all signals i x drives same inside is driven_is yes_it = (
+  x,
+  ap (λ xs. slice_get xs i) (sym same) ∙ slice_get-get_or signals i x inside ∙ ap Some (sym is),
+  sym driven_is
+      ∙ yes_it,
+)

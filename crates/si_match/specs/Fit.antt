@@ -9,7 +9,8 @@ use Rattle.si_base.specs.declared.ids.Literal.{Literal}
 use Rattle.si_cell.specs.Library.{Cell, Library, Instance, IsInstance, cell_at, pin_values, instance_value}
 use Rattle.si_cell.specs.Literals.{both_from}
 
--- ---- all instances, by cell in library order, then by their literals in literal order, the first pin first
+-- ---- all instances, by cell in library order, then by their literals in literal order, the first
+-- pin first
 
 -- all lists of so many of the literals, in their order, the first place first
 abbrev pub lists_of : ℕ → List Literal → List (List Literal)
@@ -22,7 +23,9 @@ literals_of_signals signals = both_from signals 0
 
 -- the instances of a cell that stands at that place
 abbrev pub instances_of : ℕ → ℕ × Cell → List Instance
-instances_of signals p = map (λ ls. record { cell = p.0; literals = ls }) (lists_of (length p.1.pins) (literals_of_signals signals))
+instances_of signals p =
+    map (λ ls. record { cell = p.0; literals = ls })
+    (lists_of (length p.1.pins) (literals_of_signals signals))
 
 abbrev pub instances : ℕ → Library → List Instance
 instances signals library = flat_map (instances_of signals) (enumerate_from 0 library.cells)
@@ -33,9 +36,11 @@ instances signals library = flat_map (instances_of signals) (enumerate_from 0 li
 abbrev pub states_of : CodedGraph → List (ℕ × ℕ)
 states_of c = enumerate_from 0 c.codes
 
--- at the state the cell with these literals has the next value of z, where its own output has the value of z
+-- at the state the cell with these literals has the next value of z, where its own output has the
+-- value of z
 abbrev pub suits : CodedGraph → ℕ → Cell → List Literal → ℕ × ℕ → Bool
-suits c z cell literals s = beq (sum_value (pin_values literals s.1 (bit s.1 z)) cell.sum) (next_value c s.0 z)
+suits c z cell literals s =
+    beq (sum_value (pin_values literals s.1 (bit s.1 z)) cell.sum) (next_value c s.0 z)
 
 -- the same at every state
 abbrev pub fits : CodedGraph → ℕ → Cell → List Literal → Bool
@@ -48,7 +53,9 @@ first_that test (x ∷ xs) = if test x then Some x else first_that test xs
 
 -- the first instance that fits z
 unfoldable pub first_fit : CodedGraph → Library → ℕ → Option Instance
-first_fit c library z = first_that (λ i. fits c z (cell_at library i.cell) i.literals) (instances (length c.graph.signals) library)
+first_fit c library z =
+    first_that (λ i. fits c z (cell_at library i.cell) i.literals)
+    (instances (length c.graph.signals) library)
 
 -- ---- what it is for an instance to fit
 
@@ -59,4 +66,5 @@ pub record IsOver (c : CodedGraph) (library : Library) (i : Instance) : Type 0 w
 
 -- at every state its value, where the own output has the value of z, is the next value of z
 abbrev pub Fits : CodedGraph → Library → ℕ → Instance → Type 0
-Fits c library z i = (s : ℕ) → s < c.graph.states → instance_value library i (code c s) (bit (code c s) z) ≡ next_value c s z
+Fits c library z i = (s : ℕ) → s < c.graph.states
+    → instance_value library i (code c s) (bit (code c s) z) ≡ next_value c s z

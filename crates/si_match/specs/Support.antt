@@ -15,13 +15,17 @@ agree signals code other = bit_and code signals == bit_and other signals
 -- states with the same values of these signals have the same next value of z
 abbrev pub determines : CodedGraph → ℕ → ℕ → Bool
 determines c z signals =
-    list_all (λ s. list_all (λ t. not (agree signals s.1 t.1) || beq (next_value c s.0 z) (next_value c t.0 z)) (states_of c)) (states_of c)
+    list_all (λ s. list_all (λ t.
+    not (agree signals s.1 t.1) || beq (next_value c s.0 z) (next_value c t.0 z))
+    (states_of c)) (states_of c)
 
--- of the signals from the i-th on, so many, each is dropped without which the others still determine the next value of z
+-- of the signals from the i-th on, so many, each is dropped without which the others still
+-- determine the next value of z
 abbrev pub dropped_from : CodedGraph → ℕ → ℕ → ℕ → ℕ → ℕ
 dropped_from c z zero i signals = signals
 dropped_from c z (suc count) i signals =
-    dropped_from c z count (i + 1) (if determines c z (flip signals i) then flip signals i else signals)
+    dropped_from c z count (i + 1)
+    (if determines c z (flip signals i) then flip signals i else signals)
 
 -- what is left of all signals
 unfoldable pub support_of : CodedGraph → ℕ → ℕ

@@ -8,4 +8,6 @@ mod refute;
 mod search;
 mod state;
 pub mod support;
+#[cfg(test)]
+mod tests;
 pub mod weight;

@@ -30,8 +30,8 @@ fn size(signals: Code, count: usize) -> u64
     size
 }
 
-/// What a non-input adds to the weight: nothing where it fits a cell, else one more than the size of
-/// its support.
+/// What a non-input adds to the weight: nothing where it fits a cell, else one more than the size
+/// of its support.
 fn weight_of_signal(
     alloc: Global,
     graph: Distinct<'_>,

@@ -8,7 +8,8 @@ use Rattle.si_cell.proofs.cell_reader.declared_names.Given as goal
 
 abbrev pub invariant-loop-pin : goal.invariant-loop-pin
 invariant-loop-pin l = record {
-  fault : first_after pin_fault l.names (drop l.pin-index (words_now l.pins)) ≡ first_after pin_fault [] (words_now l.pins);
+  fault : first_after pin_fault l.names (drop l.pin-index (words_now l.pins)) ≡ first_after pin_fault []
+      (words_now l.pins);
   value : l.names ≡ take l.pin-index (words_now l.pins);
   good : All IsPinName l.names;
   few : length l.names ≤ max_pins;

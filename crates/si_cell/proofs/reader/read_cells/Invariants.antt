@@ -5,7 +5,8 @@ use Rattle.si_cell.proofs.reader.read_cells.Given as goal
 
 abbrev pub invariant-loop-line : goal.invariant-loop-line
 invariant-loop-line l = record {
-  fault : cell_lines_fault (after_last l.text) l.cells.items l.lines ≡ cell_lines_fault (after_last l.text) [] l.fn.lines;
+  fault : cell_lines_fault (after_last l.text) l.cells.items l.lines ≡ cell_lines_fault
+      (after_last l.text) [] l.fn.lines;
   cells_are : cells_in l.cells.items l.lines ≡ cells_in [] l.fn.lines;
   cells : AreCells l.cells.items;
 }

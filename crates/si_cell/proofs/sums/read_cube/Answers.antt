@@ -1,8 +1,5 @@
-use Rattle.std.proofs.Common.{◌≡◌, sym, ◌∙◌, ap, subst, None, Some, Bool}
-use Rattle.si_base.specs.Bits.{bit, IsSet}
-use Rattle.si_words.specs.GateLines.{place_in}
-use Rattle.si_words.specs.Sums.{literal_name}
-use Rattle.si_cell.proofs.CubeLemmas.{start, no_place, again, one_more, all_read, one_read}
+use Rattle.std.proofs.Common.{sym, ◌∙◌}
+use Rattle.si_cell.proofs.CubeLemmas.{no_place, again, one_more, all_read, one_read}
 use Rattle.si_cell.proofs.sums.read_cube.Goals as goal
 
 pub returns-then-is_one : goal.returns-then-is_one
@@ -18,7 +15,8 @@ pub returns-then-get : goal.returns-then-get
 returns-then-get c =
     let at = rw c.literal_name-name.ensures at c.place_of.ensures in
     again c.args.declared.now c.args.words.now c.loop-word.word-index _ c.loop-word-test.true c.loop-word.care
-    c.loop-word.value c.loop-word.invariant (sym c.is_one.ensures ∙ c.if-is_one.false) c.in-Some.place (sym c.in-Some.is ∙ at)
+    c.loop-word.value c.loop-word.invariant (sym c.is_one.ensures
+    ∙ c.if-is_one.false) c.in-Some.place (sym c.in-Some.is ∙ at)
     (sym c.get.ensures ∙ c.if-get.true)
 
 pub loop-word-preserved : goal.loop-word-preserved

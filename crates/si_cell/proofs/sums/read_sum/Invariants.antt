@@ -8,6 +8,7 @@ use Rattle.si_cell.proofs.sums.read_sum.Given as goal
 abbrev pub invariant-loop-part : goal.invariant-loop-part
 invariant-loop-part l = record {
   parts : parts_now l.part-items ≡ parts_at (codes "+") (words_now l.words);
-  told : first_in (cube_fault l.declared) (drop l.part-index (parts_now l.part-items)) ≡ first_in (cube_fault l.declared) (parts_now l.part-items);
+  told : first_in (cube_fault l.declared) (drop l.part-index (parts_now l.part-items)) ≡ first_in
+      (cube_fault l.declared) (parts_now l.part-items);
   built : l.cubes.items ≡ map (cube_of l.declared) (take l.part-index (parts_now l.part-items));
 }

@@ -10,7 +10,8 @@ loop-k-init c = all_cells c.coded-coded.result.now c.args.z c.args.library.now
 
 pub complete-requires-clause-signal : goal.complete-requires-clause-signal
 complete-requires-clause-signal c =
-    let same : c.coded-coded.result.now ≡ lent_graph c.args.graph = c.coded-coded.ensures.same ∙ c.proper.ensures.same in
+    let same : c.coded-coded.result.now ≡ lent_graph c.args.graph = c.coded-coded.ensures.same
+    ∙ c.proper.ensures.same in
     let (x, at, driven) = c.requires in
     subst (λ (g : CodedGraph). c.args.z < length g.graph.signals) (sym same) (slice_get_within _ c.args.z x at)
 
@@ -21,16 +22,21 @@ pub returns-then-complete : goal.returns-then-complete
 returns-then-complete c =
     let within : c.loop-k.k < length c.args.library.now.cells = search rules in
     let count : c.len.result ≡ length c.cell-cell.result.now.pins = search rules in
-    found_cell c.coded-coded.result.now (lent_graph c.args.graph) c.args.z c.args.library.now c.loop-k.k c.cell-cell.result.now
-    c.new-literals.result.items c.len.result (c.coded-coded.ensures.same ∙ c.proper.ensures.same) within c.cell-cell.ensures.cell
-    c.new-literals.ensures count c.loop-k.invariant c.complete.new.literals.items (c.complete.ensures.found c.if-complete.true)
+    found_cell c.coded-coded.result.now (lent_graph c.args.graph) c.args.z c.args.library.now c.loop-k.k
+    c.cell-cell.result.now
+    c.new-literals.result.items c.len.result (c.coded-coded.ensures.same
+    ∙ c.proper.ensures.same) within c.cell-cell.ensures.cell
+    c.new-literals.ensures count c.loop-k.invariant c.complete.new.literals.items
+    (c.complete.ensures.found c.if-complete.true)
 
 pub loop-k-preserved : goal.loop-k-preserved
 loop-k-preserved c =
     let within : c.loop-k.k < length c.args.library.now.cells = search rules in
     let count : c.len.result ≡ length c.cell-cell.result.now.pins = search rules in
-    none_cell c.coded-coded.result.now (lent_graph c.args.graph) c.args.z c.args.library.now c.loop-k.k c.cell-cell.result.now
-    c.new-literals.result.items c.len.result (c.coded-coded.ensures.same ∙ c.proper.ensures.same) within c.cell-cell.ensures.cell
+    none_cell c.coded-coded.result.now (lent_graph c.args.graph) c.args.z c.args.library.now c.loop-k.k
+    c.cell-cell.result.now
+    c.new-literals.result.items c.len.result (c.coded-coded.ensures.same
+    ∙ c.proper.ensures.same) within c.cell-cell.ensures.cell
     c.new-literals.ensures count c.loop-k.invariant (c.complete.ensures.none c.if-complete.false)
 
 pub returns : goal.returns

@@ -6,7 +6,8 @@ use Rattle.si_match.proofs.search.+complete.Goals as goal
 
 pub returns-then-is_refuted-clause-none : goal.returns-then-is_refuted-clause-none
 returns-then-is_refuted-clause-none t c = λ _. (
-    refuted_now c.args.coded.now c.args.z c.args.cell.now c.args.literals.now.items c.as_slice-2.result.now c.args.more c.as_slice-2.ensures.value
+    refuted_now c.args.coded.now c.args.z c.args.cell.now c.args.literals.now.items c.as_slice-2.result.now c.args.more
+    c.as_slice-2.ensures.value
     c.requires.pins (c.is_refuted.ensures c.if-is_refuted.true))
 
 pub loop-place-init : goal.loop-place-init
@@ -19,8 +20,10 @@ pub returns-then-complete-clause-found : goal.returns-then-complete-clause-found
 returns-then-complete-clause-found t c =
     let pushed : c.push.new.self.items ≡ c.args.literals.now.items ++ c.literal_at.result ∷ [] =
     c.push.ensures.items ∙ ap (λ (ls : List Literal). ls ++ c.literal_at.result ∷ []) c.loop-place.invariant.kept in
-    λ _. found_now c.args.coded.now c.args.z c.args.cell.now c.args.literals.now.items (c.args.more - 1) c.loop-place.place
-    (length c.args.coded.now.graph.signals) c.literal_at.result c.push.new.self.items refl (omega (arith, c.loop-place-test.true, c.requires.choices)) c.literal_at.ensures pushed
+    λ _. found_now c.args.coded.now c.args.z c.args.cell.now c.args.literals.now.items
+    (c.args.more - 1) c.loop-place.place
+    (length c.args.coded.now.graph.signals) c.literal_at.result c.push.new.self.items refl (omega
+    (arith, c.loop-place-test.true, c.requires.choices)) c.literal_at.ensures pushed
     _ _ c.loop-place.invariant.told (c.complete.ensures.found c.if-complete.true)
 
 pub loop-place-preserved : goal.loop-place-preserved
@@ -28,8 +31,10 @@ loop-place-preserved t c =
     let pushed : c.push.new.self.items ≡ c.args.literals.now.items ++ c.literal_at.result ∷ [] =
     c.push.ensures.items ∙ ap (λ (ls : List Literal). ls ++ c.literal_at.result ∷ []) c.loop-place.invariant.kept in
     record {
-      told = none_now c.args.coded.now c.args.z c.args.cell.now c.args.literals.now.items (c.args.more - 1) c.loop-place.place
-          (length c.args.coded.now.graph.signals) c.literal_at.result c.push.new.self.items refl (omega (arith, c.loop-place-test.true, c.requires.choices)) c.literal_at.ensures pushed
+      told = none_now c.args.coded.now c.args.z c.args.cell.now c.args.literals.now.items
+          (c.args.more - 1) c.loop-place.place
+          (length c.args.coded.now.graph.signals) c.literal_at.result c.push.new.self.items refl (omega
+          (arith, c.loop-place-test.true, c.requires.choices)) c.literal_at.ensures pushed
           _ c.loop-place.invariant.told (c.complete.ensures.none c.if-complete.false);
       kept = popped c.args.literals.now.items c.complete.new.literals.items c.pop.new.self.items c.literal_at.result
           (c.complete.ensures.kept c.if-complete.false ∙ pushed) c.pop.ensures.rest;
@@ -37,5 +42,7 @@ loop-place-preserved t c =
 
 pub returns-clause-none : goal.returns-clause-none
 returns-clause-none t c =
-    λ _. done_now c.args.coded.now c.args.z c.args.cell.now c.args.literals.now.items (c.args.more - 1) c.loop-place.place
-    (length c.args.coded.now.graph.signals) _ refl (omega (arith, c.loop-place-test.false, c.requires.choices)) c.loop-place.invariant.told
+    λ _. done_now c.args.coded.now c.args.z c.args.cell.now c.args.literals.now.items
+    (c.args.more - 1) c.loop-place.place
+    (length c.args.coded.now.graph.signals) _ refl (omega
+    (arith, c.loop-place-test.false, c.requires.choices)) c.loop-place.invariant.told

@@ -9,6 +9,7 @@ decreases-complete l = l.more
 
 abbrev pub invariant-loop-place : goal.invariant-loop-place
 invariant-loop-place l = record {
-  told : from_place l.coded l.z l.cell l.fn.literals.items (l.more - 1) l.place ≡ first_completion l.coded l.z l.cell l.fn.literals.items l.more;
+  told : from_place l.coded l.z l.cell l.fn.literals.items (l.more - 1) l.place
+      ≡ first_completion l.coded l.z l.cell l.fn.literals.items l.more;
   kept : l.literals.items ≡ l.fn.literals.items;
 }

@@ -15,6 +15,7 @@ loop-i-init c = record {
 pub weight_of_signal-requires : goal.weight_of_signal-requires
 weight_of_signal-requires c =
     let same : c.signals-signals.result.now ≡ (lent_graph c.args.graph).graph.signals = search rules in
-    is_non_input (lent_graph c.args.graph).graph.signals c.signals-signals.result.now c.loop-i.i c.index-signals-i.result c.is_driven.result same
+    is_non_input (lent_graph c.args.graph).graph.signals c.signals-signals.result.now c.loop-i.i
+    c.index-signals-i.result c.is_driven.result same
     c.loop-i-test.true c.index-signals-i.is
     (c.is_driven.ensures ∙ ap (λ (x : Signal). is_driven x.kind) (sym c.index-signals-i.is)) c.if-not-is_driven.false
