@@ -2,8 +2,6 @@
 #![tactic(auto)]
 
 pub mod block;
-#[cfg(test)]
-mod block_tests;
 pub mod blocks;
 pub mod classes;
 pub mod interval;

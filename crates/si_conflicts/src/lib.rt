@@ -10,6 +10,4 @@ mod links;
 mod members;
 mod rings;
 mod tally;
-#[cfg(test)]
-mod tests;
 mod trial;

@@ -1,2 +1,12 @@
-//! Worked examples of the definitions. Nothing stands on this crate, so that a new example proves nothing else anew.
+//! Worked examples of the definitions, and tests that share worked graphs. Nothing stands on this
+//! crate, so that a new example proves nothing else anew.
 #![tactic(auto)]
+
+#[cfg(test)]
+mod block_tests;
+#[cfg(test)]
+mod graphs;
+#[cfg(test)]
+mod resolve_tests;
+#[cfg(test)]
+mod trial_tests;

@@ -7,5 +7,3 @@ pub mod ends;
 pub mod laws;
 pub mod resolve;
 mod search;
-#[cfg(test)]
-mod tests;

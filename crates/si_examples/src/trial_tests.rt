@@ -1,0 +1,112 @@
+//! Trial insertions of two graphs.
+
+ghost use Rattle.std.specs.Prelude.{◌≡◌, ◌<◌, IfOk};
+ghost use Rattle.si_insert.specs.Accepted.{IsAccepted};
+ghost use Rattle.si_conflicts.specs.Chains.{AreChains};
+
+use crate::graphs::{pulses, vme};
+use si_base::ids::{NoMemory, StateId};
+use si_checks::proper::Proper;
+use si_conflicts::chains::CodeChains;
+use si_insert::accept::{Accepted, accept};
+use si_insert::partition::{Class, Partition};
+use std::alloc::Global;
+use std::process::Abort;
+use std::test::Fail;
+
+/// The class that a letter stands for.
+fn class(letter: u8) -> Class {
+    match letter {
+        b'R' => Class::Rising,
+        b'H' => Class::High,
+        b'F' => Class::Falling,
+        _ => Class::Low,
+    }
+}
+
+/// The accepted partition of these letters, one for each state.
+fn accepted(
+    rt: &impl Abort,
+    alloc: Global,
+    graph: &Proper,
+    letters: &[u8],
+) -> Result<Accepted, Fail>
+    ensures { IfOk result (IsAccepted graph.now.graph) }
+{
+    let mut classes = Vec::new(alloc);
+    for letter in letters {
+        classes.push(class(*letter))?;
+    }
+    let states = graph.coded().graph().states();
+    assert!(rt; classes.len() == states as usize);
+    let Ok(partition) = Partition::lawful(graph, classes) else {
+        return Err(NoMemory)?;
+    };
+    match accept(graph, partition) {
+        Ok(accepted) => Ok(accepted),
+        Err(_) => Err(NoMemory)?,
+    }
+}
+
+/// The next state of the ring.
+fn next(rt: &impl Abort, graph: &Proper, chains: &CodeChains, s: u32) -> u32
+    requires { AreChains graph.now chains.now }
+{
+    assert!(rt; s < graph.coded().graph().states());
+    chains.next_equal(StateId(s)).0
+}
+
+/// Says that the states 3 and 10 of the VME read cycle are a ring, and the state 0 is alone.
+fn expect_rings(rt: &impl Abort, graph: &Proper, chains: &CodeChains)
+    requires { AreChains graph.now chains.now }
+{
+    let nexts = (
+        next(rt, graph, chains, 3),
+        next(rt, graph, chains, 10),
+        next(rt, graph, chains, 0),
+    );
+    assert_eq!(rt; nexts, (10, 3, 0));
+}
+
+#[test]
+fn trials_leave_the_rings(rt: HostRuntime) -> Result<(), Fail> {
+    let alloc = rt.alloc();
+    let graph = vme(&rt, alloc)?;
+    let accepted = accepted(&rt, alloc, &graph, b"HFLLLLRHHHHHHH")?;
+    let mut chains = CodeChains::new(alloc, &graph)?;
+    expect_rings(&rt, &graph, &chains);
+    assert_eq!(rt; chains.trial(alloc, &graph, &accepted)?, 0);
+    assert_eq!(rt; chains.trial(alloc, &graph, &accepted)?, 0);
+    expect_rings(&rt, &graph, &chains);
+    Ok(())
+}
+
+/// Says that the insertion by the partition of these letters leaves so many conflicts.
+fn expect_left(
+    rt: &impl Abort,
+    alloc: Global,
+    graph: &Proper,
+    chains: &mut CodeChains,
+    letters: &[u8],
+    n: u64,
+) -> Result<(), Fail>
+    requires chains { AreChains graph.now chains.old }
+    requires small { n < 1000 }
+    ensures { chains.new ≡ chains.old }
+{
+    let accepted = accepted(rt, alloc, graph, letters)?;
+    assert_eq!(rt; chains.trial(alloc, graph, &accepted)?, n);
+    let classes = accepted.partition().classes();
+    assert_eq!(rt; chains.trial_below(alloc, graph, classes, n)?, None);
+    assert_eq!(rt; chains.trial_below(alloc, graph, classes, n + 1)?, Some(n));
+    Ok(())
+}
+
+#[test]
+fn trials_count_conflicts_left(rt: HostRuntime) -> Result<(), Fail> {
+    let alloc = rt.alloc();
+    let graph = pulses(&rt, alloc)?;
+    let mut chains = CodeChains::new(alloc, &graph)?;
+    expect_left(&rt, alloc, &graph, &mut chains, b"LLRHHF", 2)?;
+    expect_left(&rt, alloc, &graph, &mut chains, b"LRRHFF", 2)
+}
