@@ -95,9 +95,9 @@ fn sources_of(instance: &Instance, z: Sig) -> ArrayVec<PinLiteral, 5>
 }
 
 /// The sum that the instance computes as the gate of signal `z`: that of its cell, in which each
-/// plain pin is replaced by its literal, each complemented pin by the complement of its literal, and
-/// the own output by `z`. Equal literals of a cube stand once, in signal order, and a cube that has
-/// a literal and its complement is left out. It fails only where memory runs out.
+/// plain pin is replaced by its literal, each complemented pin by the complement of its literal,
+/// and the own output by `z`. Equal literals of a cube stand once, in signal order, and a cube that
+/// has a literal and its complement is left out. It fails only where memory runs out.
 pub fn expand(
     alloc: Global,
     library: &Library,

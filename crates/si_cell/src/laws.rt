@@ -25,6 +25,7 @@ pub fn expanded_sums_have_the_value()
 /// is there, where the instance has only such.
 pub fn expanded_sums_are_well_formed()
     ensures { (signals : ℕ) (library : LibraryValue) (i : InstanceValue) (z : ℕ)
-        → IsLibrary library → IsInstance library i → All (λ l. l.sig < signals) i.literals → z < signals
+        → IsLibrary library → IsInstance library i → All (λ l. l.sig < signals) i.literals
+        → z < signals
         → IsSum signals (expanded library i z) }
 {}

@@ -139,8 +139,8 @@ fn read_cells(alloc: Global, text: &[u8], lines: &mut Lines<'_>) -> Result<Vec<C
 ///
 /// `At` the line of the first fault, exactly where the text has one. A line of another form is
 /// `BadLine`, after `BadByte` and before the faults of its words from left to right: a name of
-/// another form, or a pin `q`, is `BadName`; a cell, or a pin of the same cell, that stands already,
-/// and a signal that stands twice in a cube, is `Repeated`; a literal that is no pin is
+/// another form, or a pin `q`, is `BadName`; a cell, or a pin of the same cell, that stands
+/// already, and a signal that stands twice in a cube, is `Repeated`; a literal that is no pin is
 /// `Undeclared`; one pin or cell too many is `TooManyPins` or `TooManyCells`. A text that ends
 /// before `.end` is `NoEnd` at the line after the last.
 /// `NoMemory` only where memory runs out.

@@ -1,14 +1,14 @@
 -- Codes as far as some of the signals go, and the signals that determine a next value.
-use Rattle.std.proofs.Common.{◌≡◌, ◌≢◌, ℕ, zero, suc, ◌⊎◌, ◌+◌, ◌-◌, ◌<◌, ◌≤◌, ◌==◌, ◌&&◌, ◌||◌, ◌↔◌, not, Bool, true, false, List, [], ◌∷◌, ◌++◌, length, map, take, get_or, bit_and, nat_lt, if◌then◌else◌, Contains, IsTrue, Result, Ok, Err, refl, sym, ap, ◌∙◌, arith, inl, inr, subst}
+use Rattle.std.proofs.Common.{◌≡◌, ℕ, suc, ◌⊎◌, ◌+◌, ◌-◌, ◌<◌, ◌≤◌, ◌&&◌, ◌||◌, ◌↔◌, not, Bool, true, false, List, [], ◌∷◌, ◌++◌, length, map, take, get_or, bit_and, nat_lt, if◌then◌else◌, Contains, Result, Ok, Err, refl, sym, ap, ◌∙◌, arith, inl, inr, subst}
 use Rattle.std.specs.List.{list_all}
-use Rattle.std.proofs.lemmas.Bool.{true≢false, cases_Bool, false_from_ne_true, eq-eqb}
+use Rattle.std.proofs.lemmas.Bool.{true≢false, eq-eqb}
 use Rattle.std.proofs.lemmas.Bool.Decides.{eqb_tells, leb_tells}
 use Rattle.std.proofs.lemmas.List.Elements.{Contains-push, Contains-push_cases, Contains-append_left}
 use Rattle.std.proofs.lemmas.List.Sums.{list_all-from_AllPass}
 use Rattle.std.proofs.lemmas.Nat.{and_assoc}
 use mathlib.Core.Bool.{beq}
-use Rattle.si_base.proofs.BitFacts.{same_codes, flip-same, flip-other, beq_false}
-use Rattle.si_base.proofs.Steps.{beq-refl, beq-true}
+use Rattle.si_base.proofs.BitFacts.{same_codes, flip-same, flip-other}
+use Rattle.si_base.proofs.Steps.{beq-refl}
 use Rattle.si_base.specs.Bits.{bit, flip, ones}
 use Rattle.si_base.specs.Codes.{CodedGraph, code, next_value}
 use Rattle.si_cube.proofs.LiteralLemmas.{bit-and, bit-ones}
@@ -21,7 +21,7 @@ use Rattle.si_graph.proofs.MemberLemmas.{Contains-map, Contains-from_map}
 use Rattle.si_match.specs.Codes.{AreCodes, AreProjected, HaveSame}
 use Rattle.si_match.specs.Fit.{states_of}
 use Rattle.si_match.specs.Support.{agree, determines, dropped_from, support_of}
-use Rattle.si_match.proofs.StateLemmas.{state_at, states_are, all_states, one_more, one_fails}
+use Rattle.si_match.proofs.StateLemmas.{state_at, states_are, one_fails}
 
 -- the values of these signals in the codes of the first states, so many
 abbrev pub CodesBefore : CodedGraph → ℕ → Bool → ℕ → ℕ → List ℕ → Type 0

@@ -1,23 +1,22 @@
 -- States, and codes that agree but for some pins.
-use Rattle.std.proofs.Common.{◌≡◌, ◌≢◌, ℕ, zero, suc, ◌⊎◌, ◌+◌, ◌-◌, ◌<◌, ◌≤◌, ◌==◌, not, Bool, true, false, List, [], ◌∷◌, ◌++◌, length, map, take, get_or, refl, sym, ap, ◌∙◌, arith, inl, inr, append_assoc}
-use Rattle.std.specs.List.{list_all, enumerate_from}
-use Rattle.std.proofs.lemmas.Bool.{true≢false, false_from_ne_true, and_from}
+use Rattle.std.proofs.Common.{◌≡◌, ℕ, ◌⊎◌, ◌+◌, ◌-◌, ◌<◌, ◌≤◌, Bool, true, false, List, [], ◌∷◌, ◌++◌, length, map, take, get_or, refl, sym, ap, ◌∙◌, arith, inl, inr}
+use Rattle.std.specs.List.{list_all}
+use Rattle.std.proofs.lemmas.Bool.{false_from_ne_true, and_from}
 use Rattle.std.proofs.lemmas.Bool.Decides.{eqb_tells, leb_tells}
 use Rattle.std.proofs.lemmas.List.{length-append, length-map, map-append, get_or_append_left, get_or_past, get_or_default, take_all}
 use Rattle.std.proofs.lemmas.List.FromFn.{length-enumerate_from, get_or-enumerate_from}
 use Rattle.std.proofs.lemmas.List.Folds.{list_all_more, list_all_at}
 use Rattle.std.proofs.Math.Seq.{get_or-append_seam}
-use mathlib.Core.Bool.{beq}
 use Rattle.si_base.proofs.BitFacts.{same_codes}
 use Rattle.si_base.proofs.Steps.{beq-true}
 use Rattle.si_base.specs.Bits.{bit, IsSet}
 use Rattle.si_base.specs.Codes.{CodedGraph, code, next_value}
 use Rattle.si_base.specs.Netlist.{Sum, literal_value, sum_value}
 use Rattle.si_base.specs.declared.ids.Literal.{Literal}
-use Rattle.si_cell.specs.Library.{Cell, pin_values, code_of}
+use Rattle.si_cell.specs.Library.{Cell, pin_values}
 use Rattle.si_cell.proofs.ExpandedLemmas.{bit_of}
-use Rattle.si_match.specs.Fit.{states_of, suits, fits}
-use Rattle.si_match.specs.Search.{IsRefutedAt, IsRefuted, AgreeOutside}
+use Rattle.si_match.specs.Fit.{states_of}
+use Rattle.si_match.specs.Search.{IsRefutedAt, AgreeOutside}
 
 -- ---- states
 pub state_at : (c : CodedGraph) (s : ℕ) (d : ℕ × ℕ) → s < length c.codes → get_or (states_of c) s d ≡ (s, code c s)

@@ -1,4 +1,4 @@
-use Rattle.std.proofs.Common.{◌≡◌, ◌≤◌, sym, ◌∙◌, ap, arith, length, subst, ℕ, bit_and}
+use Rattle.std.proofs.Common.{◌≡◌, ◌∙◌, ap, arith, length, subst, ℕ, bit_and}
 use Rattle.si_match.proofs.CodeLemmas.{CodesBefore, passed_over, added, differs, is_same}
 use Rattle.si_match.proofs.codes.codes_with.Goals as goal
 

@@ -1,4 +1,4 @@
-use Rattle.std.proofs.Common.{◌≡◌, sym, ◌∙◌, rules, false}
+use Rattle.std.proofs.Common.{◌≡◌, rules, false}
 use Rattle.std.specs.Result.{is_ok}
 use Rattle.si_match.proofs.CodeLemmas.{not_found, none_so_far, none_at_all}
 use Rattle.si_match.proofs.codes.meet.Goals as goal

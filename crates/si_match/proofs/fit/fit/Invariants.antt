@@ -1,5 +1,4 @@
-use Rattle.std.proofs.Common.{◌≡◌, length}
-use Rattle.si_checks.specs.Lent.{lent_graph}
+use Rattle.std.proofs.Common.{◌≡◌}
 use Rattle.si_match.specs.Fit.{first_fit}
 use Rattle.si_match.proofs.SearchLemmas.{from_cell}
 use Rattle.si_match.proofs.fit.fit.Given as goal

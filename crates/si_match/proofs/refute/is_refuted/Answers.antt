@@ -1,4 +1,4 @@
-use Rattle.std.proofs.Common.{◌≡◌, ◌<◌, ◌++◌, sym, ◌∙◌, ap, arith, length}
+use Rattle.std.proofs.Common.{◌<◌, ◌++◌, ap, arith, length}
 use Rattle.si_match.specs.Fit.{suits}
 use Rattle.si_match.proofs.StateLemmas.{one_fails}
 use Rattle.si_match.proofs.refute.is_refuted.Goals as goal

@@ -1,4 +1,4 @@
-use Rattle.std.proofs.Common.{◌≡◌, sym, ◌∙◌, ap, not, refl, Bool, true, false, length, rules}
+use Rattle.std.proofs.Common.{◌≡◌, sym, ap, not, refl, Bool, true, false, length, rules}
 use Rattle.std.proofs.lemmas.Bool.{true≢false}
 use Rattle.si_cell.specs.Library.{Cell}
 use Rattle.si_match.proofs.StateLemmas.{refutes_at}

@@ -1,5 +1,4 @@
-use Rattle.std.proofs.Common.{◌≡◌, ◌<◌, ◌≤◌, ◌*◌, ◌++◌, ◌-◌, sym, ◌∙◌, ap, arith, length, rules, refl, ℕ, List, [], ◌∷◌, take}
-use Rattle.std.proofs.lemmas.List.{length_push}
+use Rattle.std.proofs.Common.{◌≡◌, ◌++◌, ◌-◌, ◌∙◌, ap, arith, length, rules, refl, List, [], ◌∷◌}
 use Rattle.si_base.specs.declared.ids.Literal.{Literal}
 use Rattle.si_match.proofs.SearchLemmas.{refuted_now, starts, found_now, none_now, done_now, popped}
 use Rattle.si_match.proofs.search.+complete.Goals as goal

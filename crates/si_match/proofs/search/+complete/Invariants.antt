@@ -1,5 +1,4 @@
-use Rattle.std.proofs.Common.{◌≡◌, ◌-◌, ◌<◌, All}
-use Rattle.si_base.specs.Limits.{code_width}
+use Rattle.std.proofs.Common.{◌≡◌, ◌-◌}
 use Rattle.si_match.specs.Search.{first_completion}
 use Rattle.si_match.proofs.SearchLemmas.{from_place}
 use Rattle.si_match.proofs.search.+complete.Given as goal

@@ -1,4 +1,4 @@
-use Rattle.std.proofs.Common.{◌≡◌, ◌<◌, ◌≤◌, sym, ◌∙◌, ap, arith, length}
+use Rattle.std.proofs.Common.{◌<◌, ◌≤◌, sym, ◌∙◌, ap, arith, length}
 use Rattle.si_match.specs.Fit.{suits}
 use Rattle.si_match.proofs.StateLemmas.{one_more, one_fails, all_states}
 use Rattle.si_match.proofs.state.fits.Goals as goal

@@ -1,4 +1,4 @@
-use Rattle.std.proofs.Common.{◌≡◌, ◌<◌, ◌≤◌, sym, ◌∙◌, ap, arith, length, subst, ℕ, rules, Contains}
+use Rattle.std.proofs.Common.{◌≡◌, ◌<◌, ◌≤◌, sym, length, subst, rules, Contains}
 use Rattle.si_match.proofs.CodeLemmas.{in_start, signal_kept, signal_dropped, in_end}
 use Rattle.si_match.proofs.support.kept_signals.Goals as goal
 

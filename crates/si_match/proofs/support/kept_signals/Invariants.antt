@@ -1,4 +1,3 @@
-use Rattle.std.proofs.Common.{length}
 use Rattle.si_match.proofs.CodeLemmas.{InSupport}
 use Rattle.si_match.proofs.support.kept_signals.Given as goal
 

@@ -1,6 +1,4 @@
-use Rattle.std.proofs.Common.{◌≡◌, ◌+◌, arith, sym, ◌∙◌, rules, false, true, not, Bool, refl}
-use Rattle.std.proofs.lemmas.Bool.{true≢false}
-use Rattle.si_base.specs.Bits.{bit}
+use Rattle.std.proofs.Common.{arith, sym, ◌∙◌}
 use Rattle.si_match.proofs.WeightLemmas.{not_there, one_there}
 use Rattle.si_match.proofs.weight.size.Goals as goal
 

@@ -1,9 +1,8 @@
-use Rattle.std.proofs.Common.{◌≡◌, ◌<◌, ◌≤◌, ◌+◌, ◌∙◌, sym, ap, arith, length, rules, List, true, not}
-use Rattle.si_base.specs.Codes.{CodedGraph}
+use Rattle.std.proofs.Common.{◌≡◌, ◌∙◌, sym, ap, arith, rules}
 use Rattle.si_base.specs.Graph.{is_driven}
 use Rattle.si_base.specs.declared.graph.Signal.{Signal}
 use Rattle.si_checks.specs.Lent.{lent_graph}
-use Rattle.si_match.proofs.WeightLemmas.{begins, is_non_input, input, driven, ends}
+use Rattle.si_match.proofs.WeightLemmas.{begins, is_non_input}
 use Rattle.si_match.proofs.weight.weight.Goals as goal
 
 pub loop-i-init : goal.loop-i-init
