@@ -97,6 +97,39 @@ fn is_driven(graph: Distinct<'_>, z: Sig) -> bool
     (z.0 as usize) < known.signals().len() && known.is_driven(z)
 }
 
+/// All three signals are in the support of the output.
+fn has_full_support(rt: &impl Abort, alloc: Global, graph: Distinct<'_>) -> Result<(), Fail>
+    requires { IsNonInput (lent_graph graph).graph.signals 2 }
+{
+    assert_eq!(rt; support(alloc, graph, C)?, Code(0b111));
+    Ok(())
+}
+
+/// No buffer fits the output, which then weighs its support and one more.
+fn is_no_buffer(rt: &impl Abort, alloc: Global, graph: Distinct<'_>) -> Result<(), Fail>
+    requires { IsNonInput (lent_graph graph).graph.signals 2 }
+{
+    let buffers = read_library(alloc, b".library b\n.cell BUF a = a\n.end")?;
+    assert!(rt; fit(graph, &buffers, C).is_none());
+    assert_eq!(rt; weight(alloc, graph, &buffers)?, 4);
+    Ok(())
+}
+
+/// A cell of three pins fits it, one of which has the literal of another.
+fn fits_the_second_cell(rt: &impl Abort, alloc: Global, graph: Distinct<'_>) -> Result<(), Fail>
+    requires { IsNonInput (lent_graph graph).graph.signals 2 }
+{
+    let text = b".library two\n.cell BUF a = a\n.cell C3 a b c = a b + a q + b c\n.end";
+    let library = read_library(alloc, text)?;
+    let Some(instance) = fit(graph, &library, C) else {
+        return Err(NoMemory)?;
+    };
+    assert_eq!(rt; instance.cell, 1);
+    assert_eq!(rt; instance.literals.len(), 3);
+    assert_eq!(rt; weight(alloc, graph, &library)?, 0);
+    Ok(())
+}
+
 #[test]
 fn cells_of_the_c_element(rt: HostRuntime) -> Result<(), Fail> {
     let alloc = rt.alloc();
@@ -106,19 +139,7 @@ fn cells_of_the_c_element(rt: HostRuntime) -> Result<(), Fail> {
         return Err(NoMemory)?;
     };
     assert!(rt; is_driven(distinct, C));
-    assert_eq!(rt; support(alloc, distinct, C)?, Code(0b111));
-    let buffers = read_library(alloc, b".library b\n.cell BUF a = a\n.end")?;
-    assert!(rt; fit(distinct, &buffers, C).is_none());
-    assert_eq!(rt; weight(alloc, distinct, &buffers)?, 4);
-    let library = read_library(
-        alloc,
-        b".library two\n.cell BUF a = a\n.cell C3 a b c = a b + a q + b c\n.end",
-    )?;
-    let Some(instance) = fit(distinct, &library, C) else {
-        return Err(NoMemory)?;
-    };
-    assert_eq!(rt; instance.cell, 1);
-    assert!(rt; instance.literals.len() == 3);
-    assert_eq!(rt; weight(alloc, distinct, &library)?, 0);
-    Ok(())
+    has_full_support(&rt, alloc, distinct)?;
+    is_no_buffer(&rt, alloc, distinct)?;
+    fits_the_second_cell(&rt, alloc, distinct)
 }
