@@ -1,22 +1,35 @@
-//! A library text and its values, the sums of instances, and faults of texts.
+//! A library text, the values of an instance, and its sum.
+
+ghost use Rattle.std.specs.Prelude.{◌≡◌, ◌<◌, [], ◌∷◌};
+ghost use Rattle.si_base.specs.Limits.{code_width};
 
 use crate::cell::{Instance, PinLiteral};
 use crate::expand::expand;
-use crate::library::Library;
 use crate::reader::read_library;
 use arrayvec::ArrayVec;
-use si_base::fault::{TextFault, TextKind};
 use si_base::ids::{Code, Literal, Sig};
+use si_cube::cube::Cube;
 use std::test::Fail;
 
 const TEXT: &[u8] =
     b"# cells\r\n.library two\n.cell C2 a b = b a + q a + q b\n.cell INV a = a'\n.end";
 
-fn literal(sig: u8, plain: bool) -> PinLiteral {
-    PinLiteral(Literal {
-        sig: Sig(sig),
-        plain,
-    })
+/// An instance of the first cell: signal `a` complemented at its first pin, and `b` at its second.
+fn instance(a: Sig, b: Sig) -> Instance
+    ensures cell { result.cell ≡ 0 }
+    ensures literals { result.literals
+        ≡ record { sig = a; plain = false } ∷ record { sig = b; plain = true } ∷ [] }
+{
+    let mut literals = ArrayVec::new();
+    literals.push(PinLiteral(Literal {
+        sig: a,
+        plain: false,
+    }));
+    literals.push(PinLiteral(Literal {
+        sig: b,
+        plain: true,
+    }));
+    Instance { cell: 0, literals }
 }
 
 #[test]
@@ -24,18 +37,19 @@ fn a_library_and_the_sum_of_an_instance(rt: HostRuntime) -> Result<(), Fail> {
     let alloc = rt.alloc();
     let library = read_library(alloc, TEXT)?;
     assert_eq!(rt; library.name().bytes(), b"two".as_slice());
-    assert_eq!(rt; library.cells().len(), 2);
-    let mut literals = ArrayVec::new();
-    literals.push(literal(4, false));
-    literals.push(literal(1, true));
-    let instance = Instance { cell: 0, literals };
+    assert!(rt; library.cells().len() == 2);
+    let cell = library.cell(0);
+    assert!(rt; cell.pins.len() == 2);
+    let instance = instance(Sig(4), Sig(1));
     assert!(rt; library.value(&instance, Code(0b00010), false));
     assert!(rt; !library.value(&instance, Code(0b10000), true));
     let sum = expand(alloc, &library, &instance, Sig(1))?;
     let cubes = sum.cubes();
-    assert_eq!(rt; cubes.len(), 3);
-    assert_eq!(rt; cubes[0].care, Code(0b10010));
-    assert_eq!(rt; cubes[0].value, Code(0b00010));
-    assert_eq!(rt; cubes[2].care, Code(0b00010));
+    assert!(rt; cubes.len() == 3);
+    let both: &Cube = &cubes[0];
+    assert_eq!(rt; both.care, Code(0b10010));
+    assert_eq!(rt; both.value, Code(0b00010));
+    let once: &Cube = &cubes[2];
+    assert_eq!(rt; once.care, Code(0b00010));
     Ok(())
 }

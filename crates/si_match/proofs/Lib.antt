@@ -1,0 +1,4 @@
+pub mod StateLemmas
+pub mod SearchLemmas
+pub mod CodeLemmas
+pub mod WeightLemmas

@@ -1,0 +1,41 @@
+use Rattle.std.proofs.Common.{◌≡◌, ◌<◌, ◌≤◌, ◌*◌, ◌++◌, ◌-◌, sym, ◌∙◌, ap, arith, length, rules, refl, ℕ, List, [], ◌∷◌, take}
+use Rattle.std.proofs.lemmas.List.{length_push}
+use Rattle.si_base.specs.declared.ids.Literal.{Literal}
+use Rattle.si_match.proofs.SearchLemmas.{refuted_now, starts, found_now, none_now, done_now, popped}
+use Rattle.si_match.proofs.search.+complete.Goals as goal
+
+pub returns-then-is_refuted-clause-none : goal.returns-then-is_refuted-clause-none
+returns-then-is_refuted-clause-none t c = λ _. (
+    refuted_now c.args.coded.now c.args.z c.args.cell.now c.args.literals.now.items c.as_slice-2.result.now c.args.more c.as_slice-2.ensures.value
+    c.requires.pins (c.is_refuted.ensures c.if-is_refuted.true))
+
+pub loop-place-init : goal.loop-place-init
+loop-place-init t c = record {
+  told = starts c.args.coded.now c.args.z c.args.cell.now c.args.literals.now.items c.args.more c.if-more-eq0.false;
+  kept = search rules;
+}
+
+pub returns-then-complete-clause-found : goal.returns-then-complete-clause-found
+returns-then-complete-clause-found t c =
+    let pushed : c.push.new.self.items ≡ c.args.literals.now.items ++ c.literal_at.result ∷ [] =
+    c.push.ensures.items ∙ ap (λ (ls : List Literal). ls ++ c.literal_at.result ∷ []) c.loop-place.invariant.kept in
+    λ _. found_now c.args.coded.now c.args.z c.args.cell.now c.args.literals.now.items (c.args.more - 1) c.loop-place.place
+    (length c.args.coded.now.graph.signals) c.literal_at.result c.push.new.self.items refl (omega (arith, c.loop-place-test.true, c.requires.choices)) c.literal_at.ensures pushed
+    _ _ c.loop-place.invariant.told (c.complete.ensures.found c.if-complete.true)
+
+pub loop-place-preserved : goal.loop-place-preserved
+loop-place-preserved t c =
+    let pushed : c.push.new.self.items ≡ c.args.literals.now.items ++ c.literal_at.result ∷ [] =
+    c.push.ensures.items ∙ ap (λ (ls : List Literal). ls ++ c.literal_at.result ∷ []) c.loop-place.invariant.kept in
+    record {
+      told = none_now c.args.coded.now c.args.z c.args.cell.now c.args.literals.now.items (c.args.more - 1) c.loop-place.place
+          (length c.args.coded.now.graph.signals) c.literal_at.result c.push.new.self.items refl (omega (arith, c.loop-place-test.true, c.requires.choices)) c.literal_at.ensures pushed
+          _ c.loop-place.invariant.told (c.complete.ensures.none c.if-complete.false);
+      kept = popped c.args.literals.now.items c.complete.new.literals.items c.pop.new.self.items c.literal_at.result
+          (c.complete.ensures.kept c.if-complete.false ∙ pushed) c.pop.ensures.rest;
+    }
+
+pub returns-clause-none : goal.returns-clause-none
+returns-clause-none t c =
+    λ _. done_now c.args.coded.now c.args.z c.args.cell.now c.args.literals.now.items (c.args.more - 1) c.loop-place.place
+    (length c.args.coded.now.graph.signals) _ refl (omega (arith, c.loop-place-test.false, c.requires.choices)) c.loop-place.invariant.told

@@ -1,0 +1,5 @@
+pub mod Fit
+pub mod Search
+pub mod Codes
+pub mod Support
+pub mod Weight

@@ -1,0 +1,37 @@
+//! The first instance that fits a signal.
+
+ghost use Rattle.std.specs.Prelude.{◌≡◌, option_map};
+ghost use Rattle.si_base.specs.Graph.{IsNonInput};
+ghost use Rattle.si_checks.specs.Lent.{lent_graph};
+ghost use Rattle.si_match.specs.Fit.{first_fit};
+
+use crate::search::complete;
+use arrayvec::ArrayVec;
+use si_base::ids::Sig;
+use si_cell::cell::Instance;
+use si_cell::library::Library;
+use si_checks::distinct::Distinct;
+
+/// The first instance of the library that fits `z`: at every state its value, where its cell's own
+/// output has the value of `z`, is the next value of `z`. A signal may stand at several pins, and
+/// may be `z` itself. Instances are ordered by cell in library order, then by their literals in
+/// literal order, the first pin first. `None` exactly where none fits.
+///
+/// A state that refutes every instance with some literals at its first pins ends the search below
+/// these literals.
+pub fn fit(graph: Distinct<'_>, library: &Library, z: Sig) -> Option<Instance>
+    requires { IsNonInput (lent_graph graph).graph.signals z }
+    ensures { result ≡ first_fit (lent_graph graph.entry) library.now z }
+{
+    let coded = graph.proper().coded();
+    let choices = 2 * coded.graph().signals().len();
+    for k in 0..library.cells().len() {
+        let k = k as u8;
+        let cell = library.cell(k);
+        let mut literals = ArrayVec::new();
+        if complete(coded, choices, z, cell, &mut literals, cell.pins.len()) {
+            return Some(Instance { cell: k, literals });
+        }
+    }
+    None
+}

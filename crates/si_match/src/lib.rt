@@ -1,0 +1,10 @@
+//! Cells for the signals of a graph: the first instance that fits, supports, and the weight.
+#![tactic(auto)]
+
+mod codes;
+pub mod fit;
+mod refute;
+mod search;
+mod state;
+pub mod support;
+pub mod weight;

@@ -1,0 +1,66 @@
+//! States that refute all instances with some literals at their first pins.
+
+ghost use Rattle.std.specs.Prelude.{◌≡◌, ℕ, ◌<◌, ◌≤◌, ◌-◌, All, length, true, false, Bool};
+ghost use Rattle.si_base.specs.Codes.{code};
+ghost use Rattle.si_base.specs.Limits.{code_width};
+ghost use Rattle.si_base.specs.Netlist.{sum_value};
+ghost use Rattle.si_cell.specs.Limits.{max_pins};
+ghost use Rattle.si_match.specs.Search.{IsRefuted, IsRefutedAt, AgreeOutside};
+
+use si_base::ids::{Code, Sig, StateId};
+use si_cell::cell::{Cell, PinLiteral};
+use si_cell::library::values_of;
+use si_cube::sum::Sum;
+use si_graph::coded::Coded;
+
+/// Whether the sum has the value at one of the codes that differ from this one only at signals from
+/// `from` on, up to `to`.
+fn can_be(sum: &Sum, values: Code, from: usize, to: usize, value: bool) -> bool
+    requires { to < code_width }
+    ensures { result ≡ false → (other : ℕ) → AgreeOutside from to values other
+        → sum_value other sum.now ≡ value → ⊥ }
+{
+    if from >= to {
+        return sum.value(values) == value;
+    }
+    let pin = Sig(from as u8);
+    can_be(sum, values.set(pin, false), from + 1, to, value)
+        || can_be(sum, values.set(pin, true), from + 1, to, value)
+}
+
+/// Whether at the state no instance of the cell with these literals at its first pins has the next
+/// value of `z`, whatever the values of its further pins are.
+fn is_refuted_at(coded: &Coded, z: Sig, cell: &Cell, literals: &[PinLiteral], s: StateId) -> bool
+    requires state { s < coded.now.graph.states }
+    requires signal { z < length coded.now.graph.signals }
+    requires width { length coded.now.graph.signals ≤ code_width }
+    requires first { length literals.now ≤ length cell.now.pins }
+    requires few { length cell.now.pins ≤ max_pins }
+    requires signals { All (λ l. l.sig < code_width) literals.now }
+    ensures { result ≡ true → IsRefutedAt coded.now z cell.now literals.now
+        (length cell.now.pins - length literals.now) (s, code coded.now s) }
+{
+    let code = coded.code(s);
+    let pins = cell.pins.len();
+    let values = values_of(literals, code, false).set(Sig(pins as u8), code.get(z));
+    !can_be(&cell.sum, values, literals.len(), pins, coded.next_value(s, z))
+}
+
+/// Whether some state refutes all instances of the cell with these literals at its first pins.
+/// Where it doesn't, one may fit or not.
+pub(crate) fn is_refuted(coded: &Coded, z: Sig, cell: &Cell, literals: &[PinLiteral]) -> bool
+    requires signal { z < length coded.now.graph.signals }
+    requires width { length coded.now.graph.signals ≤ code_width }
+    requires first { length literals.now ≤ length cell.now.pins }
+    requires few { length cell.now.pins ≤ max_pins }
+    requires signals { All (λ l. l.sig < code_width) literals.now }
+    ensures { result ≡ true → IsRefuted coded.now z cell.now literals.now
+        (length cell.now.pins - length literals.now) }
+{
+    for s in 0..coded.graph().states() {
+        if is_refuted_at(coded, z, cell, literals, StateId(s)) {
+            return true;
+        }
+    }
+    false
+}
