@@ -1,0 +1,4 @@
+//! Circuits of the cells of a library.
+#![tactic(auto)]
+
+pub mod map;
