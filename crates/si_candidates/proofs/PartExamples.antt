@@ -1,12 +1,12 @@
 -- Candidates at work: two outputs of which one lags, where a part is torn, and an output that follows pulses of an
 -- input, where there are classes.
-use Rattle.std.proofs.Common.{◌≡◌, ℕ, zero, suc, ◌<◌, Bool, true, false, List, [], ◌∷◌, length, refl, arith, inl, inr}
+use Rattle.std.proofs.Common.{◌≡◌, ℕ, zero, suc, ◌<◌, Bool, true, false, List, [], ◌∷◌, refl, arith, inl, inr}
 use Rattle.si_base.specs.declared.graph.SigKind.TheVariants.{Input, Output}
 use Rattle.si_base.specs.Graph.{StateGraph, arc, rise, fall}
 use Rattle.si_insert.specs.declared.partition.Class.{Class}
 use Rattle.si_insert.specs.declared.partition.Class.TheVariants.{Low, Rising, High, Falling}
 use Rattle.si_insert.specs.Partition.{class_of}
-use Rattle.si_candidates.specs.Parts.{IsOther, IsHigh, IsLow, AreClasses, IsTorn, IsFirstTorn}
+use Rattle.si_candidates.specs.Parts.{IsOther, IsHigh, IsLow, AreClasses, IsTorn}
 use Rattle.si_candidates.proofs.PartLaws.{torn_have_none, same_list}
 
 -- ---- y and z rise in any order, then y falls, then z; the new signal is to rise in s1 and to fall in s4

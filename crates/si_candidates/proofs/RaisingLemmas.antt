@@ -1,7 +1,7 @@
 -- Classes that are raised: which states are High then, and that the blocks stay.
-use Rattle.std.proofs.Common.{◌≡◌, ◌≢◌, ℕ, suc, zero, ◌<◌, ◌↔◌, ◌⊎◌, Bool, true, false, List, [], ◌∷◌, ◌++◌, length, set, map, refl, sym, ap, subst, ◌∙◌, arith, inl, inr}
+use Rattle.std.proofs.Common.{◌≡◌, ◌≢◌, ℕ, suc, zero, ◌<◌, ◌↔◌, ◌⊎◌, Bool, true, false, List, [], ◌∷◌, ◌++◌, length, set, take, drop, map, refl, sym, ap, subst, ◌∙◌, arith, inl, inr}
 use Rattle.std.proofs.lemmas.Bool.{cases_lt, true≢false}
-use Rattle.std.proofs.lemmas.List.{map-set, get_or-map, length-map, get_or_past}
+use Rattle.std.proofs.lemmas.List.{take-append-le, take_all, map-set, get_or-map, length-map, get_or_past}
 use Rattle.std.proofs.Math.Seq.{map-set_same}
 use Rattle.si_base.specs.Graph.{StateGraph}
 use Rattle.si_base.specs.Sets.{IsIn}
@@ -200,3 +200,9 @@ pub not_torn : (is : Bool) (M : Type 0) (strict : Bool) → strict ≡ false →
     → is ≡ true
 not_torn true M strict other torn = refl
 not_torn false M strict other torn = absurd (true≢false (sym (torn refl).0 ∙ other))
+
+-- a list that was lent whole
+pub written_back : (size : ℕ) (new old : List Class) → length new ≡ size → length old ≡ size
+    → take size (new ++ drop (length new) old) ≡ new
+written_back size new old full same =
+    take-append-le size new (drop (length new) old) (omega arith) ∙ take_all size new (omega arith)

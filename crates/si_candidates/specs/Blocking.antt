@@ -23,7 +23,8 @@ abbrev pub KeepsExits : StateGraph → (ℕ → Type 0) → Type 0
 KeepsExits g P = (s : ℕ) (lost by : Event) (t u w : ℕ)
     → Diamond g s lost by t u w → P u → (P w → ⊥) → P s × (P t → ⊥)
 
--- the new signal may switch in the set: no input has to wait for it, and no excitation is lost to it
+-- the new signal may switch in the set: no input has to wait for it, and no excitation is lost
+-- to it
 pub record MaySwitch (g : StateGraph) (P : ℕ → Type 0) : Type 0 where
   pub inputs : IsClosedUnderInputs g P
   pub exits : KeepsExits g P

@@ -119,35 +119,7 @@ impl Raising {
         ensures work { self.new.work.items ≡ [] }
     {
         self.work.clear();
-        self.lower();
-        self.mark(plus.states(), Class::Rising);
-        self.mark(minus.states(), Class::Falling);
-    }
-
-    /// Every state is Low.
-    fn lower(&mut self)
-        ensures low { (s : ℕ) → class_of self.new.classes.items s ≡ Class.Low }
-        ensures size { length self.new.classes.items ≡ length self.old.classes.items }
-        ensures work { self.new.work.items ≡ self.old.work.items }
-    {
-        for s in 0..self.classes.len() {
-            self.classes[s] = Class::Low;
-        }
-    }
-
-    /// The states get the class.
-    fn mark(&mut self, states: &[StateId], class: Class)
-        requires { All (λ s. s < length self.old.classes.items) states.now }
-        ensures marked { (s : ℕ) → Contains states.now s
-            → class_of self.new.classes.items s ≡ class }
-        ensures others { (s : ℕ) → (Contains states.now s → ⊥)
-            → class_of self.new.classes.items s ≡ class_of self.old.classes.items s }
-        ensures size { length self.new.classes.items ≡ length self.old.classes.items }
-        ensures work { self.new.work.items ≡ self.old.work.items }
-    {
-        for s in states {
-            self.classes[s.0 as usize] = class;
-        }
+        begin_classes(self.classes.as_mut_slice(), plus, minus);
     }
 
     /// Raises the states that Rising states enter.
@@ -271,4 +243,40 @@ fn is_barred(strict: bool, class: Class, barred: Class) -> bool
     ensures { IsTrue result ↔ (IsTrue strict × (class ≡ barred)) }
 {
     strict && class == barred
+}
+
+/// The blocks are Rising and Falling, and every other state is Low.
+fn begin_classes(classes: &mut [Class], plus: &Block, minus: &Block)
+    requires plus_size { length plus.now ≡ length classes.old }
+    requires minus_size { length minus.now ≡ length classes.old }
+    requires disjoint { AreDisjoint plus.now minus.now }
+    ensures begun { AreBegun plus.now minus.now classes.new }
+    ensures size { length classes.new ≡ length classes.old }
+{
+    lower(classes);
+    mark(classes, plus.states(), Class::Rising);
+    mark(classes, minus.states(), Class::Falling);
+}
+
+/// Every state is Low.
+fn lower(classes: &mut [Class])
+    ensures low { (s : ℕ) → class_of classes.new s ≡ Class.Low }
+    ensures size { length classes.new ≡ length classes.old }
+{
+    for s in 0..classes.len() {
+        classes[s] = Class::Low;
+    }
+}
+
+/// The states get the class.
+fn mark(classes: &mut [Class], states: &[StateId], class: Class)
+    requires { All (λ s. s < length classes.old) states.now }
+    ensures marked { (s : ℕ) → Contains states.now s → class_of classes.new s ≡ class }
+    ensures others { (s : ℕ) → (Contains states.now s → ⊥)
+        → class_of classes.new s ≡ class_of classes.old s }
+    ensures size { length classes.new ≡ length classes.old }
+{
+    for s in states {
+        classes[s.0 as usize] = class;
+    }
 }

@@ -1,10 +1,12 @@
 //! A library text, the values of an instance, and its sum.
 
-ghost use Rattle.std.specs.Prelude.{◌≡◌, ◌<◌, [], ◌∷◌};
+ghost use Rattle.std.specs.Prelude.{◌≡◌, ◌<◌, All, true};
 ghost use Rattle.si_base.specs.Limits.{code_width};
+ghost use Rattle.si_cell.specs.Library.{IsInstance};
 
 use crate::cell::{Instance, PinLiteral};
 use crate::expand::expand;
+use crate::library::Library;
 use crate::reader::read_library;
 use arrayvec::ArrayVec;
 use si_base::ids::{Code, Literal, Sig};
@@ -16,9 +18,9 @@ const TEXT: &[u8] =
 
 /// An instance of the first cell: signal `a` complemented at its first pin, and `b` at its second.
 fn instance(a: Sig, b: Sig) -> Instance
-    ensures cell { result.cell ≡ 0 }
-    ensures literals { result.literals
-        ≡ record { sig = a; plain = false } ∷ record { sig = b; plain = true } ∷ [] }
+    requires a { a < code_width }
+    requires b { b < code_width }
+    ensures { All (λ l. l.sig < code_width) result.literals }
 {
     let mut literals = ArrayVec::new();
     literals.push(PinLiteral(Literal {
@@ -32,15 +34,25 @@ fn instance(a: Sig, b: Sig) -> Instance
     Instance { cell: 0, literals }
 }
 
+/// Whether the instance has a cell of the library, and a literal for each of its pins.
+fn is_instance(library: &Library, instance: &Instance) -> bool
+    requires { All (λ l. l.sig < code_width) instance.now.literals }
+    ensures { result ≡ true → IsInstance library.now instance.now }
+{
+    if instance.cell as usize >= library.cells().len() {
+        return false;
+    }
+    let pins = library.cell(instance.cell).pins.len();
+    instance.literals.len() == pins
+}
+
 #[test]
 fn a_library_and_the_sum_of_an_instance(rt: HostRuntime) -> Result<(), Fail> {
     let alloc = rt.alloc();
     let library = read_library(alloc, TEXT)?;
     assert_eq!(rt; library.name().bytes(), b"two".as_slice());
-    assert!(rt; library.cells().len() == 2);
-    let cell = library.cell(0);
-    assert!(rt; cell.pins.len() == 2);
     let instance = instance(Sig(4), Sig(1));
+    assert!(rt; is_instance(&library, &instance));
     assert!(rt; library.value(&instance, Code(0b00010), false));
     assert!(rt; !library.value(&instance, Code(0b10000), true));
     let sum = expand(alloc, &library, &instance, Sig(1))?;

@@ -1,16 +1,15 @@
 -- The word of a current state.
-use Rattle.std.proofs.Common.{◌≡◌, ℕ, zero, suc, ◌+◌, ◌/◌, ◌^◌, ◌<◌, ◌≤◌, List, [], ◌∷◌, ◌++◌, length, map, refl, sym, ap, subst, ◌∙◌, arith}
-use Rattle.std.proofs.lemmas.List.{append-nil}
+use Rattle.std.proofs.Common.{◌≡◌, ℕ, zero, suc, ◌+◌, ◌/◌, ◌^◌, ◌≤◌, List, [], ◌∷◌, ◌++◌, length, map, refl, sym, ap, ◌∙◌, arith}
 use Rattle.std.specs.List.{range_with_len, slice_index_or}
 use Rattle.si_base.specs.Bits.{bit}
 use Rattle.si_base.specs.Bytes.{at_sign}
 use Rattle.si_base.specs.Codes.{CodedGraph, code}
 use Rattle.si_base.specs.Limits.{code_width}
 use Rattle.si_insert.specs.declared.lineage.TraceStep.{TraceStep}
-use Rattle.si_insert.specs.Lineage.{Current, History, IsLineage, as_given, origin}
+use Rattle.si_insert.specs.Lineage.{Current, History, IsLineage, origin}
 use Rattle.si_insert.proofs.Growing.{later_bit}
 use Rattle.si_circuit.specs.declared.spelling.Descent.{Descent}
-use Rattle.si_circuit.specs.Spelling.{digit, digits, mark, state_word, current_word, descents_along, given_descents}
+use Rattle.si_circuit.specs.Spelling.{digit, mark, state_word, current_word, given_descents}
 use Rattle.si_circuit.proofs.DescentLemmas.{At, at_start, at_next}
 
 -- ---- numbers of the same bits have the same digits

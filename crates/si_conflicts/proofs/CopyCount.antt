@@ -19,7 +19,7 @@ use Rattle.si_conflicts.specs.declared.tally.Role.{Role}
 use Rattle.si_conflicts.specs.declared.tally.Role.TheVariants.{Absent}
 use Rattle.si_conflicts.specs.Keys.{IsKey, clashes, clash_count}
 use Rattle.si_conflicts.specs.Chains.{AreRings, AreMembers, IsNextInRing, has_equal, with_equals}
-use Rattle.si_conflicts.specs.Apart.{AreStaying, role_at, is_switching, are_apart, entry_of, told_apart, pair_sum, switching_keys, switching_count}
+use Rattle.si_conflicts.specs.Apart.{AreStaying, role_at, is_switching, are_apart, tallied, told_apart, pair_sum, switching_keys, switching_count}
 use Rattle.si_conflicts.proofs.CountLemmas.{clash_back}
 use Rattle.si_conflicts.proofs.CopyKeys.{copy_key, there_or_absent}
 use Rattle.si_conflicts.proofs.Numbers.{driven_within, one_key}
@@ -147,7 +147,8 @@ module _ (c : CodedGraph) (is : IsCoded c) (classes : List Class) (count : lengt
 
   own_off : (s : ℕ) → bit (own s).excited last ≡ false
   own_off s = elim (cases_Bool (bit (own s).excited last)) [
-    | inl on ↦ absurd (let below = driven_within c.graph last (((own_is s).excited_are last).0 on).non_input in omega arith)
+    | inl on ↦ absurd (
+        let below = driven_within c.graph last (((own_is s).excited_are last).0 on).non_input in omega arith)
     | inr off ↦ off
   ]
 
@@ -259,7 +260,8 @@ module _ (c : CodedGraph) (is : IsCoded c) (classes : List Class) (count : lengt
   module _ (next : List ℕ) (rings : AreRings c next) (members : List Member) (are : AreMembers c next members) where
     both_other : (s t : ℕ) → (code c s ≡ code c t → ⊥) → both s t ≡ 0
     both_other s t other =
-        let apart : ((own s).code == (own t).code) ≡ false = sym (same_codes s t) ∙ ne_eqb (code c s) (code c t) other in
+        let apart : ((own s).code == (own t).code) ≡ false =
+        sym (same_codes s t) ∙ ne_eqb (code c s) (code c t) other in
         let at = λ (b : Bool). ap one_if
         (meets_other (role b s) (role b t) (own s) (own t) (staying s) (staying t) apart) in
         ap₂ (λ m n. m + n) (at false) (at true)
@@ -336,7 +338,7 @@ module _ (c : CodedGraph) (is : IsCoded c) (classes : List Class) (count : lengt
         omega (arith, low, high)
       where
         at : (b : Bool) → cond (meet b x.state y.state) 1 0
-            ≡ cond (are_apart (entry_of classes b x) (entry_of classes b y)) 1 0 + left_over b x y
+            ≡ cond (are_apart (tallied classes b x) (tallied classes b y)) 1 0 + left_over b x y
         at b = ap₂ (λ k l. cond (meets (role b x.state) k (staying x.state) (role b y.state) l (staying y.state)) 1 0)
             (sym (member_key x x_in)) (sym (member_key y y_in))
             ∙ meets_parts (role b x.state) (role b y.state) x.key y.key (staying x.state) (staying y.state)
@@ -356,8 +358,8 @@ module _ (c : CodedGraph) (is : IsCoded c) (classes : List Class) (count : lengt
         let copies_twice = twice pair (λ x y. ap (λ w. cond w 1 0) (clash_back (key x) (key y)))
         (λ x. ap (λ w. cond w 1 0) (clashes_itself (key x))) (copies_of classes) in
         let members_twice = twice weight (λ x y. both_back x.state y.state) (λ x. both_itself x.state) members in
-        let split = pair_same weight (λ x y. told_apart classes x y + (left_over false x y + left_over true x y)) members
-        parts in
+        let split = pair_same weight (λ x y. told_apart classes x y + (left_over false x y + left_over true x y))
+        members parts in
         let two = pair_two (told_apart classes) (λ x y. left_over false x y + left_over true x y) members in
         let three = pair_two (left_over false) (left_over true) members in
         let low = left_sum false in

@@ -1,7 +1,12 @@
--- Keys at work: of four states with one code, two enable the same non-input events, so that five of the six pairs clash.
-use Rattle.std.proofs.Common.{◌≡◌, ℕ, false, [], ◌∷◌, refl}
+-- Keys at work: of four states with one code, two enable the same non-input events, so that five of the six pairs
+-- clash. And a trial insertion at work.
+use Rattle.std.proofs.Common.{◌≡◌, ℕ, List, false, [], ◌∷◌, refl}
+use Rattle.si_insert.specs.declared.partition.Class.{Class}
+use Rattle.si_insert.specs.declared.partition.Class.TheVariants.{Low, Rising, High, Falling}
 use Rattle.si_conflicts.specs.declared.keys.Key.{Key}
+use Rattle.si_conflicts.specs.declared.members.Member.{Member}
 use Rattle.si_conflicts.specs.Keys.{clashes, clash_count}
+use Rattle.si_conflicts.specs.Apart.{told_apart, pair_sum, switching_count}
 
 abbrev key : ℕ → ℕ → Key
 key code excited = record { code = code; excited = excited }
@@ -14,3 +19,30 @@ other_code = refl
 
 five : clash_count (key 5 0 ∷ key 5 2 ∷ key 4 3 ∷ key 5 3 ∷ key 5 2 ∷ []) ≡ 5
 five = refl
+
+-- An output z that switches once for every two pulses of the input a. The states 0 and 2 have one code, and so have 3
+-- and 5; z is excited at 2 and 5 alone.
+members : List Member
+members =
+    record { key = key 0 0; state = 0 }
+    ∷ record { key = key 0 2; state = 2 }
+    ∷ record { key = key 2 0; state = 3 }
+    ∷ record { key = key 2 2; state = 5 }
+    ∷ []
+
+-- the new signal rises at 2 and falls at 5: with z it is excited there, and not at 0 and at 3
+classes : List Class
+classes = Low ∷ Low ∷ Rising ∷ High ∷ High ∷ Falling ∷ []
+
+two_are_told : pair_sum (told_apart classes) members ≡ 2
+unfolding members classes
+two_are_told = refl
+
+none_is_left_over : switching_count classes (λ s. 0) members ≡ 0
+unfolding members classes
+none_is_left_over = refl
+
+-- a Low and a High state of one code have no copies at one value
+low_by_high : told_apart (Low ∷ High ∷ []) (record { key = key 4 1; state = 0 })
+    (record { key = key 4 2; state = 1 }) ≡ 0
+low_by_high = refl

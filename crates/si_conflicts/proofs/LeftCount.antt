@@ -111,7 +111,8 @@ pub trial_found : (c : CodedGraph) (classes : List Class) (next : List ℕ) (mem
     → told ≡ pair_sum (told_apart given) ms
     → ((staying : ℕ → ℕ) → AllStaying g given staying → rest ≡ switching_count given staying ms)
     → LeavesConflicts c classes (told + rest)
-trial_found c classes next members d g given ms told rest d_is g_is given_is ms_is coded lawful rings are told_is rest_is =
+trial_found c classes next members d g given ms told rest d_is g_is given_is ms_is coded lawful rings are told_is
+    rest_is =
     trial_is c (subst IsCoded d_is coded) classes lawful next members told rest rings are
     (told_is ∙ ap₂ (λ xs ys. pair_sum (told_apart xs) ys) given_is ms_is)
     (λ staying all. rest_is staying (there staying all)

@@ -107,13 +107,15 @@ module _ (c : CodedGraph) (coded : IsCoded c) (s low : ℕ) (x : Key) (within : 
     to_s : (u : ℕ) → t < u → IsConflict c (t, u) → IsConflict c (s, u)
     to_s u later is =
         let key = keys u is.within in
-        apart_conflict c coded.values s u x key.0 is_x key.1 (omega (arith, order)) is.within (sym first.holds ∙ is.same_code)
+        apart_conflict c coded.values s u x key.0 is_x key.1 (omega (arith, order)) is.within
+        (sym first.holds ∙ is.same_code)
         (λ equal. same_no_conflict c coded.values t u y key.0 is_y key.1 (sym same ∙ equal) is)
 
     -- no conflict of s from `low` on before one of t
     up_to : (j : ℕ) → low ≤ j → IsConflict c (s, j) → t < j
     up_to j from is = elim (cases_order j t) [
-      | inl equal ↦ absurd (same_no_conflict c coded.values s t x y is_x is_y same (subst (λ u. IsConflict c (s, u)) equal is))
+      | inl equal ↦ absurd (same_no_conflict c coded.values s t x y is_x is_y same
+          (subst (λ u. IsConflict c (s, u)) equal is))
       | inr (inl less) ↦ absurd (first.none_before j from less (sym is.same_code))
       | inr (inr more) ↦ more
     ]

@@ -157,7 +157,8 @@ module _ (c : CodedGraph) (is : IsCoded c) (s t : ℕ) (s_in : s < c.graph.state
   copies_equal b = same_test (copy_code c (copy s b) == copy_code c (copy t b)) (code c s == code c t)
       (λ e. eq-eqb (code c s) (code c t)
       (same_state_code b b (eqb-true (copy_code c (copy s b)) (copy_code c (copy t b)) e)))
-      (λ e. eq-eqb (copy_code c (copy s b)) (copy_code c (copy t b)) (same_copy_code b (eqb-true (code c s) (code c t) e)))
+      (λ e. eq-eqb (copy_code c (copy s b)) (copy_code c (copy t b))
+      (same_copy_code b (eqb-true (code c s) (code c t) e)))
 
   -- copies at two values have other codes
   pub copies_apart : (a b : Bool) → a ≢ b → (copy_code c (copy s a) == copy_code c (copy t b)) ≡ false

@@ -167,7 +167,8 @@ stays g classes s z = elim (decide.driven g.signals z) [
     same_arc a from sig i =
         record { from = from i; event = record { sig = sig i; up = a.event.up }; to = a.to }
 
-pub some_staying : (g : StateGraph) (classes : List Class) → (staying : ℕ → ℕ) × ((s : ℕ) → AreStaying g classes s (staying s))
+pub some_staying : (g : StateGraph) (classes : List Class)
+    → (staying : ℕ → ℕ) × ((s : ℕ) → AreStaying g classes s (staying s))
 some_staying g classes = ((λ s. (at s).0), (λ s. (at s).1))
   where
     at : (s : ℕ) → (k : ℕ) × AreStaying g classes s k

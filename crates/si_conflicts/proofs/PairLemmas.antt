@@ -205,7 +205,8 @@ module _ (c : CodedGraph) (values : HaveValues c) where
         | inl same ↦ (
             let later : p + 1 ≤ pair.1 = (let o = is.0.order in omega arith) in
             in_left (row k p (p + 1) ks) (rows (p + 1) ks) pair
-            (row_complete c values p k (keys_head c p k ks from) (p + 1) ks (omega arith) tail pair (same, later, is.0)))
+            (row_complete c values p k (keys_head c p k ks from) (p + 1) ks (omega arith) tail pair
+            (same, later, is.0)))
         | inr other ↦ (
             let more : p + 1 ≤ pair.0 = (let l = is.1 in omega arith) in
             in_right (row k p (p + 1) ks) (rows (p + 1) ks) pair (rows_complete (p + 1) ks tail pair (is.0, more)))

@@ -7,7 +7,8 @@ use Rattle.std.proofs.lemmas.List.FromFn.{length-range_with_len}
 use Rattle.std.proofs.lemmas.List.Sorted.{length_permutation}
 use Rattle.std.proofs.lemmas.List.Sums.{length-filter, count_by-le-length}
 use Rattle.std.specs.List.{range_with_len}
-use Rattle.si_base.specs.Codes.{CodedGraph, code}
+use Rattle.si_base.specs.Limits.{max_states}
+use Rattle.si_base.specs.Codes.{CodedGraph, IsCoded, code}
 use Rattle.si_conflicts.specs.declared.members.Member.{Member}
 use Rattle.si_conflicts.specs.Links.{IsFirstOfCode}
 use Rattle.si_conflicts.specs.Chains.{IsNextInRing, has_equal, with_equals, AreMembers}
@@ -71,9 +72,19 @@ module _ (next : List ℕ) (k : ℕ) where
 pub few_members : (c : CodedGraph) (next : List ℕ) (members : List Member) → AreMembers c next members
     → length members ≤ c.graph.states
 few_members c next members are =
-    let size = length_permutation (with_equals next c.graph.states) (map (λ (m : Member). m.state) members) are.states in
+    let size = length_permutation (with_equals next c.graph.states) (map (λ (m : Member). m.state) members)
+    are.states in
     let mapped = length-map members (λ (m : Member). m.state) in
     let kept = length-filter (has_equal next) (range_with_len 0 c.graph.states) in
     let few = count_by-le-length (has_equal next) (range_with_len 0 c.graph.states) in
     let all = length-range_with_len 0 c.graph.states in
     omega (arith, size, mapped, kept, few, all)
+
+-- the same where the parts are known by equations
+pub few_given : (c d : CodedGraph) (next : List ℕ) (members ms : List Member) → AreMembers c next members → d ≡ c
+    → IsCoded d → ms ≡ members → length ms ≤ max_states
+few_given c d next members ms are d_is coded ms_is =
+    let few = few_members c next members are in
+    let size = ap (λ (xs : List Member). length xs) ms_is in
+    let states = ap (λ (x : CodedGraph). x.graph.states) d_is in
+    omega (arith, few, size, states, coded.graph_is.few_states)

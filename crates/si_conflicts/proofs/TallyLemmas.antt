@@ -7,6 +7,7 @@ use Rattle.std.proofs.lemmas.List.Sums.{count_by-le-length, sum_by-le-sum_by}
 use Rattle.std.specs.List.{sum_by}
 use Rattle.std.specs.List.Sorted.{IsSorted}
 use Rattle.std.specs.Ordering.{nat_cmp, is_lt}
+use Rattle.si_base.specs.Limits.{max_states}
 use Rattle.si_base.proofs.Sorted.{nat_same}
 use Rattle.si_insert.specs.declared.partition.Class.{Class}
 use Rattle.si_insert.specs.Partition.{class_of}
@@ -16,7 +17,7 @@ use Rattle.si_conflicts.specs.declared.tally.Role.{Role}
 use Rattle.si_conflicts.specs.declared.tally.Role.TheVariants.{Absent, Plain, Switching}
 use Rattle.si_conflicts.specs.declared.tally.Tally.{Tally}
 use Rattle.si_conflicts.specs.Chains.{member_cmp}
-use Rattle.si_conflicts.specs.Apart.{role_at, is_plain, is_switching, Entry, are_apart, entry_of, told_apart, pair_sum, IsUpTo, AreUpTo, equal_keys, IsTally}
+use Rattle.si_conflicts.specs.Apart.{role_at, is_plain, is_switching, Tallied, are_apart, tallied, told_apart, pair_sum, IsUpTo, AreUpTo, equal_keys, IsTally, HasTally}
 use Rattle.si_conflicts.proofs.PairSums.{all_in, same_sum, sum_none, sum_two, sum_map, pair_push}
 
 abbrev one_if : Bool → ℕ
@@ -24,7 +25,8 @@ one_if b = cond b 1 0
 
 -- ---- counts
 count_none : {A : Type 0} (q : A → Bool) (xs : List A) → All (λ x. q x ≡ false) xs → count_by q xs ≡ 0
-count_none q xs none = sum_none (λ x. cond (q x) 1 0) xs (λ x there. ap one_if (all_in (λ x. q x ≡ false) xs x none there))
+count_none q xs none = sum_none (λ x. cond (q x) 1 0) xs
+    (λ x there. ap one_if (all_in (λ x. q x ≡ false) xs x none there))
 
 count_same : {A : Type 0} (p q : A → Bool) (xs : List A) → ((x : A) → p x ≡ q x) → count_by p xs ≡ count_by q xs
 count_same p q xs same = same_sum (λ x. cond (p x) 1 0) (λ x. cond (q x) 1 0) xs (λ x there. ap one_if (same x))
@@ -34,35 +36,35 @@ and_false true b is = is
 and_false false b is = refl
 
 -- ---- what one copy more meets
-pub meets_none : (key : Key) (entries : List Entry) → count_by (λ e. are_apart e (Absent, key)) entries ≡ 0
-meets_none key entries = sum_none (λ e. cond (are_apart e (Absent, key)) 1 0) entries (λ e there. ap one_if (at e.0 e.1))
+pub meets_none : (key : Key) (copies : List Tallied) → count_by (λ e. are_apart e (Absent, key)) copies ≡ 0
+meets_none key copies = sum_none (λ e. cond (are_apart e (Absent, key)) 1 0) copies (λ e there. ap one_if (at e.0 e.1))
   where
     at : (r : Role) (x : Key) → are_apart (r, x) (Absent, key) ≡ false
     at Absent x = refl
     at Plain x = refl
     at Switching x = refl
 
-pub meets_plain : (key : Key) (entries : List Entry) (t : Tally) → IsTally key entries t
-    → count_by (λ e. are_apart e (Plain, key)) entries + t.equal ≡ t.plain + t.switching
-meets_plain key entries t is =
-    let left = sum_two met equal entries in
-    let right = sum_two plain switching entries in
-    let same = same_sum (λ e. met e + equal e) (λ e. plain e + switching e) entries (λ e there. at e.0 e.1) in
+pub meets_plain : (key : Key) (copies : List Tallied) (t : Tally) → IsTally key copies t
+    → count_by (λ e. are_apart e (Plain, key)) copies + t.equal ≡ t.plain + t.switching
+meets_plain key copies t is =
+    let left = sum_two met equal copies in
+    let right = sum_two plain switching copies in
+    let same = same_sum (λ e. met e + equal e) (λ e. plain e + switching e) copies (λ e there. at e.0 e.1) in
     let p = is.plain in
     let q = is.equal in
     let r = is.switching in
     omega arith
   where
-    met : Entry → ℕ
+    met : Tallied → ℕ
     met e = cond (are_apart e (Plain, key)) 1 0
 
-    equal : Entry → ℕ
+    equal : Tallied → ℕ
     equal e = cond (is_plain e.0 && equal_keys e.1 key) 1 0
 
-    plain : Entry → ℕ
+    plain : Tallied → ℕ
     plain e = cond (is_plain e.0 && (e.1.code == key.code)) 1 0
 
-    switching : Entry → ℕ
+    switching : Tallied → ℕ
     switching e = cond (is_switching e.0 && (e.1.code == key.code)) 1 0
 
     one : (a b : Bool) → cond (a && not b) 1 0 + cond (a && b) 1 0 ≡ cond a 1 0 + 0
@@ -75,20 +77,21 @@ meets_plain key entries t is =
     at Plain x = one (x.code == key.code) (x.excited == key.excited)
     at Switching x = omega arith
 
-pub meets_switching : (key : Key) (entries : List Entry) (t : Tally) → IsTally key entries t
-    → t.plain ≡ count_by (λ e. are_apart e (Switching, key)) entries
-meets_switching key entries t is = is.plain
-    ∙ count_same (λ e. is_plain e.0 && (e.1.code == key.code)) (λ e. are_apart e (Switching, key)) entries (λ e. at e.0 e.1)
+pub meets_switching : (key : Key) (copies : List Tallied) (t : Tally) → IsTally key copies t
+    → t.plain ≡ count_by (λ e. are_apart e (Switching, key)) copies
+meets_switching key copies t is = is.plain
+    ∙ count_same (λ e. is_plain e.0 && (e.1.code == key.code)) (λ e. are_apart e (Switching, key)) copies
+    (λ e. at e.0 e.1)
   where
     at : (r : Role) (x : Key) → (is_plain r && (x.code == key.code)) ≡ are_apart (r, x) (Switching, key)
     at Absent x = refl
     at Plain x = refl
     at Switching x = refl
 
-pub fewer_equal : (key : Key) (entries : List Entry) (t : Tally) → IsTally key entries t → t.equal ≤ t.plain
-fewer_equal key entries t is =
+pub fewer_equal : (key : Key) (copies : List Tallied) (t : Tally) → IsTally key copies t → t.equal ≤ t.plain
+fewer_equal key copies t is =
     let less = sum_by-le-sum_by (λ e. cond (is_plain e.0 && equal_keys e.1 key) 1 0)
-    (λ e. cond (is_plain e.0 && (e.1.code == key.code)) 1 0) entries
+    (λ e. cond (is_plain e.0 && (e.1.code == key.code)) 1 0) copies
     (λ e. at (is_plain e.0) (e.1.code == key.code) (e.1.excited == key.excited)) in
     let p = is.plain in
     let q = is.equal in
@@ -126,45 +129,46 @@ other_key x y z (inr a) (inr b) other =
     and_false (x.code == z.code) (x.excited == z.excited) (ne_eqb x.excited z.excited (λ same.
     other (let l = a.1 in let m = b.1 in omega arith)))
 
-module _ (from to : Key) (order : IsUpTo from to) (entries : List Entry) (all : AreUpTo entries from) where
-  pub tally_of_code : from.code ≢ to.code → IsTally to entries (record { plain = 0; equal = 0; switching = 0 })
+module _ (from to : Key) (order : IsUpTo from to) (copies : List Tallied) (all : AreUpTo copies from) where
+  pub tally_of_code : from.code ≢ to.code → IsTally to copies (record { plain = 0; equal = 0; switching = 0 })
   tally_of_code other = record {
-    plain = sym (count_none (λ e. is_plain e.0 && (e.1.code == to.code)) entries
+    plain = sym (count_none (λ e. is_plain e.0 && (e.1.code == to.code)) copies
         (All-weaker (λ e. IsUpTo e.1 from) (λ e. (is_plain e.0 && (e.1.code == to.code)) ≡ false)
-        (λ e up. and_false (is_plain e.0) (e.1.code == to.code) (other_code e.1 from to up order other)) entries all));
-    equal = sym (count_none (λ e. is_plain e.0 && equal_keys e.1 to) entries
+        (λ e up. and_false (is_plain e.0) (e.1.code == to.code) (other_code e.1 from to up order other)) copies all));
+    equal = sym (count_none (λ e. is_plain e.0 && equal_keys e.1 to) copies
         (All-weaker (λ e. IsUpTo e.1 from) (λ e. (is_plain e.0 && equal_keys e.1 to) ≡ false)
         (λ e up. and_false (is_plain e.0) (equal_keys e.1 to)
-        (ap (λ w. w && (e.1.excited == to.excited)) (other_code e.1 from to up order other))) entries all));
-    switching = sym (count_none (λ e. is_switching e.0 && (e.1.code == to.code)) entries
+        (ap (λ w. w && (e.1.excited == to.excited)) (other_code e.1 from to up order other))) copies all));
+    switching = sym (count_none (λ e. is_switching e.0 && (e.1.code == to.code)) copies
         (All-weaker (λ e. IsUpTo e.1 from) (λ e. (is_switching e.0 && (e.1.code == to.code)) ≡ false)
-        (λ e up. and_false (is_switching e.0) (e.1.code == to.code) (other_code e.1 from to up order other)) entries all));
+        (λ e up. and_false (is_switching e.0) (e.1.code == to.code) (other_code e.1 from to up order other))
+        copies all));
   }
 
-  pub tally_of_key : (t : Tally) → IsTally from entries t → from.code ≡ to.code → from.excited ≢ to.excited
-      → IsTally to entries (record { plain = t.plain; equal = 0; switching = t.switching })
+  pub tally_of_key : (t : Tally) → IsTally from copies t → from.code ≡ to.code → from.excited ≢ to.excited
+      → IsTally to copies (record { plain = t.plain; equal = 0; switching = t.switching })
   tally_of_key t is codes other = record {
-    plain = is.plain ∙ ap (λ k. count_by (λ e. is_plain e.0 && (e.1.code == k)) entries) codes;
-    equal = sym (count_none (λ e. is_plain e.0 && equal_keys e.1 to) entries
+    plain = is.plain ∙ ap (λ k. count_by (λ e. is_plain e.0 && (e.1.code == k)) copies) codes;
+    equal = sym (count_none (λ e. is_plain e.0 && equal_keys e.1 to) copies
         (All-weaker (λ e. IsUpTo e.1 from) (λ e. (is_plain e.0 && equal_keys e.1 to) ≡ false)
-        (λ e up. and_false (is_plain e.0) (equal_keys e.1 to) (other_key e.1 from to up order other)) entries all));
-    switching = is.switching ∙ ap (λ k. count_by (λ e. is_switching e.0 && (e.1.code == k)) entries) codes;
+        (λ e up. and_false (is_plain e.0) (equal_keys e.1 to) (other_key e.1 from to up order other)) copies all));
+    switching = is.switching ∙ ap (λ k. count_by (λ e. is_switching e.0 && (e.1.code == k)) copies) codes;
   }
 
 -- the tally of no copy is that of copies that count nothing
-pub no_tally : (key : Key) (entries : List Entry) (t : Tally) → IsTally key [] t
-    → IsTally key entries (record { plain = 0; equal = 0; switching = 0 }) → IsTally key entries t
-no_tally key entries t none is = record {
+pub no_tally : (key : Key) (copies : List Tallied) (t : Tally) → IsTally key [] t
+    → IsTally key copies (record { plain = 0; equal = 0; switching = 0 }) → IsTally key copies t
+no_tally key copies t none is = record {
   plain = none.plain ∙ is.plain;
   equal = none.equal ∙ is.equal;
   switching = none.switching ∙ is.switching;
 }
 
-pub tally_same : (from to : Key) (entries : List Entry) (t : Tally) → IsTally from entries t → from.code ≡ to.code
-    → from.excited ≡ to.excited → IsTally to entries t
-tally_same from to entries t is codes excited =
+pub tally_same : (from to : Key) (copies : List Tallied) (t : Tally) → IsTally from copies t → from.code ≡ to.code
+    → from.excited ≡ to.excited → IsTally to copies t
+tally_same from to copies t is codes excited =
     let same : from ≡ to = λ i. record { code = codes i; excited = excited i } in
-    subst (λ k. IsTally k entries t) same is
+    subst (λ k. IsTally k copies t) same is
 
 -- ---- the order of members
 less_code : (a b : ℕ) → a < b → nat_cmp a b ≡ Less
@@ -185,54 +189,56 @@ up_to x y sorted = elim (cases_order x.key.code y.key.code) [
 ]
 
 -- ---- one member more
-abbrev pub entries_to : List Class → Bool → List Member → ℕ → List Entry
-entries_to classes b ms i = map (entry_of classes b) (take i ms)
+abbrev pub tallied_to : List Class → Bool → List Member → ℕ → List Tallied
+tallied_to classes b ms i = map (tallied classes b) (take i ms)
 
-pub entries_length : (classes : List Class) (b : Bool) (ms : List Member) (i : ℕ) → i < length ms
-    → length (entries_to classes b ms i) ≡ i
-entries_length classes b ms i inside =
-    length-map (take i ms) (entry_of classes b) ∙ length-take-le i ms (omega arith)
+pub tallied_length : (classes : List Class) (b : Bool) (ms : List Member) (i : ℕ) → i < length ms
+    → length (tallied_to classes b ms i) ≡ i
+tallied_length classes b ms i inside =
+    length-map (take i ms) (tallied classes b) ∙ length-take-le i ms (omega arith)
 
-module _ (classes : List Class) (ms : List Member) (i : ℕ) (m : Member) (inside : i < length ms) (at : m ≡ get_or ms i m)
+module _ (classes : List Class) (ms : List Member) (i : ℕ) (m : Member) (inside : i < length ms)
+    (at : m ≡ get_or ms i m)
   where
     taken : take (i + 1) ms ≡ take i ms ++ m ∷ []
     taken = take_more ms i m inside ∙ ap (λ x. take i ms ++ x ∷ []) (sym at)
 
     module _ (key : Key) (key_is : key ≡ m.key) where
-      entry_is : (b : Bool) (role : Role) → role ≡ role_at b (class_of classes m.state)
-          → entry_of classes b m ≡ (role, key)
-      entry_is b role is = sym (λ j. (is j, key_is j))
+      tallied_is : (b : Bool) (role : Role) → role ≡ role_at b (class_of classes m.state)
+          → tallied classes b m ≡ (role, key)
+      tallied_is b role is = sym (λ j. (is j, key_is j))
 
       pub pass_total : (total low high new : ℕ) (at_low at_high : Role)
           → at_low ≡ role_at false (class_of classes m.state) → at_high ≡ role_at true (class_of classes m.state)
           → total ≡ pair_sum (told_apart classes) (take i ms)
-          → low ≡ count_by (λ e. are_apart e (at_low, key)) (entries_to classes false ms i)
-          → high ≡ count_by (λ e. are_apart e (at_high, key)) (entries_to classes true ms i)
+          → low ≡ count_by (λ e. are_apart e (at_low, key)) (tallied_to classes false ms i)
+          → high ≡ count_by (λ e. are_apart e (at_high, key)) (tallied_to classes true ms i)
           → new ≡ total + (low + high) → new ≡ pair_sum (told_apart classes) (take (i + 1) ms)
       pass_total total low high new at_low at_high low_is high_is old is_low is_high sum =
           let more = ap (pair_sum (told_apart classes)) taken in
           let push = pair_push (told_apart classes) (take i ms) m in
-          let two = sum_two (λ y. cond (are_apart (entry_of classes false y) (entry_of classes false m)) 1 0)
-          (λ y. cond (are_apart (entry_of classes true y) (entry_of classes true m)) 1 0) (take i ms) in
+          let two = sum_two (λ y. cond (are_apart (tallied classes false y) (tallied classes false m)) 1 0)
+          (λ y. cond (are_apart (tallied classes true y) (tallied classes true m)) 1 0) (take i ms) in
           let lower = met false at_low low_is in
           let higher = met true at_high high_is in
           omega (arith, more, push, two, lower, higher, old, is_low, is_high, sum)
         where
           met : (b : Bool) (role : Role) → role ≡ role_at b (class_of classes m.state)
-              → count_by (λ e. are_apart e (role, key)) (entries_to classes b ms i)
-              ≡ sum_by (λ y. cond (are_apart (entry_of classes b y) (entry_of classes b m)) 1 0) (take i ms)
+              → count_by (λ e. are_apart e (role, key)) (tallied_to classes b ms i)
+              ≡ sum_by (λ y. cond (are_apart (tallied classes b y) (tallied classes b m)) 1 0) (take i ms)
           met b role is =
-              ap (λ (x : Entry). count_by (λ e. are_apart e x) (entries_to classes b ms i)) (sym (entry_is b role is))
-              ∙ sum_map (entry_of classes b) (λ e. cond (are_apart e (entry_of classes b m)) 1 0) (take i ms)
+              ap (λ (x : Tallied). count_by (λ e. are_apart e x) (tallied_to classes b ms i))
+              (sym (tallied_is b role is))
+              ∙ sum_map (tallied classes b) (λ e. cond (are_apart e (tallied classes b m)) 1 0) (take i ms)
 
       pub pass_tally : (b : Bool) (role : Role) (t : Tally) → role ≡ role_at b (class_of classes m.state)
-          → IsTally key (entries_to classes b ms i ++ (role, key) ∷ []) t
-          → IsTally key (entries_to classes b ms (i + 1)) t
+          → IsTally key (tallied_to classes b ms i ++ (role, key) ∷ []) t
+          → IsTally key (tallied_to classes b ms (i + 1)) t
       pass_tally b role t role_is is = subst (λ es. IsTally key es t) (sym all) is
         where
-          all : entries_to classes b ms (i + 1) ≡ entries_to classes b ms i ++ (role, key) ∷ []
-          all = ap (map (entry_of classes b)) taken ∙ map-append (entry_of classes b) (take i ms) (m ∷ [])
-              ∙ ap (λ e. entries_to classes b ms i ++ e ∷ []) (entry_is b role role_is)
+          all : tallied_to classes b ms (i + 1) ≡ tallied_to classes b ms i ++ (role, key) ∷ []
+          all = ap (map (tallied classes b)) taken ∙ map-append (tallied classes b) (take i ms) (m ∷ [])
+              ∙ ap (λ e. tallied_to classes b ms i ++ e ∷ []) (tallied_is b role role_is)
 
       pub pass_order : (from : Key) → All (λ y. IsUpTo y.key from) (take i ms) → IsUpTo from key
           → All (λ y. IsUpTo y.key key) (take (i + 1) ms)
@@ -256,16 +262,32 @@ module _ (classes : List Class) (ms : List Member) (i : ℕ) (m : Member) (insid
       pub next_key : (from : Key) → ((d : Member) → i < length ms → IsUpTo from (get_or ms i d).key) → IsUpTo from key
       next_key from next = subst (λ k. IsUpTo from k) (ap (λ (x : Member). x.key) (sym at) ∙ sym key_is) (next m inside)
 
-pub entries_up_to : (classes : List Class) (b : Bool) (ms : List Member) (key : Key)
-    → All (λ y. IsUpTo y.key key) ms → AreUpTo (map (entry_of classes b) ms) key
-entries_up_to classes b ms key all = All-map (λ e. IsUpTo e.1 key) (entry_of classes b) ms all
+pub tallied_up_to : (classes : List Class) (b : Bool) (ms : List Member) (key : Key)
+    → All (λ y. IsUpTo y.key key) ms → AreUpTo (map (tallied classes b) ms) key
+tallied_up_to classes b ms key all = All-map (λ e. IsUpTo e.1 key) (tallied classes b) ms all
 
-pub few_met : (q : Entry → Bool) (classes : List Class) (b : Bool) (ms : List Member) (i n : ℕ)
-    → n ≡ count_by q (entries_to classes b ms i) → i < length ms → n ≤ i
+pub few_met : (q : Tallied → Bool) (classes : List Class) (b : Bool) (ms : List Member) (i n : ℕ)
+    → n ≡ count_by q (tallied_to classes b ms i) → i < length ms → n ≤ i
 few_met q classes b ms i n is inside =
-    let few = count_by-le-length q (entries_to classes b ms i) in
-    let size = entries_length classes b ms i inside in
+    let few = count_by-le-length q (tallied_to classes b ms i) in
+    let size = tallied_length classes b ms i inside in
     omega arith
+
+-- the tally of the members before i, as the next key sees it
+pub tally_at : (classes : List Class) (b : Bool) (ms : List Member) (i : ℕ) (from to : Key) (old new : Tally)
+    → ((copies : List Tallied) → AreUpTo copies from → IsTally from copies old → IsTally to copies new)
+    → All (λ y. IsUpTo y.key from) (take i ms) → IsTally from (tallied_to classes b ms i) old
+    → IsTally to (tallied_to classes b ms i) new
+tally_at classes b ms i from to old new moved order is =
+    moved (tallied_to classes b ms i) (tallied_up_to classes b (take i ms) from order) is
+
+pub has_tally : (classes : List Class) (b : Bool) (ms : List Member) (i : ℕ) (key : Key) (t : Tally) → i < length ms
+    → length ms ≤ max_states → IsTally key (tallied_to classes b ms i) t → HasTally key t
+has_tally classes b ms i key t inside few is = record {
+  copies = tallied_to classes b ms i;
+  few = (let size = tallied_length classes b ms i inside in omega arith);
+  is = is;
+}
 
 -- no key is before the first
 pub first_key : (x : Key) → IsUpTo (record { code = 0; excited = 0 }) x

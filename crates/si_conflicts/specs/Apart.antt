@@ -1,7 +1,8 @@
 -- What tells copies of states of one code apart, at a value of the new signal.
-use Rattle.std.specs.Prelude.{◌≡◌, ℕ, ◌+◌, ◌<◌, ◌≤◌, ◌==◌, ◌&&◌, ◌⊎◌, ◌↔◌, Bool, true, false, List, [], ◌∷◌, map, filter, count_by, All, if◌then◌else◌}
+use Rattle.std.specs.Prelude.{◌≡◌, ℕ, ◌+◌, ◌<◌, ◌≤◌, ◌==◌, ◌&&◌, ◌⊎◌, ◌↔◌, Bool, true, false, List, [], ◌∷◌, length, map, filter, count_by, All, if◌then◌else◌}
 use Rattle.std.specs.List.{sum_by}
 use Rattle.si_base.specs.Bits.{bit}
+use Rattle.si_base.specs.Limits.{max_states}
 use Rattle.si_base.specs.Graph.{StateGraph, Step, IsNonInput}
 use Rattle.si_insert.specs.declared.partition.Class.{Class}
 use Rattle.si_insert.specs.declared.partition.Class.TheVariants.{Low, Rising, High, Falling}
@@ -13,7 +14,8 @@ use Rattle.si_conflicts.specs.declared.tally.Role.TheVariants.{Absent, Plain, Sw
 use Rattle.si_conflicts.specs.declared.tally.Tally.{Tally}
 use Rattle.si_conflicts.specs.Keys.{clashes, clash_count}
 
--- the copy of a state of that class at the value: there is none, or the new signal is stable there, or may switch
+-- the copy of a state of that class at the value: there is none, or the new signal is stable
+-- there, or may switch
 abbrev pub role_at : Bool → Class → Role
 role_at false Low = Plain
 role_at false Rising = Switching
@@ -33,25 +35,25 @@ is_switching Switching = true
 is_switching r = false
 
 -- a copy at some value, by its role and the key of its state
-abbrev pub Entry : Type 0
-Entry = Role × Key
+abbrev pub Tallied : Type 0
+Tallied = Role × Key
 
--- two copies at one value are a conflict, by the new signal or, where it is stable at both, by the others. Of two at
--- which it may switch this tells nothing.
-abbrev pub are_apart : Entry → Entry → Bool
+-- two copies at one value are a conflict, by the new signal or, where it is stable at both, by the
+-- others. Of two at which it may switch this tells nothing.
+abbrev pub are_apart : Tallied → Tallied → Bool
 are_apart (Plain, x) (Plain, y) = clashes x y
 are_apart (Plain, x) (Switching, y) = x.code == y.code
 are_apart (Switching, x) (Plain, y) = x.code == y.code
 are_apart (r, x) (s, y) = false
 
-abbrev pub entry_of : List Class → Bool → Member → Entry
-entry_of classes value m = (role_at value (class_of classes m.state), m.key)
+abbrev pub tallied : List Class → Bool → Member → Tallied
+tallied classes value m = (role_at value (class_of classes m.state), m.key)
 
 -- at how many values copies of two states are a conflict so
 abbrev pub told_apart : List Class → Member → Member → ℕ
 told_apart classes x y =
-    (if are_apart (entry_of classes false x) (entry_of classes false y) then 1 else 0)
-    + (if are_apart (entry_of classes true x) (entry_of classes true y) then 1 else 0)
+    (if are_apart (tallied classes false x) (tallied classes false y) then 1 else 0)
+    + (if are_apart (tallied classes true x) (tallied classes true y) then 1 else 0)
 
 -- the sum over all pairs of a list
 abbrev pub pair_sum : {A : Type 0} → (A → A → ℕ) → List A → ℕ
@@ -62,17 +64,24 @@ pair_sum weight (x ∷ xs) = sum_by (weight x) xs + pair_sum weight xs
 abbrev pub IsUpTo : Key → Key → Type 0
 IsUpTo x y = (x.code < y.code) ⊎ ((x.code ≡ y.code) × (x.excited ≤ y.excited))
 
-abbrev pub AreUpTo : List Entry → Key → Type 0
-AreUpTo entries key = All (λ e. IsUpTo e.1 key) entries
+abbrev pub AreUpTo : List Tallied → Key → Type 0
+AreUpTo copies key = All (λ e. IsUpTo e.1 key) copies
 
 abbrev pub equal_keys : Key → Key → Bool
 equal_keys x y = (x.code == y.code) && (x.excited == y.excited)
 
 -- the tally of these copies, as a copy with that key sees them
-pub record IsTally (key : Key) (entries : List Entry) (tally : Tally) : Type 0 where
-  pub plain : tally.plain ≡ count_by (λ e. is_plain e.0 && (e.1.code == key.code)) entries
-  pub equal : tally.equal ≡ count_by (λ e. is_plain e.0 && equal_keys e.1 key) entries
-  pub switching : tally.switching ≡ count_by (λ e. is_switching e.0 && (e.1.code == key.code)) entries
+pub record IsTally (key : Key) (copies : List Tallied) (tally : Tally) : Type 0 where
+  pub plain : tally.plain ≡ count_by (λ e. is_plain e.0 && (e.1.code == key.code)) copies
+  pub equal : tally.equal ≡ count_by (λ e. is_plain e.0 && equal_keys e.1 key) copies
+  pub switching : tally.switching
+      ≡ count_by (λ e. is_switching e.0 && (e.1.code == key.code)) copies
+
+-- it is the tally of some copies, and of no more than there are states
+pub record HasTally (key : Key) (tally : Tally) : Type 0 where
+  pub copies : List Tallied
+  pub few : length copies ≤ max_states
+  pub is : IsTally key copies tally
 
 -- the non-input z leads from s to a state of its class
 pub record Stays (g : StateGraph) (classes : List Class) (s z : ℕ) : Type 0 where
@@ -88,10 +97,10 @@ AreStaying g classes s bits = (z : ℕ) → (bit bits z ≡ true) ↔ Stays g cl
 
 -- those of each state
 abbrev pub AllStaying : StateGraph → List Class → (ℕ → ℕ) → Type 0
-AllStaying g classes staying =
-    (s : ℕ) → s < g.states → AreStaying g classes s (staying s)
+AllStaying g classes staying = (s : ℕ) → s < g.states → AreStaying g classes s (staying s)
 
--- the members at whose copies at that value the new signal may switch, by what else is excited there
+-- the members at whose copies at that value the new signal may switch, with what else is excited
+-- there
 abbrev pub switching_keys : List Class → (ℕ → ℕ) → Bool → List Member → List Key
 switching_keys classes staying value members =
     map (λ m. record { code = m.key.code; excited = staying m.state })

@@ -1,4 +1,4 @@
-//! All conflicts of a coded graph, and their number.
+//! All conflicts of a coded graph, their number, and how many an insertion would leave.
 #![tactic(auto)]
 
 pub mod chains;

@@ -1,8 +1,8 @@
 //! Copies of states of one code, counted at a value of the new signal.
 
-ghost use Rattle.std.specs.Prelude.{◌≡◌, ◌+◌, ◌<◌, ◌≤◌, ◌^◌, ℕ, List, [], ◌∷◌, ◌++◌, count_by, length};
+ghost use Rattle.std.specs.Prelude.{◌≡◌, ◌+◌, ◌<◌, ◌≤◌, ℕ, List, [], ◌∷◌, ◌++◌, count_by};
 ghost use Rattle.si_conflicts.specs.Apart as Apart;
-ghost use Rattle.si_conflicts.specs.Apart.{role_at, are_apart, Entry, IsTally, IsUpTo, AreUpTo};
+ghost use Rattle.si_conflicts.specs.Apart.{role_at, are_apart, Tallied, HasTally, IsTally, IsUpTo, AreUpTo};
 
 use crate::keys::Key;
 use si_insert::partition::Class;
@@ -67,8 +67,8 @@ impl Tally {
     /// and the second isn't before it.
     pub fn moved(self, from: &Key, to: &Key) -> Tally
         requires { IsUpTo from.now to.now }
-        ensures { (entries : List Entry) → AreUpTo entries from.now → IsTally from.now entries self
-            → IsTally to.now entries result }
+        ensures { (copies : List Tallied) → AreUpTo copies from.now → IsTally from.now copies self
+            → IsTally to.now copies result }
     {
         if from.code != to.code {
             Tally::none()
@@ -81,9 +81,9 @@ impl Tally {
 
     /// How many of the copies are a conflict with one more of that role.
     pub fn conflicts(self, role: Role, key: &Key) -> u32
-        requires { (entries : List Entry) × (length entries < 2 ^ 31) × IsTally key.now entries self }
-        ensures { (entries : List Entry) → IsTally key.now entries self
-            → result ≡ count_by (λ e. are_apart e (role, key.now)) entries }
+        requires { HasTally key.now self }
+        ensures { (copies : List Tallied) → IsTally key.now copies self
+            → result ≡ count_by (λ e. are_apart e (role, key.now)) copies }
     {
         let _ = key;
         match role {
@@ -95,9 +95,9 @@ impl Tally {
 
     /// The tally with that copy.
     pub fn with(self, role: Role, key: &Key) -> Tally
-        requires { (entries : List Entry) × (length entries < 2 ^ 31) × IsTally key.now entries self }
-        ensures { (entries : List Entry) → IsTally key.now entries self
-            → IsTally key.now (entries ++ (role, key.now) ∷ []) result }
+        requires { HasTally key.now self }
+        ensures { (copies : List Tallied) → IsTally key.now copies self
+            → IsTally key.now (copies ++ (role, key.now) ∷ []) result }
     {
         let _ = key;
         match role {

@@ -71,9 +71,9 @@ pub cut_further : (c : CodedGraph) (z : ℕ) (value : Bool) (signals fewer : ℕ
     → AreProjected codes fewer part → bit_and signals fewer ≡ fewer → AreCodes c z value fewer part
 cut_further c z value signals fewer codes part are projected within k = (
   λ there.
-  (let (m, in_codes, is) = (projected k).0 there in
-  let (s, inside, next, is_m) = (are m).0 in_codes in
-  (s, inside, next, cut s ∙ ap (λ n. bit_and n fewer) is_m ∙ is)),
+      (let (m, in_codes, is) = (projected k).0 there in
+      let (s, inside, next, is_m) = (are m).0 in_codes in
+      (s, inside, next, cut s ∙ ap (λ n. bit_and n fewer) is_m ∙ is)),
   λ (s, inside, next, is). (projected k).1 (bit_and (code c s) signals, (are (bit_and (code c s) signals)).1 (s, inside, next, refl), sym (cut s) ∙ is),
 )
   where
@@ -94,7 +94,7 @@ fewer_within signals i there = same_codes _ _ (λ j. bit-and signals (flip signa
     ]
 
 -- ---- signals that determine the next value
-all_from : (c : CodedGraph) (test : ℕ × ℕ → Bool) → ((s : ℕ) → s < length c.codes → test (s, code c s) ≡ true) → list_all test (states_of c) ≡ true
+pub all_from : (c : CodedGraph) (test : ℕ × ℕ → Bool) → ((s : ℕ) → s < length c.codes → test (s, code c s) ≡ true) → list_all test (states_of c) ≡ true
 all_from c test each = list_all-from_AllPass test (states_of c)
     (λ k d inside. (let within : k < length c.codes = rw states_are at inside in ap test (state_at c k d within) ∙ each k within))
 

@@ -2,3 +2,5 @@ pub mod StateLemmas
 pub mod SearchLemmas
 pub mod CodeLemmas
 pub mod WeightLemmas
+pub mod FitLemmas
+pub mod SupportLemmas

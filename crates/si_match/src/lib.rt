@@ -3,6 +3,7 @@
 
 mod codes;
 pub mod fit;
+pub mod laws;
 mod refute;
 mod search;
 mod state;

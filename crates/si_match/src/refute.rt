@@ -43,7 +43,13 @@ fn is_refuted_at(coded: &Coded, z: Sig, cell: &Cell, literals: &[PinLiteral], s:
     let code = coded.code(s);
     let pins = cell.pins.len();
     let values = values_of(literals, code, false).set(Sig(pins as u8), code.get(z));
-    !can_be(&cell.sum, values, literals.len(), pins, coded.next_value(s, z))
+    !can_be(
+        &cell.sum,
+        values,
+        literals.len(),
+        pins,
+        coded.next_value(s, z),
+    )
 }
 
 /// Whether some state refutes all instances of the cell with these literals at its first pins.

@@ -1,6 +1,6 @@
 -- Each block of a graph has a place for each of its states.
 use Rattle.std.proofs.Common.{◌≡◌, ◌==◌, ℕ, suc, ◌<◌, not, arith, Bool, List, [], ◌∷◌, ◌++◌, length, map, All, sym, subst}
-use Rattle.std.specs.List.{list_any, range_with_len}
+use Rattle.std.specs.List.{list_any}
 use Rattle.std.proofs.lemmas.List.Elements.{All-append, All-cons, All-filter, All-nil, All-take}
 use Rattle.std.proofs.lemmas.List.FromFn.{length-map-range_with_len}
 use Rattle.si_base.specs.declared.ids.Event.{Event}

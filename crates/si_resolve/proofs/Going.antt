@@ -1,5 +1,5 @@
 -- How far resolving goes: turn after turn.
-use Rattle.std.proofs.Common.{◌≡◌, ℕ, ◌+◌, ◌-◌, ◌<◌, ◌≤◌, List, [], ◌∷◌, ◌++◌, length, All, IsTrue, refl, sym, ap, subst, ◌∙◌, arith, append_assoc, length-append}
+use Rattle.std.proofs.Common.{◌≡◌, ℕ, ◌-◌, ◌<◌, List, [], ◌∷◌, ◌++◌, length, All, IsTrue, refl, sym, ap, subst, ◌∙◌, arith, append_assoc, length-append}
 use Rattle.std.proofs.lemmas.List.Elements.{All-append, All-cons, All-nil}
 use Rattle.si_base.specs.declared.graph.Signal.{Signal}
 use Rattle.si_base.specs.Codes.{CodedGraph}
@@ -9,8 +9,8 @@ use Rattle.si_checks.specs.declared.distinct.NotDistinct.{NotDistinct}
 use Rattle.si_checks.specs.declared.distinct.NotDistinct.TheVariants.{Conflict}
 use Rattle.si_checks.specs.Faults.{ShowsConflict}
 use Rattle.si_insert.specs.declared.lineage.TraceStep.{TraceStep}
-use Rattle.si_insert.specs.Insertion.{new_signal, coded}
-use Rattle.si_insert.specs.Lineage.{Current, History, Inserts, Extends, grown}
+use Rattle.si_insert.specs.Insertion.{new_signal}
+use Rattle.si_insert.specs.Lineage.{Current, History, Inserts, Extends}
 use Rattle.si_resolve.specs.Best.{NoneImproves, IsStuck}
 use Rattle.si_resolve.specs.Trace.{Resolves, IsResolving, GoesOn}
 use Rattle.si_resolve.proofs.OneBest.{none_improves_is_stuck}

@@ -1,3 +1,4 @@
+mod Examples
 pub mod OneBest
 pub mod Searching
 pub mod Traces

@@ -30,7 +30,7 @@ one_best c x y is a b =
     let one = a.first.holds in
     let two = other.holds in
     let n = neither x.conflicts y.conflicts (x.j ∷ x.i ∷ []) (y.j ∷ y.i ∷ [])
-        (other.none_before x one) (a.first.none_before y two) in
+    (other.none_before x one) (a.first.none_before y two) in
     let m = neither x.j y.j (x.i ∷ []) (y.i ∷ []) n.1 n.2 in
     let l = neither x.i y.i [] [] m.1 m.2 in
     let Q : ℕ → Type 0 = λ k. AreClasses c.graph (block_at a.blocks k) (block_at a.blocks y.j) y.classes in

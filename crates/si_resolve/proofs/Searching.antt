@@ -74,7 +74,7 @@ one_number c blocks x y is a b same_j same_i =
     let f = a.accepted.lawful.falls in
     let classes : x.classes ≡ y.classes =
     classes_unique c.graph (block_at blocks x.i) (block_at blocks x.j) x.classes y.classes
-        r.0 f.0 is.graph_is is.connected
+    r.0 f.0 is.graph_is is.connected
     ((a.are.rising r.0 r.1).0 r.2) r.1 ((a.are.falling f.0 f.1).0 f.2) f.1 a.are are in
     let P : List Class → Type 0 = λ z. LeavesConflicts c z y.conflicts in
     one_left c is x.classes a.accepted.lawful x.conflicts y.conflicts a.leaves (subst P (sym classes) b.leaves)
@@ -134,11 +134,11 @@ search_take c blocks n j i o x is choice at_j at_i below so = record {
     ahead : (o : Option Choice) → x.conflicts < bar n o → IsBestSoFar c blocks n j i o → (y : Choice)
         → IsChoice c blocks y → IsEarlier y j i → Before (choice_place y) (choice_place x) → ⊥
     ahead None below so y is_y at before =
-          (let le = before_le y.conflicts x.conflicts (y.j ∷ y.i ∷ []) (x.j ∷ x.i ∷ []) before in
-          so y is_y at (omega (arith, le, below)))
+        (let le = before_le y.conflicts x.conflicts (y.j ∷ y.i ∷ []) (x.j ∷ x.i ∷ []) before in
+        so y is_y at (omega (arith, le, below)))
     ahead (Some z) below so y is_y at before =
-          (let le = before_le y.conflicts x.conflicts (y.j ∷ y.i ∷ []) (x.j ∷ x.i ∷ []) before in
-          so.none_before y is_y at (inl (omega (arith, le, below))))
+        (let le = before_le y.conflicts x.conflicts (y.j ∷ y.i ∷ []) (x.j ∷ x.i ∷ []) before in
+        so.none_before y is_y at (inl (omega (arith, le, below))))
 
     same : (y : Choice) → IsChoice c blocks y → (y.j ≡ j) × (y.i ≡ i) → Before (choice_place y) (choice_place x) → ⊥
     same y is_y there before =
@@ -152,7 +152,7 @@ search_take c blocks n j i o x is choice at_j at_i below so = record {
 -- the rest of a row is passed over where none of it gets below the bar, as at its end
 pub search_row : (c : CodedGraph) (blocks : List (List Bool)) (n j i : ℕ) (o : Option Choice)
     → ((y : Choice) → IsChoice c blocks y → y.j ≡ j
-        → IsEarlier y j i ⊎ ((IsEarlier y j i → ⊥) × (bar n o ≤ y.conflicts)))
+    → IsEarlier y j i ⊎ ((IsEarlier y j i → ⊥) × (bar n o ≤ y.conflicts)))
     → IsBestSoFar c blocks n j i o → IsBestSoFar c blocks n (j + 1) 0 o
 search_row c blocks n j i None high so = λ y is earlier fewer. elim (earlier_row y j i earlier) [
   | inl before ↦ so y is before fewer
@@ -164,8 +164,10 @@ search_row c blocks n j i (Some x) high so = record {
   fewer = so.fewer;
   none_before = λ y is earlier before. elim (earlier_row y j i earlier) [
     | inl at ↦ so.none_before y is at before
-    | inr there ↦ elim (high y is there) [ inl at ↦ so.none_before y is at before
-        | inr late ↦ behind y there late.0 late.1 before ]
+    | inr there ↦ elim (high y is there) [
+      | inl at ↦ so.none_before y is at before
+      | inr late ↦ behind y there late.0 late.1 before
+    ]
   ];
 }
   where
@@ -185,7 +187,9 @@ search_row c blocks n j i (Some x) high so = record {
 pub search_finds : (c : CodedGraph) (blocks : List (List Bool)) (n : ℕ) (x : Choice) → AreBlocks c blocks
     → HasConflicts c n → IsBestSoFar c blocks n (length blocks) 0 (Some x) → Improves c x
 search_finds c blocks n x are counted so = record {
-  best = record { blocks = blocks; are = are;
+  best = record {
+    blocks = blocks;
+    are = are;
     first = record {
       holds = so.choice;
       none_before = λ y is before. so.none_before y is (inl is.candidate.within) before;
@@ -212,5 +216,5 @@ pub block_refuses : (c : CodedGraph) (blocks : List (List Bool)) (x : Choice) �
     → MaySwitch c.graph (IsIn (block_at blocks x.i)) × MaySwitch c.graph (IsIn (block_at blocks x.j))
 block_refuses c blocks x is proper choice =
     let m = (accepted_by_blocks c (block_at blocks x.i) (block_at blocks x.j) x.classes is proper
-        choice.accepted.lawful choice.are).0 choice.accepted in
+    choice.accepted.lawful choice.are).0 choice.accepted in
     (m.0, m.1)

@@ -42,12 +42,12 @@ pub coded_next : (v : Current) (p : TraceStep) (u : Current) → IsCoded v.coded
 coded_next v p u is ins =
     let P : Current → Type 0 = λ x. IsCoded x.coded in
     subst P (sym ins.makes) (is_coded v.coded p.partition (new_signal p.name) ins.copies ins.graph is
-        ins.accepted.lawful ins.insertion ins.limits)
+    ins.accepted.lawful ins.insertion ins.limits)
 
 pub one_insertion : (v : Current) (p : TraceStep) (u w : Current) → Inserts v p u → Inserts v p w → u ≡ w
 one_insertion v p u w a b =
     let same = one_graph v.coded.graph p.partition (new_signal p.name) a.copies b.copies a.graph b.graph
-        a.insertion b.insertion a.limits b.limits in
+    a.insertion b.insertion a.limits b.limits in
     a.makes ∙ ap₂ (grown v) same.0 same.1 ∙ sym b.makes
 
 same_step : (p q : TraceStep) → p.name ≡ q.name → p.partition ≡ q.partition → p ≡ q
@@ -90,7 +90,7 @@ traces_are_short v [] w n is same counted =
     (n, subst P same counted, omega arith)
 traces_are_short v (p ∷ trace) w n is (u, r, rest) counted =
     let next = traces_are_short u trace w r.choice.conflicts (coded_next v p u is r.inserts) rest
-        (count_next v p u is r) in
+    (count_next v p u is r) in
     let before = one_count v.coded n r.improves.before counted r.improves.counted in
     (next.0, next.1, omega (arith, next.2, r.improves.fewer, before))
 
@@ -160,7 +160,7 @@ traces_are_lineages given before [] v w l same =
 traces_are_lineages given before (p ∷ trace) v w l (u, r, rest) =
     let Q : List TraceStep → Type 0 = λ xs. IsLineage given xs w in
     subst Q (append_assoc before (p ∷ []) trace)
-        (traces_are_lineages given (before ++ p ∷ []) trace u w (lineage_on given before v p u l r.inserts) rest)
+    (traces_are_lineages given (before ++ p ∷ []) trace u w (lineage_on given before v p u l r.inserts) rest)
 
 pub traces_implement : (given : CodedGraph) (before trace : List TraceStep) (v w : Current) (n : Netlist)
     → IsLineage given before v → IsResolving v trace w → IsBuilt w n → Implements n given.graph

@@ -1,5 +1,5 @@
 -- What becomes of a search with each candidate.
-use Rattle.std.proofs.Common.{◌≡◌, ℕ, ◌+◌, ◌<◌, ◌≤◌, ◌⊎◌, ◌↔◌, Bool, true, false, List, [], ◌∷◌, length, count_by, slice_index_or, All, Option, Some, None, IfNone, IfSome, IsTrue, refl, sym, ap, subst, ◌∙◌, arith, inl, inr}
+use Rattle.std.proofs.Common.{◌≡◌, ℕ, ◌+◌, ◌<◌, ◌≤◌, ◌↔◌, Bool, false, List, length, slice_index_or, Option, Some, None, IfNone, IfSome, IsTrue, refl, sym, ap, subst, ◌∙◌, arith, inl, inr}
 use Rattle.std.proofs.lemmas.Bool.{true≢false}
 use Rattle.si_base.specs.Graph.{StateGraph, IsGraph}
 use Rattle.si_base.specs.Limits.{max_signals}
@@ -9,13 +9,12 @@ use Rattle.si_base.specs.Sets.{IsIn}
 use Rattle.si_graph.proofs.MarkLemmas.{in_below}
 use Rattle.si_insert.specs.declared.partition.Class.{Class}
 use Rattle.si_insert.specs.Partition.{IsLawful}
-use Rattle.si_candidates.specs.Blocks.{AreBlocks, AreDisjoint, block_at}
+use Rattle.si_candidates.specs.Blocks.{AreBlocks, block_at}
 use Rattle.si_candidates.specs.Parts.{AreClasses, IsTorn}
 use Rattle.si_candidates.proofs.PartLaws.{classes_lawful, classes_unique, torn_have_none}
 use Rattle.si_conflicts.specs.Chains.{AreChains}
 use Rattle.si_conflicts.specs.Conflicts.{HasConflicts}
 use Rattle.si_conflicts.specs.Left.{LeavesConflicts}
-use Rattle.si_resolve.specs.declared.search.Found.{Found}
 use Rattle.si_resolve.specs.declared.search.Search.{Search}
 use Rattle.si_resolve.specs.Best.{Choice, IsChoice, NoneImproves}
 use Rattle.si_resolve.specs.Search.{IsBestSoFar, IsEarlier, bar}
@@ -74,7 +73,7 @@ choice_may_be c blocks x are choice =
     let size_i = size_at c blocks x.i are (omega (arith, order, within)) in
     let size_j = size_at c blocks x.j are within in
     let copies = copies_by_blocks c.graph (block_at blocks x.i) (block_at blocks x.j) x.classes
-        size_i size_j choice.are in
+    size_i size_j choice.are in
     record { disjoint = choice.candidate.disjoint; room = omega (arith, copies, choice.accepted.few_states) }
 
 pub candidate_choice : (c : CodedGraph) (blocks : List (List Bool)) (i j low n : ℕ) → IsCoded c → IsProper c.graph
@@ -90,7 +89,7 @@ candidate_choice c blocks i j low n is proper few are order within one other may
     let size_i = size_at c blocks i are (omega (arith, order, within)) in
     let size_j = size_at c blocks j are within in
     let lawful = lawful_classes g plus minus left.classes is.graph_is size_i size_j
-        (one.state, one.there) (other.state, other.there) left.are in
+    (one.state, one.there) (other.state, other.there) left.are in
     let copies = copies_by_blocks g plus minus left.classes size_i size_j left.are in
     record {
       candidate = record { order = order; within = within; disjoint = may.disjoint };
@@ -186,7 +185,7 @@ pub none_by_first : (c : CodedGraph) (blocks : List (List Bool)) (i j low : ℕ)
     → (IsUsable c.graph (block_at blocks i) → ⊥) → NoneIsBelow c blocks i j low
 none_by_first c blocks i j low is proper not_usable y choice at_j at_i =
     absurd (not_usable (subst (λ k. IsUsable c.graph (block_at blocks k)) at_i
-        (choice_usable c blocks y is proper choice).0))
+    (choice_usable c blocks y is proper choice).0))
 
 pub none_by_later : (c : CodedGraph) (blocks : List (List Bool)) (j : ℕ) → IsCoded c → IsProper c.graph
     → (IsUsable c.graph (block_at blocks j) → ⊥) → (y : Choice) → IsChoice c blocks y → y.j ≡ j → ⊥
@@ -203,8 +202,8 @@ pub none_by_left : (c : CodedGraph) (blocks : List (List Bool)) (i j low : ℕ)
     → LeavesNoneBelow c (block_at blocks i) (block_at blocks j) low → NoneIsBelow c blocks i j low
 none_by_left c blocks i j low none y choice at_j at_i =
     none y.classes y.conflicts
-        (at_both (λ a b. AreClasses c.graph (block_at blocks a) (block_at blocks b) y.classes)
-        y i j at_j at_i choice.are)
+    (at_both (λ a b. AreClasses c.graph (block_at blocks a) (block_at blocks b) y.classes)
+    y i j at_j at_i choice.are)
     choice.leaves
 
 -- what a test of the list tells

@@ -1,6 +1,6 @@
 -- Blocks that a search may pass over, and graphs that it needn't be made for.
-use Rattle.std.proofs.Common.{◌≡◌, ◌==◌, ℕ, ◌<◌, ◌≤◌, ◌↔◌, Bool, true, false, List, length, get_or, IsTrue, sym, subst, ◌∙◌, arith, [], ◌∷◌, ap}
-use Rattle.std.proofs.lemmas.Bool.{cases_lt, true≢false}
+use Rattle.std.proofs.Common.{◌≡◌, ◌==◌, ℕ, ◌<◌, ◌≤◌, ◌↔◌, Bool, false, List, length, get_or, IsTrue, sym, ◌∙◌, arith, [], ◌∷◌, ap}
+use Rattle.std.proofs.lemmas.Bool.{true≢false}
 use Rattle.std.proofs.lemmas.List.Elements.{Contains-get_or}
 use Rattle.si_base.specs.declared.graph.Signal.{Signal}
 use Rattle.si_base.specs.Graph.{StateGraph}

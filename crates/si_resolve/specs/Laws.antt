@@ -1,10 +1,7 @@
 -- The laws of resolving, one word each.
-use Rattle.std.specs.Prelude.{◌≡◌, ℕ, ◌+◌, ◌<◌, ◌≤◌, ◌↔◌, ◌⊎◌, Option, Bool, false, List, ◌++◌, length, Contains, AllPairs, Some, None}
-use Rattle.si_base.specs.declared.graph.Signal.{Signal}
-use Rattle.si_base.specs.Order.{Before}
-use Rattle.si_base.specs.Graph.{StateGraph}
+use Rattle.std.specs.Prelude.{◌≡◌, ℕ, ◌+◌, ◌<◌, ◌≤◌, ◌⊎◌, Option, Bool, List, ◌++◌, length, Some, None}
 use Rattle.si_base.specs.Codes.{CodedGraph, IsCoded}
-use Rattle.si_base.specs.Proper.{IsConflict, IsProper, pair_place}
+use Rattle.si_base.specs.Proper.{IsProper}
 use Rattle.si_base.specs.Sets.{IsIn}
 use Rattle.si_candidates.specs.Blocks.{AreBlocks, block_at}
 use Rattle.si_candidates.specs.Blocking.{MaySwitch}
@@ -12,13 +9,9 @@ use Rattle.si_resolve.specs.Search.{IsEarlier, IsBestSoFar, bar}
 use Rattle.si_base.specs.Netlist.{Netlist}
 use Rattle.si_base.specs.Behaviour.{Implements}
 use Rattle.si_conflicts.specs.Conflicts.{HasConflicts}
-use Rattle.si_insert.specs.declared.partition.Class.{Class}
-use Rattle.si_insert.specs.Partition.{class_of, IsLawful}
-use Rattle.si_insert.specs.Insertion.{Copy, IsInsertedGraph, coded}
 use Rattle.si_insert.specs.declared.lineage.TraceStep.{TraceStep}
 use Rattle.si_insert.specs.Lineage.{Current, IsLineage}
 use Rattle.si_insert.specs.Built.{IsBuilt}
-use Rattle.si_conflicts.specs.Left.{LeavesConflicts}
 use Rattle.si_resolve.specs.Best.{Choice, IsChoice, IsBest, Improves, NoneImproves}
 use Rattle.si_resolve.specs.Trace.{IsResolving, ResolvesTo, EndsUnresolved}
 
@@ -55,7 +48,7 @@ SearchTakes = (c : CodedGraph) (blocks : List (List Bool)) (n j i : ℕ) (o : Op
 abbrev pub SearchPassesRow : Type 0
 SearchPassesRow = (c : CodedGraph) (blocks : List (List Bool)) (n j i : ℕ) (o : Option Choice)
     → ((y : Choice) → IsChoice c blocks y → y.j ≡ j
-        → IsEarlier y j i ⊎ ((IsEarlier y j i → ⊥) × (bar n o ≤ y.conflicts)))
+    → IsEarlier y j i ⊎ ((IsEarlier y j i → ⊥) × (bar n o ≤ y.conflicts)))
     → IsBestSoFar c blocks n j i o → IsBestSoFar c blocks n (j + 1) 0 o
 
 -- at the end of all candidates the best so far is the best, or there is none

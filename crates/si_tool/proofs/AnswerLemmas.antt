@@ -6,7 +6,7 @@ use Rattle.si_base.specs.GivenGraph.{Sg}
 use Rattle.si_base.specs.Graph.{StateGraph}
 use Rattle.si_base.specs.Netlist.{Netlist}
 use Rattle.si_base.specs.NetlistText.{netlist_text}
-use Rattle.si_base.specs.Proper.{IsProper, HasNoConflict}
+use Rattle.si_base.specs.Proper.{IsProper}
 use Rattle.si_circuit.specs.Circuits.{circuit_of}
 use Rattle.si_insert.specs.Lineage.{History, as_given}
 use Rattle.si_tool.specs.Resolving.{IsResolved}

@@ -1,5 +1,5 @@
 -- Resolving as a stage has one result; and what insertions of a resolving trace keep.
-use Rattle.std.proofs.Common.{◌≡◌, ℕ, ◌<◌, ◌≤◌, ◌⊎◌, not, List, [], ◌∷◌, ◌++◌, length, filter, All, IsTrue, Ok, Err, codes}
+use Rattle.std.proofs.Common.{◌≡◌, ℕ, ◌≤◌, ◌⊎◌, not, List, [], ◌∷◌, ◌++◌, length, filter, All, IsTrue, Ok, Err, codes}
 use Rattle.std.proofs.Common.{refl, sym, ap, ap₂, subst, ◌∙◌, arith, inl, inr}
 use Rattle.std.proofs.lemmas.Bool.{cases_lt}
 use Rattle.std.proofs.lemmas.List.{append-nil}
@@ -10,6 +10,7 @@ use Rattle.si_base.specs.Limits.{max_signals}
 use Rattle.si_base.specs.Proper.{IsProper, HasNoConflict}
 use Rattle.si_base.specs.System.{is_inserted}
 use Rattle.si_base.specs.Words.{is_signal_name}
+use Rattle.si_candidates.proofs.BlocksExist.{some_blocks}
 use Rattle.si_circuit.proofs.InsertedLemmas.{new_signals}
 use Rattle.si_conflicts.proofs.Counted.{none_is_none}
 use Rattle.si_insert.specs.declared.lineage.TraceStep.{TraceStep}
@@ -48,7 +49,7 @@ resolved_one coded states is (Err r) (Err q) (l, a, one, at) (m, b, other, by) =
 
 pub resolved_some : (coded : CodedGraph) (states : List (List ℕ)) → IsCoded coded → IsProper coded.graph
     → HasResult (resolved coded states)
-resolved_some coded states is proper = go (resolving_ends (as_given coded) is proper)
+resolved_some coded states is proper = go (resolving_ends some_blocks (as_given coded) is proper)
   where
     go : (trace : List TraceStep) × (w : Current)
         × (ResolvesTo (as_given coded) trace w ⊎ ((pair : ℕ × ℕ) × EndsUnresolved (as_given coded) trace w pair))

@@ -150,6 +150,28 @@ s5 z- s0
 .end
 ";
 
+/// Between `x+` and `x-` an insertion tells `s4` and `s6` apart. Nothing does so for `s0` and `s2`, nor for `s9` and
+/// `s11`, between which only the input switches.
+const HALF_RESOLVED: &[u8] = b".model half
+.inputs a r
+.outputs x y z
+.state graph
+s0 a+ s1
+s1 a- s2
+s2 z+ s3
+s3 r+ s4
+s4 x+ s5
+s5 x- s6
+s6 y+ s7
+s7 r- s8
+s8 y- s9
+s9 a+ s10
+s10 a- s11
+s11 z- s0
+.marking {s0}
+.end
+";
+
 /// The state `s0` leads by `a+` to two states.
 const SPLIT: &[u8] = b".model split
 .inputs a
@@ -519,8 +541,13 @@ fn what_the_program_tells_of_itself(rt: HostRuntime) -> Result<(), Fail> {
 #[test]
 fn refusals(rt: HostRuntime) -> Result<(), Fail> {
     let alloc = rt.alloc();
-    let rows: [(&[u8], Status, &[u8]); 6] = [
+    let rows: [(&[u8], Status, &[u8]); 7] = [
         (CONFLICT, Status::Unresolved, b"unresolved s0 s2\n"),
+        (
+            HALF_RESOLVED,
+            Status::Unresolved,
+            b"unresolved s0@1 s2@1 | csc0 up s5 down s2\n",
+        ),
         (SPLIT, Status::Improper, b"nondeterministic s0 a+ s1 s2\n"),
         (RISES_TWICE, Status::Improper, b"inconsistent a\n"),
         (FORK, Status::Improper, b"noncommutative s0 a+ b+ s3 s4\n"),

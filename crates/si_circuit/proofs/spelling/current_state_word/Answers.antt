@@ -2,7 +2,6 @@ use Rattle.std.proofs.Common.{◌≡◌, ◌≤◌, List, length, ap, sym, subst
 use Rattle.std.proofs.lemmas.Result.{IfOk-weaker}
 use Rattle.si_base.specs.Limits.{code_width}
 use Rattle.si_insert.specs.declared.lineage.TraceStep.{TraceStep}
-use Rattle.si_insert.specs.Lineage.{History}
 use Rattle.si_circuit.specs.Spelling.{current_word, state_word}
 use Rattle.si_circuit.proofs.CurrentLemmas.{few_insertions, current_word_made}
 use Rattle.si_circuit.proofs.spelling.current_state_word.Goals as goal

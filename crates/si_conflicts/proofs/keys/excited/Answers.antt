@@ -26,10 +26,12 @@ loop-arc-preserved c =
     let same = c.graph-graph.ensures.same in
     elim c.if-is_driven.branch [
       | then-is_driven w ↦ rw w.excited-is
-          (excited_more (IsDrivenArc g) arcs k a c.loop-arc.excited c.loop-arc-test.true c.arc-item.is c.loop-arc.invariant
+          (excited_more (IsDrivenArc g) arcs k a c.loop-arc.excited c.loop-arc-test.true c.arc-item.is
+          c.loop-arc.invariant
           w.set-excited.result (subst Driven same (c.is_driven.ensures.0 w.if-is_driven.true)) w.set-excited.ensures)
       | else-is_driven w ↦ rw w.excited-is
-          (excited_pass (IsDrivenArc g) arcs k a c.loop-arc.excited c.loop-arc-test.true c.arc-item.is c.loop-arc.invariant
+          (excited_pass (IsDrivenArc g) arcs k a c.loop-arc.excited c.loop-arc-test.true c.arc-item.is
+          c.loop-arc.invariant
           (λ driven. true≢false (sym (c.is_driven.ensures.1 (subst Driven (sym same) driven)) ∙ w.if-is_driven.false)))
     ]
 

@@ -1,10 +1,10 @@
-use Rattle.std.proofs.Common.{◌+◌, ◌∙◌, arith, ap, refl, true, false, take}
+use Rattle.std.proofs.Common.{◌+◌, ◌∙◌, arith, ap, refl, true, false}
 use Rattle.si_insert.specs.Partition.{class_of}
 use Rattle.si_conflicts.specs.declared.members.Member.{Member}
 use Rattle.si_conflicts.specs.Apart as Apart
 use Rattle.si_conflicts.specs.Apart.{are_apart, role_at, IsTally, IsUpTo, pair_sum}
 use Rattle.si_conflicts.proofs.PairSums.{pair_take}
-use Rattle.si_conflicts.proofs.TallyLemmas.{entries_to, entries_length, entries_up_to, few_met, first_key, next_key, pass_total, pass_tally, pass_order, pass_next}
+use Rattle.si_conflicts.proofs.TallyLemmas.{tallied_to, few_met, first_key, next_key, tally_at, has_tally, pass_total, pass_tally, pass_order, pass_next}
 use Rattle.si_conflicts.proofs.trial.told_apart.Goals as goal
 
 pub loop-m-init : goal.loop-m-init
@@ -27,52 +27,36 @@ conflicts-requires c =
     let classes = c.args.classes.now in
     let ms = c.args.members.now in
     let i = c.loop-m.m-index in
-    let entries = entries_to classes false ms i in
-    let size = entries_length classes false ms i c.loop-m-test.true in (
-      entries,
-      omega (arith, size, c.loop-m-test.true, c.requires.few),
-      c.moved-low.ensures entries
-          (entries_up_to classes false (take i ms) c.loop-m.key c.loop-m.invariant.order) c.loop-m.invariant.low,
-    )
+    let low = tally_at classes false ms i c.loop-m.key _ _ _ c.moved-low.ensures c.loop-m.invariant.order
+    c.loop-m.invariant.low in
+    has_tally classes false ms i _ _ c.loop-m-test.true c.requires.few low
 
 pub conflicts-requires-in-loop-m : goal.conflicts-requires-in-loop-m
 conflicts-requires-in-loop-m c =
     let classes = c.args.classes.now in
     let ms = c.args.members.now in
     let i = c.loop-m.m-index in
-    let entries = entries_to classes true ms i in
-    let size = entries_length classes true ms i c.loop-m-test.true in (
-      entries,
-      omega (arith, size, c.loop-m-test.true, c.requires.few),
-      c.moved-high.ensures entries
-          (entries_up_to classes true (take i ms) c.loop-m.key c.loop-m.invariant.order) c.loop-m.invariant.high,
-    )
+    let high = tally_at classes true ms i c.loop-m.key _ _ _ c.moved-high.ensures c.loop-m.invariant.order
+    c.loop-m.invariant.high in
+    has_tally classes true ms i _ _ c.loop-m-test.true c.requires.few high
 
 pub with-low-requires : goal.with-low-requires
 with-low-requires c =
     let classes = c.args.classes.now in
     let ms = c.args.members.now in
     let i = c.loop-m.m-index in
-    let entries = entries_to classes false ms i in
-    let size = entries_length classes false ms i c.loop-m-test.true in (
-      entries,
-      omega (arith, size, c.loop-m-test.true, c.requires.few),
-      c.moved-low.ensures entries
-          (entries_up_to classes false (take i ms) c.loop-m.key c.loop-m.invariant.order) c.loop-m.invariant.low,
-    )
+    let low = tally_at classes false ms i c.loop-m.key _ _ _ c.moved-low.ensures c.loop-m.invariant.order
+    c.loop-m.invariant.low in
+    has_tally classes false ms i _ _ c.loop-m-test.true c.requires.few low
 
 pub with-high-requires : goal.with-high-requires
 with-high-requires c =
     let classes = c.args.classes.now in
     let ms = c.args.members.now in
     let i = c.loop-m.m-index in
-    let entries = entries_to classes true ms i in
-    let size = entries_length classes true ms i c.loop-m-test.true in (
-      entries,
-      omega (arith, size, c.loop-m-test.true, c.requires.few),
-      c.moved-high.ensures entries
-          (entries_up_to classes true (take i ms) c.loop-m.key c.loop-m.invariant.order) c.loop-m.invariant.high,
-    )
+    let high = tally_at classes true ms i c.loop-m.key _ _ _ c.moved-high.ensures c.loop-m.invariant.order
+    c.loop-m.invariant.high in
+    has_tally classes true ms i _ _ c.loop-m-test.true c.requires.few high
 
 pub loop-m-preserved : goal.loop-m-preserved
 loop-m-preserved c =
@@ -86,17 +70,17 @@ loop-m-preserved c =
     let state_is = ap (λ (x : Member). x.state) c.m.view_is in
     let low_role = c.of-at_low.ensures ∙ ap (λ s. role_at false (class_of classes s)) state_is in
     let high_role = c.of-at_high.ensures ∙ ap (λ s. role_at true (class_of classes s)) state_is in
-    let low = c.moved-low.ensures (entries_to classes false ms i)
-    (entries_up_to classes false (take i ms) c.loop-m.key c.loop-m.invariant.order) c.loop-m.invariant.low in
-    let high = c.moved-high.ensures (entries_to classes true ms i)
-    (entries_up_to classes true (take i ms) c.loop-m.key c.loop-m.invariant.order) c.loop-m.invariant.high in
-    let met_low = c.conflicts.ensures (entries_to classes false ms i) low in
-    let met_high = c.conflicts-in-loop-m.ensures (entries_to classes true ms i) high in
+    let low = tally_at classes false ms i c.loop-m.key _ _ _ c.moved-low.ensures c.loop-m.invariant.order
+    c.loop-m.invariant.low in
+    let high = tally_at classes true ms i c.loop-m.key _ _ _ c.moved-high.ensures c.loop-m.invariant.order
+    c.loop-m.invariant.high in
+    let met_low = c.conflicts.ensures (tallied_to classes false ms i) low in
+    let met_high = c.conflicts-in-loop-m.ensures (tallied_to classes true ms i) high in
     record {
       low = pass_tally classes ms i m inside at _ key_is false _ c.with-low.result low_role
-          (c.with-low.ensures (entries_to classes false ms i) low);
+          (c.with-low.ensures (tallied_to classes false ms i) low);
       high = pass_tally classes ms i m inside at _ key_is true _ c.with-high.result high_role
-          (c.with-high.ensures (entries_to classes true ms i) high);
+          (c.with-high.ensures (tallied_to classes true ms i) high);
       order = pass_order classes ms i m inside at _ key_is c.loop-m.key c.loop-m.invariant.order
           (next_key classes ms i m inside at _ key_is c.loop-m.key c.loop-m.invariant.next);
       next = pass_next classes ms i m inside at _ key_is c.requires.sorted;
@@ -114,20 +98,21 @@ returns-then-total-bar-clause-more c = λ enough. (
     let ms = c.args.members.now in
     let i = c.loop-m.m-index in
     let m = c.m-item.result in
+    let inside = c.loop-m-test.true in
+    let at = c.m-item.is in
     let key_is = ap (λ (x : Member). x.key) c.m.view_is in
     let state_is = ap (λ (x : Member). x.state) c.m.view_is in
     let low_role = c.of-at_low.ensures ∙ ap (λ s. role_at false (class_of classes s)) state_is in
     let high_role = c.of-at_high.ensures ∙ ap (λ s. role_at true (class_of classes s)) state_is in
-    let low = c.moved-low.ensures (entries_to classes false ms i)
-    (entries_up_to classes false (take i ms) c.loop-m.key c.loop-m.invariant.order) c.loop-m.invariant.low in
-    let high = c.moved-high.ensures (entries_to classes true ms i)
-    (entries_up_to classes true (take i ms) c.loop-m.key c.loop-m.invariant.order) c.loop-m.invariant.high in
-    let total = pass_total classes ms i m c.loop-m-test.true c.m-item.is _ key_is c.loop-m.total c.conflicts.result
-    c.conflicts-in-loop-m.result
-    (c.loop-m.total + (c.conflicts.result + c.conflicts-in-loop-m.result)) _ _ low_role high_role
-    c.loop-m.invariant.total
-    (c.conflicts.ensures (entries_to classes false ms i) low)
-    (c.conflicts-in-loop-m.ensures (entries_to classes true ms i) high) refl in
+    let low = tally_at classes false ms i c.loop-m.key _ _ _ c.moved-low.ensures c.loop-m.invariant.order
+    c.loop-m.invariant.low in
+    let high = tally_at classes true ms i c.loop-m.key _ _ _ c.moved-high.ensures c.loop-m.invariant.order
+    c.loop-m.invariant.high in
+    let met_low = c.conflicts.ensures (tallied_to classes false ms i) low in
+    let met_high = c.conflicts-in-loop-m.ensures (tallied_to classes true ms i) high in
+    let total = pass_total classes ms i m inside at _ key_is c.loop-m.total c.conflicts.result
+    c.conflicts-in-loop-m.result (c.loop-m.total + (c.conflicts.result + c.conflicts-in-loop-m.result)) _ _
+    low_role high_role c.loop-m.invariant.total met_low met_high refl in
     let part = pair_take (Apart.told_apart classes) (i + 1) ms in
     omega (arith, total, part, enough))
 
@@ -137,11 +122,12 @@ returns-then-total-bar-clause-few c =
     let ms = c.args.members.now in
     let i = c.loop-m.m-index in
     let inside = c.loop-m-test.true in
-    let low = c.moved-low.ensures (entries_to classes false ms i)
-    (entries_up_to classes false (take i ms) c.loop-m.key c.loop-m.invariant.order) c.loop-m.invariant.low in
-    let high = c.moved-high.ensures (entries_to classes true ms i)
-    (entries_up_to classes true (take i ms) c.loop-m.key c.loop-m.invariant.order) c.loop-m.invariant.high in
-    let few_low = few_met _ classes false ms i _ (c.conflicts.ensures (entries_to classes false ms i) low) inside in
-    let few_high =
-    few_met _ classes true ms i _ (c.conflicts-in-loop-m.ensures (entries_to classes true ms i) high) inside in
+    let low = tally_at classes false ms i c.loop-m.key _ _ _ c.moved-low.ensures c.loop-m.invariant.order
+    c.loop-m.invariant.low in
+    let high = tally_at classes true ms i c.loop-m.key _ _ _ c.moved-high.ensures c.loop-m.invariant.order
+    c.loop-m.invariant.high in
+    let met_low = c.conflicts.ensures (tallied_to classes false ms i) low in
+    let met_high = c.conflicts-in-loop-m.ensures (tallied_to classes true ms i) high in
+    let few_low = few_met _ classes false ms i _ met_low inside in
+    let few_high = few_met _ classes true ms i _ met_high inside in
     omega (arith, few_low, few_high, c.loop-m.invariant.few, inside, c.requires.few)

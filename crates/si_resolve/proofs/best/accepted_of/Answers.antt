@@ -31,7 +31,7 @@ unreachable-requires c =
       minus_is = c.set-minus.ensures ∙ c.block-2.ensures;
     } in
     never_torn d blocks f c.set-plus.result.now c.set-minus.result.now
-        c.in-Err-NoClasses.field-0 c.in-Err-NoClasses.field-0-0
+    c.in-Err-NoClasses.field-0 c.in-Err-NoClasses.field-0-0
     of c.in-Err-NoClasses.field-0-is c.in-Err-NoClasses.ensures.fault
 
 pub unreachable-requires-in-Err : goal.unreachable-requires-in-Err

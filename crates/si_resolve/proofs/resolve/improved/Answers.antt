@@ -6,7 +6,7 @@ pub returns-in_default-found-clause-unresolved : goal.returns-in_default-found-c
 returns-in_default-found-clause-unresolved c =
     let none = rw (c.in_default-found.is, c.current.ensures.same) at c.in-Ok.ensures in
     let stuck = stuck_at c.args.lineage.current.coded c.args.fault c.in-Conflict.p c.in-Conflict.q c.in-Conflict.is
-        c.requires none in
+    c.requires none in
     (refl, stuck)
 
 pub insert-requires-clause-new : goal.insert-requires-clause-new

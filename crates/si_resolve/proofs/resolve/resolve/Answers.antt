@@ -1,5 +1,5 @@
 use Rattle.std.proofs.Common.{sym, subst}
-use Rattle.si_resolve.proofs.Going.{Leads, leads_nowhere, leads_on, fewer_left}
+use Rattle.si_resolve.proofs.Going.{Leads, leads_on}
 use Rattle.si_resolve.proofs.resolve.resolve.Goals as goal
 
 pub loop-resolved-preserved : goal.loop-resolved-preserved

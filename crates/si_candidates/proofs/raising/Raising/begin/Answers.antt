@@ -1,19 +1,15 @@
-use Rattle.std.proofs.Common.{◌∙◌, sym}
-use Rattle.si_candidates.proofs.BlockStates.{states_below}
-use Rattle.si_candidates.proofs.Flooding.{begun}
+use Rattle.std.proofs.Common.{◌≡◌, ◌∙◌, List, length, ap, subst, sym, arith}
+use Rattle.si_insert.specs.declared.partition.Class.{Class}
+use Rattle.si_candidates.specs.Raising.{AreBegun}
+use Rattle.si_candidates.proofs.RaisingLemmas.{written_back}
 use Rattle.si_candidates.proofs.raising.Raising.begin.Goals as goal
-
-pub mark-requires : goal.mark-requires
-mark-requires c = states_below c.args.plus.now c.states.result.now _ c.states.ensures
-    (c.requires.plus_size ∙ sym c.lower.ensures.size)
-
-pub mark-requires-2 : goal.mark-requires-2
-mark-requires-2 c = states_below c.args.minus.now c.states-2.result.now _ c.states-2.ensures
-    (c.requires.minus_size ∙ sym c.lower.ensures.size ∙ sym c.mark.ensures.size)
 
 pub returns-clause-begun : goal.returns-clause-begun
 returns-clause-begun c =
-    begun c.args.plus.now c.args.minus.now c.lower.new.self.classes.items c.mark.new.self.classes.items
-    c.mark-2.new.self.classes.items c.states.result.now c.states-2.result.now c.requires.disjoint c.states.ensures
-    c.states-2.ensures c.lower.ensures.low c.mark.ensures.marked c.mark.ensures.others c.mark-2.ensures.marked
-    c.mark-2.ensures.others
+    let size = c.args.self.now.classes.len in
+    let old = c.args.self.now.classes.items in
+    let new = c.begin_classes.new.classes in
+    let full : length old ≡ size = omega (arith, c.args.self.now.classes.ok) in
+    let same : length new ≡ size = c.begin_classes.ensures.size ∙ ap length c.as_mut_slice.ensures.value ∙ full in
+    subst (λ (xs : List Class). AreBegun c.args.plus.now c.args.minus.now xs)
+    (sym (written_back size new old same full)) c.begin_classes.ensures.begun

@@ -1,24 +1,18 @@
-use Rattle.std.proofs.Common.{◌+◌, ◌∙◌, List, refl, length, arith, ap}
-use Rattle.si_base.specs.Codes.{CodedGraph}
-use Rattle.si_conflicts.specs.declared.members.Member.{Member}
+use Rattle.std.proofs.Common.{◌+◌, ◌∙◌, refl, ap}
 use Rattle.si_conflicts.specs.Chains.{Chains}
-use Rattle.si_conflicts.proofs.RingLemmas.{few_members}
+use Rattle.si_conflicts.proofs.RingLemmas.{few_given}
 use Rattle.si_conflicts.proofs.LeftCount.{trial_found, none_below, below_is, below_none}
 use Rattle.si_conflicts.proofs.chains.CodeChains.trial_below.Goals as goal
 
 pub told_apart-told-requires-clause-few : goal.told_apart-told-requires-clause-few
-told_apart-told-requires-clause-few c =
-    let few = few_members c.args.graph.now c.args.self.now.next c.args.self.now.members c.requires.chains.members_are in
-    let same = c.as_slice-members.ensures.value ∙ ap (λ (x : Chains). x.members) c.self.view_is in
-    let limit = ap (λ (d : CodedGraph). d.graph.states) c.coded.ensures.same in
-    omega (arith, few, ap (λ (xs : List Member). length xs) same, limit, c.graph-given.ensures.coded.graph_is.few_states)
+told_apart-told-requires-clause-few c = few_given c.args.graph.now c.coded.result.now c.args.self.now.next
+    c.args.self.now.members c.as_slice-members.result.now c.requires.chains.members_are c.coded.ensures.same
+    c.graph-given.ensures.coded (c.as_slice-members.ensures.value ∙ ap (λ (x : Chains). x.members) c.self.view_is)
 
 pub count_switching-requires-clause-few : goal.count_switching-requires-clause-few
-count_switching-requires-clause-few c =
-    let few = few_members c.args.graph.now c.args.self.now.next c.args.self.now.members c.requires.chains.members_are in
-    let same = c.as_slice-members.ensures.value ∙ ap (λ (x : Chains). x.members) c.self.view_is in
-    let limit = ap (λ (d : CodedGraph). d.graph.states) c.coded.ensures.same in
-    omega (arith, few, ap (λ (xs : List Member). length xs) same, limit, c.graph-given.ensures.coded.graph_is.few_states)
+count_switching-requires-clause-few c = few_given c.args.graph.now c.coded.result.now c.args.self.now.next
+    c.args.self.now.members c.as_slice-members.result.now c.requires.chains.members_are c.coded.ensures.same
+    c.graph-given.ensures.coded (c.as_slice-members.ensures.value ∙ ap (λ (x : Chains). x.members) c.self.view_is)
 
 pub returns-then-told-bar-clause-none : goal.returns-then-told-bar-clause-none
 returns-then-told-bar-clause-none c =

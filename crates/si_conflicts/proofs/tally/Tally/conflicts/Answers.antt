@@ -6,16 +6,16 @@ use Rattle.si_conflicts.proofs.TallyLemmas.{meets_none, meets_plain, fewer_equal
 use Rattle.si_conflicts.proofs.tally.Tally.conflicts.Goals as goal
 
 pub overflow_sub-result : goal.overflow_sub-result
-overflow_sub-result c = fewer_equal c.args.key.now c.requires.0 c.args.self c.requires.2
+overflow_sub-result c = fewer_equal c.args.key.now c.requires.copies c.args.self c.requires.is
 
 pub returns-in-Absent : goal.returns-in-Absent
-returns-in-Absent c = λ entries is. sym
-    (ap (λ (r : Role). count_by (λ e. are_apart e (r, c.args.key.now)) entries) c.in-Absent.is
-    ∙ meets_none c.args.key.now entries)
+returns-in-Absent c = λ copies is. sym
+    (ap (λ (r : Role). count_by (λ e. are_apart e (r, c.args.key.now)) copies) c.in-Absent.is
+    ∙ meets_none c.args.key.now copies)
 
 pub returns-in-Plain : goal.returns-in-Plain
-returns-in-Plain c = λ entries is. (
-    let few = fewer_equal c.args.key.now entries c.args.self is in
-    let met = meets_plain c.args.key.now entries c.args.self is in
-    let role = ap (λ (r : Role). count_by (λ e. are_apart e (r, c.args.key.now)) entries) c.in-Plain.is in
+returns-in-Plain c = λ copies is. (
+    let few = fewer_equal c.args.key.now copies c.args.self is in
+    let met = meets_plain c.args.key.now copies c.args.self is in
+    let role = ap (λ (r : Role). count_by (λ e. are_apart e (r, c.args.key.now)) copies) c.in-Plain.is in
     omega (arith, few, met, role))

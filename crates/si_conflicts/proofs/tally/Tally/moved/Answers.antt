@@ -14,13 +14,13 @@ equal a b test is off = eqb-true a b (back (a == b) (sym is ∙ off))
     back false e = absurd (true≢false e)
 
 pub returns-then-ne : goal.returns-then-ne
-returns-then-ne c = λ entries all is.
-    no_tally c.args.to.now entries c.none.result (c.none.ensures c.args.to.now)
-    (tally_of_code c.args.from.now c.args.to.now c.requires entries all
+returns-then-ne c = λ copies all is.
+    no_tally c.args.to.now copies c.none.result (c.none.ensures c.args.to.now)
+    (tally_of_code c.args.from.now c.args.to.now c.requires copies all
     (other c.args.from.now.code c.args.to.now.code c.ne.result c.ne.ensures c.if-ne.true))
 
 pub returns-then-ne-2 : goal.returns-then-ne-2
-returns-then-ne-2 c = λ entries all is.
-    tally_of_key c.args.from.now c.args.to.now c.requires entries all c.args.self is
+returns-then-ne-2 c = λ copies all is.
+    tally_of_key c.args.from.now c.args.to.now c.requires copies all c.args.self is
     (equal c.args.from.now.code c.args.to.now.code c.ne.result c.ne.ensures c.if-ne.false)
     (other c.args.from.now.excited c.args.to.now.excited c.ne-else-ne.result c.ne-else-ne.ensures c.if-ne-2.true)

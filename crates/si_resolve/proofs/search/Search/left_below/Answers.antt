@@ -12,9 +12,9 @@ trial_below-requires-clause-lawful c =
     let r = c.requires in
     let are : AreClasses g plus minus c.classes-classes.result.now =
     subst (AreClasses g plus minus) (sym c.classes-classes.ensures)
-        (c.in_ok-part.ensures.parted c.if-not-branch.false) in
+    (c.in_ok-part.ensures.parted c.if-not-branch.false) in
     lawful_classes g plus minus c.classes-classes.result.now r.coded.graph_is r.plus_size r.minus_size
-        r.some_plus r.some_minus are
+    r.some_plus r.some_minus are
 
 pub returns-clause-below : goal.returns-clause-below
 returns-clause-below c =
@@ -23,7 +23,7 @@ returns-clause-below c =
     let minus = c.args.minus.now in
     let are : AreClasses g plus minus c.classes-classes.result.now =
     subst (AreClasses g plus minus) (sym c.classes-classes.ensures)
-        (c.in_ok-part.ensures.parted c.if-not-branch.false) in
+    (c.in_ok-part.ensures.parted c.if-not-branch.false) in
     if_some _ _ c.in_ok-left.left (λ n is. record {
       classes = c.classes-classes.result.now;
       are = are;

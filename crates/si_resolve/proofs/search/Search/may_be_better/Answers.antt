@@ -14,7 +14,7 @@ pub may_be_accepted-requires-clause-minus_size : goal.may_be_accepted-requires-c
 may_be_accepted-requires-clause-minus_size c =
     let r = c.requires in
     block_size c.args.graph.now c.args.list.now.blocks.items c.args.j _ r.list.are r.within
-        c.block-then-is_usable.ensures
+    c.block-then-is_usable.ensures
 
 pub returns-then-is_usable-clause-otherwise : goal.returns-then-is_usable-clause-otherwise
 returns-then-is_usable-clause-otherwise c =

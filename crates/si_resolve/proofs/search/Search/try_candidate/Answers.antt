@@ -32,13 +32,13 @@ returns-in-Some-clause-after c =
     let test = c.if-not-may_be_better.false in
     let left : LeavesBelow d (block_at blocks i) (block_at blocks j) low n =
     at_blocks (λ x y. LeavesBelow d x y low n) _ (block_at blocks i) _ (block_at blocks j)
-        c.block.ensures c.block-2.ensures
+    c.block.ensures c.block-2.ensures
     (some_is _ c.in_ok-left.left n c.in-Some.is c.in_ok-left.ensures.below) in
     let choice = candidate_choice d blocks i j low n r.list.coded r.list.proper r.list.few_signals
-        r.list.are r.order r.within
+    r.list.are r.order r.within
     (c.may_be_better.ensures.first test) r.usable (c.may_be_better.ensures.both test) left in
     keep d blocks j i c.args.self.now c.left_below.new.self
-        (record { i = i; j = j; classes = left.classes; conflicts = n })
+    (record { i = i; j = j; classes = left.classes; conflicts = n })
     r.list.coded r.before c.left_below.ensures.same choice refl refl left.fewer
 
 pub returns-in_default-clause-after : goal.returns-in_default-clause-after
@@ -50,7 +50,7 @@ returns-in_default-clause-after c =
     let low = bar_of c.args.self.now in
     let none : LeavesNoneBelow d (block_at blocks i) (block_at blocks j) low =
     at_blocks (λ x y. LeavesNoneBelow d x y low) _ (block_at blocks i) _ (block_at blocks j)
-        c.block.ensures c.block-2.ensures
+    c.block.ensures c.block-2.ensures
     (none_is c.in_ok-left.left c.in_default.is c.in_ok-left.ensures.none) in
     skip d blocks j i c.args.self.now c.left_below.new.self c.requires.before c.left_below.ensures.same
     (none_by_left d blocks i j low none)
