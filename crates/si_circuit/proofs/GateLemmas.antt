@@ -1,5 +1,5 @@
 -- The netlist of the chosen gates is a netlist, and how a loop over the signals makes it.
-use Rattle.std.proofs.Common.{◌≡◌, ◌≢◌, ℕ, suc, ◌+◌, ◌<◌, ◌==◌, ◌&&◌, not, Bool, true, false, List, [], ◌∷◌, ◌++◌, length, get_or, drop, drop-cons, add-one, append_assoc, filter, slice_get, Some, All, IsTrue, refl, sym, ap, ◌∙◌, arith, inl, inr}
+use Rattle.std.proofs.Common.{◌≡◌, ◌≢◌, ℕ, suc, ◌+◌, ◌<◌, ◌==◌, ◌&&◌, not, Bool, true, false, List, [], ◌∷◌, ◌++◌, length, get_or, drop, drop-cons, add-one, append_assoc, filter, slice_get, Some, All, IsTrue, refl, sym, ap, subst, ◌∙◌, arith, inl, inr}
 use Rattle.std.specs.List.{list_all, AllByRecursion}
 use Rattle.std.proofs.lemmas.Bool.{cases_Bool, false_from_ne_true, false≢true, and_parts}
 use Rattle.std.proofs.lemmas.Option.{get_or_from_slice_get, slice_get_cases}
@@ -69,13 +69,17 @@ gate_is_gate : (style : Style) (c : CodedGraph) (z : ℕ) → IsGate (length c.g
 gate_is_gate Complex c z = chosen_sum_is_sum Next c z
 gate_is_gate GeneralisedC c z = (chosen_sum_is_sum Set c z, chosen_sum_is_sum Reset c z)
 
-all_are_gates : (gate : ℕ → Gate) (n i : ℕ) (xs : List Signal) → ((z : ℕ) → IsGate n (gate z))
+all_are_gates : (gate : ℕ → Gate) (n i : ℕ) (xs : List Signal) → ((z : ℕ) → IsNonInput xs z → IsGate n (gate (i + z)))
     → All (IsGate n) (gates_from gate i xs)
 all_are_gates gate n i [] are = All-nil (IsGate n)
 all_are_gates gate n i (x ∷ xs) are =
-    let rest : All (IsGate n) (gates_from gate (i + 1) xs) = all_are_gates gate n (i + 1) xs are in
+    let next : (z : ℕ) → i + suc z ≡ i + 1 + z = λ z. omega arith in
+    let rest : All (IsGate n) (gates_from gate (i + 1) xs) = all_are_gates gate n (i + 1) xs
+    (λ z driven. subst (λ (k : ℕ). IsGate n (gate k)) (next z) (are (suc z) driven)) in
+    let first : i + 0 ≡ i = omega arith in
     elim (cases_Bool (is_driven x.kind)) [
-      | inl driven ↦ rw driven (All-cons (IsGate n) (gate i) (gates_from gate (i + 1) xs) (are i) rest)
+      | inl driven ↦ rw driven (All-cons (IsGate n) (gate i) (gates_from gate (i + 1) xs)
+          (subst (λ (k : ℕ). IsGate n (gate k)) first (are 0 (x, refl, driven))) rest)
       | inr input ↦ rw input rest
     ]
 
@@ -89,7 +93,8 @@ as_many_gates gate i (x ∷ xs) = elim (cases_Bool (is_driven x.kind)) [
 
 pub is_netlist : (gate : ℕ → Gate) (model : List ℕ) (inserts : List Insertion) (c : CodedGraph) → IsCoded c
     → AreSpelled model c.graph.signals → AreInserted inserts c.graph.signals
-    → ((z : ℕ) → IsGate (length c.graph.signals) (gate z)) → IsNetlist (netlist_of gate model inserts c)
+    → ((z : ℕ) → IsNonInput c.graph.signals z → IsGate (length c.graph.signals) (gate z))
+    → IsNetlist (netlist_of gate model inserts c)
 unfolding netlist_of
 is_netlist gate model inserts c coded spelled inserted are = record {
   model = model_is_word model spelled.model_name;
@@ -102,14 +107,16 @@ is_netlist gate model inserts c coded spelled inserted are = record {
   insert_names = inserted.names;
   inserts = inserted.each;
   gate_count = as_many_gates gate 0 c.graph.signals;
-  gates = all_are_gates gate (length c.graph.signals) 0 c.graph.signals are;
+  gates = all_are_gates gate (length c.graph.signals) 0 c.graph.signals
+      (λ z driven. (let at : z ≡ 0 + z = omega arith in
+      subst (λ (k : ℕ). IsGate (length c.graph.signals) (gate k)) at (are z driven)));
 }
 
 pub chosen_is_netlist : (style : Style) (c : CodedGraph) (model : List ℕ) (inserts : List Insertion) → IsCoded c
     → AreSpelled model c.graph.signals → AreInserted inserts c.graph.signals
     → IsNetlist (netlist_of (gate_of style c) model inserts c)
 chosen_is_netlist style c model inserts coded spelled inserted =
-    is_netlist (gate_of style c) model inserts c coded spelled inserted (gate_is_gate style c)
+    is_netlist (gate_of style c) model inserts c coded spelled inserted (λ z driven. gate_is_gate style c z)
 
 -- ---- one gate after another, as a loop over the signals makes them
 gates_at : (gate : ℕ → Gate) (xs : List Signal) (i : ℕ) (x : Signal) → i < length xs → slice_get xs i ≡ Some x

@@ -1,5 +1,7 @@
 pub mod RightLemmas
 pub mod GateLemmas
+pub mod FittingLemmas
+pub mod CellLemmas
 pub mod Examples
 pub mod DescentLemmas
 pub mod WordLemmas

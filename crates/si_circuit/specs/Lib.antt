@@ -4,3 +4,4 @@ pub mod Spelled
 pub mod Spelling
 pub mod InsertionWords
 pub mod Circuits
+pub mod Cells

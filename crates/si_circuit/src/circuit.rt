@@ -3,16 +3,19 @@
 ghost use Rattle.std.specs.Prelude.{◌≡◌, ℕ, IfOk, IfErr};
 ghost use Rattle.si_base.specs.Behaviour.{Implements};
 ghost use Rattle.si_base.specs.WellFormed.{IsNetlist};
+ghost use Rattle.si_circuit.specs.Cells.{AllFit, ShowsUnfit, mapped_netlist};
 ghost use Rattle.si_circuit.specs.Circuits.{AreStateNames, IsCircuit, circuit_of};
 ghost use Rattle.si_circuit.specs.Spelled.{AreSpelled};
 ghost use Rattle.si_circuit.specs.declared.style.Style.TheVariants.{Complex, GeneralisedC};
 
+use crate::cells::{CellsFault, netlist_of_cells};
 use crate::gates::netlist_with;
 use crate::spelling::insertions;
 use crate::style::Style;
 use si_base::ids::NoMemory;
 use si_base::names::Names;
 use si_base::text::Name;
+use si_cell::library::Library;
 use si_insert::resolved::Resolved;
 use si_netlist::netlist::Netlist;
 use std::alloc::Global;
@@ -78,6 +81,37 @@ impl Circuit {
         Circuit::of_style(alloc, resolved, model, states, Style::GeneralisedC)
     }
 
+    /// The circuit of cells of the library: the gate of each signal is the first instance that fits
+    /// it, with the sum that this computes. Otherwise as `of_sums`.
+    ///
+    /// # Errors
+    ///
+    /// `Unfit` exactly where some signal that the circuit drives fits no cell, with the first.
+    /// `NoMemory` only where memory runs out. The lineage comes back.
+    pub fn of_cells(
+        alloc: Global,
+        resolved: Resolved,
+        library: &Library,
+        model: &Name,
+        states: &Names,
+    ) -> Result<Circuit, (Resolved, CellsFault)>
+        requires spelled { AreSpelled model.now resolved.current.coded.graph.signals }
+        requires states { AreStateNames resolved.given.graph states.now }
+        ensures same { IfOk result (λ c. c.lineage ≡ resolved) }
+        ensures netlist { IfOk result
+            (λ c. c.netlist ≡ mapped_netlist library.now model.now states.now resolved) }
+        ensures implements { IfOk result (λ c. Implements c.netlist resolved.given.graph) }
+        ensures written { IfOk result (λ c. IsNetlist c.netlist) }
+        ensures fit { IfOk result (λ c. AllFit resolved.current.coded library.now) }
+        ensures back { IfErr result (λ e. e.0 ≡ resolved) }
+        ensures unfit { IfErr result (λ e. ShowsUnfit resolved.current.coded library.now e.1) }
+    {
+        match cell_netlist_for(alloc, &resolved, library, model, states) {
+            Ok(netlist) => Ok(Circuit { resolved, netlist }),
+            Err(fault) => Err((resolved, fault)),
+        }
+    }
+
     /// The circuit of gates of a style.
     pub fn of_style(
         alloc: Global,
@@ -140,4 +174,30 @@ fn netlist_for(
     let inserts = insertions(alloc, lineage, states)?;
     let model = Name::copy_of(alloc, model.bytes())?;
     netlist_with(alloc, model, resolved.distinct(), inserts, style)
+}
+
+/// The netlist of the first fitting instances for the current graph, with the insertions.
+fn cell_netlist_for(
+    alloc: Global,
+    resolved: &Resolved,
+    library: &Library,
+    model: &Name,
+    states: &Names,
+) -> Result<Netlist, CellsFault>
+    requires spelled { AreSpelled model.now resolved.now.current.coded.graph.signals }
+    requires states { AreStateNames resolved.now.given.graph states.now }
+    ensures netlist { IfOk result
+        (λ n. n ≡ mapped_netlist library.now model.now states.now resolved.now) }
+    ensures circuit { IfOk result (IsCircuit resolved.now) }
+    ensures implements { IfOk result (λ n. Implements n resolved.now.given.graph) }
+    ensures written { IfOk result IsNetlist }
+    ensures fit { IfOk result (λ n. AllFit resolved.now.current.coded library.now) }
+    ensures unfit { IfErr result (ShowsUnfit resolved.now.current.coded library.now) }
+{
+    let lineage = resolved.lineage();
+    // What holds of each lineage comes with its trace.
+    let _trace = lineage.trace();
+    let inserts = insertions(alloc, lineage, states)?;
+    let model = Name::copy_of(alloc, model.bytes())?;
+    netlist_of_cells(alloc, model, resolved.distinct(), library, inserts)
 }

@@ -9,7 +9,9 @@ ghost use Rattle.si_base.specs.RightGates.{GivesNextValues, HasNoneInserted, IsR
 ghost use Rattle.si_base.specs.WellFormed.{IsNetlist};
 ghost use Rattle.si_insert.specs.declared.lineage.TraceStep.{TraceStep};
 ghost use Rattle.si_insert.specs.Lineage.{Current, IsLineage};
+ghost use Rattle.si_cell.specs.Library.{Library, IsLibrary};
 ghost use Rattle.si_circuit.specs.declared.style.Style.{Style};
+ghost use Rattle.si_circuit.specs.Cells.{AllFit, cell_gate};
 ghost use Rattle.si_circuit.specs.Covered.{HasCoverGates, HasPrimeGates};
 ghost use Rattle.si_circuit.specs.Gates.{chosen_netlist, gate_of, netlist_of};
 ghost use Rattle.si_circuit.specs.Spelled.{AreInserted, AreSpelled};
@@ -58,6 +60,23 @@ pub fn chosen_gates_make_netlists()
     ensures { (style : Style) (c : CodedGraph) (model : List ℕ) (inserts : List Insertion)
         → IsCoded c → AreSpelled model c.graph.signals → AreInserted inserts c.graph.signals
         → IsNetlist (netlist_of (gate_of style c) model inserts c) }
+{}
+
+/// The first fitting instances give the next values, where each signal that the circuit drives has
+/// one.
+pub fn cell_gates_give_next_values()
+    ensures { (c : CodedGraph) (library : Library) (model : List ℕ) (inserts : List Insertion)
+        → IsCoded c → IsLibrary library → AllFit c library
+        → GivesNextValues c (netlist_of (cell_gate c library) model inserts c) }
+{}
+
+/// They make a netlist of the format: each gate has a cell name, at most four literals of signals
+/// that are there, and a sum whose cubes have their literals in signal order.
+pub fn cell_gates_make_netlists()
+    ensures { (c : CodedGraph) (library : Library) (model : List ℕ) (inserts : List Insertion)
+        → IsCoded c → IsLibrary library → AllFit c library → AreSpelled model c.graph.signals
+        → AreInserted inserts c.graph.signals
+        → IsNetlist (netlist_of (cell_gate c library) model inserts c) }
 {}
 
 /// After the insertions of a lineage the spelled states are its current states: each with its

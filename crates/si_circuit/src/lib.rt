@@ -2,6 +2,7 @@
 //! drives.
 #![tactic(auto)]
 
+pub mod cells;
 pub mod circuit;
 mod gates;
 pub mod insertion_words;
