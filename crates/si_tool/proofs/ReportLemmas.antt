@@ -5,7 +5,7 @@ use Rattle.si_listings.proofs.ListingLemmas.{one_region_text, one_conflict_text}
 use Rattle.si_listings.proofs.ListingsExist.{some_region_text, some_conflict_text}
 use Rattle.si_tool.specs.Laws.{AtMostOne, HasResult}
 use Rattle.si_tool.specs.Reports.{summary, told}
-use Rattle.si_tool.specs.Stages.{shows}
+use Rattle.si_refusals.specs.Stages.{shows}
 use Rattle.si_tool.specs.declared.command.Report.{Report}
 use Rattle.si_tool.specs.declared.command.Report.TheVariants.{Summary, Regions, Conflicts}
 use Rattle.si_tool.proofs.StageLemmas.{gives_one, gives_some}

@@ -4,25 +4,25 @@ use Rattle.std.proofs.Common.{◌∙◌, arith, ◌⊎◌, inl, inr, codes, Stri
 use Rattle.si_circuit.specs.declared.style.Style.{Style}
 use Rattle.si_circuit.specs.declared.style.Style.TheVariants.{Complex, GeneralisedC}
 use Rattle.si_io.specs.Outside.{Rose, Appends, AppendsPrefix}
-use Rattle.si_tool.specs.Command.{Asked, AsksAbout, AsksOfGraph, AsksReplay, Asks, AsksNothing, words_for, files_of}
+use Rattle.si_tool.specs.Command.{Asked, AsksAbout, AsksOfGraph, AsksMap, AsksReplay, Asks, AsksNothing, words_for, files_of}
 use Rattle.si_tool.specs.declared.about.Topic.TheVariants.{Help, Version}
 use Rattle.si_tool.specs.declared.command.GraphTask.TheVariants.{Tell, Synth}
 use Rattle.si_tool.specs.declared.command.Report.{Report}
 use Rattle.si_tool.specs.declared.command.Report.TheVariants.{Summary, Regions, Conflicts}
-use Rattle.si_tool.specs.Ending.{Ending, NoMemory, Usage, WriteFault, Answered, IsRefusal, status_of}
-use Rattle.si_tool.specs.Ending.{line_of, ending_of}
+use Rattle.si_refusals.specs.Ending.{Ending, NoMemory, Usage, WriteFault, Answered, IsRefusal, status_of}
+use Rattle.si_refusals.specs.Ending.{line_of, ending_of}
 use Rattle.si_tool.specs.Laws.{ShowsCause}
 use Rattle.si_tool.specs.Loads.{Contents, Counts, AreTold, loads, loads_well, no_faults}
 use Rattle.si_tool.specs.Meaning.{LoadStage, ComesTo, MayStopCommand, WordsComeTo}
-use Rattle.si_tool.specs.Refusal.{TextRefusal, Answer, Output, FileRefused, TextRefused}
-use Rattle.si_tool.specs.Refusal.{ReadFault, TooLong}
-use Rattle.si_tool.specs.Refusal.{Improper, answer_status, text_status}
+use Rattle.si_refusals.specs.Refusal.{TextRefusal, Answer, Output, FileRefused, TextRefused}
+use Rattle.si_refusals.specs.Refusal.{ReadFault, TooLong}
+use Rattle.si_refusals.specs.Refusal.{Improper, answer_status, text_status}
 use Rattle.si_tool.specs.Run.{SinkChange, IsKept, IsCutShort, IsDone, MayEnd, Ends, PutsDue, Deserve}
 use Rattle.si_tool.specs.Run.{ReadRose, IsDeservedUnlessFault, AsDeserved, WithoutMemory, ByReadFault, ByWriteFault}
-use Rattle.si_tool.specs.declared.refusals.Refusal.{Refusal}
-use Rattle.si_tool.specs.declared.refusals.Refusal.TheVariants as made
-use Rattle.si_tool.specs.declared.status.Status.{Status}
-use Rattle.si_tool.specs.declared.status.Status.TheVariants as status
+use Rattle.si_refusals.specs.declared.refusals.Refusal.{Refusal}
+use Rattle.si_refusals.specs.declared.refusals.Refusal.TheVariants as made
+use Rattle.si_refusals.specs.declared.status.Status.{Status}
+use Rattle.si_refusals.specs.declared.status.Status.TheVariants as status
 use Rattle.si_tool.proofs.AnswerLemmas.{command_one, command_or_fault, IsReadFault}
 use Rattle.si_tool.proofs.LoadLemmas.{read_rose}
 use Rattle.si_tool.proofs.SinkLemmas.{nothing_put, put_nothing}
@@ -43,7 +43,8 @@ asked_by (word ∷ []) =
     else if bytes_eq word (codes "--version") then Some (AsksAbout Version) else None
 asked_by (word ∷ file ∷ []) = option_map (λ r. AsksOfGraph (Tell r) file) (report_by word)
 asked_by (word ∷ file ∷ style ∷ []) =
-    if bytes_eq word (codes "synth") then option_map (λ s. AsksOfGraph (Synth s) file) (style_by style) else None
+    if bytes_eq word (codes "synth") then option_map (λ s. AsksOfGraph (Synth s) file) (style_by style)
+    else if bytes_eq word (codes "map") then Some (AsksMap file style) else None
 asked_by (word ∷ graph ∷ netlist ∷ schedule ∷ []) =
     if bytes_eq word (codes "replay") then Some (AsksReplay graph netlist schedule) else None
 asked_by words = None
@@ -57,6 +58,7 @@ asked_back (AsksOfGraph (Tell Regions) file) = refl
 asked_back (AsksOfGraph (Tell Conflicts) file) = refl
 asked_back (AsksOfGraph (Synth Complex) file) = refl
 asked_back (AsksOfGraph (Synth GeneralisedC) file) = refl
+asked_back (AsksMap graph library) = refl
 asked_back (AsksReplay graph netlist schedule) = refl
 
 one_asked : (words : List (String Global)) (a b : Asked) → Asks words a → Asks words b → a ≡ b
@@ -108,7 +110,6 @@ pub record IsOfTexts (s : Status) : Type 0 where
   pub not_write : s ≢ status.WriteFault
   pub not_long : s ≢ status.TooLong
   pub not_memory : s ≢ status.NoMemory
-  pub not_unmapped : s ≢ status.Unmapped
 
 of_texts : (r : TextRefusal) → IsOfTexts (text_status r)
 of_texts (Improper breach) = record {
@@ -118,7 +119,6 @@ of_texts (Improper breach) = record {
   not_write = λ e. cc;
   not_long = λ e. cc;
   not_memory = λ e. cc;
-  not_unmapped = λ e. cc;
 }
 of_texts r = record {
   not_done = λ e. cc;
@@ -127,7 +127,6 @@ of_texts r = record {
   not_write = λ e. cc;
   not_long = λ e. cc;
   not_memory = λ e. cc;
-  not_unmapped = λ e. cc;
 }
 
 module _ (words : List (String Global)) (loading : LoadStage) (out : SinkChange) where
@@ -177,13 +176,6 @@ module _ (words : List (String Global)) (loading : LoadStage) (out : SinkChange)
   by_refused (Answered (FileRefused (TooLong file))) q may is = absurd ((of_texts q).not_long is)
   by_refused NoMemory q may is = absurd ((of_texts q).not_memory is)
 
-  never_unmapped : (e : Ending) → status_of e ≢ status.Unmapped
-  never_unmapped (Answered (Output text)) is = cc
-  never_unmapped (Answered (FileRefused (ReadFault file))) is = cc
-  never_unmapped (Answered (FileRefused (TooLong file))) is = cc
-  never_unmapped (Answered (TextRefused r)) is = (of_texts r).not_unmapped is
-  never_unmapped e is = cc
-
   -- where a run isn't done, `out` is as it was, or has a prefix of the output where a fault was counted
   by_kept : (e : Ending) → MayEnd words loading out e → status_of e ≢ status.Done
       → IsKept out ⊎ IsCutShort words loading out
@@ -229,7 +221,6 @@ shows_cause words content before now out err result ends = record {
   refused = λ q is. rw ends.puts.status_is
       (by_refused words loading out ends.ending q ends.may (sym is ∙ ends.puts.status_is));
   write_fault = λ is. by_unwritten words loading out ends.ending ends.may (at status.WriteFault is);
-  unmapped = λ is. never_unmapped words loading out ends.ending (at status.Unmapped is);
   out_refused = λ other. by_kept words loading out ends.ending ends.may (λ is. other (ends.puts.status_is ∙ is));
 }
   where

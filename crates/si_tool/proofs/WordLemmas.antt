@@ -1,7 +1,7 @@
 -- One word, two, three and four; and words that ask for nothing.
 use Rattle.std.proofs.Common.{◌≡◌, ℕ, ◌<◌, ◌≤◌, List, [], ◌∷◌, length, get_or, String, string_bytes, Global, arith}
 use Rattle.si_circuit.specs.declared.style.Style.{Style}
-use Rattle.si_tool.specs.Command.{AsksAbout, AsksOfGraph, AsksReplay, Asks, AsksNothing, words_of}
+use Rattle.si_tool.specs.Command.{AsksAbout, AsksOfGraph, AsksMap, AsksReplay, Asks, AsksNothing, words_of}
 use Rattle.si_tool.specs.declared.about.Topic.{Topic}
 use Rattle.si_tool.specs.declared.command.GraphTask.TheVariants.{Tell, Synth}
 use Rattle.si_tool.specs.declared.command.Report.{Report}
@@ -42,8 +42,10 @@ four_words (x ∷ y ∷ z ∷ u ∷ v ∷ us) a b c d least most p q r s = absur
 pub asks_nothing : (words : List (String Global)) → ((t : Topic) → Asks words (AsksAbout t) → ⊥)
     → ((r : Report) (f : List ℕ) → Asks words (AsksOfGraph (Tell r) f) → ⊥)
     → ((style : Style) (f : List ℕ) → Asks words (AsksOfGraph (Synth style) f) → ⊥)
+    → ((g l : List ℕ) → Asks words (AsksMap g l) → ⊥)
     → ((g n s : List ℕ) → Asks words (AsksReplay g n s) → ⊥) → AsksNothing words
-asks_nothing words about report synth replay (AsksAbout t) asks = about t asks
-asks_nothing words about report synth replay (AsksOfGraph (Tell r) f) asks = report r f asks
-asks_nothing words about report synth replay (AsksOfGraph (Synth style) f) asks = synth style f asks
-asks_nothing words about report synth replay (AsksReplay g n s) asks = replay g n s asks
+asks_nothing words about report synth map replay (AsksAbout t) asks = about t asks
+asks_nothing words about report synth map replay (AsksOfGraph (Tell r) f) asks = report r f asks
+asks_nothing words about report synth map replay (AsksOfGraph (Synth style) f) asks = synth style f asks
+asks_nothing words about report synth map replay (AsksMap g l) asks = map g l asks
+asks_nothing words about report synth map replay (AsksReplay g n s) asks = replay g n s asks

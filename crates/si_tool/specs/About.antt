@@ -14,13 +14,15 @@ help_lines =
     codes "  sisyn conflicts F                  states that no gates can tell apart" ∷
     codes "  sisyn synth F complex              a netlist of complex gates" ∷
     codes "  sisyn synth F gc                   a netlist of generalised C-elements" ∷
+    codes "  sisyn map F LIB                    a netlist of cells of a library" ∷
     codes "  sisyn replay F NETLIST SCHEDULE    where a schedule over a netlist ends" ∷
     codes "  sisyn --help                       this text" ∷
     codes "  sisyn --version                    the version" ∷
     codes "" ∷
-    codes "F is a state graph, NETLIST a netlist and SCHEDULE a list of events, each the" ∷
-    codes "name of a file. A run that succeeds writes to standard output. A refused run" ∷
-    codes "writes one line to standard error, and ends with the status of its first word:" ∷
+    codes "F is a state graph, LIB a library of cells, NETLIST a netlist and SCHEDULE a" ∷
+    codes "list of events, each the name of a file. A run that succeeds writes to standard" ∷
+    codes "output. A refused run writes one line to standard error, and ends with the" ∷
+    codes "status of its first word:" ∷
     codes "" ∷
     codes "  0  the command was done" ∷
     codes "  1  nomemory: memory ran out" ∷
@@ -32,6 +34,7 @@ help_lines =
     codes "  7  nondeterministic, inconsistent, noncommutative, nonpersistent:" ∷
     codes "     the graph isn't proper" ∷
     codes "  8  unresolved: two states of one code want different things of the circuit" ∷
+    codes "  9  unmapped: a signal fits no cell of the library" ∷
     codes " 10  differs: the schedule has an event that the circuit or the graph refuses" ∷
     codes "" ∷
     codes "The documents stand beside the sources: README.md has a walk through the" ∷

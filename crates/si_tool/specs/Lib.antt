@@ -1,6 +1,3 @@
-pub mod Refusal
-pub mod Stages
-pub mod Ending
 pub mod About
 pub mod Command
 pub mod Loads
@@ -8,10 +5,10 @@ pub mod Readings
 pub mod Checks
 pub mod Resolving
 pub mod Synthesis
+pub mod Mapping
 pub mod Replayed
 pub mod Reports
 pub mod Outcomes
 pub mod Meaning
 pub mod Run
 pub mod Laws
-pub mod ExitStatus

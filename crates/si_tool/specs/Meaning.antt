@@ -4,15 +4,16 @@ use Rattle.std.specs.declared.alloc.Global.{Global}
 use Rattle.si_circuit.specs.declared.style.Style.{Style}
 use Rattle.si_tool.specs.About.{about_text}
 use Rattle.si_tool.specs.Checks.{proper, matched}
-use Rattle.si_tool.specs.Command.{Asked, AsksAbout, AsksOfGraph, AsksReplay, Asks, files_of}
-use Rattle.si_tool.specs.Ending.{Ending, NoMemory, Answered}
-use Rattle.si_tool.specs.Readings.{graph_in, netlist_in, schedule_in}
-use Rattle.si_tool.specs.Refusal.{FileRefusal, TextRefusal, Answer, Output, FileRefused, TextRefused}
+use Rattle.si_tool.specs.Command.{Asked, AsksAbout, AsksOfGraph, AsksMap, AsksReplay, Asks, files_of}
+use Rattle.si_refusals.specs.Ending.{Ending, NoMemory, Answered}
+use Rattle.si_tool.specs.Readings.{graph_in, library_in, netlist_in, schedule_in}
+use Rattle.si_refusals.specs.Refusal.{FileRefusal, TextRefusal, Answer, Output, FileRefused, TextRefused}
 use Rattle.si_tool.specs.Replayed.{replayed}
-use Rattle.si_tool.specs.Stages.{Stage, ◌>>=◌, gives}
+use Rattle.si_refusals.specs.Stages.{Stage, ◌>>=◌, gives}
 use Rattle.si_tool.specs.Reports.{told}
 use Rattle.si_tool.specs.Resolving.{resolved}
 use Rattle.si_tool.specs.Synthesis.{synthesised}
+use Rattle.si_tool.specs.Mapping.{mapped}
 use Rattle.si_tool.specs.declared.command.GraphTask.TheVariants.{Tell, Synth}
 use Rattle.si_tool.specs.declared.command.Report.{Report}
 
@@ -32,6 +33,14 @@ synth style file text = do
   synthesised style given coded lineage
 
 -- each file with its text
+abbrev pub mapping : (graph graph_text library library_text : List ℕ) → Stage TextRefusal (List ℕ)
+mapping graph graph_text library library_text = do
+  given ← graph_in graph graph_text
+  cells ← library_in library library_text
+  coded ← proper given.graph given.states
+  lineage ← resolved coded given.states
+  mapped cells given coded lineage
+
 abbrev pub replay : (graph graph_text netlist netlist_text schedule schedule_text : List ℕ)
     → Stage TextRefusal (List ℕ)
 replay graph graph_text netlist netlist_text schedule schedule_text = do
@@ -47,6 +56,7 @@ abbrev pub meaning : Asked → List (List ℕ) → Stage TextRefusal (List ℕ)
 meaning (AsksAbout topic) [] = gives (about_text topic)
 meaning (AsksOfGraph (Tell what) file) (text ∷ []) = report what file text
 meaning (AsksOfGraph (Synth style) file) (text ∷ []) = synth style file text
+meaning (AsksMap g l) (graph ∷ library ∷ []) = mapping g graph l library
 meaning (AsksReplay g n s) (graph ∷ netlist ∷ schedule ∷ []) = replay g graph n netlist s schedule
 meaning asked texts = λ answer. ⊥
 

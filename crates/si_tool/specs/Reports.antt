@@ -5,8 +5,8 @@ use Rattle.si_base.specs.NetlistText.{bits_from, word_if_any}
 use Rattle.si_base.specs.Words.{text_of}
 use Rattle.si_listings.specs.ConflictText.{IsConflictText}
 use Rattle.si_listings.specs.RegionText.{IsRegionText}
-use Rattle.si_tool.specs.Refusal.{TextRefusal}
-use Rattle.si_tool.specs.Stages.{Stage, gives, shows}
+use Rattle.si_refusals.specs.Refusal.{TextRefusal}
+use Rattle.si_refusals.specs.Stages.{Stage, gives, shows}
 use Rattle.si_tool.specs.declared.command.Report.{Report}
 use Rattle.si_tool.specs.declared.command.Report.TheVariants.{Summary, Regions, Conflicts}
 

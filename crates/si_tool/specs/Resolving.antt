@@ -4,8 +4,8 @@ use Rattle.si_base.specs.Codes.{CodedGraph}
 use Rattle.si_circuit.specs.Spelling.{current_word, insertions_of}
 use Rattle.si_insert.specs.Lineage.{History, as_given}
 use Rattle.si_resolve.specs.Trace.{ResolvesTo, EndsUnresolved}
-use Rattle.si_tool.specs.Refusal.{TextRefusal, Unresolved}
-use Rattle.si_tool.specs.Stages.{Stage}
+use Rattle.si_refusals.specs.Refusal.{TextRefusal, Unresolved}
+use Rattle.si_refusals.specs.Stages.{Stage}
 
 -- the lineage of the graph whose insertions resolve its conflicts: each is the best candidate of the graph before it,
 -- and at their end no conflict is left

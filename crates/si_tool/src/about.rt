@@ -24,13 +24,15 @@ const HELP: &[u8] = b"sisyn makes circuits without a clock from state graphs.
   sisyn conflicts F                  states that no gates can tell apart
   sisyn synth F complex              a netlist of complex gates
   sisyn synth F gc                   a netlist of generalised C-elements
+  sisyn map F LIB                    a netlist of cells of a library
   sisyn replay F NETLIST SCHEDULE    where a schedule over a netlist ends
   sisyn --help                       this text
   sisyn --version                    the version
 
-F is a state graph, NETLIST a netlist and SCHEDULE a list of events, each the
-name of a file. A run that succeeds writes to standard output. A refused run
-writes one line to standard error, and ends with the status of its first word:
+F is a state graph, LIB a library of cells, NETLIST a netlist and SCHEDULE a
+list of events, each the name of a file. A run that succeeds writes to standard
+output. A refused run writes one line to standard error, and ends with the
+status of its first word:
 
   0  the command was done
   1  nomemory: memory ran out
@@ -42,6 +44,7 @@ writes one line to standard error, and ends with the status of its first word:
   7  nondeterministic, inconsistent, noncommutative, nonpersistent:
      the graph isn't proper
   8  unresolved: two states of one code want different things of the circuit
+  9  unmapped: a signal fits no cell of the library
  10  differs: the schedule has an event that the circuit or the graph refuses
 
 The documents stand beside the sources: README.md has a walk through the

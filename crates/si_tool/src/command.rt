@@ -2,7 +2,7 @@
 
 ghost use Rattle.std.specs.Prelude.{◌≢◌, ◌≡◌, ℕ, List, MatchOption};
 ghost use Rattle.si_circuit.specs.declared.style.Style as gates;
-ghost use Rattle.si_tool.specs.Command.{Asks, AsksAbout, AsksNothing, AsksOfGraph, AsksReplay};
+ghost use Rattle.si_tool.specs.Command.{Asks, AsksAbout, AsksMap, AsksNothing, AsksOfGraph, AsksReplay};
 ghost use Rattle.si_tool.specs.Command.{asked_now, report_word, style_word};
 ghost use Rattle.si_tool.specs.declared.about.Topic.{Topic as Topics};
 ghost use Rattle.si_tool.specs.declared.command.Report.{Report as Reports};
@@ -37,6 +37,11 @@ pub enum Command<'w> {
     About(Topic),
     /// Something asked of the graph in one file.
     OfGraph(GraphTask, &'w str),
+    /// The netlist of a graph, of the cells of a library.
+    Map {
+        graph: &'w str,
+        library: &'w str,
+    },
     /// The end of a schedule over a netlist beside a graph.
     Replay {
         graph: &'w str,
@@ -57,6 +62,9 @@ pub fn command_of(words: &[String]) -> Option<Command<'_>>
         return Some(command);
     }
     if let Some(command) = synth_of(words) {
+        return Some(command);
+    }
+    if let Some(command) = map_of(words) {
         return Some(command);
     }
     if let Some(command) = replay_of(words) {
@@ -130,6 +138,21 @@ fn style_of(word: &str) -> Option<Style>
     match word {
         "complex" => Some(Style::Complex),
         "gc" => Some(Style::GeneralisedC),
+        _ => None,
+    }
+}
+
+/// `map F LIB`.
+fn map_of(words: &[String]) -> Option<Command<'_>>
+    ensures { MatchOption result
+        ((graph library : List ℕ) → Asks words.now (AsksMap graph library) → ⊥)
+        (λ command. Asks words.now (asked_now command)) }
+{
+    match words {
+        [command, graph, library] if command.as_str() == "map" => Some(Command::Map {
+            graph: graph.as_str(),
+            library: library.as_str(),
+        }),
         _ => None,
     }
 }

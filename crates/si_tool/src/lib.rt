@@ -2,17 +2,16 @@
 #![tactic(auto)]
 
 pub mod about;
-pub mod breach;
 pub mod checks;
 pub mod command;
 pub mod laws;
+pub mod mapping;
 mod output;
 pub mod readings;
-pub mod refusals;
+pub mod refusing;
 pub mod replayed;
 pub mod report;
 pub mod resolving;
 pub mod run;
-pub mod status;
 pub mod sure;
 pub mod synth;

@@ -1,22 +1,23 @@
 //! What a command puts on `out`.
 
 ghost use Rattle.std.specs.Prelude.{◌≡◌, ℕ, ◌≤◌, List, [], ◌∷◌, IfOk, IfErr, Ok};
-ghost use Rattle.si_tool.specs.Command.{AsksOfGraph, AsksReplay, asked_now};
-ghost use Rattle.si_tool.specs.Ending.{MayStopLoading, ending_of};
+ghost use Rattle.si_tool.specs.Command.{AsksMap, AsksOfGraph, AsksReplay, asked_now};
+ghost use Rattle.si_refusals.specs.Ending.{MayStopLoading, ending_of};
 ghost use Rattle.si_tool.specs.Loads as stage;
 ghost use Rattle.si_tool.specs.Loads.{loads};
 ghost use Rattle.si_tool.specs.Meaning.{ComesTo, MayStopCommand};
-ghost use Rattle.si_tool.specs.Refusal.{Output};
+ghost use Rattle.si_refusals.specs.Refusal.{Output};
 
 use crate::about::about;
 use crate::command::{Command, GraphTask};
-use crate::refusals::Refusal;
+use crate::mapping::map_texts;
 use crate::replayed::replay_texts;
 use crate::report::report;
 use crate::synth::synth;
 use si_base::limits::MAX_TEXT;
 use si_base::text::Text;
 use si_io::shelf::{LoadFault, Shelf};
+use si_refusals::refusals::Refusal;
 use std::alloc::Global;
 
 /// The output of a command over the files of the shelf, or the refusal that is due.
@@ -37,6 +38,7 @@ pub fn output<'w, H: Shelf>(
     match command {
         Command::About(topic) => Ok(about(alloc, topic)?),
         Command::OfGraph(task, file) => graph_output(alloc, task, file, shelf),
+        Command::Map { graph, library } => map_output(alloc, graph, library, shelf),
         Command::Replay {
             graph,
             netlist,
@@ -66,6 +68,26 @@ fn graph_output<'w, H: Shelf>(
         GraphTask::Tell(what) => report(alloc, what, file, &text),
         GraphTask::Synth(style) => synth(alloc, style, file, &text),
     }
+}
+
+/// The netlist of the graph, of the cells of the library.
+fn map_output<'w, H: Shelf>(
+    alloc: Global,
+    graph: &'w str,
+    library: &'w str,
+    shelf: &mut H,
+) -> Result<Text, Refusal<'w>>
+    ensures ok { IfOk result (λ text. ComesTo
+        (loads (H.content shelf.old) (H.faults shelf.old) (H.faults shelf.new))
+        (AsksMap graph.now library.now) (Output text)) }
+    ensures err { IfErr result (λ r. MayStopCommand
+        (loads (H.content shelf.old) (H.faults shelf.old) (H.faults shelf.new))
+        (AsksMap graph.now library.now) (ending_of r)) }
+    ensures later { (n : List ℕ) → H.faults shelf.old n ≤ H.faults shelf.new n }
+    ensures same { (n : List ℕ) → H.content shelf.new n ≡ H.content shelf.old n }
+{
+    let (first, second) = load_two(alloc, graph, library, shelf)?;
+    map_texts(alloc, graph, &first, library, &second)
 }
 
 /// The end of the schedule over the netlist beside the graph.

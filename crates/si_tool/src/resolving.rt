@@ -4,17 +4,17 @@ ghost use Rattle.std.specs.Prelude.{◌≡◌, ℕ, IfOk, IfErr, length, Ok};
 ghost use Rattle.si_insert.specs.Lineage.{AllGiven};
 ghost use Rattle.si_resolve.specs.Best.{IsStuck};
 ghost use Rattle.si_resolve.specs.Ends.{ShowsStuck};
-ghost use Rattle.si_tool.specs.Ending.{Answered, MayStop, ending_of};
-ghost use Rattle.si_tool.specs.Refusal.{TextRefused};
+ghost use Rattle.si_refusals.specs.Ending.{Answered, MayStop, ending_of};
+ghost use Rattle.si_refusals.specs.Refusal.{TextRefused};
 ghost use Rattle.si_tool.specs.Resolving as stage;
 
-use crate::refusals::Refusal;
 use si_base::ids::NoMemory;
 use si_base::names::Names;
 use si_checks::proper::Proper;
 use si_circuit::spelling::{current_state_word, insertions};
 use si_insert::lineage::Lineage;
 use si_insert::resolved::Resolved;
+use si_refusals::refusals::Refusal;
 use si_resolve::resolve::{Stuck, Unresolved, resolve};
 use std::alloc::Global;
 

@@ -7,7 +7,8 @@ mod schedule_tests;
 mod tests;
 
 use si_io::host::{HostShelf, HostSink};
-use si_tool::refusals::{Refusal, refuse};
+use si_refusals::refusals::Refusal;
+use si_tool::refusing::refuse;
 use si_tool::run::run;
 use std::env;
 use std::io::ErrorKind;

@@ -14,7 +14,7 @@ use si_system::schedule::read_schedule;
 use si_system::system::System;
 use si_system::verdict::Verdict;
 use si_tool::run::run;
-use si_tool::status::Status;
+use si_refusals::status::Status;
 use si_tool::sure::run_in_memory;
 use std::alloc::{AllocError, Global};
 use std::process::Abort;
@@ -434,6 +434,90 @@ fn conflicts_are_resolved(rt: HostRuntime) -> Result<(), Fail> {
     let alloc = rt.alloc();
     expect_gates(&rt, alloc, &SYNTH, VME, VME_HEAD, VME_SUMS)?;
     expect_gates(&rt, alloc, &SYNTH_GC, VME, VME_HEAD, VME_ELEMENTS)
+}
+
+/// A buffer, two gates and the two-input C-element.
+const FOUR_CELLS: &[u8] = b".library four
+.cell BUF a = a
+.cell AND2 a b = a b
+.cell OR2 a b = a + b
+.cell C2 a b = a b + a q + b q
+.end
+";
+
+const BUFFER: &[u8] = b".library buffer
+.cell BUF a = a
+.end
+";
+
+/// The C-element of three inputs.
+const THREE_INPUTS: &[u8] = b".model c3
+.inputs a b c
+.outputs z
+.state graph
+l000 a+ l100 b+ l110 c+ l111 z+ h111 a- h011 b- h001 c- h000 z- l000
+l000 b+ l010 c+ l011 a+ l111
+l000 c+ l001 a+ l101 b+ l111
+l100 c+ l101
+l010 a+ l110
+l001 b+ l011
+h111 b- h101 c- h100 a- h000
+h111 c- h110 a- h010 b- h000
+h011 c- h010
+h101 a- h001
+h110 b- h100
+.marking {l000}
+.end
+";
+
+const VME_CELLS: &[u8] = b"D cell AND2 LDTACK csc0' : LDTACK csc0'
+DTACK cell BUF D : D
+LDS cell OR2 D csc0' : D + csc0'
+csc0 cell C2 DSr' LDTACK : DSr' LDTACK + DSr' csc0 + LDTACK csc0
+";
+
+const MAP: [&str; 3] = ["map", "graph.sg", "c.net"];
+
+/// The texts of a graph and of a library, the second in the file of the netlist.
+fn with_cells<'t>(graph: &'t [u8], library: &'t [u8]) -> Texts<'t> {
+    Texts {
+        graph,
+        netlist: library,
+        schedule: b"",
+    }
+}
+
+/// Maps, and expects a netlist with these lines before and after the line of the gates.
+fn expect_cells(
+    rt: &impl Abort,
+    alloc: Global,
+    graph: &[u8],
+    head: &[u8],
+    gates: &[u8],
+) -> Result<(), Fail> {
+    let mut written = Text::copy_of(alloc, VERSION)?;
+    written.add(head)?;
+    written.add(b".gates\n")?;
+    written.add(gates)?;
+    written.add(b".end\n")?;
+    let want = (Status::Done, written.bytes(), b"".as_slice());
+    expect(rt, alloc, &MAP, with_cells(graph, FOUR_CELLS), want)
+}
+
+#[test]
+fn cells_of_a_library(rt: HostRuntime) -> Result<(), Fail> {
+    let alloc = rt.alloc();
+    let element =
+        b".model c2\n.inputs a b\n.outputs c\n.internal\n.inserted\n.start 000\n".as_slice();
+    let gate = b"c cell C2 a b : a b + a c + b c\n".as_slice();
+    expect_cells(&rt, alloc, C_ELEMENT, element, gate)?;
+    expect_cells(&rt, alloc, VME, VME_HEAD, VME_CELLS)?;
+    let unmapped = b"unmapped z\n".as_slice();
+    let unmapped = (Status::Unmapped, b"".as_slice(), unmapped);
+    expect(&rt, alloc, &MAP, with_cells(THREE_INPUTS, BUFFER), unmapped)?;
+    let faulty = b"badtext c.net 1 BadLine\n".as_slice();
+    let faulty = (Status::BadText, b"".as_slice(), faulty);
+    expect(&rt, alloc, &MAP, with_cells(C_ELEMENT, C_ELEMENT), faulty)
 }
 
 /// Handshakes one after another: state `p` of each round leads by `a+` to `q`, then by `z+` to `r`, by `a-` to `t` and

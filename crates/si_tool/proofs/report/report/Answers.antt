@@ -3,7 +3,7 @@ use Rattle.si_base.specs.Codes.{CodedGraph}
 use Rattle.si_sg.specs.GivenGraph.{sg_now}
 use Rattle.si_tool.specs.Meaning.{report}
 use Rattle.si_tool.specs.Reports.{told}
-use Rattle.si_tool.specs.Stages.{Passes}
+use Rattle.si_refusals.specs.Stages.{Passes}
 use Rattle.std.proofs.Common.{Ok}
 use Rattle.si_tool.proofs.CallLemmas.{stops}
 use Rattle.si_tool.proofs.StageLemmas.{stop_first, stop_next}

@@ -3,7 +3,7 @@ use Rattle.si_base.specs.Words.{line}
 use Rattle.si_circuit.specs.InsertionWords.{all_insertion_words}
 use Rattle.si_words.specs.Writing.{spaced}
 use Rattle.si_words.proofs.WritingLemmas.{joined_words}
-use Rattle.si_tool.proofs.refusals.unresolved.Goals as goal
+use Rattle.si_refusals.proofs.refusals.unresolved.Goals as goal
 
 regrouped : (head p q rest : List ℕ)
     → (((head ++ 32 ∷ p) ++ 32 ∷ q) ++ rest) ++ 10 ∷ [] ≡ (head ++ 32 ∷ (p ++ 32 ∷ (q ++ rest))) ++ 10 ∷ []

@@ -1,0 +1,4 @@
+pub mod Refusal
+pub mod Stages
+pub mod Ending
+pub mod ExitStatus
