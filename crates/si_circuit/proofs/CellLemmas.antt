@@ -65,9 +65,12 @@ gate_is c library z is good driven some =
     let found = gate_found c library z is some in
     let over = found.1.over in
     let cell = good.cells.each found.0.cell no_cell over.instance.cell in
-    subst (IsGate (length c.graph.signals)) (sym found.1.gate)
-    (cell.name, omega (over.instance.pins, cell.few_pins, arith), over.signals,
-    expanded_is_sum (length c.graph.signals) library found.0 z good over.instance over.signals (signal_there c z driven))
+    subst (IsGate (length c.graph.signals)) (sym found.1.gate) (
+      cell.name,
+      omega (over.instance.pins, cell.few_pins, arith),
+      over.signals,
+      expanded_is_sum (length c.graph.signals) library found.0 z good over.instance over.signals (signal_there c z driven),
+    )
 
 pub cells_give : (c : CodedGraph) (library : Library) (model : List ℕ) (inserts : List Insertion) → IsCoded c
     → IsLibrary library → AllFit c library → GivesNextValues c (netlist_of (cell_gate c library) model inserts c)

@@ -20,9 +20,10 @@ loop-i-preserved-then-not-is_driven c =
     c.signals-i-end.ensures ∙ ap (λ (g : StateGraph). g.signals) graph_is in
     let within : c.loop-i.i < length k.graph.signals = rw signals at c.loop-i-test.true in
     let input = rw graph_is at c.if-not-is_driven.ensures.1 in
-    let skip = gates_skip (cell_gate k c.args.library.now) k.graph.signals c.loop-i.i within input in
-    (ap (λ (rest : List Gate). map gate_seen c.loop-i.gates.items ++ rest) skip ∙ c.loop-i.invariant.0,
-    fit_more k c.args.library.now c.loop-i.i c.loop-i.invariant.1 (λ driven. absurd (false≢true (input driven))))
+    let skip = gates_skip (cell_gate k c.args.library.now) k.graph.signals c.loop-i.i within input in (
+      ap (λ (rest : List Gate). map gate_seen c.loop-i.gates.items ++ rest) skip ∙ c.loop-i.invariant.0,
+      fit_more k c.args.library.now c.loop-i.i c.loop-i.invariant.1 (λ driven. absurd (false≢true (input driven))),
+    )
 
 pub loop-i-preserved : goal.loop-i-preserved
 loop-i-preserved c =
@@ -34,6 +35,7 @@ loop-i-preserved c =
     let within : c.loop-i.i < length k.graph.signals = rw signals at c.loop-i-test.true in
     let driven : IsNonInput k.graph.signals c.loop-i.i = (rw graph_is at c.if-not-is_driven.ensures.0) refl in
     let more = gates_more (cell_gate k c.args.library.now) k.graph.signals
-    c.loop-i.i (map gate_seen c.loop-i.gates.items) within driven in
-    (rw (c.in_ok-push.ensures.items, map_push, c.in_ok-gate.ensures.gate) (more ∙ c.loop-i.invariant.0),
-    fit_more k c.args.library.now c.loop-i.i c.loop-i.invariant.1 (λ d. c.in_ok-gate.ensures.fit))
+    c.loop-i.i (map gate_seen c.loop-i.gates.items) within driven in (
+      rw (c.in_ok-push.ensures.items, map_push, c.in_ok-gate.ensures.gate) (more ∙ c.loop-i.invariant.0),
+      fit_more k c.args.library.now c.loop-i.i c.loop-i.invariant.1 (λ d. c.in_ok-gate.ensures.fit),
+    )
