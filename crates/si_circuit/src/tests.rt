@@ -7,7 +7,6 @@ ghost use Rattle.si_insert.specs.Accepted.{IsAccepted};
 ghost use Rattle.si_insert.specs.Fresh.{IsTaken};
 ghost use Rattle.si_insert.specs.Lineage.{AllGiven};
 
-use crate::cells::CellsFault;
 use crate::circuit::Circuit;
 use crate::spelling::insertions;
 use crate::style::Style;
@@ -15,7 +14,6 @@ use si_base::graph::{Edge, SigKind, Signal};
 use si_base::ids::{Event, NoMemory, Sig, StateId};
 use si_base::names::Names;
 use si_base::text::{Name, Text};
-use si_cell::reader::read_library;
 use si_checks::proper::Proper;
 use si_graph::coded::Coded;
 use si_graph::graph::{Cut, Graph};
@@ -296,72 +294,6 @@ fn generalised_c_elements(rt: HostRuntime) -> Result<(), Fail> {
         text(&rt, rt.alloc(), Style::GeneralisedC)?.bytes(),
         GENERALISED
     );
-    Ok(())
-}
-
-/// Four cells.
-const FOUR: &[u8] = b".library four
-.cell BUF a = a
-.cell AND2 a b = a b
-.cell OR2 a b = a + b
-.cell C2 a b = a b + a q + b q
-.end
-";
-
-const BUFFERS: &[u8] = b".library b
-.cell BUF a = a
-.end
-";
-
-const CELLS: &[u8] = b".version 2
-.model vme
-.inputs DSr LDTACK
-.outputs D DTACK LDS
-.internal
-.inserted csc0
-.start 000001
-.insert csc0 up s6 down s1
-.gates
-D cell AND2 LDTACK csc0' : LDTACK csc0'
-DTACK cell BUF D : D
-LDS cell OR2 D csc0' : D + csc0'
-csc0 cell C2 DSr' LDTACK : DSr' LDTACK + DSr' csc0 + LDTACK csc0
-.end
-";
-
-/// The text of the circuit of cells of the library, with one insertion, or why there is none.
-fn cells_text(
-    rt: &impl Abort,
-    alloc: Global,
-    library: &[u8],
-) -> Result<Result<Text, CellsFault>, Fail> {
-    let Ok(resolved) = Resolved::make(alloc, with_csc0(rt, alloc)?) else {
-        return Err(NoMemory)?;
-    };
-    let Ok(library) = read_library(alloc, library) else {
-        return Err(NoMemory)?;
-    };
-    let states = states(rt, alloc)?;
-    let model = Name::copy_of(alloc, b"vme")?;
-    let lineage = resolved.lineage();
-    assert!(rt; states.len() == lineage.given().coded().graph().states());
-    assert!(rt; all_named(lineage.current().coded().graph().signals()));
-    match Circuit::of_cells(alloc, resolved, &library, &model, &states) {
-        Ok(circuit) => Ok(Ok(write_netlist(alloc, circuit.netlist())?)),
-        Err((_, fault)) => Ok(Err(fault)),
-    }
-}
-
-#[test]
-fn cells(rt: HostRuntime) -> Result<(), Fail> {
-    let Ok(text) = cells_text(&rt, rt.alloc(), FOUR)? else {
-        return Err(NoMemory)?;
-    };
-    assert_eq!(rt; text.bytes(), CELLS);
-    let Err(fault) = cells_text(&rt, rt.alloc(), BUFFERS)? else {
-        return Err(NoMemory)?;
-    };
-    assert_eq!(rt; fault, CellsFault::Unfit { sig: Sig(2) });
     Ok(())
 }
 
