@@ -1,0 +1,139 @@
+-- Monotonous cubes: two meet in a third, and two least ones have the same literals.
+use Rattle.std.proofs.Common.{◌≡◌, ℕ, suc, ◌<◌, ◌++◌, ◌↔◌, not, Bool, true, false, List, [], ◌∷◌, length, All, Contains, refl, sym, ap, ap₂, ◌∙◌, arith, inl, inr}
+use Rattle.std.proofs.lemmas.Bool.{true≢false, and_parts, cases_order, cases_eq, cases_Bool}
+use Rattle.std.proofs.lemmas.List.Elements.{All-cons}
+use Rattle.std.proofs.lemmas.List.Folds.{list_all-append}
+use Rattle.std.specs.List.{list_all}
+use mathlib.Core.Bool.{beq}
+use Rattle.si_base.specs.declared.ids.Literal.{Literal}
+use Rattle.si_base.specs.Bits.{bit, flip}
+use Rattle.si_base.specs.Codes.{CodedGraph, code}
+use Rattle.si_base.specs.Netlist.{literal_value}
+use Rattle.si_base.proofs.BitFacts.{flip-same, flip-other}
+use Rattle.si_base.proofs.Sorted.{In}
+use Rattle.si_base.proofs.Steps.{beq-true}
+use Rattle.si_base.proofs.Unique.{contains_from_in, in_from_contains}
+use Rattle.si_cube.specs.Cubes.{Covers}
+use Rattle.si_cover.specs.Mono.{IsDrawn, Strays, IsMono, IsLeastCube, IsLeastMono, ShowsNoMono}
+use Rattle.si_cover.proofs.NeededLemmas.{all_in}
+
+-- ---- two cubes
+all_both : {A : Type 0} (P : A → Type 0) (xs ys : List A) → All P xs → All P ys → All P (xs ++ ys)
+all_both P [] ys a b = b
+all_both P (x ∷ xs) ys a b =
+    let rest : All P xs = λ k d within. a (suc k) d (omega (arith, within)) in
+    All-cons P x (xs ++ ys) (a 0 x (omega arith)) (all_both P xs ys rest b)
+
+covers_both : (x y : List Literal) (k : ℕ) → Covers x k → Covers y k → Covers (x ++ y) k
+covers_both x y k a b = list_all-append (literal_value k) x y ∙ rw a b
+
+covers_parts : (x y : List Literal) (k : ℕ) → Covers (x ++ y) k → Covers x k × Covers y k
+covers_parts x y k h =
+    and_parts (list_all (literal_value k) x) (list_all (literal_value k) y)
+    (sym (list_all-append (literal_value k) x y) ∙ h)
+
+drawn_both : (c : CodedGraph) (er qr : List ℕ) (x y : List Literal) → IsDrawn c er qr x → IsDrawn c er qr y
+    → IsDrawn c er qr (x ++ y)
+drawn_both c er qr x y a b = record {
+  of = all_both (λ (l : Literal). l.sig < length c.graph.signals) x y a.of b.of;
+  covers = λ s there. covers_both x y (code c s) (a.covers s there) (b.covers s there);
+  draws = λ s e t step there h.
+      let parts = covers_parts x y (code c t) h in
+      covers_both x y (code c s) (a.draws s e t step there parts.0) (b.draws s e t step there parts.1);
+}
+
+pub monos_meet : (c : CodedGraph) (er qr : List ℕ) (x y : List Literal) → IsMono c er qr x → IsMono c er qr y
+    → IsMono c er qr (x ++ y)
+monos_meet c er qr x y a b = record {
+  drawn = drawn_both c er qr x y a.drawn b.drawn;
+  stays = λ s k. a.stays s (record {
+    within = k.within;
+    covers = (covers_parts x y (code c s) k.covers).0;
+    not_er = k.not_er;
+    not_qr = k.not_qr;
+  });
+}
+
+pub least_monos_agree : (c : CodedGraph) (er qr : List ℕ) (x y : List Literal) → IsLeastMono c er qr x
+    → IsLeastMono c er qr y → (k : ℕ) → Covers x k → Covers y k
+least_monos_agree c er qr x y a b = a.least y b.meets
+
+-- ---- the least drawn cube
+pub drawn_is_mono : (c : CodedGraph) (er qr : List ℕ) (cube : List Literal) → IsLeastCube (IsDrawn c er qr) cube
+    → ((s : ℕ) → Strays c er qr cube s → ⊥) → IsLeastMono c er qr cube
+drawn_is_mono c er qr cube a stays =
+    record { meets = record { drawn = a.meets; stays = stays }; least = λ other m. a.least other m.drawn }
+
+-- what strays from the least cube strays from each other one
+strays_too : (c : CodedGraph) (er qr : List ℕ) (x y : List Literal) (s : ℕ) → IsLeastCube (IsDrawn c er qr) x
+    → IsDrawn c er qr y → Strays c er qr x s → Strays c er qr y s
+strays_too c er qr x y s a b k =
+    record { within = k.within; covers = a.least y b (code c s) k.covers; not_er = k.not_er; not_qr = k.not_qr }
+
+pub strayed_is_none : (c : CodedGraph) (er qr : List ℕ) (s : ℕ) (other : List Literal) → ShowsNoMono c er qr s
+    → IsMono c er qr other → ⊥
+strayed_is_none c er qr s other (cube, a, first) m =
+    m.stays s (strays_too c er qr cube other s a m.drawn first.holds)
+
+pub no_mono_is_unique : (c : CodedGraph) (er qr : List ℕ) (s t : ℕ) → ShowsNoMono c er qr s → ShowsNoMono c er qr t
+    → s ≡ t
+no_mono_is_unique c er qr s t (x, a, first) (y, b, other) = elim (cases_order s t) [
+  | inl same ↦ same
+  | inr (inl below) ↦ absurd (other.none_before s (strays_too c er qr x y s a b.meets first.holds) (inl below))
+  | inr (inr above) ↦ absurd (first.none_before t (strays_too c er qr y x t b a.meets other.holds) (inl above))
+]
+
+-- ---- the literals of a cube
+-- a literal that is true at a code, and false once a signal is flipped, is of that signal
+literal_told : (k s : ℕ) (v : Bool) (m : Literal) → bit k s ≡ v → literal_value k m ≡ true
+    → literal_value (flip k s) m ≡ false → m ≡ record { sig = s; plain = v }
+literal_told k s v m value here gone = elim (cases_eq m.sig s) [
+  | inl same ↦ (
+      let make : ℕ → Bool → Literal = λ sig plain. record { sig = sig; plain = plain } in
+      let plain : m.plain ≡ v = sym (beq-true (bit k m.sig) m.plain here) ∙ ap (bit k) same ∙ value in
+      ap₂ make same plain)
+  | inr other ↦ (
+      let kept : literal_value (flip k s) m ≡ true = ap (λ b. beq b m.plain) (flip-other k s m.sig other) ∙ here in
+      absurd (true≢false (sym kept ∙ gone)))
+]
+
+-- a cube that covers a code, and doesn't once a signal is flipped, has a literal of the signal
+literal_there : (k s : ℕ) (v : Bool) (cube : List Literal) → bit k s ≡ v → Covers cube k
+    → (Covers cube (flip k s) → ⊥) → In (record { sig = s; plain = v }) cube
+literal_there k s v [] value here gone = absurd (gone refl)
+literal_there k s v (m ∷ ms) value here gone =
+    let parts = and_parts (literal_value k m) (list_all (literal_value k) ms) here in
+    elim (cases_Bool (literal_value (flip k s) m)) [
+      | inl stays ↦ inr (literal_there k s v ms value parts.1 (λ rest. gone (rw stays rest)))
+      | inr leaves ↦ inl (sym (literal_told k s v m value parts.0 leaves))
+    ]
+
+not_itself : (b : Bool) → not b ≡ b → ⊥
+not_itself true h = true≢false (sym h)
+not_itself false h = true≢false h
+
+-- once the signal of a literal is flipped, the cube doesn't cover the code
+flipped_out : (k : ℕ) (cube : List Literal) (l : Literal) → In l cube → Covers cube k
+    → Covers cube (flip k l.sig) → ⊥
+flipped_out k cube l there here still =
+    let before : bit k l.sig ≡ l.plain = beq-true (bit k l.sig) l.plain (all_in (literal_value k) cube here l there) in
+    let after : bit (flip k l.sig) l.sig ≡ l.plain =
+    beq-true (bit (flip k l.sig) l.sig) l.plain (all_in (literal_value (flip k l.sig)) cube still l there) in
+    not_itself (bit k l.sig) (sym (flip-same k l.sig) ∙ after ∙ sym before)
+
+-- a cube that covers a code, and nothing that the other doesn't cover, has the literals of the other
+pub has_literals : (k : ℕ) (x y : List Literal) → ((j : ℕ) → Covers y j → Covers x j) → Covers y k
+    → (l : Literal) → Contains x l → Contains y l
+has_literals k x y less here l (i, within, at) =
+    let there = in_from_contains x l i within at in
+    let all = less k here in
+    let value : bit k l.sig ≡ l.plain = beq-true (bit k l.sig) l.plain (all_in (literal_value k) x all l there) in
+    contains_from_in y l
+    (literal_there k l.sig l.plain y value here (λ still. flipped_out k x l there all (less (flip k l.sig) still)))
+
+pub least_monos_have_same_literals : (c : CodedGraph) (er qr : List ℕ) (x y : List Literal) (s : ℕ) → Contains er s
+    → IsLeastMono c er qr x → IsLeastMono c er qr y → (l : Literal) → Contains x l ↔ Contains y l
+least_monos_have_same_literals c er qr x y s there a b l = (
+  has_literals (code c s) x y (b.least x a.meets) (b.meets.drawn.covers s there) l,
+  has_literals (code c s) y x (a.least y b.meets) (a.meets.drawn.covers s there) l,
+)
