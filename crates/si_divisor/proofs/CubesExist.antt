@@ -1,0 +1,243 @@
+-- Each coded graph has the least monotonous cubes that pin literals ask for.
+use Rattle.std.proofs.Common.{◌≡◌, ◌⊎◌, ◌++◌, ℕ, zero, suc, ◌+◌, ◌<◌, ◌≤◌, Bool, true, false, List, [], ◌∷◌, length, filter, take, get_or, Contains, refl, sym, ap, subst, ◌∙◌, arith, inl, inr}
+use Rattle.std.specs.List.{list_all}
+use Rattle.std.proofs.lemmas.Bool.{cases_Bool, cases_eq, true≢false, and_parts}
+use Rattle.std.proofs.lemmas.List.{take_all, get_or_default}
+use Rattle.si_base.specs.declared.graph.Edge.{Edge}
+use Rattle.si_base.specs.declared.ids.Literal.{Literal}
+use Rattle.si_base.specs.Bits.{bit}
+use Rattle.si_base.specs.Graph.{arc, rise}
+use Rattle.si_base.specs.Codes.{CodedGraph, IsCoded, code}
+use Rattle.si_base.specs.Netlist.{literal_value}
+use Rattle.si_base.proofs.InOrder.{in_contains}
+use Rattle.si_base.proofs.Sorted.{In}
+use Rattle.si_base.proofs.Unique.{contains_from_in}
+use Rattle.si_base.proofs.Steps.{beq-refl}
+use Rattle.si_graph.proofs.MemberLemmas.{Contains-cons_cases, Contains-here, Contains-there, Contains-nil}
+use Rattle.si_cube.specs.Cubes.{Covers, IsLeastAbove}
+use Rattle.si_cube.specs.Literals.{full_literals}
+use Rattle.si_regions.specs.declared.regions.Region.{Region}
+use Rattle.si_regions.specs.Regions.{IsRegion}
+use Rattle.si_regions.proofs.SetsExist.{Decided, both, same_bit, some_of, listed}
+use Rattle.si_regions.proofs.RegionsExist.{some_regions}
+use Rattle.si_cover.specs.Growing.{IsGrowing, IsWider, Demands}
+use Rattle.si_cover.specs.Mono.{IsDrawn, Strays, IsLeastCube, IsLeastMono}
+use Rattle.si_cover.proofs.NeededLemmas.{all_in}
+use Rattle.si_cover.proofs.MonoLemmas.{drawn_is_mono, has_literals}
+use Rattle.si_cover.proofs.GrowthLemmas.{growth_begins, growth_takes, growth_goes_on, growth_ends, none_demanded, turns_drop}
+use Rattle.si_divisor.specs.PinTests.{AreCubesFor, AreCubesOf}
+use Rattle.si_divisor.proofs.RegionCubes.{none_yet, with_cube, without_cube, all_found}
+
+-- ---- a wider cube
+own_kept : (p : Literal → Bool) (xs : List Literal) → list_all p (filter p xs) ≡ true
+own_kept p [] = refl
+own_kept p (x ∷ xs) = elim (cases_Bool (p x)) [
+  | inl on ↦ rw (on, on) (own_kept p xs)
+  | inr off ↦ rw off (own_kept p xs)
+]
+
+all_kept : (p q : Literal → Bool) (xs : List Literal) → list_all p xs ≡ true → list_all p (filter q xs) ≡ true
+all_kept p q [] all = refl
+all_kept p q (x ∷ xs) all =
+    let parts = and_parts (p x) (list_all p xs) all in
+    elim (cases_Bool (q x)) [
+      | inl on ↦ (let here = parts.0 in rw (on, here) (all_kept p q xs parts.1))
+      | inr off ↦ rw off (all_kept p q xs parts.1)
+    ]
+
+in_kept : (p : Literal → Bool) (xs : List Literal) (l : Literal) → In l xs → p l ≡ true → In l (filter p xs)
+in_kept p [] l there on = absurd there
+in_kept p (x ∷ xs) l (inl same) on = let here : p x ≡ true = ap p (sym same) ∙ on in rw here (inl same)
+in_kept p (x ∷ xs) l (inr later) on = elim (cases_Bool (p x)) [
+  | inl here ↦ rw here (inr (in_kept p xs l later on))
+  | inr not_here ↦ rw not_here (in_kept p xs l later on)
+]
+
+all_of : (p : Literal → Bool) (xs : List Literal) → ((l : Literal) → In l xs → p l ≡ true) → list_all p xs ≡ true
+all_of p [] each = refl
+all_of p (x ∷ xs) each = let here = each x (inl refl) in rw here (all_of p xs (λ l there. each l (inr there)))
+
+-- of a cube that covers some code, the literals that are true at another make the least cube above both
+wider_is : (cube : List Literal) (covered other : ℕ) → Covers cube covered
+    → IsLeastAbove cube other (filter (literal_value other) cube)
+wider_is cube covered other here = record {
+  above = record {
+    covers = own_kept (literal_value other) cube;
+    keeps = λ k all. all_kept (literal_value k) (literal_value other) cube all;
+  };
+  least = λ larger above k covers. all_of (literal_value k) larger (λ l there.
+      let among = in_contains cube l (has_literals covered larger cube above.keeps here l
+      (contains_from_in larger l there)) in
+      let on = all_in (literal_value other) larger above.covers l there in
+      all_in (literal_value k) (filter (literal_value other) cube) covers l
+      (in_kept (literal_value other) cube l among on));
+}
+
+covers_itself : (n i code : ℕ) → Covers (full_literals n i code) code
+covers_itself zero i code = refl
+covers_itself (suc n) i code = let here = beq-refl (bit code i) in rw here (covers_itself n (i + 1) code)
+
+-- ---- growth
+module _ (c : CodedGraph) (er qr : List ℕ) (first : ℕ) (in_er : Contains er first) where
+  -- a cube between two turns, which covers the component
+  record Grown : Type 0 where
+    cube : List Literal
+    grows : IsGrowing c er qr cube
+    covers : (s : ℕ) → Contains er s → Covers cube (code c s)
+
+  -- the same for some of the states alone
+  record Begun (states : List ℕ) : Type 0 where
+    cube : List Literal
+    grows : IsGrowing c er qr cube
+    begins : Covers cube (code c first)
+    covers : (s : ℕ) → Contains states s → Covers cube (code c s)
+
+  widened : (cube : List Literal) (s : ℕ) → Covers cube (code c first)
+      → IsWider cube (code c s) (filter (literal_value (code c s)) cube)
+  widened cube s begins = record { literals = refl; least = wider_is cube (code c first) (code c s) begins }
+
+  begun : (states : List ℕ) → ((s : ℕ) → Contains states s → Contains er s) → Begun states
+  begun [] within = record {
+    cube = full_literals (length c.graph.signals) 0 (code c first);
+    grows = growth_begins c er qr first in_er;
+    begins = covers_itself (length c.graph.signals) 0 (code c first);
+    covers = λ s there. absurd (Contains-nil s there);
+  }
+  begun (s ∷ states) within =
+      let rest = begun states (λ t there. within t (Contains-there s states t there)) in
+      let wider = filter (literal_value (code c s)) rest.cube in
+      let w = widened rest.cube s rest.begins in
+      record {
+        cube = wider;
+        grows = growth_takes c er qr rest.cube wider s rest.grows (within s (Contains-here s states)) w;
+        begins = w.least.above.keeps (code c first) rest.begins;
+        covers = λ t there. elim (Contains-cons_cases s states t there) [
+          | inl same ↦ subst (λ u. Covers wider (code c u)) same w.least.above.covers
+          | inr later ↦ w.least.above.keeps (code c t) (rest.covers t later)
+        ];
+      }
+
+  demands_or_not : (cube : List Literal) (a : Edge) → Decided (Demands c qr cube a)
+  demands_or_not cube a = elim (both (listed qr a.to) (both
+      (same_bit (list_all (literal_value (code c a.to)) cube) true)
+      (same_bit (list_all (literal_value (code c a.from)) cube) false))) [
+        | inl is ↦ inl (record { there = is.0; covers = is.1.0; left = λ held. true≢false (sym held ∙ is.1.1) })
+        | inr none ↦ inr (λ d. none (d.there, (d.covers, not_true _ d.left)))
+      ]
+    where
+      not_true : (b : Bool) → (b ≡ true → ⊥) → b ≡ false
+      not_true true off = absurd (off refl)
+      not_true false off = refl
+
+  -- it is the least cube, or there is a turn that drops a literal
+  turn : (g : Grown) → IsLeastCube (IsDrawn c er qr) g.cube ⊎ ((next : Grown) × (length next.cube < length g.cube))
+  turn g = elim (some_of (Demands c qr g.cube) (demands_or_not g.cube) c.graph.edges) [
+    | inr none ↦ inl (growth_ends c er qr g.cube g.grows g.covers (none_demanded c qr g.cube (λ s d. none (
+      arc s d.e d.t,
+      d.step,
+      record { there = d.there; covers = d.covers; left = d.left },
+    ))))
+    | inl (a, there, d) ↦ (
+        let wider = filter (literal_value (code c a.from)) g.cube in
+        let w = widened g.cube a.from (g.covers first in_er) in
+        inr (
+          record {
+            cube = wider;
+            grows = growth_goes_on c er qr g.cube wider a.from a.event a.to g.grows there d.there d.covers w;
+            covers = λ s held. w.least.above.keeps (code c s) (g.covers s held);
+          },
+          turns_drop g.cube (code c a.from) d.left,
+        ))
+  ]
+
+  -- so many turns are enough
+  ends : (turns : ℕ) (g : Grown) → length g.cube ≤ turns → (cube : List Literal) × IsLeastCube (IsDrawn c er qr) cube
+  ends zero g few = elim (turn g) [
+    | inl least ↦ (g.cube, least)
+    | inr (next, fewer) ↦ absurd (omega (arith, few, fewer))
+  ]
+  ends (suc turns) g few = elim (turn g) [
+    | inl least ↦ (g.cube, least)
+    | inr (next, fewer) ↦ ends turns next (omega (arith, few, fewer))
+  ]
+
+  some_drawn : (cube : List Literal) × IsLeastCube (IsDrawn c er qr) cube
+  some_drawn =
+      let b = begun er (λ s there. there) in
+      ends (length b.cube) (record { cube = b.cube; grows = b.grows; covers = b.covers }) (omega arith)
+
+  strays_or_not : (cube : List Literal) (s : ℕ) → s < c.graph.states → Decided (Strays c er qr cube s)
+  strays_or_not cube s within = elim (both (same_bit (list_all (literal_value (code c s)) cube) true)
+      (both (negated (listed er s)) (negated (listed qr s)))) [
+        | inl is ↦ inl (record { within = within; covers = is.0; not_er = is.1.0; not_qr = is.1.1 })
+        | inr none ↦ inr (λ k. none (k.covers, (k.not_er, k.not_qr)))
+      ]
+    where
+      negated : {P : Type 0} → Decided P → Decided (P → ⊥)
+      negated (inl is) = inr (λ none. none is)
+      negated (inr none) = inl none
+
+  some_stray : (cube : List Literal) (n : ℕ) → n ≤ c.graph.states
+      → Decided ((s : ℕ) × (s < n) × Strays c er qr cube s)
+  some_stray cube zero within = inr (λ (s, below, k). omega (arith, below))
+  some_stray cube (suc n) within = elim (strays_or_not cube n (omega (arith, within))) [
+    | inl here ↦ inl (n, omega arith, here)
+    | inr not_here ↦ elim (some_stray cube n (omega (arith, within))) [
+      | inl (s, below, k) ↦ inl (s, omega (arith, below), k)
+      | inr none ↦ inr (λ (s, below, k). elim (cases_eq s n) [
+        | inl same ↦ not_here (subst (Strays c er qr cube) same k)
+        | inr other ↦ none (s, omega (arith, below, other), k)
+      ])
+    ]
+  ]
+
+  least_or_none : Decided ((cube : List Literal) × IsLeastMono c er qr cube)
+  least_or_none =
+      let (cube, least) = some_drawn in
+      elim (some_stray cube c.graph.states (omega arith)) [
+        | inl (s, below, k) ↦ inr (λ (other, m). m.meets.stays s (record {
+          within = k.within;
+          covers = least.least other m.meets.drawn (code c s) k.covers;
+          not_er = k.not_er;
+          not_qr = k.not_qr;
+        }))
+        | inr none ↦ inl (cube, drawn_is_mono c er qr cube least (λ s k. none (s, k.within, k)))
+      ]
+
+-- ---- region after region
+no_region : Region
+no_region = record { event = rise 0; er = []; sr = []; qr = [] }
+
+module _ (c : CodedGraph) (z : ℕ) (items : List Region) (are : (r : Region) → Contains items r → IsRegion c r) where
+  abbrev Found : ℕ → Type 0
+  Found i = (cubes : List (List Literal)) × AreCubesFor c z (take i items) cubes
+
+  found_next : (i : ℕ) → i < length items → Found i → Found (i + 1)
+  found_next i inside (cubes, before) =
+      let r = get_or items i no_region in
+      let at : r ≡ get_or items i r = get_or_default items i no_region r inside in
+      let is = are r (i, inside, sym at) in
+      let (first, in_er) = is.excited.some in
+      elim (both (cases_eq r.event.sig z) (least_or_none c r.er r.qr first in_er)) [
+        | inl (event, (cube, least)) ↦ (
+          cubes ++ cube ∷ [],
+          with_cube c z items i r inside at cubes before is cube (cubes ++ cube ∷ []) event least refl,
+        )
+        | inr none ↦ (
+          cubes,
+          without_cube c z items i r inside at cubes before (λ event cube least. none (event, (cube, least))),
+        )
+      ]
+
+  found_to : (i : ℕ) → i ≤ length items → Found i
+  found_to zero within = ([], none_yet c z)
+  found_to (suc i) within =
+      let next : i + 1 ≡ suc i = omega arith in
+      subst Found next (found_next i (omega (arith, within)) (found_to i (omega (arith, within))))
+
+pub some_cubes : (c : CodedGraph) (z : ℕ) → IsCoded c → (cubes : List (List Literal)) × AreCubesOf c z cubes
+some_cubes c z coded =
+    let (regions, are) = some_regions c coded in
+    let (cubes, found) = found_to c z regions are.each (length regions) (omega arith) in
+    let all : take (length regions) regions ≡ regions = take_all (length regions) regions (omega arith) in
+    (cubes, all_found c z regions cubes are (subst (λ rs. AreCubesFor c z rs cubes) all found))

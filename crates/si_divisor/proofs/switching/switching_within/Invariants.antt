@@ -1,0 +1,15 @@
+use Rattle.std.proofs.Common.{◌+◌, length}
+use Rattle.si_graph.specs.Reach.{unmarked}
+use Rattle.si_divisor.specs.Targets.{target}
+use Rattle.si_divisor.specs.WorkList.{Works, SwitchRule}
+use Rattle.si_divisor.proofs.OutsideLemmas.{AreWithin}
+use Rattle.si_divisor.proofs.switching.switching_within.Given as goal
+
+abbrev pub invariant-loop-x : goal.invariant-loop-x
+invariant-loop-x l = record {
+  works : Works l.graph.states (SwitchRule l.graph (target l.ones) l.b) l.marks l.work.items;
+  inside : AreWithin l.within l.marks l.work.items;
+}
+
+abbrev pub decreases-loop-x : goal.decreases-loop-x
+decreases-loop-x l = unmarked l.marks + (unmarked l.marks + length l.work.items)

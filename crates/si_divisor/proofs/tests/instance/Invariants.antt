@@ -1,0 +1,9 @@
+use Rattle.std.proofs.Common.{◌≡◌, ◌<◌, length, All}
+use Rattle.si_base.specs.Limits.{code_width}
+use Rattle.si_divisor.proofs.tests.instance.Given as goal
+
+abbrev pub invariant-loop-literal : goal.invariant-loop-literal
+invariant-loop-literal g l = record {
+  count : length l.list.items ≡ l.literal-index;
+  signals : All (λ x. x.sig < code_width) l.list.items;
+}

@@ -1,0 +1,9 @@
+pub mod Divisors
+pub mod PinTests
+pub mod Completions
+pub mod DivisorLaws
+pub mod Targets
+pub mod Switching
+pub mod PartitionFor
+pub mod WorkList
+pub mod Laws

@@ -1,0 +1,202 @@
+//! The classes of the states, by the sets of states that settle and of those that switch.
+
+ghost use Rattle.std.specs.Prelude.{◌≡◌, ℕ, ◌<◌, ◌↔◌, IfOk, IfErr, MatchOption, IsTrue, length, slice_index_or, false};
+ghost use Rattle.si_base.specs.Order.{IsFirst};
+ghost use Rattle.si_base.specs.Graph.{IsGraph};
+ghost use Rattle.si_insert.specs.Partition.{class_of};
+ghost use Rattle.si_divisor.specs.Targets.{AreSettled, HaveTargets, forced_in};
+ghost use Rattle.si_divisor.specs.PartitionFor.{LeavesAt, HasSome, class_for, IsPartitionFor, HasNone, state_place, ShowsNone};
+
+use crate::fault::NoPartition;
+use crate::settled::{Settled, first_torn, first_unforced, holding, settled_states};
+use crate::switching::{switching, switching_within};
+use si_base::ids::{NoMemory, StateId};
+use si_base::sets::StateSet;
+use si_graph::graph::Graph;
+use si_insert::partition::Class;
+use std::alloc::Global;
+
+/// Whether the new signal would switch at the state, where the value isn't forced.
+fn leaves_at(up: &StateSet, down: &StateSet, plus: &StateSet, minus: &StateSet, s: StateId) -> bool
+    requires up { s < length up.now }
+    requires down { s < length down.now }
+    requires plus { s < length plus.now }
+    requires minus { s < length minus.now }
+    ensures { IsTrue result ↔ LeavesAt (forced_in up.now down.now) plus.now minus.now s }
+{
+    plus.has(s) && !up.has(s) || minus.has(s) && !down.has(s)
+}
+
+/// The first state where the new signal would switch and the value isn't forced.
+fn first_leaving(
+    up: &StateSet,
+    down: &StateSet,
+    plus: &StateSet,
+    minus: &StateSet,
+) -> Option<StateId>
+    requires up { length up.now ≡ length plus.now }
+    requires down { length down.now ≡ length plus.now }
+    requires minus { length minus.now ≡ length plus.now }
+    ensures { MatchOption result ((t : ℕ)
+        → LeavesAt (forced_in up.now down.now) plus.now minus.now t
+        → ⊥) (IsFirst state_place (LeavesAt (forced_in up.now down.now) plus.now minus.now)) }
+{
+    for s in 0..plus.size() {
+        if leaves_at(up, down, plus, minus, StateId(s)) {
+            return Some(StateId(s));
+        }
+    }
+    None
+}
+
+/// Whether the set has a state.
+fn has_some(set: &StateSet) -> bool
+    ensures { IsTrue result ↔ HasSome set.now }
+{
+    for s in 0..set.size() {
+        if set.has(StateId(s)) {
+            return true;
+        }
+    }
+    false
+}
+
+/// The class of a state by the sets that have it.
+fn class_at(plus: bool, minus: bool, one: bool) -> Class
+    ensures { result ≡ class_for plus minus one }
+{
+    if plus {
+        return Class::Rising;
+    }
+    if minus {
+        return Class::Falling;
+    }
+    if one { Class::High } else { Class::Low }
+}
+
+/// The class of each state by the sets that have it.
+fn class_list(
+    alloc: Global,
+    plus: &StateSet,
+    minus: &StateSet,
+    ones: &StateSet,
+) -> Result<Vec<Class>, NoMemory>
+    requires minus { length minus.now ≡ length plus.now }
+    requires ones { length ones.now ≡ length plus.now }
+    ensures size { IfOk result (λ v. length v.items ≡ length plus.now) }
+    ensures each { IfOk result (λ v. (s : ℕ) → s < length plus.now
+        → class_of v.items s ≡ class_for (slice_index_or plus.now s false)
+        (slice_index_or minus.now s false) (slice_index_or ones.now s false)) }
+{
+    let mut out = Vec::new(alloc);
+    for s in 0..plus.size() {
+        out.push(class_at(
+            plus.has(StateId(s)),
+            minus.has(StateId(s)),
+            ones.has(StateId(s)),
+        ))?;
+    }
+    Ok(out)
+}
+
+/// The classes of the states for an instance that forces the states of the one set to 1 and those
+/// of the other to 0, or the first reason why there are none.
+pub(crate) fn classes_for(
+    alloc: Global,
+    graph: &Graph,
+    up: &StateSet,
+    down: &StateSet,
+) -> Result<Vec<Class>, NoPartition>
+    requires graph { IsGraph graph.now }
+    requires up { length up.now ≡ graph.now.states }
+    requires down { length down.now ≡ graph.now.states }
+    ensures partition { IfOk result (λ v.
+        IsPartitionFor graph.now (forced_in up.now down.now) v.items) }
+    ensures fault { IfErr result (ShowsNone graph.now (forced_in up.now down.now)) }
+{
+    let held = holding(alloc, up, down)?;
+    let Settled { ones, zeros } = settled_states(alloc, graph, &held, up, down)?;
+    if let Some(s) = first_unforced(graph, &ones, &zeros) {
+        return Err(NoPartition::Unforced { s });
+    }
+    if let Some(s) = first_torn(&ones, &zeros) {
+        return Err(NoPartition::Contradiction { s });
+    }
+    let plus = switching(alloc, graph, &ones, true)?;
+    let minus = switching(alloc, graph, &ones, false)?;
+    if let Some(s) = first_leaving(up, down, &plus, &minus) {
+        return Err(NoPartition::LeavesForced { s });
+    }
+    if !has_some(&plus) || !has_some(&minus) {
+        return Err(NoPartition::Constant);
+    }
+    let list = class_list(alloc, &plus, &minus, &ones)?;
+    Ok(list)
+}
+
+/// Whether each state settles at just one value.
+fn have_targets(graph: &Graph, ones: &StateSet, zeros: &StateSet) -> bool
+    requires ones { length ones.now ≡ graph.now.states }
+    requires zeros { length zeros.now ≡ graph.now.states }
+    ensures { IsTrue result ↔ HaveTargets graph.now ones.now zeros.now }
+{
+    first_unforced(graph, ones, zeros).is_none() && first_torn(ones, zeros).is_none()
+}
+
+/// The classes of the states where these settle at 1 and those at 0; `None` exactly where there are
+/// none. It ends as soon as one of the reasons against them is seen.
+fn classes_by(
+    alloc: Global,
+    graph: &Graph,
+    up: &StateSet,
+    down: &StateSet,
+    ones: &StateSet,
+    zeros: &StateSet,
+) -> Result<Option<Vec<Class>>, NoMemory>
+    requires graph { IsGraph graph.now }
+    requires up { length up.now ≡ graph.now.states }
+    requires down { length down.now ≡ graph.now.states }
+    requires settled { AreSettled graph.now (forced_in up.now down.now) ones.now zeros.now }
+    ensures { IfOk result (λ found. MatchOption found
+        (HasNone graph.now (forced_in up.now down.now))
+        (λ v. IsPartitionFor graph.now (forced_in up.now down.now) v.items)) }
+{
+    if !have_targets(graph, ones, zeros) {
+        return Ok(None);
+    }
+    let Some(plus) = switching_within(alloc, graph, ones, true, up)? else {
+        return Ok(None);
+    };
+    let Some(minus) = switching_within(alloc, graph, ones, false, down)? else {
+        return Ok(None);
+    };
+    if !has_some(&plus) || !has_some(&minus) {
+        return Ok(None);
+    }
+    let list = class_list(alloc, &plus, &minus, ones)?;
+    Ok(Some(list))
+}
+
+/// The classes of the states for an instance that forces the states of the one set to 1 and those
+/// of the other to 0; `None` exactly where there are none. Where no state holds, the forced states
+/// are those that settle.
+pub(crate) fn classes_if(
+    alloc: Global,
+    graph: &Graph,
+    up: &StateSet,
+    down: &StateSet,
+) -> Result<Option<Vec<Class>>, NoMemory>
+    requires graph { IsGraph graph.now }
+    requires up { length up.now ≡ graph.now.states }
+    requires down { length down.now ≡ graph.now.states }
+    ensures { IfOk result (λ found. MatchOption found
+        (HasNone graph.now (forced_in up.now down.now))
+        (λ v. IsPartitionFor graph.now (forced_in up.now down.now) v.items)) }
+{
+    let held = holding(alloc, up, down)?;
+    if !has_some(&held) {
+        return classes_by(alloc, graph, up, down, up, down);
+    }
+    let Settled { ones, zeros } = settled_states(alloc, graph, &held, up, down)?;
+    classes_by(alloc, graph, up, down, &ones, &zeros)
+}

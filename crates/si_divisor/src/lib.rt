@@ -1,0 +1,18 @@
+//! Divisors: the instances by which a signal that fits no cell is taken apart.
+//! Divisors: instances of cells as gates of new signals, and the partitions for them.
+//! Divisors: the instances by which a signal that fits no cell is taken apart, and the partitions
+//! that make an instance the gate of a new signal.
+#![tactic(auto)]
+
+mod classes;
+pub mod divisor_laws;
+pub mod divisors;
+pub mod fault;
+mod forced;
+pub mod laws;
+pub mod partition_for;
+pub mod pins;
+mod settled;
+mod switching;
+#[cfg(test)]
+mod tests;

@@ -1,0 +1,64 @@
+//! The partition for an instance.
+
+ghost use Rattle.std.specs.Prelude.{IfOk, IfErr, MatchOption, List};
+ghost use Rattle.si_insert.specs.declared.partition.Class.{Class};
+ghost use Rattle.si_insert.specs.Partition.{IsLawful};
+ghost use Rattle.si_cell.specs.Library.{IsInstance, instance_value};
+ghost use Rattle.si_divisor.specs.Targets.{forced_by};
+ghost use Rattle.si_divisor.specs.PartitionFor.{IsPartitionFor, ShowsNone};
+
+use crate::classes::{classes_for, classes_if};
+use crate::fault::NoPartition;
+use crate::forced::{Forced, forced_states};
+use si_base::ids::NoMemory;
+use si_cell::cell::Instance;
+use si_cell::library::Library;
+use si_checks::proper::Proper;
+use si_insert::partition::Partition;
+use std::alloc::Global;
+
+/// The partition for the instance as the gate of a new signal: where the signal rises and falls,
+/// and its value elsewhere, as far as the instance forces these. Or the first reason why there is
+/// none, each looked for at all states before the next.
+pub fn partition_for(
+    alloc: Global,
+    graph: &Proper,
+    library: &Library,
+    instance: &Instance,
+) -> Result<Partition, NoPartition>
+    requires { IsInstance library.now instance.now }
+    ensures partition { IfOk result (λ p. IsPartitionFor graph.now.graph
+        (forced_by (instance_value library.now instance.now) graph.now) p) }
+    ensures lawful { IfOk result (λ p. IsLawful graph.now.graph p) }
+    ensures fault { IfErr result (ShowsNone graph.now.graph
+        (forced_by (instance_value library.now instance.now) graph.now)) }
+{
+    let coded = graph.coded();
+    let Forced { up, down } = forced_states(alloc, coded, library, instance)?;
+    let classes = classes_for(alloc, coded.graph(), &up, &down)?;
+    Ok(Partition::known(graph, classes))
+}
+
+/// The partition for the instance; `None` exactly where there is none. It ends as soon as a reason
+/// against it is seen, and fails only where memory runs out.
+pub fn partition_if(
+    alloc: Global,
+    graph: &Proper,
+    library: &Library,
+    instance: &Instance,
+) -> Result<Option<Partition>, NoMemory>
+    requires { IsInstance library.now instance.now }
+    ensures { IfOk result (λ found. MatchOption found
+        ((classes : List Class) → IsPartitionFor graph.now.graph
+        (forced_by (instance_value library.now instance.now) graph.now) classes → ⊥)
+        (λ p. IsPartitionFor graph.now.graph
+        (forced_by (instance_value library.now instance.now) graph.now) p
+        × IsLawful graph.now.graph p)) }
+{
+    let coded = graph.coded();
+    let Forced { up, down } = forced_states(alloc, coded, library, instance)?;
+    let Some(classes) = classes_if(alloc, coded.graph(), &up, &down)? else {
+        return Ok(None);
+    };
+    Ok(Some(Partition::known(graph, classes)))
+}
