@@ -33,24 +33,24 @@ in_append x [] ys here = inr here
 in_append x (z ∷ xs) ys (inl same) = inl (inl same)
 in_append x (z ∷ xs) ys (inr later) = elim (in_append x xs ys later) [ inl one ↦ inl (inr one) | inr other ↦ inr other ]
 
-in_map : {A B : Type 0} (f : A → B) (x : A) (xs : List A) → In x xs → In (f x) (map f xs)
+pub in_map : {A B : Type 0} (f : A → B) (x : A) (xs : List A) → In x xs → In (f x) (map f xs)
 in_map f x [] here = absurd here
 in_map f x (z ∷ xs) (inl same) = inl (ap f same)
 in_map f x (z ∷ xs) (inr later) = inr (in_map f x xs later)
 
-from_map : {A B : Type 0} (f : A → B) (y : B) (xs : List A) → In y (map f xs) → (x : A) × In x xs × (y ≡ f x)
+pub from_map : {A B : Type 0} (f : A → B) (y : B) (xs : List A) → In y (map f xs) → (x : A) × In x xs × (y ≡ f x)
 from_map f y [] here = absurd here
 from_map f y (x ∷ xs) (inl same) = (x, inl refl, same)
 from_map f y (x ∷ xs) (inr later) = let (z, there, same) = from_map f y xs later in (z, inr there, same)
 
-in_flat : {A B : Type 0} (f : A → List B) (x : A) (y : B) (xs : List A) → In x xs → In y (f x) → In y (flat_map f xs)
+pub in_flat : {A B : Type 0} (f : A → List B) (x : A) (y : B) (xs : List A) → In x xs → In y (f x) → In y (flat_map f xs)
 in_flat f x y [] here there = absurd here
 in_flat f x y (z ∷ xs) (inl same) there = rw flat_map-cons (in_left y (f z) (flat_map f xs) (subst (λ w. In y
     (f w)) same there))
 in_flat f x y (z ∷ xs) (inr later) there = rw flat_map-cons (in_right y (f z) (flat_map f xs)
     (in_flat f x y xs later there))
 
-from_flat : {A B : Type 0} (f : A → List B) (y : B) (xs : List A) → In y (flat_map f xs) → (x : A) × In x xs
+pub from_flat : {A B : Type 0} (f : A → List B) (y : B) (xs : List A) → In y (flat_map f xs) → (x : A) × In x xs
     × In y (f x)
 from_flat f y [] here = absurd here
 from_flat f y (x ∷ xs) here = elim (in_append y (f x) (flat_map f xs) (rw flat_map-cons at here)) [
@@ -86,7 +86,7 @@ none_passes test (y ∷ ys) x none here passes = elim (cases_Bool (test y)) [
     by_place (inr there) later fails = later there passes
 
 -- ---- which instances there are
-literal_in : (n i : ℕ) (l : Literal) → i ≤ l.sig → l.sig < i + n → In l (both_from n i)
+pub literal_in : (n i : ℕ) (l : Literal) → i ≤ l.sig → l.sig < i + n → In l (both_from n i)
 literal_in zero i l low high = absurd (omega arith)
 literal_in (suc n) i l low high = elim (eqb_tells l.sig i) [
   | inl same ↦ by_sign l same.1
@@ -102,7 +102,7 @@ literal_in (suc n) i l low high = elim (eqb_tells l.sig i) [
         signs false e = inr (inl (let make : ℕ → Bool → Literal = λ s v. record { sig = s; plain = v } in ap
             (λ s. make s l.plain) same ∙ ap (λ v. make i v) e))
 
-literal_small : (n i : ℕ) (l : Literal) → In l (both_from n i) → l.sig < i + n
+pub literal_small : (n i : ℕ) (l : Literal) → In l (both_from n i) → l.sig < i + n
 literal_small zero i l here = absurd here
 literal_small (suc n) i l (inl same) = let e : l.sig ≡ i = ap (λ (m : Literal). m.sig) same in omega (arith, e)
 literal_small (suc n) i l (inr (inl same)) = let e : l.sig ≡ i = ap (λ (m : Literal). m.sig) same in omega (arith, e)
@@ -156,7 +156,7 @@ from_cells from (x ∷ cells) p (inr later) =
     let e : from + 1 + k ≡ from + suc k = omega arith in
     (suc k, omega (arith, inside), same ∙ (let pair : ℕ → ℕ × Cell = λ n. (n, get_or cells k no_cell) in ap pair e))
 
-instance_in : (c : CodedGraph) (library : Library) (i : Instance) → IsOver c library i
+pub instance_in : (c : CodedGraph) (library : Library) (i : Instance) → IsOver c library i
     → In i (instances (length c.graph.signals) library)
 instance_in c library i over =
     let here : In (i.cell, cell_at library i.cell) (enumerate_from 0 library.cells) =
@@ -171,7 +171,7 @@ instance_in c library i over =
     (enumerate_from 0 library.cells) here
     (in_map (λ ls. record { cell = i.cell; literals = ls }) i.literals _ listed)
 
-instance_over : (c : CodedGraph) (library : Library) (i : Instance) → length c.graph.signals ≤ code_width
+pub instance_over : (c : CodedGraph) (library : Library) (i : Instance) → length c.graph.signals ≤ code_width
     → In i (instances (length c.graph.signals) library) → IsOver c library i
 instance_over c library i width here =
     let (p, p_in, i_in) = from_flat (instances_of (length c.graph.signals)) i (enumerate_from 0 library.cells) here in

@@ -1,5 +1,6 @@
 mod Examples
 pub mod StateLemmas
+pub mod TriggerLemmas
 pub mod SearchLemmas
 pub mod CodeLemmas
 pub mod WeightLemmas

@@ -1,5 +1,6 @@
 pub mod Fit
 pub mod Search
+pub mod Triggers
 pub mod Codes
 pub mod Support
 pub mod Weight

@@ -6,6 +6,7 @@ ghost use Rattle.si_checks.specs.Lent.{lent_graph};
 ghost use Rattle.si_match.specs.Fit.{first_fit};
 
 use crate::search::complete;
+use crate::triggers::{Triggers, triggers_of};
 use arrayvec::ArrayVec;
 use si_base::ids::Sig;
 use si_cell::cell::Instance;
@@ -17,19 +18,32 @@ use si_checks::distinct::Distinct;
 /// may be `z` itself. Instances are ordered by cell in library order, then by their literals in
 /// literal order, the first pin first. `None` exactly where none fits.
 ///
-/// A state that refutes every instance with some literals at its first pins ends the search below
-/// these literals.
+/// Each gate of `z` has to read its trigger signals. The search ends below literals at the first
+/// pins that leave too few pins for them, or where a state beside an arc of a trigger refutes every
+/// instance with these literals.
 pub fn fit(graph: Distinct<'_>, library: &Library, z: Sig) -> Option<Instance>
     requires { IsNonInput (lent_graph graph).graph.signals z }
     ensures { result ≡ first_fit (lent_graph graph.entry) library.now z }
 {
     let coded = graph.proper().coded();
     let choices = 2 * coded.graph().signals().len();
+    let Triggers { signals, witnesses } = triggers_of(coded, z);
     for k in 0..library.cells().len() {
         let k = k as u8;
         let cell = library.cell(k);
         let mut literals = ArrayVec::new();
-        if complete(coded, choices, z, cell, &mut literals, cell.pins.len()) {
+        let pins = cell.pins.len();
+        let states = witnesses.as_slice();
+        if complete(
+            coded,
+            choices,
+            z,
+            cell,
+            states,
+            signals,
+            &mut literals,
+            pins,
+        ) {
             return Some(Instance { cell: k, literals });
         }
     }

@@ -8,6 +8,5 @@ mod refute;
 mod search;
 mod state;
 pub mod support;
-#[cfg(test)]
-mod tests;
+mod triggers;
 pub mod weight;

@@ -1,7 +1,7 @@
 //! States that refute all instances with some literals at their first pins.
 
 ghost use Rattle.std.specs.Prelude.{◌≡◌, ℕ, ◌<◌, ◌≤◌, ◌-◌, All, length, true, false, Bool};
-ghost use Rattle.si_base.specs.Codes.{code};
+ghost use Rattle.si_base.specs.Codes.{IsCoded, code};
 ghost use Rattle.si_base.specs.Limits.{code_width};
 ghost use Rattle.si_base.specs.Netlist.{sum_value};
 ghost use Rattle.si_cell.specs.Limits.{max_pins};
@@ -52,19 +52,28 @@ fn is_refuted_at(coded: &Coded, z: Sig, cell: &Cell, literals: &[PinLiteral], s:
     )
 }
 
-/// Whether some state refutes all instances of the cell with these literals at its first pins.
-/// Where it doesn't, one may fit or not.
-pub(crate) fn is_refuted(coded: &Coded, z: Sig, cell: &Cell, literals: &[PinLiteral]) -> bool
+/// Whether one of the states refutes all instances of the cell with these literals at its first
+/// pins. Where none does, one may fit or not.
+pub(crate) fn is_refuted(
+    coded: &Coded,
+    z: Sig,
+    cell: &Cell,
+    literals: &[PinLiteral],
+    states: &[u32],
+) -> bool
+    requires coded { IsCoded coded.now }
     requires signal { z < length coded.now.graph.signals }
     requires width { length coded.now.graph.signals ≤ code_width }
     requires first { length literals.now ≤ length cell.now.pins }
     requires few { length cell.now.pins ≤ max_pins }
     requires signals { All (λ l. l.sig < code_width) literals.now }
+    requires states { All (λ s. s < coded.now.graph.states) states.now }
     ensures { result ≡ true → IsRefuted coded.now z cell.now literals.now
         (length cell.now.pins - length literals.now) }
 {
-    for s in 0..coded.graph().states() {
-        if is_refuted_at(coded, z, cell, literals, StateId(s)) {
+    for state in states {
+        let s = StateId(*state);
+        if is_refuted_at(coded, z, cell, literals, s) {
             return true;
         }
     }

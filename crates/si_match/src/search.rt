@@ -3,12 +3,15 @@
 ghost use Rattle.std.specs.Prelude.{◌≡◌, ℕ, ◌<◌, ◌≤◌, ◌+◌, ◌*◌, ◌/◌, ◌%◌, ◌==◌, ◌++◌, All, length, true, false, Some, None, option_map};
 ghost use Rattle.si_base.specs.Limits.{code_width};
 ghost use Rattle.si_cell.specs.Limits.{max_pins};
+ghost use Rattle.si_base.specs.Codes.{IsCoded};
 ghost use Rattle.si_match.specs.Search.{first_completion};
+ghost use Rattle.si_match.specs.Triggers.{AreMissing};
 
 use crate::refute::is_refuted;
 use crate::state::fits;
+use crate::weight::size;
 use arrayvec::ArrayVec;
-use si_base::ids::{Literal, Sig};
+use si_base::ids::{Code, Literal, Sig};
 use si_cell::cell::{Cell, PinLiteral};
 use si_cell::limits::MAX_PINS;
 use si_graph::coded::Coded;
@@ -27,17 +30,24 @@ fn literal_at(place: usize) -> PinLiteral
 
 /// Completes the literals at the first pins of the cell by `more` of the `choices` literals of the
 /// graph's signals to the first instance that fits `z`, in literal order, the first of these pins
-/// first. Answers whether there is one; if there is none, the literals are as before.
+/// first. Answers whether there is one; if there is none, the literals are as before. The search
+/// ends where more triggers of `z` are missing at the pins than can come, or where one of the
+/// witnesses refutes all completions.
 pub(crate) fn complete(
     coded: &Coded,
     choices: usize,
     z: Sig,
     cell: &Cell,
+    witnesses: &[u32],
+    missing: Code,
     literals: &mut ArrayVec<PinLiteral, MAX_PINS>,
     more: usize,
 ) -> bool
+    requires coded { IsCoded coded.now }
     requires signal { z < length coded.now.graph.signals }
     requires width { length coded.now.graph.signals ≤ code_width }
+    requires witnesses { All (λ s. s < coded.now.graph.states) witnesses.now }
+    requires missing { AreMissing coded.now z literals.old.items missing }
     requires choices { choices ≡ 2 * length coded.now.graph.signals }
     requires pins { length literals.old.items + more ≡ length cell.now.pins }
     requires few { length cell.now.pins ≤ max_pins }
@@ -49,15 +59,28 @@ pub(crate) fn complete(
         → first_completion coded.now z cell.now literals.old.items more ≡ None }
     ensures kept { result ≡ false → literals.new.items ≡ literals.old.items }
 {
+    if size(missing, choices / 2) > more as u64 {
+        return false;
+    }
+    if is_refuted(coded, z, cell, literals.as_slice(), witnesses) {
+        return false;
+    }
     if more == 0 {
         return fits(coded, z, cell, literals.as_slice());
     }
-    if is_refuted(coded, z, cell, literals.as_slice()) {
-        return false;
-    }
     for place in 0..choices {
+        let still = missing.set(Sig((place / 2) as u8), false);
         literals.push(literal_at(place));
-        if complete(coded, choices, z, cell, literals, more - 1) {
+        if complete(
+            coded,
+            choices,
+            z,
+            cell,
+            witnesses,
+            still,
+            literals,
+            more - 1,
+        ) {
             return true;
         }
         literals.pop();

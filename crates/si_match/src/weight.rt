@@ -1,6 +1,6 @@
 //! The weight of a graph for a library.
 
-ghost use Rattle.std.specs.Prelude.{◌≡◌, ℕ, ◌<◌, ◌≤◌, ◌+◌, IfOk, length, if◌then◌else◌, is_none};
+ghost use Rattle.std.specs.Prelude.{◌≡◌, ℕ, ◌<◌, ◌≤◌, ◌+◌, IfOk, IfSome, IfNone, length, if◌then◌else◌, is_none};
 ghost use Rattle.si_base.specs.Graph.{IsNonInput};
 ghost use Rattle.si_base.specs.Limits.{code_width};
 ghost use Rattle.si_checks.specs.Lent.{lent_graph};
@@ -15,7 +15,7 @@ use si_checks::distinct::Distinct;
 use std::alloc::Global;
 
 /// How many of the first `count` signals are in the set.
-fn size(signals: Code, count: usize) -> u64
+pub(crate) fn size(signals: Code, count: usize) -> u64
     requires { count ≤ code_width }
     ensures size { result ≡ size_from count 0 signals }
     ensures few { result ≤ count }
@@ -66,4 +66,39 @@ pub fn weight(alloc: Global, graph: Distinct<'_>, library: &Library) -> Result<u
         weight += weight_of_signal(alloc, graph, library, Sig(i as u8))?;
     }
     Ok(weight)
+}
+
+/// The weight where it is below the bar.
+fn below(weight: u64, bar: u64) -> Option<u64>
+    ensures some { IfSome result (λ w. (w ≡ weight) × (weight < bar)) }
+    ensures none { IfNone result (bar ≤ weight) }
+{
+    if weight < bar { Some(weight) } else { None }
+}
+
+/// The weight of the graph for the library where it is below the bar, else None: it ends as soon as
+/// what the first signals add isn't below the bar. It fails only where memory runs out.
+pub fn weight_below(
+    alloc: Global,
+    graph: Distinct<'_>,
+    library: &Library,
+    bar: u64,
+) -> Result<Option<u64>, NoMemory>
+    ensures some { IfOk result (λ o. IfSome o
+        (λ w. (w ≡ weight_of (lent_graph graph.entry) library.now) × (w < bar))) }
+    ensures none { IfOk result
+        (λ o. IfNone o (bar ≤ weight_of (lent_graph graph.entry) library.now)) }
+{
+    let signals = graph.proper().coded().graph().signals();
+    let mut weight = 0;
+    for k in 0..signals.len() {
+        if weight >= bar {
+            return Ok(None);
+        }
+        if !signals[k].kind.is_driven() {
+            continue;
+        }
+        weight += weight_of_signal(alloc, graph, library, Sig(k as u8))?;
+    }
+    Ok(below(weight, bar))
 }

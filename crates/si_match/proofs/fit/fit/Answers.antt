@@ -21,10 +21,10 @@ complete-requires-clause-width c = c.graph.ensures.coded.graph_is.few_signals
 pub returns-then-complete : goal.returns-then-complete
 returns-then-complete c =
     let within : c.loop-k.k < length c.args.library.now.cells = search rules in
-    let count : c.len.result ≡ length c.cell-cell.result.now.pins = search rules in
+    let count : c.len-pins.result ≡ length c.cell-cell.result.now.pins = search rules in
     found_cell c.coded-coded.result.now (lent_graph c.args.graph) c.args.z c.args.library.now c.loop-k.k
     c.cell-cell.result.now
-    c.new-literals.result.items c.len.result (c.coded-coded.ensures.same
+    c.new-literals.result.items c.len-pins.result (c.coded-coded.ensures.same
     ∙ c.proper.ensures.same) within c.cell-cell.ensures.cell
     c.new-literals.ensures count c.loop-k.invariant c.complete.new.literals.items
     (c.complete.ensures.found c.if-complete.true)
@@ -32,10 +32,10 @@ returns-then-complete c =
 pub loop-k-preserved : goal.loop-k-preserved
 loop-k-preserved c =
     let within : c.loop-k.k < length c.args.library.now.cells = search rules in
-    let count : c.len.result ≡ length c.cell-cell.result.now.pins = search rules in
+    let count : c.len-pins.result ≡ length c.cell-cell.result.now.pins = search rules in
     none_cell c.coded-coded.result.now (lent_graph c.args.graph) c.args.z c.args.library.now c.loop-k.k
     c.cell-cell.result.now
-    c.new-literals.result.items c.len.result (c.coded-coded.ensures.same
+    c.new-literals.result.items c.len-pins.result (c.coded-coded.ensures.same
     ∙ c.proper.ensures.same) within c.cell-cell.ensures.cell
     c.new-literals.ensures count c.loop-k.invariant (c.complete.ensures.none c.if-complete.false)
 

@@ -1,4 +1,4 @@
 use Rattle.si_match.proofs.refute.is_refuted.Given as goal
 
-abbrev pub invariant-loop-s : goal.invariant-loop-s
-invariant-loop-s l = Unit {0}
+abbrev pub invariant-loop-state : goal.invariant-loop-state
+invariant-loop-state l = Unit {0}

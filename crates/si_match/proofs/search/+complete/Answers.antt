@@ -1,12 +1,22 @@
-use Rattle.std.proofs.Common.{◌≡◌, ◌++◌, ◌-◌, ◌∙◌, ap, arith, length, rules, refl, List, [], ◌∷◌}
+use Rattle.std.proofs.Common.{◌≡◌, ℕ, ◌++◌, ◌-◌, ◌/◌, ◌∙◌, ap, arith, length, rules, refl, subst, sym, List, [], ◌∷◌}
 use Rattle.si_base.specs.declared.ids.Literal.{Literal}
+use Rattle.si_match.specs.Triggers.{AreMissing}
+use Rattle.si_match.specs.Weight.{size_from}
+use Rattle.si_match.proofs.TriggerLemmas.{missing_next, missing_now}
 use Rattle.si_match.proofs.SearchLemmas.{refuted_now, starts, found_now, none_now, done_now, popped}
 use Rattle.si_match.proofs.search.+complete.Goals as goal
 
+pub returns-then-size-more-clause-none : goal.returns-then-size-more-clause-none
+returns-then-size-more-clause-none t c = λ _. (
+    let half : c.args.choices / 2 ≡ length c.args.coded.now.graph.signals = omega (arith, c.requires.choices) in
+    let Size : ℕ → Type 0 = λ n. c.size.result ≡ size_from n 0 c.args.missing in
+    missing_now c.args.coded.now c.args.z c.args.cell.now c.args.literals.now.items c.args.more c.args.missing
+    c.size.result c.requires.coded c.requires.missing (subst Size half c.size.ensures.size) c.if-size-more.true)
+
 pub returns-then-is_refuted-clause-none : goal.returns-then-is_refuted-clause-none
 returns-then-is_refuted-clause-none t c = λ _. (
-    refuted_now c.args.coded.now c.args.z c.args.cell.now c.args.literals.now.items c.as_slice-2.result.now c.args.more
-    c.as_slice-2.ensures.value
+    refuted_now c.args.coded.now c.args.z c.args.cell.now c.args.literals.now.items c.as_slice.result.now c.args.more
+    c.as_slice.ensures.value
     c.requires.pins (c.is_refuted.ensures c.if-is_refuted.true))
 
 pub loop-place-init : goal.loop-place-init

@@ -1,0 +1,186 @@
+-- An instance that reads too few triggers fits at no completion.
+use Rattle.std.proofs.Common.{◌≡◌, ◌≢◌, ℕ, zero, suc, ◌+◌, ◌<◌, ◌≤◌, Bool, true, false, List, [], ◌∷◌, ◌++◌, length, map, All, Contains, None, if◌then◌else◌}
+use Rattle.std.proofs.Common.{refl, sym, ap, ap₂, subst, ◌∙◌, arith, inl, inr, append_assoc}
+use Rattle.std.specs.List.{list_all, AllByRecursion}
+use Rattle.std.proofs.lemmas.Bool.{cases_Bool, true≢false}
+use Rattle.std.proofs.lemmas.Bool.Decides.{eqb_tells}
+use Rattle.std.proofs.lemmas.List.{append-nil}
+use Rattle.std.proofs.lemmas.Nat.Bits.{bit_at-zero}
+use Rattle.std.proofs.lemmas.List.Elements.{recursion_from_All, All-nil, All-push}
+use Rattle.si_base.proofs.BitFacts.{flip-same, flip-other}
+use Rattle.si_base.proofs.StepFacts.{code_of_step, step_within}
+use Rattle.si_base.proofs.Steps.{beq-true}
+use Rattle.si_base.specs.Bits.{bit, flip, IsSet}
+use Rattle.si_base.specs.Codes.{CodedGraph, IsCoded, code, next_value}
+use Rattle.si_base.specs.Netlist.{literal_value, sum_value}
+use Rattle.si_base.specs.declared.graph.Edge.{Edge}
+use Rattle.si_base.specs.declared.ids.Literal.{Literal}
+use Rattle.si_cell.specs.Library.{Cell, code_of, pin_values}
+use Rattle.si_match.specs.Fit.{suits, fits, states_of}
+use Rattle.si_match.specs.Search.{IsRefuted, first_completion}
+use Rattle.si_match.specs.Triggers.{IsTrigger, IsUnread, AreMissing}
+use Rattle.si_match.specs.Weight.{size_from}
+use Rattle.si_match.proofs.SearchLemmas.{refuted}
+use Rattle.si_match.proofs.StateLemmas.{one_fails}
+
+-- ---- a trigger that isn't read
+same_values : (k m i : ℕ) → ((j : ℕ) → j ≢ i → bit m j ≡ bit k j) → (literals : List Literal)
+    → AllByRecursion (λ (l : Literal). l.sig ≢ i) literals
+    → map (literal_value m) literals ≡ map (literal_value k) literals
+same_values k m i agree [] unread = refl
+same_values k m i agree (l ∷ ls) unread = rw (agree l.sig unread.0, same_values k m i agree ls unread.1) refl
+
+module _ (c : CodedGraph) (z : ℕ) (cell : Cell) (is : IsCoded c) where
+  pub unread_unfit : (i : ℕ) (literals : List Literal) → IsTrigger c z i → IsUnread i literals
+      → fits c z cell literals ≡ false
+  unread_unfit i literals t unread = elim (cases_Bool (fits c z cell literals)) [
+    | inl fits_all ↦ absurd (t.changes (sym (at_to fits_all) ∙ same ∙ at_from fits_all))
+    | inr no_fit ↦ no_fit
+  ]
+    where
+      agree : (j : ℕ) → j ≢ i → bit (code c t.to) j ≡ bit (code c t.from) j
+      agree j other =
+          ap (λ (k : ℕ). bit k j) (code_of_step c t.from t.event t.to is t.step)
+          ∙ flip-other (code c t.from) t.event.sig j (λ e. other (e ∙ t.signal))
+
+      own : bit (code c t.to) z ≡ bit (code c t.from) z
+      own = agree z (λ e. t.other (sym e))
+
+      value : ℕ → Bool
+      value s = sum_value (pin_values literals (code c s) (bit (code c s) z)) cell.sum
+
+      same : value t.to ≡ value t.from
+      same = rw (
+        own,
+        same_values (code c t.from) (code c t.to) i agree literals (recursion_from_All (λ
+            (l : Literal). l.sig ≢ i) literals unread),
+      ) refl
+
+      from_within : t.from < length c.codes
+      from_within = omega (arith, is.count, (step_within c.graph t.from t.event t.to is.graph_is t.step).0)
+
+      to_within : t.to < length c.codes
+      to_within = omega (arith, is.count, (step_within c.graph t.from t.event t.to is.graph_is t.step).2)
+
+      at : (s : ℕ) → s < length c.codes → fits c z cell literals ≡ true → value s ≡ next_value c s z
+      at s within all = elim (cases_Bool (suits c z cell literals (s, code c s))) [
+        | inl suits_here ↦ beq-true _ _ suits_here
+        | inr fails ↦ absurd (true≢false (sym all ∙ one_fails c (suits c z cell literals) s within fails))
+      ]
+
+      at_from : fits c z cell literals ≡ true → value t.from ≡ next_value c t.from z
+      at_from = at t.from from_within
+
+      at_to : fits c z cell literals ≡ true → value t.to ≡ next_value c t.to z
+      at_to = at t.to to_within
+
+-- ---- sizes of sets
+size_same : (n i k m : ℕ) → ((j : ℕ) → i ≤ j → bit m j ≡ bit k j) → size_from n i m ≡ size_from n i k
+size_same zero i k m agree = refl
+size_same (suc n) i k m agree =
+    rw (agree i (omega arith), size_same n (i + 1) k m (λ j later. agree j (omega (arith, later)))) refl
+
+abbrev one_if : Bool → ℕ
+one_if b = if b then 1 else 0
+
+at_most_one : (b : Bool) → one_if b ≤ 1
+at_most_one true = omega arith
+at_most_one false = omega arith
+
+size_drop : (n i k m x : ℕ) → ((j : ℕ) → j ≢ x → bit m j ≡ bit k j) → size_from n i k ≤ size_from n i m + 1
+size_drop zero i k m x agree = omega arith
+size_drop (suc n) i k m x agree = elim (eqb_tells i x) [
+  | inl same ↦ (
+      let later : size_from n (i + 1) m ≡ size_from n (i + 1) k =
+      size_same n (i + 1) k m (λ j after. agree j (λ e. omega (arith, after, e, same.1))) in
+      omega (arith, at_most_one (bit k i), later))
+  | inr other ↦ (
+      let head : one_if (bit m i) ≡ one_if (bit k i) = ap one_if (agree i other.1) in
+      omega (arith, head, size_drop n (i + 1) k m x agree))
+]
+
+some_bit : (n i k : ℕ) → 0 < size_from n i k → (j : ℕ) × (bit k j ≡ true)
+some_bit zero i k more = absurd (omega (arith, more))
+some_bit (suc n) i k more = elim (cases_Bool (bit k i)) [
+  | inl set ↦ (i, set)
+  | inr clear ↦ (
+      let head : one_if (bit k i) ≡ 0 = ap one_if clear in
+      some_bit n (i + 1) k (omega (arith, more, head)))
+]
+
+-- ---- too many triggers for the pins that are left
+abbrev without : ℕ → ℕ → ℕ
+without k j = if bit k j then flip k j else k
+
+without_there : (k j : ℕ) → bit (without k j) j ≡ false
+without_there k j = elim (cases_Bool (bit k j)) [
+  | inl set ↦ rw set (flip-same k j ∙ rw set refl)
+  | inr clear ↦ rw clear clear
+]
+
+without_others : (k j i : ℕ) → i ≢ j → bit (without k j) i ≡ bit k i
+without_others k j i other = elim (cases_Bool (bit k j)) [
+  | inl set ↦ rw set (flip-other k j i other)
+  | inr clear ↦ rw clear refl
+]
+
+-- with one more literal the signal of that isn't missing
+pub missing_next : (c : CodedGraph) (z : ℕ) (literals : List Literal) (l : Literal) (missing next : ℕ)
+    → bit next l.sig ≡ false → ((i : ℕ) → i ≢ l.sig → bit next i ≡ bit missing i)
+    → AreMissing c z literals missing → AreMissing c z (literals ++ l ∷ []) next
+missing_next c z literals l missing next clear others are i set =
+    let Unread : Literal → Type 0 = λ m. m.sig ≢ i in
+    let other : i ≢ l.sig = λ e. true≢false (sym set ∙ ap (bit next) e ∙ clear) in
+    let before = are i (sym (others i other) ∙ set) in
+    (before.0, All-push Unread literals l before.1 (λ e. other (sym e)))
+
+pub missing_refutes : (c : CodedGraph) (z : ℕ) (cell : Cell) → IsCoded c → (n more : ℕ) (literals : List Literal)
+    (missing : ℕ) → AreMissing c z literals missing → more < size_from n 0 missing
+    → IsRefuted c z cell literals more
+missing_refutes c z cell is n zero literals missing are many [] count =
+    let some = some_bit n 0 missing many in
+    let trigger = are some.0 some.1 in
+    ap (fits c z cell) (append-nil literals) ∙ unread_unfit c z cell is some.0 literals trigger.0 trigger.1
+missing_refutes c z cell is n zero literals missing are many (l ∷ rest) count = absurd (omega (arith, count))
+missing_refutes c z cell is n (suc more) literals missing are many [] count = absurd (omega (arith, count))
+missing_refutes c z cell is n (suc more) literals missing are many (l ∷ rest) count =
+    let next = without missing l.sig in
+    let others : (i : ℕ) → i ≢ l.sig → bit next i ≡ bit missing i = without_others missing l.sig in
+    let drop = size_drop n 0 missing next l.sig others in
+    let after = missing_next c z literals l missing next (without_there missing l.sig) others are in
+    ap (fits c z cell) (sym (append_assoc literals (l ∷ []) rest))
+    ∙ missing_refutes c z cell is n more (literals ++ l ∷ []) next after (omega (arith, many, drop)) rest
+    (omega (arith, count))
+
+pub missing_now : (c : CodedGraph) (z : ℕ) (cell : Cell) (literals : List Literal) (more missing size : ℕ) → IsCoded c
+    → AreMissing c z literals missing → size ≡ size_from (length c.graph.signals) 0 missing → more < size
+    → first_completion c z cell literals more ≡ None
+missing_now c z cell literals more missing size is are size_is many =
+    refuted c z cell literals more (missing_refutes c z cell is (length c.graph.signals) more literals missing are
+    (omega (arith, many, size_is)))
+
+-- ---- the triggers that are found
+bit_zero : (i : ℕ) → bit 0 i ≡ false
+bit_zero i = rw bit_at-zero refl
+
+pub none_missing : (c : CodedGraph) (z : ℕ) → AreMissing c z [] 0
+none_missing c z i set = absurd (true≢false (sym set ∙ bit_zero i))
+
+pub arc_trigger : (c : CodedGraph) (z : ℕ) (a : Edge) → Contains c.graph.edges a → a.event.sig ≢ z
+    → next_value c a.to z ≢ next_value c a.from z → IsTrigger c z a.event.sig
+arc_trigger c z a there other changes = record {
+  from = a.from;
+  event = a.event;
+  to = a.to;
+  step = there;
+  signal = refl;
+  other = other;
+  changes = changes;
+}
+
+pub one_more_trigger : (c : CodedGraph) (z i k next : ℕ) → IsTrigger c z i → IsSet k i true next
+    → AreMissing c z [] k → AreMissing c z [] next
+one_more_trigger c z i k next trigger set are j there = elim (eqb_tells j i) [
+  | inl same ↦ (subst (IsTrigger c z) (sym same.1) trigger, All-nil (λ (l : Literal). l.sig ≢ j))
+  | inr other ↦ are j (sym (set.others j other.1) ∙ there)
+]

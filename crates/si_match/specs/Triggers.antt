@@ -1,0 +1,27 @@
+-- The trigger signals of a signal (the book): those whose switching changes its next value, so that
+-- each of its gates has to read them.
+use Rattle.std.specs.Prelude.{◌≡◌, ◌≢◌, ℕ, true, List, All}
+use Rattle.si_base.specs.Bits.{bit}
+use Rattle.si_base.specs.Codes.{CodedGraph, next_value}
+use Rattle.si_base.specs.Graph.{Step}
+use Rattle.si_base.specs.declared.ids.Event.{Event}
+use Rattle.si_base.specs.declared.ids.Literal.{Literal}
+
+-- an arc of another signal i leads between states with different next values of z
+pub record IsTrigger (c : CodedGraph) (z i : ℕ) : Type 0 where
+  pub from : ℕ
+  pub event : Event
+  pub to : ℕ
+  pub step : Step c.graph from event to
+  pub signal : event.sig ≡ i
+  pub other : i ≢ z
+  pub changes : next_value c to z ≢ next_value c from z
+
+-- no literal is of signal i
+abbrev pub IsUnread : ℕ → List Literal → Type 0
+IsUnread i literals = All (λ l. l.sig ≢ i) literals
+
+-- the set has only triggers of z that no literal reads
+abbrev pub AreMissing : CodedGraph → ℕ → List Literal → ℕ → Type 0
+AreMissing c z literals missing = (i : ℕ) → bit missing i ≡ true
+    → IsTrigger c z i × IsUnread i literals

@@ -1,0 +1,67 @@
+//! The trigger signals of a signal, and states that refute most gates for it.
+
+ghost use Rattle.std.specs.Prelude.{◌≢◌, ℕ, ◌<◌, ◌↔◌, All, IsTrue, length, []};
+ghost use Rattle.si_base.specs.Codes.{next_value};
+ghost use Rattle.si_match.specs.Triggers.{AreMissing};
+
+use arrayvec::ArrayVec;
+use si_base::graph::Edge;
+use si_base::ids::{Code, Sig};
+use si_graph::coded::Coded;
+
+/// The most states that are kept.
+const MAX_WITNESSES: usize = 32;
+
+/// The triggers of a signal (the book's trigger signals), and, as far as there is room, for each of
+/// them and each direction the ends of an arc across which the next value changes.
+pub(crate) struct Triggers {
+    pub(crate) signals: Code,
+    pub(crate) witnesses: ArrayVec<u32, MAX_WITNESSES>,
+}
+
+/// Whether the arc is of another signal, and the next value of `z` changes across it.
+fn changes(coded: &Coded, z: Sig, a: &Edge) -> bool
+    requires from { a.now.from < coded.now.graph.states }
+    requires to { a.now.to < coded.now.graph.states }
+    requires signal { z < length coded.now.graph.signals }
+    ensures { IsTrue result ↔ ((a.now.event.sig ≢ z)
+        × (next_value coded.now a.now.to z ≢ next_value coded.now a.now.from z)) }
+{
+    a.event.sig != z && coded.next_value(a.to, z) != coded.next_value(a.from, z)
+}
+
+/// Adds the ends of the arc to the states, if there is room.
+fn add_ends(states: &mut ArrayVec<u32, MAX_WITNESSES>, a: &Edge)
+    ensures { (count : ℕ) → a.now.from < count → a.now.to < count
+        → All (λ s. s < count) states.old.items → All (λ s. s < count) states.new.items }
+{
+    if states.len() + 2 <= MAX_WITNESSES {
+        states.push(a.from.0);
+        states.push(a.to.0);
+    }
+}
+
+/// The triggers of `z`, and states beside their arcs.
+pub(crate) fn triggers_of(coded: &Coded, z: Sig) -> Triggers
+    requires { z < length coded.now.graph.signals }
+    ensures triggers { AreMissing coded.now z [] result.signals }
+    ensures witnesses { All (λ s. s < coded.now.graph.states) result.witnesses.items }
+{
+    let mut signals = Code(0);
+    let (mut rising, mut falling) = (Code(0), Code(0));
+    let mut witnesses = ArrayVec::new();
+    for a in coded.graph().arcs() {
+        let seen = if a.event.up { rising } else { falling };
+        if seen.get(a.event.sig) || !changes(coded, z, a) {
+            continue;
+        }
+        if a.event.up {
+            rising = rising.set(a.event.sig, true);
+        } else {
+            falling = falling.set(a.event.sig, true);
+        }
+        signals = signals.set(a.event.sig, true);
+        add_ends(&mut witnesses, a);
+    }
+    Triggers { signals, witnesses }
+}
