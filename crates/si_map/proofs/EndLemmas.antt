@@ -1,5 +1,5 @@
 -- Either each signal that the circuit drives fits a cell, or one signal is the first that doesn't.
-use Rattle.std.proofs.Common.{◌≡◌, ℕ, zero, suc, ◌+◌, ◌<◌, ◌⊎◌, length, Bool, true, Option, Some, None, is_some, sym, ap, subst, ◌∙◌, arith, refl, inl, inr}
+use Rattle.std.proofs.Common.{◌≡◌, ℕ, zero, suc, ◌+◌, ◌⊎◌, length, true, Option, Some, None, is_some, sym, ap, subst, ◌∙◌, arith, refl, inl, inr}
 use Rattle.std.specs.Option.{IsSome}
 use Rattle.std.proofs.lemmas.Bool.{cases_Bool, cases_order, true≢false}
 use Rattle.std.proofs.lemmas.Option.{slice_get_cases}
@@ -11,7 +11,7 @@ use Rattle.si_circuit.specs.Cells.{AllFit, IsFirstUnfit}
 use Rattle.si_circuit.proofs.CellLemmas.{FitBefore, all_fit, fit_more}
 use Rattle.si_match.specs.Fit.{first_fit}
 
-not_both : (o : Option Instance) → IsSome o → o ≡ None → ⊥
+pub not_both : (o : Option Instance) → IsSome o → o ≡ None → ⊥
 not_both o some none = true≢false (sym some ∙ ap (λ (x : Option Instance). is_some x) none)
 
 pub all_not_first : (c : CodedGraph) (library : Library) (z : ℕ) → AllFit c library → IsFirstUnfit c library z → ⊥
@@ -25,7 +25,7 @@ first_is_one c library y z one other = elim (cases_order y z) [
   | inr (inr more) ↦ absurd (not_both (first_fit c library z) (one.others z more other.driven) other.unfit)
 ]
 
-fits_or_not : (o : Option Instance) → IsSome o ⊎ (o ≡ None)
+pub fits_or_not : (o : Option Instance) → IsSome o ⊎ (o ≡ None)
 fits_or_not None = inr refl
 fits_or_not (Some i) = inl refl
 

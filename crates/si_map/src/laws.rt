@@ -1,17 +1,33 @@
-//! The law on how mapping ends. Its function does nothing: its contract is the law.
+//! The laws of mapping. Each function does nothing: its contract is the law.
 
-ghost use Rattle.std.specs.Prelude.{◌≡◌, ◌⊎◌, ℕ};
-ghost use Rattle.si_base.specs.Codes.{CodedGraph};
-ghost use Rattle.si_cell.specs.Library.{Library};
-ghost use Rattle.si_circuit.specs.Cells.{AllFit, IsFirstUnfit};
+ghost use Rattle.si_map.specs.Laws.{FitOrNot, FirstUnfitIsUnique, FitExcludesUnfit, BestIsUnique, TracesAreShort, TracesLeaveNoConflict, FittedIsMapped, MappedIsUnique, UnmappedIsUnique, EndsExclude, TracesAreLineages, TracesImplement};
 
 /// Either each signal that the circuit drives fits a cell, or there is a first that doesn't, and
 /// one only.
-pub fn mapping_ends()
-    ensures some { (c : CodedGraph) (library : Library)
-        → AllFit c library ⊎ ((z : ℕ) × IsFirstUnfit c library z) }
-    ensures one { (c : CodedGraph) (library : Library) (y z : ℕ) → IsFirstUnfit c library y
-        → IsFirstUnfit c library z → y ≡ z }
-    ensures apart { (c : CodedGraph) (library : Library) (z : ℕ) → AllFit c library
-        → IsFirstUnfit c library z → ⊥ }
+pub fn signals_fit_or_not()
+    ensures some { FitOrNot }
+    ensures one { FirstUnfitIsUnique }
+    ensures apart { FitExcludesUnfit }
+{}
+
+/// The best divisor is determined.
+pub fn best_is_unique()
+    ensures { BestIsUnique }
+{}
+
+/// A mapping trace and its end are determined. Each insertion lowers the weight and leaves no
+/// conflict.
+pub fn traces_are_determined()
+    ensures short { TracesAreShort }
+    ensures free { TracesLeaveNoConflict }
+    ensures fitted { FittedIsMapped }
+    ensures mapped { MappedIsUnique }
+    ensures unmapped { UnmappedIsUnique }
+    ensures exclude { EndsExclude }
+{}
+
+/// A mapping trace is a lineage, to which the chain theorem applies.
+pub fn traces_implement()
+    ensures lineages { TracesAreLineages }
+    ensures implement { TracesImplement }
 {}

@@ -1,5 +1,8 @@
 //! Circuits of the cells of a library.
 #![tactic(auto)]
 
+pub mod best;
+pub mod ends;
 pub mod laws;
 pub mod map;
+mod search;

@@ -1,20 +1,31 @@
 //! Mapping: the signals of a lineage's current graph as cells of a library.
 
-ghost use Rattle.std.specs.Prelude.{◌≡◌, IfOk, IfErr};
+ghost use Rattle.std.specs.Prelude.{◌≡◌, List, IfOk, IfErr, IsTrue, MatchOption, codes};
 ghost use Rattle.si_base.specs.Behaviour.{Implements};
 ghost use Rattle.si_base.specs.WellFormed.{IsNetlist};
-ghost use Rattle.si_circuit.specs.Cells.{AllFit, mapped_netlist};
+ghost use Rattle.si_base.specs.Words.{is_signal_name};
+ghost use Rattle.si_circuit.specs.Cells.{ShowsUnfit, mapped_netlist};
 ghost use Rattle.si_circuit.specs.Circuits.{AreStateNames};
 ghost use Rattle.si_circuit.specs.Spelled.{AreSpelled};
+ghost use Rattle.si_conflicts.specs.Left.{LeavesConflicts};
+ghost use Rattle.si_insert.specs.declared.lineage.TraceStep.{TraceStep};
+ghost use Rattle.si_insert.specs.Accepted.{IsAccepted};
+ghost use Rattle.si_insert.specs.Fresh.{IsFresh, IsTaken};
+ghost use Rattle.si_insert.specs.Lineage.{Extends};
+ghost use Rattle.si_resolve.specs.Trace.{GoesOn};
+ghost use Rattle.si_map.specs.Best.{Choice, IsBest, NoneServes};
 ghost use Rattle.si_map.specs.Ends.{ShowsStuck};
-ghost use Rattle.si_map.specs.Ends as ends;
+ghost use Rattle.si_map.specs.Trace.{IsMapping, Maps, MapsTo};
 
-use si_base::ids::Sig;
+use crate::best::best_divisor;
+use si_base::ids::{NoMemory, Sig};
 use si_base::names::Names;
 use si_base::text::Name;
 use si_cell::library::Library;
 use si_circuit::cells::CellsFault;
 use si_circuit::circuit::Circuit;
+use si_insert::accept::Accepted;
+use si_insert::fresh::fresh_name;
 use si_insert::resolved::Resolved;
 use std::alloc::Global;
 
@@ -35,13 +46,15 @@ pub struct Unmapped {
 }
 
 /// The circuit of the lineage in which the gate of each signal is the first instance of the library
-/// that fits it. The netlist has that model name, and its insertions are spelled by these names of
-/// the given states. Nothing is inserted.
+/// that fits it. While some signal that the circuit drives fits no cell, the best divisor of the
+/// current graph is inserted as a further signal, `map` with the least free number. The netlist has
+/// that model name, and its insertions are spelled by these names of the given states.
 ///
 /// # Errors
 ///
-/// `Signal` exactly where some signal that the circuit drives fits no cell, with the first.
-/// `NoMemory` only where memory runs out. The lineage comes back as it was.
+/// `Signal` exactly where some signal that the circuit drives fits no cell and no divisor serves,
+/// with the first such signal. `NoMemory` only where memory runs out. The lineage comes back as far
+/// as it went.
 pub fn map_cells(
     alloc: Global,
     resolved: Resolved,
@@ -51,31 +64,112 @@ pub fn map_cells(
 ) -> Result<Circuit, Unmapped>
     requires spelled { AreSpelled model.now resolved.current.coded.graph.signals }
     requires states { AreStateNames resolved.given.graph states.now }
-    ensures same { IfOk result (λ c. c.lineage ≡ resolved) }
+    ensures mapped { IfOk result (λ c. (trace : List TraceStep) × GoesOn resolved trace c.lineage
+        × MapsTo library.now resolved.current trace c.lineage.current) }
     ensures netlist { IfOk result
-        (λ c. c.netlist ≡ mapped_netlist library.now model.now states.now resolved) }
+        (λ c. c.netlist ≡ mapped_netlist library.now model.now states.now c.lineage) }
     ensures implements { IfOk result (λ c. Implements c.netlist resolved.given.graph) }
     ensures written { IfOk result (λ c. IsNetlist c.netlist) }
-    ensures fit { IfOk result (λ c. AllFit resolved.current.coded library.now) }
-    ensures back { IfErr result (λ u. u.resolved ≡ resolved) }
-    ensures unmapped { IfErr result
-        (λ u. ShowsStuck resolved.current.coded library.now u.cause) }
+    ensures unmapped { IfErr result (λ u. (trace : List TraceStep)
+        × GoesOn resolved trace u.resolved
+        × IsMapping library.now resolved.current trace u.resolved.current
+        × ShowsStuck library.now u.resolved.current u.cause) }
 {
-    match Circuit::of_cells(alloc, resolved, library, model, states) {
-        Ok(circuit) => Ok(circuit),
-        Err((resolved, fault)) => Err(Unmapped {
-            resolved,
-            cause: cause_of(fault),
-        }),
+    let mut resolved = resolved;
+    loop {
+        match Circuit::of_cells(alloc, resolved, library, model, states) {
+            Ok(circuit) => return Ok(circuit),
+            Err((rest, fault)) => resolved = mapped_further(alloc, rest, library, fault)?,
+        }
     }
 }
 
-/// The cause that a fault of a circuit of cells is.
-fn cause_of(fault: CellsFault) -> MapStuck
-    ensures { result ≡ ends.cause_of fault }
+/// The lineage of a graph of which a signal fits no cell, with the best divisor inserted.
+fn mapped_further(
+    alloc: Global,
+    resolved: Resolved,
+    library: &Library,
+    fault: CellsFault,
+) -> Result<Resolved, Unmapped>
+    requires { ShowsUnfit resolved.current.coded library.now fault }
+    ensures extended { IfOk result (λ next. (p : TraceStep) × Extends resolved p next
+        × Maps library.now resolved.current p next.current × IsTrue (is_signal_name p.name)) }
+    ensures unmapped { IfErr result (λ u. (u.resolved ≡ resolved)
+        × ShowsStuck library.now resolved.current u.cause) }
 {
-    match fault {
-        CellsFault::NoMemory => MapStuck::NoMemory,
-        CellsFault::Unfit { sig } => MapStuck::Signal { sig },
+    let CellsFault::Unfit { sig } = fault else {
+        return Err(without_memory(resolved));
+    };
+    let found = match best_insertion(alloc, &resolved, library) {
+        Ok(found) => found,
+        Err(NoMemory) => return Err(without_memory(resolved)),
+    };
+    let Some(insertion) = found else {
+        return Err(Unmapped {
+            resolved,
+            cause: MapStuck::Signal { sig },
+        });
+    };
+    match inserted(alloc, resolved, insertion) {
+        Ok(next) => Ok(next),
+        Err(back) => Err(without_memory(back)),
     }
+}
+
+/// The lineage, where memory ran out.
+fn without_memory(resolved: Resolved) -> Unmapped
+    ensures resolved { result.resolved ≡ resolved }
+    ensures cause { result.cause ≡ MapStuck.NoMemory }
+{
+    Unmapped {
+        resolved,
+        cause: MapStuck::NoMemory,
+    }
+}
+
+/// An accepted partition and the name of the new signal.
+#[derive(Drop)]
+struct Insertion {
+    accepted: Accepted,
+    name: Name,
+}
+
+/// The lineage with the insertion, which leaves no conflict. After want of memory it comes back.
+fn inserted(alloc: Global, resolved: Resolved, insertion: Insertion) -> Result<Resolved, Resolved>
+    requires accepted { IsAccepted resolved.current.coded.graph insertion.accepted }
+    requires free { LeavesConflicts resolved.current.coded insertion.accepted 0 }
+    requires new { ¬ IsTaken resolved.current.coded.graph.signals insertion.name }
+    ensures line { IfOk result (Extends resolved
+        (record { name = insertion.name; partition = insertion.accepted })) }
+    ensures back { IfErr result (λ r. r ≡ resolved) }
+{
+    // What holds of each lineage comes with its current graph.
+    let _current = resolved.lineage().current();
+    let lineage = resolved.into_lineage();
+    let Insertion { accepted, name } = insertion;
+    match lineage.insert(alloc, accepted, name) {
+        Ok(next) => Ok(Resolved::known(next)),
+        Err((back, _accepted, NoMemory)) => Err(Resolved::known(back)),
+    }
+}
+
+/// With what the names of signals begin that are inserted for the gates of others.
+const STEM: &[u8] = b"map";
+
+/// The partition for the best divisor, if one serves, and a name for its signal.
+fn best_insertion(
+    alloc: Global,
+    resolved: &Resolved,
+    library: &Library,
+) -> Result<Option<Insertion>, NoMemory>
+    ensures { let c = resolved.now.current.coded in IfOk result (λ o. MatchOption o
+        (NoneServes c library.now)
+        (λ r. (x : Choice) × IsBest c library.now x × (x.classes ≡ r.accepted)
+        × IsFresh c.graph.signals (codes "map") r.name × IsTrue (is_signal_name r.name))) }
+{
+    let Some(accepted) = best_divisor(alloc, resolved, library)? else {
+        return Ok(None);
+    };
+    let name = fresh_name(alloc, resolved.lineage().current().coded().graph(), STEM)?;
+    Ok(Some(Insertion { accepted, name }))
 }

@@ -1,0 +1,84 @@
+-- What becomes of a search with each signal, and at its end.
+use Rattle.std.proofs.Common.{◌≡◌, ◌↔◌, ℕ, ◌+◌, ◌<◌, IsTrue, Bool, true, false, List, length, get_or, slice_get, Option, Some, None, MatchOption, is_some, refl, sym, ap, subst, ◌∙◌, inl, inr}
+use Rattle.std.proofs.lemmas.Bool.{true≢false}
+use Rattle.std.proofs.lemmas.Option.{slice_get-get_or}
+use Rattle.si_base.specs.Codes.{CodedGraph}
+use Rattle.si_base.specs.Graph.{StateGraph, IsNonInput}
+use Rattle.si_cell.specs.Library.{Library, Instance}
+use Rattle.si_divisor.specs.Divisors.{AreDivisors}
+use Rattle.si_match.specs.Fit.{first_fit}
+use Rattle.si_map.specs.declared.search.Search.{Search}
+use Rattle.si_map.specs.Best.{Choice, IsUnfit, IsDivisorAt, Serves, IsBest, NoneServes}
+use Rattle.si_map.specs.Search.{IsEarlier, IsBestSoFar}
+use Rattle.si_map.specs.Progress.{IsSearching, HasTried, classes_of}
+use Rattle.si_map.proofs.DivisorFacts.{place_within}
+use Rattle.si_map.proofs.Searching.{search_signal, search_finds, search_finds_none}
+
+module _ (c : CodedGraph) (library : Library) where
+  -- ---- one divisor after another
+  pub unfit_by : (z : ℕ) → IsNonInput c.graph.signals z → (o : Option Instance) → o ≡ first_fit c library z
+      → is_some o ≡ false → IsUnfit c library z
+  unfit_by z driven None is none = record { driven = driven; unfit = sym is }
+  unfit_by z driven (Some i) is none = absurd (true≢false none)
+
+  pub next_divisor : (d : CodedGraph) (z k : ℕ) (divisor : Instance) (divisors : List Instance) (s t : Search)
+      → d ≡ c → IsUnfit c library z → AreDivisors c library z divisors → k < length divisors
+      → divisor ≡ get_or divisors k divisor → HasTried d library divisor s t → IsSearching c library z k s
+      → IsSearching c library z (k + 1) t
+  next_divisor d z k divisor divisors s t same unfit are within is tried so =
+      let there : slice_get divisors k ≡ Some divisor =
+      slice_get-get_or divisors k divisor within ∙ ap (λ (i : Instance). Some i) (sym is) in
+      let here : IsDivisorAt c library z k divisor = record { divisors = divisors; are = are; there = there } in
+      subst (λ e. HasTried e library divisor s t) same tried z k unfit here so
+
+  -- ---- the end of a signal
+  next_signal : (z k : ℕ) (s : Search) → ((y : Choice) → Serves c library y → y.signal ≡ z → IsEarlier y z k)
+      → IsSearching c library z k s → IsSearching c library (z + 1) 0 s
+  next_signal z k s all so = record {
+    ready = so.ready;
+    best = so.best;
+    is_best = search_signal c library z k so.best all so.is_best;
+    bar_is = so.bar_is;
+    kept = so.kept;
+  }
+
+  pub end_signal : (z : ℕ) (divisors : List Instance) (s : Search) → AreDivisors c library z divisors
+      → IsSearching c library z (length divisors) s → IsSearching c library (z + 1) 0 s
+  end_signal z divisors s are so = next_signal z (length divisors) s all so
+    where
+      all : (y : Choice) → Serves c library y → y.signal ≡ z → IsEarlier y z (length divisors)
+      all y serves at =
+          let P : ℕ → Type 0 = λ a. IsDivisorAt c library a y.place serves.divisor in
+          let within = place_within c library z y.place serves.divisor divisors are (subst P at serves.at) in
+          inr (at, inl within)
+
+  pub pass_input : (z : ℕ) (s : Search) → (IsNonInput c.graph.signals z → ⊥) → IsSearching c library z 0 s
+      → IsSearching c library (z + 1) 0 s
+  pass_input z s input so = next_signal z 0 s
+      (λ y serves at. absurd (input (subst (IsNonInput c.graph.signals) at serves.unfit.driven))) so
+
+  pub pass_input_by : (z : ℕ) (s : Search) (g : StateGraph) (driven : Bool) → g ≡ c.graph
+      → (IsTrue driven ↔ IsNonInput g.signals z) → driven ≡ false → IsSearching c library z 0 s
+      → IsSearching c library (z + 1) 0 s
+  pass_input_by z s g driven same told is so = pass_input z s
+      (λ there. true≢false (sym (told.1 (subst (λ h. IsNonInput h.signals z) (sym same) there)) ∙ is)) so
+
+  pub pass_fitted : (z : ℕ) (s : Search) → is_some (first_fit c library z) ≡ true → IsSearching c library z 0 s
+      → IsSearching c library (z + 1) 0 s
+  pass_fitted z s fits so = next_signal z 0 s (λ y serves at. absurd (not_both y serves at)) so
+    where
+      not_both : (y : Choice) → Serves c library y → y.signal ≡ z → ⊥
+      not_both y serves at = true≢false (sym fits ∙ ap (λ (o : Option Instance). is_some o)
+          (ap (first_fit c library) (sym at) ∙ serves.unfit.unfit))
+
+  -- ---- the end of all
+  tells : (o : Option Choice) → IsBestSoFar c library (length c.graph.signals) 0 o
+      → MatchOption (classes_of o) (NoneServes c library)
+      (λ a. (x : Choice) × IsBest c library x × (x.classes ≡ a))
+  tells None so = search_finds_none c library so
+  tells (Some x) so = (x, search_finds c library x so, refl)
+
+  pub found : (s : Search) → IsSearching c library (length c.graph.signals) 0 s
+      → MatchOption s.best (NoneServes c library) (λ a. (x : Choice) × IsBest c library x × (x.classes ≡ a))
+  found s so = subst (λ o. MatchOption o (NoneServes c library)
+      (λ a. (x : Choice) × IsBest c library x × (x.classes ≡ a))) (sym so.kept) (tells so.best so.is_best)

@@ -1,0 +1,293 @@
+-- What becomes of a search with each divisor.
+use Rattle.std.proofs.Common.{◌≡◌, ℕ, ◌+◌, ◌<◌, ◌≤◌, ◌⊎◌, List, [], ◌∷◌, ◌++◌, get_or, All, Option, Some, None, IfSome, IfNone, MatchOption, is_some, not, Bool, true, false, refl, sym, ap, subst, ◌∙◌, arith, inl, inr}
+use Rattle.std.proofs.lemmas.Bool.{true≢false}
+use Rattle.std.proofs.lemmas.List.Elements.{All-push}
+use Rattle.si_base.specs.Codes.{CodedGraph, IsCoded}
+use Rattle.si_base.specs.Proper.{HasNoConflict}
+use Rattle.si_cell.specs.Library.{Library, Instance, instance_value}
+use Rattle.si_conflicts.specs.Chains.{AreChains}
+use Rattle.si_conflicts.specs.Left.{LeavesConflicts}
+use Rattle.si_divisor.specs.PartitionFor.{IsPartitionFor}
+use Rattle.si_divisor.specs.Targets.{forced_by}
+use Rattle.si_divisor.proofs.UniqueAnswers.{one_partition}
+use Rattle.si_insert.specs.declared.partition.Class.{Class}
+use Rattle.si_insert.specs.Partition.{IsLawful}
+use Rattle.si_insert.specs.Accepted.{IsAccepted}
+use Rattle.si_insert.specs.Applied.{IsApplied}
+use Rattle.si_insert.specs.Fresh.{IsTaken}
+use Rattle.si_insert.specs.Insertion.{coded, new_signal}
+use Rattle.si_insert.specs.Made.{copies_of}
+use Rattle.si_match.specs.Weight.{weight_of}
+use Rattle.si_map.specs.declared.search.Search.{Search}
+use Rattle.si_map.specs.Best.{Choice, IsDivisorAt, LeavesWeight, Serves}
+use Rattle.si_map.specs.Search.{IsBestSoFar, bar}
+use Rattle.si_map.specs.Progress.{IsReady, IsSearching, HasTried, IsPassed, IsKept, IsTried, IsKnown, IsGrown, LeavesBelow, LeavesNoneBelow}
+use Rattle.si_map.proofs.DivisorFacts.{one_divisor}
+use Rattle.si_map.proofs.NoneLeft.{none_left}
+use Rattle.si_map.proofs.Searching.{search_skip, search_take}
+use Rattle.si_map.proofs.WeightLeft.{weight_is_one}
+
+-- ---- the inserted graph of a partition
+module _ (c : CodedGraph) (library : Library) (classes : List Class) (name : List ℕ) (h : CodedGraph)
+    (applied : IsApplied c classes name h) where
+  is_coded : coded c (copies_of classes) h.graph ≡ h
+  is_coded = let codes = sym applied.codes in λ i. record { graph = h.graph; codes = codes i }
+
+  pub inserted_free : IsCoded c → IsLawful c.graph classes → LeavesConflicts c classes 0 → HasNoConflict h
+  inserted_free is lawful free = subst HasNoConflict is_coded
+      (none_left c classes (new_signal name) (copies_of classes) h.graph is lawful free applied.insertion)
+
+  pub inserted_leaves : LeavesWeight c library classes (weight_of h library)
+  inserted_leaves = record {
+    new = new_signal name;
+    copies = copies_of classes;
+    graph = h.graph;
+    insertion = applied.insertion;
+    weighs = ap (λ d. weight_of d library) is_coded;
+  }
+
+  pub inserted_none : (low : ℕ) → low ≤ weight_of h library → LeavesNoneBelow c library classes low
+  inserted_none low high n free leaves =
+      let same = weight_is_one c library classes n (weight_of h library) leaves inserted_leaves in
+      omega (arith, same, high)
+
+pub conflict_leaves_none : (c : CodedGraph) (library : Library) (classes : List Class) (low : ℕ)
+    → ((n : ℕ) → LeavesConflicts c classes n → 1 ≤ n) → LeavesNoneBelow c library classes low
+conflict_leaves_none c library classes low some n free leaves =
+    let more = some 0 free in absurd (omega (arith, more))
+
+-- what a trial of the conflicts tells
+pub conflict_left : (c : CodedGraph) (library : Library) (classes given : List Class) (o : Option ℕ) (none : Bool)
+    (low : ℕ) → given ≡ classes → is_some o ≡ not none → none ≡ true
+    → IfNone o ((n : ℕ) → LeavesConflicts c given n → 1 ≤ n) → LeavesNoneBelow c library classes low
+conflict_left c library classes given None none low same told is some =
+    conflict_leaves_none c library classes low
+    (subst (λ (xs : List Class). (n : ℕ) → LeavesConflicts c xs n → 1 ≤ n) same some)
+conflict_left c library classes given (Some n) none low same told is some =
+    absurd (true≢false (told ∙ ap not is))
+
+pub free_left : (c : CodedGraph) (classes given : List Class) (o : Option ℕ) (none : Bool) → given ≡ classes
+    → is_some o ≡ not none → none ≡ false → IfSome o (λ n. LeavesConflicts c given n × (n < 1))
+    → LeavesConflicts c classes 0
+free_left c classes given None none same told is few = absurd (true≢false (sym (told ∙ ap not is)))
+free_left c classes given (Some n) none same told is few =
+    let zero : n ≡ 0 = omega (arith, few.1) in
+    subst (λ (xs : List Class). LeavesConflicts c xs 0) same (subst (LeavesConflicts c given) zero few.0)
+
+-- and what the weight of the inserted graph tells
+module _ (c : CodedGraph) (library : Library) (classes : List Class) (name : List ℕ) (h lent : CodedGraph)
+    (applied : IsApplied c classes name h) (same : lent ≡ h) where
+  pub below_left : (o : Option ℕ) (low : ℕ) → LeavesConflicts c classes 0
+      → IfSome o (λ w. (w ≡ weight_of lent library) × (w < low)) → IfSome o (LeavesBelow c library classes low)
+  below_left None low free told = told
+  below_left (Some w) low free told =
+      let weight : weight_of h library ≡ w = sym (told.0 ∙ ap (λ d. weight_of d library) same) in
+      record {
+        free = free;
+        leaves = subst (LeavesWeight c library classes) weight (inserted_leaves c library classes name h applied);
+        below = told.1;
+      }
+
+  pub none_below_left : (o : Option ℕ) (low : ℕ) → IfNone o (low ≤ weight_of lent library)
+      → IfNone o (LeavesNoneBelow c library classes low)
+  none_below_left None low told = inserted_none c library classes name h applied low
+      (subst (λ d. low ≤ weight_of d library) same told)
+  none_below_left (Some w) low told = told
+
+-- ---- the search
+-- what is still to get below is never more than the weight of the graph
+bar_le : (c : CodedGraph) (library : Library) (z k : ℕ) (o : Option Choice) → IsBestSoFar c library z k o
+    → bar (weight_of c library) o ≤ weight_of c library
+bar_le c library z k None so = omega arith
+bar_le c library z k (Some x) so = omega (arith, so.serves.lower)
+
+module _ (c : CodedGraph) (library : Library) (z k : ℕ) (s : Search) (so : IsSearching c library z k s) where
+  pub skip : (t : Search) → IsReady c library t → t.bar ≡ s.bar → t.best ≡ s.best
+      → ((y : Choice) → Serves c library y → y.signal ≡ z → y.place ≡ k → s.bar ≤ y.weight)
+      → IsSearching c library z (k + 1) t
+  skip t ready bar best high = record {
+    ready = ready;
+    best = so.best;
+    is_best = search_skip c library z k so.best
+        (λ y serves at_signal at_place. (let more = high y serves at_signal at_place in
+        omega (arith, so.bar_is, more))) so.is_best;
+    bar_is = bar ∙ so.bar_is;
+    kept = best ∙ so.kept;
+  }
+
+  pub take : (t : Search) (x : Choice) → IsReady c library t → Serves c library x → x.signal ≡ z → x.place ≡ k
+      → x.weight < s.bar → t.bar ≡ x.weight → t.best ≡ Some x.classes → IsSearching c library z (k + 1) t
+  take t x ready serves at_signal at_place below bar_is kept = record {
+    ready = ready;
+    best = Some x;
+    is_best = search_take c library z k so.best x serves at_signal at_place (omega (arith, so.bar_is, below))
+        so.is_best;
+    bar_is = bar_is;
+    kept = kept;
+  }
+
+  pub under : (n : ℕ) → n < s.bar → n < weight_of c library
+  under n below =
+      let least = bar_le c library z k so.best so.is_best in omega (arith, so.bar_is, below, least)
+
+-- ---- one partition
+known_leaves : (c : CodedGraph) (library : Library) (s : Search) (classes : List Class) → IsReady c library s
+    → IsKnown s classes → LeavesNoneBelow c library classes s.bar
+known_leaves c library s classes ready (inl best) =
+    subst (λ o. IfSome o (λ p. LeavesNoneBelow c library p s.bar)) best ready.best_known
+known_leaves c library s classes ready (inr (k, within, is)) =
+    subst (λ (xs : List Class). LeavesNoneBelow c library xs s.bar) is (ready.tried_known k classes within)
+
+lower : (c : CodedGraph) (library : Library) (classes : List Class) (low high : ℕ) → low < high
+    → LeavesNoneBelow c library classes high → LeavesNoneBelow c library classes low
+lower c library classes low high less none n free leaves =
+    let more = none n free leaves in omega (arith, less, more)
+
+module _ (c : CodedGraph) (library : Library) (s : Search) (ready : IsReady c library s) (classes : List Class) where
+  stays : (IsAccepted c.graph classes → LeavesNoneBelow c library classes s.bar) → IsTried c library classes s s
+  stays none = inl (record { ready = ready; bar = refl; best = refl; none = none })
+
+  pub refused : (IsAccepted c.graph classes → ⊥) → IsTried c library classes s s
+  refused never = stays (λ accepted. absurd (never accepted))
+
+  pub known : IsKnown s classes → IsTried c library classes s s
+  known is = stays (λ accepted. known_leaves c library s classes ready is)
+
+  grown : (t : Search) → IsGrown s classes t → LeavesNoneBelow c library classes s.bar → IsTried c library classes s t
+  grown t is none = inl (record {
+    ready = record {
+      coded = ready.coded;
+      proper = ready.proper;
+      chains = subst (AreChains c) (sym is.chains) ready.chains;
+      new = subst (λ name. IsTaken c.graph.signals name → ⊥) (sym is.name) ready.new;
+      best_known = subst (λ o. IfSome o (λ p. LeavesNoneBelow c library p t.bar)) (sym is.best)
+          (subst (λ low. IfSome s.best (λ p. LeavesNoneBelow c library p low)) (sym is.bar) ready.best_known);
+      tried_known = subst (λ low. All (λ p. LeavesNoneBelow c library p low) t.tried.items) (sym is.bar)
+          (all is.tried);
+    };
+    bar = is.bar;
+    best = is.best;
+    none = λ accepted. none;
+  })
+    where
+      all : (t.tried.items ≡ s.tried.items) ⊎ (t.tried.items ≡ s.tried.items ++ classes ∷ [])
+          → All (λ p. LeavesNoneBelow c library p s.bar) t.tried.items
+      all (inl same) = subst (All (λ p. LeavesNoneBelow c library p s.bar)) (sym same) ready.tried_known
+      all (inr more) = subst (All (λ p. LeavesNoneBelow c library p s.bar)) (sym more)
+          (All-push (λ p. LeavesNoneBelow c library p s.bar) s.tried.items classes ready.tried_known none)
+
+  pub kept_tried : (given : List Class) (m t : Search) (o : Option ℕ) → given ≡ classes → m ≡ s → o ≡ None
+      → IfNone o (LeavesNoneBelow c library given s.bar) → IsGrown m given t → IsTried c library classes s t
+  kept_tried given m t o same before is told more =
+      grown t (subst (λ xs. IsGrown s xs t) same (subst (λ x. IsGrown x given t) before more))
+      (subst (λ (xs : List Class). LeavesNoneBelow c library xs s.bar) same
+      (subst (λ p. IfNone p (LeavesNoneBelow c library given s.bar)) is told))
+
+  -- the search with a partition as the best so far
+  abbrev with_best : List Class → ℕ → Search → Search
+  with_best given n m =
+      record { bar = n; best = Some given; tried = m.tried; chains = m.chains; name = m.name }
+
+  taken_best : (n : ℕ) → IsAccepted c.graph classes → LeavesBelow c library classes s.bar n
+      → IsTried c library classes s (with_best classes n s)
+  taken_best n accepted left = inr (record {
+    ready = record {
+      coded = ready.coded;
+      proper = ready.proper;
+      chains = ready.chains;
+      new = ready.new;
+      best_known = λ m free leaves. (let same = weight_is_one c library classes n m left.leaves leaves in
+          omega (arith, same));
+      tried_known = λ k d within. lower c library (get_or s.tried.items k d) n s.bar left.below
+          (ready.tried_known k d within);
+    };
+    accepted = accepted;
+    left = left;
+    best = refl;
+  })
+
+  pub kept_best : (given : List Class) (m : Search) (o : Option ℕ) (n : ℕ) → given ≡ classes → m ≡ s → o ≡ Some n
+      → IsAccepted c.graph given → IfSome o (LeavesBelow c library given s.bar)
+      → IsTried c library classes s (with_best given n m)
+  kept_best given m o n same before is accepted told =
+      let found : LeavesBelow c library given s.bar n =
+      subst (λ p. IfSome p (LeavesBelow c library given s.bar)) is told in
+      let taken = taken_best n (subst (IsAccepted c.graph) same accepted)
+      (subst (λ (xs : List Class). LeavesBelow c library xs s.bar n) same found) in
+      subst (λ x. IsTried c library classes s (with_best given n x)) (sym before)
+      (subst (λ (xs : List Class). IsTried c library classes s (with_best xs n s)) (sym same) taken)
+
+-- ---- one divisor
+module _ (c : CodedGraph) (library : Library) (divisor : Instance) where
+  abbrev IsPartition : List Class → Type 0
+  IsPartition classes = IsPartitionFor c.graph (forced_by (instance_value library divisor) c) classes
+
+  -- a choice at the divisor's place has the partition for it
+  partition_here : (z k : ℕ) (y : Choice) → IsDivisorAt c library z k divisor → Serves c library y → y.signal ≡ z
+      → y.place ≡ k → IsPartition y.classes
+  partition_here z k y here serves at_signal at_place =
+      let P : ℕ → Type 0 = λ a. IsDivisorAt c library a y.place serves.divisor in
+      let Q : ℕ → Type 0 = λ b. IsDivisorAt c library z b serves.divisor in
+      let at : IsDivisorAt c library z k serves.divisor = subst Q at_place (subst P at_signal serves.at) in
+      let same = one_divisor c library z k serves.divisor divisor at here in
+      let R : Instance → Type 0 = λ d. IsPartitionFor c.graph (forced_by (instance_value library d) c) y.classes in
+      subst R same serves.are
+
+  pub zero_tried : (s : Search) → s.bar ≡ 0 → HasTried c library divisor s s
+  zero_tried s zero z k unfit here so = skip c library z k s so s so.ready refl refl
+      (λ y serves at_signal at_place. omega (arith, zero))
+
+  pub none_tried : (s : Search) → ((classes : List Class) → IsPartition classes → ⊥) → HasTried c library divisor s s
+  none_tried s none z k unfit here so = skip c library z k s so s so.ready refl refl
+      (λ y serves at_signal at_place. absurd (none y.classes
+      (partition_here z k y here serves at_signal at_place)))
+
+  passed : (classes : List Class) (s t : Search) → IsPartition classes → IsPassed c library classes s t
+      → HasTried c library divisor s t
+  passed classes s t are is z k unfit here so =
+      skip c library z k s so t is.ready is.bar is.best high
+    where
+      high : (y : Choice) → Serves c library y → y.signal ≡ z → y.place ≡ k → s.bar ≤ y.weight
+      high y serves at_signal at_place =
+          let same = one_partition c.graph (forced_by (instance_value library divisor) c) y.classes classes
+          (partition_here z k y here serves at_signal at_place) are in
+          is.none (subst (IsAccepted c.graph) same serves.accepted) y.weight
+          (subst (λ xs. LeavesConflicts c xs 0) same serves.free)
+          (subst (λ xs. LeavesWeight c library xs y.weight) same serves.leaves)
+
+  taken : (classes : List Class) (s t : Search) → IsPartition classes → IsKept c library classes s t
+      → HasTried c library divisor s t
+  taken classes s t are is z k unfit here so =
+      let x : Choice = record { signal = z; place = k; classes = classes; weight = t.bar } in
+      let serves : Serves c library x =
+      record {
+        unfit = unfit;
+        divisor = divisor;
+        at = here;
+        are = are;
+        accepted = is.accepted;
+        free = is.left.free;
+        leaves = is.left.leaves;
+        lower = under c library z k s so t.bar is.left.below;
+      } in
+      take c library z k s so t x is.ready serves refl refl is.left.below refl is.best
+
+  tried : (classes : List Class) (s t : Search) → IsPartition classes → IsTried c library classes s t
+      → HasTried c library divisor s t
+  tried classes s t are (inl is) = passed classes s t are is
+  tried classes s t are (inr is) = taken classes s t are is
+
+  pub none_found : (s : Search) (o : Option (List Class)) → o ≡ None
+      → MatchOption o ((classes : List Class) → IsPartition classes → ⊥)
+      (λ p. IsPartition p × IsLawful c.graph p) → HasTried c library divisor s s
+  none_found s o is told = none_tried s (subst (λ p. MatchOption p ((classes : List Class) → IsPartition classes → ⊥)
+      (λ p. IsPartition p × IsLawful c.graph p)) is told)
+
+  pub found_tried : (classes : List Class) (s t : Search) (o : Option (List Class)) → o ≡ Some classes
+      → MatchOption o ((classes : List Class) → IsPartition classes → ⊥)
+      (λ p. IsPartition p × IsLawful c.graph p) → IsTried c library classes s t → HasTried c library divisor s t
+  found_tried classes s t o is told =
+      let found : IsPartition classes × IsLawful c.graph classes =
+      subst (λ p. MatchOption p ((classes : List Class) → IsPartition classes → ⊥)
+      (λ p. IsPartition p × IsLawful c.graph p)) is told in
+      tried classes s t found.0

@@ -1,0 +1,39 @@
+use Rattle.std.proofs.Common.{◌≡◌, ◌<◌, ◌∙◌, length, sym, ap, subst, arith, Option, is_some}
+use Rattle.si_cell.specs.Library.{Instance}
+use Rattle.si_checks.specs.Lent.{lent_graph}
+use Rattle.si_map.specs.Progress.{IsSearching}
+use Rattle.si_map.proofs.Going.{unfit_by, next_divisor, end_signal, pass_fitted}
+use Rattle.si_map.proofs.DivisorFacts.{is_instance}
+use Rattle.si_map.proofs.search.Search.try_signal.Goals as goal
+
+pub returns-then-is_some : goal.returns-then-is_some
+returns-then-is_some c =
+    pass_fitted (lent_graph c.args.graph) c.args.library.now c.args.z c.args.self.now
+    (ap (λ (o : Option Instance). is_some o) (sym c.fit.ensures) ∙ (sym c.is_some.ensures ∙ c.if-is_some.true))
+    c.requires.before
+
+pub try_divisor-requires-clause-instance : goal.try_divisor-requires-clause-instance
+try_divisor-requires-clause-instance c =
+    let within : c.loop-k.k < length c.in_ok-divisors.divisors.items =
+    omega (arith, c.loop-k-test.true, c.len-k-end.ensures) in
+    is_instance (lent_graph c.args.graph) c.args.library.now c.args.z c.loop-k.k c.index.result.now
+    c.in_ok-divisors.divisors.items c.requires.before.ready.coded c.in_ok-divisors.ensures within c.index.ensures
+
+pub loop-k-preserved : goal.loop-k-preserved
+loop-k-preserved c =
+    let d = lent_graph c.args.graph in
+    let within : c.loop-k.k < length c.in_ok-divisors.divisors.items =
+    omega (arith, c.loop-k-test.true, c.len-k-end.ensures) in
+    let unfit = unfit_by d c.args.library.now c.args.z c.requires.driven c.fit.result c.fit.ensures
+    (sym c.is_some.ensures ∙ c.if-is_some.false) in
+    next_divisor d c.args.library.now c.proper.result.now c.args.z c.loop-k.k c.index.result.now
+    c.in_ok-divisors.divisors.items c.loop-k.self c.try_divisor.new.self c.proper.ensures.same unfit
+    c.in_ok-divisors.ensures within c.index.ensures c.in_ok-try_divisor.ensures c.loop-k.invariant
+
+pub returns : goal.returns
+returns c =
+    let d = lent_graph c.args.graph in
+    let all : c.loop-k.k ≡ length c.in_ok-divisors.divisors.items =
+    omega (arith, c.loop-k-test.false, c.loop-k.auto.k-end, c.len-k-end.ensures) in
+    end_signal d c.args.library.now c.args.z c.in_ok-divisors.divisors.items c.loop-k.self c.in_ok-divisors.ensures
+    (subst (λ k. IsSearching d c.args.library.now c.args.z k c.loop-k.self) all c.loop-k.invariant)

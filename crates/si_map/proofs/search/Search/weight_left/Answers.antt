@@ -1,0 +1,32 @@
+use Rattle.std.proofs.Common.{◌∙◌}
+use Rattle.si_map.proofs.Trying.{below_left, conflict_left, free_left, inserted_free, none_below_left}
+use Rattle.si_map.proofs.search.Search.weight_left.Goals as goal
+
+pub returns-then-is_none-clause-none : goal.returns-then-is_none-clause-none
+returns-then-is_none-clause-none c =
+    let given = c.classes-classes.ensures ∙ c.partition.ensures in
+    conflict_left c.args.graph.now c.args.library.now c.args.accepted.now c.classes-classes.result.now c.in_ok-free.free
+    c.is_none.result c.args.self.now.bar given c.is_none.ensures c.if-is_none.true c.in_ok-free.ensures.none
+
+pub known-distinct-requires : goal.known-distinct-requires
+known-distinct-requires c =
+    let given = c.classes-classes.ensures ∙ c.partition.ensures in
+    let free = free_left c.args.graph.now c.args.accepted.now c.classes-classes.result.now c.in_ok-free.free
+    c.is_none.result given c.is_none.ensures c.if-is_none.false c.in_ok-free.ensures.fewer in
+    inserted_free c.args.graph.now c.args.library.now c.args.accepted.now c.args.self.now.name c.in_ok-inserted.inserted
+    c.in_ok-inserted.ensures c.requires.ready.coded c.requires.accepted.lawful free
+
+pub returns-clause-below : goal.returns-clause-below
+returns-clause-below c =
+    let given = c.classes-classes.ensures ∙ c.partition.ensures in
+    let free = free_left c.args.graph.now c.args.accepted.now c.classes-classes.result.now c.in_ok-free.free
+    c.is_none.result given c.is_none.ensures c.if-is_none.false c.in_ok-free.ensures.fewer in
+    below_left c.args.graph.now c.args.library.now c.args.accepted.now c.args.self.now.name c.in_ok-inserted.inserted _
+    c.in_ok-inserted.ensures c.known-distinct.ensures c.in_ok-weight.weight c.args.self.now.bar free
+    c.in_ok-weight.ensures.some
+
+pub returns-clause-none : goal.returns-clause-none
+returns-clause-none c =
+    none_below_left c.args.graph.now c.args.library.now c.args.accepted.now c.args.self.now.name
+    c.in_ok-inserted.inserted _ c.in_ok-inserted.ensures c.known-distinct.ensures c.in_ok-weight.weight
+    c.args.self.now.bar c.in_ok-weight.ensures.none

@@ -1,0 +1,25 @@
+use Rattle.std.proofs.Common.{◌≡◌, ◌∙◌, length, ap, subst, arith}
+use Rattle.si_base.specs.Graph.{StateGraph}
+use Rattle.si_base.specs.Codes.{CodedGraph}
+use Rattle.si_checks.specs.Lent.{lent_graph}
+use Rattle.si_map.specs.Progress.{IsSearching}
+use Rattle.si_map.proofs.Going.{found, pass_input_by}
+use Rattle.si_map.proofs.search.find_best.Goals as goal
+
+pub loop-i-preserved-then-not-is_driven : goal.loop-i-preserved-then-not-is_driven
+loop-i-preserved-then-not-is_driven c =
+    let known = c.graph-known.ensures.same ∙ ap (λ (d : CodedGraph). d.graph)
+    (c.coded.ensures.same ∙ c.proper-2.ensures.same) in
+    pass_input_by (lent_graph c.args.graph) c.args.library.now c.loop-i.i c.loop-i.search c.graph-known.result.now
+    c.is_driven.result known c.is_driven.ensures c.if-not-is_driven.true c.loop-i.invariant
+
+pub returns : goal.returns
+returns c =
+    let d = lent_graph c.args.graph in
+    let known = c.graph-known.ensures.same ∙ ap (λ (d : CodedGraph). d.graph)
+    (c.coded.ensures.same ∙ c.proper-2.ensures.same) in
+    let count = ap length (c.signals-i-end.ensures ∙ ap (λ (g : StateGraph). g.signals) known) in
+    let all : c.loop-i.i ≡ length d.graph.signals =
+    omega (arith, c.loop-i-test.false, c.loop-i.auto.i-end, count) in
+    found d c.args.library.now c.loop-i.search
+    (subst (λ k. IsSearching d c.args.library.now k 0 c.loop-i.search) all c.loop-i.invariant)

@@ -1,0 +1,94 @@
+-- What a search for the best divisor keeps.
+use Rattle.std.specs.Prelude.{◌≡◌, ℕ, ◌+◌, ◌<◌, ◌≤◌, ◌⊎◌, List, [], ◌∷◌, ◌++◌, All, Contains, Option, Some, None, IfSome}
+use Rattle.si_base.specs.Codes.{CodedGraph, IsCoded}
+use Rattle.si_base.specs.Proper.{IsProper}
+use Rattle.si_cell.specs.Library.{Library, Instance}
+use Rattle.si_conflicts.specs.Chains.{AreChains}
+use Rattle.si_conflicts.specs.Left.{LeavesConflicts}
+use Rattle.si_insert.specs.declared.partition.Class.{Class}
+use Rattle.si_insert.specs.Accepted.{IsAccepted}
+use Rattle.si_insert.specs.Fresh.{IsTaken}
+use Rattle.si_match.specs.Weight.{weight_of}
+use Rattle.si_map.specs.Best.{Choice, IsUnfit, IsDivisorAt, LeavesWeight}
+use Rattle.si_map.specs.Search.{IsBestSoFar, bar}
+use Rattle.si_map.specs.declared.search.Search.{Search}
+
+-- ---- one partition
+
+-- it leaves no conflict and the weight n, which is below the bar
+pub record LeavesBelow (c : CodedGraph) (library : Library) (classes : List Class) (bar n : ℕ)
+    : Type 0 where
+  pub free : LeavesConflicts c classes 0
+  pub leaves : LeavesWeight c library classes n
+  pub below : n < bar
+
+-- it leaves a conflict, or no weight below the bar
+abbrev pub LeavesNoneBelow : CodedGraph → Library → List Class → ℕ → Type 0
+LeavesNoneBelow c library classes bar =
+    (n : ℕ) → LeavesConflicts c classes 0 → LeavesWeight c library classes n → bar ≤ n
+
+-- ---- the search
+
+-- what a search has for all divisors: c is a proper graph, the chains are those of its codes, no
+-- signal has the name, and what was tried leaves none below the bar
+pub record IsReady (c : CodedGraph) (library : Library) (search : Search) : Type 0 where
+  pub coded : IsCoded c
+  pub proper : IsProper c.graph
+  pub chains : AreChains c search.chains
+  pub new : IsTaken c.graph.signals search.name → ⊥
+  pub best_known : IfSome search.best (λ p. LeavesNoneBelow c library p search.bar)
+  pub tried_known : All (λ p. LeavesNoneBelow c library p search.bar) search.tried.items
+
+-- the partition of the best so far
+abbrev pub classes_of : Option Choice → Option (List Class)
+classes_of None = None
+classes_of (Some x) = Some x.classes
+
+-- the search has looked at the divisors before the place k of the list of signal z
+pub record IsSearching (c : CodedGraph) (library : Library) (z k : ℕ) (search : Search)
+    : Type 0 where
+  pub ready : IsReady c library search
+  pub best : Option Choice
+  pub is_best : IsBestSoFar c library z k best
+  pub bar_is : search.bar ≡ bar (weight_of c library) best
+  pub kept : search.best ≡ classes_of best
+
+-- wherever the divisor stands, a search that has come to it has then looked at it
+abbrev pub HasTried : CodedGraph → Library → Instance → Search → Search → Type 0
+HasTried c library divisor s t =
+    (z k : ℕ) → IsUnfit c library z → IsDivisorAt c library z k divisor
+    → IsSearching c library z k s → IsSearching c library z (k + 1) t
+
+-- the partition is the best so far, or is among those that were tried
+abbrev pub IsKnown : Search → List Class → Type 0
+IsKnown search classes = (search.best ≡ Some classes) ⊎ Contains search.tried.items classes
+
+-- the search differs in nothing but that the partition may stand last of those that were tried
+pub record IsGrown (s : Search) (classes : List Class) (t : Search) : Type 0 where
+  pub bar : t.bar ≡ s.bar
+  pub best : t.best ≡ s.best
+  pub chains : t.chains ≡ s.chains
+  pub name : t.name ≡ s.name
+  pub tried : (t.tried.items ≡ s.tried.items) ⊎ (t.tried.items ≡ s.tried.items ++ classes ∷ [])
+
+-- ---- what becomes of a search with a partition
+
+-- nothing but what is kept as tried: it isn't accepted, or leaves none below the bar
+pub record IsPassed (c : CodedGraph) (library : Library) (classes : List Class) (s t : Search)
+    : Type 0 where
+  pub ready : IsReady c library t
+  pub bar : t.bar ≡ s.bar
+  pub best : t.best ≡ s.best
+  pub none : IsAccepted c.graph classes → LeavesNoneBelow c library classes s.bar
+
+-- the partition is the best so far, and its weight the bar
+pub record IsKept (c : CodedGraph) (library : Library) (classes : List Class) (s t : Search)
+    : Type 0 where
+  pub ready : IsReady c library t
+  pub accepted : IsAccepted c.graph classes
+  pub left : LeavesBelow c library classes s.bar t.bar
+  pub best : t.best ≡ Some classes
+
+-- one of the two, whichever applies
+abbrev pub IsTried : CodedGraph → Library → List Class → Search → Search → Type 0
+IsTried c library classes s t = IsPassed c library classes s t ⊎ IsKept c library classes s t

@@ -1,0 +1,38 @@
+-- Mapping: the best divisor is inserted as a signal, again and again, while one serves.
+use Rattle.std.specs.Prelude.{◌≡◌, ℕ, List, [], ◌∷◌, codes}
+use Rattle.si_cell.specs.Library.{Library}
+use Rattle.si_circuit.specs.Cells.{AllFit, IsFirstUnfit}
+use Rattle.si_insert.specs.declared.lineage.TraceStep.{TraceStep}
+use Rattle.si_insert.specs.Fresh.{IsFresh}
+use Rattle.si_insert.specs.Lineage.{Current, Inserts}
+use Rattle.si_map.specs.Best.{Choice, IsBest, NoneServes}
+
+-- the best divisor of v is inserted as `map` and makes u
+pub record Maps (library : Library) (v : Current) (p : TraceStep) (u : Current) : Type 0 where
+  pub choice : Choice
+  pub best : IsBest v.coded library choice
+  pub classes_are : p.partition ≡ choice.classes
+  pub name : IsFresh v.coded.graph.signals (codes "map") p.name
+  pub inserts : Inserts v p u
+
+-- the insertions, one after another, lead from v to w
+abbrev pub IsMapping : Library → Current → List TraceStep → Current → Type 0
+IsMapping library v [] w = v ≡ w
+IsMapping library v (p ∷ trace) w = (u : Current) × Maps library v p u × IsMapping library u trace w
+
+-- the trace ends where each signal that the circuit drives fits a cell
+pub record MapsTo (library : Library) (v : Current) (trace : List TraceStep) (w : Current)
+    : Type 0 where
+  pub goes : IsMapping library v trace w
+  pub done : AllFit w.coded library
+
+-- the graph has a first signal that fits no cell, and no divisor serves
+pub record IsStuck (library : Library) (w : Current) (z : ℕ) : Type 0 where
+  pub first : IsFirstUnfit w.coded library z
+  pub none : NoneServes w.coded library
+
+-- the trace ends at a graph of that kind
+pub record EndsUnmapped (library : Library) (v : Current) (trace : List TraceStep) (w : Current)
+    (z : ℕ) : Type 0 where
+  pub goes : IsMapping library v trace w
+  pub stuck : IsStuck library w z

@@ -1,0 +1,36 @@
+//! The best divisor of a graph.
+
+ghost use Rattle.std.specs.Prelude.{◌≡◌, IfOk, MatchOption};
+ghost use Rattle.si_map.specs.Best.{Choice, IsBest, NoneServes};
+
+use crate::search::find_best;
+use si_base::ids::NoMemory;
+use si_base::limits::MAX_SIGNALS;
+use si_cell::library::Library;
+use si_insert::accept::Accepted;
+use si_insert::resolved::Resolved;
+use si_match::weight::weight;
+use std::alloc::Global;
+
+/// The partition for the best divisor of the lineage's current graph: of the divisors of signals
+/// that fit no cell, the one whose partition is accepted, leaves no conflict and leaves the least
+/// weight, which is lower than that of the graph; the first among equals. It is None exactly where
+/// no divisor serves so. It fails only where memory runs out.
+pub fn best_divisor(
+    alloc: Global,
+    resolved: &Resolved,
+    library: &Library,
+) -> Result<Option<Accepted>, NoMemory>
+    ensures best { IfOk result (λ o. MatchOption o
+        (NoneServes resolved.now.current.coded library.now)
+        (λ a. (x : Choice) × IsBest resolved.now.current.coded library.now x
+        × (x.classes ≡ a))) }
+{
+    let graph = resolved.distinct();
+    if graph.proper().coded().graph().signals().len() >= MAX_SIGNALS {
+        return Ok(None);
+    }
+    let weight = weight(alloc, graph, library)?;
+    let best = find_best(alloc, graph, library, weight)?;
+    Ok(best)
+}

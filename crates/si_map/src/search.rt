@@ -1,0 +1,221 @@
+//! The search for the best divisor, signal after signal and divisor after divisor.
+
+ghost use Rattle.std.specs.Prelude.{◌≡◌, ◌↔◌, ◌+◌, IsTrue, IfOk, IfSome, IfNone, OnOk, MatchOption};
+ghost use Rattle.si_base.specs.Graph.{IsNonInput};
+ghost use Rattle.si_cell.specs.Library.{Library as LibraryValue, IsInstance};
+ghost use Rattle.si_checks.specs.Lent.{lent_graph};
+ghost use Rattle.si_insert.specs.Accepted.{IsAccepted};
+ghost use Rattle.si_insert.specs.Partition.{IsLawful};
+ghost use Rattle.si_match.specs.Weight.{weight_of};
+ghost use Rattle.si_map.specs.Best.{Choice, IsBest, NoneServes};
+ghost use Rattle.si_map.specs.Progress.{IsReady, IsSearching, HasTried, IsTried, IsKnown, IsGrown, LeavesBelow, LeavesNoneBelow};
+
+use si_base::ids::{NoMemory, Sig};
+use si_base::text::Name;
+use si_cell::cell::Instance;
+use si_cell::library::Library;
+use si_checks::distinct::Distinct;
+use si_checks::proper::Proper;
+use si_conflicts::chains::CodeChains;
+use si_divisor::divisors::divisors;
+use si_divisor::partition_for::partition_if;
+use si_insert::accept::{Accepted, accept};
+use si_insert::apply::apply;
+use si_insert::fresh::fresh_name;
+use si_insert::partition::Partition;
+use si_match::fit::fit;
+use si_match::weight::weight_below;
+use std::alloc::Global;
+
+/// With what the name of a signal begins that mapping inserts.
+const STEM: &[u8] = b"map";
+
+/// The most accepted partitions that are kept so as not to be tried again.
+const MAX_TRIED: usize = 256;
+
+/// The weight that the next divisor has to get below, the partition of the best divisor so far,
+/// and what all divisors have in common: the rings of equal codes and the new signal's name. Many
+/// divisors have one partition, as where pins of a symmetric cell change places; some accepted ones
+/// that leave a conflict or no weight below the bar are kept.
+#[derive(Drop)]
+struct Search {
+    bar: u64,
+    best: Option<Accepted>,
+    tried: Vec<Accepted>,
+    chains: CodeChains,
+    name: Name,
+}
+
+/// The partition for the best divisor of a graph of that weight, if a divisor serves.
+pub(crate) fn find_best(
+    alloc: Global,
+    graph: Distinct<'_>,
+    library: &Library,
+    weight: u64,
+) -> Result<Option<Accepted>, NoMemory>
+    requires { weight ≡ weight_of (lent_graph graph) library.now }
+    ensures { IfOk result (λ o. MatchOption o
+        (NoneServes (lent_graph graph.entry) library.now)
+        (λ a. (x : Choice) × IsBest (lent_graph graph.entry) library.now x × (x.classes ≡ a))) }
+{
+    let mut search = Search::new(alloc, graph.proper(), weight)?;
+    let known = graph.proper().coded().graph();
+    for i in 0..known.signals().len() {
+        let z = Sig(i as u8);
+        if !known.is_driven(z) {
+            continue;
+        }
+        search.try_signal(alloc, graph, library, z)?;
+    }
+    Ok(search.best)
+}
+
+impl Search {
+    /// The search before all divisors.
+    fn new(alloc: Global, graph: &Proper, weight: u64) -> Result<Search, NoMemory>
+        ensures { IfOk result (λ s. (library : LibraryValue) → weight ≡ weight_of graph.now library
+            → IsSearching graph.now library 0 0 s) }
+    {
+        Ok(Search {
+            bar: weight,
+            best: None,
+            tried: Vec::new(alloc),
+            chains: CodeChains::new(alloc, graph)?,
+            name: fresh_name(alloc, graph.coded().graph(), STEM)?,
+        })
+    }
+
+    /// Looks at all divisors of the signal, if no cell fits it.
+    fn try_signal(
+        &mut self,
+        alloc: Global,
+        graph: Distinct<'_>,
+        library: &Library,
+        z: Sig,
+    ) -> Result<(), NoMemory>
+        requires driven { IsNonInput (lent_graph graph).graph.signals z }
+        requires before { IsSearching (lent_graph graph) library.now z 0 self.old }
+        ensures { OnOk result
+            (IsSearching (lent_graph graph.entry) library.now (z + 1) 0 self.new) }
+    {
+        if fit(graph, library, z).is_some() {
+            return Ok(());
+        }
+        let divisors = divisors(alloc, graph, library, z)?;
+        for k in 0..divisors.len() {
+            self.try_divisor(alloc, graph.proper(), library, &divisors[k])?;
+        }
+        Ok(())
+    }
+
+    /// Looks at one divisor. Below the weight 0 there is none.
+    fn try_divisor(
+        &mut self,
+        alloc: Global,
+        graph: &Proper,
+        library: &Library,
+        divisor: &Instance,
+    ) -> Result<(), NoMemory>
+        requires instance { IsInstance library.now divisor.now }
+        requires ready { IsReady graph.now library.now self.old }
+        ensures { OnOk result
+            (HasTried graph.now library.now divisor.now self.old self.new) }
+    {
+        if self.bar == 0 {
+            return Ok(());
+        }
+        let Some(partition) = partition_if(alloc, graph, library, divisor)? else {
+            return Ok(());
+        };
+        self.try_partition(alloc, graph, library, partition)?;
+        Ok(())
+    }
+
+    /// Looks at one partition: it is the best so far if it is accepted, leaves no conflict and
+    /// leaves a weight below the bar.
+    fn try_partition(
+        &mut self,
+        alloc: Global,
+        graph: &Proper,
+        library: &Library,
+        partition: Partition,
+    ) -> Result<(), NoMemory>
+        requires lawful { IsLawful graph.now.graph partition }
+        requires ready { IsReady graph.now library.now self.old }
+        ensures { OnOk result
+            (IsTried graph.now library.now partition self.old self.new) }
+    {
+        if self.has_tried(&partition) {
+            return Ok(());
+        }
+        let accepted = match accept(graph, partition) {
+            Ok(accepted) => accepted,
+            Err(_refused) => return Ok(()),
+        };
+        let left = self.weight_left(alloc, graph, library, &accepted)?;
+        let Some(weight) = left else {
+            self.keep_tried(accepted)?;
+            return Ok(());
+        };
+        self.bar = weight;
+        self.best = Some(accepted);
+        Ok(())
+    }
+
+    /// Keeps the partition among those that were tried, as long as these are few.
+    fn keep_tried(&mut self, accepted: Accepted) -> Result<(), NoMemory>
+        ensures { OnOk result (IsGrown self.old accepted self.new) }
+    {
+        if self.tried.len() < MAX_TRIED {
+            self.tried.push(accepted)?;
+        }
+        Ok(())
+    }
+
+    /// Whether the partition is the best so far, or among those that are kept as tried.
+    fn has_tried(&self, partition: &Partition) -> bool
+        ensures { IsTrue result → IsKnown self.now partition.now }
+    {
+        if let Some(best) = &self.best {
+            if is_same(best.partition(), partition) {
+                return true;
+            }
+        }
+        let mut tried = self.tried.iter();
+        tried.any(|other| is_same(other.partition(), partition))
+    }
+
+    /// The weight that the partition leaves, if it leaves no conflict and a weight below the bar.
+    fn weight_left(
+        &mut self,
+        alloc: Global,
+        graph: &Proper,
+        library: &Library,
+        accepted: &Accepted,
+    ) -> Result<Option<u64>, NoMemory>
+        requires accepted { IsAccepted graph.now.graph accepted.now }
+        requires ready { IsReady graph.now library.now self.old }
+        ensures below { IfOk result
+            (λ o. IfSome o (LeavesBelow graph.now library.now accepted.now self.old.bar)) }
+        ensures none { IfOk result
+            (λ o. IfNone o (LeavesNoneBelow graph.now library.now accepted.now self.old.bar)) }
+        ensures same { self.new ≡ self.old }
+    {
+        let classes = accepted.partition().classes();
+        let free = self.chains.trial_below(alloc, graph, classes, 1)?;
+        if free.is_none() {
+            return Ok(None);
+        }
+        let inserted = apply(alloc, graph, accepted, &self.name)?;
+        let distinct = Distinct::known(&inserted);
+        let weight = weight_below(alloc, distinct, library, self.bar)?;
+        Ok(weight)
+    }
+}
+
+/// Whether the partitions have the same classes.
+fn is_same(one: &Partition, other: &Partition) -> bool
+    ensures { IsTrue result ↔ (one.now ≡ other.now) }
+{
+    one.classes() == other.classes()
+}
