@@ -1,0 +1,5 @@
+use Rattle.si_handshakes.proofs.ProperGraph.{connected}
+use Rattle.si_handshakes.proofs.laws.handshakes_are_connected.Goals as goal
+
+pub returns : goal.returns
+returns c = connected

@@ -1,0 +1,5 @@
+use Rattle.si_handshakes.proofs.Sizes.{one_graph}
+use Rattle.si_handshakes.proofs.laws.handshakes_are_unique.Goals as goal
+
+pub returns : goal.returns
+returns c = one_graph

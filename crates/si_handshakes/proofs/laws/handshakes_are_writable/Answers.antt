@@ -1,0 +1,5 @@
+use Rattle.si_handshakes.proofs.WrittenNames.{writable}
+use Rattle.si_handshakes.proofs.laws.handshakes_are_writable.Goals as goal
+
+pub returns : goal.returns
+returns c = writable

@@ -1,0 +1,5 @@
+use Rattle.si_handshakes.proofs.Sizes.{so_many_arcs}
+use Rattle.si_handshakes.proofs.laws.handshakes_have_these_sizes.Goals as goal
+
+pub returns-clause-arcs : goal.returns-clause-arcs
+returns-clause-arcs c = so_many_arcs

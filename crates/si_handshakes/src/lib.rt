@@ -1,0 +1,9 @@
+//! The graph of independent handshakes, a family of graphs of any size up to 65,536 states.
+#![tactic(auto)]
+
+mod arcs;
+pub mod handshakes;
+pub mod laws;
+mod names;
+#[cfg(test)]
+mod tests;
