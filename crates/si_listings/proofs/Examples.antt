@@ -3,10 +3,13 @@ use Rattle.std.proofs.Common.{◌≡◌, ℕ, List, [], ◌∷◌, refl, codes, 
 use Rattle.std.proofs.lemmas.Fmt.{decimal_digit}
 use Rattle.si_base.specs.declared.graph.Signal.{Signal}
 use Rattle.si_base.specs.declared.graph.SigKind.TheVariants.{Input, Output}
-use Rattle.si_base.specs.Graph.{rise}
+use Rattle.si_base.specs.Graph.{rise, fall}
+use Rattle.si_cover.proofs.Examples.{coded, plain, complemented}
 use Rattle.si_regions.specs.declared.regions.Region.{Region}
 use Rattle.si_listings.specs.RegionText.{regions_text}
+use Rattle.si_cover.specs.Rule.{chosen_sum}
 use Rattle.si_listings.specs.ConflictText.{conflicts_text}
+use Rattle.si_listings.specs.CoverText.{Component, LeastCube, NoCube, covers_text, conflict_text, mono_line}
 
 -- ---- two regions of `a+`, where nothing rests after it, and one of `z+`
 abbrev signals : List Signal
@@ -33,3 +36,26 @@ two = rw (decimal_digit 2 (lit< tt)) refl
 none : conflicts_text names 0 [] ≡ codes "conflicts 0\n"
 unfolding conflicts_text
 none = rw (decimal_digit 0 (lit< tt)) refl
+
+-- ---- the covers of the C-element, with its monotonous cubes a b c' and a' b' c
+abbrev components : List Component
+components = record {
+  region = record { event = rise 2; er = 3 ∷ []; sr = 4 ∷ []; qr = 4 ∷ 5 ∷ 6 ∷ [] };
+  told = LeastCube (plain 0 ∷ plain 1 ∷ complemented 2 ∷ []);
+} ∷ record {
+  region = record { event = fall 2; er = 7 ∷ []; sr = 0 ∷ []; qr = 0 ∷ 1 ∷ 2 ∷ [] };
+  told = LeastCube (complemented 0 ∷ complemented 1 ∷ plain 2 ∷ []);
+} ∷ []
+
+covered : covers_text coded names components
+    ≡ codes "next c a b + b c + a c\nset c a b\nreset c a' b'\nmono c+ 1 a b c'\nmono c- 1 a' b' c\n"
+unfolding covers_text chosen_sum
+covered = rw (decimal_digit 1 (lit< tt)) refl
+
+-- a region without a monotonous cube, and a conflict
+no_cube : mono_line signals names 2 (record { event = rise 1; er = 3 ∷ []; sr = []; qr = [] }) (NoCube 4)
+    ≡ codes "mono" ∷ codes "z+" ∷ codes "2" ∷ codes "none" ∷ codes "s4" ∷ []
+no_cube = rw (decimal_digit 2 (lit< tt)) refl
+
+conflict : conflict_text names (3, 5) ≡ codes "conflict s3 s5\n"
+conflict = refl

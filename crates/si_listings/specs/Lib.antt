@@ -1,4 +1,5 @@
 pub mod Words
 pub mod RegionText
 pub mod ConflictText
+pub mod CoverText
 pub mod Laws

@@ -1,8 +1,10 @@
-//! The texts of the regions and of the conflicts of a graph.
+//! The texts of the regions, of the conflicts and of the covers of a graph.
 #![tactic(auto)]
 
 pub mod conflict_listing;
+pub mod cover_listing;
 pub mod laws;
+mod numbers;
 pub mod region_listing;
 #[cfg(test)]
 mod tests;

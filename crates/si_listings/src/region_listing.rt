@@ -1,10 +1,11 @@
 //! The text of the regions of a graph.
 
-ghost use Rattle.std.specs.Prelude.{◌≡◌, ℕ, ◌+◌, ◌<◌, ◌++◌, ◌∷◌, IfOk, OnOk, All, IsTrue, length, decimal, codes, take, slice_index_or, ◌↔◌};
+ghost use Rattle.std.specs.Prelude.{◌≡◌, ℕ, ◌+◌, ◌<◌, ◌++◌, ◌∷◌, IfOk, OnOk, All, length, decimal, codes, take, slice_index_or};
 ghost use Rattle.si_base.specs.Words.{line, text_of};
 ghost use Rattle.si_regions.specs.Regions.{AreRegions};
-ghost use Rattle.si_listings.specs.RegionText.{set_line, region_lines, regions_text, IsRegionText, IsWithinNames, GoesOn};
+ghost use Rattle.si_listings.specs.RegionText.{set_line, region_lines, regions_text, IsRegionText, IsWithinNames};
 
+use crate::numbers::goes_on;
 use crate::words::{add_event, add_states};
 use si_base::graph::Signal;
 use si_base::ids::{Event, NoMemory, StateId};
@@ -46,14 +47,6 @@ pub fn write_regions(
         add_region(alloc, &mut text, signals, states, &regions[k], number)?;
     }
     Ok(text)
-}
-
-/// Whether the region has the event of the one before it.
-fn goes_on(regions: &[Region], k: usize) -> bool
-    requires { k < length regions.now }
-    ensures { IsTrue result ↔ GoesOn regions.now k }
-{
-    k > 0 && regions[k - 1].event == regions[k].event
 }
 
 /// Adds the three lines of a region, which has this number among those of its event.

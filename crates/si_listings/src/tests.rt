@@ -1,15 +1,17 @@
-//! The listings of graphs whose regions and conflicts are known.
+//! The listings of graphs whose regions, conflicts and covers are known.
 
 ghost use Rattle.std.specs.Prelude.{◌≡◌, ◌≢◌, ◌≤◌, ◌<◌, IfOk, AllPairs, length};
 ghost use Rattle.si_base.specs.Graph.{kind_place};
 ghost use Rattle.si_base.specs.Limits.{max_signals};
 
 use crate::conflict_listing::list_conflicts;
+use crate::cover_listing::list_covers;
 use crate::region_listing::list_regions;
 use si_base::graph::{Edge, SigKind, Signal};
 use si_base::ids::{Event, NoMemory, Sig, StateId};
 use si_base::names::Names;
 use si_base::text::{Name, Text};
+use si_checks::proper::Proper;
 use si_graph::coded::Coded;
 use si_graph::graph::{Cut, Graph};
 use std::alloc::Global;
@@ -92,6 +94,16 @@ fn conflict_text(rt: &impl Abort, alloc: Global, graph: &Coded) -> Result<Text, 
     let names = names(alloc, states)?;
     assert!(rt; names.len() == states);
     Ok(list_conflicts(alloc, graph, &names)?)
+}
+
+fn cover_text(rt: &impl Abort, alloc: Global, graph: Coded) -> Result<Text, Fail> {
+    let states = graph.graph().states();
+    let Ok(proper) = Proper::make(alloc, graph) else {
+        return Err("not proper")?;
+    };
+    let names = names(alloc, states)?;
+    assert!(rt; names.len() == states);
+    Ok(list_covers(alloc, &proper, &names)?)
 }
 
 /// Two inputs, and an output that follows where they agree.
@@ -183,6 +195,27 @@ fn pulses(rt: &impl Abort, alloc: Global) -> Result<Coded, Fail> {
     coded(rt, alloc, signals, 6, &arcs)
 }
 
+/// Two inputs that rise once each, and an output that rises after either.
+fn either(rt: &impl Abort, alloc: Global) -> Result<Coded, Fail> {
+    let signals = vec![in alloc;
+        signal(alloc, b"a", SigKind::Input)?,
+        signal(alloc, b"b", SigKind::Input)?,
+        signal(alloc, b"z", SigKind::Output)?,
+    ]?;
+    let arcs = [
+        (0, rise(0), 1),
+        (0, rise(1), 2),
+        (1, rise(1), 3),
+        (1, rise(2), 4),
+        (2, rise(0), 3),
+        (2, rise(2), 5),
+        (3, rise(2), 6),
+        (4, rise(1), 6),
+        (5, rise(0), 6),
+    ];
+    coded(rt, alloc, signals, 7, &arcs)
+}
+
 #[test]
 fn lists_regions(rt: HostRuntime) -> Result<(), Fail> {
     let alloc = rt.alloc();
@@ -230,5 +263,23 @@ fn lists_conflicts(rt: HostRuntime) -> Result<(), Fail> {
     let text = conflict_text(&rt, alloc, &pulses(&rt, alloc)?)?;
     let none: &[u8] = b"conflicts 0\n";
     assert_eq!(rt; text.bytes(), none);
+    Ok(())
+}
+
+#[test]
+fn lists_covers(rt: HostRuntime) -> Result<(), Fail> {
+    let alloc = rt.alloc();
+    let text = cover_text(&rt, alloc, c_element(&rt, alloc)?)?;
+    let cubes: &[u8] = b"next c a b + b c + a c\nset c a b\nreset c a' b'\n\
+        mono c+ 1 a b c'\nmono c- 1 a' b' c\n";
+    assert_eq!(rt; text.bytes(), cubes);
+
+    let text = cover_text(&rt, alloc, either(&rt, alloc)?)?;
+    let none: &[u8] = b"next z a + b\nset z a + b\nreset z 0\nmono z+ 1 none s0\n";
+    assert_eq!(rt; text.bytes(), none);
+
+    let text = cover_text(&rt, alloc, read_cycle(&rt, alloc)?)?;
+    let conflict: &[u8] = b"conflict s3 s10\n";
+    assert_eq!(rt; text.bytes(), conflict);
     Ok(())
 }

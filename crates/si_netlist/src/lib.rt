@@ -5,4 +5,4 @@ pub mod gate;
 pub mod netlist;
 pub mod write;
 mod write_gates;
-mod write_sums;
+pub mod write_sums;

@@ -13,7 +13,10 @@ use si_cube::cube::Cube;
 use si_cube::sum::Sum;
 use si_words::writing::add_word;
 
-/// Adds the words of the sum.
+/// Adds the words of the sum, each with a blank before it.
+///
+/// It fails only where memory runs out. The text may then end in a part of them, and isn't to be
+/// used.
 pub fn add_sum(text: &mut Text, signals: &[Signal], sum: &Sum) -> Result<(), NoMemory>
     ensures { OnOk result (text.new ≡ text.old ++ spaced (sum_words signals.now sum.now)) }
 {
@@ -37,8 +40,11 @@ fn add_more_cubes(text: &mut Text, signals: &[Signal], cubes: &[Cube]) -> Result
     Ok(())
 }
 
-/// Adds the words of the cube.
-fn add_cube(text: &mut Text, signals: &[Signal], cube: &Cube) -> Result<(), NoMemory>
+/// Adds the words of the cube, each with a blank before it.
+///
+/// It fails only where memory runs out. The text may then end in a part of them, and isn't to be
+/// used.
+pub fn add_cube(text: &mut Text, signals: &[Signal], cube: &Cube) -> Result<(), NoMemory>
     ensures { OnOk result (text.new ≡ text.old ++ spaced (cube_words signals.now cube.now)) }
 {
     if cube.care.0 == 0 {
