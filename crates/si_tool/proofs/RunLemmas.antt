@@ -5,10 +5,13 @@ use Rattle.si_circuit.specs.declared.style.Style.{Style}
 use Rattle.si_circuit.specs.declared.style.Style.TheVariants.{Complex, GeneralisedC}
 use Rattle.si_io.specs.Outside.{Rose, Appends, AppendsPrefix}
 use Rattle.si_tool.specs.Command.{Asked, AsksAbout, AsksOfGraph, AsksMap, AsksReplay, Asks, AsksNothing, words_for, files_of}
+use Rattle.si_tool.specs.Command.{AsksExercise}
 use Rattle.si_tool.specs.declared.about.Topic.TheVariants.{Help, Version}
 use Rattle.si_tool.specs.declared.command.GraphTask.TheVariants.{Tell, Synth}
-use Rattle.si_tool.specs.declared.command.Report.{Report}
-use Rattle.si_tool.specs.declared.command.Report.TheVariants.{Summary, Regions, Conflicts}
+use Rattle.si_tool.specs.declared.command.HandshakeCount.{HandshakeCount}
+use Rattle.si_tool.specs.declared.command.HandshakeCount.TheVariants.{One, Two, Three, Four, Five, Six, Seven, Eight}
+use Rattle.si_stages.specs.declared.report_kind.Report.{Report}
+use Rattle.si_stages.specs.declared.report_kind.Report.TheVariants.{Summary, Regions, Conflicts, Covers}
 use Rattle.si_refusals.specs.Ending.{Ending, NoMemory, Usage, WriteFault, Answered, IsRefusal, status_of}
 use Rattle.si_refusals.specs.Ending.{line_of, ending_of}
 use Rattle.si_tool.specs.Laws.{ShowsCause}
@@ -35,13 +38,26 @@ style_by word = if bytes_eq word (codes "complex") then Some Complex
 report_by : List ℕ → Option Report
 report_by word = if bytes_eq word (codes "check") then Some Summary
     else if bytes_eq word (codes "regions") then Some Regions
-    else if bytes_eq word (codes "conflicts") then Some Conflicts else None
+    else if bytes_eq word (codes "conflicts") then Some Conflicts
+    else if bytes_eq word (codes "covers") then Some Covers else None
+
+handshakes_by : List ℕ → Option HandshakeCount
+handshakes_by word = if bytes_eq word (codes "1") then Some One
+    else if bytes_eq word (codes "2") then Some Two
+    else if bytes_eq word (codes "3") then Some Three
+    else if bytes_eq word (codes "4") then Some Four
+    else if bytes_eq word (codes "5") then Some Five
+    else if bytes_eq word (codes "6") then Some Six
+    else if bytes_eq word (codes "7") then Some Seven
+    else if bytes_eq word (codes "8") then Some Eight else None
 
 asked_by : List (List ℕ) → Option Asked
 asked_by (word ∷ []) =
     if bytes_eq word (codes "--help") then Some (AsksAbout Help)
     else if bytes_eq word (codes "--version") then Some (AsksAbout Version) else None
-asked_by (word ∷ file ∷ []) = option_map (λ r. AsksOfGraph (Tell r) file) (report_by word)
+asked_by (word ∷ file ∷ []) =
+    if bytes_eq word (codes "exercise") then option_map AsksExercise (handshakes_by file)
+    else option_map (λ r. AsksOfGraph (Tell r) file) (report_by word)
 asked_by (word ∷ file ∷ style ∷ []) =
     if bytes_eq word (codes "synth") then option_map (λ s. AsksOfGraph (Synth s) file) (style_by style)
     else if bytes_eq word (codes "map") then Some (AsksMap file style) else None
@@ -50,18 +66,27 @@ asked_by (word ∷ graph ∷ netlist ∷ schedule ∷ []) =
 asked_by words = None
 
 asked_back : (asked : Asked) → asked_by (words_for asked) ≡ Some asked
-unfolding asked_by style_by report_by
+unfolding asked_by style_by report_by handshakes_by
 asked_back (AsksAbout Help) = refl
 asked_back (AsksAbout Version) = refl
 asked_back (AsksOfGraph (Tell Summary) file) = refl
 asked_back (AsksOfGraph (Tell Regions) file) = refl
 asked_back (AsksOfGraph (Tell Conflicts) file) = refl
+asked_back (AsksOfGraph (Tell Covers) file) = refl
 asked_back (AsksOfGraph (Synth Complex) file) = refl
 asked_back (AsksOfGraph (Synth GeneralisedC) file) = refl
 asked_back (AsksMap graph library) = refl
 asked_back (AsksReplay graph netlist schedule) = refl
+asked_back (AsksExercise One) = refl
+asked_back (AsksExercise Two) = refl
+asked_back (AsksExercise Three) = refl
+asked_back (AsksExercise Four) = refl
+asked_back (AsksExercise Five) = refl
+asked_back (AsksExercise Six) = refl
+asked_back (AsksExercise Seven) = refl
+asked_back (AsksExercise Eight) = refl
 
-one_asked : (words : List (String Global)) (a b : Asked) → Asks words a → Asks words b → a ≡ b
+pub one_asked : (words : List (String Global)) (a b : Asked) → Asks words a → Asks words b → a ≡ b
 one_asked words a b one other =
     let same = sym (asked_back a) ∙ ap (λ (ws : List (List ℕ)). asked_by ws) (sym one ∙ other) ∙ asked_back b in
     cc

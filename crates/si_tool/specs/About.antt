@@ -12,10 +12,12 @@ help_lines =
     codes "  sisyn check F                      the size of a graph, where it is proper" ∷
     codes "  sisyn regions F                    where events are excited, and what follows" ∷
     codes "  sisyn conflicts F                  states that no gates can tell apart" ∷
+    codes "  sisyn covers F                     sums for each signal, and monotonous cubes" ∷
     codes "  sisyn synth F complex              a netlist of complex gates" ∷
     codes "  sisyn synth F gc                   a netlist of generalised C-elements" ∷
     codes "  sisyn map F LIB                    a netlist of cells of a library" ∷
     codes "  sisyn replay F NETLIST SCHEDULE    where a schedule over a netlist ends" ∷
+    codes "  sisyn exercise N                   the sizes of N handshakes, from 1 to 8" ∷
     codes "  sisyn --help                       this text" ∷
     codes "  sisyn --version                    the version" ∷
     codes "" ∷

@@ -1,14 +1,6 @@
 pub mod About
 pub mod Command
 pub mod Loads
-pub mod Readings
-pub mod Checks
-pub mod Resolving
-pub mod Synthesis
-pub mod Mapping
-pub mod Replayed
-pub mod Reports
-pub mod Outcomes
 pub mod Meaning
 pub mod Run
 pub mod Laws

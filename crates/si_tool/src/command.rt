@@ -1,25 +1,18 @@
 //! What the words of a command line ask for.
 
-ghost use Rattle.std.specs.Prelude.{◌≢◌, ◌≡◌, ℕ, List, MatchOption};
+ghost use Rattle.std.specs.Prelude.{◌≢◌, ◌≡◌, ◌<◌, ◌≤◌, ℕ, List, MatchOption};
 ghost use Rattle.si_circuit.specs.declared.style.Style as gates;
 ghost use Rattle.si_tool.specs.Command.{Asks, AsksAbout, AsksMap, AsksNothing, AsksOfGraph, AsksReplay};
-ghost use Rattle.si_tool.specs.Command.{asked_now, report_word, style_word};
+ghost use Rattle.si_tool.specs.Command.{AsksExercise, asked_now, count_word, number_of};
+ghost use Rattle.si_tool.specs.Command.{report_word, style_word};
+ghost use Rattle.si_handshakes.specs.Handshakes.{max_handshakes};
 ghost use Rattle.si_tool.specs.declared.about.Topic.{Topic as Topics};
-ghost use Rattle.si_tool.specs.declared.command.Report.{Report as Reports};
+ghost use Rattle.si_tool.specs.declared.command.HandshakeCount.{HandshakeCount as Counts};
+ghost use Rattle.si_stages.specs.declared.report_kind.Report.{Report as Reports};
 
 use crate::about::Topic;
 use si_circuit::style::Style;
-
-/// What is told of a proper graph.
-#[derive(Clone, Copy, PartialEq, Eq, Debug)]
-pub enum Report {
-    /// That it is proper, and its size.
-    Summary,
-    /// The regions of all events.
-    Regions,
-    /// How many conflicts it has, and the first of them.
-    Conflicts,
-}
+use si_stages::report_kind::Report;
 
 /// What is asked of one graph.
 #[derive(Clone, Copy, PartialEq, Eq, Debug)]
@@ -28,6 +21,39 @@ pub enum GraphTask {
     Tell(Report),
     /// Its netlist, with gates of the style.
     Synth(Style),
+}
+
+/// How many handshakes are exercised.
+#[derive(Clone, Copy, PartialEq, Eq, Debug)]
+pub enum HandshakeCount {
+    One,
+    Two,
+    Three,
+    Four,
+    Five,
+    Six,
+    Seven,
+    Eight,
+}
+
+impl HandshakeCount {
+    /// The number, from 1 to 8.
+    pub fn number(self) -> u32
+        ensures number { result ≡ number_of self }
+        ensures some { 0 < result }
+        ensures few { result ≤ max_handshakes }
+    {
+        match self {
+            HandshakeCount::One => 1,
+            HandshakeCount::Two => 2,
+            HandshakeCount::Three => 3,
+            HandshakeCount::Four => 4,
+            HandshakeCount::Five => 5,
+            HandshakeCount::Six => 6,
+            HandshakeCount::Seven => 7,
+            HandshakeCount::Eight => 8,
+        }
+    }
 }
 
 /// A command, with the names of its files.
@@ -48,6 +74,8 @@ pub enum Command<'w> {
         netlist: &'w str,
         schedule: &'w str,
     },
+    /// The sizes of so many handshakes.
+    Exercise(HandshakeCount),
 }
 
 /// The command that the words ask for, or `None` exactly where they ask for none.
@@ -70,6 +98,9 @@ pub fn command_of(words: &[String]) -> Option<Command<'_>>
     if let Some(command) = replay_of(words) {
         return Some(command);
     }
+    if let Some(command) = exercise_of(words) {
+        return Some(command);
+    }
     None
 }
 
@@ -85,7 +116,7 @@ fn about_of(words: &[String]) -> Option<Command<'_>>
     }
 }
 
-/// `check F`, `regions F` and `conflicts F`.
+/// `check F`, `regions F`, `conflicts F` and `covers F`.
 fn report_of(words: &[String]) -> Option<Command<'_>>
     ensures { MatchOption result
         ((report : Reports) (file : List ℕ)
@@ -110,6 +141,7 @@ fn report_named(word: &str) -> Option<Report>
         "check" => Some(Report::Summary),
         "regions" => Some(Report::Regions),
         "conflicts" => Some(Report::Conflicts),
+        "covers" => Some(Report::Covers),
         _ => None,
     }
 }
@@ -171,6 +203,39 @@ fn replay_of(words: &[String]) -> Option<Command<'_>>
                 schedule: schedule.as_str(),
             })
         }
+        _ => None,
+    }
+}
+
+/// `exercise 1` to `exercise 8`.
+fn exercise_of(words: &[String]) -> Option<Command<'_>>
+    ensures { MatchOption result
+        ((count : Counts) → Asks words.now (AsksExercise count) → ⊥)
+        (λ command. Asks words.now (asked_now command)) }
+{
+    match words {
+        [command, count] if command.as_str() == "exercise" => {
+            let count = count_of(count.as_str())?;
+            Some(Command::Exercise(count))
+        }
+        _ => None,
+    }
+}
+
+/// The count that the word names, by one digit.
+fn count_of(word: &str) -> Option<HandshakeCount>
+    ensures { MatchOption result ((count : Counts) → word.now ≢ count_word count)
+        (λ count. word.now ≡ count_word count) }
+{
+    match word {
+        "1" => Some(HandshakeCount::One),
+        "2" => Some(HandshakeCount::Two),
+        "3" => Some(HandshakeCount::Three),
+        "4" => Some(HandshakeCount::Four),
+        "5" => Some(HandshakeCount::Five),
+        "6" => Some(HandshakeCount::Six),
+        "7" => Some(HandshakeCount::Seven),
+        "8" => Some(HandshakeCount::Eight),
         _ => None,
     }
 }

@@ -10,14 +10,15 @@ ghost use Rattle.si_refusals.specs.Refusal.{Output};
 
 use crate::about::about;
 use crate::command::{Command, GraphTask};
-use crate::mapping::map_texts;
-use crate::replayed::replay_texts;
-use crate::report::report;
-use crate::synth::synth;
 use si_base::limits::MAX_TEXT;
 use si_base::text::Text;
 use si_io::shelf::{LoadFault, Shelf};
 use si_refusals::refusals::Refusal;
+use si_stages::exercise::exercise;
+use si_stages::mapping::map_texts;
+use si_stages::replayed::replay_texts;
+use si_stages::report::report;
+use si_stages::synth::synth;
 use std::alloc::Global;
 
 /// The output of a command over the files of the shelf, or the refusal that is due.
@@ -44,6 +45,7 @@ pub fn output<'w, H: Shelf>(
             netlist,
             schedule,
         } => replay_output(alloc, graph, netlist, schedule, shelf),
+        Command::Exercise(count) => Ok(exercise(alloc, count.number())?),
     }
 }
 

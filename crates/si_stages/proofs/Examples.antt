@@ -1,0 +1,123 @@
+-- A breach by its names, the summary of a graph, texts of a replay and its end, literals: the definitions at work.
+use Rattle.std.proofs.Common.{◌≡◌, ℕ, Bool, List, [], ◌∷◌, ◌++◌, Some, None, refl, ap, true, false, codes, append_assoc}
+use Rattle.std.specs.Prelude.{decimal}
+use Rattle.si_base.specs.Codes.{CodedGraph}
+use Rattle.si_base.specs.Netlist.{Netlist, SumGate, Gc}
+use Rattle.si_base.specs.declared.graph.Signal.{Signal}
+use Rattle.si_base.specs.declared.graph.SigKind.TheVariants.{Input, Output}
+use Rattle.si_base.specs.declared.ids.Literal.{Literal}
+use Rattle.si_base.specs.declared.fault.TextKind.TheVariants.{NoEnd, Toggle, Undeclared}
+use Rattle.si_netlist_reader.specs.NetlistFault.{netlist_fault}
+use Rattle.si_netlist_reader.specs.NetlistValue.{netlist_of}
+use Rattle.si_refusals.specs.Ending.{Answered, line_of}
+use Rattle.si_refusals.specs.Refusal.{TextRefused, Improper}
+use Rattle.si_stages.specs.Checks.{Breach, HasLoss, named}
+use Rattle.si_stages.specs.Exercise.{literals_of}
+use Rattle.si_stages.specs.Replayed.{replay_text, shown_signal}
+use Rattle.si_stages.specs.Reports.{summary}
+use Rattle.si_system.specs.ScheduleText.{signal_names, schedule_fault, schedule_of}
+use Rattle.si_system.specs.declared.verdict.Verdict.TheVariants.{Lost, Blocked}
+
+abbrev two_signals : List Signal
+two_signals = record { name = codes "b"; kind = Input } ∷ record { name = codes "z"; kind = Output } ∷ []
+
+-- ---- a breach by its names
+-- at `s0` the event `b+` disables the event `z+`
+loss : Breach
+loss = HasLoss (record { s = 0; lost = record { sig = 1; up = true }; by = record { sig = 0; up = true } })
+
+loss_line : line_of (Answered (TextRefused (Improper (named two_signals (codes "s0" ∷ codes "s1" ∷ []) loss))))
+    ≡ codes "nonpersistent s0 z+ b+\n"
+unfolding loss
+loss_line = refl
+
+-- ---- the summary of a graph
+abbrev two_states : CodedGraph
+two_states = record {
+  graph = record {
+    signals = two_signals;
+    states = 2;
+    edges = record { from = 0; event = record { sig = 0; up = false }; to = 1 } ∷ [];
+    start = 0;
+  };
+  codes = 1 ∷ 0 ∷ [];
+}
+
+three_ends : (a b c x y z end : List ℕ)
+    → x ++ ((a ++ 10 ∷ []) ++ (y ++ ((b ++ 10 ∷ []) ++ (z ++ ((c ++ 10 ∷ []) ++ end)))))
+    ≡ x ++ (a ++ 10 ∷ (y ++ (b ++ 10 ∷ (z ++ (c ++ 10 ∷ end)))))
+three_ends a b c x y z end = simp append_assoc
+
+summary_text : summary two_states
+    ≡ codes "proper\nsignals " ++ (decimal 2 ++ (codes "\nstates " ++ (decimal 2 ++ (codes "\narcs "
+    ++ (decimal 1 ++ codes "\nstart 10\n")))))
+summary_text =
+    three_ends (decimal 2) (decimal 2) (decimal 1) (codes "proper\nsignals ") (codes "states ") (codes "arcs ")
+    (codes "start 10\n")
+
+-- ---- the texts of a replay
+abbrev element : List ℕ
+element =
+    codes ".model c2\n.inputs a b\n.outputs c\n.internal\n.inserted\n.start 000\n.gates\nc sum a b + b c + a c\n.end\n"
+
+cut_short : netlist_fault (codes ".model c2\n.inputs a b\n") ≡ Some (3, NoEnd)
+unfolding netlist_fault
+cut_short = refl
+
+element_good : netlist_fault element ≡ None
+unfolding netlist_fault
+element_good = refl
+
+element_names : signal_names (netlist_of element).signals ≡ codes "a" ∷ codes "b" ∷ codes "c" ∷ []
+unfolding netlist_of
+element_names = refl
+
+toggle_fault : schedule_fault (signal_names (netlist_of element).signals) (codes "a+ b+\n\nc~") ≡ Some (3, Toggle)
+unfolding netlist_of
+toggle_fault = refl
+
+undeclared_fault : schedule_fault (signal_names (netlist_of element).signals) (codes "a+ d-/2") ≡ Some (1, Undeclared)
+unfolding netlist_of
+undeclared_fault = refl
+
+two_events : schedule_of (signal_names (netlist_of element).signals) (codes "a+ # first\nc-/2")
+    ≡ record { sig = 0; up = true } ∷ record { sig = 2; up = false } ∷ []
+unfolding netlist_of
+two_events = refl
+
+-- ---- the end of a replay
+-- the signal of a lost excitation is shown, and else the event's
+lost_shown : shown_signal (record { sig = 1; up = true }) (Lost 2) ≡ 2
+lost_shown = refl
+
+blocked_shown : shown_signal (record { sig = 1; up = true }) Blocked ≡ 1
+blocked_shown = refl
+
+abbrev signals : List Signal
+signals = record { name = codes "a"; kind = Input } ∷ record { name = codes "c"; kind = Output } ∷ []
+
+end_text : replay_text 19 signals 2 (codes "s7") ≡ codes "done " ++ decimal 19 ++ codes "\nvalues 01\nstate s7\n"
+end_text = ap (λ (t : List ℕ). codes "done " ++ t) (append_assoc (decimal 19) (10 ∷ []) (codes "values 01\nstate s7\n"))
+
+no_signal_text : replay_text 0 [] 0 (codes "s0") ≡ codes "done " ++ decimal 0 ++ codes "\nvalues\nstate s0\n"
+no_signal_text =
+    ap (λ (t : List ℕ). codes "done " ++ t) (append_assoc (decimal 0) (10 ∷ []) (codes "values\nstate s0\n"))
+
+-- ---- the literals of a netlist
+-- `z = a b + c'` has three literals, and the generalised C-element with set `a b` and reset `a' b'` four
+abbrev literal : ℕ → Bool → Literal
+literal sig plain = record { sig = sig; plain = plain }
+
+abbrev two_gates : Netlist
+two_gates = record {
+  model = codes "m";
+  signals = [];
+  start = 0;
+  inserts = [];
+  gates = SumGate ((literal 0 true ∷ literal 1 true ∷ []) ∷ (literal 2 false ∷ []) ∷ [])
+      ∷ Gc ((literal 0 true ∷ literal 1 true ∷ []) ∷ []) ((literal 0 false ∷ literal 1 false ∷ []) ∷ [])
+      ∷ [];
+}
+
+seven_literals : literals_of two_gates ≡ 7
+seven_literals = refl

@@ -1,0 +1,14 @@
+pub mod HandedOn
+pub mod Breaches
+pub mod StageLemmas
+pub mod ReportLemmas
+pub mod LiteralCounts
+pub mod CheckLemmas
+pub mod ResolvingLemmas
+pub mod Synthesis
+pub mod MappingLemmas
+pub mod ReplayLemmas
+pub mod SomeLemmas
+pub mod MeaningLemmas
+pub mod ExerciseLemmas
+pub mod Examples

@@ -1,0 +1,101 @@
+-- Where the schedule of a replay ends.
+use Rattle.std.proofs.Common.{◌≡◌, ℕ, ◌<◌, List, [], ◌∷◌, length, Option, Some, sym, ap, subst, ◌∙◌, arith}
+use Rattle.std.proofs.lemmas.List.{length-map}
+use Rattle.si_base.specs.declared.ids.Event.{Event}
+use Rattle.si_base.specs.declared.graph.SigKind.{SigKind}
+use Rattle.si_base.specs.declared.graph.SigKind.TheVariants.{Input, Output, Internal, Inserted}
+use Rattle.si_base.specs.Codes.{CodedGraph}
+use Rattle.si_base.specs.Graph.{StateGraph, IsGraph}
+use Rattle.si_base.specs.Netlist.{Netlist}
+use Rattle.si_base.specs.GivenGraph.{Sg}
+use Rattle.si_sg.specs.GivenGraph.{IsGivenBy}
+use Rattle.si_base.specs.System.{State, May, Fires, start}
+use Rattle.si_base.proofs.Circuit.{step_within}
+use Rattle.si_system.specs.Outcome.{Passes as PassesAll, IsOutcome}
+use Rattle.si_system.specs.declared.replay.Outcome.{Outcome}
+use Rattle.si_system.specs.declared.replay.Outcome.TheVariants as outcome
+use Rattle.si_stages.specs.Checks.{IsSound}
+use Rattle.si_refusals.specs.Ending.{Ending, NoMemory, Answered, MayStop}
+use Rattle.si_refusals.specs.Refusal.{TextRefused}
+use Rattle.si_stages.specs.Outcomes.{HasName, TellsEnd, TellsDeparture}
+use Rattle.si_stages.specs.Replayed.{IsReplay, replayed, replay_text}
+
+may_within : (kind : SigKind) (g : StateGraph) (n : Netlist) (values s : ℕ) (e : Event) (t : ℕ) → IsGraph g
+    → s < g.states → May kind g n values s e (Some t) → t < g.states
+may_within Input g n values s e t is inside may = (step_within g s e t is may.1.step).2
+may_within Output g n values s e t is inside may = (step_within g s e t is may.1.step).2
+may_within Internal g n values s e t is inside may = (step_within g s e t is may.1.step).2
+may_within Inserted g n values s e t is inside may =
+    (let same : t ≡ s = cc may.1 in subst (λ (u : ℕ). u < g.states) (sym same) inside)
+
+-- the graph is at one of its states, or the system is astray
+abbrev IsInside : StateGraph → State → Type 0
+IsInside g x = (s : ℕ) → x.place ≡ Some s → s < g.states
+
+fires_inside : (g : StateGraph) (n : Netlist) (x : State) (e : Event) (y : State) → IsGraph g → IsInside g x
+    → Fires g n x e y → IsInside g y
+fires_inside g n x e y is inside fires t at =
+    let may = subst (λ (p : Option ℕ). May fires.signal.kind g n x.values fires.at e p) at fires.may in
+    may_within fires.signal.kind g n x.values fires.at e t is (inside fires.at fires.not_astray) may
+
+passes_inside : (g : StateGraph) (n : Netlist) (x : State) (es : List Event) (y : State) → IsGraph g → IsInside g x
+    → PassesAll g n x es y → IsInside g y
+passes_inside g n x [] y is inside passes = subst (λ (z : State). IsInside g z) passes inside
+passes_inside g n x (e ∷ es) y is inside passes =
+    passes_inside g n passes.0 es y is (fires_inside g n x e passes.0 is inside passes.1.0) passes.2
+
+starts_inside : (g : StateGraph) (n : Netlist) → IsGraph g → IsInside g (start g n)
+starts_inside g n is s at = (let same : g.start ≡ s = cc at in subst (λ (u : ℕ). u < g.states) same is.starts)
+
+-- a schedule ends at a state of the graph
+pub ends_inside : (g : StateGraph) (n : Netlist) (es : List Event) (values state : ℕ) → IsGraph g
+    → IsOutcome g n (start g n) es (outcome.Done values state) → state < g.states
+ends_inside g n es values state is out =
+    passes_inside g n (start g n) es out.0 is (starts_inside g n is) out.1 state out.3
+
+-- there is a name for each state of the given graph
+pub as_many_names : (text : List ℕ) (given : Sg) → IsGivenBy text given → length given.states ≡ given.graph.states
+as_many_names text given is =
+    ap length is.is.given.states_are ∙ length-map is.is.given.kept _ ∙ sym is.is.given.cut.count
+
+-- ---- what an outcome tells
+
+-- whichever form of the graph was replayed
+pub outcome_over : (given : Sg) (p k : CodedGraph) (net : Netlist) (events : List Event) (o : Outcome) → k ≡ p
+    → IsSound given.graph p → IsOutcome k.graph net (start k.graph net) events o
+    → IsOutcome given.graph net (start given.graph net) events o
+outcome_over given p k net events o same sound out =
+    subst (λ (g : StateGraph). IsOutcome g net (start g net) events o)
+    (ap (λ (c : CodedGraph). c.graph) same ∙ sound.same_graph) out
+
+pub has_name : (text : List ℕ) (given : Sg) (net : Netlist) (events : List Event) (o : Outcome) → IsGivenBy text given
+    → IsOutcome given.graph net (start given.graph net) events o → HasName given.states o
+has_name text given net events (outcome.Done values state) is out =
+    let inside : state < given.graph.states = ends_inside given.graph net events values state is.is.given.cut.graph
+    out in
+    let many = as_many_names text given is in
+    omega arith
+has_name text given net events (outcome.Differs step event verdict) is out = tt
+
+pub told_end : (given : Sg) (net : Netlist) (events : List Event) (count : ℕ) (o : Outcome) (text : List ℕ)
+    → count ≡ length events → IsOutcome given.graph net (start given.graph net) events o
+    → TellsEnd net.signals count given.states o text → IsReplay given net events text
+told_end given net events count (outcome.Done values state) text counted out tells = record {
+  values = values;
+  state = state;
+  outcome_is = out;
+  name = tells.0;
+  named = tells.1;
+  output_is = tells.2 ∙ ap (λ (n : ℕ). replay_text n net.signals values tells.0) counted;
+}
+told_end given net events count (outcome.Differs step event verdict) text counted out tells = absurd tells
+
+pub told_departure : (given : Sg) (net : Netlist) (events : List Event) (o : Outcome) (e : Ending)
+    → IsOutcome given.graph net (start given.graph net) events o
+    → TellsDeparture net.signals o e → MayStop (replayed given net events) e
+told_departure given net events (outcome.Done values state) NoMemory out tells = tt
+told_departure given net events (outcome.Done values state) e out tells = absurd tells
+told_departure given net events (outcome.Differs step event verdict) NoMemory out tells = tt
+told_departure given net events (outcome.Differs step event verdict) (Answered (TextRefused r)) out tells =
+    record { step = step; event = event; verdict = verdict; outcome_is = out; refusal_is = tells }
+told_departure given net events (outcome.Differs step event verdict) e out tells = absurd tells

@@ -1,0 +1,118 @@
+-- Resolving as a stage has one result; and what insertions of a resolving trace keep.
+use Rattle.std.proofs.Common.{◌≡◌, ℕ, ◌≤◌, ◌⊎◌, not, List, [], ◌∷◌, ◌++◌, length, filter, All, IsTrue, Ok, Err, codes}
+use Rattle.std.proofs.Common.{refl, sym, ap, ap₂, subst, ◌∙◌, arith, inl, inr}
+use Rattle.std.proofs.lemmas.Bool.{cases_lt}
+use Rattle.std.proofs.lemmas.List.{append-nil}
+use Rattle.std.proofs.lemmas.List.Elements.{filter-append, All-push}
+use Rattle.si_base.specs.declared.graph.Signal.{Signal}
+use Rattle.si_base.specs.Codes.{CodedGraph, IsCoded}
+use Rattle.si_base.specs.Limits.{max_signals}
+use Rattle.si_base.specs.Proper.{IsProper, HasNoConflict}
+use Rattle.si_base.specs.System.{is_inserted}
+use Rattle.si_base.specs.Words.{is_signal_name}
+use Rattle.si_candidates.proofs.BlocksExist.{some_blocks}
+use Rattle.si_circuit.proofs.InsertedLemmas.{new_signals}
+use Rattle.si_conflicts.proofs.Counted.{none_is_none}
+use Rattle.si_insert.specs.declared.lineage.TraceStep.{TraceStep}
+use Rattle.si_insert.specs.Fresh.{IsFresh}
+use Rattle.si_insert.specs.Insertion.{new_signal}
+use Rattle.si_insert.specs.Lineage.{AllGiven, Current, History, Inserts, IsLineage, as_given}
+use Rattle.si_insert.proofs.Free.{next_free}
+use Rattle.si_insert.proofs.FreshNames.{stays_signal_name}
+use Rattle.si_resolve.specs.Trace.{IsResolving, ResolvesTo, EndsUnresolved}
+use Rattle.si_resolve.proofs.EndsExist.{resolving_ends}
+use Rattle.si_resolve.proofs.Traces.{resolved_is_unique, unresolved_is_unique, ends_exclude, traces_are_lineages}
+use Rattle.si_stages.specs.Laws.{AtMostOne, HasResult}
+use Rattle.si_stages.specs.Resolving.{IsResolved, pair_told, resolved}
+
+-- ---- one result
+pub same_history : (l m : History) → l.given ≡ m.given → l.trace ≡ m.trace → l.current ≡ m.current → l ≡ m
+same_history l m given trace current =
+    let make : CodedGraph → List TraceStep → Current → History =
+    λ g steps v. record { given = g; trace = steps; current = v } in
+    ap (λ (g : CodedGraph). make g l.trace l.current) given ∙ ap₂ (make m.given) trace current
+
+pub resolved_one : (coded : CodedGraph) (states : List (List ℕ)) → IsCoded coded → AtMostOne (resolved coded states)
+resolved_one coded states is (Ok l) (Ok m) one other =
+    let same = resolved_is_unique (as_given coded) l.trace m.trace l.current m.current is one.resolves other.resolves in
+    ap Ok (same_history l m (one.given_is ∙ sym other.given_is) same.0 same.1)
+resolved_one coded states is (Ok l) (Err r) one (m, pair, other, at) =
+    absurd
+    (ends_exclude (as_given coded) l.trace m.trace l.current m.current pair is one.resolves other.ends)
+resolved_one coded states is (Err r) (Ok m) (l, pair, one, at) other =
+    absurd
+    (ends_exclude (as_given coded) m.trace l.trace m.current l.current pair is other.resolves one.ends)
+resolved_one coded states is (Err r) (Err q) (l, a, one, at) (m, b, other, by) =
+    let same = unresolved_is_unique (as_given coded) l.trace m.trace l.current m.current a b is one.ends other.ends in
+    let lineages = same_history l m (one.given_is ∙ sym other.given_is) same.0 same.1 in
+    ap Err (at ∙ ap₂ (pair_told states) lineages same.2 ∙ sym by)
+
+pub resolved_some : (coded : CodedGraph) (states : List (List ℕ)) → IsCoded coded → IsProper coded.graph
+    → HasResult (resolved coded states)
+resolved_some coded states is proper = go (resolving_ends some_blocks (as_given coded) is proper)
+  where
+    go : (trace : List TraceStep) × (w : Current)
+        × (ResolvesTo (as_given coded) trace w ⊎ ((pair : ℕ × ℕ) × EndsUnresolved (as_given coded) trace w pair))
+        → HasResult (resolved coded states)
+    go (trace, w, inl ends) =
+        (Ok (record { given = coded; trace = trace; current = w }), record { given_is = refl; resolves = ends })
+    go (trace, w, inr (pair, ends)) =
+        let l : History = record { given = coded; trace = trace; current = w } in
+        (Err (pair_told states l pair), (l, pair, record { given_is = refl; ends = ends }, refl))
+
+-- a graph without conflicts needs no insertion
+pub none_needed : (v : Current) (trace : List TraceStep) (w : Current) → HasNoConflict v.coded → IsResolving v trace w
+    → trace ≡ []
+none_needed v [] w free goes = refl
+none_needed v (p ∷ trace) w free (u, step, rest) =
+    let none = (none_is_none v.coded step.improves.before step.improves.counted).0 free in
+    absurd (omega (arith, none, step.improves.fewer))
+
+-- ---- what insertions keep
+pub resolved_lineage : (c : CodedGraph) (l : History) → IsCoded c → IsProper c.graph → AllGiven c.graph.signals
+    → IsResolved c l → IsLineage c l.trace l.current
+resolved_lineage c l coded proper clean is =
+    let none : IsLineage c [] (as_given c) =
+    record { coded = coded; proper = proper; none_inserted = clean; grown = refl } in
+    traces_are_lineages c [] l.trace (as_given c) l.current none is.resolves.goes
+
+-- the names of the inserted signals are signal names
+pub fresh_named : (signals : List Signal) (stem name : List ℕ) → IsTrue (is_signal_name stem)
+    → length signals ≤ max_signals → IsFresh signals stem name → IsTrue (is_signal_name name)
+fresh_named signals stem name good few fresh = elim (cases_lt (length signals) fresh.number) [
+  | inl more ↦ absurd
+      (next_free signals stem (length signals) few refl (λ j below. fresh.least j (omega (arith, below, more)))
+      (fresh.least (length signals) more))
+  | inr low ↦ stays_signal_name signals signals stem name fresh.number refl few low fresh.is good
+]
+
+abbrev pub AreNamed : Current → Type 0
+AreNamed v = All (λ x. IsTrue (is_signal_name x.name)) v.coded.graph.signals
+
+pub named_after : (v : Current) (p : TraceStep) (u : Current) → Inserts v p u → IsTrue (is_signal_name p.name)
+    → AreNamed v → AreNamed u
+named_after v p u ins name named =
+    let P : Signal → Type 0 = λ x. IsTrue (is_signal_name x.name) in
+    let signals : u.coded.graph.signals ≡ v.coded.graph.signals ++ new_signal p.name ∷ [] =
+    ap (λ (x : Current). x.coded.graph.signals) ins.makes ∙ ins.insertion.signals in
+    subst (All P) (sym signals) (All-push P v.coded.graph.signals (new_signal p.name) named name)
+
+pub named_along : (v : Current) (trace : List TraceStep) (w : Current) → IsResolving v trace w → AreNamed v
+    → AreNamed w
+named_along v [] w same named = subst (λ (x : Current). AreNamed x) same named
+named_along v (p ∷ trace) w (u, step, rest) named =
+    let few : length v.coded.graph.signals ≤ max_signals = omega (arith, step.inserts.accepted.few_signals) in
+    named_along u trace w rest
+    (named_after v p u step.inserts (fresh_named v.coded.graph.signals (codes "csc") p.name refl few step.name) named)
+
+-- the signals that aren't inserted
+pub none_kept : (trace : List TraceStep) → filter (λ x. not (is_inserted x.kind)) (new_signals trace) ≡ []
+none_kept [] = refl
+none_kept (p ∷ trace) = none_kept trace
+
+pub given_kept : (xs : List Signal) (trace : List TraceStep) → filter (λ x. not (is_inserted x.kind)) xs ≡ xs
+    → filter (λ x. not (is_inserted x.kind)) (xs ++ new_signals trace) ≡ xs
+given_kept xs trace all =
+    let kept = filter (λ (x : Signal). not (is_inserted x.kind)) in
+    filter-append (λ (x : Signal). not (is_inserted x.kind)) xs (new_signals trace)
+    ∙ ap₂ (λ (a b : List Signal). a ++ b) all (none_kept trace) ∙ append-nil xs

@@ -1,0 +1,42 @@
+-- What laws say of a stage, and of the commands over texts.
+use Rattle.std.specs.Prelude.{◌≡◌, ℕ, ◌⊎◌, List, Result, Ok, Err, None}
+use Rattle.si_base.specs.Codes.{CodedGraph}
+use Rattle.si_base.specs.GivenGraph.{Sg}
+use Rattle.si_base.specs.Proper.{HasNoConflict}
+use Rattle.si_cell.specs.LibraryText.{library_fault, library_of}
+use Rattle.si_circuit.specs.Cells.{AllFit}
+use Rattle.si_circuit.specs.declared.style.Style.{Style}
+use Rattle.si_sg.specs.GivenGraph.{IsGivenBy}
+use Rattle.si_system.specs.declared.verdict.Verdict.{Verdict}
+use Rattle.si_refusals.specs.Refusal.{TextRefusal, Differs}
+use Rattle.si_refusals.specs.Stages.{Stage}
+use Rattle.si_stages.specs.Checks.{IsSound}
+use Rattle.si_stages.specs.Meaning.{synth, mapping}
+
+-- it has one result at most
+abbrev pub AtMostOne : {R A : Type 0} → Stage R A → Type 0
+AtMostOne {R} {A} stage = (a b : Result A R) → stage a → stage b → a ≡ b
+
+-- it has a result
+abbrev pub HasResult : {R A : Type 0} → Stage R A → Type 0
+HasResult {R} {A} stage = (a : Result A R) × stage a
+
+-- the stage gives an output, or shows the first event of a replay whose verdict isn't `Done`
+abbrev pub EndsOrDeparts : Stage TextRefusal (List ℕ) → Type 0
+EndsOrDeparts stage = ((output : List ℕ) × stage (Ok output))
+    ⊎ ((step : ℕ) × (signal : List ℕ) × (verdict : Verdict)
+    × stage (Err (Differs step signal verdict)))
+
+-- a proper graph without conflicts is synthesised
+abbrev pub FreeGraphsAreSynthesised : Type 0
+FreeGraphsAreSynthesised = (style : Style) (file text : List ℕ) (given : Sg) (coded : CodedGraph)
+    → IsGivenBy text given → IsSound given.graph coded → HasNoConflict coded
+    → (output : List ℕ) × synth style file text (Ok output)
+
+-- a proper graph without conflicts is mapped, where each of its signals that the circuit drives
+-- fits a cell
+abbrev pub FreeGraphsAreMapped : Type 0
+FreeGraphsAreMapped = (file text library cells : List ℕ) (given : Sg) (coded : CodedGraph)
+    → IsGivenBy text given → library_fault cells ≡ None → IsSound given.graph coded
+    → HasNoConflict coded → AllFit coded (library_of cells)
+    → (output : List ℕ) × mapping file text library cells (Ok output)

@@ -1,0 +1,11 @@
+pub mod Readings
+pub mod Checks
+pub mod Resolving
+pub mod Synthesis
+pub mod Mapping
+pub mod Replayed
+pub mod Reports
+pub mod Outcomes
+pub mod Meaning
+pub mod Laws
+pub mod Exercise

@@ -1,0 +1,55 @@
+-- Where a schedule ends, over a netlist beside a graph.
+use Rattle.std.specs.Prelude.{◌≡◌, ℕ, List, [], ◌∷◌, length, codes, decimal}
+use Rattle.std.specs.Prelude.{Some, slice_get, Ok, Err}
+use Rattle.si_base.specs.declared.ids.Event.{Event}
+use Rattle.si_base.specs.declared.graph.Signal.{Signal}
+use Rattle.si_base.specs.Netlist.{Netlist}
+use Rattle.si_base.specs.GivenGraph.{Sg}
+use Rattle.si_base.specs.NetlistText.{bits_from, name_of, word_if_any}
+use Rattle.si_base.specs.System.{start}
+use Rattle.si_base.specs.Words.{text_of}
+use Rattle.si_system.specs.Outcome.{IsOutcome}
+use Rattle.si_system.specs.declared.replay.Outcome.TheVariants as outcome
+use Rattle.si_system.specs.declared.verdict.Verdict.{Verdict}
+use Rattle.si_system.specs.declared.verdict.Verdict.TheVariants.{Done, Blocked, Astray, Lost}
+use Rattle.si_refusals.specs.Refusal.{TextRefusal, Differs}
+use Rattle.si_refusals.specs.Stages.{Stage}
+
+-- the signal that a refusal shows: the one whose excitation was lost, or else the event's
+abbrev pub shown_signal : Event → Verdict → ℕ
+shown_signal event Done = event.sig
+shown_signal event Blocked = event.sig
+shown_signal event (Astray sig) = sig
+shown_signal event (Lost sig) = sig
+
+-- how many events, the values of the signals, and the state at which the graph then is
+abbrev pub replay_text : ℕ → List Signal → ℕ → List ℕ → List ℕ
+replay_text events signals values state = text_of ((codes "done" ∷ decimal events ∷ [])
+    ∷ (codes "values" ∷ word_if_any (bits_from 0 signals values))
+    ∷ (codes "state" ∷ state ∷ []) ∷ [])
+
+-- the output says where the schedule ends
+pub record IsReplay (given : Sg) (netlist : Netlist) (events : List Event)
+    (output : List ℕ) : Type 0 where
+  pub values : ℕ
+  pub state : ℕ
+  pub outcome_is : IsOutcome given.graph netlist (start given.graph netlist) events
+      (outcome.Done values state)
+  pub name : List ℕ
+  pub named : slice_get given.states state ≡ Some name
+  pub output_is : output ≡ replay_text (length events) netlist.signals values name
+
+-- the refusal shows the first event, counted from 1, whose verdict isn't `Done`
+pub record IsDeparture (given : Sg) (netlist : Netlist) (events : List Event)
+    (refusal : TextRefusal) : Type 0 where
+  pub step : ℕ
+  pub event : Event
+  pub verdict : Verdict
+  pub outcome_is : IsOutcome given.graph netlist (start given.graph netlist) events
+      (outcome.Differs step event verdict)
+  pub refusal_is : refusal
+      ≡ Differs step (name_of netlist.signals (shown_signal event verdict)) verdict
+
+abbrev pub replayed : Sg → Netlist → List Event → Stage TextRefusal (List ℕ)
+replayed given netlist events (Ok output) = IsReplay given netlist events output
+replayed given netlist events (Err refusal) = IsDeparture given netlist events refusal

@@ -1,0 +1,34 @@
+-- What is told of a proper graph.
+use Rattle.std.specs.Prelude.{ℕ, List, [], ◌∷◌, length, codes, decimal}
+use Rattle.si_base.specs.Codes.{CodedGraph, code}
+use Rattle.si_base.specs.NetlistText.{bits_from, word_if_any}
+use Rattle.si_base.specs.Words.{text_of}
+use Rattle.si_listings.specs.ConflictText.{IsConflictText}
+use Rattle.si_listings.specs.CoverText.{IsCoverText}
+use Rattle.si_listings.specs.RegionText.{IsRegionText}
+use Rattle.si_refusals.specs.Refusal.{TextRefusal}
+use Rattle.si_refusals.specs.Stages.{Stage, gives, shows}
+use Rattle.si_stages.specs.declared.report_kind.Report.{Report}
+use Rattle.si_stages.specs.declared.report_kind.Report.TheVariants.{Summary, Regions, Conflicts, Covers}
+
+-- a line of a word and a number
+abbrev pub count_line : List ℕ → ℕ → List (List ℕ)
+count_line word n = word ∷ decimal n ∷ []
+
+-- that it is proper; how many signals, states and arcs it has; and the values of the signals at the
+-- start
+abbrev pub summary : CodedGraph → List ℕ
+summary coded = text_of ((codes "proper" ∷ [])
+    ∷ count_line (codes "signals") (length coded.graph.signals)
+    ∷ count_line (codes "states") coded.graph.states
+    ∷ count_line (codes "arcs") (length coded.graph.edges)
+    ∷ (codes "start" ∷ word_if_any (bits_from 0 coded.graph.signals (code coded coded.graph.start)))
+    ∷ [])
+
+-- of a graph with these names of its states: its summary; the text of its regions; the text of its
+-- conflicts; the text of its covers
+abbrev pub told : Report → (states : List (List ℕ)) → CodedGraph → Stage TextRefusal (List ℕ)
+told Summary states coded = gives (summary coded)
+told Regions states coded = shows (IsRegionText coded states)
+told Conflicts states coded = shows (IsConflictText coded states)
+told Covers states coded = shows (IsCoverText coded states)

@@ -1,0 +1,13 @@
+//! The commands as rows of stages: from the bytes of texts to the bytes of an output.
+#![tactic(auto)]
+
+pub mod checks;
+pub mod exercise;
+mod literals;
+pub mod mapping;
+pub mod readings;
+pub mod replayed;
+pub mod report;
+pub mod report_kind;
+pub mod resolving;
+pub mod synth;

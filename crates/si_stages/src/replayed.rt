@@ -1,0 +1,142 @@
+//! From the texts of a graph, a netlist and a schedule to the end of the replay.
+
+ghost use Rattle.std.specs.Prelude.{◌≡◌, ◌<◌, ◌≤◌, IfOk, IfErr, length, Ok};
+ghost use Rattle.si_base.specs.Limits.{max_signals};
+ghost use Rattle.si_base.specs.NetlistText.{name_of};
+ghost use Rattle.si_stages.specs.Meaning as stage;
+ghost use Rattle.si_refusals.specs.Ending.{MayStop, ending_of};
+ghost use Rattle.si_stages.specs.Outcomes.{Departs, HasName, TellsEnd, TellsDeparture};
+ghost use Rattle.si_stages.specs.Replayed.{replay_text, shown_signal as signal_at_fault};
+
+use crate::checks::proper_of;
+use crate::readings::{graph_in, netlist_in, schedule_in};
+use si_base::ids::{Code, Event, NoMemory, Sig};
+use si_base::names::Names;
+use si_base::text::Text;
+use si_netlist::netlist::Netlist;
+use si_netlist::write::add_values_line;
+use si_refusals::breach::name_of_signal;
+use si_refusals::refusals::Refusal;
+use si_sg::read::Sg;
+use si_system::replay::{Outcome, replay};
+use si_system::system::ListsDiffer;
+use si_system::verdict::Verdict;
+use si_words::writing::add_line;
+use std::alloc::Global;
+
+/// The text that tells where the schedule ends, over the netlist beside the graph. A refusal shows
+/// the names of the texts' files.
+///
+/// # Errors
+///
+/// `BadText` with the first fault of the texts in their order, else `Improper` with the first
+/// breach, else `ListsDiffer` with the first place, else `Differs` with the first event whose
+/// verdict isn't `Done`. `NoMemory` only where memory runs out.
+pub fn replay_texts<'w>(
+    alloc: Global,
+    graph_file: &'w str,
+    graph: &[u8],
+    netlist_file: &'w str,
+    netlist: &[u8],
+    schedule_file: &'w str,
+    schedule: &[u8],
+) -> Result<Text, Refusal<'w>>
+    ensures ok { IfOk result (λ output. stage.replay graph_file.now graph.now
+        netlist_file.now netlist.now schedule_file.now schedule.now (Ok output)) }
+    ensures err { IfErr result (λ r. MayStop (stage.replay graph_file.now graph.now
+        netlist_file.now netlist.now schedule_file.now schedule.now) (ending_of r)) }
+{
+    let Sg { graph, states, .. } = graph_in(alloc, graph_file, graph)?;
+    let circuit = netlist_in(alloc, netlist_file, netlist)?;
+    let events = schedule_in(alloc, schedule_file, &circuit, schedule)?;
+    let proper = proper_of(alloc, graph, &states)?;
+    match replay(proper.coded(), &circuit, &events) {
+        Ok(outcome) => told(alloc, &outcome, &circuit, events.len(), &states),
+        Err(ListsDiffer { place }) => Err(Refusal::ListsDiffer {
+            netlist: netlist_file,
+            place,
+        }),
+    }
+}
+
+/// What is told of an outcome after so many events: the end of the schedule, or the event that
+/// departs from the graph.
+fn told(
+    alloc: Global,
+    outcome: &Outcome,
+    netlist: &Netlist,
+    events: usize,
+    states: &Names,
+) -> Result<Text, Refusal<'static>>
+    requires few { length netlist.now.signals ≤ max_signals }
+    requires state { HasName states.now outcome.now }
+    ensures ok { IfOk result (TellsEnd netlist.now.signals events states.now outcome.now) }
+    ensures err { IfErr result (λ r. TellsDeparture netlist.now.signals outcome.now (ending_of r)) }
+{
+    match outcome {
+        Outcome::Done { values, state } => {
+            let name = states.get(state.0);
+            Ok(end_text(alloc, events, netlist, *values, name)?)
+        }
+        Outcome::Differs {
+            step,
+            event,
+            verdict,
+        } => Err(departure(alloc, netlist, *step, event, verdict)),
+    }
+}
+
+/// The refusal of a replay that leaves the graph, loses an excitation or is blocked.
+fn departure(
+    alloc: Global,
+    netlist: &Netlist,
+    step: u64,
+    event: &Event,
+    verdict: &Verdict,
+) -> Refusal<'static>
+    ensures { Departs step (name_of netlist.now.signals (signal_at_fault event.now verdict.now))
+        verdict.now (ending_of result) }
+{
+    let shown = shown_signal(event, verdict);
+    match name_of_signal(alloc, netlist.signals(), shown) {
+        Ok(signal) => Refusal::Differs {
+            step,
+            signal,
+            verdict: *verdict,
+        },
+        Err(_) => Refusal::NoMemory,
+    }
+}
+
+/// The signal whose excitation was lost, or else the event's.
+fn shown_signal(event: &Event, verdict: &Verdict) -> Sig
+    ensures { result ≡ signal_at_fault event.now verdict.now }
+{
+    match verdict {
+        Verdict::Done => event.sig,
+        Verdict::Blocked => event.sig,
+        Verdict::Astray { sig } => *sig,
+        Verdict::Lost { sig } => *sig,
+    }
+}
+
+/// How many events there were, the values of the signals, and the state of the graph.
+fn end_text(
+    alloc: Global,
+    events: usize,
+    netlist: &Netlist,
+    values: Code,
+    state: &[u8],
+) -> Result<Text, NoMemory>
+    requires { length netlist.now.signals ≤ max_signals }
+    ensures { IfOk result (λ text. text ≡ replay_text events netlist.now.signals values state.now) }
+{
+    let Ok(count) = events.to_string(alloc) else {
+        return Err(NoMemory);
+    };
+    let mut text = Text::copy_of(alloc, b"")?;
+    add_line(&mut text, b"done", &[count.as_bytes()])?;
+    add_values_line(&mut text, b"values", netlist.signals(), values)?;
+    add_line(&mut text, b"state", &[state])?;
+    Ok(text)
+}

@@ -1,0 +1,93 @@
+//! From the text of a graph to a report on it.
+
+ghost use Rattle.std.specs.Prelude.{◌≡◌, ◌≤◌, ◌++◌, IfOk, IfErr, OnOk, length, Ok};
+ghost use Rattle.si_base.specs.Limits.{max_signals};
+ghost use Rattle.si_base.specs.Words.{line};
+ghost use Rattle.si_refusals.specs.Ending.{MayStop, ending_of};
+ghost use Rattle.si_stages.specs.Meaning as stage;
+ghost use Rattle.si_stages.specs.Reports as reports;
+ghost use Rattle.si_stages.specs.Reports.{count_line, summary};
+
+use crate::checks::proper_of;
+use crate::readings::graph_in;
+use crate::report_kind::Report;
+use si_base::ids::NoMemory;
+use si_base::names::Names;
+use si_base::text::Text;
+use si_checks::proper::Proper;
+use si_graph::coded::Coded;
+use si_listings::conflict_listing::list_conflicts;
+use si_listings::cover_listing::list_covers;
+use si_listings::region_listing::list_regions;
+use si_netlist::write::add_values_line;
+use si_refusals::refusals::Refusal;
+use si_sg::read::Sg;
+use si_words::writing::add_line;
+use std::alloc::Global;
+
+/// The report on the graph that the text spells.
+///
+/// # Errors
+///
+/// `BadText` exactly where the text has a fault, with the first, else `Improper` exactly where the
+/// graph isn't proper, with its first breach. `NoMemory` only where memory runs out.
+pub fn report<'w>(
+    alloc: Global,
+    what: Report,
+    file: &'w str,
+    text: &[u8],
+) -> Result<Text, Refusal<'w>>
+    ensures ok { IfOk result (λ output. stage.report what file.now text.now (Ok output)) }
+    ensures err { IfErr result
+        (λ r. MayStop (stage.report what file.now text.now) (ending_of r)) }
+{
+    let Sg { graph, states, .. } = graph_in(alloc, file, text)?;
+    let proper = proper_of(alloc, graph, &states)?;
+    match told(alloc, what, &proper, &states) {
+        Ok(text) => Ok(text),
+        Err(_) => Err(Refusal::NoMemory),
+    }
+}
+
+/// What is told of a proper graph with these names of its states.
+fn told(alloc: Global, what: Report, graph: &Proper, states: &Names) -> Result<Text, NoMemory>
+    requires { length states.now ≡ graph.now.graph.states }
+    ensures { IfOk result (λ text. reports.told what states.now graph.now (Ok text)) }
+{
+    match what {
+        Report::Summary => summary_of(alloc, graph.coded()),
+        Report::Regions => list_regions(alloc, graph.coded(), states),
+        Report::Conflicts => list_conflicts(alloc, graph.coded(), states),
+        Report::Covers => list_covers(alloc, graph, states),
+    }
+}
+
+/// That the graph is proper, how many signals, states and arcs it has, and the values of the
+/// signals at the start.
+fn summary_of(alloc: Global, coded: &Coded) -> Result<Text, NoMemory>
+    ensures { IfOk result (λ text. text ≡ summary coded.now) }
+{
+    let graph = coded.graph();
+    let start = coded.code(graph.start());
+    let mut text = Text::copy_of(alloc, b"proper\n")?;
+    add_count(alloc, &mut text, b"signals", graph.signals().len() as u64)?;
+    add_count(alloc, &mut text, b"states", u64::from(graph.states()))?;
+    add_count(alloc, &mut text, b"arcs", u64::from(graph.edges()))?;
+    add_values_line(&mut text, b"start", graph.signals(), start)?;
+    Ok(text)
+}
+
+/// Adds a line of a word and a number.
+pub(crate) fn add_count(
+    alloc: Global,
+    text: &mut Text,
+    word: &[u8],
+    count: u64,
+) -> Result<(), NoMemory>
+    ensures { OnOk result (text.new ≡ text.old ++ line (count_line word.now count)) }
+{
+    let Ok(count) = count.to_string(alloc) else {
+        return Err(NoMemory);
+    };
+    add_line(text, word, &[count.as_bytes()])
+}

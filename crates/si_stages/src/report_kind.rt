@@ -1,0 +1,14 @@
+//! The reports on a proper graph.
+
+/// What is told of a proper graph.
+#[derive(Clone, Copy, PartialEq, Eq, Debug)]
+pub enum Report {
+    /// That it is proper, and its size.
+    Summary,
+    /// The regions of all events.
+    Regions,
+    /// How many conflicts it has, and the first of them.
+    Conflicts,
+    /// The covers and the monotonous cubes of its signals, or its first conflict.
+    Covers,
+}

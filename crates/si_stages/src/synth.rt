@@ -1,0 +1,48 @@
+//! From the text of a graph to the text of its netlist.
+
+ghost use Rattle.std.specs.Prelude.{IfOk, IfErr, Ok};
+ghost use Rattle.si_stages.specs.Meaning as stage;
+ghost use Rattle.si_refusals.specs.Ending.{MayStop, ending_of};
+
+use crate::checks::proper_of;
+use crate::readings::graph_in;
+use crate::resolving::lineage_of;
+use si_base::text::Text;
+use si_circuit::circuit::Circuit;
+use si_circuit::style::Style;
+use si_netlist::write::write_netlist;
+use si_refusals::refusals::Refusal;
+use si_sg::read::Sg;
+use std::alloc::Global;
+
+/// The text of the netlist of the graph that the text spells, with its conflicts resolved and gates
+/// of the style. Their sums are prime and irredundant covers.
+///
+/// # Errors
+///
+/// `BadText` exactly where the text has a fault, with the first, else `Improper` exactly where the
+/// graph isn't proper, with its first breach, else `Unresolved` exactly where resolving leaves a
+/// conflict, with the first that is left and the insertions. `NoMemory` only where memory runs out.
+pub fn synth<'w>(
+    alloc: Global,
+    style: Style,
+    file: &'w str,
+    text: &[u8],
+) -> Result<Text, Refusal<'w>>
+    ensures ok { IfOk result (λ output. stage.synth style file.now text.now (Ok output)) }
+    ensures err { IfErr result
+        (λ r. MayStop (stage.synth style file.now text.now) (ending_of r)) }
+{
+    let Sg {
+        model,
+        graph,
+        states,
+    } = graph_in(alloc, file, text)?;
+    let proper = proper_of(alloc, graph, &states)?;
+    let resolved = lineage_of(alloc, proper, &states)?;
+    let Ok(circuit) = Circuit::of_style(alloc, resolved, &model, &states, style) else {
+        return Err(Refusal::NoMemory);
+    };
+    let output = write_netlist(alloc, circuit.netlist())?;
+    Ok(output)
+}
