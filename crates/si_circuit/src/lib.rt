@@ -9,5 +9,3 @@ pub mod insertion_words;
 pub mod laws;
 pub mod spelling;
 pub mod style;
-#[cfg(test)]
-mod tests;

@@ -1,11 +1,13 @@
-//! Two graphs whose conflicts tests look at.
+//! The graphs that tests look at.
 
-ghost use Rattle.std.specs.Prelude.{◌≡◌, ◌≢◌, ◌≤◌, IfOk, AllPairs, length};
-ghost use Rattle.si_base.specs.Graph.{kind_place};
+ghost use Rattle.std.specs.Prelude.{◌≡◌, ◌≢◌, ◌≤◌, IfOk, IsTrue, AllPairs, length};
+ghost use Rattle.si_base.specs.Graph.{IsNonInput, kind_place};
+ghost use Rattle.si_checks.specs.Lent.{lent_graph};
 
 use si_base::graph::{Edge, SigKind, Signal};
 use si_base::ids::{Event, NoMemory, Sig, StateId};
 use si_base::text::Name;
+use si_checks::distinct::Distinct;
 use si_checks::proper::Proper;
 use si_graph::coded::Coded;
 use si_graph::graph::{Cut, Graph};
@@ -14,13 +16,21 @@ use std::process::Abort;
 use std::test::Fail;
 
 /// The most states of a graph here.
-const STATES: u32 = 14;
+const STATES: u32 = 16;
 
 /// The direction of `a+`.
 pub const UP: bool = true;
 
 /// The direction of `a-`.
 pub const DOWN: bool = false;
+
+/// The event of a signal, up or down.
+pub fn event(sig: u8, up: bool) -> Event
+    ensures { result ≡ record { sig = sig; up = up } }
+{
+    let sig = Sig(sig);
+    Event { sig, up }
+}
 
 fn signal(alloc: Global, name: &[u8], kind: SigKind) -> Result<Signal, NoMemory>
     ensures { IfOk result (λ x. x ≡ record { name = name.now; kind = kind }) }
@@ -45,8 +55,7 @@ fn proper(
     for arc in arcs {
         let (from, sig, up, to) = *arc;
         assert!(rt; from < STATES && (sig as usize) < signals.len() && to < STATES);
-        let sig = Sig(sig);
-        let (from, event, to) = (StateId(from), Event { sig, up }, StateId(to));
+        let (from, event, to) = (StateId(from), event(sig, up), StateId(to));
         edges.push(Edge { from, event, to })?;
     }
     let graph = Graph::make(alloc, signals, STATES, edges, StateId(0))?;
@@ -109,4 +118,80 @@ pub fn vme(rt: &impl Abort, alloc: Global) -> Result<Proper, Fail> {
         (13, 1, DOWN, 1),
     ];
     proper(rt, alloc, signals, &arcs)
+}
+
+/// Two outputs that rise in any order, and fall one after the other.
+pub fn pair(rt: &impl Abort, alloc: Global) -> Result<Proper, Fail> {
+    let signals = vec![in alloc;
+        signal(alloc, b"csc0", SigKind::Output)?,
+        signal(alloc, b"csc2", SigKind::Output)?,
+    ]?;
+    let arcs = [
+        (0, 0, UP, 1),
+        (0, 1, UP, 2),
+        (1, 1, UP, 3),
+        (2, 0, UP, 3),
+        (3, 0, DOWN, 4),
+        (4, 1, DOWN, 0),
+    ];
+    proper(rt, alloc, signals, &arcs)
+}
+
+/// The C-element of the inputs `a`, `b` and `c` and the output `z`, which rises after all of them
+/// have risen and falls after all have fallen. While `z` is 0 a state has the values of the inputs
+/// as its digits, `a` the last; while it is 1, eight more.
+pub fn c_element(rt: &impl Abort, alloc: Global) -> Result<Proper, Fail> {
+    let signals = vec![in alloc;
+        signal(alloc, b"a", SigKind::Input)?,
+        signal(alloc, b"b", SigKind::Input)?,
+        signal(alloc, b"c", SigKind::Input)?,
+        signal(alloc, b"z", SigKind::Output)?,
+    ]?;
+    let arcs = [
+        (0, 0, UP, 1),
+        (0, 1, UP, 2),
+        (0, 2, UP, 4),
+        (1, 1, UP, 3),
+        (1, 2, UP, 5),
+        (2, 0, UP, 3),
+        (2, 2, UP, 6),
+        (3, 2, UP, 7),
+        (4, 0, UP, 5),
+        (4, 1, UP, 6),
+        (5, 1, UP, 7),
+        (6, 0, UP, 7),
+        (7, 3, UP, 15),
+        (15, 0, DOWN, 14),
+        (15, 1, DOWN, 13),
+        (15, 2, DOWN, 11),
+        (14, 1, DOWN, 12),
+        (14, 2, DOWN, 10),
+        (13, 0, DOWN, 12),
+        (13, 2, DOWN, 9),
+        (11, 0, DOWN, 10),
+        (11, 1, DOWN, 9),
+        (12, 2, DOWN, 8),
+        (10, 1, DOWN, 8),
+        (9, 0, DOWN, 8),
+        (8, 3, DOWN, 0),
+    ];
+    proper(rt, alloc, signals, &arcs)
+}
+
+/// The output `y` rises after the input `a`, once.
+pub fn buffered_once(rt: &impl Abort, alloc: Global) -> Result<Proper, Fail> {
+    let signals = vec![in alloc;
+        signal(alloc, b"a", SigKind::Input)?,
+        signal(alloc, b"y", SigKind::Output)?,
+    ]?;
+    let arcs = [(0, 0, UP, 1), (1, 1, UP, 2)];
+    proper(rt, alloc, signals, &arcs)
+}
+
+/// Whether the signal is there and no input.
+pub fn is_driven(graph: Distinct<'_>, z: Sig) -> bool
+    ensures { IsTrue result → IsNonInput (lent_graph graph.entry).graph.signals z }
+{
+    let known = graph.proper().coded().graph();
+    (z.0 as usize) < known.signals().len() && known.is_driven(z)
 }

@@ -1,34 +1,13 @@
 //! A graph whose conflict an insertion resolves, and one that no candidate improves.
 
-ghost use Rattle.std.specs.Prelude.{IsTrue};
-ghost use Rattle.si_insert.specs.Lineage.{AllGiven};
-
 use crate::graphs::{pulses, vme};
-use si_base::graph::Signal;
-use si_base::ids::{NoMemory, StateId};
-use si_checks::proper::Proper;
+use crate::lineages::started;
+use si_base::ids::StateId;
 use si_insert::lineage::{Lineage, TraceStep};
 use si_insert::partition::Class;
 use si_resolve::resolve::{Stuck, resolve};
-use std::alloc::Global;
 use std::process::Abort;
 use std::test::Fail;
-
-/// Whether none of the signals is inserted.
-fn all_given(signals: &[Signal]) -> bool
-    ensures { IsTrue result → AllGiven signals.now }
-{
-    signals.iter().all(|x| !x.kind.is_inserted())
-}
-
-/// The lineage of the graph, with nothing inserted.
-fn started(rt: &impl Abort, alloc: Global, graph: Proper) -> Result<Lineage, Fail> {
-    assert!(rt; all_given(graph.coded().graph().signals()));
-    match Lineage::start(alloc, graph) {
-        Ok(lineage) => Ok(lineage),
-        Err((_graph, _no_memory)) => Err(NoMemory)?,
-    }
-}
 
 /// The first state of that class.
 fn first_of(step: &TraceStep, class: Class) -> Option<usize> {

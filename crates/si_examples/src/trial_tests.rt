@@ -1,52 +1,16 @@
 //! Trial insertions of two graphs.
 
-ghost use Rattle.std.specs.Prelude.{◌≡◌, ◌<◌, IfOk};
-ghost use Rattle.si_insert.specs.Accepted.{IsAccepted};
+ghost use Rattle.std.specs.Prelude.{◌≡◌, ◌<◌};
 ghost use Rattle.si_conflicts.specs.Chains.{AreChains};
 
 use crate::graphs::{pulses, vme};
-use si_base::ids::{NoMemory, StateId};
+use crate::lineages::{VME_CLASSES, accepted};
+use si_base::ids::StateId;
 use si_checks::proper::Proper;
 use si_conflicts::chains::CodeChains;
-use si_insert::accept::{Accepted, accept};
-use si_insert::partition::{Class, Partition};
 use std::alloc::Global;
 use std::process::Abort;
 use std::test::Fail;
-
-/// The class that a letter stands for.
-fn class(letter: u8) -> Class {
-    match letter {
-        b'R' => Class::Rising,
-        b'H' => Class::High,
-        b'F' => Class::Falling,
-        _ => Class::Low,
-    }
-}
-
-/// The accepted partition of these letters, one for each state.
-fn accepted(
-    rt: &impl Abort,
-    alloc: Global,
-    graph: &Proper,
-    letters: &[u8],
-) -> Result<Accepted, Fail>
-    ensures { IfOk result (IsAccepted graph.now.graph) }
-{
-    let mut classes = Vec::new(alloc);
-    for letter in letters {
-        classes.push(class(*letter))?;
-    }
-    let states = graph.coded().graph().states();
-    assert!(rt; classes.len() == states as usize);
-    let Ok(partition) = Partition::lawful(graph, classes) else {
-        return Err(NoMemory)?;
-    };
-    match accept(graph, partition) {
-        Ok(accepted) => Ok(accepted),
-        Err(_) => Err(NoMemory)?,
-    }
-}
 
 /// The next state of the ring.
 fn next(rt: &impl Abort, graph: &Proper, chains: &CodeChains, s: u32) -> u32
@@ -72,7 +36,7 @@ fn expect_rings(rt: &impl Abort, graph: &Proper, chains: &CodeChains)
 fn trials_leave_the_rings(rt: HostRuntime) -> Result<(), Fail> {
     let alloc = rt.alloc();
     let graph = vme(&rt, alloc)?;
-    let accepted = accepted(&rt, alloc, &graph, b"HFLLLLRHHHHHHH")?;
+    let accepted = accepted(&rt, alloc, &graph, VME_CLASSES)?;
     let mut chains = CodeChains::new(alloc, &graph)?;
     expect_rings(&rt, &graph, &chains);
     assert_eq!(rt; chains.trial(alloc, &graph, &accepted)?, 0);

@@ -4,5 +4,5 @@ use Rattle.si_examples.proofs.graphs.proper.Given as goal
 abbrev pub invariant-loop-arc : goal.invariant-loop-arc
 invariant-loop-arc g l = record {
   count : length l.edges.items ≡ l.arc-index;
-  within : All (λ a. (a.from < 14) × (a.event.sig < length l.signals.items) × (a.to < 14)) l.edges.items;
+  within : All (λ a. (a.from < 16) × (a.event.sig < length l.signals.items) × (a.to < 16)) l.edges.items;
 }

@@ -4,7 +4,7 @@ use Rattle.std.proofs.lemmas.List.Elements.{recursion_from_All}
 use Rattle.std.specs.List.{AllByRecursion, list_all}
 use Rattle.si_base.specs.Bytes.{at_sign}
 use Rattle.si_base.specs.Words.{is_word_byte, IsStateName}
-use Rattle.si_circuit.proofs.tests.is_state_word.Goals as goal
+use Rattle.si_examples.proofs.circuit_tests.is_state_word.Goals as goal
 
 abbrev IsPlain : ℕ → Type 0
 IsPlain b = (47 < b) × (b < 123) × (b ≢ 64)
