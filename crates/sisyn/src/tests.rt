@@ -20,7 +20,7 @@ use std::alloc::{AllocError, Global};
 use std::process::Abort;
 use std::test::Fail;
 
-const C_ELEMENT: &[u8] = b".model c2
+pub(crate) const C_ELEMENT: &[u8] = b".model c2
 .inputs a b
 .outputs c
 .state graph
@@ -268,13 +268,13 @@ const MAJORITY: &[u8] = b"c sum a b + b c + a c";
 
 /// The texts of a command's files.
 #[derive(Clone, Copy)]
-struct Texts<'t> {
-    graph: &'t [u8],
-    netlist: &'t [u8],
-    schedule: &'t [u8],
+pub(crate) struct Texts<'t> {
+    pub(crate) graph: &'t [u8],
+    pub(crate) netlist: &'t [u8],
+    pub(crate) schedule: &'t [u8],
 }
 
-fn only(graph: &[u8]) -> Texts<'_> {
+pub(crate) fn only(graph: &[u8]) -> Texts<'_> {
     Texts {
         graph,
         netlist: b"",
@@ -282,7 +282,7 @@ fn only(graph: &[u8]) -> Texts<'_> {
     }
 }
 
-fn words(alloc: Global, words: &[&str]) -> Result<Vec<String>, AllocError> {
+pub(crate) fn words(alloc: Global, words: &[&str]) -> Result<Vec<String>, AllocError> {
     let mut list = Vec::new(alloc);
     for word in words {
         list.push(String::from_str(alloc, word)?)?;
@@ -298,7 +298,7 @@ fn file(alloc: Global, name: &[u8], text: &[u8]) -> Result<MemFile, NoMemory>
     Ok(MemFile { name, content })
 }
 
-fn files(alloc: Global, texts: Texts<'_>) -> Result<Vec<MemFile>, NoMemory>
+pub(crate) fn files(alloc: Global, texts: Texts<'_>) -> Result<Vec<MemFile>, NoMemory>
     ensures { IfOk result (λ files. AreDistinct files.items) }
 {
     let graph = file(alloc, b"graph.sg", texts.graph)?;
@@ -320,16 +320,16 @@ fn netlist_with(alloc: Global, inputs: &[u8], gate: &[u8]) -> Result<Text, NoMem
 /// The first line of a netlist that is written.
 const VERSION: &[u8] = b".version 2\n";
 
-const CHECK: [&str; 2] = ["check", "graph.sg"];
+pub(crate) const CHECK: [&str; 2] = ["check", "graph.sg"];
 
-const SYNTH: [&str; 3] = ["synth", "graph.sg", "complex"];
+pub(crate) const SYNTH: [&str; 3] = ["synth", "graph.sg", "complex"];
 
 const SYNTH_GC: [&str; 3] = ["synth", "graph.sg", "gc"];
 
 const REPLAY: [&str; 4] = ["replay", "graph.sg", "c.net", "steps"];
 
 /// Runs over files that are told, and compares the status and all that was put.
-fn expect(
+pub(crate) fn expect(
     rt: &impl Abort,
     alloc: Global,
     command: &[&str],
@@ -353,7 +353,7 @@ fn expect(
 }
 
 /// Synthesises, and expects a netlist with these lines before and after the line of the gates.
-fn expect_gates(
+pub(crate) fn expect_gates(
     rt: &impl Abort,
     alloc: Global,
     command: &[&str],
@@ -437,7 +437,7 @@ fn conflicts_are_resolved(rt: HostRuntime) -> Result<(), Fail> {
 }
 
 /// A buffer, two gates and the two-input C-element.
-const FOUR_CELLS: &[u8] = b".library four
+pub(crate) const FOUR_CELLS: &[u8] = b".library four
 .cell BUF a = a
 .cell AND2 a b = a b
 .cell OR2 a b = a + b
@@ -476,10 +476,24 @@ LDS cell OR2 D csc0' : D + csc0'
 csc0 cell C2 DSr' LDTACK : DSr' LDTACK + DSr' csc0 + LDTACK csc0
 ";
 
-const MAP: [&str; 3] = ["map", "graph.sg", "c.net"];
+/// The lines before the gates of the C-element of three inputs, with a signal for the gate of `z`.
+const THREE_HEAD: &[u8] = b".model c3
+.inputs a b c
+.outputs z
+.internal
+.inserted map0
+.start 00000
+.insert map0 up l110 l111 down h001 h000
+";
+
+const THREE_CELLS: &[u8] = b"z cell C2 c map0 : c map0 + c z + z map0
+map0 cell C2 a b : a b + a map0 + b map0
+";
+
+pub(crate) const MAP: [&str; 3] = ["map", "graph.sg", "c.net"];
 
 /// The texts of a graph and of a library, the second in the file of the netlist.
-fn with_cells<'t>(graph: &'t [u8], library: &'t [u8]) -> Texts<'t> {
+pub(crate) fn with_cells<'t>(graph: &'t [u8], library: &'t [u8]) -> Texts<'t> {
     Texts {
         graph,
         netlist: library,
@@ -512,6 +526,7 @@ fn cells_of_a_library(rt: HostRuntime) -> Result<(), Fail> {
     let gate = b"c cell C2 a b : a b + a c + b c\n".as_slice();
     expect_cells(&rt, alloc, C_ELEMENT, element, gate)?;
     expect_cells(&rt, alloc, VME, VME_HEAD, VME_CELLS)?;
+    expect_cells(&rt, alloc, THREE_INPUTS, THREE_HEAD, THREE_CELLS)?;
     let unmapped = b"unmapped z\n".as_slice();
     let unmapped = (Status::Unmapped, b"".as_slice(), unmapped);
     expect(&rt, alloc, &MAP, with_cells(THREE_INPUTS, BUFFER), unmapped)?;
@@ -660,6 +675,20 @@ fn refusals(rt: HostRuntime) -> Result<(), Fail> {
         only(C_ELEMENT),
         usage,
     )
+}
+
+#[test]
+fn handshakes_are_exercised(rt: HostRuntime) -> Result<(), Fail> {
+    let alloc = rt.alloc();
+    let none = only(b"");
+    let sizes = b"exercise 1\nstates 4\narcs 4\ngates 1\nliterals 1\n".as_slice();
+    let one = (Status::Done, sizes, b"".as_slice());
+    expect(&rt, alloc, &["exercise", "1"], none, one)?;
+    let usage = (Status::Usage, b"".as_slice(), b"usage\n".as_slice());
+    for count in ["0", "9", "01", "+1"] {
+        expect(&rt, alloc, &["exercise", count], none, usage)?;
+    }
+    Ok(())
 }
 
 #[test]
