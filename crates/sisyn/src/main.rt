@@ -4,6 +4,8 @@
 #[cfg(test)]
 mod hostile_tests;
 #[cfg(test)]
+mod replay_tests;
+#[cfg(test)]
 mod schedule_tests;
 #[cfg(test)]
 mod tests;

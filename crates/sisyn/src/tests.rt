@@ -3,17 +3,10 @@
 ghost use Rattle.std.specs.Prelude.{◌≡◌, ◌<◌, All, IfOk, length};
 ghost use Rattle.si_io.specs.Memory.{AreDistinct};
 
-use si_base::ids::{Code, Event, NoMemory};
+use si_base::ids::NoMemory;
 use si_base::text::{Name, Text};
-use si_graph::coded::Coded;
 use si_io::memory::{MemFile, MemShelf, MemSink, SinkFail, SureShelf, SureSink};
-use si_netlist::netlist::Netlist;
-use si_netlist_reader::reader::read_netlist;
 use si_refusals::status::Status;
-use si_sg::read::read_sg;
-use si_system::schedule::read_schedule;
-use si_system::system::System;
-use si_system::verdict::Verdict;
 use si_tool::run::run;
 use si_tool::sure::run_in_memory;
 use std::alloc::{AllocError, Global};
@@ -58,7 +51,7 @@ any text ~~ { here\r
 ";
 
 /// Its netlist in version 1 of the text, which is read.
-const C_ELEMENT_NETLIST: &[u8] = b".model c2
+pub(crate) const C_ELEMENT_NETLIST: &[u8] = b".model c2
 .inputs a b
 .outputs c
 .internal
@@ -114,7 +107,7 @@ s5 a+ s6
 ";
 
 /// A graph without a signal that the circuit drives.
-const INPUTS_ALONE: &[u8] = b".model watched
+pub(crate) const INPUTS_ALONE: &[u8] = b".model watched
 .inputs a b
 .state graph
 s0 a+ s1
@@ -124,7 +117,7 @@ s2 b- s1
 .end
 ";
 
-const INPUTS_ALONE_NETLIST: &[u8] = b".model watched
+pub(crate) const INPUTS_ALONE_NETLIST: &[u8] = b".model watched
 .inputs a b
 .outputs
 .internal
@@ -134,8 +127,8 @@ const INPUTS_ALONE_NETLIST: &[u8] = b".model watched
 .end
 ";
 
-/// The states `s0` and `s2` have one code, and `s2` alone enables `z+`. Only the input switches between them, and no
-/// insertion may delay it.
+/// The states `s0` and `s2` have one code, and `s2` alone enables `z+`. Only the input switches
+/// between them, and no insertion may delay it.
 const CONFLICT: &[u8] = b".model conflict
 .inputs a
 .outputs z
@@ -150,8 +143,8 @@ s5 z- s0
 .end
 ";
 
-/// Between `x+` and `x-` an insertion tells `s4` and `s6` apart. Nothing does so for `s0` and `s2`, nor for `s9` and
-/// `s11`, between which only the input switches.
+/// Between `x+` and `x-` an insertion tells `s4` and `s6` apart. Nothing does so for `s0` and `s2`,
+/// nor for `s9` and `s11`, between which only the input switches.
 const HALF_RESOLVED: &[u8] = b".model half
 .inputs a r
 .outputs x y z
@@ -208,7 +201,7 @@ s2 a+ s4
 ";
 
 /// The input disables the output.
-const DISABLED_OUTPUT: &[u8] = b".model disabled
+pub(crate) const DISABLED_OUTPUT: &[u8] = b".model disabled
 .inputs a
 .outputs z
 .state graph
@@ -219,7 +212,7 @@ s0 z+ s2
 ";
 
 /// The read cycle of a VME bus controller.
-const VME: &[u8] = b".model vme
+pub(crate) const VME: &[u8] = b".model vme
 .inputs DSr LDTACK
 .outputs D DTACK LDS
 .state graph
@@ -246,7 +239,7 @@ s13 LDTACK- s1
 ";
 
 /// Its netlist with one inserted signal.
-const VME_NETLIST: &[u8] = b".model vme
+pub(crate) const VME_NETLIST: &[u8] = b".model vme
 .inputs DSr LDTACK
 .outputs D DTACK LDS
 .internal
@@ -261,10 +254,10 @@ csc0 sum DSr' + LDTACK csc0
 .end
 ";
 
-const VME_CYCLE: &[u8] = b"DSr+ csc0- LDS+ LDTACK+ D+ DTACK+ DSr- csc0+ D-";
+pub(crate) const VME_CYCLE: &[u8] = b"DSr+ csc0- LDS+ LDTACK+ D+ DTACK+ DSr- csc0+ D-";
 
 /// The C-element's complex gate.
-const MAJORITY: &[u8] = b"c sum a b + b c + a c";
+pub(crate) const MAJORITY: &[u8] = b"c sum a b + b c + a c";
 
 /// The texts of a command's files.
 #[derive(Clone, Copy)]
@@ -308,7 +301,7 @@ pub(crate) fn files(alloc: Global, texts: Texts<'_>) -> Result<Vec<MemFile>, NoM
 }
 
 /// The netlist of the C-element with other inputs and another gate.
-fn netlist_with(alloc: Global, inputs: &[u8], gate: &[u8]) -> Result<Text, NoMemory> {
+pub(crate) fn netlist_with(alloc: Global, inputs: &[u8], gate: &[u8]) -> Result<Text, NoMemory> {
     let mut text = Text::copy_of(alloc, b".model c2\n.inputs ")?;
     text.add(inputs)?;
     text.add(b"\n.outputs c\n.internal\n.inserted\n.start 000\n.gates\n")?;
@@ -326,7 +319,7 @@ pub(crate) const SYNTH: [&str; 3] = ["synth", "graph.sg", "complex"];
 
 const SYNTH_GC: [&str; 3] = ["synth", "graph.sg", "gc"];
 
-const REPLAY: [&str; 4] = ["replay", "graph.sg", "c.net", "steps"];
+pub(crate) const REPLAY: [&str; 4] = ["replay", "graph.sg", "c.net", "steps"];
 
 /// Runs over files that are told, and compares the status and all that was put.
 pub(crate) fn expect(
@@ -535,8 +528,8 @@ fn cells_of_a_library(rt: HostRuntime) -> Result<(), Fail> {
     expect(&rt, alloc, &MAP, with_cells(C_ELEMENT, C_ELEMENT), faulty)
 }
 
-/// Handshakes one after another: state `p` of each round leads by `a+` to `q`, then by `z+` to `r`, by `a-` to `t` and
-/// by `z-` to `p` of the next round, and the last round leads back to the first.
+/// Handshakes one after another: state `p` of each round leads by `a+` to `q`, then by `z+` to `r`,
+/// by `a-` to `t` and by `z-` to `p` of the next round, and the last round leads back to the first.
 fn handshakes(alloc: Global, rounds: u32) -> Result<Text, Fail> {
     let mut text = Text::copy_of(
         alloc,
@@ -688,149 +681,6 @@ fn handshakes_are_exercised(rt: HostRuntime) -> Result<(), Fail> {
     for count in ["0", "9", "01", "+1"] {
         expect(&rt, alloc, &["exercise", count], none, usage)?;
     }
-    Ok(())
-}
-
-#[test]
-fn ends_of_replays(rt: HostRuntime) -> Result<(), Fail> {
-    let alloc = rt.alloc();
-    let cycle = Texts {
-        graph: VME,
-        netlist: VME_NETLIST,
-        schedule: VME_CYCLE,
-    };
-    let end = b"done 9\nvalues 010111\nstate s7\n".as_slice();
-    expect(&rt, alloc, &REPLAY, cycle, (Status::Done, end, b""))?;
-    let majority = netlist_with(alloc, b"a b", MAJORITY)?;
-    let none = Texts {
-        graph: C_ELEMENT,
-        netlist: majority.bytes(),
-        schedule: b"",
-    };
-    let start = b"done 0\nvalues 000\nstate s0\n".as_slice();
-    expect(&rt, alloc, &REPLAY, none, (Status::Done, start, b""))?;
-    let inputs = Texts {
-        graph: INPUTS_ALONE,
-        netlist: INPUTS_ALONE_NETLIST,
-        schedule: b"a+ b+ # both are up\n\nb-/2",
-    };
-    let after = b"done 3\nvalues 10\nstate s1\n".as_slice();
-    expect(&rt, alloc, &REPLAY, inputs, (Status::Done, after, b""))
-}
-
-#[test]
-fn replays_that_differ(rt: HostRuntime) -> Result<(), Fail> {
-    let alloc = rt.alloc();
-    let rows: [(&[u8], &[u8], &[u8]); 3] = [
-        (b"c sum a", b"a+ c+", b"differs 2 c astray\n"),
-        (b"c sum a b'", b"a+ b+", b"differs 2 c lost\n"),
-        (MAJORITY, b"a+ c+", b"differs 2 c blocked\n"),
-    ];
-    for (gate, schedule, line) in rows {
-        let netlist = netlist_with(alloc, b"a b", gate)?;
-        let texts = Texts {
-            graph: C_ELEMENT,
-            netlist: netlist.bytes(),
-            schedule,
-        };
-        expect(&rt, alloc, &REPLAY, texts, (Status::Differs, b"", line))?;
-    }
-    Ok(())
-}
-
-/// Replays, and expects the status and the line of a refusal.
-fn expect_line(
-    rt: &impl Abort,
-    alloc: Global,
-    texts: Texts<'_>,
-    status: Status,
-    line: &[u8],
-) -> Result<(), Fail> {
-    expect(rt, alloc, &REPLAY, texts, (status, b"", line))
-}
-
-#[test]
-fn faults_of_the_texts_of_a_replay(rt: HostRuntime) -> Result<(), Fail> {
-    let alloc = rt.alloc();
-    let rows: [(&[u8], &[u8], &[u8]); 4] = [
-        (b".dummy d\n", b"", b"badtext graph.sg 1 Dummy\n"),
-        (C_ELEMENT, b"", b"badtext c.net 1 NoEnd\n"),
-        (
-            C_ELEMENT,
-            b".model c2\n.inputs a b a\n",
-            b"badtext c.net 2 Repeated\n",
-        ),
-        (
-            DISABLED_OUTPUT,
-            C_ELEMENT_NETLIST,
-            b"badtext steps 1 BadEvent\n",
-        ),
-    ];
-    for (graph, netlist, line) in rows {
-        let texts = Texts {
-            graph,
-            netlist,
-            schedule: b"a*",
-        };
-        expect_line(&rt, alloc, texts, Status::BadText, line)?;
-    }
-    let improper = Texts {
-        graph: DISABLED_OUTPUT,
-        netlist: C_ELEMENT_NETLIST,
-        schedule: b"",
-    };
-    let line = b"nonpersistent s0 z+ a+\n";
-    expect_line(&rt, alloc, improper, Status::Improper, line)
-}
-
-#[test]
-fn faults_of_schedules(rt: HostRuntime) -> Result<(), Fail> {
-    let alloc = rt.alloc();
-    let rows: [(&[u8], &[u8]); 5] = [
-        (b"a*", b"badtext steps 1 BadEvent\n"),
-        (b"a~", b"badtext steps 1 Toggle\n"),
-        (b"d+", b"badtext steps 1 Undeclared\n"),
-        (b"\0", b"badtext steps 1 BadByte\n"),
-        (b"a+\n\n \0", b"badtext steps 3 BadByte\n"),
-    ];
-    for (schedule, line) in rows {
-        let texts = Texts {
-            graph: C_ELEMENT,
-            netlist: C_ELEMENT_NETLIST,
-            schedule,
-        };
-        expect_line(&rt, alloc, texts, Status::BadText, line)?;
-    }
-    let exchanged = netlist_with(alloc, b"b a", b"c sum b a + b c + a c")?;
-    let texts = Texts {
-        graph: C_ELEMENT,
-        netlist: exchanged.bytes(),
-        schedule: b"a+",
-    };
-    expect_line(&rt, alloc, texts, Status::BadText, b"lists c.net 1\n")
-}
-
-/// What comes of the first event where the system starts, and the values after it.
-fn fired_at_start(graph: &Coded, netlist: &Netlist, events: &Vec<Event>) -> Option<(Verdict, Code)>
-    requires { All (λ e. e.sig < length netlist.now.signals) events.now.items }
-{
-    let Ok(mut system) = System::start(graph, netlist) else {
-        return None;
-    };
-    let event = events.first()?;
-    let verdict = system.fire(*event);
-    Some((verdict, system.values()))
-}
-
-#[test]
-fn an_event_that_is_no_step_changes_nothing(rt: HostRuntime) -> Result<(), Fail> {
-    let alloc = rt.alloc();
-    let given = read_sg(alloc, C_ELEMENT)?;
-    let graph = Coded::make(alloc, given.graph).ok().ok_or("no codes")?;
-    let netlist = read_netlist(alloc, C_ELEMENT_NETLIST)?;
-    let events = read_schedule(alloc, b"c+", &netlist)?;
-    let blocked = (Verdict::Blocked, Code(0));
-    assert_eq!(rt; fired_at_start(&graph, &netlist, &events), Some(blocked));
     Ok(())
 }
 
