@@ -14,3 +14,4 @@ pub mod sets;
 #[cfg(test)]
 mod tests;
 pub mod text;
+pub mod text_key;

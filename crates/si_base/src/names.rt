@@ -3,6 +3,7 @@
 ghost use Rattle.std.specs.Prelude.{◌≡◌, ◌≢◌, ℕ, ◌+◌, ◌<◌, ◌≤◌, ◌^◌, List, [], ◌∷◌, ◌++◌, length, IsTrue, IfOk, OnOk, OnErr, IsErrOf, ◌↔◌, Contains, slice_get, Some, None, IfSome, IsNone, AllPairs};
 
 use crate::ids::NoMemory;
+use crate::text_key::TextKey;
 use indexmap::IndexSet;
 use std::alloc::{AllocError, AllocFailed, Global};
 use std::marker::Model;
@@ -43,7 +44,7 @@ impl<T: Drop> From<AllocFailed<T>> for AddFault {
 #[derive(Drop)]
 pub struct Names {
     alloc: Global,
-    set: IndexSet<Vec<u8>>,
+    set: IndexSet<Vec<u8>, TextKey>,
 }
 
 impl Model for Names {
@@ -57,14 +58,31 @@ impl Model for Names {
 }
 
 impl Names {
-    /// An empty list. It fails only where memory runs out.
+    /// An empty list, for a few names. It fails only where memory runs out.
     pub fn new(alloc: Global) -> Result<Names, NoMemory>
         ensures { IfOk result (λ n. n ≡ []) }
     {
-        Ok(Names {
+        Ok(Names::with_key(alloc, TextKey::of(b"")))
+    }
+
+    /// An empty list for the names of a text, of which this is the key.
+    ///
+    /// A list that may grow long is made so; else one who writes the text may choose its names so that
+    /// each search is long.
+    pub fn with_key(alloc: Global, key: TextKey) -> Names
+        ensures { result ≡ [] }
+    {
+        Names {
             alloc,
-            set: IndexSet::new(alloc),
-        })
+            set: IndexSet::with_hasher(alloc, key),
+        }
+    }
+
+    /// An empty list for names of the same text.
+    pub fn empty_like(&self) -> Names
+        ensures { result ≡ [] }
+    {
+        Names::with_key(self.alloc, *self.set.hasher())
     }
 
     /// The number of names.
