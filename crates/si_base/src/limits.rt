@@ -12,6 +12,9 @@ pub const MAX_SIGNALS_VERSION_1: usize = 64;
 /// The most states of a graph that is read.
 pub const MAX_STATES_READ: u32 = 262_144;
 
+/// The most states of any graph, after insertion of signals too.
+pub const MAX_STATES: u32 = 262_144;
+
 /// The most distinct arcs of a graph that is read.
 pub const MAX_ARCS_READ: usize = 1_048_576;
 

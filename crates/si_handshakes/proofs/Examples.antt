@@ -13,7 +13,7 @@ use Rattle.si_handshakes.proofs.NumberedNames.{both_kinds, kinds_in_order, names
 use Rattle.si_handshakes.proofs.MadeArcs.{made, made_steps, all_steps}
 use Rattle.si_handshakes.proofs.DigitLemmas.{later}
 
--- the arcs of one handshake: `r0+`, `a0+`, `r0-`, `a0-`, with request 0 and acknowledgement 1
+-- the arcs of one handshake, of which signal 0 is the request and signal 1 the acknowledgement
 one : made 1 4 ≡ arc 0 (rise 0) 1 ∷ arc 1 (rise 1) 2 ∷ arc 2 (fall 0) 3 ∷ arc 3 (fall 1) 0 ∷ []
 one = refl
 
@@ -31,7 +31,7 @@ first = refl
 second : phase 6 1 ≡ 1
 second = refl
 
--- `r0-` leads from there to 7, and `a1+` to 10
+-- from there the fall of the request of handshake 0 leads to 7, and the rise of the acknowledgement of 1 to 10
 request_falls : GoesOn 2 6 (fall 0) 7
 request_falls = record { handshake = 0; within = lit< tt; event = refl; next = refl; others = others }
   where

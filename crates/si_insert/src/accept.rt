@@ -15,7 +15,7 @@ ghost use Rattle.si_insert.specs.Pairs.{breaks, IsHeld, IsBroken, ArcWaits, Pair
 use crate::partition::{Class, Partition};
 use si_base::graph::{Edge, SigKind};
 use si_base::ids::{Event, Sig, StateId};
-use si_base::limits::MAX_SIGNALS;
+use si_base::limits::{MAX_SIGNALS, MAX_STATES};
 use si_checks::proper::Proper;
 use si_graph::graph::Graph;
 use std::marker::Model;
@@ -204,9 +204,6 @@ pub(crate) fn count_copies(classes: &[Class]) -> u32
     }
     n
 }
-
-/// The most states of any graph, after insertion of signals too.
-const MAX_STATES: u32 = 262_144;
 
 /// The partition where the inserted graph is proper, within the limits, and delays no input; or the
 /// first reason against it. The partition comes back. It takes no memory: the arcs of the graph and

@@ -5,8 +5,7 @@ use Rattle.si_cell.specs.Library.{Library}
 use Rattle.si_circuit.specs.Circuits.{AreStateNames}
 use Rattle.si_circuit.specs.Spelled.{AreSpelled}
 use Rattle.si_insert.specs.declared.lineage.TraceStep.{TraceStep}
-use Rattle.si_insert.specs.Lineage.{Current, History, Extends}
-use Rattle.si_resolve.specs.Trace.{GoesOn}
+use Rattle.si_insert.specs.Lineage.{Current, Extends, GoesOn, History}
 use Rattle.si_resolve.proofs.Going.{AreNamed, named_after}
 use Rattle.si_map.specs.Trace.{Maps, IsMapping}
 

@@ -10,9 +10,9 @@ use Rattle.si_checks.specs.declared.distinct.NotDistinct.TheVariants.{Conflict}
 use Rattle.si_checks.specs.Faults.{ShowsConflict}
 use Rattle.si_insert.specs.declared.lineage.TraceStep.{TraceStep}
 use Rattle.si_insert.specs.Insertion.{new_signal}
-use Rattle.si_insert.specs.Lineage.{Current, History, Inserts, Extends}
+use Rattle.si_insert.specs.Lineage.{Current, Extends, GoesOn, History, Inserts}
 use Rattle.si_resolve.specs.Best.{NoneImproves, IsStuck}
-use Rattle.si_resolve.specs.Trace.{Resolves, IsResolving, GoesOn}
+use Rattle.si_resolve.specs.Trace.{Resolves, IsResolving}
 use Rattle.si_resolve.proofs.OneBest.{none_improves_is_stuck}
 
 pub stuck_at : (c : CodedGraph) (fault : NotDistinct) (p q : ℕ) → fault ≡ Conflict p q → ShowsConflict c fault

@@ -1,9 +1,9 @@
 -- Resolving: the best candidate is inserted while it has fewer conflicts than the graph.
-use Rattle.std.specs.Prelude.{◌≡◌, ℕ, ◌++◌, List, [], ◌∷◌, codes}
+use Rattle.std.specs.Prelude.{◌≡◌, ℕ, List, [], ◌∷◌, codes}
 use Rattle.si_base.specs.Proper.{HasNoConflict}
 use Rattle.si_insert.specs.declared.lineage.TraceStep.{TraceStep}
 use Rattle.si_insert.specs.Fresh.{IsFresh}
-use Rattle.si_insert.specs.Lineage.{Current, History, Inserts}
+use Rattle.si_insert.specs.Lineage.{Current, Inserts}
 use Rattle.si_resolve.specs.Best.{Choice, Improves, IsStuck}
 
 -- the best candidate of v, which has fewer conflicts than v, is inserted as `csc` and makes u
@@ -29,8 +29,3 @@ pub record EndsUnresolved (v : Current) (trace : List TraceStep) (w : Current) (
     : Type 0 where
   pub goes : IsResolving v trace w
   pub stuck : IsStuck w.coded pair
-
--- the lineage m is l with the trace added
-pub record GoesOn (l : History) (trace : List TraceStep) (m : History) : Type 0 where
-  pub given_stays : m.given ≡ l.given
-  pub trace_grows : m.trace ≡ l.trace ++ trace

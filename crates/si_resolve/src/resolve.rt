@@ -5,9 +5,9 @@ ghost use Rattle.si_base.specs.Words.{is_signal_name};
 ghost use Rattle.si_checks.specs.Faults.{ShowsConflict};
 ghost use Rattle.si_insert.specs.declared.lineage.TraceStep.{TraceStep};
 ghost use Rattle.si_insert.specs.Fresh.{IsFresh};
-ghost use Rattle.si_insert.specs.Lineage.{Extends};
+ghost use Rattle.si_insert.specs.Lineage.{Extends, GoesOn};
 ghost use Rattle.si_resolve.specs.Best.{Choice, Improves, NoneImproves};
-ghost use Rattle.si_resolve.specs.Trace.{GoesOn, IsResolving, Resolves, ResolvesTo};
+ghost use Rattle.si_resolve.specs.Trace.{IsResolving, Resolves, ResolvesTo};
 ghost use Rattle.si_resolve.specs.Ends.{ShowsStuck};
 
 use crate::best::best;

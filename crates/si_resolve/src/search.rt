@@ -12,14 +12,12 @@ ghost use Rattle.si_resolve.specs.Progress.{IsSearching, IsFound, MayBeAccepted,
 
 use crate::block_list::BlockList;
 use si_base::ids::NoMemory;
+use si_base::limits::MAX_STATES;
 use si_candidates::block::Block;
 use si_candidates::parting::Parting;
 use si_checks::proper::Proper;
 use si_conflicts::chains::CodeChains;
 use std::alloc::Global;
-
-/// The most states of any graph, after insertion of signals too.
-const MAX_STATES: u64 = 262_144;
 
 /// The places of the two blocks of an accepted candidate, that where the new signal rises first,
 /// and the number of conflicts that it leaves.
@@ -191,7 +189,7 @@ fn may_be_accepted(graph: &Proper, plus: &Block, minus: &Block) -> bool
     requires minus_size { length minus.now ≡ graph.now.graph.states }
     ensures { IsTrue result ↔ MayBeAccepted graph.now.graph plus.now minus.now }
 {
-    plus.is_apart(minus) && copies(graph, plus, minus) <= MAX_STATES
+    plus.is_apart(minus) && copies(graph, plus, minus) <= MAX_STATES as u64
 }
 
 /// The number of states after the insertion where the new signal rises in the one block and falls

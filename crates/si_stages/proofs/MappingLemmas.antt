@@ -22,7 +22,7 @@ use Rattle.si_circuit.specs.Spelled.{AreSpelled}
 use Rattle.si_circuit.specs.Spelling.{insertions_of}
 use Rattle.si_insert.proofs.Kept.{keeps}
 use Rattle.si_insert.specs.declared.lineage.TraceStep.{TraceStep}
-use Rattle.si_insert.specs.Lineage.{AllGiven, Current, History, IsLineage, Keeps, as_given}
+use Rattle.si_insert.specs.Lineage.{AllGiven, Current, GoesOn, History, IsLineage, Keeps, as_given}
 use Rattle.si_map.specs.Trace.{IsMapping as IsMappingTrace, MapsTo, EndsUnmapped}
 use Rattle.si_map.proofs.MapTraces.{fitted_is_mapped, mapped_is_unique, unmapped_is_unique, ends_exclude, traces_are_lineages}
 use Rattle.si_divisor.proofs.DivisorsExist.{some_divisors}
@@ -32,7 +32,6 @@ use Rattle.si_map.proofs.OneBest.{one_best}
 use Rattle.si_map.specs.declared.map.MapStuck.{MapStuck}
 use Rattle.si_map.specs.declared.map.MapStuck.TheVariants.{NoMemory, Signal}
 use Rattle.si_map.specs.Ends.{ShowsStuck}
-use Rattle.si_resolve.specs.Trace.{GoesOn}
 use Rattle.si_refusals.specs.Ending.{Ending, Answered, MayStop}
 use Rattle.si_refusals.specs.Ending as ending
 use Rattle.si_refusals.specs.Refusal.{TextRefused}

@@ -13,7 +13,7 @@ use Rattle.si_cell.proofs.LawLemmas.{text_is_library}
 use Rattle.si_circuit.specs.Cells.{mapped_netlist}
 use Rattle.si_circuit.specs.Circuits.{circuit_of}
 use Rattle.si_circuit.specs.declared.style.Style.{Style}
-use Rattle.si_insert.specs.Lineage.{History, as_given}
+use Rattle.si_insert.specs.Lineage.{GoesOn, History, as_given}
 use Rattle.si_netlist_reader.specs.NetlistFault.{netlist_fault}
 use Rattle.si_netlist_reader.specs.NetlistValue.{netlist_of}
 use Rattle.si_refusals.specs.Refusal.{TextRefusal}
@@ -23,7 +23,6 @@ use Rattle.si_system.specs.ScheduleText.{signal_names, schedule_fault, schedule_
 use Rattle.si_stages.specs.Checks.{IsSound}
 use Rattle.si_stages.specs.Laws.{AtMostOne, HasResult, EndsOrDeparts}
 use Rattle.si_stages.specs.Laws.{FreeGraphsAreMapped, FreeGraphsAreSynthesised}
-use Rattle.si_resolve.specs.Trace.{GoesOn}
 use Rattle.si_stages.specs.Mapping.{IsMappedTo}
 use Rattle.si_stages.specs.Meaning.{report, synth, mapping, replay}
 use Rattle.si_stages.specs.Resolving.{IsResolved}

@@ -10,8 +10,7 @@ use Rattle.si_base.specs.GivenGraph.{Sg}
 use Rattle.si_base.specs.NetlistText.{name_of, netlist_text}
 use Rattle.si_cell.specs.Library.{Library}
 use Rattle.si_insert.specs.declared.lineage.TraceStep.{TraceStep}
-use Rattle.si_insert.specs.Lineage.{History}
-use Rattle.si_resolve.specs.Trace.{GoesOn}
+use Rattle.si_insert.specs.Lineage.{GoesOn, History}
 use Rattle.si_circuit.specs.Cells.{AllFit, mapped_netlist}
 use Rattle.si_circuit.specs.Circuits.{IsCircuit}
 use Rattle.si_circuit.specs.Spelling.{insertions_of}
