@@ -24,8 +24,10 @@ excited_down gate false false true is differs high = absurd (differs is)
 
 pub excited_enables : (c : CodedGraph) (n : Netlist) (s z : ℕ) (up : Bool) → GivesNextValues c n → s < c.graph.states
     → IsExcited n (code c s) z → bit (code c s) z ≡ not up → enables c.graph s (record { sig = z; up = up }) ≡ true
-excited_enables c n s z true gives there excited old = excited_up _ _ _ _ (gives.gates s z there excited.gate) excited.differs old
-excited_enables c n s z false gives there excited old = excited_down _ _ _ _ (gives.gates s z there excited.gate) excited.differs old
+excited_enables c n s z true gives there excited old =
+    excited_up _ _ _ _ (gives.gates s z there excited.gate) excited.differs old
+excited_enables c n s z false gives there excited old =
+    excited_down _ _ _ _ (gives.gates s z there excited.gate) excited.differs old
 
 next_high : (r f b : Bool) → r ≡ true → (r || (b && not f)) ≡ true
 next_high true f b h = refl

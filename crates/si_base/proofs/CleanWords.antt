@@ -20,7 +20,8 @@ excludes p c b low high = elim (cases_eq b c) [
 
 pub clean_word : (p : ℕ → Bool) (w : List ℕ) → p 10 ≡ false → p 32 ≡ false → list_all p w ≡ true → IsClean w
 clean_word p [] ten blank all = tt
-clean_word p (b ∷ w) ten blank all = let parts = and_parts _ _ all in ((excludes p 10 b ten parts.0, excludes p 32 b blank parts.0), clean_word p w ten blank parts.1)
+clean_word p (b ∷ w) ten blank all = let parts = and_parts _ _ all in
+    ((excludes p 10 b ten parts.0, excludes p 32 b blank parts.0), clean_word p w ten blank parts.1)
 
 -- ---- lines
 abbrev pub LinesClean : List (List (List ℕ)) → Type 0
@@ -45,7 +46,8 @@ no_end_append (b ∷ v) w one other = (one.0, no_end_append v w one.1 other)
 pub no_end_join : (ws : List (List ℕ)) → AreClean ws → NoEnd (join_with_byte 32 ws)
 no_end_join [] are = tt
 no_end_join (w ∷ []) are = no_end w are.0
-no_end_join (w ∷ v ∷ ws) are = no_end_append w (32 ∷ join_with_byte 32 (v ∷ ws)) (no_end w are.0) (refl, no_end_join (v ∷ ws) are.1)
+no_end_join (w ∷ v ∷ ws) are = no_end_append w (32 ∷ join_with_byte 32 (v ∷ ws)) (no_end w are.0)
+    (refl, no_end_join (v ∷ ws) are.1)
 
 pub words_without : (ws : List (List ℕ)) → AreClean ws → AllWithout 32 ws
 words_without [] are = tt

@@ -10,18 +10,21 @@ use Rattle.si_base.specs.Codes.{CodedGraph, code, IsCoded, AreValues}
 use Rattle.si_base.proofs.BitFacts.{flip-same, flip-other, same_codes}
 
 -- a step has its parts in range
-pub step_within : (g : StateGraph) (s : ℕ) (e : Event) (t : ℕ) → IsGraph g → Step g s e t → (s < g.states) × (e.sig < length g.signals) × (t < g.states)
+pub step_within : (g : StateGraph) (s : ℕ) (e : Event) (t : ℕ) → IsGraph g → Step g s e t → (s < g.states)
+    × (e.sig < length g.signals) × (t < g.states)
 step_within g s e t is step =
     let P : Edge → Type 0 = λ a. (a.from < g.states) × (a.event.sig < length g.signals) × (a.to < g.states) in
     subst P step.2 (is.within step.0 (arc s e t) step.1)
 
 -- a step turns the value of its own signal
-pub turns : (g : StateGraph) (a : ℕ) (v : ℕ → Bool) (s t : ℕ) (up : Bool) → AreValues g a v → Step g s (record { sig = a; up = up }) t → v t ≡ not (v s)
+pub turns : (g : StateGraph) (a : ℕ) (v : ℕ → Bool) (s t : ℕ) (up : Bool) → AreValues g a v
+    → Step g s (record { sig = a; up = up }) t → v t ≡ not (v s)
 turns g a v s t true are step = let h = are.rises s t step in rw (h.0, h.1) refl
 turns g a v s t false are step = let h = are.falls s t step in rw (h.0, h.1) refl
 
 -- before the step the signal has the value from which it switches
-pub old_value : (g : StateGraph) (a : ℕ) (v : ℕ → Bool) (s t : ℕ) (up : Bool) → AreValues g a v → Step g s (record { sig = a; up = up }) t → v s ≡ not up
+pub old_value : (g : StateGraph) (a : ℕ) (v : ℕ → Bool) (s t : ℕ) (up : Bool) → AreValues g a v
+    → Step g s (record { sig = a; up = up }) t → v s ≡ not up
 old_value g a v s t true are step = (are.rises s t step).0
 old_value g a v s t false are step = (are.falls s t step).0
 
@@ -34,18 +37,24 @@ code_fits c s is there =
 pub no_bit : (k n i : ℕ) → k < 2 ^ n → n ≤ i → bit k i ≡ false
 no_bit k n i small above = ap (λ (x : ℕ). x == 1) (bit_at_above k n i small above)
 
-bit_of_step : (c : CodedGraph) (s : ℕ) (e : Event) (t i : ℕ) → IsCoded c → Step c.graph s e t → ((i ≡ e.sig) ⊎ (i ≡ e.sig → ⊥)) → bit (code c t) i ≡ bit (flip (code c s) e.sig) i
+bit_of_step : (c : CodedGraph) (s : ℕ) (e : Event) (t i : ℕ) → IsCoded c → Step c.graph s e t
+    → ((i ≡ e.sig) ⊎ (i ≡ e.sig → ⊥)) → bit (code c t) i ≡ bit (flip (code c s) e.sig) i
 bit_of_step c s e t i is step (inl same) =
     let parts = step_within c.graph s e t is.graph_is step in
     let P : ℕ → Type 0 = λ k. bit (code c t) k ≡ bit (flip (code c s) e.sig) k in
-    subst P (sym same) (turns c.graph e.sig (λ a. bit (code c a) e.sig) s t e.up (is.values e.sig parts.1) step ∙ sym (flip-same (code c s) e.sig))
+    subst P (sym same) (turns c.graph e.sig (λ a. bit (code c a) e.sig) s t e.up (is.values e.sig parts.1) step
+    ∙ sym (flip-same (code c s) e.sig))
 bit_of_step c s e t i is step (inr other) =
     let parts = step_within c.graph s e t is.graph_is step in
     elim (cases_lt i (length c.graph.signals)) [
-      | inl below ↦ (is.values i below).keeps s t e (λ same. other (sym same)) step ∙ sym (flip-other (code c s) e.sig i other)
-      | inr above ↦ no_bit _ _ i (code_fits c t is parts.2) above ∙ sym (no_bit _ _ i (code_fits c s is parts.0) above) ∙ sym (flip-other (code c s) e.sig i other)
+      | inl below ↦ (is.values i below).keeps s t e (λ same. other (sym same)) step
+          ∙ sym (flip-other (code c s) e.sig i other)
+      | inr above ↦ no_bit _ _ i (code_fits c t is parts.2) above ∙ sym (no_bit _ _ i (code_fits c s is parts.0) above)
+          ∙ sym (flip-other (code c s) e.sig i other)
     ]
 
 -- a step flips the bit of its signal
-pub code_of_step : (c : CodedGraph) (s : ℕ) (e : Event) (t : ℕ) → IsCoded c → Step c.graph s e t → code c t ≡ flip (code c s) e.sig
-code_of_step c s e t is step = same_codes (code c t) (flip (code c s) e.sig) (λ i. bit_of_step c s e t i is step (cases_eq i e.sig))
+pub code_of_step : (c : CodedGraph) (s : ℕ) (e : Event) (t : ℕ) → IsCoded c → Step c.graph s e t
+    → code c t ≡ flip (code c s) e.sig
+code_of_step c s e t is step = same_codes (code c t) (flip (code c s) e.sig)
+    (λ i. bit_of_step c s e t i is step (cases_eq i e.sig))

@@ -10,4 +10,5 @@ event_cmp = then_cmp (on (λ e. e.sig) nat_cmp) (flip_args (on (λ e. e.up) bool
 
 -- source, event, target
 abbrev pub edge_cmp : Edge → Edge → Ordering
-edge_cmp = then_cmp (on (λ a. a.from) nat_cmp) (then_cmp (on (λ a. a.event) event_cmp) (on (λ a. a.to) nat_cmp))
+edge_cmp = then_cmp (on (λ a. a.from) nat_cmp)
+    (then_cmp (on (λ a. a.event) event_cmp) (on (λ a. a.to) nat_cmp))

@@ -14,8 +14,10 @@ pub record Sg : Type 0 where
   pub graph : StateGraph
   pub states : List (List ℕ)
 
--- sg has this model name, and is the whole graph, with these names of its states, cut to the reachable states
-pub record IsGivenGraph (model : List ℕ) (whole : StateGraph) (names : List (List ℕ)) (sg : Sg) : Type 0 where
+-- sg has this model name, and is the whole graph, with these names of its states, cut to the
+-- reachable states
+pub record IsGivenGraph (model : List ℕ) (whole : StateGraph) (names : List (List ℕ))
+    (sg : Sg) : Type 0 where
   pub kept : List ℕ
   pub cut : IsCut whole kept sg.graph
   pub model_is : sg.model ≡ model

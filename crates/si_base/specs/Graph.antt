@@ -77,19 +77,22 @@ kind_place Inserted = 3
 abbrev pub event_place : Event → ℕ
 event_place e = 2 * e.sig + (if e.up then 0 else 1)
 
--- what holds of each graph: the limits, ids in range, kinds in signal order, names distinct, arcs in order and each once
+-- what holds of each graph: the limits, ids in range, kinds in signal order, names distinct, arcs
+-- in order and each once
 pub record IsGraph (g : StateGraph) : Type 0 where
   pub few_states : g.states ≤ max_states
   pub few_signals : length g.signals ≤ max_signals
   pub few_edges : length g.edges < 2 ^ 32
-  pub within : All (λ a. (a.from < g.states) × (a.event.sig < length g.signals) × (a.to < g.states)) g.edges
+  pub within : All (λ a. (a.from < g.states) × (a.event.sig < length g.signals) × (a.to < g.states))
+      g.edges
   pub starts : g.start < g.states
   pub kinds : AllPairs (λ x y. kind_place x.kind ≤ kind_place y.kind) g.signals
   pub names : AllPairs (λ x y. x.name ≡ y.name → ⊥) g.signals
   pub ordered : IsStrictlySortedBy edge_cmp g.edges
 
 -- g has these parts, and just the arcs of the list
-pub record IsMadeOf (signals : List Signal) (states : ℕ) (edges : List Edge) (start : ℕ) (g : StateGraph) : Type 0 where
+pub record IsMadeOf (signals : List Signal) (states : ℕ) (edges : List Edge) (start : ℕ)
+    (g : StateGraph) : Type 0 where
   pub signals_are : g.signals ≡ signals
   pub states_are : g.states ≡ states
   pub start_is : g.start ≡ start
@@ -103,5 +106,6 @@ pub record IsCut (g : StateGraph) (kept : List ℕ) (h : StateGraph) : Type 0 wh
   pub in_order : IsStrictlySortedBy nat_cmp kept
   pub reachable : (s : ℕ) → Contains kept s ↔ IsReachable g s
   pub start_kept : slice_get kept h.start ≡ Some g.start
-  pub arcs : (s : ℕ) (e : Event) (t : ℕ) → s < length kept → t < length kept → Step h s e t ↔ Step g (slice_index kept s) e (slice_index kept t)
+  pub arcs : (s : ℕ) (e : Event) (t : ℕ) → s < length kept → t < length kept → Step h s e t
+      ↔ Step g (slice_index kept s) e (slice_index kept t)
   pub graph : IsGraph h

@@ -42,13 +42,16 @@ sum_words signals (cube ∷ cubes) = cube_words signals cube ++ more_cubes signa
 
 abbrev pub gate_words : List Signal → Gate → List (List ℕ)
 gate_words signals (SumGate sum) = codes "sum" ∷ sum_words signals sum
-gate_words signals (Gc set reset) = codes "gc" ∷ sum_words signals set ++ codes "|" ∷ sum_words signals reset
-gate_words signals (Cell name literals sum) = codes "cell" ∷ name ∷ map (literal_word signals) literals ++ codes ":" ∷ sum_words signals sum
+gate_words signals (Gc set reset) =
+    codes "gc" ∷ sum_words signals set ++ codes "|" ∷ sum_words signals reset
+gate_words signals (Cell name literals sum) =
+    codes "cell" ∷ name ∷ map (literal_word signals) literals ++ codes ":" ∷ sum_words signals sum
 
 -- the values of the signals from the i-th on
 abbrev pub bits_from : ℕ → List Signal → ℕ → List ℕ
 bits_from i [] values = []
-bits_from i (x ∷ xs) values = (if bit values i then digit_one else digit_zero) ∷ bits_from (i + 1) xs values
+bits_from i (x ∷ xs) values = (if bit values i then digit_one else digit_zero)
+    ∷ bits_from (i + 1) xs values
 
 abbrev pub word_if_any : List ℕ → List (List ℕ)
 word_if_any [] = []
@@ -67,10 +70,12 @@ netlist_lines n = (codes ".model" ∷ n.model ∷ [])
     ∷ (codes ".start" ∷ word_if_any (bits_from 0 n.signals n.start))
     ∷ map insert_line n.inserts
     ++ (codes ".gates" ∷ [])
-    ∷ map (λ p. p.0.name ∷ gate_words n.signals p.1) (zip (filter (λ x. is_driven x.kind) n.signals) n.gates)
+    ∷ map (λ p. p.0.name ∷ gate_words n.signals p.1)
+    (zip (filter (λ x. is_driven x.kind) n.signals) n.gates)
     ++ (codes ".end" ∷ []) ∷ []
 
--- a text of version 2 has its version in front, and room for all signals; one of version 1 has neither
+-- a text of version 2 has its version in front, and room for all signals; one of version 1 has
+-- neither
 pub data Version : Type 0 where
   Version1 : Version
   Version2 : Version

@@ -8,13 +8,16 @@ use Rattle.si_base.specs.System.{is_inserted}
 
 -- at the code of each state each gate has the next value of its signal
 pub record GivesNextValues (c : CodedGraph) (n : Netlist) : Type 0 where
-  pub gates : (s z : ℕ) → s < c.graph.states → IsNonInput n.signals z → gate_value n z (code c s) ≡ next_value c s z
+  pub gates : (s z : ℕ) → s < c.graph.states → IsNonInput n.signals z
+      → gate_value n z (code c s) ≡ next_value c s z
 
 -- no signal is inserted
 abbrev pub HasNoneInserted : Netlist → Type 0
-HasNoneInserted n = (z : ℕ) (x : Signal) → slice_get n.signals z ≡ Some x → is_inserted x.kind ≡ false
+HasNoneInserted n = (z : ℕ) (x : Signal) → slice_get n.signals z ≡ Some x
+    → is_inserted x.kind ≡ false
 
--- the netlist has the graph's signals and start, none of them inserted, and its gates give the next values
+-- the netlist has the graph's signals and start, none of them inserted, and its gates give the next
+-- values
 pub record IsRight (c : CodedGraph) (n : Netlist) : Type 0 where
   pub signals : n.signals ≡ c.graph.signals
   pub none_inserted : HasNoneInserted n

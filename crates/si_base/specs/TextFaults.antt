@@ -55,7 +55,9 @@ abbrev pub ToldBy : {X : Type 0} → Result X TextFault → Option (ℕ × TextK
 ToldBy (Ok x) fault = Unit {0}
 ToldBy (Err e) fault = Shows e fault
 
--- Ok with the value where there is no fault, the fault where there is one, and either may want memory
-abbrev pub Gives : {X Y : Type 0} → (X → Y) → Result X TextFault → Option (ℕ × TextKind) → Y → Type 0
+-- Ok with the value where there is no fault, the fault where there is one, and either may want
+-- memory
+abbrev pub Gives : {X Y : Type 0} → (X → Y) → Result X TextFault → Option (ℕ × TextKind) → Y
+    → Type 0
 Gives view (Ok x) fault value = (fault ≡ None) × (view x ≡ value)
 Gives view (Err e) fault value = Shows e fault

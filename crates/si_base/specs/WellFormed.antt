@@ -26,7 +26,8 @@ IsSum signals sum = All (IsCube signals) sum
 abbrev pub IsGate : ℕ → Gate → Type 0
 IsGate signals (SumGate sum) = IsSum signals sum
 IsGate signals (Gc set reset) = IsSum signals set × IsSum signals reset
-IsGate signals (Cell name literals sum) = IsTrue (is_signal_name name) × (length literals ≤ 4) × All (λ l. l.sig < signals) literals × IsSum signals sum
+IsGate signals (Cell name literals sum) = IsTrue (is_signal_name name) × (length literals ≤ 4)
+    × All (λ l. l.sig < signals) literals × IsSum signals sum
 
 pub record IsInsertion (i : Insertion) : Type 0 where
   pub some_up : 0 < length i.up

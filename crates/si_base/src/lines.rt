@@ -14,8 +14,9 @@ pub struct Line<'a> {
     pub bytes: &'a [u8],
 }
 
-/// The lines of a text that weren't taken yet. Each line end ends a line, and what stands after the last is a line if it
-/// isn't empty. Contracts see the list of the lines left, each with its number.
+/// The lines of a text that weren't taken yet. Each line end ends a line, and what stands after the
+/// last is a line if it isn't empty. Contracts see the list of the lines left, each with its
+/// number.
 #[derive(Drop)]
 pub struct Lines<'a> {
     rest: &'a [u8],
@@ -47,7 +48,8 @@ impl<'a> Lines<'a> {
 
     /// Takes the next line; `None` exactly where none is left.
     pub fn next_line(&mut self) -> Option<Line<'a>>
-        ensures { MatchOption result ((self.old ≡ []) × (self.new ≡ [])) (λ l. self.old ≡ (l.number, l.bytes.now) ∷ self.new) }
+        ensures { MatchOption result ((self.old ≡ []) × (self.new ≡ []))
+            (λ l. self.old ≡ (l.number, l.bytes.now) ∷ self.new) }
     {
         let rest = self.rest;
         if rest.is_empty() {
@@ -96,9 +98,9 @@ fn plain_len(braces: bool, bytes: &[u8]) -> usize
     bytes.iter().take_while(|b| is_plain(braces, **b)).count()
 }
 
-/// The words of a line that weren't taken yet: the longest runs of bytes other than space, tab and CR, up to the comment
-/// that `#` begins. Where `braces` says so, `{` and `}` are words of one byte each. Contracts see the list of the words
-/// left.
+/// The words of a line that weren't taken yet: the longest runs of bytes other than space, tab and
+/// CR, up to the comment that `#` begins. Where `braces` says so, `{` and `}` are words of one byte
+/// each. Contracts see the list of the words left.
 #[derive(Drop)]
 pub struct Words<'a> {
     rest: &'a [u8],
@@ -128,7 +130,8 @@ impl<'a> Words<'a> {
 
     /// Takes the next word; `None` exactly where none is left.
     pub fn next_word(&mut self) -> Option<&'a [u8]>
-        ensures { MatchOption result ((self.old ≡ []) × (self.new ≡ [])) (λ w. self.old ≡ w.now ∷ self.new) }
+        ensures { MatchOption result ((self.old ≡ []) × (self.new ≡ []))
+            (λ w. self.old ≡ w.now ∷ self.new) }
     {
         let braces = self.braces;
         let blanks = blank_len(self.rest);
@@ -157,7 +160,8 @@ fn has_bad(bytes: &[u8]) -> bool
     bytes.iter().any(|b| is_bad(*b))
 }
 
-/// Whether some byte before the comment is one that no text may have: below 32 but for tab and CR, or above 126.
+/// Whether some byte before the comment is one that no text may have: below 32 but for tab and CR,
+/// or above 126.
 pub fn has_bad_byte(line: &[u8]) -> bool
     ensures { result ≡ bad line.now }
 {

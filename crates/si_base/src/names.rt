@@ -67,8 +67,8 @@ impl Names {
 
     /// An empty list for the names of a text, of which this is the key.
     ///
-    /// A list that may grow long is made so; else one who writes the text may choose its names so that
-    /// each search is long.
+    /// A list that may grow long is made so; else one who writes the text may choose its names so
+    /// that each search is long.
     pub fn with_key(alloc: Global, key: TextKey) -> Names
         ensures { result ≡ [] }
     {
@@ -125,12 +125,15 @@ impl Names {
 
     /// The place of a name, which goes last if it is new.
     ///
-    /// `Full` comes exactly where the name is new and at least `limit` names are there. After a refusal the list is as before.
+    /// `Full` comes exactly where the name is new and at least `limit` names are there. After a
+    /// refusal the list is as before.
     pub fn add(&mut self, name: &[u8], limit: u32) -> Result<u32, AddFault>
         ensures placed { IfOk result (λ k. slice_get self.new k ≡ Some name.now) }
         ensures present { OnOk result (Contains self.old name.now → self.new ≡ self.old) }
-        ensures new { OnOk result (¬ Contains self.old name.now → self.new ≡ self.old ++ name.now ∷ []) }
-        ensures full { IsErrOf result AddFault.Full ↔ ((¬ Contains self.old name.now) × (limit ≤ length self.old)) }
+        ensures new { OnOk result (¬ Contains self.old name.now
+            → self.new ≡ self.old ++ name.now ∷ []) }
+        ensures full { IsErrOf result AddFault.Full
+            ↔ ((¬ Contains self.old name.now) × (limit ≤ length self.old)) }
         ensures err { OnErr result (self.new ≡ self.old) }
         ensures distinct { AllPairs (λ x y. x ≢ y) self.new }
     {

@@ -33,7 +33,8 @@ impl PartialOrd for Event {
 
     ghost partial_cmp = { as_partial_cmp event_cmp };
 
-    ghost laws = { partial_order_from_own_ties (Prim.search (comparing, rules) depth 9) (Prim.search (comparing, rules) depth 9) };
+    ghost laws = { partial_order_from_own_ties (Prim.search (comparing, rules) depth 9)
+        (Prim.search (comparing, rules) depth 9) };
 
     fn partial_cmp(&self, other: &Event) -> Option<Ordering> {
         Some(self.cmp(other))
@@ -70,7 +71,8 @@ impl PartialOrd for Edge {
 
     ghost partial_cmp = { as_partial_cmp edge_cmp };
 
-    ghost laws = { partial_order_from_own_ties (Prim.search (comparing, rules) depth 9) (Prim.search (comparing, rules) depth 9) };
+    ghost laws = { partial_order_from_own_ties (Prim.search (comparing, rules) depth 9)
+        (Prim.search (comparing, rules) depth 9) };
 
     fn partial_cmp(&self, other: &Edge) -> Option<Ordering> {
         Some(self.cmp(other))

@@ -7,7 +7,8 @@ use crate::ids::{NoMemory, StateId};
 use std::alloc::Global;
 use std::marker::Model;
 
-/// A set of states below its size. Contracts see it as a list that says of each state whether it is in the set.
+/// A set of states below its size. Contracts see it as a list that says of each state whether it is
+/// in the set.
 #[derive(Debug, Drop)]
 pub struct StateSet {
     flags: Vec<bool>,

@@ -29,7 +29,8 @@ impl<'a> Distinct<'a> {
     ghost use Rattle.si_checks.specs.Faults.{ShowsConflict};
     ghost use Rattle.si_checks.specs.Lent.{lent_graph};
 
-    /// The graph where it has no conflict (the book's complete state coding), or its first conflict.
+    /// The graph where it has no conflict (the book's complete state coding), or its first
+    /// conflict.
     pub fn make(alloc: Global, graph: &'a Proper) -> Result<Distinct<'a>, NotDistinct>
         ensures same { IfOk result (λ d. lent_graph d ≡ graph.now) }
         ensures distinct { IfOk result (λ d. HasNoConflict graph.now) }

@@ -16,4 +16,5 @@ pub record IsAbove (smaller : List Literal) (code : ℕ) (cube : List Literal) :
 -- the cube is above both, and each cube that is above both covers all that it covers
 pub record IsLeastAbove (smaller : List Literal) (code : ℕ) (cube : List Literal) : Type 0 where
   pub above : IsAbove smaller code cube
-  pub least : (other : List Literal) → IsAbove smaller code other → (c : ℕ) → Covers cube c → Covers other c
+  pub least : (other : List Literal) → IsAbove smaller code other → (c : ℕ) → Covers cube c
+      → Covers other c

@@ -4,11 +4,13 @@ use Rattle.si_base.specs.declared.ids.Literal.{Literal}
 use Rattle.si_base.specs.Limits.{code_width}
 use Rattle.si_base.specs.Bits.{bit}
 
--- a literal for each of the next signals, from the i-th on, that the cube cares for: plain where its value is 1
+-- a literal for each of the next signals, from the i-th on, that the cube cares for: plain where
+-- its value is 1
 abbrev pub literals_from : ℕ → ℕ → ℕ → ℕ → List Literal
 literals_from zero i care value = []
 literals_from (suc count) i care value =
-    if bit care i then record { sig = i; plain = bit value i } ∷ literals_from count (i + 1) care value
+    if bit care i then record { sig = i; plain = bit value i } ∷ literals_from count (i + 1) care
+    value
     else literals_from count (i + 1) care value
 
 unfoldable pub literals_of : ℕ → ℕ → List Literal
@@ -21,4 +23,5 @@ IsWithin care value = (i : ℕ) → bit value i ≡ true → bit care i ≡ true
 -- a literal for each of the next signals, from the i-th on, each true at the code
 abbrev pub full_literals : ℕ → ℕ → ℕ → List Literal
 full_literals zero i code = []
-full_literals (suc count) i code = record { sig = i; plain = bit code i } ∷ full_literals count (i + 1) code
+full_literals (suc count) i code =
+    record { sig = i; plain = bit code i } ∷ full_literals count (i + 1) code

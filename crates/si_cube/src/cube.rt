@@ -10,8 +10,8 @@ ghost use Rattle.si_cube.specs.Literals.{full_literals};
 use si_base::ids::{Code, Sig};
 use std::marker::Model;
 
-/// A cube: the signals that it cares for, and their values. Contracts see it as the list of its literals, in signal
-/// order.
+/// A cube: the signals that it cares for, and their values. Contracts see it as the list of its
+/// literals, in signal order.
 #[derive(Drop)]
 pub struct Cube {
     /// The signals that have a literal.
@@ -33,7 +33,8 @@ impl Model for Cube {
 }
 
 impl Cube {
-    /// The full cube of a code: a literal for each of the first `signals` signals, true at the code.
+    /// The full cube of a code: a literal for each of the first `signals` signals, true at the
+    /// code.
     pub fn of_code(code: Code, signals: usize) -> Cube
         requires { signals ≤ code_width }
         ensures { result ≡ full_literals signals 0 code }
@@ -52,7 +53,8 @@ impl Cube {
         code.0 & self.care.0 == self.value.0
     }
 
-    /// The least cube that covers the code and what this cube covers: its literals that are true at the code.
+    /// The least cube that covers the code and what this cube covers: its literals that are true at
+    /// the code.
     pub fn supercube(&self, code: Code) -> Cube
         ensures literals { result ≡ filter (literal_value code) self.now }
         ensures least { IsLeastAbove self.now code result }

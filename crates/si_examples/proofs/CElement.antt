@@ -18,13 +18,15 @@ use Rattle.std.proofs.lemmas.Bool.{and_parts, or_cases}
 use Rattle.si_base.proofs.Steps.{all_arcs, beq-true}
 
 abbrev signals : List Signal
-signals = record { name = codes "a"; kind = Input } ∷ record { name = codes "b"; kind = Input } ∷ record { name = codes "c"; kind = Output } ∷ []
+signals = record { name = codes "a"; kind = Input } ∷ record { name = codes "b"; kind = Input }
+    ∷ record { name = codes "c"; kind = Output } ∷ []
 
 abbrev c_element : StateGraph
 c_element = record {
   signals = signals;
   states = 8;
-  edges = arc 0 (rise 0) 1 ∷ arc 0 (rise 1) 2 ∷ arc 1 (rise 1) 3 ∷ arc 2 (rise 0) 3 ∷ arc 3 (rise 2) 4 ∷ arc 4 (fall 0) 5 ∷ arc 4 (fall 1) 6 ∷ arc 5 (fall 1) 7 ∷ arc 6 (fall 0) 7 ∷ arc 7 (fall 2) 0 ∷ [];
+  edges = arc 0 (rise 0) 1 ∷ arc 0 (rise 1) 2 ∷ arc 1 (rise 1) 3 ∷ arc 2 (rise 0) 3 ∷ arc 3 (rise 2) 4
+      ∷ arc 4 (fall 0) 5 ∷ arc 4 (fall 1) 6 ∷ arc 5 (fall 1) 7 ∷ arc 6 (fall 0) 7 ∷ arc 7 (fall 2) 0 ∷ [];
   start = 0;
 }
 
@@ -86,11 +88,16 @@ c_rises = record {
   named = refl;
   old_value = refl;
   new_values = refl;
-  may = (record { gate = (record { name = codes "c"; kind = Output }, refl, refl); differs = true≢false' }, record { step = s3_step; least = λ u step. leb-true 4 u (one_target u step) });
+  may = (
+    record { gate = (record { name = codes "c"; kind = Output }, refl, refl); differs = true≢false' },
+    record
+        { step = s3_step; least = λ u step. leb-true 4 u (one_target u step) },
+  );
 }
   where
     one_target : (u : ℕ) → Step c_element 3 (rise 2) u → nat_le 4 u ≡ true
-    one_target u step = all_arcs (λ a. not ((a.from == 3) && same_event a.event (rise 2)) || nat_le 4 a.to) c_element 3 (rise 2) u refl step
+    one_target u step = all_arcs (λ a. not ((a.from == 3) && same_event a.event (rise 2)) || nat_le 4 a.to) c_element 3
+        (rise 2) u refl step
 
 -- the wrong gate leads astray at s1
 astray : Fires c_element wrong (at_code 1 1) (rise 2) (record { values = 5; place = None })
@@ -101,7 +108,10 @@ astray = record {
   named = refl;
   old_value = refl;
   new_values = refl;
-  may = (record { gate = (record { name = codes "c"; kind = Output }, refl, refl); differs = true≢false' }, λ enabled. true≢false' (sym enabled));
+  may = (
+    record { gate = (record { name = codes "c"; kind = Output }, refl, refl); differs = true≢false' },
+    λ enabled. true≢false' (sym enabled),
+  );
 }
 
 a_rises : Fires c_element wrong (at_code 0 0) (rise 0) (at_code 1 1)
@@ -116,32 +126,47 @@ a_rises = record {
 }
   where
     one_target : (u : ℕ) → Step c_element 0 (rise 0) u → nat_le 1 u ≡ true
-    one_target u step = all_arcs (λ a. not ((a.from == 0) && same_event a.event (rise 0)) || nat_le 1 a.to) c_element 0 (rise 0) u refl step
+    one_target u step = all_arcs (λ a. not ((a.from == 0) && same_event a.event (rise 0)) || nat_le 1 a.to) c_element 0
+        (rise 0) u refl step
 
 -- so the wrong netlist isn't bisimilar to the graph
 wrong_refuted : IsBisimilar c_element wrong → ⊥
-wrong_refuted is = absurd (true≢false' (sym (is.never_astray (record { values = 5; place = None }) (rise 0 ∷ rise 2 ∷ [], (at_code 1 1, a_rises, ((record { values = 5; place = None }), astray, refl))))))
+wrong_refuted is =
+    absurd
+    (true≢false'
+    (sym (is.never_astray (record { values = 5; place = None })
+    (rise 0 ∷ rise 2 ∷ [], (at_code 1 1, a_rises, ((record { values = 5; place = None }), astray, refl))))))
 
 -- ---- a walk, values, a conflict
 -- a+, b+ and c+ lead from the start to s4
 s4_reachable : IsReachable c_element 4
-s4_reachable = (rise 0 ∷ rise 1 ∷ rise 2 ∷ [], (1, (0, lit< tt, refl), (3, (2, lit< tt, refl), (4, (4, lit< tt, refl), refl))))
+s4_reachable =
+    (rise 0 ∷ rise 1 ∷ rise 2 ∷ [], (1, (0, lit< tt, refl), (3, (2, lit< tt, refl), (4, (4, lit< tt, refl), refl))))
 
 -- the value of a in the codes suits the arcs
 a_values : AreValues c_element 0 (λ s. bit (code coded s) 0)
 a_values = record {
   rises = λ s t step. (
-      let both = and_parts _ _ (all_arcs (λ x. not (same_event x.event (rise 0)) || (not (bit (code coded x.from) 0) && bit (code coded x.to) 0)) c_element s (rise 0) t refl step) in
+      let both =
+      and_parts _ _
+      (all_arcs (λ x. not (same_event x.event (rise 0))
+      || (not (bit (code coded x.from) 0) && bit (code coded x.to) 0)) c_element s (rise 0) t refl step) in
       (not-true _ both.0, both.1));
   falls = λ s t step. (
-      let both = and_parts _ _ (all_arcs (λ x. not (same_event x.event (fall 0)) || (bit (code coded x.from) 0 && not (bit (code coded x.to) 0))) c_element s (fall 0) t refl step) in
+      let both =
+      and_parts _ _
+      (all_arcs (λ x. not (same_event x.event (fall 0))
+      || (bit (code coded x.from) 0 && not (bit (code coded x.to) 0))) c_element s (fall 0) t refl step) in
       (both.0, not-true _ both.1));
-  keeps = λ s t e other step. kept e (bit (code coded s) 0) (bit (code coded t) 0) other (all_arcs (λ x. (x.event.sig == 0) || beq (bit (code coded x.to) 0) (bit (code coded x.from) 0)) c_element s e t refl step);
+  keeps = λ s t e other step. kept e (bit (code coded s) 0) (bit (code coded t) 0) other
+      (all_arcs (λ x. (x.event.sig == 0) || beq (bit (code coded x.to) 0) (bit (code coded x.from) 0)) c_element s e t
+      refl step);
   idle = λ idle s within. absurd (idle 0 (rise 0) 1 (0, lit< tt, refl) refl);
 }
   where
     kept : (e : Event) (v w : Bool) → (e.sig ≡ 0 → ⊥) → ((e.sig == 0) || beq w v) ≡ true → w ≡ v
-    kept e v w other h = elim (or_cases (e.sig == 0) (beq w v) h) [ inl same ↦ absurd (other (eqb-true _ _ same)) | inr equal ↦ beq-true w v equal ]
+    kept e v w other h = elim (or_cases (e.sig == 0) (beq w v) h)
+        [ inl same ↦ absurd (other (eqb-true _ _ same)) | inr equal ↦ beq-true w v equal ]
 
 -- two pulses of a, and z rises after the first alone: s0 and s2 have the code 00, and s2 alone enables z+
 abbrev pulses : CodedGraph
@@ -149,7 +174,8 @@ pulses = record {
   graph = record {
     signals = record { name = codes "a"; kind = Input } ∷ record { name = codes "z"; kind = Output } ∷ [];
     states = 6;
-    edges = arc 0 (rise 0) 1 ∷ arc 1 (fall 0) 2 ∷ arc 2 (rise 1) 3 ∷ arc 3 (rise 0) 4 ∷ arc 4 (fall 0) 5 ∷ arc 5 (fall 1) 0 ∷ [];
+    edges = arc 0 (rise 0) 1 ∷ arc 1 (fall 0) 2 ∷ arc 2 (rise 1) 3 ∷ arc 3 (rise 0) 4 ∷ arc 4 (fall 0) 5
+        ∷ arc 5 (fall 1) 0 ∷ [];
     start = 0;
   };
   codes = 0 ∷ 1 ∷ 0 ∷ 2 ∷ 3 ∷ 2 ∷ [];
@@ -169,10 +195,12 @@ pulses_conflict = record {
 bytes_by_name : (space ∷ hash ∷ apostrophe ∷ plus ∷ minus ∷ dot ∷ slash ∷ at_sign ∷ underscore ∷ []) ≡ codes " #'+-./@_"
 bytes_by_name = refl
 
-bounds_by_name : (first_visible ∷ digit_zero ∷ digit_one ∷ digit_nine ∷ first_capital ∷ last_capital ∷ first_small ∷ last_small ∷ tilde ∷ []) ≡ codes "!019AZaz~"
+bounds_by_name : (first_visible ∷ digit_zero ∷ digit_one ∷ digit_nine ∷ first_capital ∷ last_capital ∷ first_small
+    ∷ last_small ∷ tilde ∷ []) ≡ codes "!019AZaz~"
 bounds_by_name = refl
 
-pairs_by_name : (less_sign ∷ greater_sign ∷ opening_bracket ∷ closing_bracket ∷ opening_brace ∷ closing_brace ∷ line_feed ∷ []) ≡ codes "<>[]{}\n"
+pairs_by_name : (less_sign ∷ greater_sign ∷ opening_bracket ∷ closing_bracket ∷ opening_brace ∷ closing_brace
+    ∷ line_feed ∷ []) ≡ codes "<>[]{}\n"
 pairs_by_name = refl
 
 three_ones : ones 3 ≡ 7
@@ -183,9 +211,12 @@ b_changes : parity (rise 0 ∷ rise 1 ∷ fall 0 ∷ []) ≡ 2
 b_changes = refl
 
 -- ---- the text of the netlist
-majority_text : netlist_text majority ≡ codes ".version 2\n.model c2\n.inputs a b\n.outputs c\n.internal\n.inserted\n.start 000\n.gates\nc sum a b + b c + a c\n.end\n"
+majority_text : netlist_text majority ≡ codes
+    ".version 2\n.model c2\n.inputs a b\n.outputs c\n.internal\n.inserted\n.start 000\n.gates\nc sum a b + b c + a c\n.end\n"
 unfolding netlist_text
 majority_text = refl
 
-majority_in_version_1 : netlist_text_in Version1 majority ≡ codes ".model c2\n.inputs a b\n.outputs c\n.internal\n.inserted\n.start 000\n.gates\nc sum a b + b c + a c\n.end\n"
+majority_in_version_1 : netlist_text_in Version1 majority
+    ≡ codes
+    ".model c2\n.inputs a b\n.outputs c\n.internal\n.inserted\n.start 000\n.gates\nc sum a b + b c + a c\n.end\n"
 majority_in_version_1 = refl

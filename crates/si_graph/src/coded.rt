@@ -141,8 +141,8 @@ impl Coded {
         self.codes[s.0 as usize]
     }
 
-    /// The next value of a signal: 1 if it is about to rise, or if it is 1 and not about to fall (the book's next-state
-    /// function).
+    /// The next value of a signal: 1 if it is about to rise, or if it is 1 and not about to fall
+    /// (the book's next-state function).
     pub fn next_value(&self, s: StateId, z: Sig) -> bool
         requires state { s < self.now.graph.states }
         requires signal { z < length self.now.graph.signals }

@@ -15,7 +15,8 @@ digit_is_name_byte c low high =
     let digit : is_between digit_zero digit_nine c ≡ true = and_from _ _ (le-leb 48 c low) (le-leb c 57 high) in
     let early : (is_letter c || is_between digit_zero digit_nine c) ≡ true = or_right (is_letter c) _ digit in
     let others : Bool → Bool =
-    λ b. b || (c == dot) || (c == opening_bracket) || (c == closing_bracket) || (c == less_sign) || (c == greater_sign) in
+    λ b. b || (c == dot) || (c == opening_bracket) || (c == closing_bracket) || (c == less_sign)
+    || (c == greater_sign) in
     ap others early
 
 all_name_bytes : (ds : List ℕ) → AllDigits 10 ds → list_all is_name_byte ds ≡ true
@@ -31,11 +32,13 @@ all_append (x ∷ xs) ys first rest =
     let parts = and_parts (is_name_byte x) (list_all is_name_byte xs) first in
     and_from _ _ parts.0 (all_append xs ys parts.1 rest)
 
-numbered : (stem : List ℕ) (k : ℕ) → k < 2 ^ 64 → IsTrue (is_signal_name stem) → IsTrue (is_signal_name (stem ++ decimal k))
+numbered : (stem : List ℕ) (k : ℕ) → k < 2 ^ 64 → IsTrue (is_signal_name stem)
+    → IsTrue (is_signal_name (stem ++ decimal k))
 numbered [] k small is = absurd (true≢false (sym is))
 numbered (b ∷ stem) k small is =
     let parts = and_parts (is_letter b) (list_all is_name_byte stem) is in
-    and_from _ _ parts.0 (all_append stem (decimal k) parts.1 (all_name_bytes (decimal k) (decimal_is_IsNumeral k small).0.1))
+    and_from _ _ parts.0 (all_append stem (decimal k) parts.1
+    (all_name_bytes (decimal k) (decimal_is_IsNumeral k small).0.1))
 
 -- the stem with a number no higher than the number of signals
 pub stays_signal_name : (names signals : List Signal) (stem name : List ℕ) (k : ℕ) → names ≡ signals

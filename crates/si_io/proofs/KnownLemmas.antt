@@ -8,7 +8,8 @@ use Rattle.si_io.specs.Outside.{IsContent}
 
 -- a part more of the piece is done
 pub done_more : (piece done rest : List ℕ) (n : ℕ) → piece ≡ done ++ rest → piece ≡ (done ++ take n rest) ++ drop n rest
-done_more piece done rest n parts = parts ∙ ap (λ (l : List ℕ). done ++ l) (sym (take-append-drop n rest)) ∙ sym (append_assoc done (take n rest) (drop n rest))
+done_more piece done rest n parts = parts ∙ ap (λ (l : List ℕ). done ++ l) (sym (take-append-drop n rest))
+    ∙ sym (append_assoc done (take n rest) (drop n rest))
 
 -- nothing more was written
 pub kept_appends : (a b : Option (List ℕ)) → Keeps a b → Appends a b []
@@ -17,19 +18,26 @@ kept_appends (Some p) None kept = absurd kept
 kept_appends (Some p) (Some q) kept = kept ∙ sym (append-nil p)
 
 -- a write appended a prefix, whatever it answered
-pub some_written : {E : Type 0} (a b : Option (List ℕ)) (answer : Result ℕ E) (piece : List ℕ) → WriteAppends a b answer piece → (k : ℕ) × Appends a b (take k piece)
+pub some_written : {E : Type 0} (a b : Option (List ℕ)) (answer : Result ℕ E) (piece : List ℕ)
+    → WriteAppends a b answer piece → (k : ℕ) × Appends a b (take k piece)
 some_written a b (Ok n) piece written = (n, written)
 some_written a b (Err e) piece kept = (0, kept_appends a b kept)
 
 -- a write after a part of the piece leaves a prefix of it
-pub prefix_written : {E : Type 0} (a b c : Option (List ℕ)) (piece done rest : List ℕ) (answer : Result ℕ E) → piece ≡ done ++ rest → Appends a b done → WriteAppends b c answer rest → (k : ℕ) × Appends a c (take k piece)
+pub prefix_written : {E : Type 0} (a b c : Option (List ℕ)) (piece done rest : List ℕ) (answer : Result ℕ E)
+    → piece ≡ done ++ rest → Appends a b done → WriteAppends b c answer rest → (k : ℕ) × Appends a c (take k piece)
 prefix_written a b c piece done rest answer parts before written =
-    let more = some_written b c answer rest written in
-    (length done + more.0, rw (parts, take-append-add done rest more.0) (Appends-trans a b c done (take more.0 rest) before more.1))
+    let more = some_written b c answer rest written in (
+      length done + more.0,
+      rw (parts, take-append-add done rest more.0)
+          (Appends-trans a b c done (take more.0 rest) before more.1),
+    )
 
 -- what was done is a prefix of the piece
-pub prefix_kept : (a b c : Option (List ℕ)) (piece done rest : List ℕ) → piece ≡ done ++ rest → Appends a b done → Keeps b c → (k : ℕ) × Appends a c (take k piece)
-prefix_kept a b c piece done rest parts before kept = (length done, rw (parts, take-append_seam done rest) (Appends-kept a b c done before kept))
+pub prefix_kept : (a b c : Option (List ℕ)) (piece done rest : List ℕ) → piece ≡ done ++ rest → Appends a b done
+    → Keeps b c → (k : ℕ) × Appends a c (take k piece)
+prefix_kept a b c piece done rest parts before kept =
+    (length done, rw (parts, take-append_seam done rest) (Appends-kept a b c done before kept))
 
 -- a reader that is at its end gave its content
 pub content_at_end : (a b : Option (List ℕ)) (bytes : List ℕ) → Consumes a b bytes → IsAtEnd b → IsContent a bytes
@@ -38,22 +46,36 @@ content_at_end (Some p) None bytes one end = absurd one
 content_at_end (Some p) (Some q) bytes one end = sym (one ∙ ap (λ (l : List ℕ). bytes ++ l) end ∙ append-nil bytes)
 
 -- a reader that gave more than the limit has more
-pub content_beyond : (a b : Option (List ℕ)) (bytes : List ℕ) (limit : ℕ) → Consumes a b bytes → limit < length bytes → IfSome a (λ c. limit < length c)
+pub content_beyond : (a b : Option (List ℕ)) (bytes : List ℕ) (limit : ℕ) → Consumes a b bytes → limit < length bytes
+    → IfSome a (λ c. limit < length c)
 content_beyond None b bytes limit one more = tt
 content_beyond (Some p) None bytes limit one more = absurd one
 content_beyond (Some p) (Some q) bytes limit one more = omega (arith, ap length one, length-append bytes q)
 
 -- a read of nothing adds nothing
-pub consumed_same : (a b c : Option (List ℕ)) (bytes buffer : List ℕ) (n : ℕ) → n ≡ 0 → Consumes a b bytes → Consumes b c (take n buffer) → Consumes a c bytes
+pub consumed_same : (a b c : Option (List ℕ)) (bytes buffer : List ℕ) (n : ℕ) → n ≡ 0 → Consumes a b bytes
+    → Consumes b c (take n buffer) → Consumes a c bytes
 consumed_same a b c bytes buffer n none before read =
     let P : ℕ → Type 0 = λ k. Consumes b c (take k buffer) in
     subst (Consumes a c) (append-nil bytes) (Consumes-trans a b c bytes [] before (subst P none read))
 
 -- what was read into the front of a buffer was appended
-pub appended : (ok : Bool) (new old front rest : List ℕ) (n : ℕ) → ok ≡ true → n ≤ length front → new ≡ (if ok then old ++ take n (front ++ rest) else old) → new ≡ old ++ take n front
-appended true new old front rest n well within is = is ∙ ap (λ (l : List ℕ). old ++ l) (take-append-le n front rest within)
+pub appended : (ok : Bool) (new old front rest : List ℕ) (n : ℕ) → ok ≡ true → n ≤ length front
+    → new ≡ (if ok then old ++ take n (front ++ rest) else old) → new ≡ old ++ take n front
+appended true new old front rest n well within is =
+    is ∙ ap (λ (l : List ℕ). old ++ l) (take-append-le n front rest within)
 appended false new old front rest n well within is = cc
 
 -- what was read and appended has room, where the part of the buffer that was lent for it has
-pub still_within : (new old front buffer : List ℕ) (n size limit : ℕ) → new ≡ old ++ take n front → length front ≡ length (take size buffer) → length old + size ≤ limit + 1 → length new ≤ limit + 1
-still_within new old front buffer n size limit joined lent room = omega (arith, ap length joined, length-append old (take n front), length-take n front, lent, length-take size buffer)
+pub still_within : (new old front buffer : List ℕ) (n size limit : ℕ) → new ≡ old ++ take n front
+    → length front ≡ length (take size buffer) → length old + size ≤ limit + 1 → length new ≤ limit + 1
+still_within new old front buffer n size limit joined lent room =
+    omega (
+      arith,
+      ap length joined,
+      length-append old (take n front),
+      length-take n front,
+      lent,
+      length-take size
+          buffer,
+    )

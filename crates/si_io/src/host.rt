@@ -1,4 +1,5 @@
-//! Files of the host's file store, and its writers: the trusted edge. Nothing is told of their bytes.
+//! Files of the host's file store, and its writers: the trusted edge. Nothing is told of their
+//! bytes.
 
 ghost use Rattle.std.specs.Prelude.{◌≡◌, ◌≢◌, ℕ, ◌+◌, ◌^◌, ◌<◌, ◌≤◌, take, None, OnOk, Err};
 ghost use Rattle.std.specs.Io.KnownBytes.{Appends};
@@ -12,8 +13,9 @@ use std::fs;
 use std::io::Write;
 use std::rt::Files;
 
-/// The files of a runtime. One count of faults serves for every name. What a load answers is what a file of the runtime
-/// holds, or `Failed`; which file it is no contract says, as `fs::open` tells nothing.
+/// The files of a runtime. One count of faults serves for every name. What a load answers is what a
+/// file of the runtime holds, or `Failed`; which file it is no contract says, as `fs::open` tells
+/// nothing.
 #[derive(Drop)]
 pub struct HostShelf<'a, R> {
     rt: &'a R,
@@ -38,7 +40,8 @@ impl<R: Files> Shelf for HostShelf<'_, R> {
     fn load(&mut self, alloc: Global, name: &str, limit: u64) -> Result<Vec<u8>, LoadFault>
         requires { limit + 1 < 2 ^ 64 }
         ensures load { IsLoad None limit self.old.faults self.new.faults result }
-        ensures opened { result ≢ Err LoadFault.Failed → (file : R.File) × IsLoad (R.File.remaining file) limit self.old.faults self.new.faults result }
+        ensures opened { result ≢ Err LoadFault.Failed → (file : R.File)
+            × IsLoad (R.File.remaining file) limit self.old.faults self.new.faults result }
         ensures taken { (taken : ℕ) → result ≡ Err (LoadFault.TooLong taken) → taken ≡ limit + 1 }
         ensures rises { result ≡ Err LoadFault.Failed → self.new.faults ≡ one_more self.old.faults }
         ensures stays { result ≢ Err LoadFault.Failed → self.new.faults ≡ self.old.faults }
@@ -52,8 +55,8 @@ impl<R: Files> Shelf for HostShelf<'_, R> {
     }
 }
 
-/// A writer of the host. It never answers `NoMemory`. To a writer that tells the bytes that it holds, a put that answers
-/// `Ok` appended the piece, and one that fails a prefix of it.
+/// A writer of the host. It never answers `NoMemory`. To a writer that tells the bytes that it
+/// holds, a put that answers `Ok` appended the piece, and one that fails a prefix of it.
 #[derive(Drop)]
 pub struct HostSink<W> {
     writer: W,
@@ -77,8 +80,10 @@ impl<W: Write> Sink for HostSink<W> {
 
     fn put(&mut self, piece: &[u8]) -> Result<(), PutFault>
         ensures has_memory { result ≢ Err PutFault.NoMemory }
-        ensures written { OnOk result (Appends (W.contents self.old.writer) (W.contents self.new.writer) piece.now) }
-        ensures part { result ≡ Err PutFault.Failed → (k : ℕ) × Appends (W.contents self.old.writer) (W.contents self.new.writer) (take k piece.now) }
+        ensures written { OnOk result
+            (Appends (W.contents self.old.writer) (W.contents self.new.writer) piece.now) }
+        ensures part { result ≡ Err PutFault.Failed → (k : ℕ)
+            × Appends (W.contents self.old.writer) (W.contents self.new.writer) (take k piece.now) }
         ensures rises { result ≡ Err PutFault.Failed → self.new.faults ≡ one_more self.old.faults }
         ensures stays { result ≢ Err PutFault.Failed → self.new.faults ≡ self.old.faults }
         ensures later { self.old.faults ≤ self.new.faults }

@@ -22,8 +22,9 @@ fn new_chunk(alloc: Global) -> Result<Vec<u8>, LoadFault>
     }
 }
 
-/// All bytes that a reader has left, where they are at most `limit`. At most `limit + 1` of them are taken, whatever the
-/// answer. A call of `read` that fails ends it with `Failed`, and raises the count of faults.
+/// All bytes that a reader has left, where they are at most `limit`. At most `limit + 1` of them
+/// are taken, whatever the answer. A call of `read` that fails ends it with `Failed`, and raises
+/// the count of faults.
 pub fn read_all<R: Read>(
     alloc: Global,
     reader: &mut R,
@@ -32,8 +33,11 @@ pub fn read_all<R: Read>(
 ) -> Result<Vec<u8>, LoadFault>
     requires { limit + 1 < 2 ^ 64 }
     ensures load { IsLoad (R.remaining reader.old) limit faults.old faults.new result }
-    ensures whole { IfOk result (λ v. Consumes (R.remaining reader.old) (R.remaining reader.new) v.items × IsAtEnd (R.remaining reader.new)) }
-    ensures part { (part : List ℕ) × Consumes (R.remaining reader.old) (R.remaining reader.new) part × (length part ≤ limit + 1) }
+    ensures whole { IfOk result
+        (λ v. Consumes (R.remaining reader.old) (R.remaining reader.new) v.items
+        × IsAtEnd (R.remaining reader.new)) }
+    ensures part { (part : List ℕ) × Consumes (R.remaining reader.old) (R.remaining reader.new) part
+        × (length part ≤ limit + 1) }
     ensures taken { (taken : ℕ) → result ≡ Err (LoadFault.TooLong taken) → taken ≡ limit + 1 }
     ensures rises { result ≡ Err LoadFault.Failed → faults.new ≡ one_more faults.old }
     ensures stays { result ≢ Err LoadFault.Failed → faults.new ≡ faults.old }

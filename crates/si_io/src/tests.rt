@@ -1,4 +1,5 @@
-//! The forms in memory, reading, and the host's forms against small readers and writers and a real file.
+//! The forms in memory, reading, and the host's forms against small readers and writers and a real
+//! file.
 
 ghost use Rattle.std.specs.Prelude.{IfOk};
 ghost use Rattle.si_io.specs.Memory.{AreDistinct};
@@ -63,7 +64,8 @@ fn sinks_in_memory(rt: HostRuntime) -> Result<(), Fail> {
     Ok(())
 }
 
-/// How a reader or a writer behaves: it takes at most `most` bytes a call, and its calls of these numbers, from 1, fail.
+/// How a reader or a writer behaves: it takes at most `most` bytes a call, and its calls of these
+/// numbers, from 1, fail.
 #[derive(Clone, Copy)]
 struct Habit {
     most: usize,

@@ -39,7 +39,8 @@ use Rattle.si_listings.specs.Words.{event_word}
 literal_place : Literal → List ℕ
 literal_place l = l.sig ∷ []
 
-in_places : (cube : List Literal) → InSignalOrder cube → AllPairs (λ k l. Before (literal_place k) (literal_place l)) cube
+in_places : (cube : List Literal) → InSignalOrder cube
+    → AllPairs (λ k l. Before (literal_place k) (literal_place l)) cube
 unfolding literal_place
 in_places cube order = λ i j d before within. inl (order i j d before within)
 
@@ -200,7 +201,8 @@ mono_more signals states z xs k number x old text new within at so_far number_is
     take_more xs k x within ∙ ap (λ y. take k xs ++ y ∷ []) (sym at) in
     let left : monos_from signals states z xs k ≡ lines number ++ monos_from signals states z xs (k + 1) =
     ap (λ (l : List Component). text_of (monos_after signals states z (take k xs) l)) one
-    ∙ flat_map-append line (mono_lines signals states z (number_after (regions_of (take k xs)) x.region) x.region x.told)
+    ∙ flat_map-append line (mono_lines signals states z (number_after (regions_of (take k xs)) x.region) x.region
+    x.told)
     (monos_after signals states z (take k xs ++ x ∷ []) (drop (k + 1) xs))
     ∙ ap₂ (λ (a b : List ℕ). a ++ b) (ap lines (sym number_is)) (ap rest (sym more)) in
     ap (λ (t : List ℕ). t ++ monos_from signals states z xs (k + 1)) is

@@ -71,7 +71,8 @@ weight_next library v p u m =
     let ins = m.inserts in
     let P : List Class → Type 0 = λ classes. LeavesWeight v.coded library classes m.choice.weight in
     let leaves = subst P (sym m.classes_are) m.best.holds.leaves in
-    let Q : Current → Type 0 = λ x. weight_of (coded v.coded ins.copies ins.graph) library ≡ weight_of x.coded library in
+    let Q : Current → Type 0 = λ x. weight_of (coded v.coded ins.copies ins.graph) library
+    ≡ weight_of x.coded library in
     let here : LeavesWeight v.coded library p.partition (weight_of u.coded library) =
     record {
       new = new_signal p.name;
@@ -127,7 +128,8 @@ module _ (one_best : BestIsUnique) where
       let P : Current → Type 0 = λ k. IsFirstUnfit k.coded library z in
       (same.0, same.1, first_is_one w.coded library y z a.stuck.first (subst P (sym same.1) b.stuck.first))
 
-  pub ends_exclude : (library : Library) (v : Current) (xs ys : List TraceStep) (w u : Current) (z : ℕ) → IsCoded v.coded
+  pub ends_exclude : (library : Library) (v : Current) (xs ys : List TraceStep) (w u : Current) (z : ℕ)
+      → IsCoded v.coded
       → MapsTo library v xs w → EndsUnmapped library v ys u z → ⊥
   ends_exclude library v xs ys w u z is a b =
       let same = one_trace library v xs ys w u is a.goes b.goes (inl a.done) (inr (z, b.stuck)) in

@@ -36,7 +36,8 @@ pub record LeavesWeight (c : CodedGraph) (library : Library) (classes : List Cla
   pub insertion : IsInsertedGraph c.graph classes new copies graph
   pub weighs : weight_of (coded c copies graph) library ≡ n
 
--- a signal, the place of one of its divisors, the partition for that, and the weight that this leaves
+-- a signal, the place of one of its divisors, the partition for that, and the weight that this
+-- leaves
 pub record Choice : Type 0 where
   pub signal : ℕ
   pub place : ℕ

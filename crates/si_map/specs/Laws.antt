@@ -15,7 +15,8 @@ use Rattle.si_map.specs.Trace.{IsMapping, MapsTo, EndsUnmapped}
 
 -- each signal that the circuit drives fits a cell, or there is a first that doesn't, and one only
 abbrev pub FitOrNot : Type 0
-FitOrNot = (c : CodedGraph) (library : Library) → AllFit c library ⊎ ((z : ℕ) × IsFirstUnfit c library z)
+FitOrNot = (c : CodedGraph) (library : Library) → AllFit c library
+    ⊎ ((z : ℕ) × IsFirstUnfit c library z)
 
 abbrev pub FirstUnfitIsUnique : Type 0
 FirstUnfitIsUnique = (c : CodedGraph) (library : Library) (y z : ℕ)

@@ -43,7 +43,8 @@ from_map f y [] here = absurd here
 from_map f y (x ∷ xs) (inl same) = (x, inl refl, same)
 from_map f y (x ∷ xs) (inr later) = let (z, there, same) = from_map f y xs later in (z, inr there, same)
 
-pub in_flat : {A B : Type 0} (f : A → List B) (x : A) (y : B) (xs : List A) → In x xs → In y (f x) → In y (flat_map f xs)
+pub in_flat : {A B : Type 0} (f : A → List B) (x : A) (y : B) (xs : List A) → In x xs → In y (f x)
+    → In y (flat_map f xs)
 in_flat f x y [] here there = absurd here
 in_flat f x y (z ∷ xs) (inl same) there = rw flat_map-cons (in_left y (f z) (flat_map f xs) (subst (λ w. In y
     (f w)) same there))

@@ -25,8 +25,8 @@ pub enum NamedBreach {
     Inconsistent {
         signal: Name,
     },
-    /// The state leads by `first` and then `second` to `one`, and by `second` and then `first` to another state,
-    /// `other`.
+    /// The state leads by `first` and then `second` to `one`, and by `second` and then `first` to
+    /// another state, `other`.
     Noncommutative {
         state: Name,
         first: Text,

@@ -1,5 +1,5 @@
--- Regions at work: an input pulses twice, and an output switches after each pulse. Each of the two components of `a+` is
--- one state, and as `a` falls at once nothing rests after it.
+-- Regions at work: an input pulses twice, and an output switches after each pulse. Each of the two components of `a+`
+-- is one state, and as `a` falls at once nothing rests after it.
 use Rattle.std.proofs.Common.{◌≡◌, ℕ, ◌==◌, ◌&&◌, ◌||◌, not, Bool, true, List, [], ◌∷◌, Contains, refl, sym, subst, ◌∙◌, lit<, eqb-true, arith, inl, inr}
 use Rattle.std.proofs.lemmas.Bool.{or_cases, true≢false}
 use Rattle.std.specs.List.Sorted.{IsStrictlySortedBy}

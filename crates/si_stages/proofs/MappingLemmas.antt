@@ -148,7 +148,8 @@ is_mapping library text sg c l m output good given sound resolves maps is =
     }
 
 -- the library that a text without fault spells
-pub is_library : (text : List ℕ) (library : Library) → library_fault text ≡ None → library ≡ library_of text → IsLibrary library
+pub is_library : (text : List ℕ) (library : Library) → library_fault text ≡ None → library ≡ library_of text
+    → IsLibrary library
 is_library text library none is = subst IsLibrary (sym is) (text_is_library text none)
 
 -- ---- one result
@@ -161,7 +162,8 @@ one_lineage l m n xs ys one other traces currents =
 one_mapped : (library : Library) (l m n : History) → IsCoded l.current.coded → IsMappedTo library l m
     → IsMappedTo library l n → m ≡ n
 one_mapped library l m n is one other =
-    let same = mapped_is_unique one_best library l.current one.trace other.trace m.current n.current is one.maps other.maps in
+    let same = mapped_is_unique one_best library l.current one.trace other.trace m.current n.current is one.maps
+    other.maps in
     one_lineage l m n one.trace other.trace one.goes other.goes same.0 same.1
 
 never_both : (library : Library) (l m n : History) (z : ℕ) → IsCoded l.current.coded → IsMappedTo library l m
@@ -181,7 +183,8 @@ mapped_one library given coded l is (Ok a) (Err r) one (n, z, other, at) =
 mapped_one library given coded l is (Err r) (Ok b) (m, z, one, at) other =
     absurd (never_both library l other.lineage m z is other.maps one)
 mapped_one library given coded l is (Err r) (Err q) (m, y, one, at) (n, z, other, by) =
-    let same = unmapped_is_unique one_best library l.current one.trace other.trace m.current n.current y z is one.ends other.ends in
+    let same = unmapped_is_unique one_best library l.current one.trace other.trace m.current n.current y z is one.ends
+    other.ends in
     let lineages = one_lineage l m n one.trace other.trace one.goes other.goes same.0 same.1 in
     ap Err (at ∙ ap₂ (signal_told given.states) lineages same.2 ∙ sym by)
 

@@ -101,8 +101,11 @@ free_mapped file text library cells given coded is none sound free fit =
     let maps : IsMappedTo spelled own own =
     record { trace = []; goes = goes; maps = record { goes = refl; done = fit } } in
     let made = is_mapping spelled text given coded own own (netlist_text netlist) (text_is_library cells none) is sound
-    resolves maps refl in
-    (netlist_text netlist, Passes given is (Passes spelled (none, refl) (Passes coded sound (Passes own resolves made))))
+    resolves maps refl in (
+      netlist_text netlist,
+      Passes given is
+          (Passes spelled (none, refl) (Passes coded sound (Passes own resolves made))),
+    )
 
 pub replay_some : (g a n b s c : List ℕ) → HasResult (replay g a n b s c)
 replay_some g a n b s c = then_some _ _ (graph_some g a) (λ given is. then_some _ _ (spelled_some n _ _)

@@ -26,16 +26,18 @@ use si_refusals::refusals::Refusal;
 use si_sg::read::Sg;
 use std::alloc::Global;
 
-/// The text of the netlist of the graph that the text spells, with its conflicts resolved and further signals inserted
-/// until each that the circuit drives fits a cell, and of the first fitting instances of the library that the other text
-/// spells. A refusal shows the names of the texts' files.
+/// The text of the netlist of the graph that the text spells, with its conflicts resolved and
+/// further signals inserted until each that the circuit drives fits a cell, and of the first
+/// fitting instances of the library that the other text spells. A refusal shows the names of the
+/// texts' files.
 ///
 /// # Errors
 ///
-/// `BadText` with the first fault of the texts in their order, else `Improper` exactly where the graph isn't proper,
-/// with its first breach, else `Unresolved` exactly where resolving leaves a conflict, with the first that is left and
-/// the insertions, else `Unmapped` exactly where some signal that the circuit drives fits no cell and no divisor serves,
-/// with the first and the insertions. `NoMemory` only where memory runs out.
+/// `BadText` with the first fault of the texts in their order, else `Improper` exactly where the
+/// graph isn't proper, with its first breach, else `Unresolved` exactly where resolving leaves a
+/// conflict, with the first that is left and the insertions, else `Unmapped` exactly where some
+/// signal that the circuit drives fits no cell and no divisor serves, with the first and the
+/// insertions. `NoMemory` only where memory runs out.
 pub fn map_texts<'w>(
     alloc: Global,
     graph_file: &'w str,
@@ -60,7 +62,8 @@ pub fn map_texts<'w>(
     Ok(output)
 }
 
-/// The text of the netlist of cells that mapping makes for the lineage, or the first signal that fits none.
+/// The text of the netlist of cells that mapping makes for the lineage, or the first signal that
+/// fits none.
 fn cells_text(
     alloc: Global,
     resolved: Resolved,

@@ -46,7 +46,8 @@ pub record WordsComeTo (words : List (String Global)) (loading : LoadStage)
   pub asks : Asks words asked
   pub comes : ComesTo loading asked answer
 
--- a call that does the work of a command may stop so: with a refusal to which it comes, or memory ran out
+-- a call that does the work of a command may stop so: with a refusal to which it comes, or memory
+-- ran out
 abbrev pub MayStopCommand : LoadStage → Asked → Ending → Type 0
 MayStopCommand loading asked NoMemory = Unit {0}
 MayStopCommand loading asked (Answered (FileRefused refusal)) =

@@ -31,17 +31,20 @@ module _ (p : List ℕ → Bool) (names : List (List ℕ)) where
     | inr past ↦ absurd (grind arith)
   ]
 
-module _ (names : List (List ℕ)) (word name sign : List ℕ) (named : name ≡ event_name word) (signed : sign ≡ event_sign word) (good : is_signal_name name ≡ true) (directed : sign_fault sign ≡ None) where
+module _ (names : List (List ℕ)) (word name sign : List ℕ) (named : name ≡ event_name word)
+    (signed : sign ≡ event_sign word) (good : is_signal_name name ≡ true) (directed : sign_fault sign ≡ None) where
   pub is_undeclared : None ≡ position (λ n. bytes_eq name n) names → event_fault names word ≡ Some Undeclared
   is_undeclared none =
       let absent : stands_in names name ≡ false = none_passes (λ n. bytes_eq name n) names none in
       rw (← named, ← signed, good, directed, absent) refl
 
-  pub is_event : (place : ℕ) (up : Bool) → Some place ≡ position (λ n. bytes_eq name n) names → up ≡ is_up sign → (event_fault names word ≡ None) × (record { sig = place; up = up } ≡ event_of names word)
+  pub is_event : (place : ℕ) (up : Bool) → Some place ≡ position (λ n. bytes_eq name n) names → up ≡ is_up sign
+      → (event_fault names word ≡ None) × (record { sig = place; up = up } ≡ event_of names word)
   is_event place up some rises =
       let there : stands_in names name ≡ true = some_passes (λ n. bytes_eq name n) names place some in
       let make : ℕ → Bool → Event = λ a b. record { sig = a; up = b } in
-      let at : place ≡ unwrap_or (position (λ n. bytes_eq name n) names) 0 = ap (λ (k : Option ℕ). unwrap_or k 0) some in (
+      let at : place ≡ unwrap_or (position (λ n. bytes_eq name n) names) 0 =
+      ap (λ (k : Option ℕ). unwrap_or k 0) some in (
         rw (← named, ← signed, good, directed, there) refl,
         rw (← named, ← signed) (ap₂ make at rises),
       )

@@ -10,7 +10,10 @@ use Rattle.si_words.specs.Reads.{words_now}
 use Rattle.si_words.proofs.FirstFaultLemmas.{word_at}
 
 -- the word at i is the first with a fault
-pub until : (limit : ℕ) (old before : List (List ℕ)) (ws : List (Bor (List ℕ))) (i : ℕ) (d : Bor (List ℕ)) (kind : TextKind) → i < length ws → before ≡ old ++ take i (words_now ws) → first_after (name_fault limit) old (take i (words_now ws)) ≡ None → name_fault limit before (get_or ws i d).now ≡ Some kind → AddsUntil limit kind old before (words_now ws)
+pub until : (limit : ℕ) (old before : List (List ℕ)) (ws : List (Bor (List ℕ))) (i : ℕ) (d : Bor (List ℕ))
+    (kind : TextKind) → i < length ws → before ≡ old ++ take i (words_now ws)
+    → first_after (name_fault limit) old (take i (words_now ws)) ≡ None
+    → name_fault limit before (get_or ws i d).now ≡ Some kind → AddsUntil limit kind old before (words_now ws)
 until limit old before ws i d kind within so_far good here = record {
   first = record { count = i; names_are = so_far; good = good };
   word = (get_or ws i d).now;
@@ -19,7 +22,9 @@ until limit old before ws i d kind within so_far good here = record {
 }
 
 -- where memory ran out some first words stand there
-pub some_left : {X : Type 0} (result : Result X LineFault) (limit : ℕ) (fault : LineFault) (old new words : List (List ℕ)) → result ≡ Err fault → fault ≡ NoMemory → AddsFirst limit old new words → IfErr result (λ e. LeavesNames limit e old new words)
+pub some_left : {X : Type 0} (result : Result X LineFault) (limit : ℕ) (fault : LineFault)
+    (old new words : List (List ℕ)) → result ≡ Err fault → fault ≡ NoMemory → AddsFirst limit old new words
+    → IfErr result (λ e. LeavesNames limit e old new words)
 some_left {X} result limit fault old new words is want first =
     let Left : LineFault → Type 0 = λ e. LeavesNames limit e old new words in
     let After : Result X LineFault → Type 0 = λ r. IfErr r Left in

@@ -6,15 +6,18 @@ use Rattle.std.proofs.lemmas.Bool.{cases_Bool}
 use Rattle.si_base.specs.Words as words
 use Rattle.si_words.specs.Sums.{literal_name}
 
-pub list_any-map : {A B : Type 0} (f : A → B) (p : B → Bool) (xs : List A) → list_any (λ x. p (f x)) xs ≡ list_any p (map f xs)
+pub list_any-map : {A B : Type 0} (f : A → B) (p : B → Bool) (xs : List A)
+    → list_any (λ x. p (f x)) xs ≡ list_any p (map f xs)
 list_any-map f p [] = refl
 list_any-map f p (x ∷ xs) = rw (list_any-map f p xs) refl
 
-pub prefix_len-map : {A B : Type 0} (f : A → B) (p : B → Bool) (xs : List A) → prefix_len (λ x. p (f x)) xs ≡ prefix_len p (map f xs)
+pub prefix_len-map : {A B : Type 0} (f : A → B) (p : B → Bool) (xs : List A)
+    → prefix_len (λ x. p (f x)) xs ≡ prefix_len p (map f xs)
 prefix_len-map f p [] = refl
 prefix_len-map f p (x ∷ xs) = rw (prefix_len-map f p xs) refl
 
-pub signal_name_at : (w : List ℕ) (r : Bool) → 1 ≤ length w → words.is_letter (get_or w 0 0) ≡ true → r ≡ list_all words.is_name_byte (drop 1 w) → r ≡ words.is_signal_name w
+pub signal_name_at : (w : List ℕ) (r : Bool) → 1 ≤ length w → words.is_letter (get_or w 0 0) ≡ true
+    → r ≡ list_all words.is_name_byte (drop 1 w) → r ≡ words.is_signal_name w
 signal_name_at [] r some letter rest = absurd (omega arith)
 signal_name_at (b ∷ bs) r some letter rest = rw letter rest
 
@@ -31,11 +34,13 @@ no_mark [] d e = rw e refl
 no_mark (b ∷ []) d e = unmarked b d [] ∙ ap (λ (l : List ℕ). b ∷ l) (no_mark [] d e)
 no_mark (b ∷ c ∷ bs) d e = unmarked b c (bs ++ d ∷ []) ∙ ap (λ (l : List ℕ). b ∷ l) (no_mark (c ∷ bs) d e)
 
-onto_first-map : {A B : Type 0} (f : A → B) (x : A) (ls : List (List A)) → map (map f) (onto_first x ls) ≡ onto_first (f x) (map (map f) ls)
+onto_first-map : {A B : Type 0} (f : A → B) (x : A) (ls : List (List A))
+    → map (map f) (onto_first x ls) ≡ onto_first (f x) (map (map f) ls)
 onto_first-map f x [] = refl
 onto_first-map f x (l ∷ ls) = refl
 
-pub slice_split-map : {A B : Type 0} (f : A → B) (p : B → Bool) (xs : List A) → map (map f) (slice_split (λ x. p (f x)) xs) ≡ slice_split p (map f xs)
+pub slice_split-map : {A B : Type 0} (f : A → B) (p : B → Bool) (xs : List A)
+    → map (map f) (slice_split (λ x. p (f x)) xs) ≡ slice_split p (map f xs)
 slice_split-map f p [] = refl
 slice_split-map {A = A} f p (x ∷ xs) = elim (cases_Bool (p (f x))) [
   | inl yes_it ↦ rw (yes_it, slice_split-map f p xs) refl

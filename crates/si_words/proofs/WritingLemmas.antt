@@ -20,19 +20,24 @@ regrouped : (text a b c : List ℕ) → ((text ++ a) ++ b) ++ c ≡ text ++ ((a 
 regrouped text a b c = simp append_assoc
 
 pub whole_line : (text w : List ℕ) (ws : List (List ℕ)) → ((text ++ w) ++ spaced ws) ++ 10 ∷ [] ≡ text ++ line (w ∷ ws)
-whole_line text w ws = regrouped text w (spaced ws) (10 ∷ []) ∙ ap (λ (t : List ℕ). text ++ (t ++ 10 ∷ [])) (sym (joined_words w ws))
+whole_line text w ws = regrouped text w (spaced ws) (10 ∷ [])
+    ∙ ap (λ (t : List ℕ). text ++ (t ++ 10 ∷ [])) (sym (joined_words w ws))
 
 -- the words from the i-th on
 abbrev pub words_from : List (Bor (List ℕ)) → ℕ → List ℕ
 words_from words i = spaced (drop i (words_now words))
 
-word_left : (words : List (Bor (List ℕ))) (i : ℕ) (d : Bor (List ℕ)) → i < length words → words_from words i ≡ 32 ∷ (get_or words i d).now ++ words_from words (suc i)
+word_left : (words : List (Bor (List ℕ))) (i : ℕ) (d : Bor (List ℕ)) → i < length words
+    → words_from words i ≡ 32 ∷ (get_or words i d).now ++ words_from words (suc i)
 word_left [] i d within = absurd (omega arith)
 word_left (w ∷ ws) zero d within = refl
 word_left (w ∷ ws) (suc i) d within = word_left ws i d (omega arith)
 
 -- one more word is added
-pub word_more : (words : List (Bor (List ℕ))) (i : ℕ) (d : Bor (List ℕ)) (old text new : List ℕ) → i < length words → text ++ words_from words i ≡ old ++ words_from words 0 → new ≡ text ++ 32 ∷ (get_or words i d).now
+pub word_more : (words : List (Bor (List ℕ))) (i : ℕ) (d : Bor (List ℕ)) (old text new : List ℕ) → i < length words
+    → text ++ words_from words i ≡ old ++ words_from words 0 → new ≡ text ++ 32 ∷ (get_or words i d).now
     → new ++ words_from words (i + 1) ≡ old ++ words_from words 0
 word_more words i d old text new within so_far is =
-    rw add-one (ap (λ (t : List ℕ). t ++ words_from words (suc i)) is ∙ append_assoc text (32 ∷ (get_or words i d).now) (words_from words (suc i)) ∙ ap (λ (t : List ℕ). text ++ t) (sym (word_left words i d within)) ∙ so_far)
+    rw add-one (ap (λ (t : List ℕ). t ++ words_from words (suc i)) is
+    ∙ append_assoc text (32 ∷ (get_or words i d).now) (words_from words (suc i))
+    ∙ ap (λ (t : List ℕ). text ++ t) (sym (word_left words i d within)) ∙ so_far)

@@ -19,7 +19,8 @@ event_sign word = drop (prefix_len is_name_byte word) word
 -- nothing, or `/` with one to nine digits
 abbrev pub is_ending : List ℕ → Bool
 is_ending [] = true
-is_ending (b ∷ digits) = (b == slash) && list_all (is_between digit_zero digit_nine) digits && is_between 1 9 (length digits)
+is_ending (b ∷ digits) = (b == slash) && list_all (is_between digit_zero digit_nine) digits
+    && is_between 1 9 (length digits)
 
 -- the byte, and an ending after it
 abbrev pub is_sign : (ℕ → Bool) → List ℕ → Bool
@@ -36,7 +37,8 @@ is_up (b ∷ bs) = b == plus
 
 -- `~` in place of a direction, or what is no direction
 abbrev pub sign_fault : List ℕ → Option TextKind
-sign_fault sign = when (is_sign (λ b. b == tilde) sign) Toggle otherwise when (not (is_sign is_direction sign)) BadEvent
+sign_fault sign = when (is_sign (λ b. b == tilde) sign) Toggle
+    otherwise when (not (is_sign is_direction sign)) BadEvent
 
 -- an event word where these names are declared
 abbrev pub event_fault : List (List ℕ) → List ℕ → Option TextKind
@@ -47,4 +49,9 @@ event_fault declared word =
 
 -- the event of the signal whose name stands first in the word
 abbrev pub event_of : List (List ℕ) → List ℕ → Event
-event_of names word = record { sig = unwrap_or (position (λ n. bytes_eq (event_name word) n) names) 0; up = is_up (event_sign word) }
+event_of names word =
+    record {
+      sig = unwrap_or (position (λ n. bytes_eq (event_name word) n) names) 0;
+      up =
+          is_up (event_sign word);
+    }

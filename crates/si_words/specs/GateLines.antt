@@ -15,7 +15,8 @@ are_sums (Some (set, reset)) = is_sum set && is_sum reset
 
 abbrev pub are_pins : List (List ℕ) → Bool
 are_pins [] = false
-are_pins (cell ∷ literals) = is_signal_name cell && nat_le (length literals) 4 && list_all is_literal literals
+are_pins (cell ∷ literals) = is_signal_name cell && nat_le (length literals) 4
+    && list_all is_literal literals
 
 abbrev pub are_pins_and_sum : Option (List (List ℕ) × List (List ℕ)) → Bool
 are_pins_and_sum None = false
@@ -46,7 +47,8 @@ last_of (x ∷ y ∷ xs) = last_of (y ∷ xs)
 -- a literal that begins its cube, or one whose signal comes after that of the word before it
 abbrev pub comes_after : List (List ℕ) → Option (List ℕ) → List ℕ → Bool
 comes_after signals None word = true
-comes_after signals (Some prior) word = is_mark prior || is_below (place_in signals prior) (place_in signals word)
+comes_after signals (Some prior) word =
+    is_mark prior || is_below (place_in signals prior) (place_in signals word)
 
 -- a word of a sum, after those before it
 abbrev pub literal_fault : List (List ℕ) → List (List ℕ) → List ℕ → Option TextKind

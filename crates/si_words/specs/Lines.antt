@@ -35,7 +35,8 @@ ended (b ∷ bs) = if b == line_feed then [] ∷ ended bs else onto_head b (ende
 -- what stands after the last line feed
 abbrev pub tail_of : List ℕ → List ℕ
 tail_of [] = []
-tail_of (b ∷ bs) = if (b == line_feed) || not (is_empty (ended bs)) then tail_of bs else b ∷ tail_of bs
+tail_of (b ∷ bs) = if (b == line_feed) || not (is_empty (ended bs)) then tail_of bs else
+    b ∷ tail_of bs
 
 -- what fault words have
 abbrev pub Form : Type 0
@@ -49,7 +50,8 @@ has_bad_byte_here line = list_any (λ b. not (is_between space tilde b)) line
 abbrev pub lines_fault : ℕ → List Form → List (List ℕ) → List ℕ → Option (ℕ × TextKind)
 lines_fault n [] [] tail = at_line n (when (not (is_empty tail)) BadLine)
 lines_fault n [] (line ∷ lines) tail = Some (n, BadLine)
-lines_fault n (form ∷ forms) [] tail = at_line n (when (has_bad_byte_here tail) BadByte otherwise Some NoEnd)
+lines_fault n (form ∷ forms) [] tail =
+    at_line n (when (has_bad_byte_here tail) BadByte otherwise Some NoEnd)
 lines_fault n (form ∷ forms) (line ∷ lines) tail =
     at_line n (when (has_bad_byte_here line) BadByte otherwise form (words_of line))
     otherwise lines_fault (n + 1) forms lines tail

@@ -48,13 +48,15 @@ pub record TakesNames (form : Form) (old new : Left) (names : List (List ℕ)) :
   pub names_are : names ≡ rest_of words
 
 -- one line was taken: it has the form, and the names after its head went behind the old ones
-pub record AddsNames (form : Form) (old new : Left) (names_old names_new : List (List ℕ)) : Type 0 where
-  pub added : List (List ℕ)
-  pub takes : TakesNames form old new added
-  pub names_are : names_new ≡ names_old ++ added
+pub record AddsNames (form : Form) (old new : Left) (names_old names_new : List (List ℕ)) : Type 0
+  where
+    pub added : List (List ℕ)
+    pub takes : TakesNames form old new added
+    pub names_are : names_new ≡ names_old ++ added
 
 -- no line was taken, and no name added: whatever form is due, the lines have this fault
-pub record TakesNone (fault : TextFault) (old new : Left) (names_old names_new : List (List ℕ)) : Type 0 where
+pub record TakesNone (fault : TextFault) (old new : Left)
+    (names_old names_new : List (List ℕ)) : Type 0 where
   pub lines_same : new ≡ old
   pub names_same : names_new ≡ names_old
   pub shows : (form : Form) (forms : List Form) → Shows fault (fault_of (form ∷ forms) old)
@@ -68,7 +70,8 @@ LeavesLine limit fault names_old names_new words =
 
 -- one line was taken, with this fault,
 -- and the names before the word with the fault went behind the old ones
-pub record TakesFirst (limit : ℕ) (fault : TextFault) (old new : Left) (names_old names_new : List (List ℕ)) : Type 0 where
+pub record TakesFirst (limit : ℕ) (fault : TextFault) (old new : Left)
+    (names_old names_new : List (List ℕ)) : Type 0 where
   pub words : List (List ℕ)
   pub takes : TakesLine old new words
   pub of_line : LineFault

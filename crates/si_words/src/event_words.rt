@@ -39,7 +39,8 @@ fn is_ending(bytes: &[u8]) -> bool
 
 /// Whether the sign of an event says upward.
 fn read_sign(sign: &[u8]) -> Result<bool, TextKind>
-    ensures { MatchResult result (λ up. (events.sign_fault sign.now ≡ None) × (up ≡ events.is_up sign.now)) (λ kind. events.sign_fault sign.now ≡ Some kind) }
+    ensures { MatchResult result (λ up. (events.sign_fault sign.now ≡ None)
+        × (up ≡ events.is_up sign.now)) (λ kind. events.sign_fault sign.now ≡ Some kind) }
 {
     let [first, ending @ ..] = sign else {
         return Err(TextKind::BadEvent);
@@ -66,16 +67,18 @@ fn begins_name(bytes: &[u8]) -> bool
     }
 }
 
-/// The event that a word spells, where these names are declared: a signal name, then `+` or `-`, then nothing or `/`
-/// with one to nine digits, which have no meaning.
+/// The event that a word spells, where these names are declared: a signal name, then `+` or `-`,
+/// then nothing or `/` with one to nine digits, which have no meaning.
 ///
 /// # Errors
 ///
-/// `Toggle` for `~` in place of the sign, `BadEvent` for any other word that isn't an event, and `Undeclared` for a name
-/// that isn't declared.
+/// `Toggle` for `~` in place of the sign, `BadEvent` for any other word that isn't an event, and
+/// `Undeclared` for a name that isn't declared.
 pub fn read_event(names: &Names, word: &[u8]) -> Result<Event, TextKind>
     requires { length names.now ≤ max_signals }
-    ensures read { MatchResult result (λ e. (events.event_fault names.now word.now ≡ None) × (e ≡ events.event_of names.now word.now)) (λ kind. events.event_fault names.now word.now ≡ Some kind) }
+    ensures read { MatchResult result (λ e. (events.event_fault names.now word.now ≡ None)
+        × (e ≡ events.event_of names.now word.now))
+        (λ kind. events.event_fault names.now word.now ≡ Some kind) }
     ensures within { IfOk result (λ e. e.sig < length names.now) }
 {
     let (name, sign) = word.split_at(name_len(word));

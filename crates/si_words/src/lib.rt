@@ -1,4 +1,5 @@
-//! The words, event words, lists of names, lines and gate lines that the tool's own texts are made of.
+//! The words, event words, lists of names, lines and gate lines that the tool's own texts are made
+//! of.
 #![tactic(auto)]
 
 pub mod event_words;

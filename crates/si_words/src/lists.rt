@@ -11,7 +11,8 @@ use crate::words::is_signal_name;
 use si_base::fault::{LineFault, TextKind};
 use si_base::names::Names;
 
-/// The place of a name, or `None` where it isn't there. The names are distinct, so that it is the first.
+/// The place of a name, or `None` where it isn't there. The names are distinct, so that it is the
+/// first.
 pub fn place_of(names: &Names, name: &[u8]) -> Option<u32>
     ensures { result ≡ position (λ n. bytes_eq name.now n) names.now }
 {
@@ -57,13 +58,14 @@ fn name_kind(names: &Names, limit: u32, name: &[u8]) -> Option<TextKind>
 
 /// Puts names last, up to the first fault.
 ///
-/// Fails with that fault: a word that is no signal name, is there already, or is one more than `limit`; and where memory
-/// runs out. After a fault just the words before the faulty one are there, and where memory ran out some first words
-/// without a fault.
+/// Fails with that fault: a word that is no signal name, is there already, or is one more than
+/// `limit`; and where memory runs out. After a fault just the words before the faulty one are
+/// there, and where memory ran out some first words without a fault.
 pub fn add_names(names: &mut Names, limit: u32, words: &[&[u8]]) -> Result<(), LineFault>
     ensures fault { Tells result (first_after (name_fault limit) names.old (words_now words.now)) }
     ensures value { OnOk result (names.new ≡ names.old ++ words_now words.now) }
-    ensures left { IfErr result (λ e. LeavesNames limit e names.old names.new (words_now words.now)) }
+    ensures left { IfErr result
+        (λ e. LeavesNames limit e names.old names.new (words_now words.now)) }
     ensures few { length names.old ≤ limit → length names.new ≤ limit }
 {
     for word in words {

@@ -32,7 +32,11 @@ impl<'a> Model for Rows<'a> {
 
     ghost Value = { Left };
 
-    ghost view = { λ s. record { number = s.number; lines = ended s.rest.now; tail = tail_of s.rest.now } };
+    ghost view = { λ s. record {
+      number = s.number;
+      lines = ended s.rest.now;
+      tail = tail_of s.rest.now;
+    } };
 
     ghost invariant = { λ s. s.number + length s.rest.now < 2 ^ 64 };
 }
@@ -70,11 +74,12 @@ impl<'a> Rows<'a> {
 
     /// The words of the next line.
     ///
-    /// Fails with the fault of the line, where it has a bad byte or no end, and where memory runs out. After a refusal the
-    /// lines are as before.
+    /// Fails with the fault of the line, where it has a bad byte or no end, and where memory runs
+    /// out. After a refusal the lines are as before.
     pub fn next_words(&mut self, alloc: Global) -> Result<Vec<&'a [u8]>, TextFault>
         ensures ok { IfOk result (λ v. TakesLine self.old self.new (words_now v.items)) }
-        ensures err { (form : Form) (forms : List Form) → ToldBy result (fault_of (form ∷ forms) self.old) }
+        ensures err { (form : Form) (forms : List Form)
+            → ToldBy result (fault_of (form ∷ forms) self.old) }
         ensures kept { OnErr result (self.new ≡ self.old) }
     {
         let rest = self.rest;
@@ -100,7 +105,8 @@ impl<'a> Rows<'a> {
         Ok(words)
     }
 
-    /// Takes the next line if it is this one, and says whether it was. Else the lines are as before.
+    /// Takes the next line if it is this one, and says whether it was. Else the lines are as
+    /// before.
     pub fn take_line(&mut self, line: &[u8]) -> bool
         ensures is { result ≡ begins_with line.now self.old.lines }
         ensures left { self.new ≡ (if result then after_line self.old else self.old) }
@@ -161,9 +167,12 @@ pub fn has_empty(words: &[&[u8]]) -> bool
 }
 
 fn take_names(words: &[&[u8]], head: &[u8], limit: u32, names: &mut Names) -> Result<(), LineFault>
-    ensures fault { Tells result (text_lines.names_fault limit head.now names.old (words_now words.now)) }
-    ensures value { OnOk result (names.new ≡ names.old ++ text_lines.rest_of (words_now words.now)) }
-    ensures left { IfErr result (λ e. LeavesLine limit e names.old names.new (words_now words.now)) }
+    ensures fault { Tells result
+        (text_lines.names_fault limit head.now names.old (words_now words.now)) }
+    ensures value { OnOk result
+        (names.new ≡ names.old ++ text_lines.rest_of (words_now words.now)) }
+    ensures left { IfErr result
+        (λ e. LeavesLine limit e names.old names.new (words_now words.now)) }
     ensures few { length names.old ≤ limit → length names.new ≤ limit }
 {
     let [first, rest @ ..] = words else {
@@ -175,11 +184,12 @@ fn take_names(words: &[&[u8]], head: &[u8], limit: u32, names: &mut Names) -> Re
     add_names(names, limit, rest)
 }
 
-/// A list line, of the head and names: the names go behind those that are there, up to `limit` names.
+/// A list line, of the head and names: the names go behind those that are there, up to `limit`
+/// names.
 ///
-/// Fails with the fault of the line, and where memory runs out. After a refusal all is as before, where
-/// the line has a bad byte or no end; or the line is taken, and the names before the faulty one are
-/// there, or where memory ran out some first names without a fault.
+/// Fails with the fault of the line, and where memory runs out. After a refusal all is as before,
+/// where the line has a bad byte or no end; or the line is taken, and the names before the faulty
+/// one are there, or where memory ran out some first names without a fault.
 pub fn names_row(
     alloc: Global,
     rows: &mut Rows<'_>,
@@ -187,8 +197,12 @@ pub fn names_row(
     limit: u32,
     names: &mut Names,
 ) -> Result<(), TextFault>
-    ensures ok { OnOk result (AddsNames (text_lines.names_fault limit head.now names.old) rows.old rows.new names.old names.new) }
-    ensures err { (forms : List Form) → ToldBy result (fault_of (text_lines.names_fault limit head.now names.old ∷ forms) rows.old) }
+    ensures ok { OnOk result
+        (AddsNames (text_lines.names_fault limit head.now names.old) rows.old rows.new
+        names.old names.new) }
+    ensures err { (forms : List Form)
+        → ToldBy result (fault_of (text_lines.names_fault limit head.now names.old ∷ forms)
+        rows.old) }
     ensures left { IfErr result (λ e. RefusesNames limit e rows.old rows.new names.old names.new) }
     ensures few { length names.old ≤ limit → length names.new ≤ limit }
 {

@@ -31,7 +31,8 @@ fn add_words(text: &mut Text, words: &[&[u8]]) -> Result<(), NoMemory>
 
 /// Adds the line of these words: one blank between them, and the line end.
 ///
-/// It fails only where memory runs out. The text may then end in a part of the line, and isn't to be used.
+/// It fails only where memory runs out. The text may then end in a part of the line, and isn't to
+/// be used.
 pub fn add_line(text: &mut Text, first: &[u8], others: &[&[u8]]) -> Result<(), NoMemory>
     ensures { OnOk result (text.new ≡ text.old ++ line (first.now ∷ words_now others.now)) }
 {

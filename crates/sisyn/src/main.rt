@@ -32,7 +32,8 @@ fn main(rt: HostRuntime) -> ExitCode {
     ExitCode::from(status.code())
 }
 
-/// The words of the command line without the program's name. Arguments that are no text match no command.
+/// The words of the command line without the program's name. Arguments that are no text match no
+/// command.
 fn command_words<R: Env + AllocGlobal>(rt: &R) -> Result<Vec<String>, Refusal<'static>> {
     match env::args(rt) {
         Ok(arguments) => match arguments.skip(1).collect(rt.alloc()) {

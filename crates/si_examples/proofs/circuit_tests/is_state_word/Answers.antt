@@ -20,7 +20,8 @@ plain_byte b (low, high, other) =
     let word_byte = and_from _ _ no_opening (differs b 125 (λ e. omega (arith, high, e))) in
     and_from _ _ word_byte (differs b 64 other)
 
-plain_bytes : (word : List ℕ) → AllByRecursion IsPlain word → list_all (λ b. is_word_byte b && not (b == at_sign)) word ≡ true
+plain_bytes : (word : List ℕ) → AllByRecursion IsPlain word → list_all (λ b. is_word_byte b && not (b == at_sign)) word
+    ≡ true
 plain_bytes [] are = refl
 plain_bytes (b ∷ bs) are = and_from _ _ (plain_byte b are.0) (plain_bytes bs are.1)
 

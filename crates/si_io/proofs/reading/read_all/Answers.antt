@@ -13,9 +13,15 @@ loop-chunk-init g c = record {
 
 pub loop-chunk-preserved : goal.loop-chunk-preserved
 loop-chunk-preserved g c =
-    let joined = appended (is_ok c.extend_from_slice.result) _ _ _ _ _ (search rules) c.in-Ok.ensures.bound.0 c.extend_from_slice.ensures.items in
+    let joined = appended (is_ok c.extend_from_slice.result) _ _ _ _ _ (search rules) c.in-Ok.ensures.bound.0
+    c.extend_from_slice.ensures.items in
     record {
-      within = omega (arith, c.extend_from_slice.new.self.ok.0, still_within _ _ _ _ _ _ c.args.limit joined c.read.auto.buf (omega arith));
+      within = omega (
+        arith,
+        c.extend_from_slice.new.self.ok.0,
+        still_within _ _ _ _ _ _ c.args.limit joined
+            c.read.auto.buf (omega arith),
+      );
       chunk = search rules;
       faults = search rules;
       consumed = rw joined (Consumes-trans _ _ _ _ _ c.loop-chunk.invariant.consumed c.in-Ok.ensures.bytes.0);
@@ -23,7 +29,8 @@ loop-chunk-preserved g c =
 
 pub returns-in-Ok-eq0-clause-load : goal.returns-in-Ok-eq0-clause-load
 returns-in-Ok-eq0-clause-load g c = record {
-  loaded = content_at_end _ _ _ (consumed_same _ _ _ _ _ _ c.in-Ok-eq0.field-0-test c.loop-chunk.invariant.consumed c.in-Ok-eq0.ensures.bytes.0) (c.in-Ok-eq0.ensures.bytes.1 c.in-Ok-eq0.field-0-test (search rules));
+  loaded = content_at_end _ _ _ (consumed_same _ _ _ _ _ _ c.in-Ok-eq0.field-0-test c.loop-chunk.invariant.consumed
+      c.in-Ok-eq0.ensures.bytes.0) (c.in-Ok-eq0.ensures.bytes.1 c.in-Ok-eq0.field-0-test (search rules));
   within = omega arith;
   failed = search rules;
   too_long = search rules;
@@ -32,16 +39,29 @@ returns-in-Ok-eq0-clause-load g c = record {
 }
 
 pub returns-in-Ok-eq0-clause-whole : goal.returns-in-Ok-eq0-clause-whole
-returns-in-Ok-eq0-clause-whole g c = (consumed_same _ _ _ _ _ _ c.in-Ok-eq0.field-0-test c.loop-chunk.invariant.consumed c.in-Ok-eq0.ensures.bytes.0, c.in-Ok-eq0.ensures.bytes.1 c.in-Ok-eq0.field-0-test (search rules))
+returns-in-Ok-eq0-clause-whole g c = (
+  consumed_same _ _ _ _ _ _ c.in-Ok-eq0.field-0-test c.loop-chunk.invariant.consumed c.in-Ok-eq0.ensures.bytes.0,
+  c.in-Ok-eq0.ensures.bytes.1 c.in-Ok-eq0.field-0-test (search rules),
+)
 
 pub returns-in-Ok-eq0-clause-part : goal.returns-in-Ok-eq0-clause-part
-returns-in-Ok-eq0-clause-part g c = (_, consumed_same _ _ _ _ _ _ c.in-Ok-eq0.field-0-test c.loop-chunk.invariant.consumed c.in-Ok-eq0.ensures.bytes.0, omega arith)
+returns-in-Ok-eq0-clause-part g c = (
+  _,
+  consumed_same _ _ _ _ _ _ c.in-Ok-eq0.field-0-test c.loop-chunk.invariant.consumed c.in-Ok-eq0.ensures.bytes.0,
+  omega arith,
+)
 
 pub returns-then-is_err-clause-part : goal.returns-then-is_err-clause-part
-returns-then-is_err-clause-part g c = (_, Consumes-trans _ _ _ _ _ c.loop-chunk.invariant.consumed c.in-Ok.ensures.bytes.0, grind (arith, length-append {A = ℕ}, length-take {A = ℕ}))
+returns-then-is_err-clause-part g c = (
+  _,
+  Consumes-trans _ _ _ _ _ c.loop-chunk.invariant.consumed c.in-Ok.ensures.bytes.0,
+  grind
+      (arith, length-append {A = ℕ}, length-take {A = ℕ}),
+)
 
 pub returns-in-Err-clause-part : goal.returns-in-Err-clause-part
-returns-in-Err-clause-part g c = (_, Consumes-kept _ _ _ _ c.loop-chunk.invariant.consumed c.in-Err.ensures.bytes, omega arith)
+returns-in-Err-clause-part g c =
+    (_, Consumes-kept _ _ _ _ c.loop-chunk.invariant.consumed c.in-Err.ensures.bytes, omega arith)
 
 pub returns-clause-load : goal.returns-clause-load
 returns-clause-load g c = record {

@@ -6,4 +6,5 @@ use Rattle.si_listings.proofs.cover_listing.write_covers.Given as goal
 
 abbrev pub invariant-loop-i : goal.invariant-loop-i
 invariant-loop-i l = (xs : List Component) → AreComponents (lent_graph l.fn.graph) xs
-    → l.text ++ signals_from (lent_graph l.fn.graph) l.states xs l.i ≡ signals_from (lent_graph l.fn.graph) l.states xs 0
+    → l.text ++ signals_from (lent_graph l.fn.graph) l.states xs l.i ≡ signals_from (lent_graph l.fn.graph) l.states xs
+    0

@@ -5,7 +5,8 @@ use Rattle.si_words.specs.Writing.{spaced}
 use Rattle.si_words.proofs.WritingLemmas.{joined_words}
 use Rattle.si_refusals.proofs.refusals.unmapped.Goals as goal
 
-regrouped : (head signal rest : List ℕ) → ((head ++ 32 ∷ signal) ++ rest) ++ 10 ∷ [] ≡ (head ++ 32 ∷ (signal ++ rest)) ++ 10 ∷ []
+regrouped : (head signal rest : List ℕ) → ((head ++ 32 ∷ signal) ++ rest) ++ 10 ∷ [] ≡ (head ++ 32 ∷ (signal ++ rest))
+    ++ 10 ∷ []
 regrouped head signal rest = simp append_assoc
 
 whole : (signal : List ℕ) (words : List (List ℕ))

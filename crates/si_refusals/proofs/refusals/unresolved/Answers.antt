@@ -19,5 +19,12 @@ whole p q words =
 pub returns : goal.returns
 returns c =
     c.in_ok-add.ensures.added
-    ∙ rw (c.in_ok-add_insertions.ensures, c.in_ok-add_word-2.ensures, c.in_ok-add_word.ensures, c.in_ok-text.ensures, c.bytes.ensures, c.bytes-2.ensures)
+    ∙ rw (
+      c.in_ok-add_insertions.ensures,
+      c.in_ok-add_word-2.ensures,
+      c.in_ok-add_word.ensures,
+      c.in_ok-text.ensures,
+      c.bytes.ensures,
+      c.bytes-2.ensures,
+    )
     (whole c.args.p.now c.args.q.now (all_insertion_words c.args.inserts.now))

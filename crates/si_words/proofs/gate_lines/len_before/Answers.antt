@@ -4,4 +4,5 @@ use Rattle.si_words.proofs.SumWordLemmas.{prefix_len-map}
 use Rattle.si_words.proofs.gate_lines.len_before.Goals as goal
 
 pub returns-clause-len : goal.returns-clause-len
-returns-clause-len c = c.count_before.ensures.len ∙ prefix_len-map (λ (w : Bor (List ℕ)). w.now) (λ w. not (bytes_eq c.args.mark.now w)) c.args.words.now
+returns-clause-len c = c.count_before.ensures.len
+    ∙ prefix_len-map (λ (w : Bor (List ℕ)). w.now) (λ w. not (bytes_eq c.args.mark.now w)) c.args.words.now

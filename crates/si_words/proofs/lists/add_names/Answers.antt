@@ -7,20 +7,24 @@ use Rattle.si_words.proofs.FirstFaultLemmas.{stops, goes, takes, good_more}
 use Rattle.si_words.proofs.lists.add_names.Goals as goal
 
 pub returns-in-Some-clause-fault : goal.returns-in-Some-clause-fault
-returns-in-Some-clause-fault c = stops (name_fault c.args.limit) _ _ _ _ _ _ c.loop-word-test.true c.loop-word.invariant.fault (sym c.in-Some.ensures)
+returns-in-Some-clause-fault c = stops (name_fault c.args.limit) _ _ _ _ _ _ c.loop-word-test.true
+    c.loop-word.invariant.fault (sym c.in-Some.ensures)
 
 pub loop-word-preserved : goal.loop-word-preserved
 loop-word-preserved c =
     let none : c.name_kind.result ≡ None = search rules in
     record {
-      fault = goes (name_fault c.args.limit) _ _ _ _ _ _ c.loop-word-test.true c.loop-word.invariant.fault (sym c.name_kind.ensures ∙ none) c.in_ok-push.ensures.ok;
+      fault = goes (name_fault c.args.limit) _ _ _ _ _ _ c.loop-word-test.true c.loop-word.invariant.fault
+          (sym c.name_kind.ensures ∙ none) c.in_ok-push.ensures.ok;
       value = takes _ _ _ _ _ _ c.loop-word-test.true c.loop-word.invariant.value c.in_ok-push.ensures.ok;
-      good = good_more (name_fault c.args.limit) _ _ _ _ _ c.loop-word-test.true c.loop-word.invariant.good c.loop-word.invariant.value (sym c.name_kind.ensures ∙ none);
+      good = good_more (name_fault c.args.limit) _ _ _ _ _ c.loop-word-test.true c.loop-word.invariant.good
+          c.loop-word.invariant.value (sym c.name_kind.ensures ∙ none);
       few = λ _. c.in_ok-push.ensures.few;
     }
 
 pub returns-in-Some-clause-left : goal.returns-in-Some-clause-left
-returns-in-Some-clause-left c = until c.args.limit _ _ _ _ _ _ c.loop-word-test.true c.loop-word.invariant.value c.loop-word.invariant.good (sym c.in-Some.ensures)
+returns-in-Some-clause-left c = until c.args.limit _ _ _ _ _ _ c.loop-word-test.true c.loop-word.invariant.value
+    c.loop-word.invariant.good (sym c.in-Some.ensures)
 
 pub returns-in_err-push-clause-left : goal.returns-in_err-push-clause-left
 returns-in_err-push-clause-left c =

@@ -6,7 +6,8 @@ use Rattle.si_words.proofs.lists.add_names.Given as goal
 
 abbrev pub invariant-loop-word : goal.invariant-loop-word
 invariant-loop-word l = record {
-  fault : first_after (name_fault l.limit) l.names (drop l.word-index (words_now l.words)) ≡ first_after (name_fault l.limit) l.fn.names (words_now l.words);
+  fault : first_after (name_fault l.limit) l.names (drop l.word-index (words_now l.words))
+      ≡ first_after (name_fault l.limit) l.fn.names (words_now l.words);
   value : l.names ≡ l.fn.names ++ take l.word-index (words_now l.words);
   good : first_after (name_fault l.limit) l.fn.names (take l.word-index (words_now l.words)) ≡ None;
   few : length l.fn.names ≤ l.limit → length l.names ≤ l.limit;

@@ -7,4 +7,6 @@ use Rattle.si_words.proofs.SumWordLemmas.{list_any-map}
 use Rattle.si_words.proofs.rows.has_empty.Goals as goal
 
 pub returns : goal.returns
-returns c = any_from_yields_List {all = c.args.words.now} (λ (w : Bor (List ℕ)). is_empty w.now) _ _ _ c.any.ensures.ran (YieldsList-from_slice c.args.words.now cc) (λ x b q k. search (rules, tests)) ∙ list_any-map (λ (w : Bor (List ℕ)). w.now) is_empty c.args.words.now
+returns c = any_from_yields_List {all = c.args.words.now} (λ (w : Bor (List ℕ)). is_empty w.now) _ _ _ c.any.ensures.ran
+    (YieldsList-from_slice c.args.words.now cc) (λ x b q k. search (rules, tests))
+    ∙ list_any-map (λ (w : Bor (List ℕ)). w.now) is_empty c.args.words.now

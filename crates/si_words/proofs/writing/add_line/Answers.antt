@@ -2,4 +2,5 @@ use Rattle.si_words.proofs.WritingLemmas.{left_as, whole_line}
 use Rattle.si_words.proofs.writing.add_line.Goals as goal
 
 pub returns : goal.returns
-returns c = left_as _ _ _ _ (rw (c.in_ok-add_words.ensures, c.in_ok-add.ensures.added) (whole_line c.args.text.now c.args.first.now _)) c.add-2.ensures.added
+returns c = left_as _ _ _ _ (rw (c.in_ok-add_words.ensures, c.in_ok-add.ensures.added)
+    (whole_line c.args.text.now c.args.first.now _)) c.add-2.ensures.added

@@ -17,11 +17,13 @@ returns-clause-literals c =
     let small_care : c.self-inside.inside.0.0.0 < 2 ^ code_width = omega arith in
     let small_value : c.self-inside.inside.0.1.0.0 < 2 ^ code_width = omega arith in
     let small_code : c.code.inside.0 < 2 ^ code_width = omega arith in
-    rw (← c.self.view_is, ← c.self-inside.view_is, ← c.code.view_is) (supercube_is _ _ _ small_care small_value small_code)
+    rw (← c.self.view_is, ← c.self-inside.view_is, ← c.code.view_is)
+    (supercube_is _ _ _ small_care small_value small_code)
 
 pub returns-clause-least : goal.returns-clause-least
 returns-clause-least c =
     let small_care : c.self-inside.inside.0.0.0 < 2 ^ code_width = omega arith in
     let small_value : c.self-inside.inside.0.1.0.0 < 2 ^ code_width = omega arith in
     let small_code : c.code.inside.0 < 2 ^ code_width = omega arith in
-    rw (← c.self.view_is, ← c.self-inside.view_is, ← c.code.view_is) (supercube_least _ _ _ small_care small_value small_code)
+    rw (← c.self.view_is, ← c.self-inside.view_is, ← c.code.view_is)
+    (supercube_least _ _ _ small_care small_value small_code)
