@@ -7,6 +7,8 @@ use crate::lines::{Lines, Words, has_bad_byte};
 use crate::names::{AddFault, Names};
 use crate::sets::StateSet;
 use crate::text::{Name, Text};
+use crate::text_key::TextKey;
+use std::hash::{BuildHasher, Hasher};
 use std::test::Fail;
 
 #[test]
@@ -21,7 +23,19 @@ fn a_third_name_where_two_may_stand(rt: HostRuntime) -> Result<(), Fail> {
     assert_eq!(rt; names.get(1), b"b".as_slice());
     assert_eq!(rt; names.place(b"b"), Some(1));
     assert_eq!(rt; names.place(b"c"), None);
+    let mut others = Names::with_key(rt.alloc(), TextKey::of(b"c d"));
+    assert_eq!(rt; others.add(b"c", 1)?, 0);
+    assert!(rt; others.empty_like().is_empty());
     Ok(())
+}
+
+/// What SHA-256 and SipHash-1-3 with the key 0 make of `abc`, one after the other.
+#[test]
+fn key_of_a_text(rt: HostRuntime) {
+    assert_eq!(rt;
+        TextKey::of(b"abc").build_hasher().finish(),
+        0x88cf_1543_5af1_244c
+    );
 }
 
 #[test]
