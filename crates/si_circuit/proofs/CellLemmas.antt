@@ -14,12 +14,12 @@ use Rattle.si_cell.specs.Library.{Library, Instance, IsLibrary, IsInstance, cell
 use Rattle.si_cell.proofs.ExpandedLemmas.{expanded_value}
 use Rattle.si_cell.proofs.LawLemmas.{expanded_is_sum}
 use Rattle.si_match.specs.Fit.{first_fit, IsOver, Fits}
+use Rattle.si_match.proofs.FitLemmas.{fit_fits}
 use Rattle.si_circuit.specs.Cells.{AllFit, IsFirstUnfit, ShowsUnfit, ShowsUnfitAt, cell_gate, gate_if_any, instance_gate}
 use Rattle.si_circuit.specs.declared.cells.CellsFault.{CellsFault}
 use Rattle.si_circuit.specs.declared.cells.CellsFault.TheVariants.{NoMemory, Unfit}
 use Rattle.si_circuit.specs.Gates.{netlist_of}
 use Rattle.si_circuit.specs.Spelled.{AreSpelled, AreInserted}
-use Rattle.si_circuit.proofs.FittingLemmas.{first_fits}
 use Rattle.si_circuit.proofs.GateLemmas.{is_netlist}
 use Rattle.si_circuit.proofs.RightLemmas.{has_gates}
 
@@ -41,7 +41,7 @@ gate_found : (c : CodedGraph) (library : Library) (z : ℕ) → IsCoded c → Is
     → (i : Instance) × IsGateOf c library z i
 gate_found c library z is some =
     let found = gate_when c library z (first_fit c library z) refl some in
-    let held = first_fits c library z found.0 is (few_signals c is) found.1 in
+    let held = fit_fits c library z found.0 is found.1 in
     (found.0, record { gate = ap (gate_if_any library z) found.1; over = held.0; fits = held.1 })
 
 pub signal_there : (c : CodedGraph) (z : ℕ) → IsNonInput c.graph.signals z → z < length c.graph.signals
@@ -111,7 +111,7 @@ shows_first c library z (Unfit sig) before driven shown =
 
 pub instance_of : (c : CodedGraph) (library : Library) (z : ℕ) (i : Instance) → IsCoded c → first_fit c library z ≡ Some i
     → IsInstance library i
-instance_of c library z i is found = (first_fits c library z i is (few_signals c is) found).0.instance
+instance_of c library z i is found = (fit_fits c library z i is found).0.instance
 
 pub signal_small : (c : CodedGraph) (z : ℕ) → IsCoded c → IsNonInput c.graph.signals z → z < code_width
 signal_small c z is driven = omega (signal_there c z driven, few_signals c is, arith)

@@ -1,6 +1,5 @@
 pub mod RightLemmas
 pub mod GateLemmas
-pub mod FittingLemmas
 pub mod CellLemmas
 pub mod Examples
 pub mod DescentLemmas

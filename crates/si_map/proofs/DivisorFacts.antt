@@ -3,16 +3,10 @@ use Rattle.std.proofs.Common.{◌≡◌, ℕ, ◌<◌, List, length, get_or, sli
 use Rattle.std.proofs.lemmas.Option.{slice_get_within}
 use Rattle.si_base.specs.Codes.{CodedGraph, IsCoded}
 use Rattle.si_cell.specs.Library.{Library, Instance, IsInstance}
-use Rattle.si_divisor.specs.Divisors.{AreDivisors, divisors_of}
-use Rattle.si_divisor.specs.DivisorLaws.{DivisorsAreUnique}
+use Rattle.si_divisor.specs.Divisors.{AreDivisors}
 use Rattle.si_divisor.proofs.ChoiceLemmas.{are_instances}
-use Rattle.si_divisor.proofs.PinLemmas.{one_list}
+use Rattle.si_divisor.proofs.DivisorsExist.{one_divisors}
 use Rattle.si_map.specs.Best.{IsDivisorAt}
-
-one_list_of : DivisorsAreUnique
-one_list_of c library z xs ys a b =
-    a.are ∙ ap (divisors_of (length c.graph.signals) library) (one_list c z a.pins b.pins a.are_pins b.are_pins)
-    ∙ sym b.are
 
 -- a divisor is an instance of the library
 pub is_instance : (c : CodedGraph) (library : Library) (z place : ℕ) (divisor : Instance) (divisors : List Instance)
@@ -27,7 +21,7 @@ pub same_list : (c : CodedGraph) (library : Library) (z place : ℕ) (divisor : 
     → slice_get divisors place ≡ Some divisor
 same_list c library z place divisor divisors are at =
     subst (λ (xs : List Instance). slice_get xs place ≡ Some divisor)
-    (one_list_of c library z at.divisors divisors at.are are) at.there
+    (one_divisors c library z at.divisors divisors at.are are) at.there
 
 pub one_divisor : (c : CodedGraph) (library : Library) (z place : ℕ) (x y : Instance)
     → IsDivisorAt c library z place x → IsDivisorAt c library z place y → x ≡ y
