@@ -1,7 +1,6 @@
 -- Gates that give the next values: a gate is excited just where an event of its signal is enabled.
 use Rattle.std.proofs.Common.{◌≡◌, ◌≢◌, ℕ, ◌<◌, ◌&&◌, ◌||◌, not, Bool, true, false, refl, sym, ◌∙◌, length, inl, inr}
 use Rattle.std.proofs.lemmas.Bool.{true≢false, cases_Bool}
-use Rattle.si_base.specs.declared.ids.Event.{Event}
 use Rattle.si_base.specs.Bits.{bit}
 use Rattle.si_base.specs.Graph.{rise, fall, enables, IsNonInput}
 use Rattle.si_base.specs.Codes.{CodedGraph, code, IsCoded}
