@@ -1,8 +1,8 @@
 -- The forms of the names that a text without fault gives: the model's name, the signals', and their kinds.
-use Rattle.std.proofs.Common.{◌≡◌, ℕ, ◌<◌, ◌≤◌, ◌==◌, ◌&&◌, ◌||◌, ◌⊎◌, not, Bool, true, false, List, [], ◌∷◌, ◌++◌}
-use Rattle.std.proofs.Common.{refl, sym, subst, ◌∙◌, arith, inl, inr, eqb-true, eq-eqb, nat_le, nat_lt, None, All}
+use Rattle.std.proofs.Common.{◌≡◌, ℕ, ◌≤◌, ◌==◌, ◌&&◌, ◌||◌, ◌⊎◌, not, Bool, true, false, List, [], ◌∷◌, ◌++◌}
+use Rattle.std.proofs.Common.{refl, sym, subst, ◌∙◌, arith, inl, inr, eqb-true, eq-eqb, nat_lt, None, All}
 use Rattle.std.proofs.Common.{IsTrue}
-use Rattle.std.proofs.Common.{if◌then◌else◌, cond, take_while}
+use Rattle.std.proofs.Common.{if◌then◌else◌}
 use Rattle.std.specs.List.{AllByRecursion, list_all, list_any}
 use Rattle.std.proofs.lemmas.Bool.{and_parts, and_from, cases_Bool, cases_lt, lt-ltb, le-leb, or_cases, true≢false}
 use Rattle.std.proofs.lemmas.List.Elements.{All-from_recursion}
@@ -10,9 +10,8 @@ use Rattle.std.proofs.lemmas.List.Sums.{take_while-cons}
 use Rattle.si_base.specs.declared.graph.Signal.{Signal}
 use Rattle.si_base.specs.declared.graph.SigKind.{SigKind}
 use Rattle.si_base.specs.declared.graph.SigKind.TheVariants.{Input, Output, Internal}
-use Rattle.si_base.specs.declared.fault.TextKind.{TextKind}
 use Rattle.si_base.specs.declared.fault.TextKind.TheVariants as kind
-use Rattle.si_base.specs.Faults.{when, ◌otherwise◌, first_after}
+use Rattle.si_base.specs.Faults.{when, first_after}
 use Rattle.si_base.specs.GivenGraph.{Sg as SgValue, signals_of}
 use Rattle.si_base.specs.Limits.{max_signals}
 use Rattle.si_base.specs.Lines.{Line, words_in, put_first, begins, is_blank, is_brace, is_bad, is_plain, numbered}
@@ -31,7 +30,7 @@ use Rattle.si_sg.specs.Header.{Header, no_header, declared, header_fault, header
 use Rattle.si_sg.specs.Header.{header_words_with}
 use Rattle.si_sg.specs.Header.{is_state_graph}
 use Rattle.si_sg.specs.Heads.{head_of}
-use Rattle.si_sg.specs.StateWords.{is_brace_word, is_none, is_one_name}
+use Rattle.si_sg.specs.StateWords.{is_brace_word, is_one_name}
 use Rattle.si_sg.proofs.HeaderLemmas.{or_parts, both_none, some_none}
 use Rattle.si_sg.proofs.SectionLemmas.{line_none}
 
