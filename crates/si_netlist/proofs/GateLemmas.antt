@@ -6,7 +6,7 @@ use Rattle.std.proofs.lemmas.List.{length-map}
 use Rattle.std.proofs.lemmas.Option.{slice_get-map, slice_get_within, slice_get-get_or}
 use Rattle.si_base.specs.declared.graph.Signal.{Signal}
 use Rattle.si_base.specs.Graph.{is_driven, IsNonInput}
-use Rattle.si_base.specs.Netlist.{Netlist, gate_place, gate_value, value_of}
+use Rattle.si_base.specs.Netlist.{Netlist, gate_place}
 use Rattle.si_base.specs.WellFormed.{IsNetlist}
 use Rattle.si_netlist.specs.declared.gate.Gate.{Gate}
 use Rattle.si_netlist.specs.Parts.{gate_seen}
@@ -57,13 +57,12 @@ gate_place-within n gates z netlist there same =
     let below = gate_place-lt n.signals z there in
     omega (arith, below, netlist.gate_count, length-map gates gate_seen, ap length same)
 
--- the value of the gate that is read at its place
-pub gate_value-read : (n : Netlist) (gates : List Gate) (place z values : ℕ) (gate : Gate)
+-- the gate that is read at its place
+pub gate-read : (n : Netlist) (gates : List Gate) (place z : ℕ) (gate : Gate)
     → map gate_seen gates ≡ n.gates → place ≡ gate_place n.signals z
-    → place < length gates → gate ≡ get_or gates place gate → value_of (gate_seen gate) z values ≡ gate_value n z values
-gate_value-read n gates place z values gate same at within is =
+    → place < length gates → gate ≡ get_or gates place gate
+    → slice_get n.gates (gate_place n.signals z) ≡ Some (gate_seen gate)
+gate-read n gates place z gate same at within is =
     let there : slice_get gates place ≡ Some gate =
     slice_get-get_or gates place gate within ∙ ap (λ (g : Gate). Some g) (sym is) in
-    let seen : slice_get n.gates (gate_place n.signals z) ≡ Some (gate_seen gate) =
-    rw (← same, ← at) (slice_get-map gate_seen gates place ∙ ap (option_map gate_seen) there) in
-    rw seen refl
+    rw (← same, ← at) (slice_get-map gate_seen gates place ∙ ap (option_map gate_seen) there)

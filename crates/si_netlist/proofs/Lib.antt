@@ -1,3 +1,4 @@
 pub mod GateLemmas
 pub mod WritingLemmas
 pub mod LiteralLemmas
+pub mod ReadLemmas

@@ -2,6 +2,7 @@
 
 ghost use Rattle.std.specs.Prelude.{◌≡◌, ℕ, ◌<◌};
 ghost use Rattle.si_base.specs.Limits.{max_signals};
+ghost use Rattle.si_netlist.specs.Reads.{MarksExactly, sum_reads};
 
 use si_base::ids::{Code, Literal, Sig};
 use si_base::text::Name;
@@ -29,6 +30,7 @@ pub enum Gate {
 impl Gate {
     ghost use Rattle.si_base.specs.Netlist.{value_of};
     ghost use Rattle.si_netlist.specs.Parts.{gate_seen};
+    ghost use Rattle.si_netlist.specs.Reads.{gate_reads};
 
     /// The value at the code, as the gate of signal `z`.
     pub fn value(&self, z: Sig, code: Code) -> bool
@@ -41,6 +43,29 @@ impl Gate {
             Gate::Cell { sum, .. } => sum.value(code),
         }
     }
+
+    /// The signals that have a literal in one of its sums, each as a 1. A generalised C-element
+    /// keeps its own signal without a literal of it.
+    pub fn reads(&self) -> Code
+        ensures { MarksExactly (gate_reads (gate_seen self.now)) result }
+    {
+        match self {
+            Gate::Sum(sum) => sum_reads(sum),
+            Gate::Gc { set, reset } => Code(sum_reads(set).0 | sum_reads(reset).0),
+            Gate::Cell { sum, .. } => sum_reads(sum),
+        }
+    }
+}
+
+/// The signals that have a literal in the sum, each as a 1.
+fn sum_reads(sum: &Sum) -> Code
+    ensures { MarksExactly (sum_reads sum.now) result }
+{
+    let mut signals = 0;
+    for cube in sum.cubes() {
+        signals |= cube.care.0;
+    }
+    Code(signals)
 }
 
 /// An inserted signal, with the states at which it rises and falls, as they are spelled.

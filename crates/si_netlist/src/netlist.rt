@@ -1,10 +1,12 @@
 //! Netlists.
 
-ghost use Rattle.std.specs.Prelude.{◌≡◌, ℕ, ◌<◌, length, map};
+ghost use Rattle.std.specs.Prelude.{◌≡◌, ℕ, ◌<◌, Some, length, map, slice_get};
 ghost use Rattle.si_base.specs.WellFormed.{IsNetlist};
 ghost use Rattle.si_base.specs.Graph.{IsNonInput};
+ghost use Rattle.si_base.specs.Limits.{max_signals};
 ghost use Rattle.si_base.specs.Netlist as base;
 ghost use Rattle.si_netlist.specs.Parts.{gate_seen};
+ghost use Rattle.si_netlist.specs.Reads.{MarksExactly, signal_reads};
 
 use crate::gate::{Gate, Insert};
 use si_base::graph::Signal;
@@ -122,7 +124,25 @@ impl Netlist {
         requires { IsNonInput self.now.signals z }
         ensures { result ≡ base.gate_value self.now z code }
     {
-        self.gates[gate_place(&self.signals, z)].value(z, code)
+        self.gate_of(z).value(z, code)
+    }
+
+    /// The signals that the gate of a signal has literals of, each as a 1.
+    pub fn reads(&self, z: Sig) -> Code
+        requires { IsNonInput self.now.signals z }
+        ensures { MarksExactly (signal_reads self.now z) result }
+    {
+        self.gate_of(z).reads()
+    }
+
+    /// The gate of a signal.
+    fn gate_of(&self, z: Sig) -> &Gate
+        requires { IsNonInput self.now.signals z }
+        ensures gate { slice_get self.now.gates (base.gate_place self.now.signals z)
+            ≡ Some (gate_seen result.now) }
+        ensures within { z < max_signals }
+    {
+        &self.gates[gate_place(&self.signals, z)]
     }
 }
 

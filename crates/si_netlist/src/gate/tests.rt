@@ -1,4 +1,4 @@
-//! The value of each kind of gate.
+//! The value of each kind of gate, and what it reads.
 
 use crate::gate::Gate;
 use si_base::ids::{Code, Sig};
@@ -31,6 +31,7 @@ fn values_of_gates(rt: HostRuntime) -> Result<(), Fail> {
     assert!(rt; latch.value(Sig(1), Code(0b001)) && latch.value(Sig(1), Code(0b010)));
     assert!(rt; !latch.value(Sig(1), Code(0b000)) && !latch.value(Sig(1), Code(0b110)));
     assert!(rt; latch.value(Sig(1), Code(0b111)));
+    assert_eq!(rt; latch.reads(), Code(0b101));
 
     let inverter = Gate::Cell {
         name: Name::copy_of(alloc, b"INV")?,
@@ -38,5 +39,6 @@ fn values_of_gates(rt: HostRuntime) -> Result<(), Fail> {
         sum: first_signal(alloc, 0)?,
     };
     assert!(rt; inverter.value(Sig(1), Code(0b10)) && !inverter.value(Sig(1), Code(0b01)));
+    assert_eq!(rt; inverter.reads(), Code(0b001));
     Ok(())
 }
