@@ -4,9 +4,10 @@ ghost use Rattle.std.specs.Prelude.{◌≡◌, ℕ, ◌<◌, ◌+◌, ◌↔◌,
 ghost use Rattle.si_base.specs.System.{IsFor, start};
 
 use crate::lists::first_difference;
-use crate::step::{first_lost, place_after};
+use crate::step::{first_lost, place_after, reads_of};
 use crate::verdict::Verdict;
 use si_base::ids::{Code, Event, StateId};
+use si_base::limits::MAX_SIGNALS;
 use si_graph::coded::Coded;
 use si_netlist::netlist::Netlist;
 use std::marker::Model;
@@ -26,11 +27,14 @@ pub struct ListsDiffer {
 pub struct System<'a> {
     graph: &'a Coded,
     netlist: &'a Netlist,
+    // What the gate of each signal reads.
+    reads: [Code; MAX_SIGNALS],
     values: Code,
     state: Option<StateId>,
 }
 
 impl<'a> Model for System<'a> {
+    ghost use Rattle.si_system.specs.Reads.{AreReads};
     ghost use Rattle.si_system.specs.Verdict as verdict;
 
     ghost Value = { verdict.System };
@@ -40,6 +44,8 @@ impl<'a> Model for System<'a> {
       netlist = s.netlist.now;
       state = record { values = s.values; place = s.state };
     } };
+
+    ghost invariant = { λ s. AreReads s.netlist.now s.reads };
 }
 
 impl<'a> System<'a> {
@@ -67,6 +73,7 @@ impl<'a> System<'a> {
             None => Ok(System {
                 graph,
                 netlist,
+                reads: reads_of(netlist),
                 values: netlist.start(),
                 state: Some(graph.graph().start()),
             }),
@@ -132,7 +139,7 @@ impl<'a> System<'a> {
         };
         let verdict = match state {
             None => Verdict::Astray { sig: fired },
-            Some(_) => match first_lost(self.netlist, self.values, values, fired) {
+            Some(_) => match first_lost(self.netlist, &self.reads, self.values, values, fired) {
                 Some(sig) => Verdict::Lost { sig },
                 None => Verdict::Done,
             },
