@@ -135,22 +135,14 @@ impl Netlist {
         self.gate_of(z).reads()
     }
 
-    /// The gate of a signal.
+    /// The gate of a signal. The signals without one, the inputs, stand in front.
     fn gate_of(&self, z: Sig) -> &Gate
         requires { IsNonInput self.now.signals z }
         ensures gate { slice_get self.now.gates (base.gate_place self.now.signals z)
             ≡ Some (gate_seen result.now) }
         ensures within { z < max_signals }
     {
-        &self.gates[gate_place(&self.signals, z)]
+        let inputs = self.signals.len() - self.gates.len();
+        &self.gates[z.0 as usize - inputs]
     }
-}
-
-/// The place of a signal's gate: how many signals before it aren't inputs.
-fn gate_place(signals: &[Signal], z: Sig) -> usize
-    requires { z < length signals.now }
-    ensures { result ≡ base.gate_place signals.now z }
-{
-    let (before, _) = signals.split_at(z.0 as usize);
-    before.iter().filter(|x| x.kind.is_driven()).count()
 }
