@@ -1,5 +1,5 @@
 -- Gates of fitting instances give the next values, and are gates of the format.
-use Rattle.std.proofs.Common.{◌≡◌, ℕ, ◌+◌, ◌<◌, ◌≤◌, List, [], length, Some, None, Option, sym, ap, ◌∙◌, subst, arith, refl, inl, inr}
+use Rattle.std.proofs.Common.{◌≡◌, ℕ, ◌+◌, ◌<◌, ◌≤◌, List, length, Some, None, Option, sym, ap, ◌∙◌, subst, arith, refl, inl, inr}
 use Rattle.std.specs.Option.{IsSome}
 use Rattle.std.proofs.lemmas.Bool.{false≢true}
 use Rattle.std.proofs.lemmas.Bool.Decides.{eqb_tells}
@@ -7,10 +7,10 @@ use Rattle.std.proofs.lemmas.Option.{slice_get_cases}
 use Rattle.si_base.specs.Codes.{CodedGraph, IsCoded, code, next_value}
 use Rattle.si_base.specs.Graph.{IsNonInput}
 use Rattle.si_base.specs.Limits.{code_width}
-use Rattle.si_base.specs.Netlist.{Gate, Insertion, gate_place, value_of, value_if_there}
+use Rattle.si_base.specs.Netlist.{Gate, Insertion, value_of, value_if_there}
 use Rattle.si_base.specs.RightGates.{GivesNextValues}
 use Rattle.si_base.specs.WellFormed.{IsGate, IsNetlist}
-use Rattle.si_cell.specs.Library.{Library, Instance, IsLibrary, IsInstance, cell_at, no_cell}
+use Rattle.si_cell.specs.Library.{Library, Instance, IsLibrary, IsInstance, no_cell}
 use Rattle.si_cell.proofs.ExpandedLemmas.{expanded_value}
 use Rattle.si_cell.proofs.LawLemmas.{expanded_is_sum}
 use Rattle.si_match.specs.Fit.{first_fit, IsOver, Fits}
@@ -50,8 +50,10 @@ signal_there c z driven = elim (slice_get_cases c.graph.signals z).1 [
   | inr past ↦ absurd cc
 ]
 
-value_given : (c : CodedGraph) (library : Library) (z s : ℕ) → IsCoded c → IsLibrary library → IsNonInput c.graph.signals z
-    → IsSome (first_fit c library z) → s < c.graph.states → value_of (cell_gate c library z) z (code c s) ≡ next_value c s z
+value_given : (c : CodedGraph) (library : Library) (z s : ℕ) → IsCoded c → IsLibrary library
+    → IsNonInput c.graph.signals z
+    → IsSome (first_fit c library z) → s < c.graph.states
+    → value_of (cell_gate c library z) z (code c s) ≡ next_value c s z
 value_given c library z s is good driven some within =
     let found = gate_found c library z is some in
     let there = signal_there c z driven in
@@ -69,7 +71,8 @@ gate_is c library z is good driven some =
       cell.name,
       omega (over.instance.pins, cell.few_pins, arith),
       over.signals,
-      expanded_is_sum (length c.graph.signals) library found.0 z good over.instance over.signals (signal_there c z driven),
+      expanded_is_sum (length c.graph.signals) library found.0 z good over.instance over.signals
+          (signal_there c z driven),
     )
 
 pub cells_give : (c : CodedGraph) (library : Library) (model : List ℕ) (inserts : List Insertion) → IsCoded c
@@ -100,7 +103,8 @@ fit_more c library i before here y below driven = elim (eqb_tells y i) [
   | inr different ↦ (let apart = different.1 in before y (omega (arith, below, apart)) driven)
 ]
 
-pub all_fit : (c : CodedGraph) (library : Library) (i : ℕ) → FitBefore c library i → length c.graph.signals ≤ i → AllFit c library
+pub all_fit : (c : CodedGraph) (library : Library) (i : ℕ) → FitBefore c library i → length c.graph.signals ≤ i
+    → AllFit c library
 all_fit c library i before past z driven = before z (omega (arith, past, signal_there c z driven)) driven
 
 pub shows_first : (c : CodedGraph) (library : Library) (z : ℕ) (fault : CellsFault) → FitBefore c library z
@@ -109,7 +113,8 @@ shows_first c library z NoMemory before driven shown = shown
 shows_first c library z (Unfit sig) before driven shown =
     subst (IsFirstUnfit c library) (sym shown.0) (record { driven = driven; unfit = shown.1; others = before })
 
-pub instance_of : (c : CodedGraph) (library : Library) (z : ℕ) (i : Instance) → IsCoded c → first_fit c library z ≡ Some i
+pub instance_of : (c : CodedGraph) (library : Library) (z : ℕ) (i : Instance) → IsCoded c
+    → first_fit c library z ≡ Some i
     → IsInstance library i
 instance_of c library z i is found = (fit_fits c library z i is found).0.instance
 

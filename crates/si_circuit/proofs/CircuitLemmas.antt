@@ -34,7 +34,8 @@ pub gates_circuit : (gate : ℕ → Gate) (model : List ℕ) (states : List (Lis
 gates_circuit gate model states l lineage gives = record {
   built = built gate model states l gives;
   inserted = ap (map (λ i. i.name)) (inserted gate model states l) ∙ insertion_names states l;
-  implements = implements l.given l.trace l.current (netlist_of gate model (insertions_of states l) l.current.coded) lineage
+  implements = implements l.given l.trace l.current (netlist_of gate model (insertions_of states l) l.current.coded)
+      lineage
       (built gate model states l gives);
 }
 
@@ -60,7 +61,8 @@ pub is_circuit : (style : Style) (model : List ℕ) (states : List (List ℕ)) (
     → IsCircuit l (circuit_of style model states l)
 is_circuit style model states l lineage none =
     gates_circuit (gate_of style l.current.coded) model states l lineage
-    (chosen_give style l.current.coded model (insertions_of states l) (keeps l.given l.trace l.current lineage).coded none)
+    (chosen_give style l.current.coded model (insertions_of states l) (keeps l.given l.trace l.current lineage).coded
+    none)
 
 pub circuit_made : (style : Style) (model read : List ℕ) (states : List (List ℕ)) (l seen : History) (k : CodedGraph)
     (inserts : List Insertion) (n : Netlist) → seen ≡ l → IsLineage seen.given seen.trace seen.current
@@ -68,7 +70,8 @@ pub circuit_made : (style : Style) (model read : List ℕ) (states : List (List 
     → n ≡ netlist_of (gate_of style k) read inserts k → IsCircuit l n
 circuit_made style model read states l seen k inserts n same lineage none graph_is read_is inserts_are n_is =
     let coded : IsCoded k =
-    subst IsCoded (ap (λ (h : History). h.current.coded) same ∙ sym graph_is) (keeps seen.given seen.trace seen.current lineage).coded in
+    subst IsCoded (ap (λ (h : History). h.current.coded) same ∙ sym graph_is)
+    (keeps seen.given seen.trace seen.current lineage).coded in
     circuit_with (gate_of style) model read states l seen k inserts n same lineage graph_is read_is inserts_are n_is
     (subst (GivesNextValues k) (sym n_is)
     (chosen_give style k read inserts coded (subst HasNoConflict (sym graph_is) none)))

@@ -125,7 +125,8 @@ given_are given is = record {
 
     own_at : (s : ℕ) → s < given.graph.states → descent (given_descents given.graph.states) s ≡ own (0 + s)
     own_at s small =
-        get_or-map own (range_with_len 0 given.graph.states) s 0 _ (omega (arith, small, length-range_with_len 0 given.graph.states))
+        get_or-map own (range_with_len 0 given.graph.states) s 0 _
+        (omega (arith, small, length-range_with_len 0 given.graph.states))
         ∙ ap own (get_or-range_with_len 0 given.graph.states s 0 small)
 
 pub at_start : (given : CodedGraph) (trace : List TraceStep) (v : Current) → IsLineage given trace v
@@ -163,11 +164,13 @@ at_next given p rest v k ds at =
 pub along : (given : CodedGraph) (rest : List TraceStep) (v : Current) (k : ℕ) (ds : List Descent)
     → At given rest v k ds → AreDescents given v (descents_along k rest ds)
 along given [] v k ds at = subst (λ w. AreDescents given w ds) at.grows at.descents
-along given (p ∷ rest) v k ds at = along given rest v (k + 1) (descents_after k p.partition ds) (at_next given p rest v k ds at)
+along given (p ∷ rest) v k ds at = along given rest v (k + 1) (descents_after k p.partition ds)
+    (at_next given p rest v k ds at)
 
 pub descents_are : (given : CodedGraph) (trace : List TraceStep) (v : Current) → IsLineage given trace v
     → AreDescents given v (descents_along 0 trace (given_descents given.graph.states))
-descents_are given trace v lineage = along given trace v 0 (given_descents given.graph.states) (at_start given trace v lineage)
+descents_are given trace v lineage =
+    along given trace v 0 (given_descents given.graph.states) (at_start given trace v lineage)
 
 -- ---- what the code asks of a step
 pub record StepFits (given : CodedGraph) (p : TraceStep) (k : ℕ) (ds : List Descent) : Type 0 where

@@ -38,13 +38,15 @@ c_element = record {
 
 -- as a complex gate it is the majority of a, b and c itself
 c_element_complex : netlist_text (chosen_netlist Complex (codes "c2") c_element)
-    ≡ codes ".version 2\n.model c2\n.inputs a b\n.outputs c\n.internal\n.inserted\n.start 000\n.gates\nc sum a b + b c + a c\n.end\n"
+    ≡ codes
+    ".version 2\n.model c2\n.inputs a b\n.outputs c\n.internal\n.inserted\n.start 000\n.gates\nc sum a b + b c + a c\n.end\n"
 unfolding netlist_text netlist_of chosen_sum
 c_element_complex = refl
 
 -- as a generalised C-element it is set by a b and reset by a' b'
 c_element_generalised : netlist_text (chosen_netlist GeneralisedC (codes "c2") c_element)
-    ≡ codes ".version 2\n.model c2\n.inputs a b\n.outputs c\n.internal\n.inserted\n.start 000\n.gates\nc gc a b | a' b'\n.end\n"
+    ≡ codes
+    ".version 2\n.model c2\n.inputs a b\n.outputs c\n.internal\n.inserted\n.start 000\n.gates\nc gc a b | a' b'\n.end\n"
 unfolding netlist_text netlist_of chosen_sum
 c_element_generalised = refl
 

@@ -98,7 +98,11 @@ pub is_netlist : (gate : ℕ → Gate) (model : List ℕ) (inserts : List Insert
 unfolding netlist_of
 is_netlist gate model inserts c coded spelled inserted are = record {
   model = model_is_word model spelled.model_name;
-  no_brace = (no_brace model opening_brace spelled.model_name refl, no_brace model closing_brace spelled.model_name refl);
+  no_brace = (
+    no_brace model opening_brace spelled.model_name refl,
+    no_brace model closing_brace spelled.model_name
+        refl,
+  );
   names = spelled.names;
   distinct = coded.graph_is.names;
   kinds = coded.graph_is.kinds;

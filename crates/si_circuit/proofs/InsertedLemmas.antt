@@ -58,7 +58,8 @@ names_new (p ∷ trace) = ap (λ (xs : List (List ℕ)). p.name ∷ xs) (names_n
 
 none_given : (signals : List Signal) → AllGiven signals → names_of Inserted signals ≡ []
 none_given signals given =
-    sym (nothing_inserted signals (λ i d small. given i (get_or signals i d) (slice_get-get_or signals i d small))).names
+    sym (nothing_inserted signals
+    (λ i d small. given i (get_or signals i d) (slice_get-get_or signals i d small))).names
 
 -- the inserted signals have the names of the trace
 pub inserted_names : (given : CodedGraph) (trace : List TraceStep) (v : Current) → IsLineage given trace v
@@ -66,7 +67,8 @@ pub inserted_names : (given : CodedGraph) (trace : List TraceStep) (v : Current)
 inserted_names given trace v lineage =
     let grown = signals_grow (as_given given) trace v lineage.grown in
     ap (names_of Inserted) grown ∙ names_append given.graph.signals (new_signals trace)
-    ∙ ap (λ (xs : List (List ℕ)). xs ++ names_of Inserted (new_signals trace)) (none_given given.graph.signals lineage.none_inserted)
+    ∙ ap (λ (xs : List (List ℕ)). xs ++ names_of Inserted (new_signals trace))
+    (none_given given.graph.signals lineage.none_inserted)
     ∙ names_new trace
 
 names_spelled : (states : List (List ℕ)) (k : ℕ) (ds : List Descent) (trace : List TraceStep)
@@ -184,10 +186,12 @@ all_insertions given states [] v k ds names at = All-nil IsInsertion
 all_insertions given states (p ∷ rest) v k ds names at =
     let fits = step_fits given p rest v k ds at in
     let P : ℕ → Type 0 = λ n. All (λ (d : Descent). d.origin < n) ds in
-    All-cons IsInsertion (insertion_of states k ds p) (insertions_from states (k + 1) (descents_after k p.partition ds) rest)
+    All-cons IsInsertion (insertion_of states k ds p)
+    (insertions_from states (k + 1) (descents_after k p.partition ds) rest)
     (insertion_is states at.now.coded.graph k ds p names.each (subst P (sym names.count) fits.within) fits.count
     at.grows.1.accepted.lawful)
-    (all_insertions given states rest v (k + 1) (descents_after k p.partition ds) names (at_next given p rest v k ds at))
+    (all_insertions given states rest v (k + 1) (descents_after k p.partition ds) names
+    (at_next given p rest v k ds at))
 
 pub are_inserted : (states : List (List ℕ)) (l : History) → IsLineage l.given l.trace l.current
     → AreStateNames l.given.graph states → AreInserted (insertions_of states l) l.current.coded.graph.signals

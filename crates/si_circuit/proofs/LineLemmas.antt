@@ -5,10 +5,6 @@ use Rattle.si_base.specs.Netlist.{Insertion}
 use Rattle.si_words.specs.Writing.{spaced}
 use Rattle.si_circuit.specs.InsertionWords.{all_insertion_words, insertion_words}
 
--- the names from the i-th on
-abbrev pub names_left : List (List ℕ) → ℕ → List ℕ
-names_left names i = spaced (drop i names)
-
 -- the words of the insertions from the i-th on
 abbrev pub inserts_left : List Insertion → ℕ → List ℕ
 inserts_left inserts i = spaced (all_insertion_words (drop i inserts))

@@ -106,7 +106,8 @@ gate_at gate i (y ∷ xs) (suc z) x here driven =
     past (is_driven y.kind) (gate i) (gates_from gate (i + 1) xs) (gate_place xs z) ∙ rest
     ∙ ap (λ (n : ℕ). Some (gate n)) at
 
-pub has_gates : (serves : ℕ → Gate → Type 0) (gate : ℕ → Gate) (model : List ℕ) (inserts : List Insertion) (c : CodedGraph)
+pub has_gates : (serves : ℕ → Gate → Type 0) (gate : ℕ → Gate) (model : List ℕ) (inserts : List Insertion)
+    (c : CodedGraph)
     → ((z : ℕ) → IsNonInput c.graph.signals z → serves z (gate z)) → HasGates serves (netlist_of gate model inserts c)
 unfolding netlist_of
 has_gates serves gate model inserts c serve z non_input =

@@ -17,8 +17,8 @@ step name classes = record { name = name; partition = classes }
 abbrev spelled : List ℕ → List ℕ → List ℕ → Insertion
 spelled name up down = record { name = name; up = up ∷ []; down = down ∷ [] }
 
--- two states p and q: x rises at p and falls at q, so that there are p and q at 0 and at 1; of these y rises at the second
--- p and falls at the first q; and z rises and falls where y has two values
+-- two states p and q: x rises at p and falls at q, so that there are p and q at 0 and at 1; of these y rises at the
+-- second p and falls at the first q; and z rises and falls where y has two values
 abbrev trace : List TraceStep
 trace = step (codes "x") (Rising ∷ Falling ∷ [])
     ∷ step (codes "y") (Low ∷ Rising ∷ Falling ∷ High ∷ [])
@@ -69,7 +69,8 @@ unfolding current_word
 current_words = (refl, refl, refl, refl)
 
 -- where nothing is inserted the word is the name
-given_word : current_word (codes "p" ∷ codes "q" ∷ []) (record { given = given; trace = []; current = as_given given }) 1
+given_word : current_word (codes "p" ∷ codes "q" ∷ []) (record { given = given; trace = []; current = as_given given })
+    1
     ≡ codes "q"
 unfolding current_word
 given_word = refl

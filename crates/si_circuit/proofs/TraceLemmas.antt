@@ -62,12 +62,14 @@ pub step_spelled : (states : List (List ℕ)) (l : History) (k : ℕ) (trace : L
     (insert : Insertion) → trace ≡ l.trace → k < length trace → p ≡ get_or trace k p → read ≡ ds → again ≡ ds
     → classes ≡ p.partition → next ≡ descents_after k classes again → insert ≡ insertion_of states k read p
     → more ≡ done ++ insert ∷ [] → IsSpelledTo states l k ds done → IsSpelledTo states l (k + 1) next more
-step_spelled states l k trace ds read again next classes done more p insert same within item read_is again_is classes_are
+step_spelled states l k trace ds read again next classes done more p insert same within item read_is again_is
+    classes_are
     next_is insert_is made is =
     let W : List TraceStep → Type 0 = λ xs. k < length xs in
     let I : List TraceStep → Type 0 = λ xs. p ≡ get_or xs k p in
     one_spelled states l k ds next done more p (subst W same within) (subst I same item)
-    (next_is ∙ ap (λ (xs : List Class). descents_after k xs again) classes_are ∙ ap (descents_after k p.partition) again_is)
+    (next_is ∙ ap (λ (xs : List Class). descents_after k xs again) classes_are
+    ∙ ap (descents_after k p.partition) again_is)
     (made ∙ ap (λ (i : Insertion). done ++ i ∷ [])
     (insert_is ∙ ap (λ (xs : List Descent). insertion_of states k xs p) read_is))
     is

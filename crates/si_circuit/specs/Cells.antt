@@ -15,7 +15,8 @@ use Rattle.si_circuit.specs.declared.cells.CellsFault.TheVariants.{NoMemory, Unf
 
 -- ---- the gates
 
--- an instance as the gate of signal z: the name of its cell, its literals, and its sum over them and z
+-- an instance as the gate of signal z: the name of its cell, its literals, and its sum over them
+-- and z
 abbrev pub instance_gate : Library → ℕ → Instance → Gate
 instance_gate library z i = Cell (cell_at library i.cell).name i.literals (expanded library i z)
 
@@ -29,7 +30,8 @@ abbrev pub cell_gate : CodedGraph → Library → ℕ → Gate
 cell_gate c library z = gate_if_any library z (first_fit c library z)
 
 -- the netlist of these gates for the lineage's current graph, with the insertions of its trace
-abbrev pub mapped_netlist : Library → (model : List ℕ) → (states : List (List ℕ)) → History → Netlist
+abbrev pub mapped_netlist : Library → (model : List ℕ) → (states : List (List ℕ)) → History
+    → Netlist
 mapped_netlist library model states l =
     netlist_of (cell_gate l.current.coded library) model (insertions_of states l) l.current.coded
 

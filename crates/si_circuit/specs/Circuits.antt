@@ -25,8 +25,8 @@ pub record LineageNetlist : Type 0 where
   pub lineage : History
   pub netlist : Netlist
 
--- the netlist has the signals, the start and the next values of the current graph, and the insertions of the trace; so it
--- implements the given graph
+-- the netlist has the signals, the start and the next values of the current graph, and the
+-- insertions of the trace; so it implements the given graph
 pub record IsCircuit (l : History) (n : Netlist) : Type 0 where
   pub built : IsBuilt l.current n
   pub inserted : map (λ i. i.name) n.inserts ≡ map (λ p. p.name) l.trace

@@ -21,7 +21,8 @@ IsCoverGate c z (Cell name literals sum) = ⊥
 -- they are prime and irredundant covers
 abbrev pub IsPrimeGate : CodedGraph → ℕ → Gate → Type 0
 IsPrimeGate c z (SumGate sum) = IsPrimeCover (demand Next c z) sum
-IsPrimeGate c z (Gc set reset) = IsPrimeCover (demand Set c z) set × IsPrimeCover (demand Reset c z) reset
+IsPrimeGate c z (Gc set reset) = IsPrimeCover (demand Set c z) set
+    × IsPrimeCover (demand Reset c z) reset
 IsPrimeGate c z (Cell name literals sum) = ⊥
 
 abbrev pub HasCoverGates : CodedGraph → Netlist → Type 0

@@ -1,4 +1,5 @@
--- How insertions are spelled: each by its name, and the words of the states at which the signal rises and falls.
+-- How insertions are spelled: each by its name, and the words of the states at which the signal
+-- rises and falls.
 use Rattle.std.specs.Prelude.{◌≡◌, ℕ, zero, suc, ◌+◌, ◌/◌, ◌^◌, ◌<◌, Bool, true, false, List, [], ◌∷◌, ◌++◌, length, map, filter, if◌then◌else◌}
 use Rattle.std.specs.List.{range_with_len, slice_index_or}
 use Rattle.si_base.specs.Bits.{bit, flip}
@@ -20,12 +21,14 @@ digit value = if value then digit_one else digit_zero
 abbrev pub digits : ℕ → ℕ → List ℕ
 digits k bits = map (λ i. digit (bit bits i)) (range_with_len 0 k)
 
--- the values of the first k inserted signals, in order of insertion, after `@`; nothing before any insertion
+-- the values of the first k inserted signals, in order of insertion, after `@`; nothing before any
+-- insertion
 abbrev pub mark : ℕ → ℕ → List ℕ
 mark zero bits = []
 mark (suc k) bits = at_sign ∷ digits (suc k) bits
 
--- the word of a state after k insertions: the name of the given state from which it comes, and its mark
+-- the word of a state after k insertions: the name of the given state from which it comes, and its
+-- mark
 abbrev pub state_word : List (List ℕ) → ℕ → Descent → List ℕ
 state_word states k d = slice_index_or states d.origin [] ++ mark k d.bits
 
@@ -33,7 +36,8 @@ state_word states k d = slice_index_or states d.origin [] ++ mark k d.bits
 abbrev pub descent : List Descent → ℕ → Descent
 descent ds s = slice_index_or ds s (record { origin = 0; bits = 0 })
 
--- the words of the states at which a signal, inserted by these classes after k others, switches in that direction
+-- the words of the states at which a signal, inserted by these classes after k others, switches in
+-- that direction
 abbrev pub switching_words : List (List ℕ) → ℕ → List Descent → List Class → Bool → List (List ℕ)
 switching_words states k ds classes up =
     map (λ s. state_word states k (descent ds s))
@@ -70,7 +74,8 @@ given_descents states = map (λ s. record { origin = s; bits = 0 }) (range_with_
 abbrev pub insertions_from : List (List ℕ) → ℕ → List Descent → List TraceStep → List Insertion
 insertions_from states k ds [] = []
 insertions_from states k ds (p ∷ trace) =
-    insertion_of states k ds p ∷ insertions_from states (k + 1) (descents_after k p.partition ds) trace
+    insertion_of states k ds p ∷ insertions_from states (k + 1) (descents_after k p.partition ds)
+    trace
 
 -- the insertions of a lineage, in their order
 unfoldable pub insertions_of : List (List ℕ) → History → List Insertion
@@ -86,7 +91,11 @@ pub record AreDescents (given : CodedGraph) (v : Current) (ds : List Descent) : 
 -- the descent of state s of the current graph: its origin, and its code without the given signals
 abbrev pub current_descent : History → ℕ → Descent
 current_descent l s =
-    record { origin = origin l.current s; bits = code l.current.coded s / 2 ^ length l.given.graph.signals }
+    record {
+      origin = origin l.current s;
+      bits =
+          code l.current.coded s / 2 ^ length l.given.graph.signals;
+    }
 
 -- the word of state s of the current graph
 unfoldable pub current_word : List (List ℕ) → History → ℕ → List ℕ

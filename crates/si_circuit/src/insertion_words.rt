@@ -5,15 +5,16 @@ ghost use Rattle.si_circuit.specs.InsertionWords.{all_insertion_words, insertion
 ghost use Rattle.si_words.specs.Writing.{spaced};
 
 use si_base::ids::NoMemory;
-use si_base::text::{Name, Text};
+use si_base::text::Text;
 use si_netlist::gate::Insert;
+use si_netlist::write::add_words;
 use si_words::writing::add_word;
 
-/// Adds for each insertion a bar, its name, `up` and the states at which the signal rises, `down` and
-/// those at which it falls, each word with a blank before it.
+/// Adds for each insertion a bar, its name, `up` and the states at which the signal rises, `down`
+/// and those at which it falls, each word with a blank before it.
 ///
-/// It fails only where memory runs out. The text may then end in a part of the words, and isn't to be
-/// used.
+/// It fails only where memory runs out. The text may then end in a part of the words, and isn't to
+/// be used.
 pub fn add_insertions(text: &mut Text, inserts: &[Insert]) -> Result<(), NoMemory>
     ensures { OnOk result (text.new ≡ text.old ++ spaced (all_insertion_words inserts.now)) }
 {
@@ -30,17 +31,7 @@ fn add_insertion(text: &mut Text, insert: &Insert) -> Result<(), NoMemory>
     add_word(text, b"|")?;
     add_word(text, insert.name.bytes())?;
     add_word(text, b"up")?;
-    add_names(text, insert.up.as_slice())?;
+    add_words(text, &insert.up)?;
     add_word(text, b"down")?;
-    add_names(text, insert.down.as_slice())
-}
-
-/// Adds the names.
-fn add_names(text: &mut Text, names: &[Name]) -> Result<(), NoMemory>
-    ensures { OnOk result (text.new ≡ text.old ++ spaced names.now) }
-{
-    for name in names {
-        add_word(text, name.bytes())?;
-    }
-    Ok(())
+    add_words(text, &insert.down)
 }

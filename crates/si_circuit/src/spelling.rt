@@ -12,6 +12,7 @@ use si_insert::lineage::{Lineage, TraceStep};
 use si_insert::partition::Class;
 use si_insert::state_copies::{StateCopy, copies_of};
 use si_netlist::gate::Insert;
+use si_netlist::name_list::NameList;
 use std::alloc::Global;
 
 /// Where a state of a lineage comes from: its given state, and the values of the inserted signals,
@@ -42,8 +43,8 @@ pub fn insertions(alloc: Global, lineage: &Lineage, states: &Names) -> Result<Ve
 }
 
 /// The word of a state of the lineage's current graph, as `insertions` spells it: the name of the
-/// given state from which it comes, and, where signals are inserted, `@` and their values in order of
-/// insertion. It fails only where memory runs out.
+/// given state from which it comes, and, where signals are inserted, `@` and their values in order
+/// of insertion. It fails only where memory runs out.
 pub fn current_state_word(
     alloc: Global,
     lineage: &Lineage,
@@ -61,7 +62,8 @@ pub fn current_state_word(
         origin: lineage.origin(s),
         bits: lineage.bits(s),
     };
-    state_word(alloc, states, inserted, descent)
+    let word = state_word(alloc, states, inserted, descent)?;
+    Name::copy_of(alloc, word.as_slice())
 }
 
 /// The given states, each its own origin.
@@ -144,31 +146,37 @@ fn switching_words(
     descents: &[Descent],
     classes: &[Class],
     up: bool,
-) -> Result<Vec<Name>, NoMemory>
+) -> Result<NameList, NoMemory>
     requires room { k ≤ code_width }
     requires count { length descents.now ≡ length classes.now }
     requires within { All (λ d. d.origin < length states.now) descents.now }
-    ensures { IfOk result (λ words. words.items
+    ensures { IfOk result (λ words. words
         ≡ spelled.switching_words states.now k descents.now classes.now up) }
 {
-    let mut words = Vec::new(alloc);
+    let mut words = NameList::new(alloc);
     for s in 0..classes.len() {
         if classes[s].switches(up) {
-            words.push(state_word(alloc, states, k, descents[s])?)?;
+            let word = state_word(alloc, states, k, descents[s])?;
+            words.push(word.as_slice())?;
         }
     }
     Ok(words)
 }
 
 /// The word of a state after k insertions.
-fn state_word(alloc: Global, states: &Names, k: usize, descent: Descent) -> Result<Name, NoMemory>
+fn state_word(
+    alloc: Global,
+    states: &Names,
+    k: usize,
+    descent: Descent,
+) -> Result<Vec<u8>, NoMemory>
     requires room { k ≤ code_width }
     requires within { descent.origin < length states.now }
-    ensures { IfOk result (λ word. word ≡ spelled.state_word states.now k descent) }
+    ensures { IfOk result (λ word. word.items ≡ spelled.state_word states.now k descent) }
 {
     let mut word = Vec::from_slice(alloc, states.get(descent.origin.0))?;
     add_mark(&mut word, k, descent.bits)?;
-    Name::copy_of(alloc, word.as_slice())
+    Ok(word)
 }
 
 /// Adds `@` and the first k bits, or nothing where k is 0.

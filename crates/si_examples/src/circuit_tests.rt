@@ -162,11 +162,7 @@ fn two_insertions(rt: HostRuntime) -> Result<(), Fail> {
     assert!(rt; inserts.len() == 2);
     let second = &inserts[1];
     assert!(rt; second.up.len() == 1 && second.down.len() == 1);
-    let words = (
-        second.name.bytes(),
-        second.up[0].bytes(),
-        second.down[0].bytes(),
-    );
+    let words = (second.name.bytes(), second.up.get(0), second.down.get(0));
     assert_eq!(rt;
         words,
         (b"csc1".as_slice(), b"s3@0".as_slice(), b"s7@1".as_slice())

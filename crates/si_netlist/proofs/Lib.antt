@@ -1,4 +1,5 @@
 pub mod GateLemmas
+pub mod ReadLemmas
 pub mod WritingLemmas
 pub mod LiteralLemmas
-pub mod ReadLemmas
+mod PieceLemmas

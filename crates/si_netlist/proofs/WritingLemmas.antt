@@ -1,8 +1,8 @@
 -- What the writers of a netlist's text have still to add, a step at a time.
 use Rattle.std.proofs.Common.{◌≡◌, ℕ, ◌+◌, ◌<◌, ◌==◌, true, false, List, [], ◌∷◌, ◌++◌, refl, sym, ap, ◌∙◌, length, get_or, drop, map, if◌then◌else◌, add-one, append_assoc, drop-cons, Some, slice_get, codes, arith, inl, inr}
-use Rattle.std.proofs.lemmas.Option.{slice_get_read, slice_get_cases}
+use Rattle.std.proofs.lemmas.Option.{slice_get_read, slice_get_cases, slice_get_within, get_or_from_slice_get}
 use Rattle.std.proofs.lemmas.Grind.{flat_map-append}
-use Rattle.std.proofs.lemmas.List.{append-nil}
+use Rattle.std.proofs.lemmas.List.{append-nil, drop_more}
 use Rattle.si_base.specs.declared.graph.Signal.{Signal}
 use Rattle.si_base.specs.declared.graph.SigKind.{SigKind}
 use Rattle.si_base.specs.declared.graph.SigKind.TheVariants.{Input, Output, Internal, Inserted}
@@ -32,6 +32,17 @@ literals_after signals literals i = spaced (map (literal_word signals) (drop i l
 -- the words from the i-th on
 abbrev pub words_from : List (List ℕ) → ℕ → List ℕ
 words_from words i = spaced (drop i words)
+
+pub words_more : (words : List (List ℕ)) (k : ℕ) (word old text new : List ℕ) → slice_get words k ≡ Some word
+    → text ++ words_from words k ≡ old ++ words_from words 0 → new ≡ text ++ 32 ∷ word
+    → new ++ words_from words (k + 1) ≡ old ++ words_from words 0
+words_more words k word old text new at so_far is =
+    let here : drop k words ≡ word ∷ drop (k + 1) words =
+    drop_more words k word (slice_get_within words k word at)
+    ∙ ap (λ (w : List ℕ). w ∷ drop (k + 1) words) (get_or_from_slice_get words k word word at) in
+    ap (λ (t : List ℕ). t ++ words_from words (k + 1)) is
+    ∙ append_assoc text (32 ∷ word) (words_from words (k + 1))
+    ∙ ap (λ (ws : List (List ℕ)). text ++ spaced ws) (sym here) ∙ so_far
 
 -- the names of a kind from the i-th signal on
 abbrev pub names_from : SigKind → List Signal → ℕ → List ℕ

@@ -4,6 +4,7 @@ ghost use Rattle.std.specs.Prelude.{◌≡◌, ℕ, ◌<◌};
 ghost use Rattle.si_base.specs.Limits.{max_signals};
 ghost use Rattle.si_netlist.specs.Reads.{MarksExactly, sum_reads};
 
+use crate::name_list::NameList;
 use si_base::ids::{Code, Literal, Sig};
 use si_base::text::Name;
 use si_cube::sum::Sum;
@@ -72,8 +73,8 @@ fn sum_reads(sum: &Sum) -> Code
 #[derive(Drop)]
 pub struct Insert {
     pub name: Name,
-    pub up: Vec<Name>,
-    pub down: Vec<Name>,
+    pub up: NameList,
+    pub down: NameList,
 }
 
 impl Model for Insert {
@@ -81,7 +82,7 @@ impl Model for Insert {
 
     ghost Value = { Insertion };
 
-    ghost view = { λ i. record { name = i.name; up = i.up.items; down = i.down.items } };
+    ghost view = { λ i. record { name = i.name; up = i.up; down = i.down } };
 }
 
 #[cfg(test)]

@@ -2,6 +2,7 @@
 #![tactic(auto)]
 
 pub mod gate;
+pub mod name_list;
 pub mod netlist;
 pub mod write;
 mod write_gates;

@@ -8,11 +8,12 @@ ghost use Rattle.si_base.specs.NetlistText.{netlist_text, same_kind as is_same_k
 ghost use Rattle.si_words.specs.Writing.{spaced};
 
 use crate::gate::Insert;
+use crate::name_list::NameList;
 use crate::netlist::Netlist;
 use crate::write_gates::add_gate_lines;
 use si_base::graph::{SigKind, Signal};
 use si_base::ids::{Code, NoMemory, Sig};
-use si_base::text::{Name, Text};
+use si_base::text::Text;
 use si_words::writing::add_word;
 use std::alloc::Global;
 
@@ -73,8 +74,8 @@ fn same_kind(a: SigKind, b: SigKind) -> bool
 /// Adds a line of a word and the signals' values: a digit each, in their order, and the word alone
 /// where there is no signal.
 ///
-/// It fails only where memory runs out. The text may then end in a part of the line, and isn't to be
-/// used.
+/// It fails only where memory runs out. The text may then end in a part of the line, and isn't to
+/// be used.
 pub fn add_values_line(
     text: &mut Text,
     word: &[u8],
@@ -138,18 +139,21 @@ fn add_insert_line(text: &mut Text, insert: &Insert) -> Result<(), NoMemory>
     text.add(b".insert")?;
     add_word(text, insert.name.bytes())?;
     add_word(text, b"up")?;
-    add_words(text, insert.up.as_slice())?;
+    add_words(text, &insert.up)?;
     add_word(text, b"down")?;
-    add_words(text, insert.down.as_slice())?;
+    add_words(text, &insert.down)?;
     text.add(b"\n")
 }
 
-/// Adds the words.
-fn add_words(text: &mut Text, words: &[Name]) -> Result<(), NoMemory>
+/// Adds the words, each with a blank before it.
+///
+/// It fails only where memory runs out. The text may then end in a part of the words, and isn't to
+/// be used.
+pub fn add_words(text: &mut Text, words: &NameList) -> Result<(), NoMemory>
     ensures { OnOk result (text.new ≡ text.old ++ spaced words.now) }
 {
-    for word in words {
-        add_word(text, word.bytes())?;
+    for k in 0..words.len() {
+        add_word(text, words.get(k))?;
     }
     Ok(())
 }

@@ -12,7 +12,8 @@ use Rattle.si_netlist_reader.specs.Reading.{Inserts}
 -- the first three words are those of an insert line for the name, and `down` stands between two lists
 pub inserts : (name : List ℕ) (ws : List (Bor (List ℕ))) (d : Bor (List ℕ)) (states : List (Bor (List ℕ)))
     (rising falling : List (List ℕ)) → 3 ≤ length ws → states ≡ drop 3 ws
-    → (bytes_eq (codes ".insert") (get_or ws 0 d).now && bytes_eq name (get_or ws 1 d).now && bytes_eq (codes "up") (get_or ws 2 d).now) ≡ true
+    → (bytes_eq (codes ".insert") (get_or ws 0 d).now && bytes_eq name (get_or ws 1 d).now
+    && bytes_eq (codes "up") (get_or ws 2 d).now) ≡ true
     → list_any is_empty (words_now states) ≡ false
     → cut_at (codes "down") (words_now states) ≡ Some (rising, falling)
     → is_empty rising ≡ false → is_empty falling ≡ false → stands_in falling (codes "down") ≡ false
@@ -26,5 +27,6 @@ inserts name (a ∷ b ∷ c ∷ ws) d states rising falling long split begins fu
     let both : cut_at (codes "down") (words_now ws) ≡ Some (rising, falling) = rw split at cut in
     record {
       form = rw (begins, no_empty, both, some, others, once) refl;
-      value = rw both (ap (λ (n : List ℕ). let r : Insertion = record { name = n; up = rising; down = falling } in r) (sym same));
+      value = rw both (ap (λ (n : List ℕ). let r : Insertion = record { name = n; up = rising; down = falling } in r)
+          (sym same));
     }

@@ -18,6 +18,7 @@ use si_base::ids::NoMemory;
 use si_base::names::Names;
 use si_base::text::Name;
 use si_netlist::gate::Insert;
+use si_netlist::name_list::NameList;
 use si_words::gate_lines::cut_at;
 use si_words::rows::{Rows, has_empty};
 use std::alloc::Global;
@@ -39,7 +40,8 @@ fn has_word(words: &[&[u8]], word: &[u8]) -> bool
 
 /// Whether an insert line for the name begins with these words.
 fn begins_insert(name: &[u8], head: &[u8], word: &[u8], up: &[u8]) -> bool
-    ensures { result ≡ (bytes_eq (codes ".insert") head.now && bytes_eq name.now word.now && bytes_eq (codes "up") up.now) }
+    ensures { result ≡ (bytes_eq (codes ".insert") head.now && bytes_eq name.now word.now
+        && bytes_eq (codes "up") up.now) }
 {
     b".insert".as_slice() == head && name == word && b"up".as_slice() == up
 }
@@ -50,7 +52,8 @@ fn both_lists<'s, 'a>(
     words: &'s [&'a [u8]],
 ) -> Option<(&'s [&'a [u8]], &'s [&'a [u8]])>
     ensures { MatchOption result (netlist.is_insert_line name.now (words_now words.now) ≡ false)
-        (λ lists. Inserts name.now (words_now words.now) (words_now lists.0.now) (words_now lists.1.now)) }
+        (λ lists. Inserts name.now (words_now words.now) (words_now lists.0.now)
+        (words_now lists.1.now)) }
 {
     let [head, word, up, ..] = words else {
         return None;
@@ -66,13 +69,12 @@ fn both_lists<'s, 'a>(
     Some((rising, falling))
 }
 
-fn names_of(alloc: Global, words: &[&[u8]]) -> Result<Vec<Name>, NoMemory>
-    ensures { IfOk result (λ names. names.items ≡ words_now words.now) }
+fn names_of(alloc: Global, words: &[&[u8]]) -> Result<NameList, NoMemory>
+    ensures { IfOk result (λ names. names ≡ words_now words.now) }
 {
-    let mut names = Vec::new(alloc);
+    let mut names = NameList::new(alloc);
     for word in words {
-        let name = Name::copy_of(alloc, *word)?;
-        names.push(name)?;
+        names.push(*word)?;
     }
     Ok(names)
 }

@@ -1,4 +1,4 @@
-use Rattle.std.proofs.Common.{◌≡◌, ◌∙◌, sym}
+use Rattle.std.proofs.Common.{◌∙◌, sym}
 use Rattle.si_checks.specs.Lent.{lent_graph}
 use Rattle.si_circuit.proofs.CellLemmas.{instance_of, signal_small}
 use Rattle.si_circuit.proofs.cells.cell_gate.Goals as goal

@@ -7,7 +7,7 @@ use Rattle.si_base.specs.Netlist.{Gate}
 use Rattle.si_checks.specs.Lent.{lent_graph}
 use Rattle.si_netlist.specs.Parts.{gate_seen}
 use Rattle.si_circuit.specs.Cells.{cell_gate}
-use Rattle.si_circuit.proofs.CellLemmas.{fit_more, all_fit, shows_first}
+use Rattle.si_circuit.proofs.CellLemmas.{fit_more}
 use Rattle.si_circuit.proofs.GateLemmas.{gates_skip, gates_more}
 use Rattle.si_circuit.proofs.cells.cell_gates.Goals as goal
 

@@ -15,14 +15,16 @@ make-requires c =
     let graph_is : c.coded-coded.result.now ≡ k = c.coded-coded.ensures.same ∙ c.proper.ensures.same in
     let is = made (λ g. cell_gate g library) c.args.model k _ _ _ _ _ _ _ graph_is c.graph-graph.ensures.same
     c.in_ok-signals.ensures c.start.ensures c.code-start.ensures c.in_ok-gates.ensures.gates in
-    subst IsNetlist (sym is) (cells_are_netlist k library c.args.model _ (subst IsCoded graph_is c.graph-graph.ensures.coded)
+    subst IsNetlist (sym is) (cells_are_netlist k library c.args.model _
+    (subst IsCoded graph_is c.graph-graph.ensures.coded)
     c.in_ok-gates.ensures.library c.in_ok-gates.ensures.fit c.requires.spelled c.requires.inserted)
 
 pub returns-clause-chosen : goal.returns-clause-chosen
 returns-clause-chosen c =
     let k = lent_graph c.args.graph in
     let graph_is : c.coded-coded.result.now ≡ k = c.coded-coded.ensures.same ∙ c.proper.ensures.same in
-    c.make.ensures ∙ made (λ g. cell_gate g c.args.library.now) c.args.model k _ _ _ _ _ _ _ graph_is c.graph-graph.ensures.same
+    c.make.ensures ∙ made (λ g. cell_gate g c.args.library.now) c.args.model k _ _ _ _ _ _ _ graph_is
+    c.graph-graph.ensures.same
     c.in_ok-signals.ensures c.start.ensures c.code-start.ensures c.in_ok-gates.ensures.gates
 
 pub returns-clause-gives : goal.returns-clause-gives

@@ -27,5 +27,6 @@ returns-clause-circuit c =
 
 pub returns-clause-implements : goal.returns-clause-implements
 returns-clause-implements c =
-    IfOk-weaker c.netlist_with.result (IsCircuit c.args.resolved.now) (λ n. Implements n c.args.resolved.now.given.graph)
+    IfOk-weaker c.netlist_with.result (IsCircuit c.args.resolved.now)
+    (λ n. Implements n c.args.resolved.now.given.graph)
     (λ n is. is.implements) (returns-clause-circuit c)

@@ -12,7 +12,8 @@ pub make-requires : goal.make-requires
 make-requires c =
     let graph_is : c.coded-coded.result.now ≡ lent_graph c.args.graph =
     c.coded-coded.ensures.same ∙ c.proper.ensures.same in
-    let is = made (gate_of c.args.style) c.args.model (lent_graph c.args.graph) _ _ _ _ _ _ _ graph_is c.graph-graph.ensures.same
+    let is = made (gate_of c.args.style) c.args.model (lent_graph c.args.graph) _ _ _ _ _ _ _ graph_is
+    c.graph-graph.ensures.same
     c.in_ok-signals.ensures c.start.ensures c.code-start.ensures c.in_ok-gates.ensures in
     subst IsNetlist (sym is) (chosen_is_netlist c.args.style (lent_graph c.args.graph) c.args.model _
     (subst IsCoded graph_is c.graph-graph.ensures.coded) c.requires.spelled c.requires.inserted)

@@ -10,4 +10,5 @@ loop-i-preserved c =
 pub returns : goal.returns
 returns c =
     marked c.args.bits c.args.k c.loop-i.i c.args.word.now.items c.push.new.self.items c.loop-i.word.items
-    (omega (arith, c.if-k-eq0.false)) c.loop-i-test.false c.loop-i.auto.i-end c.in_ok-push.ensures.items c.loop-i.invariant
+    (omega (arith, c.if-k-eq0.false)) c.loop-i-test.false c.loop-i.auto.i-end c.in_ok-push.ensures.items
+    c.loop-i.invariant

@@ -1,8 +1,8 @@
-use Rattle.std.proofs.Common.{◌≡◌, ◌≤◌, List, length, ap, sym, subst}
+use Rattle.std.proofs.Common.{◌≡◌, ◌∙◌, ◌≤◌, List, length, ap, sym, subst}
 use Rattle.std.proofs.lemmas.Result.{IfOk-weaker}
 use Rattle.si_base.specs.Limits.{code_width}
 use Rattle.si_insert.specs.declared.lineage.TraceStep.{TraceStep}
-use Rattle.si_circuit.specs.Spelling.{current_word, state_word}
+use Rattle.si_circuit.specs.Spelling.{current_word}
 use Rattle.si_circuit.proofs.CurrentLemmas.{few_insertions, current_word_made}
 use Rattle.si_circuit.proofs.spelling.current_state_word.Goals as goal
 
@@ -14,8 +14,10 @@ state_word-requires-clause-room c =
 pub returns : goal.returns
 returns c =
     let k = length c.trace-inserted.result.now in
-    IfOk-weaker c.state_word.result (λ word. word ≡ state_word c.args.states.now k _)
-    (λ word. word ≡ current_word c.args.states.now c.args.lineage.now c.args.s)
-    (λ word. current_word_made c.args.states.now c.args.lineage.now c.args.s k _ word
-    (ap (length {A = TraceStep}) c.trace-inserted.ensures.same) c.origin.ensures c.bits.ensures)
-    c.state_word.ensures
+    let current : c.as_slice.result.now ≡ current_word c.args.states.now c.args.lineage.now c.args.s =
+    current_word_made c.args.states.now c.args.lineage.now c.args.s k _ c.as_slice.result.now
+    (ap (length {A = TraceStep}) c.trace-inserted.ensures.same) c.origin.ensures c.bits.ensures
+    (c.as_slice.ensures.value ∙ c.in_ok-word.ensures) in
+    IfOk-weaker c.copy_of.result (λ word. word ≡ c.as_slice.result.now)
+    (λ word. word ≡ current_word c.args.states.now c.args.lineage.now c.args.s) (λ word is. is ∙ current)
+    c.copy_of.ensures

@@ -9,7 +9,8 @@ use Rattle.si_circuit.proofs.spelling.insertions.Goals as goal
 
 pub loop-k-init : goal.loop-k-init
 loop-k-init c =
-    let P : List Descent → List Insertion → Type 0 = λ ds done. IsSpelledTo c.args.states.now c.args.lineage.now 0 ds done in
+    let P : List Descent → List Insertion → Type 0 =
+    λ ds done. IsSpelledTo c.args.states.now c.args.lineage.now 0 ds done in
     let graph : c.graph.result.now ≡ c.args.lineage.now.given.graph =
     c.graph.ensures.same ∙ ap (λ (k : CodedGraph). k.graph) (c.coded.ensures.same ∙ c.given.ensures.same) in
     let start : c.in_ok-descents.descents.items ≡ given_descents c.args.lineage.now.given.graph.states =

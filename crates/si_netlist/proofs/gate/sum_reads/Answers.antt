@@ -9,4 +9,5 @@ loop-cube-preserved c x =
     let fits : c.cube-inside.inside.0.0.0 < 2 ^ code_width = omega arith in
     let small : c.cube.inside.care < 2 ^ code_width = omega arith in
     rw same (reads_more c.cubes-cube-items.result.now c.loop-cube.cube-index c.loop-cube.signals c.cube.inside.care
-    c.cube.inside.value x c.cube-item.result (omega arith) c.cube-item.is c.cube.view_is small (c.loop-cube.invariant x))
+    c.cube.inside.value x c.cube-item.result (omega arith) c.cube-item.is c.cube.view_is small
+    (c.loop-cube.invariant x))

@@ -8,10 +8,8 @@ pub returns : goal.returns
 returns c =
     let name : c.bytes.result.now ≡ c.args.insert.now.name =
     c.bytes.ensures ∙ ap (λ (i : Insertion). i.name) c.insert.view_is in
-    let up : c.as_slice.result.now ≡ c.args.insert.now.up =
-    c.as_slice.ensures.value ∙ ap (λ (i : Insertion). i.up) c.insert.view_is in
-    let down : c.as_slice-2.result.now ≡ c.args.insert.now.down =
-    c.as_slice-2.ensures.value ∙ ap (λ (i : Insertion). i.down) c.insert.view_is in
+    let up = ap (λ (i : Insertion). i.up) c.insert.view_is in
+    let down = ap (λ (i : Insertion). i.down) c.insert.view_is in
     left_as _ _ _ _ (insert_by_calls c.args.insert.now c.args.text.now _ _ _ _ _ _
     c.in_ok-add.ensures.added
     (rw name at c.in_ok-add_word.ensures)

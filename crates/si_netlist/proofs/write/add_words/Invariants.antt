@@ -2,5 +2,5 @@ use Rattle.std.proofs.Common.{◌≡◌, ◌++◌}
 use Rattle.si_netlist.proofs.WritingLemmas.{words_from}
 use Rattle.si_netlist.proofs.write.add_words.Given as goal
 
-abbrev pub invariant-loop-word : goal.invariant-loop-word
-invariant-loop-word l = l.text ++ words_from l.words l.word-index ≡ l.initial.text ++ words_from l.words 0
+abbrev pub invariant-loop-k : goal.invariant-loop-k
+invariant-loop-k l = l.text ++ words_from l.words l.k ≡ l.initial.text ++ words_from l.words 0

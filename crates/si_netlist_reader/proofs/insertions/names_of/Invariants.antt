@@ -3,4 +3,4 @@ use Rattle.si_words.specs.Reads.{words_now}
 use Rattle.si_netlist_reader.proofs.insertions.names_of.Given as goal
 
 abbrev pub invariant-loop-word : goal.invariant-loop-word
-invariant-loop-word l = l.names.items ≡ take l.word-index (words_now l.words)
+invariant-loop-word l = l.names ≡ take l.word-index (words_now l.words)

@@ -7,5 +7,6 @@ invariant-loop-k l = record {
   coded : l.system.coded ≡ l.fn.system.coded;
   netlist : l.system.netlist ≡ l.fn.system.netlist;
   place : IsSome l.system.state.place;
-  passes : Passes l.fn.system.coded.graph l.fn.system.netlist l.fn.system.state (take l.k l.schedule.items) l.system.state;
+  passes : Passes l.fn.system.coded.graph l.fn.system.netlist l.fn.system.state (take l.k l.schedule.items)
+      l.system.state;
 }

@@ -20,7 +20,8 @@ loop-k-preserved c =
     let few = c.signals-signal-items.ensures.netlist.few in
     let within : c.loop-k.k < max_signals = omega (arith, ap length same) in
     elim c.if-is_driven.branch [
-      | then-is_driven w ↦ rw w.reads-is (filled_more n c.loop-k.k c.loop-k.reads w.reads.result c.loop-k.invariant within
+      | then-is_driven w ↦ rw w.reads-is
+          (filled_more n c.loop-k.k c.loop-k.reads w.reads.result c.loop-k.invariant within
           (has_gate n _ c.loop-k.k c.signal-item.result same c.loop-k-test.true c.signal-item.is
           (sym c.is_driven.ensures ∙ w.if-is_driven.true)) w.reads.ensures)
       | else-is_driven w ↦ rw w.reads-is (filled_skip n c.loop-k.k c.loop-k.reads c.loop-k.invariant
