@@ -93,8 +93,7 @@ abbrev pub current_descent : History → ℕ → Descent
 current_descent l s =
     record {
       origin = origin l.current s;
-      bits =
-          code l.current.coded s / 2 ^ length l.given.graph.signals;
+      bits = code l.current.coded s / 2 ^ length l.given.graph.signals;
     }
 
 -- the word of state s of the current graph

@@ -21,8 +21,7 @@ plain_after : (shelf : ShelfState) (name : List ℕ) (limit : ℕ) (content : Li
     → (let after : ShelfState = record {
       files = shelf.files;
       fails = shelf.fails;
-      calls =
-          one_more shelf.calls;
+      calls = one_more shelf.calls;
       faults = shelf.faults;
     } in after) ≡ shelf_after shelf name limit
 plain_after shelf name limit content free there =
@@ -42,8 +41,7 @@ returns-clause-answers c =
     (sym (plain_call (record {
       files = c.self.inside.files.items;
       fails = c.self.inside.fails.items;
-      calls =
-          c.self.inside.calls;
+      calls = c.self.inside.calls;
       faults = c.self.inside.faults;
     }) _ c.args.limit c.in-Some.content.now free there))
     c.copied.ensures)
@@ -56,7 +54,6 @@ returns-clause-after c =
     (plain_after (record {
       files = c.self.inside.files.items;
       fails = c.self.inside.fails.items;
-      calls =
-          c.self.inside.calls;
+      calls = c.self.inside.calls;
       faults = c.self.inside.faults;
     }) _ c.args.limit c.in-Some.content.now free there)
