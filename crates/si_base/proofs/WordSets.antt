@@ -2,14 +2,15 @@
 use Rattle.std.proofs.Common.{◌≡◌, ℕ, zero, suc, mod-lt, ◌↔◌, IsTrue, ◌+◌, ◌*◌, ◌/◌, ◌%◌, ◌^◌, ◌<◌, ◌≤◌, ◌==◌, Bool, true, false, cond, ◌||◌, ◌&&◌, ◌⊎◌, ◌-◌, refl, sym, ap, subst, ◌∙◌, arith, inl, inr, List, length, map, get_or, set, replicate, count_by, count_ones, bit_or, bit_and}
 use Rattle.std.specs.List.{range_with_len}
 use Rattle.std.specs.Int.{bit_at, w64}
+use Rattle.std.specs.Int.Count.{count_trailing_zeros}
 use Rattle.std.proofs.lemmas.Bool.{cases_eq, cases_lt, true≢false}
 use Rattle.std.proofs.lemmas.List.{get_or_past, get_or-set_same, get_or-set_other, get_or-replicate, length-set, length-replicate}
 use Rattle.std.proofs.lemmas.List.FromFn.{length-map-range_with_len, get_or-map-range_with_len, fill_by_all, sum_by-map-range_with_len_more}
 use Rattle.std.proofs.lemmas.List.Sums.{count_by-le-length}
-use Rattle.std.proofs.lemmas.Nat.{pow_pos, mod-pow-add, ones_cat, or_lt, and_le_l}
-use Rattle.std.proofs.lemmas.Nat.Bits.{bit_at-lt, bit_at-zero, bit_at_or, bit_at_and, bit_at_above, shr_and_one, bit_at_set_same, bit_at_set_other, bit_at_clear_same, bit_at_clear_other}
+use Rattle.std.proofs.lemmas.Nat.{pow_pos, shr-shr, shr_le, mod-pow-add, ones_cat, or_lt, and_le_l}
+use Rattle.std.proofs.lemmas.Nat.Bits.{bit_at-lt, bit_at-zero, bit_at_or, bit_at_and, bit_at_above, bit_at-trailing_zeros, shr_and_one, bit_at_set_same, bit_at_set_other, bit_at_clear_same, bit_at_clear_other}
 use Rattle.si_base.specs.Bits.{bit}
-use Rattle.si_base.specs.Sets.{flag, flags_of, HasNoFlagFrom, AreWithin, AreApart, IsSubset, IsUnion, IsDisjoint}
+use Rattle.si_base.specs.Sets.{flag, flags_of, HasNoFlagFrom, HasNoneFrom, IsFirstFlag, IsFirstFrom, AreWithin, AreApart, IsSubset, IsUnion, IsDisjoint}
 use Rattle.si_base.proofs.BitFacts.{below_two, same_codes}
 
 -- ---- the list of the flags
@@ -317,6 +318,20 @@ disjoint_seen n words others one other r shown other_shown is = (
   λ disjoint. is.1 (λ s set also. disjoint s (told n words one shown s ∙ set) (told n others other other_shown s ∙ also)),
 )
 
+pub none_seen : (n s t : ℕ) (words slice : List ℕ) (flags : List Bool) → slice ≡ words → Shows n words flags → s ≡ t
+    → HasNoFlagFrom slice s → HasNoneFrom flags t
+none_seen n s t words slice flags same shown at none u late inside =
+    true≢false (sym inside ∙ told n words flags shown u ∙ ap (λ l. flag l u) (sym same) ∙ none u (omega (arith, at, late)))
+
+pub first_seen : (n s t u : ℕ) (words slice : List ℕ) (flags : List Bool) → slice ≡ words → Shows n words flags → s ≡ t
+    → IsFirstFlag slice s u → IsFirstFrom flags t u
+first_seen n s t u words slice flags same shown at is = record {
+  from = omega (arith, at, is.from);
+  inside = told n words flags shown u ∙ ap (λ l. flag l u) (sym same) ∙ is.set;
+  first = λ v late inside. is.first v (omega (arith, at, late))
+      (ap (λ l. flag l v) same ∙ sym (told n words flags shown v) ∙ inside);
+}
+
 -- ---- how many
 
 abbrev count_below : (ℕ → Bool) → ℕ → ℕ
@@ -402,3 +417,63 @@ all_counted n words size none =
 
 pub count_within : (n : ℕ) (words : List ℕ) → set_count (flags_of n words) ≤ n
 count_within n words = omega (arith, count_by-le-length (λ b. b) (flags_of n words), flag_count n words)
+
+-- ---- the first
+
+-- the rest of a word, from the place at on
+abbrev rest_of : List ℕ → ℕ → ℕ
+rest_of words at = get_or words (at / 64) 0 / 2 ^ (at % 64)
+
+rest_bit : (words : List ℕ) (at i : ℕ) → bit_at (rest_of words at) i ≡ bit_at (get_or words (at / 64) 0) (at % 64 + i)
+rest_bit words at i = ap (λ x. x % 2) (shr-shr (get_or words (at / 64) 0) (at % 64) i)
+
+rest_flag : (words : List ℕ) (at i : ℕ) → at % 64 + i < 64 → bit (rest_of words at) i ≡ flag words (at + i)
+rest_flag words at i low =
+    let word : at / 64 ≡ (at + i) / 64 = omega (arith, low) in
+    let place_is : at % 64 + i ≡ (at + i) % 64 = omega (arith, low) in
+    ap (λ b. b == 1) (rest_bit words at i) ∙ ap (λ k. bit (get_or words k 0) (at % 64 + i)) word
+    ∙ ap (bit (get_or words ((at + i) / 64) 0)) place_is
+
+pub no_flag_in_rest : (words : List ℕ) (from at : ℕ) → rest_of words at ≡ 0
+    → ((u : ℕ) → from ≤ u → u < at → flag words u ≡ false)
+    → (u : ℕ) → from ≤ u → u < (at / 64 + 1) * 64 → flag words u ≡ false
+no_flag_in_rest words from at none before u late early = elim (cases_lt u at) [
+  | inl seen ↦ before u late seen
+  | inr past ↦
+      let same : u ≡ at + (u - at) = omega (arith, past) in
+      ap (flag words) same ∙ sym (rest_flag words at (u - at) (omega (arith, past, early)))
+      ∙ ap (λ x. bit x (u - at)) none ∙ bit_of_zero (u - at)
+]
+
+-- t is the place of the lowest bit of the rest
+lowest : (words : List ℕ) (at t : ℕ) → AreWords words → bit_at (rest_of words at) t ≡ 1 → at % 64 + t < 64
+lowest words at t fit one = elim (cases_lt (at % 64 + t) 64) [
+  | inl low ↦ low
+  | inr high ↦
+      let zero_there = bit_at_above (get_or words (at / 64) 0) 64 (at % 64 + t) (fit (at / 64)) high in
+      absurd (omega (arith, one, rest_bit words at t, zero_there))
+]
+
+pub first_in_rest : (words : List ℕ) (from at : ℕ) → AreWords words → 0 < rest_of words at → from ≤ at
+    → ((u : ℕ) → from ≤ u → u < at → flag words u ≡ false)
+    → IsFirstFlag words from (at + count_trailing_zeros 64 (rest_of words at))
+first_in_rest words from at fit some late before =
+    let rest = rest_of words at in
+    let t = count_trailing_zeros 64 rest in
+    let fits : rest < 2 ^ 64 = omega (arith, shr_le (get_or words (at / 64) 0) (at % 64), fit (at / 64)) in
+    let is = bit_at-trailing_zeros w64 rest some fits in
+    let low : at % 64 + t < 64 = lowest words at t fit is.1 in record {
+      from = omega (arith, late);
+      set = sym (rest_flag words at t low) ∙ ap (λ b. b == 1) is.1;
+      first = λ u after set. elim (cases_lt u (at + t)) [
+        | inr past ↦ past
+        | inl early ↦ elim (cases_lt u at) [
+          | inl seen ↦ absurd (true≢false (sym set ∙ before u after seen))
+          | inr there ↦
+              let same : at + (u - at) ≡ u = omega (arith, there) in
+              let unset : bit rest (u - at) ≡ false = ap (λ b. b == 1) (is.2 (u - at) (omega (arith, early, there))) in
+              absurd (true≢false (sym set ∙ ap (flag words) (sym same)
+              ∙ sym (rest_flag words at (u - at) (omega (arith, early, there, low))) ∙ unset))
+        ]
+      ];
+    }

@@ -11,6 +11,12 @@ flag words s = bit (slice_index words (s / 64)) (s % 64)
 abbrev pub HasNoFlagFrom : List ℕ → ℕ → Type 0
 HasNoFlagFrom words states = (s : ℕ) → states ≤ s → flag words s ≡ false
 
+-- the flag t is the first that is set from s on
+pub record IsFirstFlag (words : List ℕ) (s t : ℕ) : Type 0 where
+  pub from : s ≤ t
+  pub set : flag words t ≡ true
+  pub first : (u : ℕ) → s ≤ u → flag words u ≡ true → t ≤ u
+
 -- words with the flags of the states below, and no more
 pub record AreFlags (states : ℕ) (words : List ℕ) : Type 0 where
   pub few : states < 2 ^ 32

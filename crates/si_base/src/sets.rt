@@ -1,7 +1,7 @@
 //! Sets of states.
 
 ghost use Rattle.std.specs.Prelude.{◌≡◌, ℕ, ◌<◌, ◌≤◌, ◌*◌, ◌^◌, ◌↔◌, List, length, Bool, true, false, IfOk, IsTrue, replicate, count_by, slice_index, slice_index_or, slice_set, MatchOption, bit_or};
-ghost use Rattle.si_base.specs.Sets.{IsSubset, IsUnion, IsDisjoint, IsFirstFrom, HasNoneFrom, AreWithin, AreApart, flags_of};
+ghost use Rattle.si_base.specs.Sets.{IsSubset, IsUnion, IsDisjoint, IsFirstFrom, HasNoneFrom, AreWithin, AreApart, HasNoFlagFrom, IsFirstFlag, flags_of};
 
 use crate::ids::{NoMemory, StateId};
 use std::alloc::Global;
@@ -91,6 +91,17 @@ impl StateSet {
         are_apart(&self.words, &other.words)
     }
 
+    /// The least state of the set at or past `s`, or `None` where there is none.
+    pub fn first_from(&self, s: StateId) -> Option<StateId>
+        requires { s ≤ length self.now }
+        ensures { MatchOption result (HasNoneFrom self.now s) (λ t. IsFirstFrom self.now s t) }
+    {
+        match first_set(&self.words, s.0 as usize) {
+            Some(t) => Some(StateId(t as u32)),
+            None => None,
+        }
+    }
+
     /// How many states are in the set.
     pub fn count(&self) -> u32
         ensures { result ≡ count_by (λ b. b) self.now }
@@ -135,6 +146,23 @@ fn are_apart(words: &[u64], others: &[u64]) -> bool
         }
     }
     true
+}
+
+/// The place of the first flag that is set at or past the place `from`.
+fn first_set(words: &[u64], from: usize) -> Option<usize>
+    requires few { length words.now < 2 ^ 32 }
+    requires low { from < 2 ^ 32 }
+    ensures { MatchOption result (HasNoFlagFrom words.now from) (λ t. IsFirstFlag words.now from t) }
+{
+    let mut at = from;
+    while at / 64 < words.len() {
+        let rest = words[at / 64] >> (at % 64);
+        if rest != 0 {
+            return Some(at + rest.trailing_zeros() as usize);
+        }
+        at = (at / 64 + 1) * 64;
+    }
+    None
 }
 
 /// How many flags are set.
