@@ -1,3 +1,4 @@
+pub mod LineScans
 pub mod WordSets
 pub mod Steps
 pub mod StepFacts
