@@ -1,5 +1,6 @@
 pub mod Arcs
 pub mod Chains
+pub mod Starts
 pub mod Closure
 pub mod Faults
 pub mod Excited
