@@ -4,6 +4,7 @@ pub mod Starts
 pub mod Closure
 pub mod Faults
 pub mod Excited
+pub mod NextCodes
 pub mod Changes
 pub mod Values
 pub mod Reach
