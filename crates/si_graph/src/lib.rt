@@ -7,6 +7,8 @@ pub mod closure;
 pub mod coded;
 mod determinism;
 pub mod graph;
+pub mod laws;
+mod next_values;
 mod reach;
 mod renaming;
 mod spread;

@@ -76,8 +76,6 @@ fn walks_and_look_ups(rt: HostRuntime) -> Result<(), Fail> {
     assert_eq!(rt; graph.edges(), 4);
     assert_eq!(rt; graph.start(), StateId(0));
     assert_eq!(rt; graph.signals().len(), 1);
-    let first = graph.first_out(StateId(1));
-    assert_eq!(rt; first, Some(EdgeId(1)));
     assert_eq!(rt; graph.arcs_out(StateId(1)).len(), 2);
     assert_eq!(rt; graph.succ(StateId(1), FALL), Some(StateId(0)));
     assert_eq!(rt; graph.succ(StateId(2), RISE), None);
@@ -144,12 +142,6 @@ fn walks_along_both_chains(rt: HostRuntime) -> Result<(), Fail> {
     assert_eq!(rt; graph.next_in(into[0]), Some(into[1]));
     assert_eq!(rt; graph.edge(into[1]), arc((2, 0, true, 3)));
     assert_eq!(rt; graph.next_in(into[1]), None);
-    let out = [EdgeId(5), EdgeId(6)];
-    assert_eq!(rt; graph.first_out(StateId(4)), Some(out[0]));
-    assert_eq!(rt; graph.edge(out[0]), arc((4, 0, false, 5)));
-    assert_eq!(rt; graph.next_out(out[0]), Some(out[1]));
-    assert_eq!(rt; graph.edge(out[1]), arc((4, 1, false, 6)));
-    assert_eq!(rt; graph.next_out(out[1]), None);
     Ok(())
 }
 
@@ -157,7 +149,6 @@ fn walks_along_both_chains(rt: HostRuntime) -> Result<(), Fail> {
 fn no_walk_where_there_is_no_arc(rt: HostRuntime) -> Result<(), Fail> {
     let alloc = rt.alloc();
     let graph = Graph::make(alloc, Vec::new(alloc), 1, Vec::new(alloc), StateId(0))?;
-    assert_eq!(rt; graph.first_out(StateId(0)), None);
     assert_eq!(rt; graph.first_in(StateId(0)), None);
     assert!(rt; graph.arcs_out(StateId(0)).is_empty());
     Ok(())
