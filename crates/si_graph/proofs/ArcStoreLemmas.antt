@@ -5,9 +5,9 @@ use Rattle.std.proofs.lemmas.Bool.{cases_lt, ltb-true, ltb-false}
 use Rattle.std.proofs.lemmas.List.{get_or-drop, get_or-take}
 use Rattle.si_base.specs.declared.graph.Edge.{Edge}
 use Rattle.si_base.specs.EdgeOrder.{edge_cmp}
-use Rattle.si_graph.specs.Arcs.{no_edge}
+use Rattle.si_graph.specs.Arcs.{no_edge, edge_at, IsOutOf, IsFirstFrom}
 use Rattle.si_graph.specs.Starts.{IsStart}
-use Rattle.si_graph.proofs.OrderLemmas.{sorted_take, sorted_drop}
+use Rattle.si_graph.proofs.OrderLemmas.{from_le, in_order, sorted_take, sorted_drop}
 
 -- ---- starts
 pub start_from_cut : (edges : List Edge) (s k : ℕ) → k ≤ length edges
@@ -81,3 +81,45 @@ module _ (edges : List Edge) (s low high : ℕ) (first : IsStart edges s low) (l
 
   pub run_ordered : IsStrictlySortedBy edge_cmp edges → IsStrictlySortedBy edge_cmp (drop low (take high edges))
   run_ordered ordered = sorted_drop edge_cmp low (take high edges) (sorted_take edge_cmp high edges ordered)
+
+  -- the first of them stands at its start, if there is any
+  pub first_at_start : low < high → IsFirstFrom (IsOutOf edges s) 0 (length edges) low
+  first_at_start some = record {
+    from = omega arith;
+    below = omega (arith, last.up_to);
+    holds = omega (
+      arith,
+      first.parts.1 low no_edge (omega arith) (omega (arith, last.up_to)),
+      last.parts.0 low no_edge (omega (arith, last.up_to)) some,
+    );
+    none_before = λ j from before is. omega (arith, first.parts.0 j no_edge (omega (arith, first.up_to)) before, is);
+  }
+
+  pub none_from_start : high ≤ low → (j : ℕ) → j < length edges → IsOutOf edges s j → ⊥
+  none_from_start none j within is = elim (cases_lt j low) [
+    | inl before ↦ omega (arith, first.parts.0 j no_edge (omega arith) before, is)
+    | inr after ↦ omega (arith, last.parts.1 j no_edge (omega arith) within, is)
+  ]
+
+-- ---- the next arc out of the source of one
+-- it stands behind that one, if the arcs out of the source go on
+module _ (edges : List Edge) (k high : ℕ) (last : IsStart edges ((edge_at edges k).from + 1) high) where
+  pub next_behind : IsStrictlySortedBy edge_cmp edges → k + 1 < high
+      → IsFirstFrom (IsOutOf edges (edge_at edges k).from) (k + 1) (length edges) (k + 1)
+  next_behind ordered more = record {
+    from = omega arith;
+    below = omega (arith, last.up_to);
+    holds = (
+        let within : k + 1 < length edges = omega (arith, last.up_to) in
+        omega (
+          arith,
+          from_le (edge_at edges k) (edge_at edges (k + 1))
+              (in_order edges ordered k (k + 1) no_edge (omega arith) within),
+          last.parts.0 (k + 1) no_edge (omega arith) more,
+        ));
+    none_before = λ j from before is. omega arith;
+  }
+
+  pub none_behind : high ≤ k + 1 → (j : ℕ) → k + 1 ≤ j → j < length edges
+      → IsOutOf edges (edge_at edges k).from j → ⊥
+  none_behind none j from within is = omega (arith, last.parts.1 j no_edge (omega arith) within, is)

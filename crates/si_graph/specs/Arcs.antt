@@ -25,6 +25,10 @@ abbrev pub IsFirstPlace : (ℕ → Type 0) → ℕ → ℕ → Option ℕ → Ty
 IsFirstPlace P low high None = (j : ℕ) → low ≤ j → j < high → P j → ⊥
 IsFirstPlace P low high (Some k) = IsFirstFrom P low high k
 
+-- the place has an arc out of s
+abbrev pub IsOutOf : List Edge → ℕ → ℕ → Type 0
+IsOutOf edges s k = (edge_at edges k).from ≡ s
+
 -- the place has an arc into t
 abbrev pub IsInto : List Edge → ℕ → ℕ → Type 0
 IsInto edges t k = (edge_at edges k).to ≡ t

@@ -4,7 +4,7 @@ ghost use Rattle.std.specs.Prelude.{◌≡◌, ℕ, ◌+◌, ◌<◌, ◌≤◌,
 ghost use Rattle.std.specs.List.Sorted.{IsStrictlySortedBy};
 ghost use Rattle.si_base.specs.declared.graph.Edge.{Edge};
 ghost use Rattle.si_base.specs.EdgeOrder.{edge_cmp};
-ghost use Rattle.si_graph.specs.Arcs.{edge_at, IsFirstPlace, IsInto};
+ghost use Rattle.si_graph.specs.Arcs.{edge_at, IsFirstPlace, IsInto, IsOutOf};
 ghost use Rattle.si_graph.specs.Starts.{AreStarts, IsStart};
 
 use crate::chain::Chain;
@@ -123,18 +123,43 @@ impl ArcStore {
     {
         let low = self.start(s.0 as usize);
         let high = self.start(s.0 as usize + 1);
-        let (up_to_high, _) = self.edges.as_slice().split_at(high);
-        let (_, out) = up_to_high.split_at(low);
+        let (up_to_high, _) = self.edges.as_slice().split_at(high as usize);
+        let (_, out) = up_to_high.split_at(low as usize);
         out
     }
 
     /// The place at which the arcs out of state `s` start, and those out of the states below end.
-    fn start(&self, s: usize) -> usize
+    fn start(&self, s: usize) -> u32
         ensures { IsStart self.now.edges s result }
     {
         match self.starts.get(s) {
-            Some(start) => *start as usize,
-            None => self.edges.len(),
+            Some(start) => *start,
+            None => self.edges.len() as u32,
+        }
+    }
+
+    /// The first arc out of a state; `None` exactly where there is none.
+    pub fn head_out(&self, s: StateId) -> Option<EdgeId>
+        ensures { IsFirstPlace (IsOutOf self.now.edges s) 0 (length self.now.edges) result }
+    {
+        let low = self.start(s.0 as usize);
+        let high = self.start(s.0 as usize + 1);
+        if low < high { Some(EdgeId(low)) } else { None }
+    }
+
+    /// The next arc out of the same state; `None` exactly where there is no further one.
+    pub fn next_out(&self, k: EdgeId) -> Option<EdgeId>
+        requires { k < length self.now.edges }
+        ensures { let from = (edge_at self.now.edges k).from in
+            IsFirstPlace (IsOutOf self.now.edges from) (k + 1) (length self.now.edges) result }
+    {
+        let source = self.edges[k.0 as usize].from;
+        let next = k.0 + 1;
+        let high = self.start(source.0 as usize + 1);
+        if next < high {
+            Some(EdgeId(next))
+        } else {
+            None
         }
     }
 

@@ -145,6 +145,29 @@ fn walks_into_a_state(rt: HostRuntime) -> Result<(), Fail> {
     Ok(())
 }
 
+#[test]
+fn walks_out_of_a_state(rt: HostRuntime) -> Result<(), Fail> {
+    let graph = c_element(&rt, rt.alloc())?;
+    assert!(rt; graph.edges() == 10);
+    let out = [EdgeId(5), EdgeId(6)];
+    assert_eq!(rt; graph.first_out(StateId(4)), Some(out[0]));
+    assert_eq!(rt; graph.edge(out[0]), arc((4, 0, false, 5)));
+    assert_eq!(rt; graph.next_out(out[0]), Some(out[1]));
+    assert_eq!(rt; graph.edge(out[1]), arc((4, 1, false, 6)));
+    assert_eq!(rt; graph.next_out(out[1]), None);
+    Ok(())
+}
+
+#[test]
+fn no_walk_where_there_is_no_arc(rt: HostRuntime) -> Result<(), Fail> {
+    let alloc = rt.alloc();
+    let graph = Graph::make(alloc, Vec::new(alloc), 1, Vec::new(alloc), StateId(0))?;
+    assert_eq!(rt; graph.first_out(StateId(0)), None);
+    assert_eq!(rt; graph.first_in(StateId(0)), None);
+    assert!(rt; graph.arcs_out(StateId(0)).is_empty());
+    Ok(())
+}
+
 /// The set of these states of the C-element.
 fn set_of(rt: &impl Abort, alloc: Global, states: &[u32]) -> Result<StateSet, NoMemory>
     ensures { IfOk result (λ set. length set ≡ 8) }
