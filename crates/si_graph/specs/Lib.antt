@@ -7,3 +7,4 @@ pub mod Changes
 pub mod Values
 pub mod Reach
 pub mod Renaming
+pub mod Search

@@ -9,6 +9,7 @@ mod determinism;
 pub mod graph;
 mod reach;
 mod renaming;
+pub mod search;
 mod spread;
 #[cfg(test)]
 mod tests;
