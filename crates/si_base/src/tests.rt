@@ -39,20 +39,29 @@ fn key_of_a_text(rt: HostRuntime) {
 }
 
 #[test]
-fn sets_codes_and_texts(rt: HostRuntime) -> Result<(), Fail> {
+fn sets_of_more_than_one_word(rt: HostRuntime) -> Result<(), Fail> {
     let alloc = rt.alloc();
-    let mut set = StateSet::new(alloc, 3)?;
-    assert_eq!(rt; set.size(), 3);
+    let mut set = StateSet::new(alloc, 66)?;
+    assert_eq!(rt; set.size(), 66);
     set.add(StateId(1));
-    assert!(rt; set.has(StateId(1)) && !set.has(StateId(2)));
-    assert_eq!(rt; set.count(), 1);
-    let mut other = StateSet::new(alloc, 3)?;
-    other.add(StateId(2));
-    assert!(rt; !set.is_subset(&other));
+    set.add(StateId(64));
+    assert!(rt; set.has(StateId(64)) && !set.has(StateId(65)));
+    assert_eq!(rt; set.count(), 2);
+    assert_eq!(rt; set.first_from(StateId(2)), Some(StateId(64)));
+    assert_eq!(rt; set.first_from(StateId(65)), None);
+    let mut other = StateSet::new(alloc, 66)?;
+    other.add(StateId(65));
+    assert!(rt; !set.is_subset(&other) && set.is_disjoint(&other));
     set.union_with(&other);
-    assert!(rt; set.has(StateId(1)) && set.has(StateId(2)) && other.is_subset(&set));
-    set.remove(StateId(1));
-    assert!(rt; !set.has(StateId(1)) && set.is_subset(&other));
+    assert!(rt; set.has(StateId(65)) && other.is_subset(&set) && !set.is_disjoint(&other));
+    set.remove(StateId(64));
+    assert!(rt; !set.has(StateId(64)) && !set.is_subset(&other));
+    Ok(())
+}
+
+#[test]
+fn codes_and_texts(rt: HostRuntime) -> Result<(), Fail> {
+    let alloc = rt.alloc();
     let code = Code(0)
         .set(Sig(5), true)
         .set(Sig(127), true)
@@ -61,6 +70,7 @@ fn sets_codes_and_texts(rt: HostRuntime) -> Result<(), Fail> {
     assert!(rt; code.get(Sig(127)) && !code.get(Sig(5)));
     assert_eq!(rt; Code::ones(128).flip(Sig(127)), Code::ones(127));
     assert_eq!(rt; Name::copy_of(alloc, b"req")?.bytes(), b"req".as_slice());
+    assert_eq!(rt; Name::numbered(alloc, b"s", 12)?.bytes(), b"s12".as_slice());
     let mut text = Text::copy_of(alloc, b"a b")?;
     text.add(b"\n")?;
     assert_eq!(rt; text.bytes(), b"a b\n".as_slice());
@@ -144,7 +154,7 @@ fn lines_and_words(rt: HostRuntime) -> Result<(), Fail> {
 #[test]
 fn faults_by_their_names(rt: HostRuntime) {
     assert_eq!(rt; TextKind::MarkingNotOne.name(), "MarkingNotOne");
-    assert_eq!(rt; TextKind::BadLine.name(), "BadLine");
+    assert_eq!(rt; TextKind::OwnFalling.name(), "OwnFalling");
     let at_three = at_line(3, LineFault::Kind(TextKind::NoEnd));
     assert!(rt;
         matches!(
