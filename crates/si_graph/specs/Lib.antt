@@ -8,3 +8,4 @@ pub mod Values
 pub mod Reach
 pub mod Renaming
 pub mod Search
+pub mod WordSearch

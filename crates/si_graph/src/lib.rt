@@ -14,3 +14,4 @@ mod spread;
 #[cfg(test)]
 mod tests;
 mod values;
+pub mod word_search;
