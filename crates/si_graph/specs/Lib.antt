@@ -10,3 +10,5 @@ pub mod Values
 pub mod Reach
 pub mod Renaming
 pub mod Laws
+pub mod Search
+pub mod WordSearch

@@ -11,7 +11,9 @@ pub mod laws;
 mod next_values;
 mod reach;
 mod renaming;
+pub mod search;
 mod spread;
 #[cfg(test)]
 mod tests;
 mod values;
+pub mod word_search;

@@ -7,8 +7,8 @@ use Rattle.si_base.specs.Codes.{CodedGraph}
 use Rattle.si_graph.specs.declared.closure.Along.{Along}
 use Rattle.si_graph.specs.Closure.{Path}
 use Rattle.si_graph.specs.Reach.{IsIn}
+use Rattle.si_graph.specs.Search.{Progress}
 use Rattle.si_regions.specs.declared.regions.Region.{Region}
-use Rattle.si_regions.specs.declared.search.Search.{Search}
 use Rattle.si_regions.specs.Regions.{IsRegion, region_place}
 
 -- the marks are those of the states of g that have P
@@ -29,10 +29,10 @@ pub record IsReachedIn (g : StateGraph) (along : Along) (within : List Bool) (se
   pub leads : Path g along within seed path t
 
 -- a search among so many states that has reached none of them
-pub record IsIdle (states : ℕ) (search : Search) : Type 0 where
+pub record IsIdle (states : ℕ) (search : Progress) : Type 0 where
   pub size : length search.marks ≡ states
   pub none : (t : ℕ) → IsIn search.marks t → ⊥
-  pub rests : search.work.items ≡ []
+  pub rests : search.work ≡ []
 
 -- the regions of events and least states before the place k and s, in order
 pub record RegionsTo (c : CodedGraph) (k s : ℕ) (regions : List Region) : Type 0 where
