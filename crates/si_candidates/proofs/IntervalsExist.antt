@@ -7,9 +7,9 @@ use Rattle.si_base.specs.Sets.{IsIn}
 use Rattle.si_base.proofs.StepFacts.{step_within}
 use Rattle.si_graph.specs.declared.closure.Along.TheVariants.{OutWithout}
 use Rattle.si_graph.proofs.MarkLemmas.{in_below}
-use Rattle.si_regions.specs.Searching.{IsReachedIn}
+use Rattle.si_regions.specs.Searching.{IsReachedIn, IsSeed}
 use Rattle.si_regions.proofs.SetsExist.{same_bit, listed, some_set, some_marks, some_reached}
-use Rattle.si_regions.proofs.SearchLemmas.{reached_on, reached_seed}
+use Rattle.si_graph.proofs.ClosureLemmas.{reached_on, reached_seed}
 use Rattle.si_candidates.specs.Interval.{IsReachedBefore, IsInterval}
 use Rattle.si_candidates.proofs.IntervalLemmas.{reached_has, walk_of}
 
@@ -51,10 +51,10 @@ module _ (g : StateGraph) (stop : Event) where
           record {
             size = marks.1.size;
             has = λ s there. (marks.1.exactly s).1 ((found.1.exactly s).1
-                (reached_seed g (OutWithout stop) everywhere seeds.0 s
+                (reached_seed (IsNext g (OutWithout stop) everywhere) (IsSeed everywhere seeds.0) s
                 ((seeds.1 s).1 there, is_everywhere s (from_within s there))));
             closed = λ s e t there step apart. (marks.1.exactly t).1 ((found.1.exactly t).1
-                (reached_on g (OutWithout stop) everywhere seeds.0 s t ((found.1.exactly s).0
+                (reached_on (IsNext g (OutWithout stop) everywhere) (IsSeed everywhere seeds.0) s t ((found.1.exactly s).0
                 ((marks.1.exactly s).0 there)) ((e, apart, step), is_everywhere t (step_within g s e t is step).2)));
             reached = λ t there. before t ((marks.1.exactly t).0 there);
           },

@@ -20,7 +20,8 @@ use Rattle.si_graph.proofs.MarkLemmas.{stays_in, in_cases, in_below}
 use Rattle.si_graph.proofs.MemberLemmas.{Contains-cons_cases, Contains-here, Contains-there, Contains-nil, Contains-map, Contains-from_map, Contains-filter, Contains-from_filter}
 use Rattle.si_regions.specs.Regions.{IsSetOf}
 use Rattle.si_regions.specs.Searching.{AreMarksOf, IsReachedIn, IsSeed}
-use Rattle.si_regions.proofs.SearchLemmas.{reached_on, reached_seed, search_finds}
+use Rattle.si_graph.proofs.ClosureLemmas.{reached_on, reached_seed}
+use Rattle.si_regions.proofs.SearchLemmas.{search_finds}
 
 -- ---- decisions
 -- P holds or it doesn't
@@ -246,7 +247,7 @@ module _ (g : StateGraph) (along : Along) (within : List Bool) (seeds : List ℕ
         begun = λ t seed. stays_in marks p.1 t below (are.begun t seed);
         sound = λ t is. elim (in_cases marks p.1 t is) [
           | inl same ↦ subst (IsReachedIn g along within seeds) (sym same)
-              (reached_on g along within seeds p.0 p.1 (are.sound p.0 out.0) next)
+              (reached_on (IsNext g along within) (IsSeed within seeds) p.0 p.1 (are.sound p.0 out.0) next)
           | inr old ↦ are.sound t old
         ];
       }
@@ -303,5 +304,5 @@ module _ (g : StateGraph) (along : Along) (within : List Bool) (seeds : List ℕ
       spread (unmarked first.0 + 1) first.0 (omega arith) (record {
         size = first.1.size;
         begun = λ t seed. (first.1.exactly t).1 seed;
-        sound = λ t is. reached_seed g along within seeds t ((first.1.exactly t).0 is);
+        sound = λ t is. reached_seed (IsNext g along within) (IsSeed within seeds) t ((first.1.exactly t).0 is);
       })

@@ -5,7 +5,7 @@ use Rattle.si_base.specs.Order.{Before}
 use Rattle.si_base.specs.Graph.{StateGraph, enables, event_place}
 use Rattle.si_base.specs.Codes.{CodedGraph}
 use Rattle.si_graph.specs.declared.closure.Along.{Along}
-use Rattle.si_graph.specs.Closure.{Path}
+use Rattle.si_graph.specs.Closure.{IsNext, IsReachedBy}
 use Rattle.si_graph.specs.Reach.{IsIn}
 use Rattle.si_graph.specs.Search.{Progress}
 use Rattle.si_regions.specs.declared.regions.Region.{Region}
@@ -21,12 +21,8 @@ abbrev pub IsSeed : List Bool → List ℕ → ℕ → Type 0
 IsSeed within seeds s = Contains seeds s × IsIn within s
 
 -- a path through the set leads from such a seed to t
-pub record IsReachedIn (g : StateGraph) (along : Along) (within : List Bool) (seeds : List ℕ)
-    (t : ℕ) : Type 0 where
-  pub seed : ℕ
-  pub there : IsSeed within seeds seed
-  pub path : List ℕ
-  pub leads : Path g along within seed path t
+abbrev pub IsReachedIn : StateGraph → Along → List Bool → List ℕ → ℕ → Type 0
+IsReachedIn g along within seeds t = IsReachedBy (IsNext g along within) (IsSeed within seeds) t
 
 -- a search among so many states that has reached none of them
 pub record IsIdle (states : ℕ) (search : Progress) : Type 0 where
