@@ -1,14 +1,13 @@
 -- Each arc out of a state sets the next value of its signal.
-use Rattle.std.proofs.Common.{◌≡◌, ◌≢◌, ℕ, ◌+◌, ◌<◌, ◌≤◌, ◌^◌, ◌||◌, ◌&&◌, Bool, true, false, not, List, length, get_or, Contains, refl, sym, ap, subst, ◌∙◌, arith, inl, inr}
+use Rattle.std.proofs.Common.{◌≡◌, ◌≢◌, ℕ, ◌+◌, ◌<◌, ◌&&◌, Bool, true, false, not, List, length, get_or, Contains, refl, sym, ap, subst, ◌∙◌, arith, inl, inr}
 use Rattle.std.specs.List.{AllWithin}
 use Rattle.std.proofs.lemmas.Bool.{cases_eq, cases_Bool, true≢false}
 use Rattle.std.proofs.lemmas.List.{get_or_default}
-use Rattle.std.proofs.lemmas.List.Elements.{Contains-get_or}
 use Rattle.si_base.specs.declared.ids.Event.{Event}
 use Rattle.si_base.specs.declared.graph.Edge.{Edge}
 use Rattle.si_base.specs.Bits.{bit, IsSet}
 use Rattle.si_base.specs.Codes.{CodedGraph, IsCoded, code, next_value}
-use Rattle.si_base.specs.Graph.{StateGraph, Step, arc, enables, rise, fall}
+use Rattle.si_base.specs.Graph.{Step, arc, enables, rise, fall}
 use Rattle.si_base.proofs.StepFacts.{step_within, old_value, code_fits, no_bit}
 use Rattle.si_base.proofs.Steps.{enables-step, step_from_enables}
 use Rattle.si_graph.specs.Arcs.{AreOut}
