@@ -1,6 +1,6 @@
 -- What the writers of a netlist's text have still to add, a step at a time.
-use Rattle.std.proofs.Common.{◌≡◌, ℕ, ◌+◌, ◌<◌, ◌==◌, true, false, List, [], ◌∷◌, ◌++◌, refl, sym, ap, ◌∙◌, length, get_or, drop, map, if◌then◌else◌, add-one, append_assoc, drop-cons, Some, slice_get, codes, arith, inl, inr}
-use Rattle.std.proofs.lemmas.Option.{slice_get_read, slice_get_cases, slice_get_within, get_or_from_slice_get}
+use Rattle.std.proofs.Common.{◌≡◌, ℕ, ◌+◌, ◌<◌, ◌==◌, false, List, [], ◌∷◌, ◌++◌, sym, ap, ◌∙◌, length, get_or, drop, map, if◌then◌else◌, add-one, append_assoc, drop-cons, Some, slice_get, codes, arith, inl, inr}
+use Rattle.std.proofs.lemmas.Option.{slice_get_cases, slice_get_within, get_or_from_slice_get}
 use Rattle.std.proofs.lemmas.Grind.{flat_map-append}
 use Rattle.std.proofs.lemmas.List.{append-nil, drop_more}
 use Rattle.si_base.specs.declared.graph.Signal.{Signal}
@@ -8,9 +8,8 @@ use Rattle.si_base.specs.declared.graph.SigKind.{SigKind}
 use Rattle.si_base.specs.declared.graph.SigKind.TheVariants.{Input, Output, Internal, Inserted}
 use Rattle.si_base.specs.Bits.{bit}
 use Rattle.si_base.specs.Words.{line, text_of}
-use Rattle.si_base.specs.Graph.{is_driven}
 use Rattle.si_base.specs.Netlist.{Gate, Insertion, Netlist}
-use Rattle.si_base.specs.NetlistText.{names_of, gate_words, bits_from, word_if_any, insert_line, netlist_text}
+use Rattle.si_base.specs.NetlistText.{names_of, bits_from, word_if_any, insert_line, netlist_text}
 use Rattle.si_netlist.specs.Writing.{gate_lines}
 use Rattle.si_words.proofs.WritingLemmas.{joined_words}
 use Rattle.si_words.specs.Writing.{spaced}
@@ -61,20 +60,6 @@ bits_more signals code i text within =
 -- the lines of the gates, the next of which is that of a signal from the i-th on
 abbrev pub gates_from : List Signal → ℕ → List Gate → List ℕ
 gates_from signals i gates = text_of (gate_lines signals (drop i signals) gates)
-
-pub gates_skip : (signals : List Signal) (i : ℕ) (x : Signal) (gates : List Gate) → i < length signals
-    → x ≡ get_or signals i x → is_driven x.kind ≡ false
-    → gates_from signals (i + 1) gates ≡ gates_from signals i gates
-gates_skip signals i x gates within is input =
-    let at : slice_get signals i ≡ Some x = slice_get_read signals (length signals) i x refl within is in
-    rw (add-one, drop-cons signals i x, ← is) (rw input refl)
-
-pub gates_more : (signals : List Signal) (i : ℕ) (x : Signal) (gate : Gate) (rest : List Gate) (text : List ℕ)
-    → i < length signals → x ≡ get_or signals i x → is_driven x.kind ≡ true
-    → (text ++ line (x.name ∷ gate_words signals gate)) ++ gates_from signals (i + 1) rest
-    ≡ text ++ gates_from signals i (gate ∷ rest)
-gates_more signals i x gate rest text within is driven =
-    rw (add-one, drop-cons signals i x, ← is) (rw driven (simp append_assoc))
 
 seven_parts : (text a b c d e f g : List ℕ)
     → ((((((text ++ a) ++ b) ++ c) ++ d) ++ e) ++ f) ++ g ≡ text ++ ((a ++ (b ++ (c ++ (d ++ (e ++ f))))) ++ g)
