@@ -156,12 +156,10 @@ pub out_there : (g : StateGraph) (s : ℕ) (arcs : List Edge) → AreOut g s arc
 out_there g s arcs out n a inside at = (out.exactly a).0 (n, inside, sym at)
 
 -- the arcs out of all states of the set
-pub all_from : (g : StateGraph) (set : List Bool) (states : List ℕ) → IsSetOf (IsIn set) states
-    → All (PassFrom g set) states → MaySwitch g (IsIn set)
-all_from g set states are pass = passes_switch g set
-    (λ a there from. at_each (PassFrom g set) states a.from pass ((are.exactly a.from).1 from) a there refl)
+pub all_from : (g : StateGraph) (set : List Bool) → ((s : ℕ) → IsIn set s → PassFrom g set s) → MaySwitch g (IsIn set)
+all_from g set pass = passes_switch g set (λ a there from. pass a.from from a there refl)
 
-pub from_each : (g : StateGraph) (set : List Bool) (states : List ℕ) → IsGraph g → IsSetOf (IsIn set) states
-    → MaySwitch g (IsIn set) → (s : ℕ) → Contains states s → PassFrom g set s
-from_each g set states is are may s there a arc_in from = switch_passes g set a is may arc_in
-    (subst (λ (x : ℕ). IsIn set x) (sym from) ((are.exactly s).0 there))
+pub from_each : (g : StateGraph) (set : List Bool) → IsGraph g → MaySwitch g (IsIn set) → (s : ℕ) → IsIn set s
+    → PassFrom g set s
+from_each g set is may s here a arc_in from =
+    switch_passes g set a is may arc_in (subst (λ (x : ℕ). IsIn set x) (sym from) here)

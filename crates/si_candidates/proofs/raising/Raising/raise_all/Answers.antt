@@ -10,10 +10,12 @@ use Rattle.si_candidates.proofs.raising.Raising.raise_all.Goals as goal
 
 pub loop-s-init : goal.loop-s-init
 loop-s-init c =
-    (flood_starts c.args.graph.now c.args.plus.now c.args.minus.now c.states.result.now c.states-2.result.now
+    let begun = c.begin.ensures.begun c.args.plus.now c.args.minus.now c.in_ok-rising.ensures c.in_ok-falling.ensures
+    c.requires.disjoint in
+    (flood_starts c.args.graph.now c.args.plus.now c.args.minus.now c.in_ok-rising.rising c.in_ok-falling.falling
     c.begin.new.self.classes.items c.begin.new.self.work.items c.raise_after.new.self.classes.items
     c.raise_after.new.self.work.items c.raise_before.new.self.classes.items c.raise_before.new.self.work.items
-    c.states.ensures c.states-2.ensures (c.begin.ensures.size ∙ c.requires.room) c.begin.ensures.begun
+    c.in_ok-rising.ensures c.in_ok-falling.ensures (c.begin.ensures.size ∙ c.requires.room) begun
     c.begin.ensures.work c.in_ok-raise_after.ensures.raised c.in_ok-raise_before.ensures.raised).spreads
 
 pub loop-s-preserved : goal.loop-s-preserved
