@@ -66,6 +66,7 @@ impl Block {
         ensures { IfOk result (IsSetOf (IsIn self.now)) }
     {
         let set = self.set();
+        let _size = set.size();
         let mut states = Vec::new(alloc);
         let mut next = set.first_from(StateId(0));
         while let Some(s) = next {

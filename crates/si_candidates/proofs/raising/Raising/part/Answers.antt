@@ -4,8 +4,17 @@ use Rattle.si_base.specs.Graph.{StateGraph}
 use Rattle.si_graph.specs.Reach.{unmarked}
 use Rattle.si_candidates.specs.Parts.{IsTorn}
 use Rattle.si_candidates.specs.Raising.{is_high}
+use Rattle.si_candidates.proofs.BlockStates.{states_below}
 use Rattle.si_candidates.proofs.Flooding.{Floods, flood_starts, flood_more, flood_torn, flood_ends, less_left}
 use Rattle.si_candidates.proofs.raising.Raising.part.Goals as goal
+
+pub begin-requires-clause-rising : goal.begin-requires-clause-rising
+begin-requires-clause-rising c = states_below c.args.plus.now c.in_ok-rising.rising _ c.in_ok-rising.ensures
+    (c.requires.plus_size ∙ sym c.requires.room)
+
+pub begin-requires-clause-falling : goal.begin-requires-clause-falling
+begin-requires-clause-falling c = states_below c.args.minus.now c.in_ok-falling.falling _ c.in_ok-falling.ensures
+    (c.requires.minus_size ∙ sym c.requires.room)
 
 pub loop-s-init : goal.loop-s-init
 loop-s-init c =

@@ -15,5 +15,7 @@ loop-s-preserved c =
     c.loop-s-test.true c.s-item.is c.loop-s.invariant (c.in_ok-raise_targets.ensures.raised never)
 
 pub returns-clause-raised : goal.returns-clause-raised
-returns-clause-raised c = beside_all (Leads c.args.graph.now) c.as_slice-s-items.result.now c.loop-s.s-index _ _ _ _
-    c.loop-s-test.false c.loop-s.invariant
+returns-clause-raised c =
+    rw (← c.as_slice-s-items.ensures.states)
+    (beside_all (Leads c.args.graph.now) c.as_slice-s-items.result.now c.loop-s.s-index _ _ _ _
+    c.loop-s-test.false c.loop-s.invariant)

@@ -1,12 +1,21 @@
-use Rattle.std.proofs.Common.{◌∙◌, false, length, map, ap, refl, arith, inl, inr}
+use Rattle.std.proofs.Common.{◌∙◌, false, length, map, ap, sym, refl, arith, inl, inr}
 use Rattle.std.proofs.lemmas.List.{nil_from_length, length_push}
 use Rattle.si_graph.specs.Closure.{Leads}
 use Rattle.si_graph.specs.Reach.{unmarked}
 use Rattle.si_regions.specs.Connected.{Adjoins}
 use Rattle.si_candidates.specs.Raising.{is_high}
 use Rattle.si_candidates.proofs.RaisingLemmas.{raises_both, not_torn}
+use Rattle.si_candidates.proofs.BlockStates.{states_below}
 use Rattle.si_candidates.proofs.Flooding.{flood_starts, spread_more, spread_ends, less_left}
 use Rattle.si_candidates.proofs.raising.Raising.raise_all.Goals as goal
+
+pub begin-requires-clause-rising : goal.begin-requires-clause-rising
+begin-requires-clause-rising c = states_below c.args.plus.now c.in_ok-rising.rising _ c.in_ok-rising.ensures
+    (c.requires.plus_size ∙ sym c.requires.room)
+
+pub begin-requires-clause-falling : goal.begin-requires-clause-falling
+begin-requires-clause-falling c = states_below c.args.minus.now c.in_ok-falling.falling _ c.in_ok-falling.ensures
+    (c.requires.minus_size ∙ sym c.requires.room)
 
 pub loop-s-init : goal.loop-s-init
 loop-s-init c =

@@ -18,4 +18,5 @@ loop-s-preserved c =
 pub returns-clause-raised : goal.returns-clause-raised
 returns-clause-raised c =
     let From : ℕ → ℕ → Type 0 = λ s t. Leads c.args.graph.now t s in
-    beside_all From c.as_slice-s-items.result.now c.loop-s.s-index _ _ _ _ c.loop-s-test.false c.loop-s.invariant
+    rw (← c.as_slice-s-items.ensures.states)
+    (beside_all From c.as_slice-s-items.result.now c.loop-s.s-index _ _ _ _ c.loop-s-test.false c.loop-s.invariant)
