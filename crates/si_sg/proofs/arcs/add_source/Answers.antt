@@ -1,5 +1,4 @@
-use Rattle.std.proofs.Common.{rules, sym, ◌≤◌, length}
-use Rattle.si_base.specs.Limits.{max_states_read}
+use Rattle.std.proofs.Common.{rules}
 use Rattle.si_sg.proofs.NameLemmas.{state_none, stands_at, there_already}
 use Rattle.si_sg.proofs.arcs.add_source.Goals as goal
 
