@@ -15,7 +15,6 @@ use Rattle.si_base.proofs.StepFacts.{step_within}
 use Rattle.si_graph.specs.Arcs.{AreOut, edge_at, no_edge, IsFirstPlace, IsInto}
 use Rattle.si_graph.proofs.ClosureLemmas.{place_in_walk, none_between}
 use Rattle.si_base.proofs.Steps.{same_event-refl}
-use Rattle.si_regions.specs.Regions.{IsSetOf}
 use Rattle.si_insert.specs.Accepted.{IsInput}
 use Rattle.si_candidates.specs.Blocking.{MaySwitch, MayPass, MayLeave, KeepsExit}
 use Rattle.si_candidates.proofs.BlockStates.{at_each}

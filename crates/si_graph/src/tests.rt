@@ -7,6 +7,7 @@ use crate::arc_store::EdgeId;
 use crate::closure::{Along, closure};
 use crate::coded::{CodeFault, Coded};
 use crate::graph::Graph;
+use crate::word_search::closures;
 use si_base::graph::{Edge, SigKind, Signal};
 use si_base::ids::{Code, Event, NoMemory, Sig, StateId};
 use si_base::sets::StateSet;
@@ -202,6 +203,25 @@ fn closures_within_sets(rt: HostRuntime) -> Result<(), Fail> {
     assert!(rt; holds_just(&into, [3, 1, 2].as_slice()));
     let both = closure(alloc, &graph, Along::Both, &within, &seeds)?;
     assert!(rt; holds_just(&both, [1, 2, 3, 4, 5].as_slice()));
+    Ok(())
+}
+
+#[test]
+fn closures_of_two_sets_at_once(rt: HostRuntime) -> Result<(), Fail> {
+    let graph = toggle(rt.alloc(), false)?;
+    assert!(rt; graph.states() == 3);
+    assert!(rt; graph.signals().len() == 1);
+    let within = [3, 3, 3];
+    let passes = [1, 3];
+    let seeds = [0, 3, 0];
+    let words = closures(
+        rt.alloc(),
+        &graph,
+        passes.as_slice(),
+        within.as_slice(),
+        seeds.as_slice(),
+    )?;
+    assert_eq!(rt; words.as_slice(), [3, 3, 1].as_slice());
     Ok(())
 }
 

@@ -1,4 +1,3 @@
-use Rattle.std.proofs.Common.{subst}
 use Rattle.si_candidates.proofs.Flooding.{begun}
 use Rattle.si_candidates.proofs.raising.begin_classes.Goals as goal
 
