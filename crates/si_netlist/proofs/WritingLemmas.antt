@@ -4,7 +4,6 @@ use Rattle.std.proofs.lemmas.Option.{slice_get_cases, slice_get_within, get_or_f
 use Rattle.std.proofs.lemmas.Grind.{flat_map-append}
 use Rattle.std.proofs.lemmas.List.{append-nil, drop_more}
 use Rattle.si_base.specs.declared.graph.Signal.{Signal}
-use Rattle.si_base.specs.declared.graph.SigKind.{SigKind}
 use Rattle.si_base.specs.declared.graph.SigKind.TheVariants.{Input, Output, Internal, Inserted}
 use Rattle.si_base.specs.Bits.{bit}
 use Rattle.si_base.specs.Words.{line, text_of}
@@ -33,10 +32,6 @@ words_more words k word old text new at so_far is =
     ap (λ (t : List ℕ). t ++ words_from words (k + 1)) is
     ∙ append_assoc text (32 ∷ word) (words_from words (k + 1))
     ∙ ap (λ (ws : List (List ℕ)). text ++ spaced ws) (sym here) ∙ so_far
-
--- the names of a kind from the i-th signal on
-abbrev pub names_from : SigKind → List Signal → ℕ → List ℕ
-names_from kind signals i = spaced (names_of kind (drop i signals))
 
 -- the lines of the insertions from the i-th on
 abbrev pub inserts_from : List Insertion → ℕ → List ℕ

@@ -4,7 +4,7 @@ ghost use Rattle.std.specs.Prelude.{◌≡◌, ℕ, ◌<◌, ◌≤◌, List, []
 ghost use Rattle.si_base.specs.Bytes.{digit_zero, digit_one};
 ghost use Rattle.si_base.specs.Words.{line, text_of};
 ghost use Rattle.si_base.specs.Limits.{max_signals};
-ghost use Rattle.si_base.specs.NetlistText.{netlist_text, same_kind as is_same_kind, names_of, word_if_any, bits_from, insert_line};
+ghost use Rattle.si_base.specs.NetlistText.{netlist_text, word_if_any, bits_from, insert_line};
 ghost use Rattle.si_words.specs.Writing.{spaced};
 
 use crate::gate::Insert;
@@ -14,7 +14,7 @@ use crate::write_gates::add_gate_lines;
 use si_base::graph::{SigKind, Signal};
 use si_base::ids::{Code, NoMemory, Sig};
 use si_base::text::Text;
-use si_words::writing::add_word;
+use si_words::writing::{add_names_line, add_word};
 use std::alloc::Global;
 
 /// The text of a netlist, in version 2. It fails only where memory runs out.
@@ -35,40 +35,6 @@ pub fn write_netlist(alloc: Global, netlist: &Netlist) -> Result<Text, NoMemory>
     add_gate_lines(&mut text, signals, netlist.gates())?;
     text.add(b".end\n")?;
     Ok(text)
-}
-
-/// Adds a line of a word and the names of the signals of a kind.
-fn add_names_line(
-    text: &mut Text,
-    word: &[u8],
-    signals: &[Signal],
-    kind: SigKind,
-) -> Result<(), NoMemory>
-    ensures { OnOk result (text.new ≡ text.old ++ line (word.now ∷ names_of kind signals.now)) }
-{
-    text.add(word)?;
-    add_names(text, signals, kind)?;
-    text.add(b"\n")
-}
-
-/// Adds the names of the signals of a kind.
-fn add_names(text: &mut Text, signals: &[Signal], kind: SigKind) -> Result<(), NoMemory>
-    ensures { OnOk result (text.new ≡ text.old ++ spaced (names_of kind signals.now)) }
-{
-    for signal in signals {
-        if !same_kind(kind, signal.kind) {
-            continue;
-        }
-        add_word(text, signal.name.bytes())?;
-    }
-    Ok(())
-}
-
-/// Whether two kinds are the same.
-fn same_kind(a: SigKind, b: SigKind) -> bool
-    ensures { result ≡ is_same_kind a b }
-{
-    a == b
 }
 
 /// Adds a line of a word and the signals' values: a digit each, in their order, and the word alone

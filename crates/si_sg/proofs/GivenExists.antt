@@ -18,7 +18,8 @@ use Rattle.si_graph.proofs.CutExists.{some_cut}
 use Rattle.si_sg.specs.Header.{Header, no_header, declared, is_state_graph}
 use Rattle.si_sg.specs.Section.{Section, no_section}
 use Rattle.si_sg.specs.GivenGraph.{IsGivenBy, IsSpelled, edge_of, model_in, signals_in, start_in}
-use Rattle.si_sg.specs.GraphText.{words, after_last, graph_fault, header_of, section_of, header_line_fault}
+use Rattle.si_words.specs.Ends.{after_last}
+use Rattle.si_sg.specs.GraphText.{words, graph_fault, header_of, section_of, header_line_fault}
 use Rattle.si_sg.specs.GraphText.{header_line_with, header_lines_fault, section_lines_fault, header_says}
 use Rattle.si_sg.specs.GraphText.{after_header}
 use Rattle.si_sg.specs.Reads.{Apart, AreSignals, IsWholeSection}

@@ -25,7 +25,7 @@ use Rattle.si_sg.specs.declared.heads.Head.TheVariants.{Directive, Plain}
 use Rattle.si_sg.specs.GivenGraph.{IsGivenBy, model_in, signals_in}
 use Rattle.si_sg.specs.GraphText.{words, header_line_fault, header_line_with, header_lines_fault, header_says}
 use Rattle.si_sg.specs.GraphText.{header_of}
-use Rattle.si_sg.specs.GraphText.{after_last}
+use Rattle.si_words.specs.Ends.{after_last}
 use Rattle.si_sg.specs.Header.{Header, no_header, declared, header_fault, header_with, header_words_fault}
 use Rattle.si_sg.specs.Header.{header_words_with}
 use Rattle.si_sg.specs.Header.{is_state_graph}

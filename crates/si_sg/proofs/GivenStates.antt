@@ -18,7 +18,8 @@ use Rattle.si_sg.specs.declared.heads.Head.TheVariants.{Model, Inputs, Outputs, 
 use Rattle.si_sg.specs.declared.heads.Head.TheVariants.{Directive, Plain}
 use Rattle.si_sg.specs.GivenGraph.{IsGivenBy}
 use Rattle.si_sg.specs.GraphText.{words, section_line_fault, section_line_with, section_lines_fault, section_says}
-use Rattle.si_sg.specs.GraphText.{after_header, after_last, header_of, section_of}
+use Rattle.si_words.specs.Ends.{after_last}
+use Rattle.si_sg.specs.GraphText.{after_header, header_of, section_of}
 use Rattle.si_sg.specs.Header.{no_header, declared}
 use Rattle.si_sg.specs.Heads.{begins_with_dot, head_of}
 use Rattle.si_sg.specs.Reads.{AreSignals}

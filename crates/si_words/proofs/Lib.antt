@@ -6,3 +6,4 @@ pub mod SumWordLemmas
 pub mod WritingLemmas
 pub mod NameLemmas
 pub mod FaultLemmas
+pub mod EndLemmas

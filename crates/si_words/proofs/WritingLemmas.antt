@@ -3,6 +3,9 @@ use Rattle.std.proofs.Common.{◌≡◌, ℕ, zero, suc, ◌+◌, ◌<◌, List,
 use Rattle.std.specs.List.{join_with_byte}
 use Rattle.std.specs.Borrow.{Bor}
 use Rattle.std.proofs.lemmas.List.{append-nil}
+use Rattle.si_base.specs.declared.graph.Signal.{Signal}
+use Rattle.si_base.specs.declared.graph.SigKind.{SigKind}
+use Rattle.si_base.specs.NetlistText.{names_of}
 use Rattle.si_base.specs.Words.{line}
 use Rattle.si_words.specs.Reads.{words_now}
 use Rattle.si_words.specs.Writing.{spaced}
@@ -22,6 +25,10 @@ regrouped text a b c = simp append_assoc
 pub whole_line : (text w : List ℕ) (ws : List (List ℕ)) → ((text ++ w) ++ spaced ws) ++ 10 ∷ [] ≡ text ++ line (w ∷ ws)
 whole_line text w ws = regrouped text w (spaced ws) (10 ∷ [])
     ∙ ap (λ (t : List ℕ). text ++ (t ++ 10 ∷ [])) (sym (joined_words w ws))
+
+-- the names of a kind from the i-th signal on
+abbrev pub names_from : SigKind → List Signal → ℕ → List ℕ
+names_from kind signals i = spaced (names_of kind (drop i signals))
 
 -- the words from the i-th on
 abbrev pub words_from : List (Bor (List ℕ)) → ℕ → List ℕ

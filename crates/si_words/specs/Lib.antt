@@ -7,3 +7,4 @@ pub mod GateLines
 pub mod Rows
 pub mod RowValues
 pub mod Writing
+pub mod Ends

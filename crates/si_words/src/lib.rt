@@ -2,6 +2,7 @@
 //! of.
 #![tactic(auto)]
 
+pub mod ends;
 pub mod event_words;
 pub mod gate_lines;
 pub mod lists;
