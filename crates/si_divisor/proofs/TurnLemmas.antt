@@ -225,6 +225,15 @@ source_belongs g ones b marks a t there in_x all (same, high) =
     (Preceding a.to refl (subst (λ k. IsBefore g (target ones) b a.to k) (sym same) before))
     (λ set size closed. (all a.to in_x set size closed, tt))
 
+pub source_marks : (g : StateGraph) (ones : List Bool) (b : Bool) (begun : List Bool) (work : List ℕ)
+    (after : List Bool) (after_work : List ℕ) (wanted : Bool) (a : Edge) → Contains g.edges a → IsIn begun a.to
+    → AllBelong g ones b begun → (wanted ≡ true → target ones a.from ≡ b)
+    → MarksAll (λ t. (t ≡ a.from) × (wanted ≡ true)) begun work after after_work
+    → Marks (Belongs g ones b) begun work after after_work
+source_marks g ones b begun work after after_work wanted a there in_x all high reached =
+    marks_weaken (λ t. (t ≡ a.from) × (wanted ≡ true)) (Belongs g ones b) begun work after after_work
+    (λ t p. source_belongs g ones b begun a t there in_x all (p.0, high p.1)) reached.marks_are
+
 pub input_belongs : (g : StateGraph) (ones : List Bool) (b : Bool) (x t : ℕ) → Belongs g ones b x → IsAfterInput g x t
     → Belongs g ones b t
 input_belongs g ones b x t here r =

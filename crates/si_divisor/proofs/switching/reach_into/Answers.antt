@@ -1,28 +1,21 @@
-use Rattle.std.proofs.Common.{◌≡◌, ℕ, true}
 use Rattle.si_divisor.specs.Targets.{target}
 use Rattle.si_divisor.specs.WorkList.{Belongs, Source, After, Beside}
-use Rattle.si_divisor.proofs.TurnLemmas.{marks_weaken, marks_on, may_on, belong_on, source_belongs}
+use Rattle.si_divisor.proofs.TurnLemmas.{marks_on, may_on, belong_on, source_marks}
 use Rattle.si_divisor.proofs.switching.reach_into.Goals as goal
 
 pub reach_exits-requires-clause-belong : goal.reach_exits-requires-clause-belong
 reach_exits-requires-clause-belong c =
     let g = c.args.graph.now in
-    let a = c.args.arc.now in
-    let Q : ℕ → Type 0 = Belongs g c.args.ones.now c.args.b in
-    belong_on g c.args.ones.now c.args.b c.args.search.now.marks c.args.search.now.work _ _ c.requires.belong
-    (marks_weaken (λ t. (t ≡ a.from) × (c.has_target.result ≡ true)) Q _ _ _ _
-    (λ t p. source_belongs g c.args.ones.now c.args.b c.args.search.now.marks a t c.requires.arc c.requires.there
-    c.requires.belong (p.0, c.has_target.ensures.0 p.1)) c.in_ok-reach_if.ensures.marks_are)
+    let first = source_marks g c.args.ones.now c.args.b _ _ _ _ c.has_target.result c.args.arc.now c.requires.arc
+    c.requires.there c.requires.belong c.has_target.ensures.0 c.in_ok-reach_if.ensures in
+    belong_on g c.args.ones.now c.args.b _ _ _ _ c.requires.belong first
 
 pub returns-clause-marks : goal.returns-clause-marks
 returns-clause-marks c =
     let g = c.args.graph.now in
-    let a = c.args.arc.now in
-    let Q : ℕ → Type 0 = Belongs g c.args.ones.now c.args.b in
-    marks_on Q _ _ _ _ _ _ (marks_weaken (λ t. (t ≡ a.from) × (c.has_target.result ≡ true)) Q _ _ _ _
-    (λ t p. source_belongs g c.args.ones.now c.args.b c.args.search.now.marks a t c.requires.arc c.requires.there
-    c.requires.belong (p.0, c.has_target.ensures.0 p.1)) c.in_ok-reach_if.ensures.marks_are)
-    c.in_ok-reach_exits.ensures.marks
+    let first = source_marks g c.args.ones.now c.args.b _ _ _ _ c.has_target.result c.args.arc.now c.requires.arc
+    c.requires.there c.requires.belong c.has_target.ensures.0 c.in_ok-reach_if.ensures in
+    marks_on (Belongs g c.args.ones.now c.args.b) _ _ _ _ _ _ first c.in_ok-reach_exits.ensures.marks
 
 pub returns-clause-done : goal.returns-clause-done
 returns-clause-done c t (Source high is) =
