@@ -1,21 +1,21 @@
 -- What the loops of the search for switching states keep.
-use Rattle.std.proofs.Common.{◌≡◌, ℕ, ◌+◌, ◌<◌, ◌≤◌, Bool, true, false, not, List, [], ◌∷◌, ◌++◌, length, get_or, set, replicate, Contains, All, refl, sym, ap, subst, ◌∙◌, arith, inl, inr, Option}
-use Rattle.std.proofs.lemmas.Bool.{true≢false, cases_eq, cases_order}
+use Rattle.std.proofs.Common.{◌≡◌, ℕ, ◌⊎◌, ◌+◌, ◌<◌, ◌≤◌, Bool, true, false, List, [], ◌∷◌, ◌++◌, length, get_or, replicate, Contains, All, refl, sym, ap, subst, ◌∙◌, arith, inl, inr, Option}
+use Rattle.std.proofs.lemmas.Bool.{cases_eq, cases_order}
 use Rattle.std.proofs.lemmas.List.{length-replicate, get_or_default}
 use Rattle.std.proofs.lemmas.List.Elements.{Contains-push}
 use Rattle.si_base.specs.declared.ids.Event.{Event}
 use Rattle.si_base.specs.declared.graph.Edge.{Edge}
 use Rattle.si_base.specs.Graph.{StateGraph, Step, IsGraph, arc}
 use Rattle.si_base.proofs.StepFacts.{step_within}
-use Rattle.si_graph.specs.Reach.{IsIn, Marks}
+use Rattle.si_graph.specs.Reach.{IsIn, Marks, MarksAll}
 use Rattle.si_graph.specs.Arcs.{AreOut, edge_at, no_edge, IsFirstPlace, IsInto}
 use Rattle.si_graph.specs.declared.closure.Along.TheVariants.{Out}
 use Rattle.si_graph.specs.Closure.{IsClosure}
 use Rattle.si_graph.proofs.ClosureLemmas.{closure_is_least, place_in_walk, none_between}
-use Rattle.si_graph.proofs.MarkLemmas.{marks_same, marks_both, one_taken, in_none, in_below}
+use Rattle.si_graph.proofs.MarkLemmas.{marks_same, marks_both, in_none, in_below}
 use Rattle.si_insert.specs.Accepted.{IsInput}
 use Rattle.si_divisor.specs.Targets.{IsLeast, Settles, holds, target}
-use Rattle.si_divisor.specs.WorkList.{Works, SwitchRule, Crossed, Preceding, ByInput, Low, Both, Follows, BeforeIt, AfterIt, AtExit, WithFirst, WithOther, IsCrossed, IsBefore, IsAfterInput, Joins, Belongs, AllBelong, IsTargetBy, MayExit, FollowsInto, Source, After, Beside}
+use Rattle.si_divisor.specs.WorkList.{Works, SwitchRule, Crossed, Preceding, ByInput, Low, Both, Follows, BeforeIt, AfterIt, AtExit, WithFirst, WithOther, IsCrossed, IsBefore, IsAfterInput, Joins, Belongs, AllBelong, IsTargetBy, MayExit, ExitsDone, FollowsInto, Source, After, Beside}
 use Rattle.si_divisor.proofs.WorkLemmas.{each_on, works_begin, switch_on}
 
 -- ---- states that settle are those that are reached through holding states
@@ -43,30 +43,11 @@ closure_settles g forced b held seeds found graph size held_are seeds_are is = r
 -- ---- marks
 pub marks_weaken : (P Q : ℕ → Type 0) (a : List Bool) (w : List ℕ) (b : List Bool) (v : List ℕ)
     → ((t : ℕ) → P t → Q t) → Marks P a w b v → Marks Q a w b v
-marks_weaken P Q a w b v on m = record {
-  size = m.size;
-  grows = m.grows;
-  sound = λ t i. elim (m.sound t i) [ inl old ↦ inl old | inr p ↦ inr (on t p) ];
-  queued = m.queued;
-  waits = m.waits;
-  marked = m.marked;
-  counted = m.counted;
-  fewer = m.fewer;
-}
+marks_weaken P Q a w b v on m = marks_both P Q Q a w b v b v on (λ t q. q) m (marks_same Q b v)
 
 pub marks_on : (Q : ℕ → Type 0) (a : List Bool) (w : List ℕ) (b : List Bool) (v : List ℕ) (d : List Bool) (u : List ℕ)
     → Marks Q a w b v → Marks Q b v d u → Marks Q a w d u
 marks_on Q a w b v d u m n = marks_both Q Q Q a w b v d u (λ t q. q) (λ t q. q) m n
-
-pub mark_one : (marks : List Bool) (work : List ℕ) (s : ℕ) → s < length marks → get_or marks s false ≡ false
-    → Marks (λ t. t ≡ s) marks work (set marks s true) (work ++ s ∷ [])
-mark_one marks work s below fresh =
-    marks_weaken (λ t. (t ≡ s) × Unit {0}) (λ t. t ≡ s) marks work (set marks s true) (work ++ s ∷ []) (λ t p. p.0)
-    (one_taken (λ t. Unit {0}) marks work s tt below fresh).marks_are
-
-pub from_not : (b : Bool) → not b ≡ true → b ≡ false
-from_not true h = absurd (true≢false (sym h))
-from_not false h = refl
 
 -- ---- loops over arcs: what P says of the arcs before a place is marked
 abbrev pub DoneTo : (Edge → ℕ → Type 0) → List Edge → ℕ → List Bool → Type 0
@@ -101,13 +82,18 @@ loop_step Q P arcs k a begun begun_work marks work after after_work inside at m 
   done_more P arcs k a marks after inside at here n.grows done,
 )
 
-pub pass_step : (Q : ℕ → Type 0) (P : Edge → ℕ → Type 0) (arcs : List Edge) (k : ℕ) (a : Edge) (begun : List Bool)
-    (begun_work : List ℕ) (marks : List Bool) (work : List ℕ) → k < length arcs → get_or arcs k a ≡ a
-    → Marks Q begun begun_work marks work → DoneTo P arcs k marks → ((t : ℕ) → P a t → ⊥)
-    → Marks Q begun begun_work marks work × DoneTo P arcs (k + 1) marks
-pass_step Q P arcs k a begun begun_work marks work inside at m done none =
-    loop_step Q P arcs k a begun begun_work marks work marks work inside at m done (marks_same Q marks work)
-    (λ t p. absurd (none t p))
+-- where the turn reaches the target of the arc, if it is wanted
+pub reach_step : (Q : ℕ → Type 0) (P : Edge → ℕ → Type 0) (arcs : List Edge) (k : ℕ) (a : Edge) (begun : List Bool)
+    (begun_work : List ℕ) (marks : List Bool) (work : List ℕ) (after : List Bool) (after_work : List ℕ)
+    (wanted : Bool) → k < length arcs → get_or arcs k a ≡ a → (wanted ≡ true → Q a.to)
+    → ((t : ℕ) → P a t → (t ≡ a.to) × (wanted ≡ true))
+    → Marks Q begun begun_work marks work → DoneTo P arcs k marks
+    → MarksAll (λ t. (t ≡ a.to) × (wanted ≡ true)) marks work after after_work
+    → Marks Q begun begun_work after after_work × DoneTo P arcs (k + 1) after
+reach_step Q P arcs k a begun begun_work marks work after after_work wanted inside at has asks m done reached =
+    loop_step Q P arcs k a begun begun_work marks work after after_work inside at m done
+    (marks_weaken (λ t. (t ≡ a.to) × (wanted ≡ true)) Q marks work after after_work
+    (λ t is. subst Q (sym is.0) (has is.1)) reached.marks_are) (λ t p. reached.all t (asks t p))
 
 -- ---- walks over the arcs into s: what P says of the arcs before a place is marked
 abbrev pub PassedTo : StateGraph → (Edge → ℕ → Type 0) → ℕ → ℕ → List Bool → Type 0
@@ -151,6 +137,22 @@ may_on g target b marks after first other on m = record {
       on other.to m.there;
   may = elim m.may [ inl low ↦ inl low | inr there ↦ inr (on first.to there) ];
 }
+
+-- w is what the event of one of two arcs leads to after the other
+abbrev pub LeavesEither : StateGraph → (ℕ → Bool) → Bool → List Bool → Edge → Edge → ℕ → Type 0
+LeavesEither g target b marks a beside w =
+    (MayExit g target b marks beside a × Step g a.to beside.event w)
+    ⊎ (MayExit g target b marks a beside × Step g beside.to a.event w)
+
+-- marked by two turns, one for each of the arcs, in a loop that began with other marks
+pub either_done : (g : StateGraph) (target : ℕ → Bool) (b : Bool) (begun marks mid after : List Bool)
+    (a beside : Edge) → ((t : ℕ) → IsIn begun t → IsIn marks t) → ((t : ℕ) → IsIn marks t → IsIn mid t)
+    → ((t : ℕ) → IsIn mid t → IsIn after t) → ExitsDone g target b marks beside a mid
+    → ExitsDone g target b mid a beside after → (w : ℕ) → LeavesEither g target b begun a beside w → IsIn after w
+either_done g target b begun marks mid after a beside first then_on last after_it beside_it w (inl (may, step)) =
+    last w (after_it (may_on g target b begun marks beside a first may) w step)
+either_done g target b begun marks mid after a beside first then_on last after_it beside_it w (inr (may, step)) =
+    beside_it (may_on g target b begun mid a beside (λ t i. then_on t (first t i)) may) w step
 
 pub exit_belongs : (g : StateGraph) (ones : List Bool) (b : Bool) (marks : List Bool) (first other : Edge) (w : ℕ)
     → Contains g.edges first → Contains g.edges other → first.from ≡ other.from → AllBelong g ones b marks
@@ -223,6 +225,15 @@ source_belongs g ones b marks a t there in_x all (same, high) =
     (Preceding a.to refl (subst (λ k. IsBefore g (target ones) b a.to k) (sym same) before))
     (λ set size closed. (all a.to in_x set size closed, tt))
 
+pub source_marks : (g : StateGraph) (ones : List Bool) (b : Bool) (begun : List Bool) (work : List ℕ)
+    (after : List Bool) (after_work : List ℕ) (wanted : Bool) (a : Edge) → Contains g.edges a → IsIn begun a.to
+    → AllBelong g ones b begun → (wanted ≡ true → target ones a.from ≡ b)
+    → MarksAll (λ t. (t ≡ a.from) × (wanted ≡ true)) begun work after after_work
+    → Marks (Belongs g ones b) begun work after after_work
+source_marks g ones b begun work after after_work wanted a there in_x all high reached =
+    marks_weaken (λ t. (t ≡ a.from) × (wanted ≡ true)) (Belongs g ones b) begun work after after_work
+    (λ t p. source_belongs g ones b begun a t there in_x all (p.0, high p.1)) reached.marks_are
+
 pub input_belongs : (g : StateGraph) (ones : List Bool) (b : Bool) (x t : ℕ) → Belongs g ones b x → IsAfterInput g x t
     → Belongs g ones b t
 input_belongs g ones b x t here r =
@@ -230,8 +241,9 @@ input_belongs g ones b x t here r =
     (λ set size closed. (here set size closed, tt))
 
 -- ---- arcs in lists
-pub at_place : (arcs : List Edge) (k : ℕ) (a : Edge) → k < length arcs → get_or arcs k a ≡ a → Contains arcs a
-at_place arcs k a inside at = (k, inside, at)
+pub listed_arc : (g : StateGraph) (arcs : List Edge) (k : ℕ) (a : Edge) → arcs ≡ g.edges → k < length arcs
+    → get_or arcs k a ≡ a → Contains g.edges a
+listed_arc g arcs k a are inside at = subst (λ es. Contains es a) are (k, inside, at)
 
 pub out_arc : (g : StateGraph) (s : ℕ) (arcs : List Edge) (k : ℕ) (a : Edge) → AreOut g s arcs → k < length arcs
     → get_or arcs k a ≡ a → Contains g.edges a × (a.from ≡ s)
@@ -251,10 +263,10 @@ targets_within g u arcs marks graph are size k d within =
 
 -- ---- the search
 pub search_begins : (g : StateGraph) (ones : List Bool) (b : Bool) (n : ℕ) (marks : List Bool) (work : List ℕ)
-    → n ≡ g.states → Marks (IsCrossed g (target ones) b) (replicate n false) [] marks work
-    → ((t : ℕ) → IsCrossed g (target ones) b t → IsIn marks t)
+    → n ≡ g.states → MarksAll (IsCrossed g (target ones) b) (replicate n false) [] marks work
     → Works g.states (SwitchRule g (target ones) b) marks work
-search_begins g ones b n marks work same m done =
+search_begins g ones b n marks work same taken =
+    let m = taken.marks_are in
     works_begin g.states (SwitchRule g (target ones) b) marks work (record {
       size = m.size ∙ length-replicate n false ∙ same;
       begun = λ t r. begun t r;
@@ -273,7 +285,7 @@ search_begins g ones b n marks work same m done =
     not_empty u us h = (let k = ap (λ (xs : List ℕ). length xs) h in omega (arith, k))
 
     begun : (t : ℕ) → SwitchRule g (target ones) b [] t → IsIn marks t
-    begun t (Crossed none is) = done t is
+    begun t (Crossed none is) = taken.all t is
     begun t (Preceding u one is) = absurd (not_empty u [] one)
     begun t (ByInput u one is) = absurd (not_empty u [] one)
     begun t (Low u one is) = absurd (not_empty u [] one)
@@ -284,30 +296,30 @@ pub search_goes_on : (g : StateGraph) (ones : List Bool) (b : Bool) (x : ℕ) (m
     → Works g.states (SwitchRule g (target ones) b) marks (rest ++ x ∷ [])
     → Marks (Belongs g ones b) marks rest mid mid_work → ((a : Edge) (t : ℕ) → Contains g.edges a → a.to ≡ x
     → FollowsInto g (target ones) b marks a t → IsIn mid t)
-    → Marks (IsAfterInput g x) mid mid_work after work → ((t : ℕ) → IsAfterInput g x t → IsIn after t)
+    → MarksAll (IsAfterInput g x) mid mid_work after work
     → Works g.states (SwitchRule g (target ones) b) after work
-search_goes_on g ones b x marks rest mid mid_work after work w m into n outs =
+search_goes_on g ones b x marks rest mid mid_work after work w m into by_inputs =
     switch_on g (target ones) b marks rest x after work w
     (marks_on (Belongs g ones b) marks rest mid mid_work after work m
     (marks_weaken (IsAfterInput g x) (Belongs g ones b) mid mid_work after work
-    (λ t r. input_belongs g ones b x t (w.sound x here) r) n))
+    (λ t r. input_belongs g ones b x t (w.sound x here) r) by_inputs.marks_are))
     follows
   where
     here : IsIn marks x
     here = w.queued x (Contains-push rest x)
 
     follows : (t : ℕ) → Follows g (target ones) b marks x t → IsIn after t
-    follows t (BeforeIt r) = n.grows t (into (arc t r.e x) t r.step refl (Source r.high refl))
-    follows t (AfterIt r) = outs t r
+    follows t (BeforeIt r) = by_inputs.marks_are.grows t (into (arc t r.e x) t r.step refl (Source r.high refl))
+    follows t (AfterIt r) = by_inputs.all t r
     follows t (AtExit r) =
         let d = r.joins.diamond in
-        n.grows t (into (arc r.s r.joins.c x) t d.other refl (After (arc r.s r.joins.a r.t) d.first refl
+        by_inputs.marks_are.grows t (into (arc r.s r.joins.c x) t d.other refl (After (arc r.s r.joins.a r.t) d.first refl
         (record { non_input = d.non_input; apart = d.apart; there = here; may = inl r.low }) d.next))
     follows t (WithFirst v there r) =
         let d = r.joins.diamond in
-        n.grows t (into (arc r.s r.joins.c x) t d.other refl (After (arc r.s r.joins.a v) d.first refl
+        by_inputs.marks_are.grows t (into (arc r.s r.joins.c x) t d.other refl (After (arc r.s r.joins.a v) d.first refl
         (record { non_input = d.non_input; apart = d.apart; there = here; may = inr there }) d.next))
     follows t (WithOther u there r) =
         let d = r.joins.diamond in
-        n.grows t (into (arc r.s r.joins.a x) t d.first refl (Beside (arc r.s r.joins.c u) d.other refl
+        by_inputs.marks_are.grows t (into (arc r.s r.joins.a x) t d.first refl (Beside (arc r.s r.joins.c u) d.other refl
         (record { non_input = d.non_input; apart = d.apart; there = there; may = inr here }) d.next))

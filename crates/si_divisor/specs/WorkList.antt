@@ -140,6 +140,11 @@ abbrev pub ExitsDone : StateGraph → (ℕ → Bool) → Bool → List Bool → 
 ExitsDone g target b marks first other after = MayExit g target b marks first other → (w : ℕ)
     → Step g other.to first.event w → IsIn after w
 
+-- and so with two arcs out of one state, each being the first
+abbrev pub ExitsBothWays : StateGraph → (ℕ → Bool) → Bool → List Bool → Edge → Edge → List Bool → Type 0
+ExitsBothWays g target b marks arc beside after = ExitsDone g target b marks beside arc after
+    × ExitsDone g target b marks arc beside after
+
 -- what follows by an arc into a state that is marked
 pub data FollowsInto (g : StateGraph) (target : ℕ → Bool) (b : Bool) (marks : List Bool)
     (arc : Edge) (t : ℕ) : Type 0 where

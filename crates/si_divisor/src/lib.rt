@@ -1,5 +1,3 @@
-//! Divisors: the instances by which a signal that fits no cell is taken apart.
-//! Divisors: instances of cells as gates of new signals, and the partitions for them.
 //! Divisors: the instances by which a signal that fits no cell is taken apart, and the partitions
 //! that make an instance the gate of a new signal.
 #![tactic(auto)]

@@ -4,48 +4,39 @@ ghost use Rattle.std.specs.Prelude.{◌≡◌, ℕ, ◌<◌, ◌↔◌, ◌++◌
 ghost use Rattle.si_base.specs.declared.graph.Edge.{Edge};
 ghost use Rattle.si_base.specs.Graph.{Step, IsGraph, IsNonInput};
 ghost use Rattle.si_base.specs.Sets.{IsSubset};
-ghost use Rattle.si_graph.specs.Reach.{IsIn, Marks};
+ghost use Rattle.si_graph.specs.Reach.{IsIn, Marks, MarksAll};
 ghost use Rattle.si_insert.specs.Accepted.{IsInput};
 ghost use Rattle.si_divisor.specs.Targets.{IsLeast, target};
 ghost use Rattle.si_divisor.specs.Switching.{Switches};
-ghost use Rattle.si_divisor.specs.WorkList.{Works, SwitchRule, Strays, Belongs, AllBelong, IsTargetBy, MayExit, ExitsDone, FollowsInto, IsAfterInput, IsCrossed};
+ghost use Rattle.si_divisor.specs.WorkList.{Works, SwitchRule, Strays, Belongs, AllBelong, IsTargetBy, MayExit, ExitsDone, ExitsBothWays, FollowsInto, IsAfterInput, IsCrossed};
 
 use si_base::graph::{Edge, SigKind};
 use si_base::ids::{Event, NoMemory, Sig, StateId};
 use si_base::sets::StateSet;
 use si_graph::graph::Graph;
+use si_graph::search::Search;
 use std::alloc::Global;
 
-/// Marks the state. If it was not marked before, it becomes work.
-fn mark(s: StateId, marks: &mut StateSet, work: &mut Vec<StateId>) -> Result<(), NoMemory>
-    requires { s < length marks.old }
-    ensures marks { OnOk result
-        (Marks (λ t. t ≡ s) marks.old work.old.items marks.new work.new.items) }
-    ensures there { OnOk result (IsIn marks.new s) }
+/// Reaches the state, if it is wanted.
+fn reach_if(wanted: bool, t: StateId, search: &mut Search) -> Result<(), NoMemory>
+    requires { t < length search.old.marks }
+    ensures { OnOk result (MarksAll (λ u. (u ≡ t) × IsTrue wanted)
+        search.old.marks search.old.work search.new.marks search.new.work) }
 {
-    if !marks.has(s) {
-        marks.add(s);
-        work.push(s)?;
+    if !wanted {
+        return Ok(());
     }
-    Ok(())
+    search.reach(t)
 }
 
-/// Marks the states to which arcs of the event lead.
-fn mark_by(
-    arcs: &[Edge],
-    e: &Event,
-    marks: &mut StateSet,
-    work: &mut Vec<StateId>,
-) -> Result<(), NoMemory>
-    requires { All (λ a. a.to < length marks.old) arcs.now }
-    ensures marks { OnOk result
-        (Marks (IsTargetBy arcs.now e.now) marks.old work.old.items marks.new work.new.items) }
-    ensures there { OnOk result ((w : ℕ) → IsTargetBy arcs.now e.now w → IsIn marks.new w) }
+/// Reaches the states to which arcs of the event lead.
+fn reach_by(arcs: &[Edge], e: &Event, search: &mut Search) -> Result<(), NoMemory>
+    requires { All (λ a. a.to < length search.old.marks) arcs.now }
+    ensures { OnOk result (MarksAll (IsTargetBy arcs.now e.now)
+        search.old.marks search.old.work search.new.marks search.new.work) }
 {
     for a in arcs {
-        if is_by(a, e) {
-            mark(a.to, marks, work)?;
-        }
+        reach_if(is_by(a, e), a.to, search)?;
     }
     Ok(())
 }
@@ -78,156 +69,115 @@ fn may_exit(
         && (ones.has(first.from) != b || marks.has(first.to))
 }
 
-/// Marks what the event of the first arc leads to after the other, if it has to stay within the
+/// Reaches what the event of the first arc leads to after the other, if it has to stay within the
 /// set.
-fn mark_exit(
+fn reach_exit(
     graph: &Graph,
     ones: &StateSet,
     b: bool,
     first: &Edge,
     other: &Edge,
-    marks: &mut StateSet,
-    work: &mut Vec<StateId>,
+    search: &mut Search,
 ) -> Result<(), NoMemory>
     requires graph { IsGraph graph.now }
     requires first { Contains graph.now.edges first.now }
     requires other { Contains graph.now.edges other.now }
     requires same { first.now.from ≡ other.now.from }
     requires ones { length ones.now ≡ graph.now.states }
-    requires size { length marks.old ≡ graph.now.states }
-    requires belong { AllBelong graph.now ones.now b marks.old }
-    ensures marks { OnOk result
-        (Marks (Belongs graph.now ones.now b) marks.old work.old.items marks.new work.new.items) }
-    ensures done { OnOk result
-        (ExitsDone graph.now (target ones.now) b marks.old first.now other.now marks.new) }
+    requires size { length search.old.marks ≡ graph.now.states }
+    requires belong { AllBelong graph.now ones.now b search.old.marks }
+    ensures marks { OnOk result (Marks (Belongs graph.now ones.now b)
+        search.old.marks search.old.work search.new.marks search.new.work) }
+    ensures done { OnOk result (ExitsDone graph.now (target ones.now) b
+        search.old.marks first.now other.now search.new.marks) }
 {
-    if may_exit(graph, ones, b, first, other, marks) {
-        mark_by(graph.arcs_out(other.to), &first.event, marks, work)?;
+    if may_exit(graph, ones, b, first, other, search.marks()) {
+        reach_by(graph.arcs_out(other.to), &first.event, search)?;
     }
     Ok(())
 }
 
-/// Marks what events lead to after an arc, if they have to stay within the set.
-fn mark_after(
-    graph: &Graph,
-    ones: &StateSet,
-    b: bool,
-    other: &Edge,
-    marks: &mut StateSet,
-    work: &mut Vec<StateId>,
-) -> Result<(), NoMemory>
-    requires graph { IsGraph graph.now }
-    requires other { Contains graph.now.edges other.now }
-    requires ones { length ones.now ≡ graph.now.states }
-    requires size { length marks.old ≡ graph.now.states }
-    requires belong { AllBelong graph.now ones.now b marks.old }
-    ensures marks { OnOk result
-        (Marks (Belongs graph.now ones.now b) marks.old work.old.items marks.new work.new.items) }
-    ensures done { OnOk result ((first : Edge) → Contains graph.now.edges first
-        → first.from ≡ other.now.from
-        → ExitsDone graph.now (target ones.now) b marks.old first other.now marks.new) }
-{
-    for first in graph.arcs_out(other.from) {
-        mark_exit(graph, ones, b, first, other, marks, work)?;
-    }
-    Ok(())
-}
-
-/// Marks what the event of an arc leads to after others, if it has to stay within the set.
-fn mark_beside(
-    graph: &Graph,
-    ones: &StateSet,
-    b: bool,
-    first: &Edge,
-    marks: &mut StateSet,
-    work: &mut Vec<StateId>,
-) -> Result<(), NoMemory>
-    requires graph { IsGraph graph.now }
-    requires first { Contains graph.now.edges first.now }
-    requires ones { length ones.now ≡ graph.now.states }
-    requires size { length marks.old ≡ graph.now.states }
-    requires belong { AllBelong graph.now ones.now b marks.old }
-    ensures marks { OnOk result
-        (Marks (Belongs graph.now ones.now b) marks.old work.old.items marks.new work.new.items) }
-    ensures done { OnOk result ((other : Edge) → Contains graph.now.edges other
-        → other.from ≡ first.now.from
-        → ExitsDone graph.now (target ones.now) b marks.old first.now other marks.new) }
-{
-    for other in graph.arcs_out(first.from) {
-        mark_exit(graph, ones, b, first, other, marks, work)?;
-    }
-    Ok(())
-}
-
-/// Marks the state if it has the target.
-fn mark_if_target(
-    ones: &StateSet,
-    b: bool,
-    s: StateId,
-    marks: &mut StateSet,
-    work: &mut Vec<StateId>,
-) -> Result<(), NoMemory>
-    requires ones { s < length ones.now }
-    requires size { s < length marks.old }
-    ensures marks { OnOk result (Marks (λ t. (t ≡ s)
-        × (target ones.now s ≡ b)) marks.old work.old.items marks.new work.new.items) }
-    ensures there { OnOk result (target ones.now s ≡ b → IsIn marks.new s) }
-{
-    if ones.has(s) == b {
-        mark(s, marks, work)?;
-    }
-    Ok(())
-}
-
-/// Marks what follows by an arc into a state that is marked.
-fn mark_into(
+/// Reaches what the events of an arc and of others out of its state lead to after one another, if
+/// they have to stay within the set.
+fn reach_exits(
     graph: &Graph,
     ones: &StateSet,
     b: bool,
     arc: &Edge,
-    marks: &mut StateSet,
-    work: &mut Vec<StateId>,
+    search: &mut Search,
 ) -> Result<(), NoMemory>
     requires graph { IsGraph graph.now }
     requires arc { Contains graph.now.edges arc.now }
-    requires there { IsIn marks.old arc.now.to }
     requires ones { length ones.now ≡ graph.now.states }
-    requires size { length marks.old ≡ graph.now.states }
-    requires belong { AllBelong graph.now ones.now b marks.old }
-    ensures marks { OnOk result
-        (Marks (Belongs graph.now ones.now b) marks.old work.old.items marks.new work.new.items) }
-    ensures done { OnOk result ((t : ℕ)
-        → FollowsInto graph.now (target ones.now) b marks.old arc.now t → IsIn marks.new t) }
+    requires size { length search.old.marks ≡ graph.now.states }
+    requires belong { AllBelong graph.now ones.now b search.old.marks }
+    ensures marks { OnOk result (Marks (Belongs graph.now ones.now b)
+        search.old.marks search.old.work search.new.marks search.new.work) }
+    ensures done { OnOk result ((beside : Edge) → Contains graph.now.edges beside
+        → beside.from ≡ arc.now.from → ExitsBothWays graph.now (target ones.now) b
+        search.old.marks arc.now beside search.new.marks) }
 {
-    mark_if_target(ones, b, arc.from, marks, work)?;
-    mark_after(graph, ones, b, arc, marks, work)?;
-    mark_beside(graph, ones, b, arc, marks, work)?;
+    for beside in graph.arcs_out(arc.from) {
+        reach_exit(graph, ones, b, beside, arc, search)?;
+        reach_exit(graph, ones, b, arc, beside, search)?;
+    }
     Ok(())
 }
 
-/// Marks what follows by the arcs into a state that is marked.
-fn mark_all_into(
+/// Whether the state has the target.
+fn has_target(ones: &StateSet, b: bool, s: StateId) -> bool
+    requires { s < length ones.now }
+    ensures { IsTrue result ↔ (target ones.now s ≡ b) }
+{
+    ones.has(s) == b
+}
+
+/// Reaches what follows by an arc into a state that is marked.
+fn reach_into(
+    graph: &Graph,
+    ones: &StateSet,
+    b: bool,
+    arc: &Edge,
+    search: &mut Search,
+) -> Result<(), NoMemory>
+    requires graph { IsGraph graph.now }
+    requires arc { Contains graph.now.edges arc.now }
+    requires there { IsIn search.old.marks arc.now.to }
+    requires ones { length ones.now ≡ graph.now.states }
+    requires size { length search.old.marks ≡ graph.now.states }
+    requires belong { AllBelong graph.now ones.now b search.old.marks }
+    ensures marks { OnOk result (Marks (Belongs graph.now ones.now b)
+        search.old.marks search.old.work search.new.marks search.new.work) }
+    ensures done { OnOk result ((t : ℕ) → FollowsInto graph.now (target ones.now) b
+        search.old.marks arc.now t → IsIn search.new.marks t) }
+{
+    reach_if(has_target(ones, b, arc.from), arc.from, search)?;
+    reach_exits(graph, ones, b, arc, search)?;
+    Ok(())
+}
+
+/// Reaches what follows by the arcs into a state that is marked.
+fn reach_all_into(
     graph: &Graph,
     ones: &StateSet,
     b: bool,
     x: StateId,
-    marks: &mut StateSet,
-    work: &mut Vec<StateId>,
+    search: &mut Search,
 ) -> Result<(), NoMemory>
     requires graph { IsGraph graph.now }
-    requires there { IsIn marks.old x }
+    requires there { IsIn search.old.marks x }
     requires ones { length ones.now ≡ graph.now.states }
-    requires size { length marks.old ≡ graph.now.states }
-    requires belong { AllBelong graph.now ones.now b marks.old }
-    ensures marks { OnOk result
-        (Marks (Belongs graph.now ones.now b) marks.old work.old.items marks.new work.new.items) }
+    requires size { length search.old.marks ≡ graph.now.states }
+    requires belong { AllBelong graph.now ones.now b search.old.marks }
+    ensures marks { OnOk result (Marks (Belongs graph.now ones.now b)
+        search.old.marks search.old.work search.new.marks search.new.work) }
     ensures done { OnOk result ((a : Edge) (t : ℕ) → Contains graph.now.edges a → a.to ≡ x
-        → FollowsInto graph.now (target ones.now) b marks.old a t → IsIn marks.new t) }
+        → FollowsInto graph.now (target ones.now) b search.old.marks a t → IsIn search.new.marks t) }
 {
     let mut at = graph.first_in(x);
     while let Some(k) = at {
         let arc = graph.edge(k);
-        mark_into(graph, ones, b, &arc, marks, work)?;
+        reach_into(graph, ones, b, &arc, search)?;
         at = graph.next_in(k);
     }
     Ok(())
@@ -241,23 +191,15 @@ fn is_input(graph: &Graph, z: Sig) -> bool
     matches!(graph.signals()[z.0 as usize].kind, SigKind::Input)
 }
 
-/// Marks what inputs lead to from a state.
-fn mark_inputs(
-    graph: &Graph,
-    x: StateId,
-    marks: &mut StateSet,
-    work: &mut Vec<StateId>,
-) -> Result<(), NoMemory>
+/// Reaches what inputs lead to from a state.
+fn reach_inputs(graph: &Graph, x: StateId, search: &mut Search) -> Result<(), NoMemory>
     requires graph { IsGraph graph.now }
-    requires size { length marks.old ≡ graph.now.states }
-    ensures marks { OnOk result
-        (Marks (IsAfterInput graph.now x) marks.old work.old.items marks.new work.new.items) }
-    ensures done { OnOk result ((t : ℕ) → IsAfterInput graph.now x t → IsIn marks.new t) }
+    requires size { length search.old.marks ≡ graph.now.states }
+    ensures { OnOk result (MarksAll (IsAfterInput graph.now x)
+        search.old.marks search.old.work search.new.marks search.new.work) }
 {
     for a in graph.arcs_out(x) {
-        if is_input(graph, a.event.sig) {
-            mark(a.to, marks, work)?;
-        }
+        reach_if(is_input(graph, a.event.sig), a.to, search)?;
     }
     Ok(())
 }
@@ -272,51 +214,44 @@ fn is_crossing(ones: &StateSet, b: bool, a: &Edge) -> bool
     ones.has(a.from) != b && ones.has(a.to) == b
 }
 
-/// Marks what has the target and is entered from the other target.
-fn mark_crossed(
+/// Reaches what has the target and is entered from the other target.
+fn reach_crossed(
     graph: &Graph,
     ones: &StateSet,
     b: bool,
-    marks: &mut StateSet,
-    work: &mut Vec<StateId>,
+    search: &mut Search,
 ) -> Result<(), NoMemory>
     requires graph { IsGraph graph.now }
     requires ones { length ones.now ≡ graph.now.states }
-    requires size { length marks.old ≡ graph.now.states }
-    ensures marks { OnOk result
-        (Marks (IsCrossed graph.now (target ones.now) b) marks.old work.old.items marks.new
-        work.new.items) }
-    ensures done { OnOk result ((t : ℕ) → IsCrossed graph.now (target ones.now) b t
-        → IsIn marks.new t) }
+    requires size { length search.old.marks ≡ graph.now.states }
+    ensures { OnOk result (MarksAll (IsCrossed graph.now (target ones.now) b)
+        search.old.marks search.old.work search.new.marks search.new.work) }
 {
     for a in graph.arcs() {
-        if is_crossing(ones, b, a) {
-            mark(a.to, marks, work)?;
-        }
+        reach_if(is_crossing(ones, b, a), a.to, search)?;
     }
     Ok(())
 }
 
-/// Marks what follows from a state, which was the last of the work.
+/// Reaches what follows from a state, which was the last of the work.
 fn follow(
     graph: &Graph,
     ones: &StateSet,
     b: bool,
     x: StateId,
-    marks: &mut StateSet,
-    work: &mut Vec<StateId>,
+    search: &mut Search,
 ) -> Result<(), NoMemory>
     requires graph { IsGraph graph.now }
     requires ones { length ones.now ≡ graph.now.states }
     requires works { Works graph.now.states (SwitchRule graph.now (target ones.now) b)
-        marks.old (work.old.items ++ x ∷ []) }
+        search.old.marks (search.old.work ++ x ∷ []) }
     ensures works { OnOk result (Works graph.now.states (SwitchRule graph.now (target ones.now) b)
-        marks.new work.new.items) }
+        search.new.marks search.new.work) }
     ensures marks { OnOk result (Marks (Belongs graph.now ones.now b)
-        marks.old work.old.items marks.new work.new.items) }
+        search.old.marks search.old.work search.new.marks search.new.work) }
 {
-    mark_all_into(graph, ones, b, x, marks, work)?;
-    mark_inputs(graph, x, marks, work)?;
+    reach_all_into(graph, ones, b, x, search)?;
+    reach_inputs(graph, x, search)?;
     Ok(())
 }
 
@@ -331,13 +266,12 @@ pub(crate) fn switching(
     requires ones { length ones.now ≡ graph.now.states }
     ensures { IfOk result (IsLeast graph.now.states (Switches graph.now (target ones.now) b)) }
 {
-    let mut marks = StateSet::new(alloc, graph.states())?;
-    let mut work = Vec::new(alloc);
-    mark_crossed(graph, ones, b, &mut marks, &mut work)?;
-    while let Some(x) = work.pop() {
-        follow(graph, ones, b, x, &mut marks, &mut work)?;
+    let mut search = Search::new(alloc, graph.states())?;
+    reach_crossed(graph, ones, b, &mut search)?;
+    while let Some(x) = search.next_work() {
+        follow(graph, ones, b, x, &mut search)?;
     }
-    Ok(marks)
+    Ok(search.into_marks())
 }
 
 /// The same set where it is part of another one; `None` exactly where it isn't. It ends at the
@@ -357,14 +291,13 @@ pub(crate) fn switching_within(
         (λ set. IsLeast graph.now.states (Switches graph.now (target ones.now) b) set
         × IsSubset set within.now)) }
 {
-    let mut marks = StateSet::new(alloc, graph.states())?;
-    let mut work = Vec::new(alloc);
-    mark_crossed(graph, ones, b, &mut marks, &mut work)?;
-    while let Some(x) = work.pop() {
+    let mut search = Search::new(alloc, graph.states())?;
+    reach_crossed(graph, ones, b, &mut search)?;
+    while let Some(x) = search.next_work() {
         if !within.has(x) {
             return Ok(None);
         }
-        follow(graph, ones, b, x, &mut marks, &mut work)?;
+        follow(graph, ones, b, x, &mut search)?;
     }
-    Ok(Some(marks))
+    Ok(Some(search.into_marks()))
 }

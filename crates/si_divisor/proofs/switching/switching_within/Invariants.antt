@@ -7,9 +7,9 @@ use Rattle.si_divisor.proofs.switching.switching_within.Given as goal
 
 abbrev pub invariant-loop-x : goal.invariant-loop-x
 invariant-loop-x l = record {
-  works : Works l.graph.states (SwitchRule l.graph (target l.ones) l.b) l.marks l.work.items;
-  inside : AreWithin l.within l.marks l.work.items;
+  works : Works l.graph.states (SwitchRule l.graph (target l.ones) l.b) l.search.marks l.search.work;
+  inside : AreWithin l.within l.search.marks l.search.work;
 }
 
 abbrev pub decreases-loop-x : goal.decreases-loop-x
-decreases-loop-x l = unmarked l.marks + (unmarked l.marks + length l.work.items)
+decreases-loop-x l = unmarked l.search.marks + (unmarked l.search.marks + length l.search.work)

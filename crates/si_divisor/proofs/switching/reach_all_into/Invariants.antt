@@ -4,14 +4,15 @@ use Rattle.si_graph.proofs.ClosureLemmas.{Stands, place_in_walk}
 use Rattle.si_divisor.specs.Targets.{target}
 use Rattle.si_divisor.specs.WorkList.{Belongs, FollowsInto}
 use Rattle.si_divisor.proofs.TurnLemmas.{PassedTo}
-use Rattle.si_divisor.proofs.switching.mark_all_into.Given as goal
+use Rattle.si_divisor.proofs.switching.reach_all_into.Given as goal
 
 abbrev pub invariant-loop-at : goal.invariant-loop-at
 invariant-loop-at l = record {
-  marks_are : Marks (Belongs l.graph l.ones l.b) l.initial.marks l.initial.work.items l.marks l.work.items;
+  marks_are : Marks (Belongs l.graph l.ones l.b) l.fn.search.marks l.fn.search.work
+      l.search.marks l.search.work;
   stands : Stands l.graph l.fn.x l.at;
-  passed : PassedTo l.graph (FollowsInto l.graph (target l.ones) l.b l.initial.marks) l.fn.x
-      (place_in_walk l.graph l.at) l.marks;
+  passed : PassedTo l.graph (FollowsInto l.graph (target l.ones) l.b l.fn.search.marks) l.fn.x
+      (place_in_walk l.graph l.at) l.search.marks;
 }
 
 abbrev pub decreases-loop-at : goal.decreases-loop-at
