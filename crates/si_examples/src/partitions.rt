@@ -52,3 +52,18 @@ pub fn judged(
         Err((_partition, rejected)) => Ok((None, Verdict::Rejected(rejected))),
     }
 }
+
+/// The accepted partition of these letters, one for each state.
+pub fn accepted(
+    rt: &impl Abort,
+    alloc: Global,
+    graph: &Proper,
+    letters: &[u8],
+) -> Result<Accepted, Fail>
+    ensures { IfOk result (IsAccepted graph.now.graph) }
+{
+    match judged(rt, alloc, graph, letters)? {
+        (Some(accepted), _) => Ok(accepted),
+        (None, _) => Err("not accepted")?,
+    }
+}

@@ -4,7 +4,7 @@ ghost use Rattle.std.specs.Prelude.{◌≡◌};
 ghost use Rattle.si_conflicts.specs.Chains.{AreChains};
 
 use crate::graphs::{PULSES, VME, proper};
-use crate::partitions::judged;
+use crate::partitions::accepted;
 use si_base::ids::StateId;
 use si_checks::proper::Proper;
 use si_conflicts::chains::CodeChains;
@@ -41,10 +41,7 @@ fn expect_left(
     requires { AreChains graph.now chains.old }
     ensures { chains.new ≡ chains.old }
 {
-    let (accepted, _verdict) = judged(rt, alloc, graph, letters)?;
-    let Some(accepted) = accepted else {
-        return Err("not accepted")?;
-    };
+    let accepted = accepted(rt, alloc, graph, letters)?;
     assert_eq!(rt; chains.trial(alloc, graph, &accepted)?, n);
     let classes = accepted.partition().classes();
     assert_eq!(rt; chains.trial_below(alloc, graph, classes, n)?, None);
