@@ -55,7 +55,9 @@ fn fits_the_second_cell(rt: &impl Abort, alloc: Global, graph: Distinct<'_>) -> 
 fn cells_of_the_c_element(rt: HostRuntime) -> Result<(), Fail> {
     let alloc = rt.alloc();
     let graph = proper(alloc, C_ELEMENT)?;
-    let distinct = Distinct::make(alloc, &graph).ok().ok_or("a conflict")?;
+    let Ok(distinct) = Distinct::make(alloc, &graph) else {
+        return Err("a conflict")?;
+    };
     assert!(rt; is_driven(distinct, Z));
     has_full_support(&rt, alloc, distinct)?;
     is_no_small_cell(&rt, alloc, distinct)?;

@@ -60,7 +60,9 @@ fn expect_pins(
     last: &[u8],
 ) -> Result<(), Fail> {
     let graph = proper(alloc, graph)?;
-    let distinct = Distinct::make(alloc, &graph).ok().ok_or("a conflict")?;
+    let Ok(distinct) = Distinct::make(alloc, &graph) else {
+        return Err("a conflict")?;
+    };
     assert!(rt; is_driven(distinct, z));
     let signals = graph.coded().graph().signals();
     let found = pin_set(alloc, distinct, z)?;
