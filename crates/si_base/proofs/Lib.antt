@@ -1,3 +1,5 @@
+pub mod LineScans
+pub mod WordSets
 pub mod Steps
 pub mod StepFacts
 pub mod Circuit
@@ -6,7 +8,6 @@ pub mod Sorted
 pub mod Unique
 pub mod Unsplit
 pub mod CleanWords
-pub mod SetLemmas
 pub mod InOrder
 pub mod Fewer
 pub mod Parity

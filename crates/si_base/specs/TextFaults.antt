@@ -1,7 +1,7 @@
 -- The faults of texts: how they are named, and what a reader's answer says of them.
 use Rattle.std.specs.Prelude.{◌≡◌, ℕ, List, codes, Option, Some, None, Result, Ok, Err}
 use Rattle.si_base.specs.declared.fault.TextKind.{TextKind}
-use Rattle.si_base.specs.declared.fault.TextKind.TheVariants.{BadByte, UnknownDirective, BadName, Repeated, Dummy, Toggle, Undeclared, BadEvent, BadArcLine, BadLine, NoStateGraph, NoMarking, MarkingNotOne, UnknownState, NoEnd, TooManySignals, TooManyStates, TooManyArcs, TooManyCells, TooManyPins}
+use Rattle.si_base.specs.declared.fault.TextKind.TheVariants.{BadByte, UnknownDirective, BadName, Repeated, Dummy, Toggle, Undeclared, BadEvent, BadArcLine, BadLine, NoStateGraph, NoMarking, MarkingNotOne, UnknownState, NoEnd, TooManySignals, TooManyStates, TooManyArcs, TooManyCells, TooManyPins, BadGate, BadNumber, BadPin, Latch, BadWord, BadExpression, TooDeep, OwnFalling}
 use Rattle.si_base.specs.declared.fault.LineFault.{LineFault}
 use Rattle.si_base.specs.declared.fault.LineFault.TheVariants.{NoMemory, Kind}
 use Rattle.si_base.specs.declared.fault.TextFault.{TextFault}
@@ -29,6 +29,14 @@ kind_name TooManyStates = codes "TooManyStates"
 kind_name TooManyArcs = codes "TooManyArcs"
 kind_name TooManyCells = codes "TooManyCells"
 kind_name TooManyPins = codes "TooManyPins"
+kind_name BadGate = codes "BadGate"
+kind_name BadNumber = codes "BadNumber"
+kind_name BadPin = codes "BadPin"
+kind_name Latch = codes "Latch"
+kind_name BadWord = codes "BadWord"
+kind_name BadExpression = codes "BadExpression"
+kind_name TooDeep = codes "TooDeep"
+kind_name OwnFalling = codes "OwnFalling"
 
 -- the line's fault is this one, or `NoMemory`
 abbrev pub ShowsKind : LineFault → Option TextKind → Type 0

@@ -32,6 +32,23 @@ pub enum TextKind {
     TooManyArcs,
     TooManyCells,
     TooManyPins,
+    /// A gate whose name, output or `=` can't be read.
+    BadGate,
+    /// A word that isn't decimal, where a number is due.
+    BadNumber,
+    /// A pin whose phase isn't one of the three.
+    BadPin,
+    /// A latch among the gates.
+    Latch,
+    /// A word or a character that can't stand where it stands.
+    BadWord,
+    /// A token at which an expression can't go on.
+    BadExpression,
+    /// An expression in which too many operators are unfinished at once.
+    TooDeep,
+    /// A gate that falls with its own output: for some values of its pins it gives 1 where the
+    /// output is 0, and 0 where it is 1.
+    OwnFalling,
 }
 
 /// Why a line was not read.
@@ -133,6 +150,14 @@ impl TextKind {
             TextKind::TooManyArcs => "TooManyArcs",
             TextKind::TooManyCells => "TooManyCells",
             TextKind::TooManyPins => "TooManyPins",
+            TextKind::BadGate => "BadGate",
+            TextKind::BadNumber => "BadNumber",
+            TextKind::BadPin => "BadPin",
+            TextKind::Latch => "Latch",
+            TextKind::BadWord => "BadWord",
+            TextKind::BadExpression => "BadExpression",
+            TextKind::TooDeep => "TooDeep",
+            TextKind::OwnFalling => "OwnFalling",
         }
     }
 }

@@ -1,9 +1,11 @@
 //! Lines of a text, and words of a line.
 
-ghost use Rattle.std.specs.Prelude.{take_while, ◌&&◌, ◌||◌, nat_lt, ◌≡◌, ℕ, ◌+◌, ◌<◌, ◌≤◌, ◌^◌, ◌∷◌, [], List, length, MatchOption, not, ◌==◌, slice_index, true, false};
+ghost use Rattle.std.specs.Prelude.{take_while, ◌&&◌, ◌||◌, nat_lt, ◌≡◌, ℕ, ◌+◌, ◌<◌, ◌≤◌, ◌^◌, ◌∷◌, [], List, length, MatchOption, not, ◌==◌, slice_index, true, false, ◌↔◌, IsTrue, IsNone, IfSome};
 ghost use Rattle.std.specs.List.{enumerate_from, prefix_len, list_any};
+ghost use Rattle.si_base.specs.Bytes.{hash};
 ghost use Rattle.si_base.specs.Lines.{lines_of, words_in, before_comment, is_blank as blank, is_plain as plain, has_bad_byte as bad, is_bad as bad_one};
 
+use memchr::memchr;
 use std::marker::Model;
 
 /// A line without its line end.
@@ -71,6 +73,16 @@ fn is_blank(b: u8) -> bool
     b == b' ' || b == b'\t' || b == b'\r'
 }
 
+/// How many bytes stand before the first one that is bad or begins the comment.
+fn clean_len(line: &[u8]) -> usize
+    ensures within { result ≤ length line.now }
+    ensures len { result ≡ prefix_len (λ b. not (b == hash) && not (bad_one b)) line.now }
+{
+    line.iter()
+        .take_while(|b| **b != b'#' && !is_bad(**b))
+        .count()
+}
+
 fn is_plain(braces: bool, b: u8) -> bool
     ensures { result ≡ plain braces b }
 {
@@ -81,7 +93,10 @@ fn len_before(bytes: &[u8], mark: u8) -> usize
     ensures within { result ≤ length bytes.now }
     ensures len { result ≡ prefix_len (λ b. not (b == mark)) bytes.now }
 {
-    bytes.iter().take_while(|b| **b != mark).count()
+    match memchr(mark, bytes) {
+        Some(k) => k,
+        None => bytes.len(),
+    }
 }
 
 fn blank_len(bytes: &[u8]) -> usize
@@ -126,6 +141,22 @@ impl<'a> Words<'a> {
             rest: &line[..end],
             braces,
         }
+    }
+
+    /// All words of the line, or `None` where it has a bad byte. It is one look at `has_bad_byte`
+    /// and the comment.
+    pub fn of_clean(line: &'a [u8], braces: bool) -> Option<Words<'a>>
+        ensures bad { IsNone result ↔ IsTrue (bad line.now) }
+        ensures words { IfSome result (λ w. w ≡ words_in braces (before_comment line.now)) }
+    {
+        let end = clean_len(line);
+        if end < line.len() && line[end] != b'#' {
+            return None;
+        }
+        Some(Words {
+            rest: &line[..end],
+            braces,
+        })
     }
 
     /// Takes the next word; `None` exactly where none is left.

@@ -1,14 +1,11 @@
--- The states of a block: its list, and blocks that share none.
-use Rattle.std.proofs.Common.{◌≡◌, ℕ, ◌<◌, ◌↔◌, Bool, false, List, length, get_or, All, Contains, nat_cmp, sym, subst, ◌∙◌, arith, inl, inr}
+-- The states of a block.
+use Rattle.std.proofs.Common.{◌≡◌, ℕ, ◌<◌, ◌↔◌, Bool, false, List, length, get_or, All, Contains, sym, subst, ◌∙◌, arith, inl, inr}
 use Rattle.std.proofs.lemmas.Bool.{cases_Bool, true≢false}
 use Rattle.std.proofs.lemmas.List.Elements.{Contains-get_or}
 use Rattle.std.proofs.lemmas.List.{get_or_default, same_lists}
-use Rattle.std.specs.List.Sorted.{IsStrictlySortedBy}
-use Rattle.si_base.specs.Sets.{IsIn}
-use Rattle.si_graph.specs.Reach.{AreSeeds}
+use Rattle.si_base.specs.Sets.{IsIn, IsUnion}
 use Rattle.si_graph.proofs.MarkLemmas.{in_below}
 use Rattle.si_regions.specs.Regions.{IsSetOf}
-use Rattle.si_candidates.specs.Blocks.{AreDisjoint}
 
 -- what holds of all elements holds of each that the list has
 pub at_each : {X : Type 0} (P : X → Type 0) (xs : List X) (x : X) → All P xs → Contains xs x → P x
@@ -32,37 +29,15 @@ same_sets x y size same = same_lists x y size (λ k d inside.
       ]
     ]
 
-pub seeds_same : (set copy : List Bool) (states : List ℕ) → AreSeeds set copy states → copy ≡ set
-seeds_same set copy states are = same_sets copy set are.size are.same
+-- a set with just the states of another one is that set
+pub union_same : (none set copy : List Bool) → ((s : ℕ) → IsIn none s → ⊥) → length none ≡ length set
+    → IsUnion none set copy → copy ≡ set
+union_same none set copy empty size is = same_sets copy set (is.size ∙ size) (λ s. (
+  λ there. elim (is.no_more s there) [ inl old ↦ absurd (empty s old) | inr other ↦ other ],
+  λ there. is.has_other s there,
+))
 
 pub states_below : (set : List Bool) (states : List ℕ) (n : ℕ) → IsSetOf (IsIn set) states → length set ≡ n
     → All (λ s. s < n) states
 states_below set states n are size = for_each (λ s. s < n) states
     (λ s there. (let below = in_below set s ((are.exactly s).0 there) in omega (arith, below, size)))
-
--- no state of the one list is in the other set
-abbrev pub HasNone : List Bool → List ℕ → Type 0
-HasNone set states = (s : ℕ) → Contains states s → IsIn set s → ⊥
-
-pub apart_by_mine : (x y : List Bool) (states : List ℕ) → IsSetOf (IsIn x) states → HasNone y states ↔ AreDisjoint x y
-apart_by_mine x y states are = (
-  λ none s in_x in_y. none s ((are.exactly s).1 in_x) in_y,
-  λ apart s there in_y. apart s ((are.exactly s).0 there) in_y,
-)
-
-pub apart_by_others : (x y : List Bool) (states : List ℕ) → IsSetOf (IsIn y) states → HasNone x states ↔ AreDisjoint x y
-apart_by_others x y states are = (
-  λ none s in_x in_y. none s ((are.exactly s).1 in_y) in_x,
-  λ apart s there in_x. apart s in_x ((are.exactly s).0 there),
-)
-
--- the list in order of the states that were copied
-pub listed : (set copy : List Bool) (states list : List ℕ) → AreSeeds set copy states
-    → ((t : ℕ) → Contains list t ↔ Contains states t) → IsStrictlySortedBy nat_cmp list → IsSetOf (IsIn copy) list
-listed set copy states list are same order = record {
-  in_order = order;
-  exactly = λ t. (
-    λ there. (are.same t).1 ((are.queued t).0 ((same t).0 there)),
-    λ i. (same t).1 ((are.queued t).1 ((are.same t).0 i)),
-  );
-}

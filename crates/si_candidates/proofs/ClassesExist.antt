@@ -8,13 +8,13 @@ use Rattle.si_base.specs.Graph.{StateGraph, IsGraph, arc}
 use Rattle.si_base.specs.Codes.{IsConnected}
 use Rattle.si_base.specs.Sets.{IsIn}
 use Rattle.si_graph.specs.declared.closure.Along.TheVariants.{Both}
-use Rattle.si_graph.specs.Closure.{Path}
+use Rattle.si_graph.specs.Closure.{IsNext, Path}
 use Rattle.si_graph.proofs.MarkLemmas.{in_below}
 use Rattle.si_graph.proofs.MemberLemmas.{Contains-here, Contains-nil}
 use Rattle.si_regions.specs.Connected.{Adjoins, PathOf}
 use Rattle.si_regions.specs.Regions.{IsSetOf}
-use Rattle.si_regions.specs.Searching.{AreMarksOf, IsReachedIn}
-use Rattle.si_regions.proofs.SearchLemmas.{reached_on, reached_seed}
+use Rattle.si_regions.specs.Searching.{AreMarksOf, IsReachedIn, IsSeed}
+use Rattle.si_graph.proofs.ClosureLemmas.{reached_on, reached_seed}
 use Rattle.si_regions.proofs.SetsExist.{listed, some_set, some_marks, some_reached}
 use Rattle.si_checks.proofs.DecisionLemmas as decide
 use Rattle.si_checks.proofs.DecisionLemmas.{Decided, both, some_of, less}
@@ -108,14 +108,14 @@ module _ (g : StateGraph) (plus minus : List Bool) where
         → Reached t → Reached s
     reached_back s [] t here leads end = subst Reached (sym leads) end
     reached_back s (u ∷ us) t here leads end =
-        reached_on g Both others.0 seeds.0 u s (reached_back u us t leads.1 leads.2 end)
+        reached_on (IsNext g Both others.0) (IsSeed others.0 seeds.0) u s (reached_back u us t leads.1 leads.2 end)
         (adjoins_back s u leads.0, (others.1.exactly s).1 here)
 
     drawn_reached : (s : ℕ) → IsDrawn g plus minus from into s → Reached s
     drawn_reached s d =
         let other = end_other s d.part.path d.at d.part.begins d.part.leads in
         let seed = (seeds.1.exactly d.at).1 (other, d.by) in
-        let end = reached_seed g Both others.0 seeds.0 d.at (seed, (others.1.exactly d.at).1 other) in
+        let end = reached_seed (IsNext g Both others.0) (IsSeed others.0 seeds.0) d.at (seed, (others.1.exactly d.at).1 other) in
         reached_back s d.part.path d.at d.part.begins d.part.leads end
 
     pub drawn_or_not : (s : ℕ) → Decided (IsDrawn g plus minus from into s)

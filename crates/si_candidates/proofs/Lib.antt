@@ -4,6 +4,7 @@ pub mod LawfulParts
 pub mod Separable
 pub mod CopyCount
 mod BlockStates
+mod BlockWalks
 mod Switching
 mod RaisingLemmas
 mod RaisingLoops

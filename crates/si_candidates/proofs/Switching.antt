@@ -15,7 +15,6 @@ use Rattle.si_base.proofs.StepFacts.{step_within}
 use Rattle.si_graph.specs.Arcs.{AreOut, edge_at, no_edge, IsFirstPlace, IsInto}
 use Rattle.si_graph.proofs.ClosureLemmas.{place_in_walk, none_between}
 use Rattle.si_base.proofs.Steps.{same_event-refl}
-use Rattle.si_regions.specs.Regions.{IsSetOf}
 use Rattle.si_insert.specs.Accepted.{IsInput}
 use Rattle.si_candidates.specs.Blocking.{MaySwitch, MayPass, MayLeave, KeepsExit}
 use Rattle.si_candidates.proofs.BlockStates.{at_each}
@@ -156,12 +155,10 @@ pub out_there : (g : StateGraph) (s : ℕ) (arcs : List Edge) → AreOut g s arc
 out_there g s arcs out n a inside at = (out.exactly a).0 (n, inside, sym at)
 
 -- the arcs out of all states of the set
-pub all_from : (g : StateGraph) (set : List Bool) (states : List ℕ) → IsSetOf (IsIn set) states
-    → All (PassFrom g set) states → MaySwitch g (IsIn set)
-all_from g set states are pass = passes_switch g set
-    (λ a there from. at_each (PassFrom g set) states a.from pass ((are.exactly a.from).1 from) a there refl)
+pub all_from : (g : StateGraph) (set : List Bool) → ((s : ℕ) → IsIn set s → PassFrom g set s) → MaySwitch g (IsIn set)
+all_from g set pass = passes_switch g set (λ a there from. pass a.from from a there refl)
 
-pub from_each : (g : StateGraph) (set : List Bool) (states : List ℕ) → IsGraph g → IsSetOf (IsIn set) states
-    → MaySwitch g (IsIn set) → (s : ℕ) → Contains states s → PassFrom g set s
-from_each g set states is are may s there a arc_in from = switch_passes g set a is may arc_in
-    (subst (λ (x : ℕ). IsIn set x) (sym from) ((are.exactly s).0 there))
+pub from_each : (g : StateGraph) (set : List Bool) → IsGraph g → MaySwitch g (IsIn set) → (s : ℕ) → IsIn set s
+    → PassFrom g set s
+from_each g set is may s here a arc_in from =
+    switch_passes g set a is may arc_in (subst (λ (x : ℕ). IsIn set x) (sym from) here)

@@ -1,15 +1,11 @@
--- How a search for an interval steps on, and how the list of blocks grows.
-use Rattle.std.specs.Prelude.{◌≡◌, ◌≢◌, ℕ, ◌+◌, Bool, List, [], ◌∷◌, ◌++◌, length, nat_lt, if◌then◌else◌}
+-- How the list of blocks grows.
+use Rattle.std.specs.Prelude.{◌≡◌, ℕ, ◌+◌, Bool, List, [], ◌∷◌, ◌++◌, length, nat_lt, if◌then◌else◌}
 use Rattle.std.specs.List.{list_any}
 use Rattle.si_base.specs.declared.ids.Event.{Event}
-use Rattle.si_base.specs.Graph.{StateGraph, Step}
+use Rattle.si_base.specs.Graph.{StateGraph}
 use Rattle.si_regions.specs.declared.regions.Region.{Region}
 use Rattle.si_candidates.specs.Interval.{IsInterval}
 use Rattle.si_candidates.specs.Blocks.{same_set, max_blocks, AreIntervalsFrom, AreIntervals}
-
--- s leads to t by another event than `stop`
-abbrev pub LeadsWithout : StateGraph → Event → ℕ → ℕ → Type 0
-LeadsWithout g stop s t = (e : Event) × (e ≢ stop) × Step g s e t
 
 -- the sum of the states of a set whose first flag is that of the state a
 abbrev pub weight_from : ℕ → List Bool → ℕ

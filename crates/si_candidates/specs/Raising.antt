@@ -7,6 +7,8 @@ use Rattle.si_graph.specs.Reach.{MarksAll}
 use Rattle.si_insert.specs.declared.partition.Class.{Class}
 use Rattle.si_insert.specs.declared.partition.Class.TheVariants.{Low, Rising, High, Falling}
 use Rattle.si_insert.specs.Partition.{class_of}
+use Rattle.si_regions.specs.Regions.{IsSetOf}
+use Rattle.si_candidates.specs.Blocks.{AreDisjoint}
 use Rattle.si_candidates.specs.Parts.{IsHigh}
 
 -- the class before anything was raised
@@ -34,6 +36,11 @@ pub record AreBegun (plus minus : List Bool) (classes : List Class) : Type 0 whe
   pub rising : (s : ℕ) → (class_of classes s ≡ Rising) ↔ IsIn plus s
   pub falling : (s : ℕ) → (class_of classes s ≡ Falling) ↔ IsIn minus s
   pub none_high : (s : ℕ) → class_of classes s ≡ High → ⊥
+
+-- so for the sets of which these are the states, if no state is in both
+abbrev pub AreListsBegun : List ℕ → List ℕ → List Class → Type 0
+AreListsBegun rising falling classes = (plus minus : List Bool) → IsSetOf (IsIn plus) rising
+    → IsSetOf (IsIn minus) falling → AreDisjoint plus minus → AreBegun plus minus classes
 
 -- all states of High parts are High then, torn parts too
 pub record AreRaised (g : StateGraph) (plus minus : List Bool) (classes : List Class) : Type 0 where

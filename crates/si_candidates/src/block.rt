@@ -1,6 +1,6 @@
 //! A block with what a search asks of it again and again.
 
-ghost use Rattle.std.specs.Prelude.{◌≡◌, ℕ, ◌<◌, ◌↔◌, IfOk, IsTrue, All, Contains, length};
+ghost use Rattle.std.specs.Prelude.{◌≡◌, ◌<◌, ◌↔◌, IfOk, IsTrue, Contains, count_by, length};
 ghost use Rattle.si_base.specs.declared.graph.Edge.{Edge};
 ghost use Rattle.si_base.specs.Sets.{IsIn};
 ghost use Rattle.si_base.specs.Graph.{IsGraph};
@@ -17,23 +17,21 @@ use si_regions::state_list::StateList;
 use std::alloc::Global;
 use std::marker::Model;
 
-/// A set of states with the list of its states. Contracts see it as the set.
+/// A set of states, counted. Contracts see it as the set.
 #[derive(Drop)]
 pub struct Block {
     set: StateSet,
-    states: StateList,
+    count: u32,
 }
 
 impl Model for Block {
-    ghost use Rattle.std.specs.Prelude.{List, Bool};
-    ghost use Rattle.si_base.specs.Sets.{IsIn};
-    ghost use Rattle.si_regions.specs.Regions.{IsSetOf};
+    ghost use Rattle.std.specs.Prelude.{◌≡◌, List, Bool, count_by};
 
     ghost Value = { List Bool };
 
     ghost view = { λ b. b.set };
 
-    ghost invariant = { λ b. IsSetOf (IsIn b.set) b.states };
+    ghost invariant = { λ b. b.count ≡ count_by (λ x. x) b.set };
 }
 
 impl Block {
@@ -44,17 +42,9 @@ impl Block {
         ensures { IfOk result (λ b. b ≡ set.now) }
     {
         let mut copy = StateSet::new(alloc, set.size())?;
-        let mut states = Vec::new(alloc);
-        for s in 0..set.size() {
-            if set.has(StateId(s)) {
-                copy.add(StateId(s));
-                states.push(StateId(s))?;
-            }
-        }
-        Ok(Block {
-            set: copy,
-            states: StateList::of(states),
-        })
+        copy.union_with(set);
+        let count = copy.count();
+        Ok(Block { set: copy, count })
     }
 
     /// The set.
@@ -64,25 +54,34 @@ impl Block {
         &self.set
     }
 
-    /// The states in order.
-    pub fn states(&self) -> &[StateId]
-        ensures { IsSetOf (IsIn self.now) result.now }
+    /// How many states are in the block.
+    pub fn count(&self) -> u32
+        ensures { result ≡ count_by (λ x. x) self.now }
     {
-        self.states.as_slice()
+        self.count
     }
 
-    /// Whether no state is in both blocks. It looks at the states of the smaller one alone.
+    /// The states in order. It fails only where memory runs out.
+    pub fn states(&self, alloc: Global) -> Result<StateList, NoMemory>
+        ensures { IfOk result (IsSetOf (IsIn self.now)) }
+    {
+        let set = self.set();
+        let _size = set.size();
+        let mut states = Vec::new(alloc);
+        let mut next = set.first_from(StateId(0));
+        while let Some(s) = next {
+            states.push(s)?;
+            next = set.first_from(StateId(s.0 + 1));
+        }
+        Ok(StateList::of(states))
+    }
+
+    /// Whether no state is in both blocks.
     pub fn is_apart(&self, other: &Block) -> bool
         requires { length self.now ≡ length other.now }
         ensures { IsTrue result ↔ AreDisjoint self.now other.now }
     {
-        let mine = self.states();
-        let others = other.states();
-        if mine.len() <= others.len() {
-            has_none(other.set(), mine)
-        } else {
-            has_none(self.set(), others)
-        }
+        self.set().is_disjoint(other.set())
     }
 
     /// Whether a new signal may switch in the block: no input leads out of it, and what leads out
@@ -94,26 +93,15 @@ impl Block {
     {
         let g = graph.coded().graph();
         let set = self.set();
-        for s in self.states() {
-            if !arcs_may_pass(g, set, *s) {
+        let mut next = set.first_from(StateId(0));
+        while let Some(s) = next {
+            if !arcs_may_pass(g, set, s) {
                 return false;
             }
+            next = set.first_from(StateId(s.0 + 1));
         }
         true
     }
-}
-
-/// Whether none of the states is in the set.
-fn has_none(set: &StateSet, states: &[StateId]) -> bool
-    requires { All (λ s. s < length set.now) states.now }
-    ensures { IsTrue result ↔ ((s : ℕ) → Contains states.now s → IsIn set.now s → ⊥) }
-{
-    for s in states {
-        if set.has(*s) {
-            return false;
-        }
-    }
-    true
 }
 
 /// Whether each arc out of the state stays in the set or may leave it.

@@ -7,13 +7,14 @@ ghost use Rattle.si_regions.specs.Connected.{Adjoins};
 ghost use Rattle.si_insert.specs.Partition.{class_of};
 ghost use Rattle.si_candidates.specs.Blocks.{AreDisjoint};
 ghost use Rattle.si_candidates.specs.Parts.{AreClasses, IsTorn};
-ghost use Rattle.si_candidates.specs.Raising.{AreBegun, AreRaised, IsEnteredBy, LeadsInto, MeetsRising, MeetsFalling, Raises};
+ghost use Rattle.si_candidates.specs.Raising.{AreListsBegun, AreRaised, IsEnteredBy, LeadsInto, MeetsRising, MeetsFalling, Raises};
 
 use crate::block::Block;
 use si_base::ids::{NoMemory, StateId};
 use si_graph::coded::Coded;
 use si_graph::graph::Graph;
 use si_insert::partition::Class;
+use si_regions::state_list::StateList;
 use std::alloc::Global;
 
 /// A class for each state of a graph, and the raised states that weren't followed yet.
@@ -23,6 +24,7 @@ use std::alloc::Global;
 /// as only a Low state may, its part is torn.
 #[derive(Drop)]
 pub(crate) struct Raising {
+    alloc: Global,
     classes: Vec<Class>,
     work: Vec<StateId>,
 }
@@ -33,6 +35,7 @@ impl Raising {
         ensures { IfOk result (λ r. length r.classes.items ≡ states) }
     {
         Ok(Raising {
+            alloc,
             classes: vec![in alloc; Class::Low; states as usize]?,
             work: Vec::with_capacity(alloc, states as usize)?,
         })
@@ -49,7 +52,7 @@ impl Raising {
     pub(crate) fn into_classes(self) -> Vec<Class>
         ensures { result.items ≡ self.classes.items }
     {
-        let Raising { classes, work: _ } = self;
+        let Raising { classes, .. } = self;
         classes
     }
 
@@ -73,9 +76,11 @@ impl Raising {
             (λ is. is ≡ false → (s : ℕ) × IsTorn graph.now.graph plus.now minus.now s) }
     {
         let g = graph.graph();
-        self.begin(plus, minus);
-        self.raise_after(g, plus.states())?;
-        self.raise_before(g, minus.states())?;
+        let rising = plus.states(self.alloc)?;
+        let falling = minus.states(self.alloc)?;
+        self.begin(&rising, &falling);
+        self.raise_after(g, &rising)?;
+        self.raise_before(g, &falling)?;
         while let Some(s) = self.work.pop() {
             if !self.follow(g, s)? {
                 return Ok(false);
@@ -99,9 +104,11 @@ impl Raising {
         ensures raised { OnOk result
             (AreRaised graph.now plus.now minus.now self.new.classes.items) }
     {
-        self.begin(plus, minus);
-        self.raise_after(graph, plus.states())?;
-        self.raise_before(graph, minus.states())?;
+        let rising = plus.states(self.alloc)?;
+        let falling = minus.states(self.alloc)?;
+        self.begin(&rising, &falling);
+        self.raise_after(graph, &rising)?;
+        self.raise_before(graph, &falling)?;
         while let Some(s) = self.work.pop() {
             self.raise_targets(graph, s, false)?;
             self.raise_sources(graph, s, false)?;
@@ -110,41 +117,40 @@ impl Raising {
     }
 
     /// The blocks are Rising and Falling, and every other state is Low.
-    fn begin(&mut self, plus: &Block, minus: &Block)
-        requires plus_size { length plus.now ≡ length self.old.classes.items }
-        requires minus_size { length minus.now ≡ length self.old.classes.items }
-        requires disjoint { AreDisjoint plus.now minus.now }
-        ensures begun { AreBegun plus.now minus.now self.new.classes.items }
+    fn begin(&mut self, rising: &StateList, falling: &StateList)
+        requires rising { All (λ s. s < length self.old.classes.items) rising.now }
+        requires falling { All (λ s. s < length self.old.classes.items) falling.now }
+        ensures begun { AreListsBegun rising.now falling.now self.new.classes.items }
         ensures size { length self.new.classes.items ≡ length self.old.classes.items }
         ensures work { self.new.work.items ≡ [] }
     {
         self.work.clear();
-        begin_classes(self.classes.as_mut_slice(), plus, minus);
+        begin_classes(self.classes.as_mut_slice(), rising, falling);
     }
 
     /// Raises the states that Rising states enter.
-    fn raise_after(&mut self, graph: &Graph, rising: &[StateId]) -> Result<(), NoMemory>
+    fn raise_after(&mut self, graph: &Graph, rising: &StateList) -> Result<(), NoMemory>
         requires { length self.old.classes.items ≡ graph.now.states }
         ensures size { length self.new.classes.items ≡ length self.old.classes.items }
         ensures raised { OnOk result (Raises (IsEnteredBy graph.now rising.now)
             self.old.classes.items self.old.work.items
             self.new.classes.items self.new.work.items) }
     {
-        for s in rising {
+        for s in rising.as_slice() {
             self.raise_targets(graph, *s, false)?;
         }
         Ok(())
     }
 
     /// Raises the states that lead into Falling states.
-    fn raise_before(&mut self, graph: &Graph, falling: &[StateId]) -> Result<(), NoMemory>
+    fn raise_before(&mut self, graph: &Graph, falling: &StateList) -> Result<(), NoMemory>
         requires { length self.old.classes.items ≡ graph.now.states }
         ensures size { length self.new.classes.items ≡ length self.old.classes.items }
         ensures raised { OnOk result (Raises (LeadsInto graph.now falling.now)
             self.old.classes.items self.old.work.items
             self.new.classes.items self.new.work.items) }
     {
-        for s in falling {
+        for s in falling.as_slice() {
             self.raise_sources(graph, *s, false)?;
         }
         Ok(())
@@ -246,16 +252,15 @@ fn is_barred(strict: bool, class: Class, barred: Class) -> bool
 }
 
 /// The blocks are Rising and Falling, and every other state is Low.
-fn begin_classes(classes: &mut [Class], plus: &Block, minus: &Block)
-    requires plus_size { length plus.now ≡ length classes.old }
-    requires minus_size { length minus.now ≡ length classes.old }
-    requires disjoint { AreDisjoint plus.now minus.now }
-    ensures begun { AreBegun plus.now minus.now classes.new }
+fn begin_classes(classes: &mut [Class], rising: &StateList, falling: &StateList)
+    requires rising { All (λ s. s < length classes.old) rising.now }
+    requires falling { All (λ s. s < length classes.old) falling.now }
+    ensures begun { AreListsBegun rising.now falling.now classes.new }
     ensures size { length classes.new ≡ length classes.old }
 {
     lower(classes);
-    mark(classes, plus.states(), Class::Rising);
-    mark(classes, minus.states(), Class::Falling);
+    mark(classes, rising.as_slice(), Class::Rising);
+    mark(classes, falling.as_slice(), Class::Falling);
 }
 
 /// Every state is Low.

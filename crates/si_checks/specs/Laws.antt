@@ -1,5 +1,5 @@
--- What holds of each graph: it is proper, or has a first breach.
-use Rattle.std.specs.Prelude.{ℕ}
+-- What holds of each graph: it is proper, or has a first breach, and that is one.
+use Rattle.std.specs.Prelude.{◌≡◌, ℕ}
 use Rattle.si_base.specs.Graph.{StateGraph}
 use Rattle.si_base.specs.Order.{IsFirst}
 use Rattle.si_base.specs.Codes.{IsConsistent, IsDeterministic}
@@ -14,3 +14,14 @@ pub data ProperOrBreach (g : StateGraph) : Type 0 where
       → (b : Fork) → IsFirst fork_place (Forks g) b → ProperOrBreach g
   HasLoss : IsDeterministic g → IsConsistent g → IsCommutative g
       → (b : Loss) → IsFirst loss_place (Loses g) b → ProperOrBreach g
+
+-- no two differ of which P holds
+abbrev pub IsOfOne : {X : Type 0} → (X → Type 0) → Type 0
+IsOfOne {X} P = (a b : X) → P a → P b → a ≡ b
+
+-- of each kind no more than one breach is the first
+pub record FirstBreachesAreOne (g : StateGraph) : Type 0 where
+  pub splits : IsOfOne (IsFirst split_place (Splits g))
+  pub without_values : IsOfOne (IsFirstWithoutValues g)
+  pub forks : IsDeterministic g → IsOfOne (IsFirst fork_place (Forks g))
+  pub losses : IsOfOne (IsFirst loss_place (Loses g))

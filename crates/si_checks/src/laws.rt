@@ -5,7 +5,7 @@ ghost use Rattle.si_base.specs.Codes.{CodedGraph, IsCoded, IsConnected, IsConsis
 ghost use Rattle.si_base.specs.Graph.{IsGraph, StateGraph};
 ghost use Rattle.si_base.specs.Order.{IsFirst};
 ghost use Rattle.si_base.specs.Proper.{HasNoConflict, IsConflict, pair_place};
-ghost use Rattle.si_checks.specs.Laws.{ProperOrBreach};
+ghost use Rattle.si_checks.specs.Laws.{FirstBreachesAreOne, IsOfOne, ProperOrBreach};
 
 /// A connected, deterministic and consistent graph has codes.
 pub fn consistent_graphs_have_codes()
@@ -23,4 +23,14 @@ pub fn improper_graphs_have_a_first_breach()
 pub fn conflicts_have_a_first()
     ensures { (c : CodedGraph)
         → HasNoConflict c ⊎ ((pair : ℕ × ℕ) × IsFirst pair_place (IsConflict c) pair) }
+{}
+
+/// No graph has two first breaches of one kind.
+pub fn first_breaches_are_one()
+    ensures { (g : StateGraph) → FirstBreachesAreOne g }
+{}
+
+/// No graph has two first conflicts.
+pub fn first_conflicts_are_one()
+    ensures { (c : CodedGraph) → IsOfOne (IsFirst pair_place (IsConflict c)) }
 {}

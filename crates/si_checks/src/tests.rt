@@ -124,13 +124,6 @@ fn first_forks_and_losses(rt: HostRuntime) -> Result<(), Fail> {
         improper(&rt, alloc, &choice)?,
         Some(Improper::Nonpersistent { s, lost, by })
     );
-
-    let disabled = [(0, rise(Z), 2), (0, rise(A), 1)];
-    let (lost, by) = (rise(Z), rise(A));
-    assert_eq!(rt;
-        improper(&rt, alloc, &disabled)?,
-        Some(Improper::Nonpersistent { s, lost, by })
-    );
     Ok(())
 }
 
@@ -157,21 +150,6 @@ fn first_conflicts(rt: HostRuntime) -> Result<(), Fail> {
     let (p, q) = (StateId(0), StateId(2));
     assert_eq!(rt;
         conflict(&rt, alloc, &twice)?,
-        Some(NotDistinct::Conflict { p, q })
-    );
-
-    // States 1 and 2 have one code, and 0 and 5.
-    let renamed = [
-        (0, rise(A), 3),
-        (3, fall(A), 5),
-        (5, rise(Z), 1),
-        (1, rise(A), 4),
-        (4, fall(A), 2),
-        (2, fall(Z), 0),
-    ];
-    let (p, q) = (StateId(0), StateId(5));
-    assert_eq!(rt;
-        conflict(&rt, alloc, &renamed)?,
         Some(NotDistinct::Conflict { p, q })
     );
     Ok(())

@@ -7,7 +7,7 @@ use Rattle.si_base.specs.Graph.{arc, rise, fall}
 use Rattle.si_base.specs.Codes.{CodedGraph}
 use Rattle.si_base.specs.Netlist.{SumGate, Gc}
 use Rattle.si_base.specs.NetlistText.{netlist_text}
-use Rattle.si_cover.specs.Rule.{chosen_sum}
+use Rattle.si_cover.specs.Demands.{chosen_sum}
 use Rattle.si_circuit.specs.declared.style.Style.TheVariants.{Complex, GeneralisedC}
 use Rattle.si_circuit.specs.Gates.{chosen_netlist, gate_of, netlist_of}
 

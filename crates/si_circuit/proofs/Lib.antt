@@ -8,5 +8,7 @@ pub mod TraceLemmas
 pub mod InsertedLemmas
 pub mod CircuitLemmas
 pub mod CurrentLemmas
+pub mod MarkLemmas
+pub mod CurrentWords
 pub mod LineLemmas
 mod SpelledExamples

@@ -13,8 +13,8 @@ use Rattle.si_insert.proofs.Chain.{right_implement}
 use Rattle.si_cover.specs.declared.kind.SumKind.{SumKind}
 use Rattle.si_cover.specs.declared.kind.SumKind.TheVariants.{Next, Set, Reset}
 use Rattle.si_cover.specs.Demands.{is_required, is_forbidden, demand}
-use Rattle.si_cover.specs.Covers.{IsCover}
-use Rattle.si_cover.proofs.NeededLemmas.{Contains_from_in}
+use Rattle.si_cube.specs.Covers.{IsCover}
+use Rattle.si_cube.proofs.NeededLemmas.{Contains_from_in}
 use Rattle.si_cover.proofs.DemandLemmas.{code_in, chosen_is_prime_cover}
 use Rattle.si_circuit.specs.declared.style.Style.{Style}
 use Rattle.si_circuit.specs.declared.style.Style.TheVariants.{Complex, GeneralisedC}

@@ -5,7 +5,7 @@ use Rattle.si_base.specs.Codes.{CodedGraph}
 use Rattle.si_base.specs.Netlist.{Gate, SumGate, Gc, Cell, Netlist, gate_place}
 use Rattle.si_cover.specs.declared.kind.SumKind.TheVariants.{Next, Set, Reset}
 use Rattle.si_cover.specs.Demands.{demand}
-use Rattle.si_cover.specs.Covers.{IsCover, IsPrimeCover}
+use Rattle.si_cube.specs.Covers.{IsCover, IsPrimeCover}
 
 -- each signal that the circuit drives has a gate that serves it
 abbrev pub HasGates : (serves : ℕ → Gate → Type 0) → Netlist → Type 0

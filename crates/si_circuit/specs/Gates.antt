@@ -7,7 +7,7 @@ use Rattle.si_base.specs.Graph.{is_driven}
 use Rattle.si_base.specs.Codes.{CodedGraph, code}
 use Rattle.si_base.specs.Netlist.{Gate, SumGate, Gc, Insertion, Netlist}
 use Rattle.si_cover.specs.declared.kind.SumKind.TheVariants.{Next, Set, Reset}
-use Rattle.si_cover.specs.Rule.{chosen_sum}
+use Rattle.si_cover.specs.Demands.{chosen_sum}
 use Rattle.si_circuit.specs.declared.style.Style.{Style}
 use Rattle.si_circuit.specs.declared.style.Style.TheVariants.{Complex, GeneralisedC}
 

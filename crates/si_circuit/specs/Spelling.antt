@@ -99,3 +99,8 @@ current_descent l s =
 -- the word of state s of the current graph
 unfoldable pub current_word : List (List ℕ) → History → ℕ → List ℕ
 current_word states l s = state_word states (length l.trace) (current_descent l s)
+
+-- no two states of the current graph have one word
+abbrev pub WordsTellStates : List (List ℕ) → History → Type 0
+WordsTellStates states l = (s t : ℕ) → s < l.current.coded.graph.states
+    → t < l.current.coded.graph.states → current_word states l s ≡ current_word states l t → s ≡ t

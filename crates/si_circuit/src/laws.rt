@@ -1,6 +1,6 @@
 //! Laws of chosen gates. Each function does nothing: its contract is the law.
 
-ghost use Rattle.std.specs.Prelude.{ℕ, List};
+ghost use Rattle.std.specs.Prelude.{◌≡◌, ◌≢◌, ℕ, List, length, AllPairs};
 ghost use Rattle.si_base.specs.Behaviour.{Implements};
 ghost use Rattle.si_base.specs.Codes.{CodedGraph, IsCoded};
 ghost use Rattle.si_base.specs.Netlist.{Insertion, Netlist};
@@ -8,14 +8,15 @@ ghost use Rattle.si_base.specs.Proper.{HasNoConflict, IsProper};
 ghost use Rattle.si_base.specs.RightGates.{GivesNextValues, HasNoneInserted, IsRight};
 ghost use Rattle.si_base.specs.WellFormed.{IsNetlist};
 ghost use Rattle.si_insert.specs.declared.lineage.TraceStep.{TraceStep};
-ghost use Rattle.si_insert.specs.Lineage.{Current, IsLineage};
+ghost use Rattle.si_insert.specs.Lineage.{Current, History, IsLineage};
 ghost use Rattle.si_cell.specs.Library.{Library, IsLibrary};
 ghost use Rattle.si_circuit.specs.declared.style.Style.{Style};
 ghost use Rattle.si_circuit.specs.Cells.{AllFit, cell_gate};
 ghost use Rattle.si_circuit.specs.Covered.{HasCoverGates, HasPrimeGates};
 ghost use Rattle.si_circuit.specs.Gates.{chosen_netlist, gate_of, netlist_of};
 ghost use Rattle.si_circuit.specs.Spelled.{AreInserted, AreSpelled};
-ghost use Rattle.si_circuit.specs.Spelling.{AreDescents, descents_along, given_descents};
+ghost use Rattle.si_circuit.specs.Spelling.{AreDescents, WordsTellStates, descents_along};
+ghost use Rattle.si_circuit.specs.Spelling.{given_descents};
 
 /// Gates whose sums are covers give the next values: complex gates by covers of the next-value
 /// codes, generalised C-elements by covers of the set and of the reset codes. Whether the sums are
@@ -85,4 +86,11 @@ pub fn spelled_states_are_current()
     ensures { (given : CodedGraph) (trace : List TraceStep) (v : Current)
         → IsLineage given trace v
         → AreDescents given v (descents_along 0 trace (given_descents given.graph.states)) }
+{}
+
+/// Where the given states have distinct names, the words of the current states tell them apart.
+pub fn words_tell_current_states()
+    ensures { (states : List (List ℕ)) (l : History) → IsLineage l.given l.trace l.current
+        → length states ≡ l.given.graph.states → AllPairs (λ x y. x ≢ y) states
+        → WordsTellStates states l }
 {}

@@ -1,24 +1,27 @@
 -- The demands on sums of a graph without conflicts can be met.
-use Rattle.std.proofs.Common.{◌≡◌, ℕ, zero, suc, ◌+◌, ◌<◌, ◌^◌, ◌&&◌, not, Bool, true, false, List, [], ◌∷◌, length, get_or, map, filter, refl, sym, ap, subst, ◌∙◌, arith, inl, inr}
+use Rattle.std.proofs.Common.{◌≡◌, ℕ, zero, suc, ◌+◌, ◌<◌, ◌^◌, ◌&&◌, not, Bool, true, false, List, [], ◌∷◌, length, get_or, map, filter, All, Contains, refl, sym, subst, ◌∙◌, arith, inl, inr}
 use Rattle.std.specs.List.{enumerate_from}
-use Rattle.std.proofs.lemmas.Bool.{cases_Bool, cases_order, true≢false, and_parts, or_cases, not-true}
-use mathlib.Core.Bool.{beq}
-use Rattle.si_base.specs.declared.ids.Event.{Event}
+use Rattle.std.proofs.lemmas.Bool.{cases_Bool, true≢false, and_parts, or_cases, not-true}
 use Rattle.si_base.specs.Bits.{bit}
 use Rattle.si_base.specs.Graph.{enables, rise, fall, IsNonInput}
-use Rattle.si_base.specs.Codes.{CodedGraph, IsCoded, code, next_value}
+use Rattle.si_base.specs.Codes.{CodedGraph, IsCoded, code}
 use Rattle.si_base.specs.Proper.{HasNoConflict}
-use Rattle.si_base.proofs.Steps.{beq-true, step_from_enables}
-use Rattle.si_base.proofs.BitFacts.{beq_false}
+use Rattle.si_base.proofs.Steps.{step_from_enables}
+use Rattle.std.proofs.lemmas.List.Elements.{Contains-get_or}
+use Rattle.si_base.specs.WellFormed.{IsSum}
 use Rattle.si_base.proofs.StepFacts.{code_fits, step_within, old_value}
 use Rattle.si_base.proofs.Sorted.{In}
+use Rattle.si_checks.proofs.ConflictFree.{same_enables, same_next}
 use Rattle.si_cover.specs.declared.kind.SumKind.{SumKind}
 use Rattle.si_cover.specs.declared.kind.SumKind.TheVariants.{Next, Set, Reset}
-use Rattle.si_cover.specs.Demands.{codes_where, is_required, is_forbidden, demand}
-use Rattle.si_cover.specs.Covers.{IsMeetable, IsPrimeCover}
-use Rattle.si_cover.specs.Rule.{chosen_sum}
-use Rattle.si_cover.proofs.NeededLemmas.{in_from_Contains}
-use Rattle.si_cover.proofs.RuleLemmas.{IsFit, is_prime_cover}
+use Rattle.si_cover.specs.Demands.{codes_where, is_required, is_forbidden, demand, chosen_sum}
+use Rattle.si_cube.specs.Covers.{IsMeetable, IsPrimeCover}
+use Rattle.si_cube.proofs.NeededLemmas.{in_from_Contains}
+use Rattle.si_cube.specs.Order.{HaveSame}
+use Rattle.si_cube.specs.Rule.{chosen}
+use Rattle.si_cube.proofs.OrderLemmas.{same_chosen}
+use Rattle.si_cube.proofs.RuleLemmas.{IsFit, is_prime_cover}
+use Rattle.si_cube.proofs.SumLemmas.{chosen_is_sum}
 
 -- ---- the codes of the states at which a test holds
 kept : (ℕ → Bool) → ℕ → List ℕ → List ℕ
@@ -100,41 +103,6 @@ code_in c test s within holds =
     state_kept test 0 c.codes s within (subst (λ (n : ℕ). test n ≡ true) at holds)
 
 -- ---- states of equal code
-same_enables : (c : CodedGraph) (p q : ℕ) (e : Event) → HasNoConflict c → p < c.graph.states → q < c.graph.states
-    → code c p ≡ code c q → IsNonInput c.graph.signals e.sig → enables c.graph p e ≡ enables c.graph q e
-same_enables c p q e none within_p within_q same non_input =
-    elim (cases_Bool (beq (enables c.graph p e) (enables c.graph q e))) [
-      | inl equal ↦ beq-true _ _ equal
-      | inr apart ↦ elim (cases_order p q) [
-        | inl one ↦ (let E : ℕ → Bool = λ s. enables c.graph s e in ap E one)
-        | inr (inl before) ↦
-            absurd (none (p, q) (record {
-              order = before;
-              within = within_q;
-              same_code = same;
-              event = e;
-              non_input = non_input;
-              differ = beq_false _ _ apart;
-            }))
-        | inr (inr after) ↦
-            absurd (none (q, p) (record {
-              order = after;
-              within = within_p;
-              same_code = sym same;
-              event = e;
-              non_input = non_input;
-              differ = λ h. beq_false _ _ apart (sym h);
-            }))
-      ]
-    ]
-
-pub same_next : (c : CodedGraph) (p q z : ℕ) → HasNoConflict c → p < c.graph.states → q < c.graph.states
-    → code c p ≡ code c q → IsNonInput c.graph.signals z → next_value c p z ≡ next_value c q z
-same_next c p q z none within_p within_q same non_input =
-    let up = same_enables c p q (rise z) none within_p within_q same non_input in
-    let down = same_enables c p q (fall z) none within_p within_q same non_input in
-    rw (up, down, same) refl
-
 -- an event that is enabled finds its signal at the old value
 pub value_before : (c : CodedGraph) (s z : ℕ) (up : Bool) → IsCoded c
     → enables c.graph s (record { sig = z; up = up }) ≡ true → bit (code c s) z ≡ not up
@@ -221,3 +189,34 @@ pub chosen_is_prime_cover : (kind : SumKind) (c : CodedGraph) (z : ℕ) → IsCo
 unfolding chosen_sum
 chosen_is_prime_cover kind c z is none non_input =
     is_prime_cover (length c.graph.signals) (demand kind c z) (is_fit kind c z is none non_input)
+
+pub chosen_sum_is_sum : (kind : SumKind) (c : CodedGraph) (z : ℕ) → IsSum (length c.graph.signals) (chosen_sum kind c z)
+unfolding chosen_sum
+chosen_sum_is_sum kind c z = chosen_is_sum (length c.graph.signals) (demand kind c z)
+
+-- ---- codes in another order
+pub all_fit : (c : CodedGraph) (test : ℕ → Bool) (signals : ℕ) (codes others : List ℕ) → IsCoded c
+    → signals ≡ length c.graph.signals → codes ≡ codes_where c test → HaveSame others codes
+    → All (λ k. k < 2 ^ signals) others
+all_fit c test signals codes others is signals_are codes_are same = λ i d within.
+    (let there = (same (get_or others i d)).0 (Contains-get_or others i d within) in
+    let fits =
+    codes_fit c test is (get_or others i d)
+    (subst (λ (ks : List ℕ). In (get_or others i d) ks) codes_are (in_from_Contains codes (get_or others i d) there)) in
+    rw signals_are fits)
+
+pub still_meetable : (kind : SumKind) (c : CodedGraph) (z : ℕ) (required forbidden ordered : List ℕ)
+    → IsMeetable (demand kind c z)
+    → required ≡ codes_where c (is_required kind c z) → forbidden ≡ codes_where c (is_forbidden kind c z)
+    → HaveSame ordered forbidden → IsMeetable (record { required = required; forbidden = ordered })
+still_meetable kind c z required forbidden ordered meetable required_are forbidden_are same =
+    λ k here also. meetable k (subst (λ (ks : List ℕ). Contains ks k) required_are here)
+    (subst (λ (ks : List ℕ). Contains ks k) forbidden_are ((same k).0 also))
+
+pub still_chosen : (kind : SumKind) (c : CodedGraph) (z signals : ℕ) (required forbidden ordered : List ℕ)
+    → signals ≡ length c.graph.signals → required ≡ codes_where c (is_required kind c z)
+    → forbidden ≡ codes_where c (is_forbidden kind c z) → HaveSame ordered forbidden
+    → chosen signals (record { required = required; forbidden = ordered }) ≡ chosen_sum kind c z
+unfolding chosen_sum
+still_chosen kind c z signals required forbidden ordered signals_are required_are forbidden_are same =
+    same_chosen signals required forbidden ordered same ∙ rw (signals_are, required_are, forbidden_are) refl

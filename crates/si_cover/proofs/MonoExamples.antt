@@ -20,10 +20,10 @@ use Rattle.si_cube.specs.Literals.{literals_of}
 use Rattle.si_cube.proofs.LeastLemmas.{supercube_least}
 use Rattle.si_cover.specs.Growing.{IsGrowing, IsWider, IsDemanded, Demands}
 use Rattle.si_cover.specs.Mono.{Strays, IsLeastCube, IsDrawn, IsMono, IsLeastMono, ShowsNoMono}
-use Rattle.si_cover.proofs.NeededLemmas.{all_in, any_in, any_from_in}
+use Rattle.si_cube.proofs.NeededLemmas.{all_in, any_in, any_from_in}
 use Rattle.si_cover.proofs.Examples.{coded, plain, complemented}
 use Rattle.si_cover.proofs.MonoLemmas.{drawn_is_mono}
-use Rattle.si_cover.proofs.GrowthLemmas.{growth_begins, growth_ends}
+use Rattle.si_cover.proofs.GrowingLemmas.{growth_begins, growth_ends}
 
 -- ---- tests by computation
 abbrev implies : Bool → Bool → Bool

@@ -15,7 +15,7 @@ use Rattle.si_base.proofs.Steps.{beq-true}
 use Rattle.si_base.proofs.Unique.{contains_from_in, in_from_contains}
 use Rattle.si_cube.specs.Cubes.{Covers}
 use Rattle.si_cover.specs.Mono.{IsDrawn, Strays, IsMono, IsLeastCube, IsLeastMono, ShowsNoMono}
-use Rattle.si_cover.proofs.NeededLemmas.{all_in}
+use Rattle.si_cube.proofs.NeededLemmas.{all_in}
 
 -- ---- two cubes
 all_both : {A : Type 0} (P : A → Type 0) (xs ys : List A) → All P xs → All P ys → All P (xs ++ ys)

@@ -21,9 +21,9 @@ use Rattle.si_cube.specs.Literals.{full_literals}
 use Rattle.si_regions.proofs.SetsExist.{Decided, both, same_bit, some_of, listed}
 use Rattle.si_cover.specs.Growing.{IsGrowing, IsWider, Demands}
 use Rattle.si_cover.specs.Mono.{IsDrawn, Strays, IsLeastCube, IsLeastMono, InSignalOrder, ShowsNoMono, state_place}
-use Rattle.si_cover.proofs.NeededLemmas.{all_in}
+use Rattle.si_cube.proofs.NeededLemmas.{all_in}
 use Rattle.si_cover.proofs.MonoLemmas.{drawn_is_mono, strayed_is_none, has_literals}
-use Rattle.si_cover.proofs.GrowthLemmas.{growth_begins, growth_takes, growth_goes_on, growth_ends, none_demanded, turns_drop}
+use Rattle.si_cover.proofs.GrowingLemmas.{growth_begins, growth_takes, growth_goes_on, growth_ends, none_demanded, turns_drop}
 
 -- ---- a wider cube
 own_kept : (p : Literal → Bool) (xs : List Literal) → list_all p (filter p xs) ≡ true

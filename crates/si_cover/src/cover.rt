@@ -4,17 +4,14 @@ ghost use Rattle.std.specs.Prelude.{◌≡◌, ℕ, IfOk};
 ghost use Rattle.si_base.specs.Graph.{IsNonInput};
 ghost use Rattle.si_checks.specs.Lent.{lent_graph};
 ghost use Rattle.si_cover.specs.declared.kind.SumKind.TheVariants.{Next, Set, Reset};
-ghost use Rattle.si_cover.specs.Covers.{IsPrimeCover};
-ghost use Rattle.si_cover.specs.Demands.{demand};
-ghost use Rattle.si_cover.specs.Rule.{chosen_sum};
+ghost use Rattle.si_cube.specs.Covers.{IsPrimeCover};
+ghost use Rattle.si_cover.specs.Demands.{chosen_sum, demand};
 
 use crate::demand::{Codes, codes_of};
-use crate::growth::grown_cubes;
 use crate::kind::SumKind;
-use crate::needed::needed_cubes;
-use crate::order::in_order;
 use si_base::ids::{NoMemory, Sig};
 use si_checks::distinct::Distinct;
+use si_cube::codes::{in_order, sum_of_codes};
 use si_cube::sum::Sum;
 use std::alloc::Global;
 
@@ -51,8 +48,7 @@ pub fn set_reset(alloc: Global, graph: Distinct<'_>, z: Sig) -> Result<SetReset,
     Ok(SetReset { set, reset })
 }
 
-/// The chosen sum of that kind: the cubes grown from the required codes, as far as they are
-/// needed.
+/// The chosen sum of that kind.
 fn chosen(alloc: Global, graph: Distinct<'_>, kind: SumKind, z: Sig) -> Result<Sum, NoMemory>
     requires { IsNonInput (lent_graph graph).graph.signals z }
     ensures chosen { IfOk result (λ sum. sum ≡ chosen_sum kind (lent_graph graph.entry) z) }
@@ -65,7 +61,5 @@ fn chosen(alloc: Global, graph: Distinct<'_>, kind: SumKind, z: Sig) -> Result<S
         forbidden,
     } = codes_of(alloc, coded, kind, z)?;
     let forbidden = in_order(forbidden);
-    let cubes = grown_cubes(alloc, signals, required.as_slice(), forbidden.as_slice())?;
-    let kept = needed_cubes(alloc, required.as_slice(), cubes.as_slice())?;
-    Ok(Sum::new(kept))
+    sum_of_codes(alloc, signals, required.as_slice(), forbidden.as_slice())
 }

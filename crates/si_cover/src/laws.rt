@@ -6,9 +6,8 @@ ghost use Rattle.si_base.specs.Graph.{IsNonInput};
 ghost use Rattle.si_base.specs.Proper.{HasNoConflict};
 ghost use Rattle.si_base.specs.WellFormed.{IsSum};
 ghost use Rattle.si_cover.specs.declared.kind.SumKind.{SumKind};
-ghost use Rattle.si_cover.specs.Covers.{IsMeetable, IsPrimeCover};
-ghost use Rattle.si_cover.specs.Demands.{demand};
-ghost use Rattle.si_cover.specs.Rule.{chosen_sum};
+ghost use Rattle.si_cube.specs.Covers.{IsMeetable, IsPrimeCover};
+ghost use Rattle.si_cover.specs.Demands.{chosen_sum, demand};
 
 /// In a graph without conflicts no code is both required and forbidden, of whichever kind the sum
 /// is.

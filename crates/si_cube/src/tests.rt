@@ -1,8 +1,9 @@
 //! Each call once on its happy path.
 
+use crate::codes::{in_order, sum_of_codes};
 use crate::cube::Cube;
 use crate::sum::Sum;
-use si_base::ids::{Code, Sig};
+use si_base::ids::{Code, NoMemory, Sig};
 use std::test::Fail;
 
 #[test]
@@ -38,5 +39,29 @@ fn sum_of_two_cubes(rt: HostRuntime) -> Result<(), Fail> {
     assert!(rt; sum.value(Code(0b10)) && !sum.value(Code(0b11)));
     let none = Sum::new(Vec::new(alloc));
     assert!(rt; !none.value(Code(0)));
+    Ok(())
+}
+
+/// The codes at which the output `c` of the C-element is 1 next, and those at which it is 0.
+#[test]
+fn sum_of_the_c_element(rt: HostRuntime) -> Result<(), Fail> {
+    let alloc = rt.alloc();
+    let required = [Code(0b011), Code(0b111), Code(0b110), Code(0b101)];
+    let forbidden = [Code(0b000), Code(0b001), Code(0b010), Code(0b100)];
+    let sum = sum_of_codes(alloc, 3, &required, &forbidden)?;
+    let [ab, bc, ac] = sum.cubes() else {
+        return Err(NoMemory)?;
+    };
+    assert!(rt; ab.care == Code(0b011) && ab.value == Code(0b011));
+    assert!(rt; bc.care == Code(0b110) && bc.value == Code(0b110));
+    assert!(rt; ac.care == Code(0b101) && ac.value == Code(0b101));
+    Ok(())
+}
+
+#[test]
+fn codes_in_order(rt: HostRuntime) -> Result<(), Fail> {
+    let alloc = rt.alloc();
+    let codes = in_order(vec![in alloc; Code(5), Code(2), Code(5)]?);
+    assert!(rt; codes.as_slice() == [Code(2), Code(5)].as_slice());
     Ok(())
 }

@@ -30,7 +30,7 @@ c_element = record {
   start = 0;
 }
 
-abbrev coded : CodedGraph
+abbrev pub coded : CodedGraph
 coded = record { graph = c_element; codes = 0 ∷ 1 ∷ 2 ∷ 3 ∷ 7 ∷ 6 ∷ 5 ∷ 4 ∷ [] }
 
 abbrev plain : ℕ → Literal

@@ -1,2 +1,3 @@
 mod CElement
 mod Toggle
+mod Bits

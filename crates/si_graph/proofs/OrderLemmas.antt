@@ -1,5 +1,5 @@
 -- The order of arcs.
-use Rattle.std.proofs.Common.{◌≡◌, ℕ, ◌<◌, ◌≤◌, ◌+◌, ◌-◌, Bool, true, false, refl, sym, ap, ap₂, ◌∙◌, List, [], ◌∷◌, zero, suc, ◌*◌, if◌then◌else◌, IsTrue, length, get_or, take, drop, arith, subst, inl, inr, ◌⊎◌, eqb, eqb-true, eq-eqb, Contains, length-take, length-drop}
+use Rattle.std.proofs.Common.{◌≡◌, ℕ, ◌<◌, ◌≤◌, ◌+◌, Bool, true, false, refl, sym, ap, ap₂, ◌∙◌, List, [], ◌∷◌, zero, suc, ◌*◌, if◌then◌else◌, IsTrue, length, get_or, take, drop, arith, subst, inl, inr, ◌⊎◌, Contains}
 use Rattle.std.specs.List.{AllByRecursion}
 use Rattle.std.specs.Cmp.{IsTotalOrder, then_total, on_total, back_total, nat_cmp_total, bool_cmp_total}
 use Rattle.std.specs.List.Sorted.{IsStrictlySortedBy, IsNonDecreasingBy, IsPartitionedBy, IsPartitionPoint}
@@ -8,19 +8,17 @@ use Rattle.std.proofs.lemmas.Bool.{true≢false}
 use Rattle.std.specs.declared.cmp.Ordering.{Ordering}
 use Rattle.std.specs.declared.cmp.Ordering.TheVariants.{Less, Equal, Greater}
 use Rattle.std.proofs.lemmas.Map.Keys.{Less-from_sorted}
-use Rattle.std.proofs.lemmas.List.{get_or-drop, get_or-take, get_or_default}
-use Rattle.std.proofs.lemmas.List.Sums.{prefix_len-le-length, prefix_len_passes, prefix_len_stops}
-use Rattle.std.specs.List.{prefix_len}
+use Rattle.std.proofs.lemmas.List.{get_or_default}
 use Rattle.std.proofs.lemmas.Bool.{cases_order, cases_lt}
 use Rattle.std.proofs.lemmas.Cmp.{tied_itself}
 use Rattle.std.proofs.lemmas.Bool.Decides.{nat_tests}
 use Rattle.si_base.specs.declared.ids.Event.{Event}
 use Rattle.si_base.specs.declared.graph.Edge.{Edge}
 use Rattle.si_base.specs.EdgeOrder.{event_cmp, edge_cmp}
-use Rattle.si_base.specs.Graph.{StateGraph, IsGraph, Step, arc, enables, event_place}
+use Rattle.si_base.specs.Graph.{StateGraph, Step, arc, enables, event_place}
 use Rattle.si_base.specs.System.{IsLeastTarget}
 use Rattle.si_base.proofs.Steps.{step_from_enables}
-use Rattle.si_graph.specs.Arcs.{edge_at, no_edge, IsFirstFrom, IsOutOf, AreOut}
+use Rattle.si_graph.specs.Arcs.{AreOut}
 
 pub event_total : IsTotalOrder event_cmp
 event_total = then_total (on_total (λ e. e.sig) nat_cmp_total) (back_total (on_total (λ e. e.up) bool_cmp_total))
@@ -74,85 +72,19 @@ all_take P zero xs all = tt
 all_take P (suc n) [] all = tt
 all_take P (suc n) (x ∷ xs) all = (all.0, all_take P n xs all.1)
 
-sorted_take : {A : Type 0} (c : A → A → Ordering) (n : ℕ) (xs : List A) → IsStrictlySortedBy c xs
+pub sorted_take : {A : Type 0} (c : A → A → Ordering) (n : ℕ) (xs : List A) → IsStrictlySortedBy c xs
     → IsStrictlySortedBy c (take n xs)
 unfolding IsStrictlySortedBy
 sorted_take c zero xs is = tt
 sorted_take c (suc n) [] is = tt
 sorted_take c (suc n) (x ∷ xs) is = (all_take _ n xs is.0, sorted_take c n xs is.1)
 
-sorted_drop : {A : Type 0} (c : A → A → Ordering) (n : ℕ) (xs : List A) → IsStrictlySortedBy c xs
+pub sorted_drop : {A : Type 0} (c : A → A → Ordering) (n : ℕ) (xs : List A) → IsStrictlySortedBy c xs
     → IsStrictlySortedBy c (drop n xs)
 unfolding IsStrictlySortedBy
 sorted_drop c zero xs is = is
 sorted_drop c (suc n) [] is = tt
 sorted_drop c (suc n) (x ∷ xs) is = sorted_drop c n xs is.1
-
--- ---- the arcs out of a state
--- a state to which no place belongs has none
-pub none_out : (g : StateGraph) (s : ℕ) → IsGraph g
-    → ((j : ℕ) → 0 ≤ j → j < length g.edges → IsOutOf g.edges s j → ⊥) → AreOut g s []
-unfolding IsStrictlySortedBy
-none_out g s is none = record {
-  graph = is;
-  exactly = λ a. (
-    λ there. absurd (omega (arith, there.1)),
-    λ there. absurd (none there.0.0 (omega arith) there.0.1
-        (ap (λ (x : Edge). x.from) (get_or_default g.edges there.0.0 no_edge a there.0.1 ∙ there.0.2) ∙ there.1)),
-  );
-  ordered = tt;
-}
-
--- the arcs out of s are those from the first one on, as long as they leave s
-module _ (g : StateGraph) (s low count : ℕ) (is : IsGraph g)
-    (first : IsFirstFrom (IsOutOf g.edges s) 0 (length g.edges) low)
-    (count_is : count ≡ prefix_len (λ a. eqb a.from s) (drop low g.edges)) where
-  there_out : (a : Edge) → Contains (take count (drop low g.edges)) a → Contains g.edges a × (a.from ≡ s)
-  there_out a there =
-      let k : ℕ = there.0 in
-      let up_to = prefix_len-le-length (λ x. eqb x.from s) (drop low g.edges) in
-      let here : k < count = omega (arith, there.1, length-take count (drop low g.edges)) in
-      let at_rest : get_or (drop low g.edges) k a ≡ a = sym (get_or-take count (drop low g.edges) k a here) ∙ there.2 in
-      let within : low + k < length g.edges = omega (arith, length-drop low g.edges, up_to, count_is, first.below) in
-      let passes = prefix_len_passes (λ x. eqb x.from s) (drop low g.edges) k a (omega (arith, count_is)) in
-      ((low + k, within, sym (get_or-drop low g.edges k a) ∙ at_rest), eqb-true a.from s (rw at_rest at passes))
-
-  there_in : (a : Edge) → Contains g.edges a → a.from ≡ s → Contains (take count (drop low g.edges)) a
-  there_in a (k, within, at) from =
-      let edge : edge_at g.edges k ≡ a = get_or_default g.edges k no_edge a within ∙ at in
-      let above : low ≤ k = elim (cases_lt k low) [
-        | inl before ↦ absurd (first.none_before k (omega arith) before (ap (λ (x : Edge). x.from) edge ∙ from))
-        | inr after ↦ after
-      ] in
-      let moved : low + (k - low) ≡ k = omega arith in
-      let at_rest : get_or (drop low g.edges) (k - low) a ≡ a =
-      get_or-drop low g.edges (k - low) a ∙ ap (λ (n : ℕ). get_or g.edges n a) moved ∙ at in
-      let below : k - low < count = elim (cases_lt (k - low) count) [
-        | inl less ↦ less
-        | inr past ↦ (
-            let inside : count < length (drop low g.edges) = omega (arith, length-drop low g.edges) in
-            let stops = prefix_len_stops (λ x. eqb x.from s) (drop low g.edges) no_edge (omega (arith, count_is)) in
-            let at_stop : get_or (drop low g.edges) count no_edge ≡ edge_at g.edges (low + count) =
-            get_or-drop low g.edges count no_edge in
-            let rises_to = rising_from g.edges is.ordered low (low + count) no_edge (omega arith)
-            (omega (arith, length-drop low g.edges)) in
-            let rises_from = rising_from g.edges is.ordered (low + count) k no_edge (omega arith) within in
-            let there : (edge_at g.edges (low + count)).from ≡ s =
-            omega (arith, first.holds, ap (λ (x : Edge). x.from) edge) in
-            absurd (true≢false (sym (eq-eqb _ s there) ∙ ap (λ (x : Edge). eqb x.from s)
-            (sym at_stop ∙ ap (λ (n : ℕ). get_or (drop low g.edges) n no_edge) count_is) ∙ stops)))
-      ] in (
-        k - low,
-        omega (arith, length-take count (drop low g.edges), length-drop low g.edges),
-        get_or-take count (drop low g.edges) (k - low) a below ∙ at_rest,
-      )
-
-  pub out_run : AreOut g s (take count (drop low g.edges))
-  out_run = record {
-    graph = is;
-    exactly = λ a. (there_out a, λ there. there_in a there.0 there.1);
-    ordered = sorted_take edge_cmp count (drop low g.edges) (sorted_drop edge_cmp low g.edges is.ordered);
-  }
 
 -- ---- event order is the order of places
 less_nat : (a b : ℕ) → a < b → nat_cmp a b ≡ Less

@@ -1,7 +1,7 @@
 -- Changes spread along the arcs.
-use Rattle.std.proofs.Common.{◌≡◌, ◌≢◌, ℕ, ◌+◌, ◌^◌, ◌<◌, ◌≤◌, ◌⊎◌, Bool, true, false, not, cond, List, [], ◌∷◌, ◌++◌, length, get_or, take, All, Contains, refl, sym, ap, subst, ◌∙◌, arith, inl, inr, if◌then◌else◌, get_or-set_same, get_or-set_other, length-set, slice_index_or, slice_set}
+use Rattle.std.proofs.Common.{◌≡◌, ◌≢◌, ℕ, ◌+◌, ◌^◌, ◌<◌, ◌≤◌, ◌⊎◌, Bool, true, false, not, cond, List, [], ◌∷◌, ◌++◌, length, get_or, replicate, take, All, Contains, refl, sym, ap, subst, ◌∙◌, arith, inl, inr, if◌then◌else◌, get_or-set_same, get_or-set_other, length-set, slice_index_or, slice_set}
 use Rattle.std.proofs.lemmas.Bool.{cases_lt, cases_Bool, true≢false}
-use Rattle.std.proofs.lemmas.List.{length_push, set-get_or, get_or_past, take_all}
+use Rattle.std.proofs.lemmas.List.{length_push, set-get_or, get_or_past, take_all, length-replicate, get_or-replicate}
 use Rattle.std.proofs.lemmas.List.Elements.{Contains-push, Contains-push_cases, Contains-append_left, Contains-append_right, Contains-append_cases, All-contains, All-more, All-weaker}
 use Rattle.std.proofs.lemmas.List.Sums.{sum_by-set}
 use Rattle.si_base.specs.declared.ids.Event.{Event}
@@ -14,7 +14,7 @@ use Rattle.si_base.proofs.BitFacts.{same_codes}
 use Rattle.si_graph.specs.Arcs.{AreOut}
 use Rattle.si_graph.specs.Changes.{IsChange, AreChanges, LeadsInto, AreSpread, left_to_do}
 use Rattle.si_graph.specs.Reach.{IsIn}
-use Rattle.si_graph.proofs.MarkLemmas.{stays_in, in_cases, Walk-push}
+use Rattle.si_graph.proofs.MarkLemmas.{stays_in, in_cases, is_set, in_none, Walk-push}
 use Rattle.si_graph.proofs.ValueLemmas.{bit-xor}
 
 -- ---- changes along walks
@@ -126,6 +126,35 @@ spread_more g reached changes waiting rest s change reached' changes' waiting' w
         ]
       ];
     }
+
+-- ---- at the start
+pub spread_start : (g : StateGraph) → g.start < g.states
+    → AreSpread g (slice_set (replicate g.states false) g.start true) (replicate g.states 0) (g.start ∷ [])
+spread_start g starts = record {
+  size = length-set (replicate g.states false) g.start true ∙ length-replicate g.states false;
+  count = length-replicate g.states 0;
+  begun = here;
+  changes_are = λ s there. rw (only s there) (record {
+    events = [];
+    walk = refl;
+    change_is = get_or-replicate g.states g.start 0 0 starts;
+  });
+  waiting_reached = λ s waits. elim (Contains-push_cases [] g.start s waits) [
+    | inl none ↦ absurd (omega (arith, none.1))
+    | inr same ↦ subst (λ (u : ℕ). IsIn (slice_set (replicate g.states false) g.start true) u) same here
+  ];
+  followed = λ s there.
+      inl (subst (λ (u : ℕ). Contains (g.start ∷ []) u) (sym (only s there)) (Contains-push [] g.start));
+}
+  where
+    here : IsIn (slice_set (replicate g.states false) g.start true) g.start
+    here = is_set (replicate g.states false) g.start (omega (arith, starts, length-replicate g.states false))
+
+    only : (s : ℕ) → IsIn (slice_set (replicate g.states false) g.start true) s → s ≡ g.start
+    only s there = elim (in_cases (replicate g.states false) g.start s there) [
+      | inl same ↦ same
+      | inr none ↦ absurd (in_none g.states s none)
+    ]
 
 -- ---- the arcs out of a state
 pub step_out : (g : StateGraph) (s : ℕ) (arcs : List Edge) (i : ℕ) (x : Edge) → AreOut g s arcs → i < length arcs

@@ -1,10 +1,8 @@
--- Arcs in two chains each: the arcs out of its source, and the arcs into its target, linked by
--- their places.
+-- Arcs in chains: those into a state, linked by their places.
 use Rattle.std.specs.Prelude.{◌≡◌, ℕ, ◌+◌, ◌<◌, ◌≤◌, ◌^◌, List, length, All, slice_index}
 use Rattle.std.specs.List.Sorted.{IsStrictlySortedBy}
 use Rattle.si_base.specs.declared.graph.Edge.{Edge}
 use Rattle.si_base.specs.EdgeOrder.{edge_cmp}
-use Rattle.si_graph.specs.declared.chain.Chain.{Chain}
 use Rattle.si_graph.specs.Arcs.{edge_at}
 
 -- the arcs among so many states, in order
@@ -31,10 +29,7 @@ pub record AreLinked (end_of : Edge → ℕ) (states : ℕ) (edges : List Edge) 
   pub nexts_are : (k : ℕ) → low ≤ k → k < length edges → IsFirstOrEnd (λ j. end_of (edge_at edges j)
       ≡ end_of (edge_at edges k)) (k + 1) (length edges) (slice_index nexts k)
 
--- the two states of an arc
-abbrev pub source : Edge → ℕ
-source a = a.from
-
+-- the state to which an arc leads
 abbrev pub target : Edge → ℕ
 target a = a.to
 
@@ -43,12 +38,3 @@ pub record AreStored (states : ℕ) (edges : List Edge) : Type 0 where
   pub few : length edges < 2 ^ 32
   pub within : All (λ a. (a.from < states) × (a.to < states)) edges
   pub ordered : IsStrictlySortedBy edge_cmp edges
-
--- the arcs are stored, each linked to the next one out of its source and to the next one into its
--- target
-pub record AreChained (states : ℕ) (edges : List Edge) (out into : Chain) : Type 0 where
-  pub stored : AreStored states edges
-  pub out_linked : AreLinked source states edges 0 out.heads.items out.nexts.items
-  pub into_linked : AreLinked target states edges 0 into.heads.items into.nexts.items
-  pub out_end : out.end ≡ length edges
-  pub into_end : into.end ≡ length edges

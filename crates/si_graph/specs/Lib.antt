@@ -1,9 +1,14 @@
 pub mod Arcs
 pub mod Chains
+pub mod Starts
 pub mod Closure
 pub mod Faults
 pub mod Excited
+pub mod NextCodes
 pub mod Changes
 pub mod Values
 pub mod Reach
 pub mod Renaming
+pub mod Laws
+pub mod Search
+pub mod WordSearch

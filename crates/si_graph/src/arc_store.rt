@@ -1,9 +1,11 @@
-//! Arcs in two chains each: the arcs out of its source, and the arcs into its target.
+//! Arcs in order: those out of a state stand together, and those into a state are chained.
 
-ghost use Rattle.std.specs.Prelude.{◌≡◌, ℕ, ◌+◌, ◌<◌, ◌≤◌, ◌^◌, IfOk, All, MatchOption, length};
+ghost use Rattle.std.specs.Prelude.{◌≡◌, ℕ, ◌+◌, ◌<◌, ◌≤◌, ◌^◌, ◌↔◌, IfOk, All, Contains, MatchOption, length};
 ghost use Rattle.std.specs.List.Sorted.{IsStrictlySortedBy};
+ghost use Rattle.si_base.specs.declared.graph.Edge.{Edge};
 ghost use Rattle.si_base.specs.EdgeOrder.{edge_cmp};
-ghost use Rattle.si_graph.specs.Arcs.{edge_at, IsFirstPlace, IsOutOf, IsInto};
+ghost use Rattle.si_graph.specs.Arcs.{edge_at, IsFirstPlace, IsInto, IsOutOf};
+ghost use Rattle.si_graph.specs.Starts.{AreStarts, IsStart};
 
 use crate::chain::Chain;
 use si_base::graph::Edge;
@@ -25,26 +27,26 @@ impl Model for EdgeId {
 
 /// The arcs among the states of a graph, in the order of source, event and target, each once.
 ///
-/// Each arc is linked to the next one out of its source and to the next one into its target.
-/// Since the arcs are in order, those out of a state also stand together. A walk follows the order
-/// of arcs: out of a state it is that of events, then targets, and into a state that of sources,
-/// then events.
+/// Since the arcs are in order, those out of a state stand together, and the store knows where they
+/// start. Each arc is linked to the next one into its target. A walk follows the order of arcs: out
+/// of a state it is that of events, then targets, and into a state that of sources, then events.
 #[derive(Drop)]
 pub struct ArcStore {
     states: u32,
     edges: Vec<Edge>,
-    out: Chain,
+    starts: Vec<u32>,
     into: Chain,
 }
 
 impl Model for ArcStore {
-    ghost use Rattle.si_graph.specs.Chains.{StoredArcs, AreChained};
+    ghost use Rattle.si_graph.specs.Chains.{StoredArcs};
+    ghost use Rattle.si_graph.specs.Starts.{AreIndexed};
 
     ghost Value = { StoredArcs };
 
     ghost view = { λ a. record { states = a.states; edges = a.edges.items } };
 
-    ghost invariant = { λ a. AreChained a.states a.edges.items a.out a.into };
+    ghost invariant = { λ a. AreIndexed a.states a.edges.items a.starts.items a.into };
 }
 
 impl ArcStore {
@@ -56,19 +58,18 @@ impl ArcStore {
         ensures { IfOk result (λ store. store ≡ record { states = states; edges = edges.items }) }
     {
         let count = edges.len() as u32;
-        let mut out = Chain::new(alloc, states, count)?;
+        let starts = starts_of(alloc, states, edges.as_slice())?;
         let mut into = Chain::new(alloc, states, count)?;
         let mut k = count;
         while 0 < k {
             k -= 1;
             let edge = edges[k as usize];
-            out.put_first(edge.from, k);
             into.put_first(edge.to, k);
         }
         Ok(ArcStore {
             states,
             edges,
-            out,
+            starts,
             into,
         })
     }
@@ -80,7 +81,7 @@ impl ArcStore {
         Ok(ArcStore {
             states: self.states,
             edges: Vec::from_slice(alloc, self.edges.as_slice())?,
-            out: self.out.copy(alloc)?,
+            starts: Vec::from_slice(alloc, self.starts.as_slice())?,
             into: self.into.copy(alloc)?,
         })
     }
@@ -114,20 +115,52 @@ impl ArcStore {
         self.edges.as_slice()
     }
 
+    /// The arcs out of a state, in order.
+    pub fn arcs_out(&self, s: StateId) -> &[Edge]
+        ensures exactly { (a : Edge) → Contains result.now a
+            ↔ (Contains self.now.edges a × (a.from ≡ s)) }
+        ensures ordered { IsStrictlySortedBy edge_cmp result.now }
+    {
+        let low = self.start(s.0 as usize);
+        let high = self.start(s.0 as usize + 1);
+        let (up_to_high, _) = self.edges.as_slice().split_at(high as usize);
+        let (_, out) = up_to_high.split_at(low as usize);
+        out
+    }
+
+    /// The place at which the arcs out of state `s` start, and those out of the states below end.
+    fn start(&self, s: usize) -> u32
+        ensures { IsStart self.now.edges s result }
+    {
+        match self.starts.get(s) {
+            Some(start) => *start,
+            None => self.edges.len() as u32,
+        }
+    }
+
     /// The first arc out of a state; `None` exactly where there is none.
     pub fn head_out(&self, s: StateId) -> Option<EdgeId>
         ensures { IsFirstPlace (IsOutOf self.now.edges s) 0 (length self.now.edges) result }
     {
-        self.at(self.out.head(s))
+        let low = self.start(s.0 as usize);
+        let high = self.start(s.0 as usize + 1);
+        if low < high { Some(EdgeId(low)) } else { None }
     }
 
-    /// The next arc out of the same state; `None` exactly at the end of the chain.
+    /// The next arc out of the same state; `None` exactly where there is no further one.
     pub fn next_out(&self, k: EdgeId) -> Option<EdgeId>
         requires { k < length self.now.edges }
         ensures { let from = (edge_at self.now.edges k).from in
             IsFirstPlace (IsOutOf self.now.edges from) (k + 1) (length self.now.edges) result }
     {
-        self.at(self.out.next(k.0))
+        let source = self.edges[k.0 as usize].from;
+        let next = k.0 + 1;
+        let high = self.start(source.0 as usize + 1);
+        if next < high {
+            Some(EdgeId(next))
+        } else {
+            None
+        }
     }
 
     /// The first arc into a state; `None` exactly where there is none.
@@ -157,4 +190,25 @@ impl ArcStore {
             None
         }
     }
+}
+
+/// Where the arcs out of each state start, and where the last ones end.
+fn starts_of(alloc: Global, states: u32, arcs: &[Edge]) -> Result<Vec<u32>, NoMemory>
+    requires few { length arcs.now < 2 ^ 32 }
+    requires ordered { IsStrictlySortedBy edge_cmp arcs.now }
+    ensures { IfOk result (λ starts. AreStarts states arcs.now starts.items) }
+{
+    let mut starts = Vec::new(alloc);
+    for s in 0..states as usize + 1 {
+        starts.push(start_of(arcs, s) as u32)?;
+    }
+    Ok(starts)
+}
+
+/// Where the arcs out of state `s` start.
+fn start_of(arcs: &[Edge], s: usize) -> usize
+    requires { IsStrictlySortedBy edge_cmp arcs.now }
+    ensures { IsStart arcs.now s result }
+{
+    arcs.partition_point(|a| (a.from.0 as usize) < s)
 }

@@ -4,9 +4,11 @@ ghost use Rattle.std.specs.Prelude.{◌≡◌, ℕ, ◌<◌, ◌≢◌, ◌↔�
 ghost use Rattle.si_base.specs.Bits.{bit};
 ghost use Rattle.si_base.specs.Codes.{IsCoded, IsConnected, code, next_value};
 ghost use Rattle.si_graph.specs.Excited.{IsExcitedAt};
+ghost use Rattle.si_graph.specs.NextCodes.{IsNextCode};
 
 use crate::determinism::first_split;
 use crate::graph::Graph;
+use crate::next_values::nexts_of;
 use crate::values::{first_wrong, told_codes};
 use si_base::ids::{Code, Event, NoMemory, Sig, StateId};
 use std::alloc::Global;
@@ -14,20 +16,25 @@ use std::marker::Model;
 
 /// A deterministic and consistent graph, each state of which is reachable, with the codes of its
 /// states.
+///
+/// The next values of all signals at each state are kept as a code beside its own.
 #[derive(Drop)]
 pub struct Coded {
     graph: Graph,
     codes: Vec<Code>,
+    nexts: Vec<Code>,
 }
 
 impl Model for Coded {
-    ghost use Rattle.si_base.specs.Codes.{CodedGraph, IsCoded};
+    ghost use Rattle.si_base.specs.Codes.{CodedGraph};
+    ghost use Rattle.si_graph.specs.NextCodes.{AreCodesWithNexts};
 
     ghost Value = { CodedGraph };
 
     ghost view = { λ c. record { graph = c.graph; codes = c.codes.items } };
 
-    ghost invariant = { λ c. IsCoded (record { graph = c.graph; codes = c.codes.items }) };
+    ghost invariant = { λ c. AreCodesWithNexts
+        (record { graph = c.graph; codes = c.codes.items }) c.nexts.items };
 }
 
 /// Why a graph has no codes.
@@ -71,18 +78,32 @@ impl Coded {
         ensures back { IfErr result (λ e. e.0 ≡ graph) }
         ensures fault { IfErr result (λ e. ShowsUncoded graph e.1) }
     {
-        match Coded::codes_of(alloc, &graph) {
-            Ok(codes) => Ok(Coded { graph, codes }),
-            Err(fault) => Err((graph, fault)),
+        let codes = match Coded::codes_of(alloc, &graph) {
+            Ok(codes) => codes,
+            Err(fault) => return Err((graph, fault)),
+        };
+        match nexts_of(alloc, &graph, codes.as_slice()) {
+            Ok(nexts) => Ok(Coded {
+                graph,
+                codes,
+                nexts,
+            }),
+            Err(NoMemory) => Err((graph, CodeFault::NoMemory)),
         }
     }
 
-    /// The graph with these codes, of which it is known that they are its codes.
-    pub fn known(graph: Graph, codes: Vec<Code>) -> Coded
+    /// The graph with these codes, of which it is known that they are its codes. It fails only
+    /// where memory runs out.
+    pub fn known(alloc: Global, graph: Graph, codes: Vec<Code>) -> Result<Coded, NoMemory>
         requires { IsCoded (record { graph = graph; codes = codes.items }) }
-        ensures { result ≡ record { graph = graph; codes = codes.items } }
+        ensures { IfOk result (λ c. c ≡ record { graph = graph; codes = codes.items }) }
     {
-        Coded { graph, codes }
+        let nexts = nexts_of(alloc, &graph, codes.as_slice())?;
+        Ok(Coded {
+            graph,
+            codes,
+            nexts,
+        })
     }
 
     /// An equal graph with the same codes. It fails only where memory runs out.
@@ -91,7 +112,12 @@ impl Coded {
     {
         let graph = self.graph.copy(alloc)?;
         let codes = Vec::from_slice(alloc, self.codes.as_slice())?;
-        Ok(Coded { graph, codes })
+        let nexts = Vec::from_slice(alloc, self.nexts.as_slice())?;
+        Ok(Coded {
+            graph,
+            codes,
+            nexts,
+        })
     }
 
     /// The codes of the states, or the first breach of determinism, or else of consistency.
@@ -129,7 +155,7 @@ impl Coded {
     pub fn into_graph(self) -> Graph
         ensures { result ≡ self.graph }
     {
-        let Coded { graph, codes: _ } = self;
+        let Coded { graph, .. } = self;
         graph
     }
 
@@ -141,6 +167,15 @@ impl Coded {
         self.codes[s.0 as usize]
     }
 
+    /// The next values of all signals as a code: bit i is the next value of signal i, and each bit
+    /// past the last signal is 0.
+    pub fn next(&self, s: StateId) -> Code
+        requires { s < self.now.graph.states }
+        ensures { IsNextCode self.now s result }
+    {
+        self.nexts[s.0 as usize]
+    }
+
     /// The next value of a signal: 1 if it is about to rise, or if it is 1 and not about to fall
     /// (the book's next-state function).
     pub fn next_value(&self, s: StateId, z: Sig) -> bool
@@ -148,9 +183,7 @@ impl Coded {
         requires signal { z < length self.now.graph.signals }
         ensures { result ≡ next_value self.now s z }
     {
-        let rise = Event { sig: z, up: true };
-        let fall = Event { sig: z, up: false };
-        self.graph.enabled(s, rise) || (self.code(s).get(z) && !self.graph.enabled(s, fall))
+        self.nexts[s.0 as usize].get(z)
     }
 
     /// Whether the signal is no input, and its next value differs from its value.

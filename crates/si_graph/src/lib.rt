@@ -7,9 +7,13 @@ pub mod closure;
 pub mod coded;
 mod determinism;
 pub mod graph;
+pub mod laws;
+mod next_values;
 mod reach;
 mod renaming;
+pub mod search;
 mod spread;
 #[cfg(test)]
 mod tests;
 mod values;
+pub mod word_search;

@@ -1,5 +1,5 @@
 //! Each call once on its happy path, on a toggling signal with a state that isn't reachable, and
-//! walks on the C-element.
+//! on the C-element.
 
 ghost use Rattle.std.specs.Prelude.{◌≡◌, IfOk, length};
 
@@ -7,6 +7,7 @@ use crate::arc_store::EdgeId;
 use crate::closure::{Along, closure};
 use crate::coded::{CodeFault, Coded};
 use crate::graph::Graph;
+use crate::word_search::closures;
 use si_base::graph::{Edge, SigKind, Signal};
 use si_base::ids::{Code, Event, NoMemory, Sig, StateId};
 use si_base::sets::StateSet;
@@ -76,8 +77,6 @@ fn walks_and_look_ups(rt: HostRuntime) -> Result<(), Fail> {
     assert_eq!(rt; graph.edges(), 4);
     assert_eq!(rt; graph.start(), StateId(0));
     assert_eq!(rt; graph.signals().len(), 1);
-    let first = graph.first_out(StateId(1));
-    assert_eq!(rt; first, Some(EdgeId(1)));
     assert_eq!(rt; graph.arcs_out(StateId(1)).len(), 2);
     assert_eq!(rt; graph.succ(StateId(1), FALL), Some(StateId(0)));
     assert_eq!(rt; graph.succ(StateId(2), RISE), None);
@@ -135,7 +134,7 @@ fn c_element(rt: &impl Abort, alloc: Global) -> Result<Graph, NoMemory> {
 }
 
 #[test]
-fn walks_along_both_chains(rt: HostRuntime) -> Result<(), Fail> {
+fn walks_into_a_state(rt: HostRuntime) -> Result<(), Fail> {
     let graph = c_element(&rt, rt.alloc())?;
     assert!(rt; graph.edges() == 10);
     let into = [EdgeId(2), EdgeId(3)];
@@ -144,6 +143,13 @@ fn walks_along_both_chains(rt: HostRuntime) -> Result<(), Fail> {
     assert_eq!(rt; graph.next_in(into[0]), Some(into[1]));
     assert_eq!(rt; graph.edge(into[1]), arc((2, 0, true, 3)));
     assert_eq!(rt; graph.next_in(into[1]), None);
+    Ok(())
+}
+
+#[test]
+fn walks_out_of_a_state(rt: HostRuntime) -> Result<(), Fail> {
+    let graph = c_element(&rt, rt.alloc())?;
+    assert!(rt; graph.edges() == 10);
     let out = [EdgeId(5), EdgeId(6)];
     assert_eq!(rt; graph.first_out(StateId(4)), Some(out[0]));
     assert_eq!(rt; graph.edge(out[0]), arc((4, 0, false, 5)));
@@ -201,11 +207,31 @@ fn closures_within_sets(rt: HostRuntime) -> Result<(), Fail> {
 }
 
 #[test]
+fn closures_of_two_sets_at_once(rt: HostRuntime) -> Result<(), Fail> {
+    let graph = toggle(rt.alloc(), false)?;
+    assert!(rt; graph.states() == 3);
+    assert!(rt; graph.signals().len() == 1);
+    let within = [3, 3, 3];
+    let passes = [1, 3];
+    let seeds = [0, 3, 0];
+    let words = closures(
+        rt.alloc(),
+        &graph,
+        passes.as_slice(),
+        within.as_slice(),
+        seeds.as_slice(),
+    )?;
+    assert_eq!(rt; words.as_slice(), [3, 3, 1].as_slice());
+    Ok(())
+}
+
+#[test]
 fn codes_of_the_reachable_states(rt: HostRuntime) -> Result<(), Fail> {
     let cut = toggle(rt.alloc(), false)?.cut(rt.alloc())?;
     assert_eq!(rt; cut.kept.as_slice(), [StateId(0), StateId(2)].as_slice());
     let coded = Coded::make(rt.alloc(), cut.graph).ok().ok_or("no codes")?;
     assert_eq!(rt; coded.graph().states(), 2);
+    assert!(rt; coded.code(StateId(0)) == Code(0) && coded.next(StateId(0)) == Code(1));
     Ok(())
 }
 

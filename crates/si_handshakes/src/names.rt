@@ -10,18 +10,6 @@ use si_base::names::{AddFault, Names};
 use si_base::text::Name;
 use std::alloc::Global;
 
-/// The stem with the number.
-fn numbered_name(alloc: Global, stem: &[u8], k: u32) -> Result<Name, NoMemory>
-    ensures { IfOk result (λ name. name ≡ stem.now ++ decimal k) }
-{
-    let Ok(number) = k.to_string(alloc) else {
-        return Err(NoMemory);
-    };
-    let mut bytes = Vec::from_slice(alloc, stem)?;
-    bytes.extend_from_slice(number.as_bytes())?;
-    Name::copy_of(alloc, bytes.as_slice())
-}
-
 /// Adds so many signals of the kind, with numbered names. It fails only where memory runs out.
 pub fn add_signals(
     alloc: Global,
@@ -34,7 +22,7 @@ pub fn add_signals(
         ≡ signals.old.items ++ signals_of kind (numbered stem.now count)) }
 {
     for k in 0..count {
-        let name = numbered_name(alloc, stem, k)?;
+        let name = Name::numbered(alloc, stem, k as usize)?;
         signals.push(Signal { name, kind })?;
     }
     Ok(())
@@ -46,7 +34,7 @@ pub fn state_names(alloc: Global, count: u32) -> Result<Names, NoMemory>
 {
     let mut names = Names::new(alloc)?;
     for k in 0..count {
-        let name = numbered_name(alloc, b"s", k)?;
+        let name = Name::numbered(alloc, b"s", k as usize)?;
         match names.add(name.bytes(), count) {
             Ok(_) => {}
             Err(AddFault::NoMemory) => return Err(NoMemory),

@@ -64,7 +64,8 @@ pub(crate) fn apply_with_copies(
     let made = made_graph(alloc, given, classes, name)?;
     let copies = copies_of(alloc, classes)?;
     let codes = codes_of(alloc, coded, copies.as_slice())?;
-    let graph = Proper::known(Coded::known(made, codes));
+    let inserted = Coded::known(alloc, made, codes)?;
+    let graph = Proper::known(inserted);
     Ok(WithCopies { graph, copies })
 }
 

@@ -7,7 +7,7 @@ use Rattle.si_base.specs.Graph.{rise, fall}
 use Rattle.si_cover.proofs.Examples.{coded, plain, complemented}
 use Rattle.si_regions.specs.declared.regions.Region.{Region}
 use Rattle.si_listings.specs.RegionText.{regions_text}
-use Rattle.si_cover.specs.Rule.{chosen_sum}
+use Rattle.si_cover.specs.Demands.{chosen_sum}
 use Rattle.si_listings.specs.ConflictText.{conflicts_text}
 use Rattle.si_listings.specs.CoverText.{Component, LeastCube, NoCube, covers_text, conflict_text, mono_line}
 

@@ -13,7 +13,7 @@ use Rattle.si_regions.specs.declared.regions.Region.{Region}
 use Rattle.si_regions.specs.Regions.{AreRegions}
 use Rattle.si_cover.specs.declared.kind.SumKind.TheVariants.{Next, Set, Reset}
 use Rattle.si_cover.specs.Mono.{InSignalOrder, IsLeastMono, ShowsNoMono}
-use Rattle.si_cover.specs.Rule.{chosen_sum}
+use Rattle.si_cover.specs.Demands.{chosen_sum}
 use Rattle.si_listings.specs.ConflictText.{pair_line}
 use Rattle.si_listings.specs.RegionText.{number_after}
 use Rattle.si_listings.specs.Words.{state_word, event_word}

@@ -27,7 +27,7 @@ use si_cover::cover::{SetReset, next_sum, set_reset};
 use si_cover::mono::mono;
 use si_cube::cube::Cube;
 use si_cube::sum::Sum;
-use si_netlist::write_sums::{add_cube, add_sum};
+use si_cube::write_sums::{add_cube, add_sum};
 use si_regions::regions::{Region, regions};
 use si_words::writing::{add_line, add_word};
 use std::alloc::Global;

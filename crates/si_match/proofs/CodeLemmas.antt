@@ -18,7 +18,8 @@ use Rattle.std.specs.Result.{is_ok}
 use Rattle.std.proofs.lemmas.List.Sorted.{searched}
 use Rattle.std.proofs.lemmas.List.{get_or_default, take_all}
 use Rattle.si_graph.proofs.MemberLemmas.{Contains-map, Contains-from_map}
-use Rattle.si_match.specs.Codes.{AreCodes, AreProjected, HaveSame}
+use Rattle.si_cube.specs.Order.{HaveSame}
+use Rattle.si_match.specs.Codes.{AreCodes, AreProjected}
 use Rattle.si_match.specs.Fit.{states_of}
 use Rattle.si_match.specs.Support.{agree, determines, dropped_from, support_of}
 use Rattle.si_match.proofs.StateLemmas.{state_at, states_are, one_fails}

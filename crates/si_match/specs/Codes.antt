@@ -2,10 +2,6 @@
 use Rattle.std.specs.Prelude.{◌≡◌, ℕ, ◌<◌, ◌↔◌, Bool, List, Contains, bit_and, length}
 use Rattle.si_base.specs.Codes.{CodedGraph, code, next_value}
 
--- the same codes, each perhaps another number of times
-abbrev pub HaveSame : List ℕ → List ℕ → Type 0
-HaveSame codes others = (k : ℕ) → Contains codes k ↔ Contains others k
-
 -- the values of these signals in the codes of the states at which z has that next value
 abbrev pub AreCodes : CodedGraph → ℕ → Bool → ℕ → List ℕ → Type 0
 AreCodes c z value signals codes =

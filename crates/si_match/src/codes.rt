@@ -2,21 +2,12 @@
 
 ghost use Rattle.std.specs.Prelude.{◌≡◌, ℕ, ◌<◌, IfOk, Contains, length, true, false, bit_and};
 ghost use Rattle.std.specs.List.Sorted.{IsNonDecreasing};
-ghost use Rattle.si_match.specs.Codes.{AreCodes, AreProjected, HaveSame};
+ghost use Rattle.si_match.specs.Codes.{AreCodes, AreProjected};
 
 use si_base::ids::{Code, NoMemory, Sig, StateId};
+use si_cube::codes::in_order;
 use si_graph::coded::Coded;
 use std::alloc::Global;
-
-/// The codes in ascending order, each once.
-fn in_order(mut codes: Vec<Code>) -> Vec<Code>
-    ensures in_order { IsNonDecreasing result.items }
-    ensures same { HaveSame result.items codes.items }
-{
-    codes.sort_unstable();
-    codes.dedup();
-    codes
-}
 
 /// The values of these signals in the code; each other signal has 0.
 fn cut(code: Code, signals: Code) -> Code

@@ -6,11 +6,10 @@ use Rattle.std.proofs.lemmas.List.{append-nil, drop_more}
 use Rattle.si_base.specs.declared.graph.Signal.{Signal}
 use Rattle.si_base.specs.declared.graph.SigKind.{SigKind}
 use Rattle.si_base.specs.declared.graph.SigKind.TheVariants.{Input, Output, Internal, Inserted}
-use Rattle.si_base.specs.declared.ids.Literal.{Literal}
 use Rattle.si_base.specs.Bits.{bit}
 use Rattle.si_base.specs.Words.{line, text_of}
-use Rattle.si_base.specs.Netlist.{Sum, Gate, Insertion, Netlist}
-use Rattle.si_base.specs.NetlistText.{names_of, literal_word, more_cubes, bits_from, word_if_any, insert_line, netlist_text}
+use Rattle.si_base.specs.Netlist.{Gate, Insertion, Netlist}
+use Rattle.si_base.specs.NetlistText.{names_of, bits_from, word_if_any, insert_line, netlist_text}
 use Rattle.si_netlist.specs.Writing.{gate_lines}
 use Rattle.si_words.proofs.WritingLemmas.{joined_words}
 use Rattle.si_words.specs.Writing.{spaced}
@@ -19,14 +18,6 @@ pub start_word : (text : List ℕ) (signals : List Signal) (code : ℕ) → (len
     → (text ++ 32 ∷ []) ++ bits_from 0 signals code ≡ text ++ spaced (word_if_any (bits_from 0 signals code))
 start_word text [] code some = cc
 start_word text (x ∷ xs) code some = simp (append_assoc, append-nil)
-
--- the cubes from the i-th on
-abbrev pub cubes_from : List Signal → Sum → ℕ → List ℕ
-cubes_from signals cubes i = spaced (more_cubes signals (drop i cubes))
-
--- the literals from the i-th on
-abbrev pub literals_after : List Signal → List Literal → ℕ → List ℕ
-literals_after signals literals i = spaced (map (literal_word signals) (drop i literals))
 
 -- the words from the i-th on
 abbrev pub words_from : List (List ℕ) → ℕ → List ℕ

@@ -6,4 +6,3 @@ pub mod name_list;
 pub mod netlist;
 pub mod write;
 mod write_gates;
-pub mod write_sums;

@@ -8,10 +8,10 @@ ghost use Rattle.si_netlist.specs.Writing.{gate_lines};
 ghost use Rattle.si_words.specs.Writing.{spaced};
 
 use crate::gate::Gate;
-use crate::write_sums::{add_literals, add_sum};
 use si_base::graph::Signal;
 use si_base::ids::NoMemory;
 use si_base::text::Text;
+use si_cube::write_sums::{add_literals, add_sum};
 use si_words::writing::add_word;
 
 /// Adds a line for each gate and the signal that it drives.

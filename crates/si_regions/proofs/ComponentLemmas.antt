@@ -5,12 +5,12 @@ use Rattle.si_base.specs.Graph.{StateGraph, IsGraph}
 use Rattle.si_base.specs.Codes.{CodedGraph}
 use Rattle.si_base.proofs.StepFacts.{step_within}
 use Rattle.si_graph.specs.declared.closure.Along.TheVariants.{Out, Both}
-use Rattle.si_graph.specs.Closure.{Path}
+use Rattle.si_graph.specs.Closure.{IsNext, Path}
 use Rattle.si_graph.specs.Reach.{IsIn}
 use Rattle.si_regions.specs.Connected.{Adjoins, PathOf, IsComponent}
 use Rattle.si_regions.specs.Regions.{Enables, IsSetOf, IsEntered, IsQuiet, WalkThrough, IsReachedThrough}
-use Rattle.si_regions.specs.Searching.{AreMarksOf, IsReachedIn}
-use Rattle.si_regions.proofs.SearchLemmas.{reached_on}
+use Rattle.si_regions.specs.Searching.{AreMarksOf, IsReachedIn, IsSeed}
+use Rattle.si_graph.proofs.ClosureLemmas.{reached_on}
 use Rattle.si_regions.proofs.StateLists.{contains_only, only_in}
 
 -- ---- paths either way
@@ -48,7 +48,7 @@ module _ (g : StateGraph) (e : Event) (enabling : List Bool) (s : ℕ) (er : Lis
   path_in t [] u in_er enables leads = (leads, subst (λ k. IsIn enabling k) leads enables)
   path_in t (v ∷ vs) u in_er enables leads =
       let next : Contains er v =
-      (reached.exactly v).1 (reached_on g Both enabling (s ∷ []) t v ((reached.exactly t).0 in_er) leads.0) in
+      (reached.exactly v).1 (reached_on (IsNext g Both enabling) (IsSeed enabling (s ∷ [])) t v ((reached.exactly t).0 in_er) leads.0) in
       let rest = path_in v vs u next leads.0.1 leads.1 in
       ((leads.0.0, next, rest.0), rest.1)
 
@@ -75,7 +75,7 @@ module _ (g : StateGraph) (e : Event) (enabling : List Bool) (s : ℕ) (er : Lis
           leads = path_join g (Contains er) t back.0 s to_u.0 u back.1 to_u.1;
         });
     maximal = λ t u there beside enables.
-        (reached.exactly u).1 (reached_on g Both enabling (s ∷ []) t u ((reached.exactly t).0 there)
+        (reached.exactly u).1 (reached_on (IsNext g Both enabling) (IsSeed enabling (s ∷ [])) t u ((reached.exactly t).0 there)
         (beside, (marks.exactly u).1 enables));
   }
 

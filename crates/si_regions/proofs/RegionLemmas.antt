@@ -1,6 +1,6 @@
 -- Sets made state by state, and regions in order.
 use Rattle.std.proofs.Common.{◌≡◌, ℕ, ◌+◌, ◌*◌, ◌<◌, ◌≤◌, Bool, true, false, ◌∙◌, sym, refl, ap, subst, arith, List, [], ◌∷◌, ◌++◌, length, get_or, set, Contains, IsTrue, inl, inr, ◌⊎◌, ◌↔◌, length-set, replicate, nat_cmp}
-use Rattle.std.proofs.lemmas.Bool.{cases_eq, cases_lt}
+use Rattle.std.proofs.lemmas.Bool.{cases_eq, cases_lt, true≢false}
 use Rattle.std.proofs.lemmas.List.{length-replicate, get_or_default}
 use Rattle.std.proofs.lemmas.List.Elements.{Contains-push, Contains-push_cases, Contains-append_left, Contains-get_or}
 use Rattle.std.proofs.lemmas.List.Quantifiers.{all_pairs_push}
@@ -8,10 +8,10 @@ use Rattle.std.specs.List.Sorted.{IsStrictlySortedBy}
 use Rattle.si_base.specs.declared.ids.Event.{Event}
 use Rattle.si_base.specs.declared.graph.Edge.{Edge}
 use Rattle.si_base.specs.Order.{Before}
-use Rattle.si_base.specs.Graph.{StateGraph, Step, IsGraph, arc, enables, event_place}
+use Rattle.si_base.specs.Graph.{StateGraph, Step, IsGraph, arc, enables, event_place, same_event}
 use Rattle.si_base.specs.Codes.{CodedGraph, IsDeterministic}
 use Rattle.si_base.proofs.StepFacts.{step_within}
-use Rattle.si_base.proofs.Steps.{step_from_enables, enables-step}
+use Rattle.si_base.proofs.Steps.{step_from_enables, enables-step, same_event-refl, same_event-true}
 use Rattle.si_graph.specs.Reach.{IsIn}
 use Rattle.si_graph.proofs.MarkLemmas.{stays_in, in_cases, is_set, in_none}
 use Rattle.si_graph.proofs.OrderLemmas.{event_from_place}
@@ -69,6 +69,22 @@ made_pass Q n k marks none x = record {
 -- the k-th arc is by e, out of t
 abbrev pub IsArcBy : List Edge → Event → ℕ → ℕ → Type 0
 IsArcBy arcs e k t = (a : Edge) × (k < length arcs) × (get_or arcs k a ≡ a) × (a.event ≡ e) × (a.from ≡ t)
+
+module _ (arcs : List Edge) (e : Event) (k : ℕ) (x : Edge) (inside : k < length arcs) (at : x ≡ get_or arcs k x) where
+  arc_is : (a : Edge) → get_or arcs k a ≡ a → a ≡ x
+  arc_is a is = sym is ∙ get_or_default arcs k a x inside ∙ sym at
+
+  pub enabling_more : (n : ℕ) (marks : List Bool) → x.from < n → same_event x.event e ≡ true
+      → MadeTo (IsArcBy arcs e) n k marks → MadeTo (IsArcBy arcs e) n (k + 1) (set marks x.from true)
+  enabling_more n marks below same before = made_more (IsArcBy arcs e) n k x.from marks below
+      (x, inside, sym at, same_event-true x.event e same, refl)
+      (λ u (a, _, is, _, from). sym from ∙ ap (λ (y : Edge). y.from) (arc_is a is)) before
+
+  pub enabling_pass : (n : ℕ) (marks : List Bool) → same_event x.event e ≡ false
+      → MadeTo (IsArcBy arcs e) n k marks → MadeTo (IsArcBy arcs e) n (k + 1) marks
+  enabling_pass n marks other before = made_pass (IsArcBy arcs e) n k marks (λ u (a, _, is, event, _). (
+      let by : x.event ≡ e = ap (λ (y : Edge). y.event) (sym (arc_is a is)) ∙ event in
+      true≢false (sym (same_event-refl e) ∙ ap (λ (f : Event). same_event f e) (sym by) ∙ other))) before
 
 pub enabling_all : (g : StateGraph) (e : Event) (k : ℕ) (marks : List Bool) → length g.edges ≤ k
     → MadeTo (IsArcBy g.edges e) g.states k marks → AreMarksOf g (Enables g e) marks

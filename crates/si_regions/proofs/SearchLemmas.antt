@@ -6,38 +6,12 @@ use Rattle.std.proofs.lemmas.List.Elements.{Contains-push, Contains-push_cases, 
 use Rattle.std.specs.List.Sorted.{IsStrictlySortedBy}
 use Rattle.si_base.specs.Graph.{StateGraph}
 use Rattle.si_graph.specs.declared.closure.Along.{Along}
-use Rattle.si_graph.specs.Closure.{IsNext, Path}
+use Rattle.si_graph.specs.Closure.{IsNext}
 use Rattle.si_graph.specs.Reach.{IsIn, Marks, MarksAll}
+use Rattle.si_graph.proofs.ClosureLemmas.{along_path, reached_seed}
 use Rattle.si_graph.proofs.MarkLemmas.{Explores, marks_both}
 use Rattle.si_regions.specs.Regions.{IsSetOf}
 use Rattle.si_regions.specs.Searching.{IsSeed, IsReachedIn}
-
--- ---- paths
-path_push : (g : StateGraph) (along : Along) (within : List Bool) (s : ℕ) (path : List ℕ) (t u : ℕ)
-    → Path g along within s path t → IsNext g along within t u → Path g along within s (path ++ u ∷ []) u
-path_push g along within s [] t u leads next = (subst (λ x. IsNext g along within x u) (sym leads) next, refl)
-path_push g along within s (v ∷ vs) t u leads next = (leads.0, path_push g along within v vs t u leads.1 next)
-
-pub reached_on : (g : StateGraph) (along : Along) (within : List Bool) (seeds : List ℕ) (s t : ℕ)
-    → IsReachedIn g along within seeds s → IsNext g along within s t → IsReachedIn g along within seeds t
-reached_on g along within seeds s t r next = record {
-  seed = r.seed;
-  there = r.there;
-  path = r.path ++ t ∷ [];
-  leads = path_push g along within r.seed r.path s t r.leads next;
-}
-
-pub reached_seed : (g : StateGraph) (along : Along) (within : List Bool) (seeds : List ℕ) (s : ℕ)
-    → IsSeed within seeds s
-    → IsReachedIn g along within seeds s
-reached_seed g along within seeds s there = record { seed = s; there = there; path = []; leads = refl }
-
-along_path : (g : StateGraph) (along : Along) (within : List Bool) (P : ℕ → Type 0)
-    → ((s t : ℕ) → P s → IsNext g along within s t → P t) → (s : ℕ) (path : List ℕ) (t : ℕ) → P s
-    → Path g along within s path t → P t
-along_path g along within P closed s [] t here leads = subst P leads here
-along_path g along within P closed s (u ∷ us) t here leads =
-    along_path g along within P closed u us t (closed s u here leads.0) leads.1
 
 -- ---- the seeds
 -- the first n seeds are marked, as far as the set has them
@@ -94,7 +68,7 @@ search_starts g along within seeds none rest marks work empty rests taken = reco
   begun = taken.all;
   sound = λ t i. elim (taken.marks_are.sound t i) [
     | inl old ↦ absurd (empty t old)
-    | inr seed ↦ reached_seed g along within seeds t seed
+    | inr seed ↦ reached_seed (IsNext g along within) (IsSeed within seeds) t seed
   ];
   closed = λ s i. elim (taken.marks_are.queued s i) [ inl old ↦ absurd (empty s old) | inr waits ↦ inl waits ];
   queued = λ t waits. elim (taken.marks_are.marked t waits) [
@@ -164,7 +138,7 @@ search_finds g along within seeds marks found list x split same order = record {
   exactly = λ t. (
     λ there. x.sound t ((all_found marks found split t).1 ((same t).0 there)),
     λ r. (same t).1 ((all_found marks found split t).0
-        (along_path g along within (λ s. IsIn marks s) closed r.seed r.path t (x.begun r.seed r.there) r.leads)),
+        (along_path (IsNext g along within) (λ s. IsIn marks s) closed r.seed r.path t (x.begun r.seed r.there) r.leads)),
   );
 }
   where

@@ -1,5 +1,5 @@
 -- A set of states that can be decided has a list and marks, and so has what is reached in it along arcs.
-use Rattle.std.proofs.Common.{◌≡◌, ℕ, zero, suc, ◌+◌, ◌<◌, ◌⊎◌, ◌↔◌, ◌∙◌, Bool, true, false, not, cond, List, [], ◌∷◌, ◌++◌, map, filter, length, get_or, set, Contains, refl, sym, subst, arith, inl, inr, length-set, nat_cmp}
+use Rattle.std.proofs.Common.{◌≡◌, ◌≢◌, ℕ, zero, suc, ◌+◌, ◌<◌, ◌⊎◌, ◌↔◌, ◌∙◌, Bool, true, false, not, cond, List, [], ◌∷◌, ◌++◌, map, filter, length, get_or, set, Contains, refl, sym, ap, subst, arith, inl, inr, length-set, nat_cmp}
 use Rattle.std.specs.List.{range_with_len}
 use Rattle.std.specs.List.Sorted.{IsStrictlySortedBy}
 use Rattle.std.proofs.lemmas.Bool.{cases_Bool, cases_eq, true≢false}
@@ -8,17 +8,20 @@ use Rattle.std.proofs.lemmas.List.FromFn.{length-range_with_len, get_or-range_wi
 use Rattle.std.proofs.lemmas.List.Kept.{IsStrictlySortedBy-filter}
 use Rattle.std.proofs.lemmas.List.Sums.{sum_by-set}
 use Rattle.std.proofs.lemmas.Map.Keys.{sorted_from_strictly_increasing}
+use Rattle.si_base.specs.declared.ids.Event.{Event}
 use Rattle.si_base.specs.declared.graph.Edge.{Edge}
-use Rattle.si_base.specs.Graph.{StateGraph, arc}
+use Rattle.si_base.specs.Graph.{StateGraph, Step, arc, same_event}
+use Rattle.si_base.proofs.Steps.{same_event-true, same_event-refl}
 use Rattle.si_graph.specs.declared.closure.Along.{Along}
-use Rattle.si_graph.specs.declared.closure.Along.TheVariants.{Out, In, Both}
+use Rattle.si_graph.specs.declared.closure.Along.TheVariants.{Out, OutWithout, In, Both}
 use Rattle.si_graph.specs.Closure.{IsBeside, IsNext, Leads}
 use Rattle.si_graph.specs.Reach.{IsIn, unmarked}
 use Rattle.si_graph.proofs.MarkLemmas.{stays_in, in_cases, in_below}
 use Rattle.si_graph.proofs.MemberLemmas.{Contains-cons_cases, Contains-here, Contains-there, Contains-nil, Contains-map, Contains-from_map, Contains-filter, Contains-from_filter}
 use Rattle.si_regions.specs.Regions.{IsSetOf}
 use Rattle.si_regions.specs.Searching.{AreMarksOf, IsReachedIn, IsSeed}
-use Rattle.si_regions.proofs.SearchLemmas.{reached_on, reached_seed, search_finds}
+use Rattle.si_graph.proofs.ClosureLemmas.{reached_on, reached_seed}
+use Rattle.si_regions.proofs.SearchLemmas.{search_finds}
 
 -- ---- decisions
 -- P holds or it doesn't
@@ -132,8 +135,25 @@ out_of a = (a.from, a.to)
 into : Edge → ℕ × ℕ
 into a = (a.to, a.from)
 
+is_other : Event → Edge → Bool
+is_other stop a = not (same_event a.event stop)
+
+other_passes : (stop : Event) (a : Edge) → a.event ≢ stop → is_other stop a ≡ true
+unfolding is_other
+other_passes stop a apart = elim (cases_Bool (same_event a.event stop)) [
+  | inl same ↦ absurd (apart (same_event-true a.event stop same))
+  | inr other ↦ ap not other
+]
+
+passed_is_other : (stop : Event) (a : Edge) → is_other stop a ≡ true → a.event ≢ stop
+unfolding is_other
+passed_is_other stop a passes same =
+    let stops : same_event a.event stop ≡ true = ap (λ (e : Event). same_event e stop) same ∙ same_event-refl stop in
+    true≢false (sym passes ∙ ap not stops)
+
 pairs_along : Along → List Edge → List (ℕ × ℕ)
 pairs_along Out arcs = map out_of arcs
+pairs_along (OutWithout stop) arcs = map out_of (filter (is_other stop) arcs)
 pairs_along In arcs = map into arcs
 pairs_along Both arcs = map out_of arcs ++ map into arcs
 
@@ -158,9 +178,25 @@ module _ (g : StateGraph) where
       let a = Contains-from_map into g.edges p there in
       subst (λ (q : ℕ × ℕ). Leads g q.1 q.0) a.2 (a.0.event, a.1)
 
+  other_pair : (stop : Event) (s t : ℕ) (e : Event) → e ≢ stop → Step g s e t
+      → Contains (map out_of (filter (is_other stop) g.edges)) (s, t)
+  unfolding out_of
+  other_pair stop s t e apart step = Contains-map out_of (filter (is_other stop) g.edges) (arc s e t)
+      (Contains-filter (is_other stop) g.edges (arc s e t) step (other_passes stop (arc s e t) apart))
+
+  other_leads : (stop : Event) (p : ℕ × ℕ) → Contains (map out_of (filter (is_other stop) g.edges)) p
+      → IsBeside g (OutWithout stop) p.0 p.1
+  unfolding out_of
+  other_leads stop p there =
+      let a = Contains-from_map out_of (filter (is_other stop) g.edges) p there in
+      let kept = Contains-from_filter (is_other stop) g.edges a.0 a.1 in
+      subst (λ (q : ℕ × ℕ). IsBeside g (OutWithout stop) q.0 q.1) a.2
+      (a.0.event, passed_is_other stop a.0 kept.1, kept.0)
+
   pair_there : (along : Along) (s t : ℕ) → IsBeside g along s t → Contains (pairs_along along g.edges) (s, t)
   unfolding pairs_along
   pair_there Out s t beside = out_pair s t beside
+  pair_there (OutWithout stop) s t (e, apart, step) = other_pair stop s t e apart step
   pair_there In s t beside = in_pair s t beside
   pair_there Both s t (inl beside) =
       Contains-append_left (map out_of g.edges) (map into g.edges) (s, t) (out_pair s t beside)
@@ -170,6 +206,7 @@ module _ (g : StateGraph) where
   pair_beside : (along : Along) (p : ℕ × ℕ) → Contains (pairs_along along g.edges) p → IsBeside g along p.0 p.1
   unfolding pairs_along
   pair_beside Out p there = pair_leads p there
+  pair_beside (OutWithout stop) p there = other_leads stop p there
   pair_beside In p there = pair_comes p there
   pair_beside Both p there = elim (Contains-append_cases (map out_of g.edges) (map into g.edges) p there) [
     | inl first ↦ inl (pair_leads p first)
@@ -210,7 +247,7 @@ module _ (g : StateGraph) (along : Along) (within : List Bool) (seeds : List ℕ
         begun = λ t seed. stays_in marks p.1 t below (are.begun t seed);
         sound = λ t is. elim (in_cases marks p.1 t is) [
           | inl same ↦ subst (IsReachedIn g along within seeds) (sym same)
-              (reached_on g along within seeds p.0 p.1 (are.sound p.0 out.0) next)
+              (reached_on (IsNext g along within) (IsSeed within seeds) p.0 p.1 (are.sound p.0 out.0) next)
           | inr old ↦ are.sound t old
         ];
       }
@@ -267,5 +304,5 @@ module _ (g : StateGraph) (along : Along) (within : List Bool) (seeds : List ℕ
       spread (unmarked first.0 + 1) first.0 (omega arith) (record {
         size = first.1.size;
         begun = λ t seed. (first.1.exactly t).1 seed;
-        sound = λ t is. reached_seed g along within seeds t ((first.1.exactly t).0 is);
+        sound = λ t is. reached_seed (IsNext g along within) (IsSeed within seeds) t ((first.1.exactly t).0 is);
       })

@@ -5,10 +5,10 @@ use Rattle.si_base.specs.Order.{Before}
 use Rattle.si_base.specs.Graph.{StateGraph, enables, event_place}
 use Rattle.si_base.specs.Codes.{CodedGraph}
 use Rattle.si_graph.specs.declared.closure.Along.{Along}
-use Rattle.si_graph.specs.Closure.{Path}
+use Rattle.si_graph.specs.Closure.{IsNext, IsReachedBy}
 use Rattle.si_graph.specs.Reach.{IsIn}
+use Rattle.si_graph.specs.Search.{Progress}
 use Rattle.si_regions.specs.declared.regions.Region.{Region}
-use Rattle.si_regions.specs.declared.search.Search.{Search}
 use Rattle.si_regions.specs.Regions.{IsRegion, region_place}
 
 -- the marks are those of the states of g that have P
@@ -21,18 +21,14 @@ abbrev pub IsSeed : List Bool → List ℕ → ℕ → Type 0
 IsSeed within seeds s = Contains seeds s × IsIn within s
 
 -- a path through the set leads from such a seed to t
-pub record IsReachedIn (g : StateGraph) (along : Along) (within : List Bool) (seeds : List ℕ)
-    (t : ℕ) : Type 0 where
-  pub seed : ℕ
-  pub there : IsSeed within seeds seed
-  pub path : List ℕ
-  pub leads : Path g along within seed path t
+abbrev pub IsReachedIn : StateGraph → Along → List Bool → List ℕ → ℕ → Type 0
+IsReachedIn g along within seeds t = IsReachedBy (IsNext g along within) (IsSeed within seeds) t
 
 -- a search among so many states that has reached none of them
-pub record IsIdle (states : ℕ) (search : Search) : Type 0 where
+pub record IsIdle (states : ℕ) (search : Progress) : Type 0 where
   pub size : length search.marks ≡ states
   pub none : (t : ℕ) → IsIn search.marks t → ⊥
-  pub rests : search.work.items ≡ []
+  pub rests : search.work ≡ []
 
 -- the regions of events and least states before the place k and s, in order
 pub record RegionsTo (c : CodedGraph) (k s : ℕ) (regions : List Region) : Type 0 where

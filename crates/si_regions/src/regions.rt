@@ -6,12 +6,13 @@ ghost use Rattle.si_graph.specs.Reach.{IsIn};
 ghost use Rattle.si_regions.specs.Regions.{Enables, IsSetOf, IsEntered, IsQuiet, IsRegion, AreRegions, opposite};
 ghost use Rattle.si_regions.specs.Searching.{AreMarksOf, IsIdle, RegionsTo};
 
-use crate::search::Search;
+use crate::search::reached;
 use crate::state_list::StateList;
 use si_base::ids::{Event, NoMemory, Sig, StateId};
 use si_base::sets::StateSet;
 use si_graph::closure::Along;
 use si_graph::coded::Coded;
+use si_graph::search::Search;
 use std::alloc::Global;
 
 /// A component of the states that enable an event (`er`), the states that the event enters from it
@@ -100,9 +101,9 @@ fn region_of(
     ensures has { IfOk result (λ r. Contains r.er s) }
 {
     let g = coded.graph();
-    let er = search.reached(alloc, g, Along::Both, enabling, &[s])?;
+    let er = reached(alloc, search, g, Along::Both, enabling, &[s])?;
     let sr = entered(alloc, coded, er.as_slice(), e)?;
-    let qr = search.reached(alloc, g, Along::Out, resting, sr.as_slice())?;
+    let qr = reached(alloc, search, g, Along::Out, resting, sr.as_slice())?;
     Ok(Region {
         event: *e,
         er,

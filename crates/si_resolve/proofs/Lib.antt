@@ -7,7 +7,6 @@ pub mod BestExists
 pub mod EndsExist
 pub mod Going
 pub mod BlockSizes
-pub mod StateCounts
 pub mod Trying
 pub mod Usability
 pub mod Finding

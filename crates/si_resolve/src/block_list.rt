@@ -5,7 +5,7 @@ ghost use Rattle.si_base.specs.Limits.{max_signals};
 ghost use Rattle.si_candidates.specs.Blocks.{AreBlocks};
 ghost use Rattle.si_resolve.specs.Usable.{IsUsable, AreUsable, AreSearched};
 
-use si_base::ids::NoMemory;
+use si_base::ids::{NoMemory, StateId};
 use si_candidates::block::Block;
 use si_candidates::blocks::blocks;
 use si_checks::proper::Proper;
@@ -83,5 +83,8 @@ fn is_usable(graph: &Proper, block: &Block) -> bool
     requires { length block.now ≡ graph.now.graph.states }
     ensures { IsTrue result ↔ IsUsable graph.now.graph block.now }
 {
-    !block.states().is_empty() && block.may_switch(graph)
+    match block.set().first_from(StateId(0)) {
+        Some(_) => block.may_switch(graph),
+        None => false,
+    }
 }

@@ -201,5 +201,5 @@ fn copies(graph: &Proper, plus: &Block, minus: &Block) -> u64
         + count_by (λ b. b) minus.now }
 {
     let states = graph.coded().graph().states();
-    states as u64 + plus.states().len() as u64 + minus.states().len() as u64
+    states as u64 + plus.count() as u64 + minus.count() as u64
 }

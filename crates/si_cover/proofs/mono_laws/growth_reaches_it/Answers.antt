@@ -1,4 +1,4 @@
-use Rattle.si_cover.proofs.GrowthLemmas.{growth_begins, growth_takes, growth_goes_on, growth_ends, turns_drop}
+use Rattle.si_cover.proofs.GrowingLemmas.{growth_begins, growth_takes, growth_goes_on, growth_ends, turns_drop}
 use Rattle.si_cover.proofs.mono_laws.growth_reaches_it.Goals as goal
 
 pub returns-clause-begins : goal.returns-clause-begins

@@ -1,8 +1,9 @@
 use Rattle.std.proofs.Common.{◌≡◌, ℕ, ◌≤◌, ◌++◌, ◌∷◌, ◌∙◌, List, [], Bool, get_or, true, false, IsTrue, arith, ap, sym, refl}
 use Rattle.std.proofs.lemmas.Bool.{true≢false}
+use Rattle.std.proofs.lemmas.List.{length-replicate}
 use Rattle.si_base.specs.Graph.{StateGraph, enables, event_place}
 use Rattle.si_graph.specs.Reach.{IsIn}
-use Rattle.si_regions.proofs.RegionLemmas.{regions_pass, regions_more, done_more, regions_event, enables_within}
+use Rattle.si_regions.proofs.RegionLemmas.{done_none, regions_pass, regions_more, done_more, regions_event, enables_within}
 use Rattle.si_regions.proofs.StateLists.{all_below}
 use Rattle.si_regions.proofs.regions.add_regions.Goals as goal
 use Rattle.si_regions.proofs.regions.add_regions.Goals.{then-is_new+in_ok-region+in_ok-push, else-is_new}
@@ -14,6 +15,17 @@ in_or b done k old fresh = pick (get_or done k false) refl
     pick : (v : Bool) → get_or done k false ≡ v → IsIn done k
     pick true e = e
     pick false e = absurd (true≢false (sym (fresh (λ there. true≢false (sym there ∙ e))) ∙ old))
+
+pub loop-k-init : goal.loop-k-init
+loop-k-init c =
+    let d = c.args.coded.now in
+    let states = c.states.ensures ∙ ap (λ (h : StateGraph). h.states) c.graph-g.ensures.same in
+    rw c.in_ok-done.ensures (record {
+      size = length-replicate c.states.result false ∙ states;
+      idle = c.requires.idle;
+      done = done_none d c.args.e.now c.states.result c.args.out.now.items c.requires.before;
+      to = c.requires.before;
+    })
 
 pub add_all-requires : goal.add_all-requires
 add_all-requires c =

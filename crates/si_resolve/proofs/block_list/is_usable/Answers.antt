@@ -1,8 +1,11 @@
-use Rattle.si_resolve.proofs.Usability.{usable_by}
+use Rattle.si_resolve.proofs.Usability.{usable_by, unusable}
 use Rattle.si_resolve.proofs.block_list.is_usable.Goals as goal
 
-pub returns-then-not-is_empty : goal.returns-then-not-is_empty
-returns-then-not-is_empty c =
-    usable_by c.args.graph.now.graph c.args.block.now c.states.result.now c.is_empty.result c.may_switch.result
-    c.states.ensures
-    c.is_empty.ensures c.if-not-is_empty.true c.may_switch.ensures
+pub returns-in-Some : goal.returns-in-Some
+returns-in-Some c =
+    usable_by c.args.graph.now.graph c.args.block.now _ c.may_switch.result
+    (rw c.set.ensures at c.in-Some.ensures.inside) c.may_switch.ensures
+
+pub returns-in-None : goal.returns-in-None
+returns-in-None c =
+    unusable c.args.graph.now.graph c.args.block.now (rw c.set.ensures at c.in-None.ensures)

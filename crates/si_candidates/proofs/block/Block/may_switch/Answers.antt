@@ -1,9 +1,8 @@
-use Rattle.std.proofs.Common.{◌∙◌, ℕ, refl, subst, sym, ap}
+use Rattle.std.proofs.Common.{◌+◌, ◌∙◌, ℕ, refl, subst, sym, ap, inl, inr}
 use Rattle.std.proofs.lemmas.Bool.{true≢false}
-use Rattle.std.proofs.lemmas.List.{take_all}
-use Rattle.std.proofs.lemmas.List.Elements.{All-more}
 use Rattle.si_base.specs.Graph.{StateGraph}
 use Rattle.si_base.specs.Codes.{CodedGraph, IsCoded, IsDeterministic}
+use Rattle.si_candidates.proofs.BlockWalks.{stands_at, passed_cases}
 use Rattle.si_candidates.proofs.Switching.{PassFrom, all_from, from_each}
 use Rattle.si_candidates.proofs.block.Block.may_switch.Goals as goal
 
@@ -17,22 +16,30 @@ returns-then-not-arcs_may_pass c =
     let set = c.args.self.now in
     let same = c.graph-g.ensures.same ∙ ap (λ (d : CodedGraph). d.graph) c.coded.ensures.same in
     let coded : IsCoded c.args.graph.now = subst IsCoded c.coded.ensures.same c.graph-g.ensures.coded in
+    let here = rw c.in-Some.is at c.loop-next.invariant.stands in
     let tested = rw (same, c.set-set.ensures) at c.if-not-arcs_may_pass.ensures in (
       λ never. absurd (true≢false (sym never)),
-      λ may. tested.1 (from_each g set c.states-s-items.result.now coded.graph_is c.states-s-items.ensures may
-          c.s-item.result (c.loop-s.s-index, c.loop-s-test.true, sym c.s-item.is)),
+      λ may. tested.1 (from_each g set coded.graph_is may c.in-Some.s here),
     )
 
-pub loop-s-preserved : goal.loop-s-preserved
-loop-s-preserved c =
-    let Passes : ℕ → Type 0 = λ s. PassFrom c.args.graph.now.graph c.args.self.now s in
+pub loop-next-preserved : goal.loop-next-preserved
+loop-next-preserved c =
+    let set = c.args.self.now in
+    let s = c.in-Some.s in
+    let Passes : ℕ → Type 0 = λ t. PassFrom c.args.graph.now.graph set t in
     let same = c.graph-g.ensures.same ∙ ap (λ (d : CodedGraph). d.graph) c.coded.ensures.same in
     let tested = rw (same, c.set-set.ensures) at c.if-not-arcs_may_pass.ensures in
-    All-more Passes c.states-s-items.result.now c.loop-s.s-index c.s-item.result c.loop-s-test.true
-    c.loop-s.invariant (subst Passes c.s-item.is (tested.0 refl))
+    let before = rw c.in-Some.is at c.loop-next.invariant.passes in
+    let next = rw (c.set-set.ensures, c.s.view_is) at c.first_from-next-in-Some.ensures in
+    record {
+      stands = stands_at set (s + 1) c.first_from-next-in-Some.result next;
+      passes = λ t there passed. elim (passed_cases set s c.first_from-next-in-Some.result next t there passed) [
+        | inl here ↦ subst Passes (sym here) (tested.0 refl)
+        | inr less ↦ before t there less
+      ];
+    }
 
 pub returns : goal.returns
 returns c =
-    let states = c.states-s-items.result.now in
-    let all = rw (take_all c.loop-s.s-index states c.loop-s-test.false) at c.loop-s.invariant in
-    (λ _. all_from c.args.graph.now.graph c.args.self.now states c.states-s-items.ensures all, λ _. refl)
+    let all = rw c.in_default.is at c.loop-next.invariant.passes in
+    (λ _. all_from c.args.graph.now.graph c.args.self.now (λ t there. all t there tt), λ _. refl)

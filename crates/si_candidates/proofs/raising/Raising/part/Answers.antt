@@ -4,16 +4,27 @@ use Rattle.si_base.specs.Graph.{StateGraph}
 use Rattle.si_graph.specs.Reach.{unmarked}
 use Rattle.si_candidates.specs.Parts.{IsTorn}
 use Rattle.si_candidates.specs.Raising.{is_high}
+use Rattle.si_candidates.proofs.BlockStates.{states_below}
 use Rattle.si_candidates.proofs.Flooding.{Floods, flood_starts, flood_more, flood_torn, flood_ends, less_left}
 use Rattle.si_candidates.proofs.raising.Raising.part.Goals as goal
+
+pub begin-requires-clause-rising : goal.begin-requires-clause-rising
+begin-requires-clause-rising c = states_below c.args.plus.now c.in_ok-rising.rising _ c.in_ok-rising.ensures
+    (c.requires.plus_size ∙ sym c.requires.room)
+
+pub begin-requires-clause-falling : goal.begin-requires-clause-falling
+begin-requires-clause-falling c = states_below c.args.minus.now c.in_ok-falling.falling _ c.in_ok-falling.ensures
+    (c.requires.minus_size ∙ sym c.requires.room)
 
 pub loop-s-init : goal.loop-s-init
 loop-s-init c =
     let states = ap (λ (h : StateGraph). h.states) (sym c.graph-g.ensures.same) in
-    flood_starts c.graph-g.result.now c.args.plus.now c.args.minus.now c.states.result.now c.states-2.result.now
+    let begun = c.begin.ensures.begun c.args.plus.now c.args.minus.now c.in_ok-rising.ensures c.in_ok-falling.ensures
+    c.requires.disjoint in
+    flood_starts c.graph-g.result.now c.args.plus.now c.args.minus.now c.in_ok-rising.rising c.in_ok-falling.falling
     c.begin.new.self.classes.items c.begin.new.self.work.items c.raise_after.new.self.classes.items
     c.raise_after.new.self.work.items c.raise_before.new.self.classes.items c.raise_before.new.self.work.items
-    c.states.ensures c.states-2.ensures (c.begin.ensures.size ∙ c.requires.room ∙ states) c.begin.ensures.begun
+    c.in_ok-rising.ensures c.in_ok-falling.ensures (c.begin.ensures.size ∙ c.requires.room ∙ states) begun
     c.begin.ensures.work c.in_ok-raise_after.ensures.raised c.in_ok-raise_before.ensures.raised
 
 pub loop-s-preserved : goal.loop-s-preserved

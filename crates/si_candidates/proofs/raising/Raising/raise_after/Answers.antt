@@ -11,9 +11,11 @@ raise_targets-requires c =
 pub loop-s-preserved : goal.loop-s-preserved
 loop-s-preserved c =
     let never = not_torn c.in_ok-raise_targets.field-0 _ false refl c.in_ok-raise_targets.ensures.torn in
-    beside_more (Leads c.args.graph.now) c.args.rising.now c.loop-s.s-index c.s-item.result _ _ _ _ _ _
+    beside_more (Leads c.args.graph.now) c.as_slice-s-items.result.now c.loop-s.s-index c.s-item.result _ _ _ _ _ _
     c.loop-s-test.true c.s-item.is c.loop-s.invariant (c.in_ok-raise_targets.ensures.raised never)
 
 pub returns-clause-raised : goal.returns-clause-raised
-returns-clause-raised c = beside_all (Leads c.args.graph.now) c.args.rising.now c.loop-s.s-index _ _ _ _
-    c.loop-s-test.false c.loop-s.invariant
+returns-clause-raised c =
+    rw (← c.as_slice-s-items.ensures.states)
+    (beside_all (Leads c.args.graph.now) c.as_slice-s-items.result.now c.loop-s.s-index _ _ _ _
+    c.loop-s-test.false c.loop-s.invariant)

@@ -1,19 +1,30 @@
-use Rattle.std.proofs.Common.{◌∙◌, false, length, map, ap, refl, arith, inl, inr}
+use Rattle.std.proofs.Common.{◌∙◌, false, length, map, ap, sym, refl, arith, inl, inr}
 use Rattle.std.proofs.lemmas.List.{nil_from_length, length_push}
 use Rattle.si_graph.specs.Closure.{Leads}
 use Rattle.si_graph.specs.Reach.{unmarked}
 use Rattle.si_regions.specs.Connected.{Adjoins}
 use Rattle.si_candidates.specs.Raising.{is_high}
 use Rattle.si_candidates.proofs.RaisingLemmas.{raises_both, not_torn}
+use Rattle.si_candidates.proofs.BlockStates.{states_below}
 use Rattle.si_candidates.proofs.Flooding.{flood_starts, spread_more, spread_ends, less_left}
 use Rattle.si_candidates.proofs.raising.Raising.raise_all.Goals as goal
 
+pub begin-requires-clause-rising : goal.begin-requires-clause-rising
+begin-requires-clause-rising c = states_below c.args.plus.now c.in_ok-rising.rising _ c.in_ok-rising.ensures
+    (c.requires.plus_size ∙ sym c.requires.room)
+
+pub begin-requires-clause-falling : goal.begin-requires-clause-falling
+begin-requires-clause-falling c = states_below c.args.minus.now c.in_ok-falling.falling _ c.in_ok-falling.ensures
+    (c.requires.minus_size ∙ sym c.requires.room)
+
 pub loop-s-init : goal.loop-s-init
 loop-s-init c =
-    (flood_starts c.args.graph.now c.args.plus.now c.args.minus.now c.states.result.now c.states-2.result.now
+    let begun = c.begin.ensures.begun c.args.plus.now c.args.minus.now c.in_ok-rising.ensures c.in_ok-falling.ensures
+    c.requires.disjoint in
+    (flood_starts c.args.graph.now c.args.plus.now c.args.minus.now c.in_ok-rising.rising c.in_ok-falling.falling
     c.begin.new.self.classes.items c.begin.new.self.work.items c.raise_after.new.self.classes.items
     c.raise_after.new.self.work.items c.raise_before.new.self.classes.items c.raise_before.new.self.work.items
-    c.states.ensures c.states-2.ensures (c.begin.ensures.size ∙ c.requires.room) c.begin.ensures.begun
+    c.in_ok-rising.ensures c.in_ok-falling.ensures (c.begin.ensures.size ∙ c.requires.room) begun
     c.begin.ensures.work c.in_ok-raise_after.ensures.raised c.in_ok-raise_before.ensures.raised).spreads
 
 pub loop-s-preserved : goal.loop-s-preserved

@@ -1,7 +1,7 @@
 use Rattle.std.proofs.Common.{◌≡◌, ◌-◌, ◌+◌, ◌<◌, ap, length, arith}
 use Rattle.std.proofs.lemmas.List.{get_or_read}
 use Rattle.si_graph.specs.Arcs.{edge_at, no_edge}
-use Rattle.si_graph.specs.Chains.{source, target}
+use Rattle.si_graph.specs.Chains.{target}
 use Rattle.si_graph.proofs.ChainLemmas.{linked_more}
 use Rattle.si_graph.proofs.arc_store.ArcStore.build.Goals as goal
 
@@ -17,10 +17,7 @@ loop-k-preserved c =
     let edge : c.index-edge.result.now ≡ edge_at edges k = get_or_read edges k _ below c.index-edge.ensures no_edge in
     record {
       up_to = omega (arith, old.up_to);
-      out = rw (c.put_first.ensures.heads, c.put_first.ensures.nexts)
-          (linked_more source states edges k _ _ _ (rw one_less at old.out) below (ap source edge) (rw edge within.0));
-      into = rw (c.put_first-in-loop-k.ensures.heads, c.put_first-in-loop-k.ensures.nexts)
+      into = rw (c.put_first.ensures.heads, c.put_first.ensures.nexts)
           (linked_more target states edges k _ _ _ (rw one_less at old.into) below (ap target edge) (rw edge within.1));
-      out_end = rw c.put_first.ensures.end old.out_end;
-      into_end = rw c.put_first-in-loop-k.ensures.end old.into_end;
+      into_end = rw c.put_first.ensures.end old.into_end;
     }
