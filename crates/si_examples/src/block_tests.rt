@@ -1,6 +1,6 @@
-//! The intervals and blocks of two small graphs.
+//! The intervals and blocks of a small graph.
 
-use crate::graphs::{DOWN, UP, pulses, vme};
+use crate::graphs::{PULSES, proper};
 use si_base::ids::{Event, NoMemory, Sig, StateId};
 use si_base::sets::StateSet;
 use si_candidates::blocks::blocks;
@@ -12,7 +12,7 @@ use std::process::Abort;
 use std::test::Fail;
 
 /// States are written with one digit each.
-const DIGITS: &[u8] = b"0123456789abcd";
+const DIGITS: &[u8] = b"0123456789";
 
 /// Writes the states of a set, and a blank.
 fn spell(text: &mut Vec<u8>, set: &StateSet) -> Result<(), NoMemory> {
@@ -37,46 +37,37 @@ fn spelled_blocks(alloc: Global, graph: &Proper) -> Result<Vec<u8>, NoMemory> {
     Ok(text)
 }
 
-/// The interval from one state up to an event.
-fn spelled_interval(
+/// Says that the interval from the state 1 up to the event has these states.
+fn expect_interval(
     rt: &impl Abort,
     alloc: Global,
     graph: &Proper,
-    from: u32,
     stop: Event,
-) -> Result<Vec<u8>, Fail> {
+    states: &[u8],
+) -> Result<(), Fail> {
     let mut set = StateSet::new(alloc, graph.coded().graph().states())?;
-    assert!(rt; from < set.size());
-    set.add(StateId(from));
+    assert!(rt; 1 < set.size());
+    set.add(StateId(1));
     let mut text = Vec::new(alloc);
     spell(&mut text, &interval(alloc, graph, &set, stop)?)?;
-    Ok(text)
+    assert_eq!(rt; text.as_slice(), states);
+    Ok(())
 }
 
 #[test]
 fn intervals_end_at_an_event(rt: HostRuntime) -> Result<(), Fail> {
     let alloc = rt.alloc();
-    let graph = pulses(&rt, alloc)?;
-    for (up, states) in [(UP, b"12 ".as_slice()), (DOWN, b"12345 ".as_slice())] {
-        let sig = Sig(1);
-        let text = spelled_interval(&rt, alloc, &graph, 1, Event { sig, up })?;
-        assert_eq!(rt; text.as_slice(), states);
-    }
-    Ok(())
+    let graph = proper(alloc, PULSES)?;
+    let sig = Sig(1);
+    expect_interval(&rt, alloc, &graph, Event { sig, up: true }, b"12 ")?;
+    expect_interval(&rt, alloc, &graph, Event { sig, up: false }, b"12345 ")
 }
 
 #[test]
 fn blocks_in_order(rt: HostRuntime) -> Result<(), Fail> {
     let alloc = rt.alloc();
-    let text = spelled_blocks(alloc, &pulses(&rt, alloc)?)?;
-    assert_eq!(rt;
-        text.as_slice(),
-        b"0 3 1 4 2 5 12 12345 01245 45 2345 0125 012345 345 012 ".as_slice()
-    );
-    let text = spelled_blocks(alloc, &vme(&rt, alloc)?)?;
-    assert!(rt;
-        text.as_slice()
-            .starts_with(b"08b 5 2 9bd 3 6 4 79c 1 78a 1ad 01c 7 ")
-    );
+    let text = spelled_blocks(alloc, &proper(alloc, PULSES)?)?;
+    let order = b"0 3 1 4 2 5 12 12345 01245 45 2345 0125 012345 345 012 ".as_slice();
+    assert_eq!(rt; text.as_slice(), order);
     Ok(())
 }

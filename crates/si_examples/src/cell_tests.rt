@@ -3,8 +3,8 @@
 ghost use Rattle.si_base.specs.Graph.{IsNonInput};
 ghost use Rattle.si_checks.specs.Lent.{lent_graph};
 
-use crate::graphs::{c_element, is_driven};
-use si_base::ids::{Code, NoMemory, Sig};
+use crate::graphs::{C_ELEMENT, is_driven, proper};
+use si_base::ids::{Code, Sig};
 use si_cell::reader::read_library;
 use si_checks::distinct::Distinct;
 use si_match::fit::fit;
@@ -43,7 +43,7 @@ fn fits_the_second_cell(rt: &impl Abort, alloc: Global, graph: Distinct<'_>) -> 
     let text = b".library two\n.cell BUF a = a\n.cell C3 a b c = a b c + a q + b q + c q\n.end";
     let library = read_library(alloc, text)?;
     let Some(instance) = fit(graph, &library, Z) else {
-        return Err(NoMemory)?;
+        return Err("no cell fits")?;
     };
     assert_eq!(rt; instance.cell, 1);
     assert_eq!(rt; instance.literals.len(), 3);
@@ -54,9 +54,9 @@ fn fits_the_second_cell(rt: &impl Abort, alloc: Global, graph: Distinct<'_>) -> 
 #[test]
 fn cells_of_the_c_element(rt: HostRuntime) -> Result<(), Fail> {
     let alloc = rt.alloc();
-    let proper = c_element(&rt, alloc)?;
-    let Ok(distinct) = Distinct::make(alloc, &proper) else {
-        return Err(NoMemory)?;
+    let graph = proper(alloc, C_ELEMENT)?;
+    let Ok(distinct) = Distinct::make(alloc, &graph) else {
+        return Err("a conflict")?;
     };
     assert!(rt; is_driven(distinct, Z));
     has_full_support(&rt, alloc, distinct)?;

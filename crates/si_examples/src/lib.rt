@@ -7,16 +7,12 @@ mod block_tests;
 #[cfg(test)]
 mod cell_tests;
 #[cfg(test)]
-mod circuit_tests;
-#[cfg(test)]
 mod divisor_tests;
 #[cfg(test)]
 mod graphs;
 #[cfg(test)]
-mod lineages;
-#[cfg(test)]
 mod partition_tests;
 #[cfg(test)]
-mod resolve_tests;
+mod partitions;
 #[cfg(test)]
 mod trial_tests;

@@ -1,8 +1,8 @@
 //! Texts that are cut short, malformed or huge, and loads and puts that fail.
 
 use crate::tests::{
-    C_ELEMENT, CHECK, FOUR_CELLS, MAP, SYNTH, Texts, expect, expect_gates, files, only, with_cells,
-    words,
+    C_ELEMENT, CHECK, FOUR_CELLS, MAP, SYNTH, Texts, expect, expect_output, files, only,
+    with_cells, words,
 };
 use si_base::text::Text;
 use si_io::memory::{MemShelf, MemSink, SinkFail};
@@ -49,8 +49,30 @@ fn expect_fault(
     expect(rt, alloc, command, texts, want)
 }
 
+/// Replaces the line of this number of the C-element's graph, and expects that the graph is refused
+/// in the line at which the fault is told.
+fn expect_graph_fault(
+    rt: &impl Abort,
+    alloc: Global,
+    number: usize,
+    line: &[u8],
+    at: usize,
+    kind: &str,
+) -> Result<(), Fail> {
+    let graph = with_line(alloc, C_ELEMENT, number, line)?;
+    let fault = ("graph.sg", at, kind);
+    expect_fault(rt, alloc, &CHECK, only(graph.bytes()), fault)
+}
+
+/// Replaces the first cell of a library, and expects that the library is refused in that line.
+fn expect_cell_fault(rt: &impl Abort, alloc: Global, cell: &[u8], kind: &str) -> Result<(), Fail> {
+    let library = with_line(alloc, FOUR_CELLS, 2, cell)?;
+    let texts = with_cells(C_ELEMENT, library.bytes());
+    expect_fault(rt, alloc, &MAP, texts, ("c.net", 2, kind))
+}
+
 #[test]
-fn texts_cut_after_each_line(rt: HostRuntime) -> Result<(), Fail> {
+fn graphs_cut_after_each_line(rt: HostRuntime) -> Result<(), Fail> {
     let alloc = rt.alloc();
     for count in 0..16 {
         let kind = if count < 4 { "NoStateGraph" } else { "NoEnd" };
@@ -58,59 +80,75 @@ fn texts_cut_after_each_line(rt: HostRuntime) -> Result<(), Fail> {
         let fault = ("graph.sg", count + 1, kind);
         expect_fault(&rt, alloc, &CHECK, only(graph.bytes()), fault)?;
     }
+    Ok(())
+}
+
+#[test]
+fn libraries_cut_after_each_line(rt: HostRuntime) -> Result<(), Fail> {
+    let alloc = rt.alloc();
     for count in 0..6 {
         let library = first_lines(alloc, FOUR_CELLS, count)?;
         let texts = with_cells(C_ELEMENT, library.bytes());
         expect_fault(&rt, alloc, &MAP, texts, ("c.net", count + 1, "NoEnd"))?;
     }
-    let head = b".model c2\n.inputs a b\n.outputs c\n.internal\n.inserted\n.start 000\n";
-    let open = C_ELEMENT.strip_suffix(b"\n").ok_or("no line end")?;
-    expect_gates(&rt, alloc, &SYNTH, open, head, b"c sum a b + b c + a c\n")
-}
-
-#[test]
-fn lines_of_a_graph_replaced(rt: HostRuntime) -> Result<(), Fail> {
-    let alloc = rt.alloc();
-    let rows: [(usize, &[u8], usize, &str); 11] = [
-        (2, b".dummy e", 2, "Dummy"),
-        (2, b".slow", 2, "UnknownDirective"),
-        (2, b".inputs a b a", 2, "Repeated"),
-        (5, b"s0 a+", 5, "BadArcLine"),
-        (5, b"s0 d+ s1", 5, "Undeclared"),
-        (5, b"s0 a~ s1", 5, "Toggle"),
-        (5, b"s0 a* s1", 5, "BadEvent"),
-        (15, b".marking {s0 s1}", 15, "MarkingNotOne"),
-        (15, b".marking {zz}", 15, "UnknownState"),
-        (15, b"# .marking {s0}", 16, "NoMarking"),
-        (16, b".en", 16, "UnknownDirective"),
-    ];
-    for (number, line, at, kind) in rows {
-        let graph = with_line(alloc, C_ELEMENT, number, line)?;
-        let fault = ("graph.sg", at, kind);
-        expect_fault(&rt, alloc, &CHECK, only(graph.bytes()), fault)?;
-    }
     Ok(())
 }
 
 #[test]
-fn cells_of_a_library_replaced(rt: HostRuntime) -> Result<(), Fail> {
+fn the_last_line_end_may_be_left_out(rt: HostRuntime) -> Result<(), Fail> {
+    let open = C_ELEMENT.strip_suffix(b"\n").ok_or("no line end")?;
+    let summary = b"proper\nsignals 3\nstates 8\narcs 10\nstart 000\n";
+    expect_output(&rt, rt.alloc(), &CHECK, only(open), summary)
+}
+
+#[test]
+fn first_lines_of_a_graph_replaced(rt: HostRuntime) -> Result<(), Fail> {
     let alloc = rt.alloc();
-    let rows: [(&[u8], &str); 6] = [
-        (b".cell X a = q'", "BadLine"),
-        (b".cell X a = b", "Undeclared"),
-        (b".cell X a a = a", "Repeated"),
-        (b".cell X a = a a'", "Repeated"),
-        (b".cell X q = q", "BadName"),
-        (b".cell X a b c d e = a", "TooManyPins"),
-    ];
-    for (cell, kind) in rows {
-        let library = with_line(alloc, FOUR_CELLS, 2, cell)?;
-        let texts = with_cells(C_ELEMENT, library.bytes());
-        expect_fault(&rt, alloc, &MAP, texts, ("c.net", 2, kind))?;
-    }
+    expect_graph_fault(&rt, alloc, 2, b".dummy e", 2, "Dummy")?;
+    expect_graph_fault(&rt, alloc, 2, b".slow", 2, "UnknownDirective")?;
+    expect_graph_fault(&rt, alloc, 2, b".inputs a b a", 2, "Repeated")?;
+    expect_graph_fault(&rt, alloc, 16, b".en", 16, "UnknownDirective")
+}
+
+#[test]
+fn arcs_of_a_graph_replaced(rt: HostRuntime) -> Result<(), Fail> {
+    let alloc = rt.alloc();
+    expect_graph_fault(&rt, alloc, 5, b"s0 a+", 5, "BadArcLine")?;
+    expect_graph_fault(&rt, alloc, 5, b"s0 d+ s1", 5, "Undeclared")?;
+    expect_graph_fault(&rt, alloc, 5, b"s0 a~ s1", 5, "Toggle")?;
+    expect_graph_fault(&rt, alloc, 5, b"s0 a* s1", 5, "BadEvent")
+}
+
+#[test]
+fn markings_replaced(rt: HostRuntime) -> Result<(), Fail> {
+    let alloc = rt.alloc();
+    expect_graph_fault(&rt, alloc, 15, b".marking {s0 s1}", 15, "MarkingNotOne")?;
+    expect_graph_fault(&rt, alloc, 15, b".marking {zz}", 15, "UnknownState")?;
+    expect_graph_fault(&rt, alloc, 15, b"# .marking {s0}", 16, "NoMarking")
+}
+
+#[test]
+fn pins_of_a_cell_replaced(rt: HostRuntime) -> Result<(), Fail> {
+    let alloc = rt.alloc();
+    expect_cell_fault(&rt, alloc, b".cell X a a = a", "Repeated")?;
+    expect_cell_fault(&rt, alloc, b".cell X q = q", "BadName")?;
+    expect_cell_fault(&rt, alloc, b".cell X a b c d e = a", "TooManyPins")
+}
+
+#[test]
+fn sums_of_a_cell_replaced(rt: HostRuntime) -> Result<(), Fail> {
+    let alloc = rt.alloc();
+    expect_cell_fault(&rt, alloc, b".cell X a = q'", "BadLine")?;
+    expect_cell_fault(&rt, alloc, b".cell X a = b", "Undeclared")?;
+    expect_cell_fault(&rt, alloc, b".cell X a = a a'", "Repeated")
+}
+
+/// One file that is named twice is read in two ways.
+#[test]
+fn a_graph_as_its_own_library(rt: HostRuntime) -> Result<(), Fail> {
     let twice = ["map", "graph.sg", "graph.sg"];
     let fault = ("graph.sg", 1, "BadLine");
-    expect_fault(&rt, alloc, &twice, only(C_ELEMENT), fault)
+    expect_fault(&rt, rt.alloc(), &twice, only(C_ELEMENT), fault)
 }
 
 /// A graph whose input rises and falls so many times, in one line.
@@ -148,12 +186,12 @@ fn a_line_of_a_million_rounds(rt: HostRuntime) -> Result<(), Fail> {
 #[test]
 fn one_state_too_many(rt: HostRuntime) -> Result<(), Fail> {
     let alloc = rt.alloc();
-    for (states, kind) in [(262_144, "NoEnd"), (262_145, "TooManyStates")] {
-        let graph = lone_states(alloc, states)?;
-        let fault = ("graph.sg", 262_147, kind);
-        expect_fault(&rt, alloc, &CHECK, only(graph.bytes()), fault)?;
-    }
-    Ok(())
+    let most = lone_states(alloc, 262_144)?;
+    let fault = ("graph.sg", 262_147, "NoEnd");
+    expect_fault(&rt, alloc, &CHECK, only(most.bytes()), fault)?;
+    let more = lone_states(alloc, 262_145)?;
+    let fault = ("graph.sg", 262_147, "TooManyStates");
+    expect_fault(&rt, alloc, &CHECK, only(more.bytes()), fault)
 }
 
 /// The calls that fail: the number of a load, and one put to the output and to the errors.
@@ -203,47 +241,47 @@ fn expect_while_failing(
     Ok(())
 }
 
-/// What is written of the C-element.
-const WRITTEN: &[u8] = b".version 2
-.model c2
-.inputs a b
-.outputs c
-.internal
-.inserted
-.start 000
-.gates
-c sum a b + b c + a c
-.end
-";
+/// Runs while loads or puts fail, and expects a refusal with nothing on `out`.
+fn expect_refusal(
+    rt: &impl Abort,
+    alloc: Global,
+    faults: Faults,
+    status: Status,
+    line: &[u8],
+) -> Result<(), Fail> {
+    let texts = with_cells(C_ELEMENT, FOUR_CELLS);
+    expect_while_failing(rt, alloc, &MAP, texts, faults, (status, b"", line))
+}
 
 #[test]
-fn loads_and_puts_that_fail(rt: HostRuntime) -> Result<(), Fail> {
+fn loads_that_fail(rt: HostRuntime) -> Result<(), Fail> {
     let alloc = rt.alloc();
-    let second_load = Faults {
-        load: 1,
-        ..NO_FAULTS
-    };
-    let unread = (
+    let mut faults = NO_FAULTS;
+    faults.load = 1;
+    expect_refusal(&rt, alloc, faults, Status::ReadFault, b"readfault c.net\n")?;
+    faults.load = 0;
+    expect_refusal(
+        &rt,
+        alloc,
+        faults,
         Status::ReadFault,
-        b"".as_slice(),
-        b"readfault c.net\n".as_slice(),
+        b"readfault graph.sg\n",
+    )?;
+    faults.err = first_put(0);
+    expect_refusal(&rt, alloc, faults, Status::ReadFault, b"")
+}
+
+#[test]
+fn puts_that_fail(rt: HostRuntime) -> Result<(), Fail> {
+    let alloc = rt.alloc();
+    let mut faults = NO_FAULTS;
+    faults.out = first_put(0);
+    expect_refusal(&rt, alloc, faults, Status::WriteFault, b"writefault\n")?;
+    faults.out = first_put(10);
+    let want = (
+        Status::WriteFault,
+        b".version 2".as_slice(),
+        b"writefault\n".as_slice(),
     );
-    let texts = with_cells(b"", FOUR_CELLS);
-    expect_while_failing(&rt, alloc, &MAP, texts, second_load, unread)?;
-    let puts: [(u64, &[u8]); 2] = [(0, b""), (NEVER, WRITTEN)];
-    for (taken, written) in puts {
-        let faults = Faults {
-            out: first_put(taken),
-            ..NO_FAULTS
-        };
-        let want = (Status::WriteFault, written, b"writefault\n".as_slice());
-        expect_while_failing(&rt, alloc, &SYNTH, only(C_ELEMENT), faults, want)?;
-    }
-    let silent = Faults {
-        load: 0,
-        err: first_put(0),
-        ..NO_FAULTS
-    };
-    let want = (Status::ReadFault, b"".as_slice(), b"".as_slice());
-    expect_while_failing(&rt, alloc, &SYNTH, only(C_ELEMENT), silent, want)
+    expect_while_failing(&rt, alloc, &SYNTH, only(C_ELEMENT), faults, want)
 }

@@ -6,8 +6,6 @@ mod hostile_tests;
 #[cfg(test)]
 mod replay_tests;
 #[cfg(test)]
-mod schedule_tests;
-#[cfg(test)]
 mod tests;
 
 use si_io::host::{HostShelf, HostSink};

@@ -1,23 +1,14 @@
-//! Partitions of the graphs that tests look at, and lineages of them.
+//! Partitions of the graphs that tests look at.
 
-ghost use Rattle.std.specs.Prelude.{IfOk, IfSome, IsTrue};
+ghost use Rattle.std.specs.Prelude.{IfOk, IfSome};
 ghost use Rattle.si_insert.specs.Accepted.{IsAccepted};
-ghost use Rattle.si_insert.specs.Lineage.{AllGiven};
 
-use crate::graphs::vme;
-use si_base::graph::Signal;
-use si_base::ids::NoMemory;
 use si_checks::proper::Proper;
 use si_insert::accept::{Accepted, Rejected, accept};
-use si_insert::fresh::fresh_name;
-use si_insert::lineage::Lineage;
 use si_insert::partition::{Class, Partition, Unlawful};
 use std::alloc::Global;
 use std::process::Abort;
 use std::test::Fail;
-
-/// The classes of the read cycle of a VME bus by which a signal rises at s6 and falls at s1.
-pub const VME_CLASSES: &[u8] = b"HFLLLLRHHHHHHH";
 
 /// The class that a letter stands for.
 fn class(letter: u8) -> Class {
@@ -73,44 +64,6 @@ pub fn accepted(
 {
     match judged(rt, alloc, graph, letters)? {
         (Some(accepted), _) => Ok(accepted),
-        (None, _) => Err(NoMemory)?,
+        (None, _) => Err("not accepted")?,
     }
-}
-
-/// Whether none of the signals is inserted.
-fn all_given(signals: &[Signal]) -> bool
-    ensures { IsTrue result → AllGiven signals.now }
-{
-    signals.iter().all(|x| !x.kind.is_inserted())
-}
-
-/// The lineage of the graph, with nothing inserted.
-pub fn started(rt: &impl Abort, alloc: Global, graph: Proper) -> Result<Lineage, Fail> {
-    assert!(rt; all_given(graph.coded().graph().signals()));
-    match Lineage::start(alloc, graph) {
-        Ok(lineage) => Ok(lineage),
-        Err((_graph, _no_memory)) => Err(NoMemory)?,
-    }
-}
-
-/// The lineage with one more insertion, by the partition of these letters.
-pub fn grown(
-    rt: &impl Abort,
-    alloc: Global,
-    lineage: Lineage,
-    letters: &[u8],
-) -> Result<Lineage, Fail> {
-    let graph = lineage.current();
-    let accepted = accepted(rt, alloc, graph, letters)?;
-    let name = fresh_name(alloc, graph.coded().graph(), b"csc")?;
-    match lineage.insert(alloc, accepted, name) {
-        Ok(lineage) => Ok(lineage),
-        Err(_) => Err(NoMemory)?,
-    }
-}
-
-/// The lineage of the VME read cycle with `csc0`, which rises at s6 and falls at s1.
-pub fn with_csc0(rt: &impl Abort, alloc: Global) -> Result<Lineage, Fail> {
-    let lineage = started(rt, alloc, vme(rt, alloc)?)?;
-    grown(rt, alloc, lineage, VME_CLASSES)
 }

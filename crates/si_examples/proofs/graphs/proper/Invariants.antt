@@ -1,8 +1,0 @@
-use Rattle.std.proofs.Common.{◌≡◌, ◌<◌, length, All}
-use Rattle.si_examples.proofs.graphs.proper.Given as goal
-
-abbrev pub invariant-loop-arc : goal.invariant-loop-arc
-invariant-loop-arc g l = record {
-  count : length l.edges.items ≡ l.arc-index;
-  within : All (λ a. (a.from < 16) × (a.event.sig < length l.signals.items) × (a.to < 16)) l.edges.items;
-}
