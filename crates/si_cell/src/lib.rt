@@ -10,6 +10,4 @@ pub mod library;
 pub mod limits;
 pub mod reader;
 mod sums;
-#[cfg(test)]
-mod tests;
 mod words;

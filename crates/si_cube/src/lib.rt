@@ -8,6 +8,4 @@ pub mod laws;
 mod needed;
 mod order;
 pub mod sum;
-#[cfg(test)]
-mod tests;
 pub mod write_sums;

@@ -12,5 +12,3 @@ pub mod partition_for;
 pub mod pins;
 mod settled;
 mod switching;
-#[cfg(test)]
-mod tests;

@@ -7,6 +7,12 @@ mod block_tests;
 #[cfg(test)]
 mod cell_tests;
 #[cfg(test)]
+mod cover_tests;
+#[cfg(test)]
+mod cube_tests;
+#[cfg(test)]
+mod divisor_call_tests;
+#[cfg(test)]
 mod divisor_tests;
 #[cfg(test)]
 mod graphs;
@@ -14,5 +20,7 @@ mod graphs;
 mod partition_tests;
 #[cfg(test)]
 mod partitions;
+#[cfg(test)]
+mod system_tests;
 #[cfg(test)]
 mod trial_tests;

@@ -5,5 +5,3 @@ mod arcs;
 pub mod handshakes;
 pub mod laws;
 mod names;
-#[cfg(test)]
-mod tests;

@@ -6,6 +6,4 @@ pub mod cover_listing;
 pub mod laws;
 mod numbers;
 pub mod region_listing;
-#[cfg(test)]
-mod tests;
 mod words;

@@ -7,5 +7,3 @@ mod header;
 mod insertions;
 pub mod laws;
 pub mod reader;
-#[cfg(test)]
-mod tests;

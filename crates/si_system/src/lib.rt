@@ -7,6 +7,4 @@ pub mod replay;
 pub mod schedule;
 mod step;
 pub mod system;
-#[cfg(test)]
-mod tests;
 pub mod verdict;

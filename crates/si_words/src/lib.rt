@@ -7,7 +7,5 @@ pub mod event_words;
 pub mod gate_lines;
 pub mod lists;
 pub mod rows;
-#[cfg(test)]
-mod tests;
 pub mod words;
 pub mod writing;

@@ -4,9 +4,6 @@ ghost use Rattle.std.specs.Prelude.{◌≡◌, ◌≢◌, ◌≤◌, ◌<◌, If
 ghost use Rattle.si_base.specs.Graph.{kind_place};
 ghost use Rattle.si_base.specs.Limits.{max_signals};
 
-use crate::conflict_listing::list_conflicts;
-use crate::cover_listing::list_covers;
-use crate::region_listing::list_regions;
 use si_base::graph::{Edge, SigKind, Signal};
 use si_base::ids::{Event, NoMemory, Sig, StateId};
 use si_base::names::Names;
@@ -14,6 +11,9 @@ use si_base::text::{Name, Text};
 use si_checks::proper::Proper;
 use si_graph::coded::Coded;
 use si_graph::graph::{Cut, Graph};
+use si_listings::conflict_listing::list_conflicts;
+use si_listings::cover_listing::list_covers;
+use si_listings::region_listing::list_regions;
 use std::alloc::Global;
 use std::process::Abort;
 use std::test::Fail;

@@ -1,7 +1,7 @@
 use Rattle.std.proofs.Common.{ap, sym, subst, ◌∙◌}
 use Rattle.si_base.specs.Codes.{CodedGraph, IsCoded}
 use Rattle.si_sg.specs.GivenGraph.{sg_now}
-use Rattle.si_handshakes.proofs.tests.checked.Goals as goal
+use Rattle.si_texts.proofs.handshakes_tests.checked.Goals as goal
 
 pub unreachable-requires : goal.unreachable-requires
 unreachable-requires c =

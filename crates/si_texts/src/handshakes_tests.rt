@@ -4,12 +4,12 @@ ghost use Rattle.std.specs.Prelude.{◌≡◌, ℕ, ◌<◌, ◌≤◌, ◌^◌,
 ghost use Rattle.si_base.specs.Proper.{HasNoConflict};
 ghost use Rattle.si_handshakes.specs.Handshakes.{max_handshakes};
 
-use crate::handshakes::handshakes;
-use crate::laws::handshakes_are_never_refused;
 use si_base::ids::{Code, NoMemory, StateId};
 use si_checks::distinct::{Distinct, NotDistinct};
 use si_checks::proper::{Improper, Proper};
 use si_graph::coded::{CodeFault, Coded};
+use si_handshakes::handshakes::handshakes;
+use si_handshakes::laws::handshakes_are_never_refused;
 use std::alloc::Global;
 use std::test::Fail;
 

@@ -1,15 +1,15 @@
 //! Words, lists of names, lines that are read and written, and gate lines, by examples.
 
-use crate::event_words::read_event;
-use crate::gate_lines::{cut_at, is_one};
-use crate::lists::{add_names, has, place_of};
-use crate::rows::{Rows, has_empty, is_nothing, names_row};
-use crate::words::{is_literal, is_name_byte, is_signal_name, literal_name};
-use crate::writing::{add_line, add_word};
 use si_base::fault::{TextFault, TextKind};
 use si_base::ids::{Event, Sig};
 use si_base::names::Names;
 use si_base::text::Text;
+use si_words::event_words::read_event;
+use si_words::gate_lines::{cut_at, is_one};
+use si_words::lists::{add_names, has, place_of};
+use si_words::rows::{Rows, has_empty, is_nothing, names_row};
+use si_words::words::{is_literal, is_name_byte, is_signal_name, literal_name};
+use si_words::writing::{add_line, add_word};
 use std::test::Fail;
 
 #[test]

@@ -1,9 +1,9 @@
 //! Each call once on its happy path.
 
-use crate::codes::{in_order, sum_of_codes};
-use crate::cube::Cube;
-use crate::sum::Sum;
 use si_base::ids::{Code, NoMemory, Sig};
+use si_cube::codes::{in_order, sum_of_codes};
+use si_cube::cube::Cube;
+use si_cube::sum::Sum;
 use std::test::Fail;
 
 #[test]

@@ -4,12 +4,12 @@ ghost use Rattle.std.specs.Prelude.{◌≡◌, ◌<◌, All, true};
 ghost use Rattle.si_base.specs.Limits.{code_width};
 ghost use Rattle.si_cell.specs.Library.{IsInstance};
 
-use crate::cell::{Instance, PinLiteral};
-use crate::expand::expand;
-use crate::library::Library;
-use crate::reader::read_library;
 use arrayvec::ArrayVec;
 use si_base::ids::{Code, Literal, Sig};
+use si_cell::cell::{Instance, PinLiteral};
+use si_cell::expand::expand;
+use si_cell::library::Library;
+use si_cell::reader::read_library;
 use si_cube::cube::Cube;
 use std::test::Fail;
 

@@ -4,8 +4,6 @@ ghost use Rattle.std.specs.Prelude.{◌≡◌, ◌<◌, All, IfOk, true};
 ghost use Rattle.si_base.specs.Limits.{code_width};
 ghost use Rattle.si_cell.specs.Library.{IsInstance};
 
-use crate::fault::NoPartition;
-use crate::partition_for::{partition_for, partition_if};
 use arrayvec::ArrayVec;
 use si_base::graph::{Edge, SigKind, Signal};
 use si_base::ids::{Event, Literal, NoMemory, Sig, StateId};
@@ -14,6 +12,8 @@ use si_cell::cell::{Instance, PinLiteral};
 use si_cell::library::Library;
 use si_cell::reader::read_library;
 use si_checks::proper::Proper;
+use si_divisor::fault::NoPartition;
+use si_divisor::partition_for::{partition_for, partition_if};
 use si_graph::coded::Coded;
 use si_graph::graph::{Cut, Graph};
 use si_insert::partition::{Class, Partition};

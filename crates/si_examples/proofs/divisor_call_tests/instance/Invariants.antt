@@ -1,6 +1,6 @@
 use Rattle.std.proofs.Common.{◌≡◌, ◌<◌, length, All}
 use Rattle.si_base.specs.Limits.{code_width}
-use Rattle.si_divisor.proofs.tests.instance.Given as goal
+use Rattle.si_examples.proofs.divisor_call_tests.instance.Given as goal
 
 abbrev pub invariant-loop-literal : goal.invariant-loop-literal
 invariant-loop-literal g l = record {

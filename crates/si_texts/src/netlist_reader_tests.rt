@@ -1,10 +1,10 @@
 //! Netlist texts that are read and written back, and the line and kind of each fault.
 
-use crate::reader::read_netlist;
 use si_base::fault::{TextFault, TextKind};
 use si_base::ids::NoMemory;
 use si_base::text::Text;
 use si_netlist::write::write_netlist;
+use si_netlist_reader::reader::read_netlist;
 use std::alloc::Global;
 use std::test::Fail;
 

@@ -2,9 +2,6 @@
 
 ghost use Rattle.std.specs.Prelude.{◌≡◌, IfOk, length};
 
-use crate::replay::{Outcome, replay};
-use crate::system::{ListsDiffer, System};
-use crate::verdict::Verdict;
 use si_base::graph::{Edge, SigKind, Signal};
 use si_base::ids::{Code, Event, NoMemory, Sig, StateId};
 use si_base::text::Name;
@@ -13,6 +10,9 @@ use si_graph::coded::Coded;
 use si_graph::graph::Graph;
 use si_netlist::gate::Gate;
 use si_netlist::netlist::Netlist;
+use si_system::replay::{Outcome, replay};
+use si_system::system::{ListsDiffer, System};
+use si_system::verdict::Verdict;
 use std::alloc::Global;
 use std::test::Fail;
 

@@ -2,7 +2,7 @@ use Rattle.std.proofs.Common.{◌<◌, lit<, List, [], ◌∷◌, All}
 use Rattle.std.proofs.lemmas.List.Elements.{All-from_recursion}
 use Rattle.si_base.specs.declared.graph.Edge.{Edge}
 use Rattle.si_base.specs.Graph.{arc, rise, fall}
-use Rattle.si_system.proofs.tests.toggle.Goals as goal
+use Rattle.si_examples.proofs.system_tests.toggle.Goals as goal
 
 abbrev arcs : List Edge
 arcs = arc 0 (fall 0) 1 ∷ arc 1 (rise 0) 0 ∷ []

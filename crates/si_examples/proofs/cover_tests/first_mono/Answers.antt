@@ -3,7 +3,7 @@ use Rattle.si_base.specs.Codes.{CodedGraph}
 use Rattle.si_checks.specs.Lent.{lent_graph}
 use Rattle.si_regions.specs.declared.regions.Region.{Region}
 use Rattle.si_regions.specs.Regions.{IsRegion}
-use Rattle.si_cover.proofs.tests.first_mono.Goals as goal
+use Rattle.si_examples.proofs.cover_tests.first_mono.Goals as goal
 
 pub mono-requires : goal.mono-requires
 mono-requires c =
