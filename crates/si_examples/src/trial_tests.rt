@@ -1,6 +1,6 @@
 //! Trial insertions of two graphs.
 
-ghost use Rattle.std.specs.Prelude.{◌≡◌};
+ghost use Rattle.std.specs.Prelude.{◌≡◌, ◌<◌};
 ghost use Rattle.si_conflicts.specs.Chains.{AreChains};
 
 use crate::graphs::{PULSES, VME, proper};
@@ -38,13 +38,15 @@ fn expect_left(
     letters: &[u8],
     n: u64,
 ) -> Result<(), Fail>
-    requires { AreChains graph.now chains.old }
+    requires chains { AreChains graph.now chains.old }
+    requires small { n < 1000 }
     ensures { chains.new ≡ chains.old }
 {
     let accepted = accepted(rt, alloc, graph, letters)?;
     assert_eq!(rt; chains.trial(alloc, graph, &accepted)?, n);
     let classes = accepted.partition().classes();
     assert_eq!(rt; chains.trial_below(alloc, graph, classes, n)?, None);
+    assert_eq!(rt; chains.trial_below(alloc, graph, classes, n + 1)?, Some(n));
     Ok(())
 }
 
@@ -63,5 +65,6 @@ fn trials_count_conflicts_left(rt: HostRuntime) -> Result<(), Fail> {
     let alloc = rt.alloc();
     let graph = proper(alloc, PULSES)?;
     let mut chains = CodeChains::new(alloc, &graph)?;
-    expect_left(&rt, alloc, &graph, &mut chains, b"LLRHHF", 2)
+    expect_left(&rt, alloc, &graph, &mut chains, b"LLRHHF", 2)?;
+    expect_left(&rt, alloc, &graph, &mut chains, b"LRRHFF", 2)
 }
