@@ -6,6 +6,7 @@ use Rattle.si_base.specs.Graph.{StateGraph, IsGraph}
 use Rattle.si_base.specs.Sets.{IsIn}
 use Rattle.si_base.proofs.StepFacts.{step_within}
 use Rattle.si_graph.specs.declared.closure.Along.TheVariants.{OutWithout}
+use Rattle.si_graph.specs.Closure.{IsNext}
 use Rattle.si_graph.proofs.MarkLemmas.{in_below}
 use Rattle.si_regions.specs.Searching.{IsReachedIn, IsSeed}
 use Rattle.si_regions.proofs.SetsExist.{same_bit, listed, some_set, some_marks, some_reached}
