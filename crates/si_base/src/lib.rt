@@ -11,7 +11,5 @@ pub mod lines;
 pub mod names;
 pub mod order;
 pub mod sets;
-#[cfg(test)]
-mod tests;
 pub mod text;
 pub mod text_key;

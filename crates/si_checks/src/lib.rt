@@ -9,5 +9,3 @@ pub mod laws;
 mod losses;
 pub mod proper;
 mod squares;
-#[cfg(test)]
-mod tests;

@@ -13,7 +13,5 @@ mod reach;
 mod renaming;
 pub mod search;
 mod spread;
-#[cfg(test)]
-mod tests;
 mod values;
 pub mod word_search;

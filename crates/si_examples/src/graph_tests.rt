@@ -3,15 +3,15 @@
 
 ghost use Rattle.std.specs.Prelude.{◌≡◌, IfOk, length};
 
-use crate::arc_store::EdgeId;
-use crate::closure::{Along, closure};
-use crate::coded::{CodeFault, Coded};
-use crate::graph::Graph;
-use crate::word_search::closures;
 use si_base::graph::{Edge, SigKind, Signal};
 use si_base::ids::{Code, Event, NoMemory, Sig, StateId};
 use si_base::sets::StateSet;
 use si_base::text::Name;
+use si_graph::arc_store::EdgeId;
+use si_graph::closure::{Along, closure};
+use si_graph::coded::{CodeFault, Coded};
+use si_graph::graph::Graph;
+use si_graph::word_search::closures;
 use std::alloc::Global;
 use std::process::Abort;
 use std::test::Fail;

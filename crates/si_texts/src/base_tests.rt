@@ -2,14 +2,14 @@
 
 ghost use Rattle.std.specs.Prelude.{◌≡◌, IfOk, length};
 
-use crate::fault::{LineFault, TextFault, TextKind, at_line};
-use crate::graph::Edge;
-use crate::ids::{Code, Event, Literal, NoMemory, Sig, StateId};
-use crate::lines::{Lines, Words, has_bad_byte};
-use crate::names::{AddFault, Names};
-use crate::sets::StateSet;
-use crate::text::{Name, Text};
-use crate::text_key::TextKey;
+use si_base::fault::{LineFault, TextFault, TextKind, at_line};
+use si_base::graph::Edge;
+use si_base::ids::{Code, Event, Literal, NoMemory, Sig, StateId};
+use si_base::lines::{Lines, Words, has_bad_byte};
+use si_base::names::{AddFault, Names};
+use si_base::sets::StateSet;
+use si_base::text::{Name, Text};
+use si_base::text_key::TextKey;
 use std::alloc::Global;
 use std::hash::{BuildHasher, Hasher};
 use std::process::Abort;

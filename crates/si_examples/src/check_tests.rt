@@ -2,11 +2,11 @@
 
 ghost use Rattle.std.specs.Prelude.{◌≡◌, IfOk};
 
-use crate::distinct::{Distinct, NotDistinct};
-use crate::proper::{Improper, Proper};
 use si_base::graph::{Edge, SigKind, Signal};
 use si_base::ids::{Event, NoMemory, Sig, StateId};
 use si_base::text::Name;
+use si_checks::distinct::{Distinct, NotDistinct};
+use si_checks::proper::{Improper, Proper};
 use si_graph::coded::Coded;
 use si_graph::graph::{Cut, Graph};
 use std::alloc::Global;
