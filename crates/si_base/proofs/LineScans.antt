@@ -1,7 +1,7 @@
 -- How far a scan of a line goes: to a byte, to the first bad byte or the comment.
-use Rattle.std.proofs.Common.{◌≡◌, ℕ, ◌+◌, ◌<◌, ◌≤◌, ◌==◌, Bool, true, false, not, ◌&&◌, refl, sym, ap, ◌∙◌, arith, inl, inr, List, length, take, get_or, All, ne_eqb}
+use Rattle.std.proofs.Common.{◌≡◌, ℕ, ◌<◌, ◌≤◌, ◌==◌, Bool, true, false, not, ◌&&◌, refl, sym, ap, ◌∙◌, arith, inl, inr, List, length, take, get_or}
 use Rattle.std.specs.List.{prefix_len, list_any}
-use Rattle.std.proofs.lemmas.Bool.{cases_eq, cases_lt, cases_Bool, true≢false, and_parts, not-true}
+use Rattle.std.proofs.lemmas.Bool.{cases_lt, cases_Bool, true≢false, and_parts, not-true}
 use Rattle.std.proofs.lemmas.List.{get_or-take, length-take}
 use Rattle.std.proofs.lemmas.List.Elements.{All-from_get_or}
 use Rattle.std.proofs.lemmas.List.Folds.{list_any_at, list_any_none}
@@ -76,12 +76,14 @@ module _ (line : List ℕ) (n : ℕ) (scanned : n ≡ prefix_len is_clean line) 
       let bad = bad_where_stopped (get_or line n 0) (stopped more) plain in
       let past : n < m = elim (cases_lt n m) [
         | inl before ↦ before
-        | inr comment ↦ absurd (true≢false (sym (passes_to comment) ∙ prefix_len_stops (other_than 35) line 0 (omega (arith, comment, more))))
+        | inr comment ↦ absurd (true≢false (sym (passes_to comment) ∙ prefix_len_stops (other_than 35) line 0
+            (omega (arith, comment, more))))
       ] in
       let kept : n < length (take m line) = omega (arith, past, more, length-take m line) in
       list_any_at is_bad (take m line) n 0 kept (ap is_bad (get_or-take m line n 0 past) ∙ bad)
     where
-      passes_to : prefix_len (other_than 35) line ≤ n → other_than 35 (get_or line (prefix_len (other_than 35) line) 0) ≡ true
+      passes_to : prefix_len (other_than 35) line ≤ n
+          → other_than 35 (get_or line (prefix_len (other_than 35) line) 0) ≡ true
       passes_to comment = elim (cases_lt (prefix_len (other_than 35) line) n) [
         | inl early ↦ (clean_before (prefix_len (other_than 35) line) early).0
         | inr late ↦

@@ -1,5 +1,5 @@
 -- Sets of states whose flags stand 64 to a word.
-use Rattle.std.proofs.Common.{◌≡◌, ℕ, zero, suc, mod-lt, ◌↔◌, IsTrue, ◌+◌, ◌*◌, ◌/◌, ◌%◌, ◌^◌, ◌<◌, ◌≤◌, ◌==◌, Bool, true, false, cond, ◌||◌, ◌&&◌, ◌⊎◌, ◌-◌, refl, sym, ap, subst, ◌∙◌, arith, inl, inr, List, length, map, get_or, set, replicate, count_by, count_ones, bit_or, bit_and}
+use Rattle.std.proofs.Common.{◌≡◌, ℕ, zero, suc, mod-lt, ◌↔◌, IsTrue, ◌+◌, ◌*◌, ◌/◌, ◌%◌, ◌^◌, ◌<◌, ◌≤◌, ◌==◌, Bool, true, false, cond, ◌||◌, ◌&&◌, ◌⊎◌, ◌-◌, refl, sym, ap, ◌∙◌, arith, inl, inr, List, length, map, get_or, set, replicate, count_by, count_ones, bit_or, bit_and}
 use Rattle.std.specs.List.{range_with_len}
 use Rattle.std.specs.Int.{bit_at, w64}
 use Rattle.std.specs.Int.Count.{count_trailing_zeros}
@@ -26,7 +26,8 @@ pub flags_by : (n : ℕ) (words : List ℕ) (flags : List Bool) → length flags
 flags_by n words flags size each = sym (fill_by_all (flag words) flags n false size each)
 
 -- also past the last state
-pub flag_told : (n : ℕ) (words : List ℕ) (s : ℕ) → HasNoFlagFrom words n → get_or (flags_of n words) s false ≡ flag words s
+pub flag_told : (n : ℕ) (words : List ℕ) (s : ℕ) → HasNoFlagFrom words n
+    → get_or (flags_of n words) s false ≡ flag words s
 flag_told n words s no_more = elim (cases_lt s n) [
   | inl within ↦ flag_read n words s within
   | inr past ↦
@@ -137,15 +138,27 @@ set_seen n s t v old new flags view same within is =
 pub bit_of_or : (a b i : ℕ) → bit (bit_or a b) i ≡ (bit a i || bit b i)
 bit_of_or a b i =
     elim (below_two (bit_at a i) (bit_at-lt a i)) [
-      | inl a0 ↦ elim (below_two (bit_at b i) (bit_at-lt b i)) [ inl b0 ↦ rw (bit_at_or, a0, b0) refl | inr b1 ↦ rw (bit_at_or, a0, b1) refl ]
-      | inr a1 ↦ elim (below_two (bit_at b i) (bit_at-lt b i)) [ inl b0 ↦ rw (bit_at_or, a1, b0) refl | inr b1 ↦ rw (bit_at_or, a1, b1) refl ]
+      | inl a0 ↦ elim (below_two (bit_at b i) (bit_at-lt b i)) [
+        | inl b0 ↦ rw (bit_at_or, a0, b0) refl
+        | inr b1 ↦ rw (bit_at_or, a0, b1) refl
+      ]
+      | inr a1 ↦ elim (below_two (bit_at b i) (bit_at-lt b i)) [
+        | inl b0 ↦ rw (bit_at_or, a1, b0) refl
+        | inr b1 ↦ rw (bit_at_or, a1, b1) refl
+      ]
     ]
 
 pub bit_of_and : (a b i : ℕ) → bit (bit_and a b) i ≡ (bit a i && bit b i)
 bit_of_and a b i =
     elim (below_two (bit_at a i) (bit_at-lt a i)) [
-      | inl a0 ↦ elim (below_two (bit_at b i) (bit_at-lt b i)) [ inl b0 ↦ rw (bit_at_and, a0, b0) refl | inr b1 ↦ rw (bit_at_and, a0, b1) refl ]
-      | inr a1 ↦ elim (below_two (bit_at b i) (bit_at-lt b i)) [ inl b0 ↦ rw (bit_at_and, a1, b0) refl | inr b1 ↦ rw (bit_at_and, a1, b1) refl ]
+      | inl a0 ↦ elim (below_two (bit_at b i) (bit_at-lt b i)) [
+        | inl b0 ↦ rw (bit_at_and, a0, b0) refl
+        | inr b1 ↦ rw (bit_at_and, a0, b1) refl
+      ]
+      | inr a1 ↦ elim (below_two (bit_at b i) (bit_at-lt b i)) [
+        | inl b0 ↦ rw (bit_at_and, a1, b0) refl
+        | inr b1 ↦ rw (bit_at_and, a1, b1) refl
+      ]
     ]
 
 -- each word has the bits of both
@@ -228,7 +241,8 @@ words_within words others fit others_fit are k =
           let told : bit a i ≡ true → bit b i ≡ true = λ set.
           place others k i low ∙ are (64 * k + i) (sym (place words k i low) ∙ set) in
           bit_of_or a b i ∙ or_within (bit a i) (bit b i) told
-      | inr past ↦ bit_past (bit_or a b) i (or_lt 64 a b (fit k) (others_fit k)) past ∙ sym (bit_past b i (others_fit k) past)
+      | inr past ↦ bit_past (bit_or a b) i (or_lt 64 a b (fit k) (others_fit k)) past
+          ∙ sym (bit_past b i (others_fit k) past)
     ])
 
 and_both : (a b : Bool) → a ≡ true → b ≡ true → (a && b) ≡ true
@@ -315,13 +329,15 @@ pub disjoint_seen : (n : ℕ) (words others : List ℕ) (one other : List Bool) 
 disjoint_seen n words others one other r shown other_shown is = (
   λ holds s inside also. is.0 holds s (sym (told n words one shown s) ∙ inside)
       (sym (told n others other other_shown s) ∙ also),
-  λ disjoint. is.1 (λ s set also. disjoint s (told n words one shown s ∙ set) (told n others other other_shown s ∙ also)),
+  λ disjoint. is.1 (λ s set also. disjoint s (told n words one shown s ∙ set)
+      (told n others other other_shown s ∙ also)),
 )
 
 pub none_seen : (n s t : ℕ) (words slice : List ℕ) (flags : List Bool) → slice ≡ words → Shows n words flags → s ≡ t
     → HasNoFlagFrom slice s → HasNoneFrom flags t
 none_seen n s t words slice flags same shown at none u late inside =
-    true≢false (sym inside ∙ told n words flags shown u ∙ ap (λ l. flag l u) (sym same) ∙ none u (omega (arith, at, late)))
+    true≢false (sym inside ∙ told n words flags shown u ∙ ap (λ l. flag l u) (sym same)
+    ∙ none u (omega (arith, at, late)))
 
 pub first_seen : (n s t u : ℕ) (words slice : List ℕ) (flags : List Bool) → slice ≡ words → Shows n words flags → s ≡ t
     → IsFirstFlag slice s u → IsFirstFrom flags t u
@@ -407,7 +423,13 @@ tail_counted words n zero none =
 tail_counted words n (suc m) none =
     let last : n + suc m ≡ n + m + 1 = omega arith in
     let nothing : weight (flag words (n + m)) ≡ 0 = ap weight (none (n + m) (omega arith)) in
-    omega (arith, ap (count_below (flag words)) last, count_more (flag words) (n + m), tail_counted words n m none, nothing)
+    omega (
+      arith,
+      ap (count_below (flag words)) last,
+      count_more (flag words) (n + m),
+      tail_counted words n m none,
+      nothing,
+    )
 
 pub all_counted : (n : ℕ) (words : List ℕ) → length words ≡ (n + 63) / 64 → HasNoFlagFrom words n
     → set_count (flags_of (64 * length words) words) ≡ set_count (flags_of n words)

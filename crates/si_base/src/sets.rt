@@ -152,7 +152,8 @@ fn are_apart(words: &[u64], others: &[u64]) -> bool
 fn first_set(words: &[u64], from: usize) -> Option<usize>
     requires few { length words.now < 2 ^ 32 }
     requires low { from < 2 ^ 32 }
-    ensures { MatchOption result (HasNoFlagFrom words.now from) (λ t. IsFirstFlag words.now from t) }
+    ensures { MatchOption result (HasNoFlagFrom words.now from)
+        (λ t. IsFirstFlag words.now from t) }
 {
     let mut at = from;
     while at / 64 < words.len() {

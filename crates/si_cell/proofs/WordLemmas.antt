@@ -1,9 +1,9 @@
 -- Words, and parts of words, that are borrowed.
-use Rattle.std.proofs.Common.{◌≡◌, ℕ, Bool, false, List, [], ◌∷◌, map, refl, ap, ◌∙◌, Bor, Vec, Global, Result, Ok, Err, IfOk, codes, bytes_eq}
+use Rattle.std.proofs.Common.{◌≡◌, ℕ, Bool, false, List, [], ◌∷◌, map, refl, ap, ◌∙◌, Bor, codes, bytes_eq}
 use Rattle.std.specs.List.{list_all, slice_split}
 use Rattle.si_words.proofs.SumWordLemmas.{slice_split-map}
-use Rattle.si_words.specs.Reads.{words_now, parts_now}
-use Rattle.si_words.specs.Sums.{is_one, is_cube, is_sum, parts_at}
+use Rattle.si_words.specs.Reads.{words_now}
+use Rattle.si_words.specs.Sums.{is_one, is_cube, is_sum}
 
 pub list_all-map : {A B : Type 0} (f : A → B) (p : B → Bool) (xs : List A)
     → list_all (λ x. p (f x)) xs ≡ list_all p (map f xs)
@@ -16,14 +16,3 @@ pub is_sum_at : (words : List (Bor (List ℕ))) (r : Bool) → is_one (codes "0"
 is_sum_at words r one all = rw one (all
     ∙ list_all-map words_now is_cube (slice_split (λ (w : Bor (List ℕ)). bytes_eq (codes "+") w.now) words)
     ∙ ap (list_all is_cube) (slice_split-map (λ (w : Bor (List ℕ)). w.now) (bytes_eq (codes "+")) words))
-
-pub parts_ok : {E : Type 0} (words : List (Bor (List ℕ))) (r : Result (Vec (Bor (List (Bor (List ℕ)))) Global) E)
-    → IfOk r (λ v. map (λ p. p.now) v.items ≡ slice_split (λ w. bytes_eq (codes "+") w.now) words)
-    → IfOk r (λ v. parts_now v.items ≡ parts_at (codes "+") (words_now words))
-parts_ok words (Err e) kept = tt
-parts_ok words (Ok v) kept = both v.items ∙ ap (map words_now) kept
-    ∙ slice_split-map (λ (w : Bor (List ℕ)). w.now) (bytes_eq (codes "+")) words
-  where
-    both : (ps : List (Bor (List (Bor (List ℕ))))) → parts_now ps ≡ map words_now (map (λ p. p.now) ps)
-    both [] = refl
-    both (p ∷ ps) = ap (λ l. words_now p.now ∷ l) (both ps)

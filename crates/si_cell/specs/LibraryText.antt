@@ -1,10 +1,11 @@
 -- The text of a library: its first fault, and the library that a text without one spells.
-use Rattle.std.specs.Prelude.{ℕ, ◌+◌, not, Bool, false, List, [], ◌∷◌, ◌++◌, length, map, bytes_eq, codes, if◌then◌else◌, Option, Some, None}
+use Rattle.std.specs.Prelude.{ℕ, not, Bool, false, List, [], ◌∷◌, ◌++◌, map, bytes_eq, codes, if◌then◌else◌, Option, Some, None}
 use Rattle.si_base.specs.declared.fault.TextKind.{TextKind}
 use Rattle.si_base.specs.declared.fault.TextKind.TheVariants.{BadByte, BadLine, BadName, NoEnd}
 use Rattle.si_base.specs.Faults.{when, ◌otherwise◌, at_line}
-use Rattle.si_base.specs.Lines.{Line, lines_of, numbered, words_in, before_comment, has_bad_byte}
+use Rattle.si_base.specs.Lines.{Line, numbered, words_in, before_comment, has_bad_byte}
 use Rattle.si_base.specs.Words.{is_signal_name}
+use Rattle.si_words.specs.Ends.{after_last}
 use Rattle.si_words.specs.Sums.{is_empty}
 use Rattle.si_cell.specs.CellWords.{CellWords, cell_words, cell_fault, cell_of}
 use Rattle.si_cell.specs.Library.{Cell, Library}
@@ -94,10 +95,6 @@ library_in (line ∷ lines) =
     else record { name = name_in (words line.1); cells = cells_in [] lines }
 
 -- ---- the text
-
--- the number of the line after the last
-abbrev pub after_last : List ℕ → ℕ
-after_last text = length (lines_of text) + 1
 
 -- the first fault of the text
 abbrev pub library_fault : List ℕ → Option (ℕ × TextKind)

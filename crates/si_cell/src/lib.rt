@@ -3,7 +3,6 @@
 
 pub mod cell;
 mod cell_reader;
-mod ends;
 pub mod expand;
 pub mod laws;
 pub mod library;

@@ -6,17 +6,18 @@ ghost use Rattle.si_base.specs.Words.{is_signal_name};
 ghost use Rattle.si_words.specs.Reads.{words_now};
 ghost use Rattle.si_words.specs.Sums.{is_empty};
 ghost use Rattle.si_cell.specs.Library.{AreCells};
+ghost use Rattle.si_words.specs.Ends as text_ends;
 ghost use Rattle.si_cell.specs.LibraryText as library_text;
 ghost use Rattle.si_cell.specs.Reads.{ReadsName};
 
 use crate::cell::Cell;
 use crate::cell_reader::read_cell;
-use crate::ends::after_last;
 use crate::library::Library;
 use crate::words::{cell_words, is_end, words_of};
 use si_base::fault::{LineFault, TextFault, TextKind, at_line};
 use si_base::lines::{Lines, has_bad_byte};
 use si_base::text::Name;
+use si_words::ends::after_last;
 use si_words::words::is_signal_name;
 use std::alloc::Global;
 
@@ -61,9 +62,9 @@ fn name_of_line(alloc: Global, line: &[u8]) -> Result<Option<Name>, LineFault>
 /// The name of the library. The lines up to the one that names it are taken.
 fn read_name(alloc: Global, text: &[u8], lines: &mut Lines<'_>) -> Result<Name, TextFault>
     ensures ok { IfOk result
-        (λ name. ReadsName (library_text.after_last text.now) lines.old lines.new name) }
+        (λ name. ReadsName (text_ends.after_last text.now) lines.old lines.new name) }
     ensures err { ToldBy result
-        (library_text.lines_fault (library_text.after_last text.now) lines.old) }
+        (library_text.lines_fault (text_ends.after_last text.now) lines.old) }
 {
     while let Some(line) = lines.next_line() {
         match name_of_line(alloc, line.bytes) {
@@ -109,7 +110,7 @@ fn add_line(alloc: Global, cells: &mut Vec<Cell>, line: &[u8]) -> Result<bool, L
 /// The cells of these lines, up to `.end`.
 fn read_cells(alloc: Global, text: &[u8], lines: &mut Lines<'_>) -> Result<Vec<Cell>, TextFault>
     ensures gives { Gives (λ cells. cells.items) result
-        (library_text.cell_lines_fault (library_text.after_last text.now) [] lines.old)
+        (library_text.cell_lines_fault (text_ends.after_last text.now) [] lines.old)
         (library_text.cells_in [] lines.old) }
     ensures cells { IfOk result (λ cells. AreCells cells.items) }
 {

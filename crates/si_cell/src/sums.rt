@@ -6,13 +6,12 @@ ghost use Rattle.si_words.specs.Reads.{words_now};
 ghost use Rattle.si_cell.specs.CellWords.{cube_fault, cube_of, sum_fault, sum_of};
 ghost use Rattle.si_cell.specs.Limits.{max_pins};
 
-use crate::words::parts_of;
 use si_base::fault::{LineFault, TextKind};
 use si_base::ids::{Code, Sig};
 use si_base::names::Names;
 use si_cube::cube::Cube;
 use si_cube::sum::Sum;
-use si_words::gate_lines::is_one;
+use si_words::gate_lines::{is_one, parts_of};
 use si_words::lists::place_of;
 use si_words::words::literal_name;
 use std::alloc::Global;

@@ -1,8 +1,8 @@
 //! The words of library lines.
 
-ghost use Rattle.std.specs.Prelude.{◌≡◌, ℕ, ◌≤◌, ◌++◌, List, length, IfOk, option_map, codes, not};
+ghost use Rattle.std.specs.Prelude.{◌≡◌, ℕ, ◌≤◌, ◌++◌, List, length, IfOk, option_map, not};
 ghost use Rattle.std.specs.List.{list_all};
-ghost use Rattle.si_words.specs.Reads.{words_now, parts_now};
+ghost use Rattle.si_words.specs.Reads.{words_now};
 ghost use Rattle.si_words.specs.Sums as sums;
 ghost use Rattle.si_words.specs.Names as names;
 ghost use Rattle.si_cell.specs.CellWords as cell;
@@ -13,7 +13,7 @@ use si_base::ids::NoMemory;
 use si_base::lines::Words;
 use si_words::gate_lines::{cut_at, is_one};
 use si_words::words::is_literal;
-use std::alloc::{AllocError, Global};
+use std::alloc::Global;
 
 /// The words of a line up to its comment.
 pub(crate) fn words_of<'a>(alloc: Global, line: &'a [u8]) -> Result<Vec<&'a [u8]>, NoMemory>
@@ -99,15 +99,4 @@ pub(crate) fn is_cell_sum(words: &[&[u8]]) -> bool
     ensures { result ≡ cell.is_cell_sum (words_now words.now) }
 {
     is_sum(words) && !has_word(words, b"q'")
-}
-
-/// The words between the words `+`.
-pub(crate) fn parts_of<'s, 'a>(
-    alloc: Global,
-    words: &'s [&'a [u8]],
-) -> Result<Vec<&'s [&'a [u8]]>, AllocError>
-    ensures { IfOk result
-        (λ parts. parts_now parts.items ≡ sums.parts_at (codes "+") (words_now words.now)) }
-{
-    words.split(|w| b"+".as_slice() == *w).collect(alloc)
 }

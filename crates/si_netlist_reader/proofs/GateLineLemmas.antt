@@ -41,14 +41,3 @@ pub take_mapped : {B : Type 0} (f : List ℕ → B) (ws : List (Bor (List ℕ)))
     → new ≡ before ++ f (get_or ws i d).now ∷ [] → new ≡ map f (take (i + 1) (words_now ws))
 take_mapped f ws i d before new within so_far is = is ∙ ap (λ b. b ++ f (get_or ws i d).now ∷ []) so_far
     ∙ sym (ap (map f) (take_word ws i d within) ∙ map_push f (take i (words_now ws)) (get_or ws i d).now)
-
-pub parts_ok : {E : Type 0} (words : List (Bor (List ℕ))) (r : Result (Vec (Bor (List (Bor (List ℕ)))) Global) E)
-    → IfOk r (λ v. map (λ p. p.now) v.items ≡ slice_split (λ w. bytes_eq (codes "+") w.now) words)
-    → IfOk r (λ v. parts_now v.items ≡ parts_at (codes "+") (words_now words))
-parts_ok words (Err e) kept = tt
-parts_ok words (Ok v) kept = both v.items ∙ ap (map words_now) kept
-    ∙ slice_split-map (λ (w : Bor (List ℕ)). w.now) (bytes_eq (codes "+")) words
-  where
-    both : (ps : List (Bor (List (Bor (List ℕ))))) → parts_now ps ≡ map words_now (map (λ p. p.now) ps)
-    both [] = refl
-    both (p ∷ ps) = ap (λ l. words_now p.now ∷ l) (both ps)

@@ -5,7 +5,7 @@ ghost use Rattle.std.specs.List.{list_all};
 ghost use Rattle.si_base.specs.Limits.{max_signals};
 ghost use Rattle.si_base.specs.Faults.{◌otherwise◌, first_in};
 ghost use Rattle.si_words.specs.GateLines as gates;
-ghost use Rattle.si_words.specs.Reads.{words_now, parts_now};
+ghost use Rattle.si_words.specs.Reads.{words_now};
 ghost use Rattle.si_words.specs.Sums as sums;
 ghost use Rattle.si_base.specs.Netlist as base;
 ghost use Rattle.si_netlist_reader.specs.Headers.{gate_in};
@@ -20,10 +20,10 @@ use si_base::text::Name;
 use si_cube::cube::Cube;
 use si_cube::sum::Sum;
 use si_netlist::gate::Gate;
-use si_words::gate_lines::{cut_at, is_one};
+use si_words::gate_lines::{cut_at, is_one, parts_of};
 use si_words::lists::place_of;
 use si_words::words::{is_signal_name, literal_name};
-use std::alloc::{AllocError, Global};
+use std::alloc::Global;
 
 /// The literal of a word.
 fn read_literal(signals: &Names, word: &[u8]) -> Option<Result<Literal, TextKind>>
@@ -94,14 +94,6 @@ fn first_fault(earlier: Option<TextKind>, later: TextKind) -> TextKind
     ensures { Some result ≡ (earlier otherwise Some later) }
 {
     earlier.unwrap_or(later)
-}
-
-/// The words between the words `+`.
-fn parts_of<'s, 'a>(alloc: Global, words: &'s [&'a [u8]]) -> Result<Vec<&'s [&'a [u8]]>, AllocError>
-    ensures { IfOk result
-        (λ parts. parts_now parts.items ≡ sums.parts_at (codes "+") (words_now words.now)) }
-{
-    words.split(|w| b"+".as_slice() == *w).collect(alloc)
 }
 
 /// The sum of words: `0`, or cubes with `+` between them.

@@ -7,3 +7,4 @@ pub mod WritingLemmas
 pub mod NameLemmas
 pub mod FaultLemmas
 pub mod EndLemmas
+pub mod PartLemmas

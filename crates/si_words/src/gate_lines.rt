@@ -1,9 +1,11 @@
 //! Words of gate lines: a word alone, and the words on both sides of a mark.
 
-ghost use Rattle.std.specs.Prelude.{◌≡◌, ℕ, List, option_map, length, ◌≤◌, not, bytes_eq};
+ghost use Rattle.std.specs.Prelude.{◌≡◌, ℕ, List, option_map, length, ◌≤◌, not, bytes_eq, codes, IfOk};
 ghost use Rattle.std.specs.List.{prefix_len};
-ghost use Rattle.si_words.specs.Reads.{words_now, both_now};
+ghost use Rattle.si_words.specs.Reads.{words_now, both_now, parts_now};
 ghost use Rattle.si_words.specs.Sums as sums;
+
+use std::alloc::{AllocError, Global};
 
 /// Whether the words are this word alone.
 pub fn is_one(word: &[u8], words: &[&[u8]]) -> bool
@@ -44,4 +46,15 @@ pub fn cut_at<'s, 'a>(
     } else {
         None
     }
+}
+
+/// The words between the words `+`, each run of them one cube of a sum.
+pub fn parts_of<'s, 'a>(
+    alloc: Global,
+    words: &'s [&'a [u8]],
+) -> Result<Vec<&'s [&'a [u8]]>, AllocError>
+    ensures { IfOk result
+        (λ parts. parts_now parts.items ≡ sums.parts_at (codes "+") (words_now words.now)) }
+{
+    words.split(|w| b"+".as_slice() == *w).collect(alloc)
 }

@@ -1,4 +1,4 @@
-use Rattle.std.proofs.Common.{◌≡◌, ℕ, ◌<◌, ◌≤◌, List, length, slice_index, bit_or}
+use Rattle.std.proofs.Common.{◌≡◌, ℕ, ◌<◌, ◌≤◌, length, slice_index, bit_or}
 use Rattle.si_base.proofs.sets.unite.Given as goal
 
 abbrev pub invariant-loop-k : goal.invariant-loop-k

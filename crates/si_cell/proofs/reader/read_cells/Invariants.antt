@@ -1,6 +1,7 @@
 use Rattle.std.proofs.Common.{◌≡◌, [], length}
 use Rattle.si_cell.specs.Library.{AreCells}
-use Rattle.si_cell.specs.LibraryText.{after_last, cell_lines_fault, cells_in}
+use Rattle.si_words.specs.Ends.{after_last}
+use Rattle.si_cell.specs.LibraryText.{cell_lines_fault, cells_in}
 use Rattle.si_cell.proofs.reader.read_cells.Given as goal
 
 abbrev pub invariant-loop-line : goal.invariant-loop-line

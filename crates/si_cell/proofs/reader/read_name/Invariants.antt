@@ -1,5 +1,6 @@
 use Rattle.std.proofs.Common.{◌≡◌, length}
-use Rattle.si_cell.specs.LibraryText.{after_last, lines_fault, library_in}
+use Rattle.si_words.specs.Ends.{after_last}
+use Rattle.si_cell.specs.LibraryText.{lines_fault, library_in}
 use Rattle.si_cell.proofs.reader.read_name.Given as goal
 
 abbrev pub invariant-loop-line : goal.invariant-loop-line

@@ -19,12 +19,14 @@ overflow_cast-result c =
       arith,
       c.self.invariant.few,
       count_within n words,
-      counted n c.ones_in.result words _ c.deref.ensures.value c.self.invariant.size c.self.invariant.none c.ones_in.ensures,
+      counted n c.ones_in.result words _ c.deref.ensures.value c.self.invariant.size c.self.invariant.none
+          c.ones_in.ensures,
     )
 
 pub returns : goal.returns
 returns c =
     let words = c.self.inside.words.items in
     let n = c.self.inside.states in
-    counted n c.ones_in.result words _ c.deref.ensures.value c.self.invariant.size c.self.invariant.none c.ones_in.ensures
+    counted n c.ones_in.result words _ c.deref.ensures.value c.self.invariant.size c.self.invariant.none
+    c.ones_in.ensures
     ∙ ap set_count c.self.view_is

@@ -9,7 +9,8 @@ index-requires c =
       arith,
       c.self.inside.words.ok.0,
       word_within c.self.inside.states c.s.inside.0 (length c.self.inside.words.items) c.self.invariant.size
-          (state_within c.self.inside.states c.s.inside.0 c.args.s c.self.inside.words.items c.args.self.now c.self.view_is
+          (state_within c.self.inside.states c.s.inside.0 c.args.s c.self.inside.words.items c.args.self.now
+          c.self.view_is
           c.s.view_is c.requires),
     )
 
@@ -17,7 +18,8 @@ pub returns : goal.returns
 returns c =
     let words = c.self.inside.words.items in
     let s = c.s.inside.0 in
-    let within = state_within c.self.inside.states s c.args.s words c.args.self.now c.self.view_is c.s.view_is c.requires in
+    let within = state_within c.self.inside.states s c.args.s words c.args.self.now c.self.view_is c.s.view_is
+    c.requires in
     let there = word_within c.self.inside.states s (length words) c.self.invariant.size within in
     test_told words s c.index.result.now (get_or_read words _ _ there c.index.ensures 0)
     ∙ sym (flag_read c.self.inside.states words s within)

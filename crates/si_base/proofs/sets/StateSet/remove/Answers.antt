@@ -9,7 +9,8 @@ index_mut-requires c =
       arith,
       c.self.inside.words.ok.0,
       word_within c.self.inside.states c.s.inside.0 (length c.self.inside.words.items) c.self.invariant.size
-          (state_within c.self.inside.states c.s.inside.0 c.args.s c.self.inside.words.items c.args.self.now c.self.view_is
+          (state_within c.self.inside.states c.s.inside.0 c.args.s c.self.inside.words.items c.args.self.now
+          c.self.view_is
           c.s.view_is c.requires),
     )
 
@@ -20,7 +21,8 @@ invariant_of-self c =
     let s = c.s.inside.0 in
     let within = state_within n s c.args.s words c.args.self.now c.self.view_is c.s.view_is c.requires in
     let there = word_within n s (length words) c.self.invariant.size within in
-    let written = clear_written words s c.index_mut.result.now there (get_or_read words _ _ there c.index_mut.ensures.value 0) in
+    let written = clear_written words s c.index_mut.result.now there
+    (get_or_read words _ _ there c.index_mut.ensures.value 0) in
     record {
       few = c.self.invariant.few;
       size = length-set words _ _ ∙ c.self.invariant.size;
@@ -34,5 +36,6 @@ returns c =
     let s = c.s.inside.0 in
     let within = state_within n s c.args.s words c.args.self.now c.self.view_is c.s.view_is c.requires in
     let there = word_within n s (length words) c.self.invariant.size within in
-    let written = clear_written words s c.index_mut.result.now there (get_or_read words _ _ there c.index_mut.ensures.value 0) in
+    let written = clear_written words s c.index_mut.result.now there
+    (get_or_read words _ _ there c.index_mut.ensures.value 0) in
     set_seen n s c.args.s false words _ c.args.self.now c.self.view_is c.s.view_is within written
