@@ -5,6 +5,7 @@ pub mod LossLemmas
 pub mod SquareLemmas
 pub mod ProperLemmas
 pub mod ConflictLemmas
+mod ByCodesLemmas
 pub mod ConflictFree
 pub mod CodesExist
 pub mod FirstLemmas

@@ -1,3 +1,4 @@
+pub mod ByCodes
 pub mod Faults
 pub mod Lent
 pub mod Searches

@@ -33,7 +33,7 @@ pub fn first_conflict(alloc: Global, coded: &Coded) -> Result<Option<(StateId, S
 }
 
 /// The state that stands at the code. If none does, `s` is put there.
-fn first_of_code(
+pub(crate) fn first_of_code(
     firsts: &mut BTreeMap<Code, StateId>,
     code: Code,
     s: StateId,

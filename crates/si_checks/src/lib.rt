@@ -2,6 +2,7 @@
 #![tactic(auto)]
 
 mod breaches;
+mod by_codes;
 pub mod conflicts;
 pub mod distinct;
 mod forks;

@@ -5,6 +5,7 @@ ghost use Rattle.si_base.specs.Proper.{IsProper};
 ghost use Rattle.si_checks.specs.Faults.{told_breach};
 
 use crate::breaches::{Breach, first_breach};
+use crate::by_codes::is_proper_by_codes;
 use crate::forks::Fork;
 use crate::losses::Loss;
 use si_base::ids::{Event, NoMemory, StateId};
@@ -57,12 +58,19 @@ impl Proper {
     /// The graph where it is proper, or the first breach of commutativity, or else of output
     /// persistency: the book's conditions for a speed-independent circuit, but that an input may
     /// be disabled. The coded graph comes back.
-    pub fn make(_alloc: Global, coded: Coded) -> Result<Proper, (Coded, Improper)>
+    ///
+    /// Where the codes don't tell that it is proper, pairs of arcs are looked at.
+    pub fn make(alloc: Global, coded: Coded) -> Result<Proper, (Coded, Improper)>
         ensures same { IfOk result (λ p. p ≡ coded) }
         ensures proper { IfOk result (λ p. IsProper p.graph) }
         ensures back { IfErr result (λ e. e.0 ≡ coded) }
         ensures fault { IfErr result (λ e. ShowsImproper coded.graph e.1) }
     {
+        match is_proper_by_codes(alloc, &coded) {
+            Ok(true) => return Ok(Proper { coded }),
+            Ok(false) => {}
+            Err(NoMemory) => return Err((coded, Improper::NoMemory)),
+        }
         match first_breach(coded.graph()) {
             None => Ok(Proper { coded }),
             Some(breach) => Err((coded, improper_by(breach))),

@@ -1,5 +1,7 @@
 pub mod Arcs
 pub mod Chains
+pub mod Ends
+pub mod Groups
 pub mod Starts
 pub mod Closure
 pub mod Faults

@@ -7,7 +7,7 @@ ghost use Rattle.si_base.specs.EdgeOrder.{edge_cmp};
 ghost use Rattle.si_graph.specs.Arcs.{edge_at, IsFirstPlace, IsInto, IsOutOf};
 ghost use Rattle.si_graph.specs.Starts.{AreStarts, IsStart};
 
-use crate::chain::Chain;
+use crate::chain::{Chain, End};
 use si_base::graph::Edge;
 use si_base::ids::{NoMemory, StateId};
 use std::alloc::Global;
@@ -57,15 +57,8 @@ impl ArcStore {
         requires ordered { IsStrictlySortedBy edge_cmp edges.items }
         ensures { IfOk result (λ store. store ≡ record { states = states; edges = edges.items }) }
     {
-        let count = edges.len() as u32;
         let starts = starts_of(alloc, states, edges.as_slice())?;
-        let mut into = Chain::new(alloc, states, count)?;
-        let mut k = count;
-        while 0 < k {
-            k -= 1;
-            let edge = edges[k as usize];
-            into.put_first(edge.to, k);
-        }
+        let into = Chain::of_arcs(alloc, states, edges.as_slice(), End::Target)?;
         Ok(ArcStore {
             states,
             edges,

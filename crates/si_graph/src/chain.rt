@@ -1,10 +1,18 @@
 //! Places linked by states.
 
-ghost use Rattle.std.specs.Prelude.{◌≡◌, ℕ, ◌<◌, ◌≤◌, IfOk, length, replicate, slice_index, slice_index_or, slice_set};
+ghost use Rattle.std.specs.Prelude.{◌≡◌, ℕ, ◌<◌, ◌≤◌, ◌^◌, All, IfOk, length, replicate, slice_index, slice_index_or, slice_set};
+ghost use Rattle.si_graph.specs.Ends.{AreChained, state_at};
 
-use crate::arc_store::EdgeId;
+use si_base::graph::Edge;
 use si_base::ids::{NoMemory, StateId};
 use std::alloc::Global;
+
+/// An end of an arc.
+#[derive(Clone, Copy)]
+pub(crate) enum End {
+    Source,
+    Target,
+}
 
 /// For each state its first place, and for each place the next one of its state. The number of
 /// places ends a chain.
@@ -27,6 +35,28 @@ impl Chain {
             nexts: vec![in alloc; places; places as usize]?,
             end: places,
         })
+    }
+
+    /// The places of all arcs, chained by the states at this end of them. It fails only where
+    /// memory runs out.
+    pub(crate) fn of_arcs(
+        alloc: Global,
+        states: u32,
+        arcs: &[Edge],
+        end: End,
+    ) -> Result<Chain, NoMemory>
+        requires few { length arcs.now < 2 ^ 32 }
+        requires within { All (λ a. state_at end a < states) arcs.now }
+        ensures { IfOk result (λ chain. AreChained end states arcs.now chain) }
+    {
+        let count = arcs.len() as u32;
+        let mut chain = Chain::new(alloc, states, count)?;
+        let mut k = count;
+        while 0 < k {
+            k -= 1;
+            chain.put_first(state_at(arcs[k as usize], end), k);
+        }
+        Ok(chain)
     }
 
     /// Equal chains.
@@ -68,5 +98,15 @@ impl Chain {
         ensures { result ≡ slice_index self.now.nexts.items place }
     {
         self.nexts[place as usize]
+    }
+}
+
+/// The state at an end of an arc.
+fn state_at(arc: Edge, end: End) -> StateId
+    ensures { result ≡ state_at end arc }
+{
+    match end {
+        End::Source => arc.from,
+        End::Target => arc.to,
     }
 }

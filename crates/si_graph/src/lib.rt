@@ -7,6 +7,7 @@ pub mod closure;
 pub mod coded;
 mod determinism;
 pub mod graph;
+mod groups;
 pub mod laws;
 mod next_values;
 mod reach;

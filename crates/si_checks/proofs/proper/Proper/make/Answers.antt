@@ -9,7 +9,13 @@ first_breach-requires-clause-deterministic c =
     deterministic c.args.coded c.graph.result.now c.graph.ensures.coded c.graph.ensures.same
 
 pub invariant_of-result : goal.invariant_of-result
-invariant_of-result c =
+invariant_of-result c = c.in-Ok-true.ensures.proper c.in-Ok-true.field-0-test
+
+pub returns-in-Ok-true-clause-proper : goal.returns-in-Ok-true-clause-proper
+returns-in-Ok-true-clause-proper c = c.in-Ok-true.ensures.proper c.in-Ok-true.field-0-test
+
+pub invariant_of-result-in-None : goal.invariant_of-result-in-None
+invariant_of-result-in-None c =
     proper c.args.coded c.graph.result.now c.graph.ensures.coded c.graph.ensures.same c.in-None.ensures
 
 pub returns-in-None-clause-proper : goal.returns-in-None-clause-proper

@@ -1,4 +1,3 @@
-use Rattle.std.proofs.Common.{arith}
 use Rattle.si_graph.proofs.ArcStoreLemmas.{first_at_start, none_from_start}
 use Rattle.si_graph.proofs.arc_store.ArcStore.head_out.Goals as goal
 
