@@ -1,18 +1,10 @@
--- How far resolving goes: turn after turn.
-use Rattle.std.proofs.Common.{◌≡◌, ℕ, ◌-◌, ◌<◌, List, [], ◌∷◌, ◌++◌, length, All, IsTrue, refl, sym, ap, subst, ◌∙◌, arith, append_assoc, length-append}
-use Rattle.std.proofs.lemmas.List.Elements.{All-append, All-cons, All-nil}
-use Rattle.si_base.specs.declared.graph.Signal.{Signal}
+-- Where the best candidate leaves no fewer conflicts, the graph is stuck at its first one.
+use Rattle.std.proofs.Common.{◌≡◌, ℕ, subst}
 use Rattle.si_base.specs.Codes.{CodedGraph}
-use Rattle.si_base.specs.Limits.{max_signals}
-use Rattle.si_base.specs.Words.{is_signal_name}
 use Rattle.si_checks.specs.declared.distinct.NotDistinct.{NotDistinct}
 use Rattle.si_checks.specs.declared.distinct.NotDistinct.TheVariants.{Conflict}
 use Rattle.si_checks.specs.Faults.{ShowsConflict}
-use Rattle.si_insert.specs.declared.lineage.TraceStep.{TraceStep}
-use Rattle.si_insert.specs.Insertion.{new_signal}
-use Rattle.si_insert.specs.Lineage.{Current, Extends, GoesOn, History, Inserts}
 use Rattle.si_resolve.specs.Best.{NoneImproves, IsStuck}
-use Rattle.si_resolve.specs.Trace.{Resolves, IsResolving}
 use Rattle.si_resolve.proofs.OneBest.{none_improves_is_stuck}
 
 pub stuck_at : (c : CodedGraph) (fault : NotDistinct) (p q : ℕ) → fault ≡ Conflict p q → ShowsConflict c fault
@@ -20,68 +12,4 @@ pub stuck_at : (c : CodedGraph) (fault : NotDistinct) (p q : ℕ) → fault ≡ 
 stuck_at c fault p q is shows none = record {
   conflict = subst (ShowsConflict c) is shows;
   no_better = λ x n best counted. none_improves_is_stuck c x n none best counted;
-}
-
--- ---- the signals
-abbrev pub AreNamed : Current → Type 0
-AreNamed v = All (λ x. IsTrue (is_signal_name x.name)) v.coded.graph.signals
-
-signals_after : (v : Current) (p : TraceStep) (u : Current) → Inserts v p u
-    → u.coded.graph.signals ≡ v.coded.graph.signals ++ new_signal p.name ∷ []
-signals_after v p u ins = ap (λ (x : Current). x.coded.graph.signals) ins.makes ∙ ins.insertion.signals
-
-pub named_after : (v : Current) (p : TraceStep) (u : Current) → Inserts v p u → IsTrue (is_signal_name p.name)
-    → AreNamed v → AreNamed u
-named_after v p u ins name named =
-    let P : Signal → Type 0 = λ x. IsTrue (is_signal_name x.name) in
-    let last : All P (new_signal p.name ∷ []) = All-cons P (new_signal p.name) [] name (All-nil P) in
-    subst (All P) (sym (signals_after v p u ins))
-    (All-append P v.coded.graph.signals (new_signal p.name ∷ []) named last)
-
-pub fewer_left : (v : Current) (p : TraceStep) (u : Current) → Inserts v p u
-    → max_signals - length u.coded.graph.signals < max_signals - length v.coded.graph.signals
-fewer_left v p u ins =
-    let after = ap (length {A = Signal}) (signals_after v p u ins) in
-    let few = ins.accepted.few_signals in
-    let size = length-append v.coded.graph.signals (new_signal p.name ∷ []) in
-    omega (arith, after, few, size)
-
--- ---- the trace
-pub one_more : (v : Current) (trace : List TraceStep) (w : Current) (p : TraceStep) (u : Current)
-    → IsResolving v trace w → Resolves w p u → IsResolving v (trace ++ p ∷ []) u
-one_more v [] w p u same step =
-    let P : Current → Type 0 = λ x. Resolves x p u in
-    (u, subst P (sym same) step, refl)
-one_more v (q ∷ trace) w p u (x, first, rest) step = (x, first, one_more x trace w p u rest step)
-
--- from one lineage a resolving trace leads to the other
-pub record Leads (start now : History) : Type 0 where
-  pub trace : List TraceStep
-  pub goes_on : GoesOn start trace now
-  pub resolves : IsResolving start.current trace now.current
-  pub names : AreNamed start.current → AreNamed now.current
-
-no_more : {A : Type 0} (xs : List A) → xs ≡ xs ++ []
-no_more [] = refl
-no_more (x ∷ xs) = ap (λ ys. x ∷ ys) (no_more xs)
-
-pub leads_nowhere : (start : History) → Leads start start
-leads_nowhere start = record {
-  trace = [];
-  goes_on = record { given_stays = refl; trace_grows = no_more start.trace };
-  resolves = refl;
-  names = λ named. named;
-}
-
-pub leads_on : (start now next : History) (p : TraceStep) → Leads start now → Extends now p next
-    → Resolves now.current p next.current → IsTrue (is_signal_name p.name) → Leads start next
-leads_on start now next p so extends step name = record {
-  trace = so.trace ++ p ∷ [];
-  goes_on = record {
-    given_stays = extends.given_stays ∙ so.goes_on.given_stays;
-    trace_grows = extends.trace_grows ∙ ap (λ xs. xs ++ p ∷ []) so.goes_on.trace_grows
-        ∙ append_assoc start.trace so.trace (p ∷ []);
-  };
-  resolves = one_more start.current so.trace now.current p next.current so.resolves step;
-  names = λ named. named_after now.current p next.current step.inserts name (so.names named);
 }
