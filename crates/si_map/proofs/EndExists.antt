@@ -1,5 +1,5 @@
 -- Mapping has an end: where each signal fits a cell, or where one doesn't and no divisor serves.
-use Rattle.std.proofs.Common.{◌≡◌, ℕ, ◌<◌, ◌⊎◌, codes, inl, inr}
+use Rattle.std.proofs.Common.{◌<◌, ◌⊎◌, codes, inl, inr}
 use Rattle.si_base.specs.Codes.{IsCoded}
 use Rattle.si_base.specs.Proper.{IsProper, HasNoConflict}
 use Rattle.si_cell.specs.Library.{Library}

@@ -2,7 +2,6 @@ use Rattle.std.proofs.Common.{◌-◌, length}
 use Rattle.si_base.specs.Limits.{max_signals}
 use Rattle.si_insert.proofs.LeadingTraces.{Leads}
 use Rattle.si_map.specs.Trace.{Maps}
-use Rattle.si_map.proofs.MapLemmas.{spelled_on, states_on}
 use Rattle.si_map.proofs.map.map_cells.Given as goal
 
 abbrev pub invariant-loop-circuit : goal.invariant-loop-circuit
