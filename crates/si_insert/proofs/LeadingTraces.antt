@@ -7,8 +7,8 @@ use Rattle.si_base.specs.Limits.{max_signals}
 use Rattle.si_base.specs.Words.{is_signal_name}
 use Rattle.si_insert.specs.declared.lineage.TraceStep.{TraceStep}
 use Rattle.si_insert.specs.Insertion.{new_signal}
-use Rattle.si_insert.specs.Lineage.{Current, Inserts, History, Extends, GoesOn}
-use Rattle.si_insert.specs.Trace.{IsTrace}
+use Rattle.si_insert.specs.Lineage.{Current, Inserts, IsTrace, History, Extends, GoesOn}
+use Rattle.si_insert.proofs.OneGraph.{trace_on}
 
 -- ---- the names of signals
 abbrev pub AreNamed : Current → Type 0
@@ -37,13 +37,6 @@ fewer_left v p u ins =
 
 -- ---- the trace
 module _ (Step : Current → TraceStep → Current → Type 0) where
-  one_more : (v : Current) (trace : List TraceStep) (w : Current) (p : TraceStep) (u : Current)
-      → IsTrace Step v trace w → Step w p u → IsTrace Step v (trace ++ p ∷ []) u
-  one_more v [] w p u same step =
-      let P : Current → Type 0 = λ x. Step x p u in
-      (u, subst P (sym same) step, refl)
-  one_more v (q ∷ trace) w p u (x, first, rest) step = (x, first, one_more x trace w p u rest step)
-
   -- a trace leads from the one lineage to the other
   pub record Leads (start now : History) : Type 0 where
     pub trace : List TraceStep
@@ -68,6 +61,6 @@ module _ (Step : Current → TraceStep → Current → Type 0) where
       trace_grows = extends.trace_grows ∙ ap (λ xs. xs ++ p ∷ []) so.goes_on.trace_grows
           ∙ append_assoc start.trace so.trace (p ∷ []);
     };
-    leads = one_more start.current so.trace now.current p next.current so.leads step;
+    leads = trace_on Step start.current so.trace now.current p next.current so.leads step;
     names = λ named. named_after now.current p next.current extends.inserts name (so.names named);
   }

@@ -1,9 +1,8 @@
 -- Worked examples: traces of no insertion and of one, and a search for the least of three items.
 use Rattle.std.proofs.Common.{◌≡◌, ℕ, ◌-◌, ◌<◌, [], ◌∷◌, Some, None, refl, ap, arith}
 use Rattle.si_insert.specs.declared.lineage.TraceStep.{TraceStep}
-use Rattle.si_insert.specs.Lineage.{Current, Inserts}
+use Rattle.si_insert.specs.Lineage.{Current, Inserts, IsTrace}
 use Rattle.si_insert.specs.RowSearch.{IsLeastSeen, bar}
-use Rattle.si_insert.specs.Trace.{IsTrace}
 use Rattle.si_insert.proofs.RowSearchLemmas.{search_start, search_take}
 
 -- no insertion leads to the graph itself, and one to what it makes

@@ -8,12 +8,11 @@ use Rattle.si_insert.specs.declared.lineage.TraceStep.{TraceStep}
 use Rattle.si_insert.specs.Built.{IsBuilt}
 use Rattle.si_insert.specs.Fresh.{IsFresh}
 use Rattle.si_insert.specs.Insertion.{new_signal}
-use Rattle.si_insert.specs.Lineage.{Current, Inserts, IsLineage, grown}
-use Rattle.si_insert.specs.Trace.{IsTrace}
+use Rattle.si_insert.specs.Lineage.{Current, Inserts, IsTrace, IsLineage}
 use Rattle.si_insert.proofs.Chain.{implements}
 use Rattle.si_insert.proofs.NewCodes.{is_coded}
 use Rattle.si_insert.proofs.OneFreshName.{one_name}
-use Rattle.si_insert.proofs.OneGraph.{one_graph, lineage_on}
+use Rattle.si_insert.proofs.OneGraph.{one_insertion, lineage_on}
 
 -- ---- one insertion
 pub coded_next : (v : Current) (p : TraceStep) (u : Current) → IsCoded v.coded → Inserts v p u → IsCoded u.coded
@@ -21,12 +20,6 @@ coded_next v p u is ins =
     let P : Current → Type 0 = λ x. IsCoded x.coded in
     subst P (sym ins.makes) (is_coded v.coded p.partition (new_signal p.name) ins.copies ins.graph is
     ins.accepted.lawful ins.insertion ins.limits)
-
-pub one_insertion : (v : Current) (p : TraceStep) (u w : Current) → Inserts v p u → Inserts v p w → u ≡ w
-one_insertion v p u w a b =
-    let same = one_graph v.coded.graph p.partition (new_signal p.name) a.copies b.copies a.graph b.graph
-    a.insertion b.insertion a.limits b.limits in
-    a.makes ∙ ap₂ (grown v) same.0 same.1 ∙ sym b.makes
 
 -- insertions of one partition by fresh names of one stem
 pub one_step : (v : Current) (stem : List ℕ) (p q : TraceStep) (u w : Current) → p.partition ≡ q.partition

@@ -4,8 +4,7 @@ use Rattle.si_cell.specs.Library.{Library}
 use Rattle.si_circuit.specs.Cells.{AllFit, IsFirstUnfit}
 use Rattle.si_insert.specs.declared.lineage.TraceStep.{TraceStep}
 use Rattle.si_insert.specs.Fresh.{IsFresh}
-use Rattle.si_insert.specs.Lineage.{Current, Inserts}
-use Rattle.si_insert.specs.Trace.{IsTrace}
+use Rattle.si_insert.specs.Lineage.{Current, Inserts, IsTrace}
 use Rattle.si_map.specs.Best.{Choice, IsBest, NoneServes}
 
 -- the best divisor of v is inserted as `map` and makes u

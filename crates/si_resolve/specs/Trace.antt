@@ -3,8 +3,7 @@ use Rattle.std.specs.Prelude.{◌≡◌, ℕ, List, codes}
 use Rattle.si_base.specs.Proper.{HasNoConflict}
 use Rattle.si_insert.specs.declared.lineage.TraceStep.{TraceStep}
 use Rattle.si_insert.specs.Fresh.{IsFresh}
-use Rattle.si_insert.specs.Lineage.{Current, Inserts}
-use Rattle.si_insert.specs.Trace.{IsTrace}
+use Rattle.si_insert.specs.Lineage.{Current, Inserts, IsTrace}
 use Rattle.si_resolve.specs.Best.{Choice, Improves, IsStuck}
 
 -- the best candidate of v, which has fewer conflicts than v, is inserted as `csc` and makes u
