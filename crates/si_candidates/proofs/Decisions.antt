@@ -13,7 +13,8 @@ use Rattle.si_checks.proofs.DecisionLemmas as decide
 use Rattle.si_checks.proofs.DecisionLemmas.{Decided, both, all_of, same_value, equal_events, driven}
 use Rattle.si_insert.specs.Accepted.{IsInput}
 use Rattle.si_candidates.specs.Blocks.{AreDisjoint}
-use Rattle.si_candidates.specs.Blocking.{IsClosedUnderInputs, Diamond, KeepsExits, MaySwitch}
+use Rattle.si_insert.specs.Diamond.{Diamond}
+use Rattle.si_candidates.specs.Blocking.{IsClosedUnderInputs, KeepsExits, MaySwitch}
 
 pub either : {P Q : Type 0} → Decided P → Decided Q → Decided (P ⊎ Q)
 either (inl p) q = inl (inl p)

@@ -4,19 +4,12 @@ use Rattle.si_base.specs.declared.ids.Event.{Event}
 use Rattle.si_base.specs.declared.graph.Edge.{Edge}
 use Rattle.si_base.specs.Graph.{StateGraph, Step, IsNonInput}
 use Rattle.si_insert.specs.Accepted.{IsInput}
+use Rattle.si_insert.specs.Diamond.{Diamond}
 
 -- no input leads out of the set
 abbrev pub IsClosedUnderInputs : StateGraph → (ℕ → Type 0) → Type 0
 IsClosedUnderInputs g P = (s : ℕ) (e : Event) (t : ℕ)
     → IsInput g.signals e.sig → Step g s e t → P s → P t
-
--- s leads by lost to t and by another event to u, and u by lost to w
-pub record Diamond (g : StateGraph) (s : ℕ) (lost by : Event) (t u w : ℕ) : Type 0 where
-  pub non_input : IsNonInput g.signals lost.sig
-  pub apart : lost ≢ by
-  pub first : Step g s lost t
-  pub other : Step g s by u
-  pub next : Step g u lost w
 
 -- where a non-input leads out of the set and was enabled before, it led out of the set then too
 abbrev pub KeepsExits : StateGraph → (ℕ → Type 0) → Type 0

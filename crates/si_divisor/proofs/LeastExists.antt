@@ -17,7 +17,8 @@ use Rattle.si_checks.proofs.DecisionLemmas as decide
 use Rattle.si_checks.proofs.DecisionLemmas.{Decided, some_of, pairs, in_pairs, of_pairs}
 use Rattle.si_insert.specs.Accepted.{IsInput}
 use Rattle.si_divisor.specs.Targets.{IsLeast, Settles, holds}
-use Rattle.si_divisor.specs.Switching.{Diamond, Switches}
+use Rattle.si_insert.specs.Diamond.{Diamond}
+use Rattle.si_divisor.specs.Switching.{Switches}
 use Rattle.si_divisor.proofs.Sets.{in_or_not}
 
 -- ---- a state that the rules ask for, beside those that are marked

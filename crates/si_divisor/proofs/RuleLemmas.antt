@@ -12,9 +12,11 @@ use Rattle.si_insert.specs.Partition.{class_of, may_lead}
 use Rattle.si_insert.specs.Insertion.{waits, has_copy}
 use Rattle.si_insert.specs.Accepted.{Delay}
 use Rattle.si_insert.specs.Tests.{InputWaits, WaitsAfter}
-use Rattle.si_divisor.specs.Switching.{Diamond, Switches}
+use Rattle.si_insert.specs.Diamond.{Diamond}
+use Rattle.si_divisor.specs.Switching.{Switches}
 use Rattle.si_divisor.specs.Laws.{to_one, AreClassed, Passes, MeetRules, RulesAreAcceptance}
-use Rattle.si_divisor.proofs.ClassCases.{waiting, is_or_not, waits_at, waits_if, goes_elsewhere, goes_within, there, at_each, target_of_waiting, copy_has, crosses, comes}
+use Rattle.si_insert.proofs.WaitingClass.{waiting, is_or_not, waits_at, waits_if, goes_elsewhere, goes_within, goes_into}
+use Rattle.si_divisor.proofs.ClassCases.{at_each, target_of_waiting, copy_has, crosses, comes}
 
 twice : (v : Bool) → not (not v) ≡ v
 twice true = refl
@@ -62,7 +64,7 @@ switches_at g classes target v set graph at to p = record {
       let one = step_within g s a t graph d.first in
       let two = step_within g u a w graph d.next in
       let u_is = (at u two.0).0 in_u in
-      let h = there (class_of classes s) (class_of classes u) v (p.lawful.arcs s c u d.other) u_is in
+      let h = goes_into (class_of classes s) (class_of classes u) v (p.lawful.arcs s c u d.other) u_is in
       let goes : waits (class_of classes s) (class_of classes t) v ≡ false = elim may [
         | inl low ↦
             goes_elsewhere (class_of classes s) (class_of classes t) v

@@ -1,17 +1,10 @@
 -- The states where the new signal switches to b.
-use Rattle.std.specs.Prelude.{◌≡◌, ◌≢◌, ℕ, ◌⊎◌, not, Bool, List}
+use Rattle.std.specs.Prelude.{◌≡◌, ℕ, ◌⊎◌, not, Bool, List}
 use Rattle.si_base.specs.declared.ids.Event.{Event}
-use Rattle.si_base.specs.Graph.{StateGraph, Step, IsNonInput}
+use Rattle.si_base.specs.Graph.{StateGraph, Step}
 use Rattle.si_graph.specs.Reach.{IsIn}
 use Rattle.si_insert.specs.Accepted.{IsInput}
-
--- s leads by a to t and by another event c to u, and u by a to w, a being no input
-pub record Diamond (g : StateGraph) (s : ℕ) (a c : Event) (t u w : ℕ) : Type 0 where
-  pub non_input : IsNonInput g.signals a.sig
-  pub apart : a ≢ c
-  pub first : Step g s a t
-  pub other : Step g s c u
-  pub next : Step g u a w
+use Rattle.si_insert.specs.Diamond.{Diamond}
 
 -- what is in the set, the targets of the states being given:
 -- a state of target b that is entered from one of the other target;

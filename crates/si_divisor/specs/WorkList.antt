@@ -7,7 +7,7 @@ use Rattle.si_base.specs.declared.graph.Edge.{Edge}
 use Rattle.si_graph.specs.Reach.{IsIn}
 use Rattle.si_insert.specs.Accepted.{IsInput}
 use Rattle.si_divisor.specs.Targets.{target}
-use Rattle.si_divisor.specs.Switching.{Diamond}
+use Rattle.si_insert.specs.Diamond.{Diamond}
 
 -- each of the states is in the set
 abbrev pub AllIn : List Bool → List ℕ → Type 0

@@ -1,15 +1,13 @@
 -- A graph has a best divisor, or none serves.
-use Rattle.std.proofs.Common.{◌≡◌, ℕ, ◌<◌, ◌≤◌, ◌⊎◌, Bool, List, [], is_some, length, codes, Option, Some, None, slice_get, refl, sym, ap, subst, subst₂, ◌∙◌, arith, inl, inr}
+use Rattle.std.proofs.Common.{◌≡◌, ℕ, ◌<◌, ◌≤◌, ◌⊎◌, Bool, List, is_some, length, codes, Option, Some, None, slice_get, refl, ap, subst, subst₂, arith, inl, inr}
 use Rattle.std.proofs.lemmas.Bool.{cases_lt}
-use Rattle.std.proofs.lemmas.Option.{slice_get_cases, slice_get_within, same_Some}
+use Rattle.std.proofs.lemmas.Option.{slice_get_cases}
 use Rattle.si_base.specs.Codes.{CodedGraph, IsCoded}
 use Rattle.si_base.specs.Limits.{max_signals, max_states}
 use Rattle.si_base.specs.Proper.{IsProper, HasNoConflict}
 use Rattle.si_cell.specs.Library.{Library, Instance, instance_value}
-use Rattle.si_graph.proofs.MemberLemmas.{Contains-nil}
 use Rattle.si_checks.specs.Searches.{IsFirstOrNone}
 use Rattle.si_checks.proofs.DecisionLemmas.{Decided, both, driven, less}
-use Rattle.si_checks.proofs.FirstLemmas.{first_or_none}
 use Rattle.si_conflicts.specs.Left.{LeavesConflicts}
 use Rattle.si_conflicts.proofs.LeftCount.{one_left, some_left}
 use Rattle.si_divisor.specs.DivisorLaws.{DivisorsExist}
@@ -24,14 +22,16 @@ use Rattle.si_insert.specs.Accepted.{IsAccepted, copy_count}
 use Rattle.si_insert.specs.Insertion.{coded, new_signal}
 use Rattle.si_insert.specs.Made.{copies_of}
 use Rattle.si_insert.specs.Partition.{IsLawful}
+use Rattle.si_insert.proofs.InsertionsExist.{some_insertion}
+use Rattle.si_insert.proofs.OneFreshName.{some_fresh}
+use Rattle.si_insert.proofs.RowSearchLemmas.{first_or_none}
 use Rattle.si_match.specs.Fit.{first_fit}
 use Rattle.si_match.specs.Weight.{weight_of}
-use Rattle.si_resolve.proofs.InsertionsExist.{some_fresh, some_insertion}
 use Rattle.si_map.specs.Best.{Choice, IsUnfit, IsDivisorAt, LeavesWeight, Serves, IsBest, NoneServes, choice_place}
 use Rattle.si_map.proofs.DivisorFacts.{one_divisor, place_within, same_list}
 use Rattle.si_map.proofs.EndLemmas.{not_both, fits_or_not}
-use Rattle.si_map.proofs.Gathering.{AreAllAt, all_at, all_below}
-use Rattle.si_map.proofs.Searching.{one_classes, one_weight}
+use Rattle.si_map.proofs.OneBest.{one_weight}
+use Rattle.si_map.proofs.SearchSteps.{weight, row, place, lower, within}
 use Rattle.si_map.proofs.WeightLeft.{weight_is_one}
 
 at_most : (n m : ℕ) → Decided (n ≤ m)
@@ -171,17 +171,6 @@ module _ (c : CodedGraph) (library : Library) where
   one_plan z place i j xs ys a b =
       one_partition c.graph (forced_by (instance_value library i) c) xs ys a.are (with_divisor z place i j ys a.at b)
 
-  same_choice : (x y : Choice) → x.signal ≡ y.signal → x.place ≡ y.place → x.classes ≡ y.classes → x.weight ≡ y.weight
-      → x ≡ y
-  same_choice x y p q r s = λ k. record { signal = p k; place = q k; classes = r k; weight = s k }
-
-  one_choice : (z place : ℕ) (x y : Choice) → ServesAt c library z place x → ServesAt c library z place y → x ≡ y
-  one_choice z place x y a b =
-      let signals = a.at_signal ∙ sym b.at_signal in
-      let places = a.at_place ∙ sym b.at_place in
-      let classes = one_classes c library x y a.serves b.serves signals places in
-      same_choice x y signals places classes (one_weight c library x y a.serves b.serves classes)
-
   -- ---- whether some divisor serves at a place
   module _ (divisors_exist : DivisorsExist) (partitions_exist : PartitionsExist) (is : IsCoded c)
       (proper : IsProper c.graph) (none : HasNoConflict c) where
@@ -226,64 +215,35 @@ module _ (c : CodedGraph) (library : Library) where
           by_list z place ds unfit are)
     ]
 
-    -- ---- all that serve
-    -- of signal z
-    abbrev ServesOf : ℕ → Choice → Type 0
-    ServesOf z x = Serves c library x × (x.signal ≡ z)
+    -- ---- the first of those that serve
+    item_or_none : (z k : ℕ) → Decided ((x : Choice) × Serves c library x × (x.signal ≡ z) × (x.place ≡ k))
+    item_or_none z k = elim (serves_or_none z k) [
+      | inl (x, s) ↦ inl (x, s.serves, s.at_signal, s.at_place)
+      | inr none_serves ↦ inr (λ (x, serves, at_signal, at_place).
+          none_serves (x, record { serves = serves; at_signal = at_signal; at_place = at_place }))
+    ]
 
-    abbrev place_of : Choice → ℕ
-    place_of x = x.place
-
-    abbrev signal_of : Choice → ℕ
-    signal_of x = x.signal
-
-    serve_at : (z place : ℕ) → (xs : List Choice) × AreAllAt (ServesOf z) place_of place xs
-    serve_at z place =
-        all_at (ServesOf z) place_of place
-        (elim (serves_or_none z place) [
-          | inl (x, s) ↦ inl (x, (s.serves, s.at_signal), s.at_place)
-          | inr none_serves ↦ inr (λ (x, s, at).
-              none_serves (x, record { serves = s.0; at_signal = s.1; at_place = at }))
-        ])
-        (λ x y a b at_x at_y. one_choice z place x y (record { serves = a.0; at_signal = a.1; at_place = at_x })
-        (record { serves = b.0; at_signal = b.1; at_place = at_y }))
-
-    within : (z : ℕ) (ds : List Instance) (x : Choice) → AreDivisors c library z ds → ServesOf z x → x.place < length ds
-    within z ds x are s =
-        let P : ℕ → Type 0 = λ y. IsDivisorAt c library y x.place s.0.divisor in
-        place_within c library z x.place s.0.divisor ds are (subst P s.1 s.0.at)
-
-    serve_for : (z : ℕ) → (xs : List Choice) × AreAllAt (Serves c library) signal_of z xs
-    serve_for z = elim (unfit_or_not c library z) [
-      | inr fits ↦ (
-        [],
-        record {
-          sound = λ x there. absurd (Contains-nil x there);
-          whole = λ x s at. absurd (fits (subst (IsUnfit c library) at s.unfit));
-        },
-      )
+    -- where each divisor of z that serves stands
+    width : (z : ℕ) → (n : ℕ) × ((y : Choice) → Serves c library y → y.signal ≡ z → y.place < n)
+    width z = elim (unfit_or_not c library z) [
+      | inr fits ↦ (0, λ y serves at. absurd (fits (subst (IsUnfit c library) at serves.unfit)))
       | inl unfit ↦ (
-          let (ds, are) = divisors_exist c library z is proper none unfit.driven in
-          let (xs, all) = all_below (ServesOf z) place_of (serve_at z) (length ds) in (
-            xs,
-            record {
-              sound = λ x there. (all.sound x there).0;
-              whole = λ x s at. all.whole x (s, at) (within z ds x are (s, at));
-            },
+          let (ds, are) = divisors_exist c library z is proper none unfit.driven in (
+            length ds,
+            λ y serves at. (
+                let P : ℕ → Type 0 = λ a. IsDivisorAt c library a y.place serves.divisor in
+                place_within c library z y.place serves.divisor ds are (subst P at serves.at)),
           ))
     ]
 
-    signal_within : (x : Choice) → Serves c library x → x.signal < length c.graph.signals
-    signal_within x s = let (y, at, driven_y) = s.unfit.driven in slice_get_within c.graph.signals x.signal y at
+    first_serving : (found : Option Choice) × IsFirstOrNone choice_place (Serves c library) found
+    first_serving = first_or_none (Serves c library) weight row place (weight_of c library) (lower c library)
+        (one_weight c library) item_or_none width (length c.graph.signals) (within c library)
 
-    best_found : (found : Option Choice) → IsFirstOrNone choice_place (Serves c library) found
+    best_by : (found : Option Choice) → IsFirstOrNone choice_place (Serves c library) found
         → ((x : Choice) × IsBest c library x) ⊎ NoneServes c library
-    best_found None none_serves = inr none_serves
-    best_found (Some x) best = inl (x, best)
+    best_by None none_serves = inr none_serves
+    best_by (Some x) best = inl (x, best)
 
     pub best_or_none : ((x : Choice) × IsBest c library x) ⊎ NoneServes c library
-    best_or_none =
-        let (xs, all) = all_below (Serves c library) signal_of serve_for (length c.graph.signals) in
-        let found = first_or_none choice_place (Serves c library) xs all.sound
-        (λ x s. all.whole x s (signal_within x s)) in
-        best_found found.0 found.1
+    best_or_none = best_by first_serving.0 first_serving.1

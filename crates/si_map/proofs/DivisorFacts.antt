@@ -1,5 +1,5 @@
 -- What stands at a place of a list of divisors.
-use Rattle.std.proofs.Common.{◌≡◌, ℕ, ◌<◌, List, length, get_or, slice_get, Some, sym, ap, subst, ◌∙◌}
+use Rattle.std.proofs.Common.{◌≡◌, ℕ, ◌<◌, List, length, get_or, slice_get, Some, sym, subst, ◌∙◌}
 use Rattle.std.proofs.lemmas.Option.{slice_get_within}
 use Rattle.si_base.specs.Codes.{CodedGraph, IsCoded}
 use Rattle.si_cell.specs.Library.{Library, Instance, IsInstance}

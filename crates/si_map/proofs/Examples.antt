@@ -12,7 +12,7 @@ use Rattle.si_map.specs.Best.{Choice, NoneServes, choice_place}
 use mathlib.Core.Logic.{inl, inr}
 
 -- the input a is signal 0, the output b, which follows it, signal 1
-abbrev follower : CodedGraph
+abbrev pub follower : CodedGraph
 follower = record {
   graph = record {
     signals = record { name = codes "a"; kind = Input } ∷ record { name = codes "b"; kind = Output } ∷ [];
@@ -23,7 +23,7 @@ follower = record {
   codes = 0 ∷ 1 ∷ 3 ∷ 2 ∷ [];
 }
 
-abbrev buffers : Library
+abbrev pub buffers : Library
 buffers = record {
   name = codes "l";
   cells = record {

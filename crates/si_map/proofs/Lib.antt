@@ -1,15 +1,14 @@
 mod Examples
+mod TraceExamples
 pub mod EndLemmas
 pub mod WeightLeft
 pub mod NoneLeft
-pub mod MapTraces
-pub mod MapGoing
-pub mod Gathering
-pub mod ChoicesDecided
-pub mod EndExists
-pub mod OneBest
-mod TraceExamples
 pub mod DivisorFacts
-pub mod Searching
-pub mod Trying
-pub mod Going
+pub mod OneBest
+pub mod SearchSteps
+pub mod SearchLemmas
+pub mod SearchSignals
+pub mod ChoicesDecided
+pub mod MapTraces
+pub mod MapLemmas
+pub mod EndExists

@@ -1,12 +1,11 @@
 -- A signal that follows an input: mapped at once by a buffer, and unmapped where there is no cell.
-use Rattle.std.proofs.Common.{◌≡◌, ℕ, zero, suc, ◌<◌, List, [], ◌∷◌, true, slice_get, is_some, codes, refl, sym, ap, subst, ◌∙◌, arith}
+use Rattle.std.proofs.Common.{◌≡◌, ℕ, zero, suc, ◌<◌, List, [], slice_get, is_some, codes, refl, sym, ap, subst, ◌∙◌, arith}
 use Rattle.std.proofs.lemmas.Bool.{true≢false}
 use Rattle.std.proofs.lemmas.Option.{slice_get_within, same_Some}
-use Rattle.si_base.specs.Codes.{CodedGraph}
-use Rattle.si_base.specs.Graph.{IsNonInput, arc, fall, is_driven, rise}
+use Rattle.si_base.specs.Graph.{IsNonInput, is_driven}
 use Rattle.si_base.specs.declared.graph.Signal.{Signal}
 use Rattle.si_base.specs.declared.graph.SigKind.TheVariants.{Input, Output}
-use Rattle.si_cell.specs.Library.{Cell, Library, Instance}
+use Rattle.si_cell.specs.Library.{Library, Instance}
 use Rattle.si_circuit.specs.Cells.{AllFit, IsFirstUnfit}
 use Rattle.si_divisor.specs.Divisors.{divisors_of}
 use Rattle.si_insert.specs.Lineage.{Current, as_given}
@@ -14,43 +13,20 @@ use Rattle.si_match.specs.Fit.{first_fit}
 use Rattle.si_map.specs.Best.{NoneServes}
 use Rattle.si_map.specs.Trace.{MapsTo, EndsUnmapped}
 use Rattle.si_map.proofs.EndLemmas.{not_both}
+use Rattle.si_map.proofs.Examples.{follower, buffers}
 
-abbrev input : Signal
-input = record { name = codes "a"; kind = Input }
-
-abbrev output : Signal
-output = record { name = codes "b"; kind = Output }
-
-abbrev follower : CodedGraph
-follower = record {
-  graph = record {
-    signals = input ∷ output ∷ [];
-    states = 4;
-    edges = arc 0 (rise 0) 1 ∷ arc 1 (rise 1) 2 ∷ arc 2 (fall 0) 3 ∷ arc 3 (fall 1) 0 ∷ [];
-    start = 0;
-  };
-  codes = 0 ∷ 1 ∷ 3 ∷ 2 ∷ [];
-}
-
-abbrev buffer : Cell
-buffer = record {
-  name = codes "BUF";
-  pins = codes "a" ∷ [];
-  sum = (record { sig = 0; plain = true } ∷ []) ∷ [];
-}
-
-abbrev library : List Cell → Library
-library cells = record { name = codes "l"; cells = cells }
+abbrev no_cells : Library
+no_cells = record { name = codes "l"; cells = [] }
 
 abbrev start : Current
 start = as_given follower
 
 not_driven : IsNonInput follower.graph.signals 0 → ⊥
 not_driven (x, at, is) =
-    let same : input ≡ x = same_Some input x at in
+    let same = same_Some (record { name = codes "a"; kind = Input }) x at in
     true≢false (sym is ∙ ap (λ (y : Signal). is_driven y.kind) (sym same))
 
-fits_all : AllFit follower (library (buffer ∷ []))
+fits_all : AllFit follower buffers
 unfolding first_fit
 fits_all zero driven = absurd (not_driven driven)
 fits_all (suc zero) driven = refl
@@ -58,13 +34,13 @@ fits_all (suc (suc z)) (x, at, is) =
     absurd (omega (arith, slice_get_within follower.graph.signals (suc (suc z)) x at))
 
 -- with a buffer nothing is inserted
-mapped : MapsTo (library (buffer ∷ [])) start [] start
+mapped : MapsTo buffers start [] start
 mapped = record { goes = refl; done = fits_all }
 
-first_unfit : IsFirstUnfit follower (library []) 1
+first_unfit : IsFirstUnfit follower no_cells 1
 unfolding first_fit
 first_unfit = record {
-  driven = (output, refl, refl);
+  driven = (record { name = codes "b"; kind = Output }, refl, refl);
   unfit = refl;
   others = λ y below driven. absurd (not_driven (at_zero y below driven));
 }
@@ -74,7 +50,7 @@ first_unfit = record {
         let same : y ≡ 0 = omega (arith, below) in subst (IsNonInput follower.graph.signals) same driven
 
 -- without cells there is no divisor
-none_serves : NoneServes follower (library [])
+none_serves : NoneServes follower no_cells
 unfolding divisors_of
 none_serves x serves =
     let empty : List Instance = [] in
@@ -82,5 +58,5 @@ none_serves x serves =
     let there = sym (ap (λ ds. slice_get ds x.place) none) ∙ serves.at.there in
     not_both (slice_get empty x.place) (ap (λ o. is_some o) there) refl
 
-unmapped : EndsUnmapped (library []) start [] start 1
+unmapped : EndsUnmapped no_cells start [] start 1
 unmapped = record { goes = refl; stuck = record { first = first_unfit; none = none_serves } }

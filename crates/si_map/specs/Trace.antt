@@ -1,10 +1,10 @@
 -- Mapping: the best divisor is inserted as a signal, again and again, while one serves.
-use Rattle.std.specs.Prelude.{◌≡◌, ℕ, List, [], ◌∷◌, codes}
+use Rattle.std.specs.Prelude.{◌≡◌, ℕ, List, codes}
 use Rattle.si_cell.specs.Library.{Library}
 use Rattle.si_circuit.specs.Cells.{AllFit, IsFirstUnfit}
 use Rattle.si_insert.specs.declared.lineage.TraceStep.{TraceStep}
 use Rattle.si_insert.specs.Fresh.{IsFresh}
-use Rattle.si_insert.specs.Lineage.{Current, Inserts}
+use Rattle.si_insert.specs.Lineage.{Current, Inserts, IsTrace}
 use Rattle.si_map.specs.Best.{Choice, IsBest, NoneServes}
 
 -- the best divisor of v is inserted as `map` and makes u
@@ -15,10 +15,9 @@ pub record Maps (library : Library) (v : Current) (p : TraceStep) (u : Current) 
   pub name : IsFresh v.coded.graph.signals (codes "map") p.name
   pub inserts : Inserts v p u
 
--- the insertions, one after another, lead from v to w
+-- such insertions, one after another, lead from v to w
 abbrev pub IsMapping : Library → Current → List TraceStep → Current → Type 0
-IsMapping library v [] w = v ≡ w
-IsMapping library v (p ∷ trace) w = (u : Current) × Maps library v p u × IsMapping library u trace w
+IsMapping library v trace w = IsTrace (Maps library) v trace w
 
 -- the trace ends where each signal that the circuit drives fits a cell
 pub record MapsTo (library : Library) (v : Current) (trace : List TraceStep) (w : Current)

@@ -17,6 +17,7 @@ ghost use Rattle.si_map.specs.Ends.{ShowsStuck};
 ghost use Rattle.si_map.specs.Trace.{IsMapping, Maps, MapsTo};
 
 use crate::best::best_divisor;
+use crate::search::STEM;
 use si_base::ids::{NoMemory, Sig};
 use si_base::names::Names;
 use si_base::text::Name;
@@ -151,9 +152,6 @@ fn inserted(alloc: Global, resolved: Resolved, insertion: Insertion) -> Result<R
         Err((back, _accepted, NoMemory)) => Err(Resolved::known(back)),
     }
 }
-
-/// With what the names of signals begin that are inserted for the gates of others.
-const STEM: &[u8] = b"map";
 
 /// The partition for the best divisor, if one serves, and a name for its signal.
 fn best_insertion(

@@ -27,8 +27,8 @@ use si_match::fit::fit;
 use si_match::weight::weight_below;
 use std::alloc::Global;
 
-/// With what the name of a signal begins that mapping inserts.
-const STEM: &[u8] = b"map";
+/// With what the names of signals begin that are inserted for the gates of others.
+pub(crate) const STEM: &[u8] = b"map";
 
 /// The most accepted partitions that are kept so as not to be tried again.
 const MAX_TRIED: usize = 256;

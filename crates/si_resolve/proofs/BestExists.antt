@@ -1,11 +1,9 @@
 -- A proper graph has a best candidate that leaves fewer conflicts than it has, or none leaves fewer.
-use Rattle.std.proofs.Common.{◌≡◌, ℕ, zero, suc, ◌+◌, ◌<◌, ◌≤◌, ◌⊎◌, Bool, List, length, Option, Some, None, refl, sym, subst, subst₂, ◌∙◌, arith, inl, inr}
-use Rattle.std.proofs.lemmas.Bool.{cases_lt}
+use Rattle.std.proofs.Common.{◌≡◌, ℕ, ◌<◌, ◌⊎◌, Bool, List, length, Option, Some, None, refl, sym, subst, subst₂, ◌∙◌, arith, inl, inr}
 use Rattle.si_base.specs.Codes.{CodedGraph, IsCoded}
 use Rattle.si_base.specs.Proper.{IsProper}
+use Rattle.si_checks.specs.Searches.{IsFirstOrNone}
 use Rattle.si_checks.proofs.DecisionLemmas.{Decided, both, less}
-use Rattle.si_insert.specs.declared.partition.Class.{Class}
-use Rattle.si_insert.specs.Accepted.{IsAccepted}
 use Rattle.si_conflicts.specs.Conflicts.{HasConflicts}
 use Rattle.si_conflicts.proofs.ConflictsExist.{some_count}
 use Rattle.si_conflicts.proofs.LeftCount.{some_left}
@@ -13,9 +11,13 @@ use Rattle.si_candidates.specs.Blocks.{AreBlocks, IsCandidate, block_at}
 use Rattle.si_candidates.specs.Parts.{AreClasses}
 use Rattle.si_candidates.proofs.Decisions.{disjoint_or_not}
 use Rattle.si_candidates.proofs.AcceptanceDecided.{accepted_classes_or_none}
-use Rattle.si_resolve.specs.Best.{Choice, IsChoice, Improves, NoneImproves}
-use Rattle.si_resolve.specs.Search.{IsEarlier, IsBestSoFar, bar}
-use Rattle.si_resolve.proofs.Searching.{one_number, search_start, search_skip, search_take, search_row, search_finds, search_finds_none}
+use Rattle.si_insert.specs.declared.partition.Class.{Class}
+use Rattle.si_insert.specs.Accepted.{IsAccepted}
+use Rattle.si_insert.proofs.RowSearchLemmas.{first_or_none}
+use Rattle.si_resolve.specs.Best.{Choice, IsChoice, choice_place, Improves, NoneImproves}
+use Rattle.si_resolve.specs.Search.{IsFewer}
+use Rattle.si_resolve.proofs.OneBest.{one_number}
+use Rattle.si_resolve.proofs.SearchSteps.{weight, row, place, lower, one_weight, within, improves, none_improves}
 
 module _ (c : CodedGraph) (blocks : List (List Bool)) (n : ℕ) (is : IsCoded c) (proper : IsProper c.graph) where
   -- ---- one candidate
@@ -67,69 +69,36 @@ module _ (c : CodedGraph) (blocks : List (List Bool)) (n : ℕ) (is : IsCoded c)
         ])
   ]
 
-  -- ---- one candidate after another
-  abbrev Found : ℕ → ℕ → Type 0
-  Found j i = (o : Option Choice) × IsBestSoFar c blocks n j i o
-
-  passed_over : (j i : ℕ) (o : Option Choice) → ((x : Choice) × Chosen i j x → ⊥) → IsBestSoFar c blocks n j i o
-      → Found j (i + 1)
-  passed_over j i o none so =
-      let high : (y : Choice) → IsChoice c blocks y → y.j ≡ j → y.i ≡ i → bar n o ≤ y.conflicts =
-      λ y choice at_j at_i. absurd (none (y, record { choice = choice; at_i = at_i; at_j = at_j })) in
-      (o, search_skip c blocks n j i o high so)
-
-  compared : (j i : ℕ) (o : Option Choice) (x : Choice) → Chosen i j x → IsBestSoFar c blocks n j i o → Found j (i + 1)
-  compared j i o x chosen so = elim (cases_lt x.conflicts (bar n o)) [
-    | inl below ↦ (Some x, search_take c blocks n j i o x is chosen.choice chosen.at_j chosen.at_i below so)
-    | inr above ↦ (
-        let high : (y : Choice) → IsChoice c blocks y → y.j ≡ j → y.i ≡ i → bar n o ≤ y.conflicts =
-        λ y choice at_j at_i. (
-        let same =
-        one_number c blocks x y is chosen.choice choice (chosen.at_j ∙ sym at_j) (chosen.at_i ∙ sym at_i) in
-        omega (arith, same, above)) in
-        (o, search_skip c blocks n j i o high so))
+  -- one that leaves fewer conflicts, at the place i of row j
+  fewer_or_none : (j i : ℕ) → Decided ((x : Choice) × IsFewer c blocks n x × (x.j ≡ j) × (x.i ≡ i))
+  fewer_or_none j i = elim (choice_or_none i j) [
+    | inr none ↦ inr (λ (x, fewer, at_j, at_i).
+        none (x, record { choice = fewer.choice; at_i = at_i; at_j = at_j }))
+    | inl (x, chosen) ↦ elim (less x.conflicts n) [
+      | inl fewer ↦ inl (x, record { choice = chosen.choice; fewer = fewer }, chosen.at_j, chosen.at_i)
+      | inr not_fewer ↦ inr (λ (y, fewer, at_j, at_i). (
+          let same =
+          one_number c blocks y x is fewer.choice chosen.choice (at_j ∙ sym chosen.at_j) (at_i ∙ sym chosen.at_i) in
+          not_fewer (subst (λ m. m < n) same fewer.fewer)))
+    ]
   ]
 
-  next_place : (j i : ℕ) → Found j i → Found j (i + 1)
-  next_place j i (o, so) = elim (choice_or_none i j) [
-    | inl (x, chosen) ↦ compared j i o x chosen so
-    | inr none ↦ passed_over j i o none so
-  ]
+  width : (j : ℕ) → (m : ℕ) × ((y : Choice) → IsFewer c blocks n y → y.j ≡ j → y.i < m)
+  width j = (j, λ y fewer at_j. (let order = fewer.choice.candidate.order in omega (arith, order, at_j)))
 
-  along_row : (j i : ℕ) → Found j 0 → Found j i
-  along_row j zero found = found
-  along_row j (suc i) found =
-      let next : i + 1 ≡ suc i = omega arith in
-      subst (Found j) next (next_place j i (along_row j i found))
-
-  -- each choice of a row stands before the place of the row itself
-  row_end : (j : ℕ) (o : Option Choice) (y : Choice) → IsChoice c blocks y → y.j ≡ j
-      → IsEarlier y j j ⊎ ((IsEarlier y j j → ⊥) × (bar n o ≤ y.conflicts))
-  row_end j o y choice at_j =
-      let below : y.i < j = omega (arith, choice.candidate.order, at_j) in
-      inl (inr (at_j, inl below))
-
-  next_row : (j : ℕ) → Found j 0 → Found (j + 1) 0
-  next_row j found =
-      let all = along_row j j found in
-      (all.0, search_row c blocks n j j all.0 (row_end j all.0) all.1)
-
-  all_rows : (j : ℕ) → Found j 0
-  all_rows zero = (None, search_start c blocks n)
-  all_rows (suc j) =
-      let P : ℕ → Type 0 = λ k. Found k 0 in
-      let next : j + 1 ≡ suc j = omega arith in
-      subst P next (next_row j (all_rows j))
+  first_fewer : (found : Option Choice) × IsFirstOrNone choice_place (IsFewer c blocks n) found
+  first_fewer = first_or_none (IsFewer c blocks n) weight row place n (lower c blocks n) (one_weight c blocks n is)
+      fewer_or_none width (length blocks) (within c blocks n)
 
 -- ---- the end of the search
 pub best_or_none : (c : CodedGraph) (blocks : List (List Bool)) → IsCoded c → IsProper c.graph → AreBlocks c blocks
     → ((x : Choice) × Improves c x) ⊎ NoneImproves c
 best_or_none c blocks is proper are =
-    let counted = some_count c in
-    let found = all_rows c blocks counted.0 is proper (length blocks) in
-    at_end found.0 counted.0 counted.1 found.1
+    let (n, counted) = some_count c in
+    let (found, first) = first_fewer c blocks n is proper in
+    at_end found n counted first
   where
-    at_end : (o : Option Choice) (n : ℕ) → HasConflicts c n → IsBestSoFar c blocks n (length blocks) 0 o
-        → ((x : Choice) × Improves c x) ⊎ NoneImproves c
-    at_end None n counted so = inr (search_finds_none c blocks n are counted so)
-    at_end (Some x) n counted so = inl (x, search_finds c blocks n x are counted so)
+    at_end : (found : Option Choice) (n : ℕ) → HasConflicts c n
+        → IsFirstOrNone choice_place (IsFewer c blocks n) found → ((x : Choice) × Improves c x) ⊎ NoneImproves c
+    at_end None n counted none = inr (none_improves c blocks n are counted none)
+    at_end (Some x) n counted first = inl (x, improves c blocks n x are counted first)

@@ -2,7 +2,7 @@
 use Rattle.std.proofs.Common.{◌≡◌, ℕ, [], Some, None, refl, inl, inr, lit<}
 use Rattle.si_base.specs.Order.{Before}
 use Rattle.si_resolve.specs.Best.{Choice, choice_place}
-use Rattle.si_resolve.specs.Progress.{told_best, bar_by}
+use Rattle.si_resolve.specs.Search.{bar}
 
 abbrev choice : ℕ → ℕ → ℕ → Choice
 choice i j conflicts = record { i = i; j = j; classes = []; conflicts = conflicts }
@@ -20,8 +20,8 @@ lower_earlier : Before (choice_place (choice 1 4 2)) (choice_place (choice 3 4 2
 lower_earlier = inr (refl, inr (refl, inl (lit< tt)))
 
 -- a graph of five conflicts: before anything is found, fewer than five count, then fewer than two
-at_first : bar_by 5 (told_best None) ≡ 5
+at_first : bar 5 None ≡ 5
 at_first = refl
 
-later : bar_by 5 (told_best (Some (choice 3 4 2))) ≡ 2
+later : bar 5 (Some (choice 3 4 2)) ≡ 2
 later = refl

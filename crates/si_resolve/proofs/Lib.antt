@@ -1,12 +1,11 @@
 mod Examples
 pub mod OneBest
-pub mod Searching
+pub mod SearchSteps
 pub mod Traces
-pub mod InsertionsExist
 pub mod BestExists
 pub mod EndsExist
-pub mod Going
 pub mod BlockSizes
-pub mod Trying
-pub mod Usability
-pub mod Finding
+pub mod BlockListLemmas
+pub mod SearchLemmas
+pub mod BestLemmas
+pub mod ResolveLemmas

@@ -4,6 +4,7 @@ use Rattle.si_base.specs.Codes.{CodedGraph}
 use Rattle.si_base.specs.Graph.{StateGraph}
 use Rattle.si_base.specs.Limits.{max_states}
 use Rattle.si_insert.specs.declared.partition.Class.{Class}
+use Rattle.si_insert.specs.RowSearch.{bar}
 use Rattle.si_candidates.specs.Blocks.{AreDisjoint}
 use Rattle.si_candidates.specs.Parts.{AreClasses}
 use Rattle.si_conflicts.specs.Chains.{AreChains}
@@ -14,12 +15,12 @@ use Rattle.si_resolve.specs.declared.search.Found.{Found}
 use Rattle.si_resolve.specs.declared.search.Search.{Search}
 
 -- the places of the blocks of a candidate and the number of conflicts, without the partition
-abbrev pub told : Choice → Found
-told x = record { i = x.i; j = x.j; conflicts = x.conflicts }
+abbrev pub found_of : Choice → Found
+found_of x = record { i = x.i; j = x.j; conflicts = x.conflicts }
 
-abbrev pub told_best : Option Choice → Option Found
-told_best None = None
-told_best (Some x) = Some (told x)
+abbrev pub best_of : Option Choice → Option Found
+best_of None = None
+best_of (Some x) = Some (found_of x)
 
 -- the search has looked at the candidates before the places j and i
 pub record IsSearching (c : CodedGraph) (blocks : List (List Bool)) (j i : ℕ) (search : Search)
@@ -28,25 +29,20 @@ pub record IsSearching (c : CodedGraph) (blocks : List (List Bool)) (j i : ℕ) 
   pub chains : AreChains c search.chains
   pub best : Option Choice
   pub is_best : IsBestSoFar c blocks search.given j i best
-  pub found : search.best ≡ told_best best
+  pub found : search.best ≡ best_of best
 
 -- the search found the best candidate, which has fewer conflicts than the graph
 pub record IsFound (c : CodedGraph) (blocks : List (List Bool)) (found : Found) : Type 0 where
   pub choice : Choice
   pub improves : Improves c choice
   pub is_choice : IsChoice c blocks choice
-  pub tells : found ≡ told choice
+  pub is : found ≡ found_of choice
 
 -- ---- one candidate
 
--- the given number, or that of the best so far
-abbrev pub bar_by : ℕ → Option Found → ℕ
-bar_by given None = given
-bar_by given (Some x) = x.conflicts
-
 -- the number of conflicts that the next candidate has to get below
 abbrev pub bar_of : Search → ℕ
-bar_of search = bar_by search.given search.best
+bar_of search = bar (λ (x : Found). x.conflicts) search.given search.best
 
 -- the blocks share no state, and the inserted graph has no more states than a graph may have
 pub record MayBeAccepted (g : StateGraph) (plus minus : List Bool) : Type 0 where

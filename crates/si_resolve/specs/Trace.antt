@@ -1,9 +1,9 @@
 -- Resolving: the best candidate is inserted while it has fewer conflicts than the graph.
-use Rattle.std.specs.Prelude.{◌≡◌, ℕ, List, [], ◌∷◌, codes}
+use Rattle.std.specs.Prelude.{◌≡◌, ℕ, List, codes}
 use Rattle.si_base.specs.Proper.{HasNoConflict}
 use Rattle.si_insert.specs.declared.lineage.TraceStep.{TraceStep}
 use Rattle.si_insert.specs.Fresh.{IsFresh}
-use Rattle.si_insert.specs.Lineage.{Current, Inserts}
+use Rattle.si_insert.specs.Lineage.{Current, Inserts, IsTrace}
 use Rattle.si_resolve.specs.Best.{Choice, Improves, IsStuck}
 
 -- the best candidate of v, which has fewer conflicts than v, is inserted as `csc` and makes u
@@ -14,10 +14,9 @@ pub record Resolves (v : Current) (p : TraceStep) (u : Current) : Type 0 where
   pub name : IsFresh v.coded.graph.signals (codes "csc") p.name
   pub inserts : Inserts v p u
 
--- the insertions, one after another, lead from v to w
+-- such insertions, one after another, lead from v to w
 abbrev pub IsResolving : Current → List TraceStep → Current → Type 0
-IsResolving v [] w = v ≡ w
-IsResolving v (p ∷ trace) w = (u : Current) × Resolves v p u × IsResolving u trace w
+IsResolving v trace w = IsTrace Resolves v trace w
 
 -- the trace ends at a graph without conflicts
 pub record ResolvesTo (v : Current) (trace : List TraceStep) (w : Current) : Type 0 where

@@ -3,7 +3,7 @@ use Rattle.si_base.specs.Graph.{StateGraph}
 use Rattle.si_base.specs.Codes.{CodedGraph}
 use Rattle.si_checks.specs.Lent.{lent_graph}
 use Rattle.si_map.specs.Progress.{IsSearching}
-use Rattle.si_map.proofs.Going.{found, pass_input_by}
+use Rattle.si_map.proofs.SearchSignals.{found, pass_input_by}
 use Rattle.si_map.proofs.search.find_best.Goals as goal
 
 pub loop-i-preserved-then-not-is_driven : goal.loop-i-preserved-then-not-is_driven

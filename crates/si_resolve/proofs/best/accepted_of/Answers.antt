@@ -1,6 +1,6 @@
 use Rattle.std.proofs.Common.{◌<◌, ◌∙◌, length, arith}
-use Rattle.si_resolve.proofs.Finding.{AreBlocksOf, best_is, never_refused, never_torn, order_of}
-use Rattle.si_resolve.proofs.Trying.{block_size}
+use Rattle.si_resolve.proofs.BestLemmas.{AreBlocksOf, best_is, never_refused, never_torn, order_of}
+use Rattle.si_resolve.proofs.SearchLemmas.{block_size}
 use Rattle.si_resolve.proofs.best.accepted_of.Goals as goal
 
 pub classes-requires-clause-plus_size : goal.classes-requires-clause-plus_size

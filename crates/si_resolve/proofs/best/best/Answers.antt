@@ -2,7 +2,7 @@ use Rattle.std.proofs.Common.{◌∙◌, ap, subst}
 use Rattle.si_base.specs.Graph.{StateGraph}
 use Rattle.si_base.specs.Codes.{CodedGraph}
 use Rattle.si_conflicts.specs.Conflicts.{HasConflicts}
-use Rattle.si_resolve.proofs.Usability.{none_from_zero, none_without_room}
+use Rattle.si_resolve.proofs.BlockListLemmas.{none_from_zero, none_without_room}
 use Rattle.si_resolve.proofs.best.best.Goals.{then-conflicts-eq0-via-then-conflicts-eq0, then-conflicts-eq0-via-else-conflicts-eq0+then-signals-ge-MAX_SIGNALS}
 use Rattle.si_resolve.proofs.best.best.Goals as goal
 

@@ -1,4 +1,4 @@
-use Rattle.si_resolve.proofs.Usability.{usable_by, unusable}
+use Rattle.si_resolve.proofs.BlockListLemmas.{usable_by, unusable}
 use Rattle.si_resolve.proofs.block_list.is_usable.Goals as goal
 
 pub returns-in-Some : goal.returns-in-Some

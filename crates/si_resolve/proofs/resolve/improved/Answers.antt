@@ -1,5 +1,5 @@
 use Rattle.std.proofs.Common.{refl}
-use Rattle.si_resolve.proofs.Going.{stuck_at}
+use Rattle.si_resolve.proofs.ResolveLemmas.{stuck_at}
 use Rattle.si_resolve.proofs.resolve.improved.Goals as goal
 
 pub returns-in_default-found-clause-unresolved : goal.returns-in_default-found-clause-unresolved

@@ -1,4 +1,4 @@
-use Rattle.si_map.proofs.Trying.{found_tried, none_found, zero_tried}
+use Rattle.si_map.proofs.SearchLemmas.{found_tried, none_found, zero_tried}
 use Rattle.si_map.proofs.search.Search.try_divisor.Goals as goal
 
 pub returns-then-self-eq0 : goal.returns-then-self-eq0

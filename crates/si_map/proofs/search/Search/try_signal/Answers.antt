@@ -2,7 +2,7 @@ use Rattle.std.proofs.Common.{◌≡◌, ◌<◌, ◌∙◌, length, sym, ap, su
 use Rattle.si_cell.specs.Library.{Instance}
 use Rattle.si_checks.specs.Lent.{lent_graph}
 use Rattle.si_map.specs.Progress.{IsSearching}
-use Rattle.si_map.proofs.Going.{unfit_by, next_divisor, end_signal, pass_fitted}
+use Rattle.si_map.proofs.SearchSignals.{unfit_by, next_divisor, end_signal, pass_fitted}
 use Rattle.si_map.proofs.DivisorFacts.{is_instance}
 use Rattle.si_map.proofs.search.Search.try_signal.Goals as goal
 

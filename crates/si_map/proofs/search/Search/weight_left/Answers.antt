@@ -1,5 +1,5 @@
 use Rattle.std.proofs.Common.{◌∙◌}
-use Rattle.si_map.proofs.Trying.{below_left, conflict_left, free_left, inserted_free, none_below_left}
+use Rattle.si_map.proofs.SearchLemmas.{below_left, conflict_left, free_left, inserted_free, none_below_left}
 use Rattle.si_map.proofs.search.Search.weight_left.Goals as goal
 
 pub returns-then-is_none-clause-none : goal.returns-then-is_none-clause-none

@@ -1,7 +1,7 @@
 use Rattle.std.proofs.Common.{◌<◌, ℕ, subst, sym}
 use Rattle.si_candidates.specs.Parts.{AreClasses}
 use Rattle.si_resolve.specs.Progress.{LeavesNoneBelow}
-use Rattle.si_resolve.proofs.Trying.{lawful_classes, one_leaves_none, if_none, if_some}
+use Rattle.si_resolve.proofs.SearchLemmas.{lawful_classes, one_leaves_none, if_none, if_some}
 use Rattle.si_resolve.proofs.search.Search.left_below.Goals as goal
 
 pub trial_below-requires-clause-lawful : goal.trial_below-requires-clause-lawful

@@ -1,6 +1,6 @@
 use Rattle.std.proofs.Common.{◌<◌, ◌∙◌, length, sym, arith}
 use Rattle.si_candidates.specs.Blocks.{block_at}
-use Rattle.si_resolve.proofs.Trying.{block_size, none_by_both, none_by_first, none_by_zero, not_both, not_usable}
+use Rattle.si_resolve.proofs.SearchLemmas.{block_size, none_by_both, none_by_first, none_by_zero, not_both, not_usable}
 use Rattle.si_resolve.proofs.search.Search.may_be_better.Goals.{then-bar-gt0, else-bar-gt0}
 use Rattle.si_resolve.proofs.search.Search.may_be_better.Goals as goal
 

@@ -20,11 +20,10 @@ use Rattle.si_insert.specs.Made.{copies_of}
 use Rattle.si_match.specs.Weight.{weight_of}
 use Rattle.si_map.specs.declared.search.Search.{Search}
 use Rattle.si_map.specs.Best.{Choice, IsDivisorAt, LeavesWeight, Serves}
-use Rattle.si_map.specs.Search.{IsBestSoFar, bar}
 use Rattle.si_map.specs.Progress.{IsReady, IsSearching, HasTried, IsPassed, IsKept, IsTried, IsKnown, IsGrown, LeavesBelow, LeavesNoneBelow}
 use Rattle.si_map.proofs.DivisorFacts.{one_divisor}
 use Rattle.si_map.proofs.NoneLeft.{none_left}
-use Rattle.si_map.proofs.Searching.{search_skip, search_take}
+use Rattle.si_map.proofs.SearchSteps.{bar_low, search_skip, search_take}
 use Rattle.si_map.proofs.WeightLeft.{weight_is_one}
 
 -- ---- the inserted graph of a partition
@@ -95,12 +94,6 @@ module _ (c : CodedGraph) (library : Library) (classes : List Class) (name : Lis
   none_below_left (Some w) low told = told
 
 -- ---- the search
--- what is still to get below is never more than the weight of the graph
-bar_le : (c : CodedGraph) (library : Library) (z k : ℕ) (o : Option Choice) → IsBestSoFar c library z k o
-    → bar (weight_of c library) o ≤ weight_of c library
-bar_le c library z k None so = omega arith
-bar_le c library z k (Some x) so = omega (arith, so.serves.lower)
-
 module _ (c : CodedGraph) (library : Library) (z k : ℕ) (s : Search) (so : IsSearching c library z k s) where
   pub skip : (t : Search) → IsReady c library t → t.bar ≡ s.bar → t.best ≡ s.best
       → ((y : Choice) → Serves c library y → y.signal ≡ z → y.place ≡ k → s.bar ≤ y.weight)
@@ -128,7 +121,7 @@ module _ (c : CodedGraph) (library : Library) (z k : ℕ) (s : Search) (so : IsS
 
   pub under : (n : ℕ) → n < s.bar → n < weight_of c library
   under n below =
-      let least = bar_le c library z k so.best so.is_best in omega (arith, so.bar_is, below, least)
+      let least = bar_low c library z k so.best so.is_best in omega (arith, so.bar_is, below, least)
 
 -- ---- one partition
 known_leaves : (c : CodedGraph) (library : Library) (s : Search) (classes : List Class) → IsReady c library s

@@ -1,5 +1,5 @@
 -- Blocks that a search may pass over, and graphs that it needn't be made for.
-use Rattle.std.proofs.Common.{◌≡◌, ◌==◌, ℕ, ◌<◌, ◌≤◌, ◌↔◌, Bool, false, List, length, get_or, IsTrue, sym, ◌∙◌, arith, [], ◌∷◌, ap}
+use Rattle.std.proofs.Common.{◌≡◌, ℕ, ◌≤◌, ◌↔◌, Bool, false, List, length, IsTrue, sym, arith, ap}
 use Rattle.std.proofs.lemmas.Bool.{true≢false}
 use Rattle.si_base.specs.declared.graph.Signal.{Signal}
 use Rattle.si_base.specs.Graph.{StateGraph}

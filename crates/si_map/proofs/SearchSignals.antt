@@ -5,14 +5,15 @@ use Rattle.std.proofs.lemmas.Option.{slice_get-get_or}
 use Rattle.si_base.specs.Codes.{CodedGraph}
 use Rattle.si_base.specs.Graph.{StateGraph, IsNonInput}
 use Rattle.si_cell.specs.Library.{Library, Instance}
+use Rattle.si_checks.specs.Searches.{IsFirstOrNone}
 use Rattle.si_divisor.specs.Divisors.{AreDivisors}
 use Rattle.si_match.specs.Fit.{first_fit}
 use Rattle.si_map.specs.declared.search.Search.{Search}
-use Rattle.si_map.specs.Best.{Choice, IsUnfit, IsDivisorAt, Serves, IsBest, NoneServes}
-use Rattle.si_map.specs.Search.{IsEarlier, IsBestSoFar}
+use Rattle.si_map.specs.Best.{Choice, IsUnfit, IsDivisorAt, Serves, IsBest, NoneServes, choice_place}
+use Rattle.si_map.specs.Search.{IsEarlier}
 use Rattle.si_map.specs.Progress.{IsSearching, HasTried, classes_of}
 use Rattle.si_map.proofs.DivisorFacts.{place_within}
-use Rattle.si_map.proofs.Searching.{search_signal, search_finds, search_finds_none}
+use Rattle.si_map.proofs.SearchSteps.{search_signal, search_ends}
 
 module _ (c : CodedGraph) (library : Library) where
   -- ---- one divisor after another
@@ -72,13 +73,14 @@ module _ (c : CodedGraph) (library : Library) where
           (ap (first_fit c library) (sym at) ∙ serves.unfit.unfit))
 
   -- ---- the end of all
-  tells : (o : Option Choice) → IsBestSoFar c library (length c.graph.signals) 0 o
+  best_shown : (o : Option Choice) → IsFirstOrNone choice_place (Serves c library) o
       → MatchOption (classes_of o) (NoneServes c library)
       (λ a. (x : Choice) × IsBest c library x × (x.classes ≡ a))
-  tells None so = search_finds_none c library so
-  tells (Some x) so = (x, search_finds c library x so, refl)
+  best_shown None none = none
+  best_shown (Some x) first = (x, first, refl)
 
   pub found : (s : Search) → IsSearching c library (length c.graph.signals) 0 s
       → MatchOption s.best (NoneServes c library) (λ a. (x : Choice) × IsBest c library x × (x.classes ≡ a))
   found s so = subst (λ o. MatchOption o (NoneServes c library)
-      (λ a. (x : Choice) × IsBest c library x × (x.classes ≡ a))) (sym so.kept) (tells so.best so.is_best)
+      (λ a. (x : Choice) × IsBest c library x × (x.classes ≡ a))) (sym so.kept)
+      (best_shown so.best (search_ends c library so.best so.is_best))

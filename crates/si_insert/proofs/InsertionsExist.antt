@@ -1,17 +1,13 @@
--- An accepted partition can be inserted under a free name, and there is one.
-use Rattle.std.proofs.Common.{◌≡◌, ◌≢◌, ℕ, zero, suc, ◌+◌, ◌<◌, ◌≤◌, List, [], ◌∷◌, ◌++◌, length, get_or, decimal, All, refl, sym, subst, ◌∙◌, arith, inl, inr, bytes_eq}
-use Rattle.std.proofs.lemmas.Bool.{cases_Bool, cases_lt, true≢false}
+-- An accepted partition can be inserted under a free name.
+use Rattle.std.proofs.Common.{◌≡◌, ◌≢◌, ℕ, ◌<◌, List, [], ◌∷◌, ◌++◌, length, get_or, All, refl, arith}
 use Rattle.std.proofs.lemmas.List.{get_or_default}
 use Rattle.std.proofs.lemmas.List.Elements.{All-contains, Contains-get_or}
-use Rattle.std.proofs.lemmas.Slice.Eq.{bytes_eq-Decides}
 use Rattle.si_base.specs.declared.graph.Edge.{Edge}
 use Rattle.si_base.specs.declared.graph.Signal.{Signal}
 use Rattle.si_base.specs.Codes.{CodedGraph, IsCoded}
 use Rattle.si_base.specs.Graph.{StateGraph, IsGraph, IsMadeOf}
-use Rattle.si_base.specs.Limits.{max_signals}
 use Rattle.si_base.specs.Proper.{IsProper}
 use Rattle.si_graph.proofs.ArcsInOrder.{arcs_in_order}
-use Rattle.si_checks.proofs.DecisionLemmas.{Decided, some_of}
 use Rattle.si_insert.specs.declared.lineage.TraceStep.{TraceStep}
 use Rattle.si_insert.specs.declared.partition.Class.{Class}
 use Rattle.si_insert.specs.Accepted.{IsAccepted, copy_count}
@@ -20,48 +16,8 @@ use Rattle.si_insert.specs.Insertion.{IsInsertedGraph, new_signal}
 use Rattle.si_insert.specs.Lineage.{Current, Inserts, grown}
 use Rattle.si_insert.specs.Made.{CanBeMade, copies_of, new_edges, new_start}
 use Rattle.si_insert.proofs.Applying.{can_be_made, applied}
-use Rattle.si_insert.proofs.Free.{last_fresh}
-
--- ---- a free name
-same_name : (a b : List ℕ) → Decided (a ≡ b)
-same_name a b = elim (cases_Bool (bytes_eq a b)) [
-  | inl same ↦ inl ((bytes_eq-Decides a b).0 same)
-  | inr other ↦ inr (λ same. true≢false (sym ((bytes_eq-Decides a b).1 same) ∙ other))
-]
-
-taken_or_not : (signals : List Signal) (name : List ℕ) → Decided (IsTaken signals name)
-taken_or_not signals name =
-    elim (some_of (λ (x : Signal). x.name ≡ name) (λ x. same_name x.name name) signals) [
-      | inl (x, there, same) ↦ inl (there.0, x, there.1, there.2, same)
-      | inr none ↦ inr (λ taken. none (taken.1, (taken.0, taken.2, taken.3), taken.4))
-    ]
-
-module _ (signals : List Signal) (stem : List ℕ) (few : length signals ≤ max_signals) where
-  -- the stem with each number below k is taken
-  abbrev AreTaken : ℕ → Type 0
-  AreTaken k = (j : ℕ) → j < k → IsTaken signals (stem ++ decimal j)
-
-  taken_more : (k : ℕ) → AreTaken k → IsTaken signals (stem ++ decimal k) → AreTaken (k + 1)
-  taken_more k taken here j below = elim (cases_lt j k) [
-    | inl before ↦ taken j before
-    | inr above ↦ (
-        let same : k ≡ j = omega arith in
-        let P : ℕ → Type 0 = λ i. IsTaken signals (stem ++ decimal i) in
-        subst P same here)
-  ]
-
-  -- the search for it, with so many numbers left
-  fresh_from : (left k : ℕ) → k + left ≡ length signals → AreTaken k → (name : List ℕ) × IsFresh signals stem name
-  fresh_from zero k size taken =
-      let all : k ≡ length signals = omega arith in
-      (stem ++ decimal k, last_fresh signals signals stem (stem ++ decimal k) k few refl all taken refl)
-  fresh_from (suc left) k size taken = elim (taken_or_not signals (stem ++ decimal k)) [
-    | inl here ↦ fresh_from left (k + 1) (omega arith) (taken_more k taken here)
-    | inr free ↦ (stem ++ decimal k, record { number = k; is = refl; free = free; least = taken })
-  ]
-
-  pub some_fresh : (name : List ℕ) × IsFresh signals stem name
-  some_fresh = fresh_from (length signals) 0 (omega arith) (λ j below. absurd (omega arith))
+use Rattle.si_insert.proofs.OneFreshName.{some_fresh}
+use Rattle.si_insert.proofs.TraceLemmas.{coded_next}
 
 -- ---- the inserted graph
 module _ (c : CodedGraph) (classes : List Class) (name : List ℕ) (coded : IsCoded c)
@@ -131,5 +87,31 @@ some_next v p coded accepted free =
           makes = refl;
         };
         proper = accepted.proper (new_signal p.name) copies made.0 made.1;
+      },
+    )
+
+-- of that partition, by the fresh name of the stem
+pub record IsNextOf (v : Current) (stem : List ℕ) (classes : List Class) (p : TraceStep) (u : Current)
+    : Type 0 where
+  pub classes_are : p.partition ≡ classes
+  pub name : IsFresh v.coded.graph.signals stem p.name
+  pub inserts : Inserts v p u
+  pub coded : IsCoded u.coded
+  pub proper : IsProper u.coded.graph
+
+pub next_of : (v : Current) (stem : List ℕ) (classes : List Class) → IsCoded v.coded
+    → IsAccepted v.coded.graph classes → (p : TraceStep) × (u : Current) × IsNextOf v stem classes p u
+next_of v stem classes coded accepted =
+    let (name, fresh) = some_fresh v.coded.graph.signals stem coded.graph_is.few_signals in
+    let p : TraceStep = record { name = name; partition = classes } in
+    let (u, next) = some_next v p coded accepted fresh.free in (
+      p,
+      u,
+      record {
+        classes_are = refl;
+        name = fresh;
+        inserts = next.inserts;
+        coded = coded_next v p u coded next.inserts;
+        proper = next.proper;
       },
     )

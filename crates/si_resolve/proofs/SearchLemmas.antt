@@ -15,15 +15,17 @@ use Rattle.si_candidates.proofs.PartLaws.{classes_lawful, classes_unique, torn_h
 use Rattle.si_conflicts.specs.Chains.{AreChains}
 use Rattle.si_conflicts.specs.Conflicts.{HasConflicts}
 use Rattle.si_conflicts.specs.Left.{LeavesConflicts}
+use Rattle.si_insert.specs.RowSearch.{bar as bar_in}
+use Rattle.si_resolve.specs.declared.search.Found.{Found}
 use Rattle.si_resolve.specs.declared.search.Search.{Search}
 use Rattle.si_resolve.specs.Best.{Choice, IsChoice, NoneImproves}
 use Rattle.si_resolve.specs.Search.{IsBestSoFar, IsEarlier, bar}
 use Rattle.si_resolve.specs.Usable.{IsUsable, AreUsable}
-use Rattle.si_resolve.specs.Progress.{told, told_best, IsSearching, IsFound, bar_by, bar_of, MayBeAccepted, LeavesBelow, LeavesNoneBelow, NoneIsBelow, HasSameRoom}
+use Rattle.si_resolve.specs.Progress.{found_of, best_of, IsSearching, IsFound, bar_of, MayBeAccepted, LeavesBelow, LeavesNoneBelow, NoneIsBelow, HasSameRoom}
 use Rattle.si_candidates.proofs.Separable.{accepted_by_blocks}
 use Rattle.si_candidates.proofs.CopyCount.{copies_by_blocks}
 use Rattle.si_resolve.proofs.BlockSizes.{size_at}
-use Rattle.si_resolve.proofs.Searching.{search_start, search_skip, search_take, search_row, search_finds, search_finds_none, block_refuses}
+use Rattle.si_resolve.proofs.SearchSteps.{search_start, search_skip, search_take, search_row, search_finds, search_finds_none, block_refuses}
 
 -- ---- a candidate alone
 pub lawful_classes : (g : StateGraph) (plus minus : List Bool) (classes : List Class) → IsGraph g
@@ -100,9 +102,12 @@ candidate_choice c blocks i j low n is proper few are order within one other may
     }
 
 -- ---- the search
-bar_told : (n : ℕ) (o : Option Choice) → bar_by n (told_best o) ≡ bar n o
-bar_told n None = refl
-bar_told n (Some x) = refl
+abbrev bar_by : ℕ → Option Found → ℕ
+bar_by n o = bar_in (λ (x : Found). x.conflicts) n o
+
+bar_same : (n : ℕ) (o : Option Choice) → bar_by n (best_of o) ≡ bar n o
+bar_same n None = refl
+bar_same n (Some x) = refl
 
 pub same_room : (s : Search) → HasSameRoom s s
 same_room s = record { given = refl; best = refl; chains = refl; room = refl }
@@ -112,7 +117,7 @@ pub skip : (c : CodedGraph) (blocks : List (List Bool)) (j i : ℕ) (s t : Searc
     → NoneIsBelow c blocks i j (bar_of s) → IsSearching c blocks j (i + 1) t
 skip c blocks j i s t so same high =
     let n = s.given in
-    let low : bar_by n s.best ≡ bar n so.best = ap (bar_by n) so.found ∙ bar_told n so.best in
+    let low : bar_by n s.best ≡ bar n so.best = ap (bar_by n) so.found ∙ bar_same n so.best in
     let above : (y : Choice) → IsChoice c blocks y → y.j ≡ j → y.i ≡ i → bar n so.best ≤ y.conflicts =
     λ y choice at_j at_i. (let more = high y choice at_j at_i in omega (arith, low, more)) in
     let next = search_skip c blocks n j i so.best above so.is_best in
@@ -126,10 +131,10 @@ skip c blocks j i s t so same high =
 
 pub keep : (c : CodedGraph) (blocks : List (List Bool)) (j i : ℕ) (s t : Search) (x : Choice) → IsCoded c
     → IsSearching c blocks j i s → HasSameRoom s t → IsChoice c blocks x → x.j ≡ j → x.i ≡ i
-    → x.conflicts < bar_of s → IsSearching c blocks j (i + 1) (record t { best = Some (told x) })
+    → x.conflicts < bar_of s → IsSearching c blocks j (i + 1) (record t { best = Some (found_of x) })
 keep c blocks j i s t x is so same choice at_j at_i fewer =
     let n = s.given in
-    let low : bar_by n s.best ≡ bar n so.best = ap (bar_by n) so.found ∙ bar_told n so.best in
+    let low : bar_by n s.best ≡ bar n so.best = ap (bar_by n) so.found ∙ bar_same n so.best in
     let under : x.conflicts < bar n so.best = omega (arith, low, fewer) in
     let next = search_take c blocks n j i so.best x is choice at_j at_i under so.is_best in
     record {
@@ -242,7 +247,7 @@ found_none c blocks n s are counted given so =
     subst (λ o. IfNone o (NoneImproves c)) (sym so.found) (tell so.best
     (subst (λ m. IsBestSoFar c blocks m (length blocks) 0 so.best) given so.is_best))
   where
-    tell : (o : Option Choice) → IsBestSoFar c blocks n (length blocks) 0 o → IfNone (told_best o) (NoneImproves c)
+    tell : (o : Option Choice) → IsBestSoFar c blocks n (length blocks) 0 o → IfNone (best_of o) (NoneImproves c)
     tell None best = search_finds_none c blocks n are counted best
     tell (Some x) best = tt
 
@@ -252,11 +257,11 @@ found_some c blocks n s are counted given so =
     subst (λ o. IfSome o (IsFound c blocks)) (sym so.found) (tell so.best
     (subst (λ m. IsBestSoFar c blocks m (length blocks) 0 so.best) given so.is_best))
   where
-    tell : (o : Option Choice) → IsBestSoFar c blocks n (length blocks) 0 o → IfSome (told_best o) (IsFound c blocks)
+    tell : (o : Option Choice) → IsBestSoFar c blocks n (length blocks) 0 o → IfSome (best_of o) (IsFound c blocks)
     tell None best = tt
     tell (Some x) best = record {
       choice = x;
       improves = search_finds c blocks n x are counted best;
-      is_choice = best.choice;
-      tells = refl;
+      is_choice = best.holds.holds.choice;
+      is = refl;
     }

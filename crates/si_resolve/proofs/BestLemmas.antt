@@ -14,13 +14,13 @@ use Rattle.si_candidates.proofs.PartLaws.{classes_unique, torn_have_none}
 use Rattle.si_resolve.specs.declared.search.Found.{Found}
 use Rattle.si_resolve.specs.Best.{Choice, Improves}
 use Rattle.si_resolve.specs.Progress.{IsFound}
-use Rattle.si_resolve.proofs.Trying.{at_blocks}
+use Rattle.si_resolve.proofs.SearchLemmas.{at_blocks}
 
 pub order_of : (c : CodedGraph) (blocks : List (List Bool)) (f : Found) → IsFound c blocks f
     → (f.i < f.j) × (f.j < length blocks)
 order_of c blocks f found =
-    let at_i : f.i ≡ found.choice.i = ap (λ (x : Found). x.i) found.tells in
-    let at_j : f.j ≡ found.choice.j = ap (λ (x : Found). x.j) found.tells in
+    let at_i : f.i ≡ found.choice.i = ap (λ (x : Found). x.i) found.is in
+    let at_j : f.j ≡ found.choice.j = ap (λ (x : Found). x.j) found.is in
     let order = found.is_choice.candidate.order in
     let within = found.is_choice.candidate.within in
     (omega (arith, at_i, at_j, order), omega (arith, at_j, within))
@@ -37,9 +37,9 @@ pub choice_classes : (c : CodedGraph) (blocks : List (List Bool)) (f : Found) (p
 choice_classes c blocks f plus minus of =
     let x = of.found.choice in
     let one : block_at blocks x.i ≡ plus =
-    ap (block_at blocks) (sym (ap (λ (z : Found). z.i) of.found.tells)) ∙ sym of.plus_is in
+    ap (block_at blocks) (sym (ap (λ (z : Found). z.i) of.found.is)) ∙ sym of.plus_is in
     let other : block_at blocks x.j ≡ minus =
-    ap (block_at blocks) (sym (ap (λ (z : Found). z.j) of.found.tells)) ∙ sym of.minus_is in
+    ap (block_at blocks) (sym (ap (λ (z : Found). z.j) of.found.is)) ∙ sym of.minus_is in
     at_blocks (λ a b. AreClasses c.graph a b x.classes) (block_at blocks x.i) plus (block_at blocks x.j) minus one other
     of.found.is_choice.are
 
