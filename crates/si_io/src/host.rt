@@ -1,5 +1,5 @@
-//! Files of the host's file store, and its writers: the trusted edge. Nothing is told of their
-//! bytes.
+//! Files of the host's file store, and its writers, over the calls of `system`. Nothing is told of
+//! their bytes.
 
 ghost use Rattle.std.specs.Prelude.{◌≡◌, ◌≢◌, ◌⊎◌, ℕ, ◌+◌, ◌^◌, ◌<◌, ◌≤◌, List, take, None, OnOk, Err};
 ghost use Rattle.std.specs.Io.KnownBytes.{Appends};

@@ -1,13 +1,40 @@
 //! The calls of the system. Each has a relation that only the call gives: so a contract that names
 //! it shows that the call was made, and of what.
 
-ghost use Rattle.std.specs.Prelude.{List, ℕ, Option, OnErr, OnOk, IfOk, ⊤};
+ghost use Rattle.std.specs.Prelude.{List, ℕ, Option, String, OnErr, OnOk, IfOk, ⊤};
+ghost use Rattle.std.specs.Vec.Iter.{into_iter_items};
+ghost use Rattle.std.specs.declared.alloc.Global.{Global};
 ghost use Rattle.std.specs.Io.{ReadsAtMost, WritesAtMost};
 ghost use Rattle.std.specs.Io.KnownBytes.{Keeps, ReadConsumes, WriteAppends};
 
+use std::env::Args;
 use std::io::{Read, Write};
-use std::rt::Files;
-use std::{fs, io};
+use std::rt::{Env, Files};
+use std::{env, fs, io};
+
+/// The words of a command line.
+pub trait CommandLine {
+    /// The system gave these words, of which the first is the program's name.
+    ghost gives: { Self → List (String Global) → Type 0 };
+
+    /// The system gave no words, as one of them is no text, or for want of memory.
+    ghost refuses: { Self → Type 0 };
+
+    /// Asks the system for the words.
+    fn arguments(&self) -> io::Result<Args>
+        ensures given { IfOk result (λ words. gives self.now (into_iter_items words)) }
+        ensures refused { OnErr result (refuses self.now) };
+}
+
+impl<R: Env + AllocGlobal> CommandLine for R {
+    ghost gives = { λ _ _. ⊤ };
+
+    ghost refuses = { λ _. ⊤ };
+
+    fn arguments(&self) -> io::Result<Args> {
+        env::args(self)
+    }
+}
 
 /// Files that are opened by name.
 pub trait FileStore {
