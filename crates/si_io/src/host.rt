@@ -17,17 +17,17 @@ use std::alloc::Global;
 /// opens the file of the name that it is given is left to trust.
 #[derive(Drop)]
 pub struct HostShelf<'a, R> {
-    rt: &'a R,
+    store: &'a R,
     faults: u64,
 }
 
 impl<'a, R: FileStore> HostShelf<'a, R> {
     /// The files that the store reaches.
-    pub fn new(rt: &'a R) -> HostShelf<'a, R>
-        ensures runtime { result.rt.now ≡ rt.now }
+    pub fn new(store: &'a R) -> HostShelf<'a, R>
+        ensures store { result.store.now ≡ store.now }
         ensures faults { result.faults ≡ 0 }
     {
-        HostShelf { rt, faults: 0 }
+        HostShelf { store, faults: 0 }
     }
 }
 
@@ -36,16 +36,16 @@ impl<R: FileStore> Shelf for HostShelf<'_, R> {
 
     ghost faults = { λ s _. s.faults };
 
-    ghost loads = { λ old _ new. new.rt ≡ old.rt };
+    ghost loads = { λ old _ new. new.store ≡ old.store };
 
     fn load(&mut self, alloc: Global, name: &str, limit: u64) -> Result<Vec<u8>, LoadFault>
         requires { limit + 1 < 2 ^ 64 }
         ensures load { IsLoad None limit self.old.faults self.new.faults result }
-        ensures file { (result ≡ Err LoadFault.Failed × R.refuses self.old.rt.now name.now)
+        ensures file { (result ≡ Err LoadFault.Failed × R.refuses self.old.store.now name.now)
             ⊎ IsRead (record {
               remaining = R.File.remaining;
-              Opens = R.opens self.old.rt.now name.now;
-              Closes = R.closes self.old.rt.now;
+              Opens = R.opens self.old.store.now name.now;
+              Closes = R.closes self.old.store.now;
               Fails = R.File.fails;
             }) limit self.old.faults self.new.faults result }
         ensures taken { (taken : ℕ) → result ≡ Err (LoadFault.TooLong taken) → taken ≡ limit + 1 }
@@ -53,14 +53,14 @@ impl<R: FileStore> Shelf for HostShelf<'_, R> {
         ensures later { self.old.faults ≤ self.new.faults }
         ensures without_fault { result ≢ Err LoadFault.Failed
             → (n : List ℕ) → self.new.faults ≡ self.old.faults }
-        ensures loaded { self.new.rt ≡ self.old.rt }
+        ensures loaded { self.new.store ≡ self.old.store }
     {
-        let Ok(mut file) = self.rt.open(name) else {
+        let Ok(mut file) = self.store.open(name) else {
             self.faults = self.faults.saturating_add(1);
             return Err(LoadFault::Failed);
         };
         let loaded = read_all(alloc, &mut file, limit, &mut self.faults);
-        self.rt.close(file);
+        self.store.close(file);
         loaded
     }
 }
