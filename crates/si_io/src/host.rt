@@ -1,69 +1,80 @@
-//! Files of the host's file store, and its writers: the trusted edge. Nothing is told of their
-//! bytes.
+//! Files of the host's file store, and its writers, over the calls of `system`. Nothing is told of
+//! their bytes.
 
-ghost use Rattle.std.specs.Prelude.{◌≡◌, ◌≢◌, ℕ, ◌+◌, ◌^◌, ◌<◌, ◌≤◌, take, None, OnOk, Err};
+ghost use Rattle.std.specs.Prelude.{◌≡◌, ◌≢◌, ◌⊎◌, ℕ, ◌+◌, ◌^◌, ◌<◌, ◌≤◌, List, take, None, OnOk, Err};
 ghost use Rattle.std.specs.Io.KnownBytes.{Appends};
+ghost use Rattle.si_io.specs.Host.{IsRead};
 ghost use Rattle.si_io.specs.Outside.{IsLoad, one_more};
 
 use crate::reading::read_all;
 use crate::shelf::{LoadFault, Shelf};
 use crate::sink::{PutFault, Sink};
+use crate::system::{FileStore, Outlet};
 use std::alloc::Global;
-use std::fs;
-use std::io::Write;
-use std::rt::Files;
 
-/// The files of a runtime. One count of faults serves for every name. What a load answers is what a
-/// file of the runtime holds, or `Failed`; which file it is no contract says, as `fs::open` tells
-/// nothing.
+/// The files of a store. One count of faults serves for every name. What a load answers is what the
+/// file of that name holds, or `Failed`. No contract says which bytes those are: that `fs::open`
+/// opens the file of the name that it is given is left to trust.
 #[derive(Drop)]
 pub struct HostShelf<'a, R> {
-    rt: &'a R,
+    store: &'a R,
     faults: u64,
 }
 
-impl<'a, R: Files> HostShelf<'a, R> {
-    /// The files that the runtime reaches.
-    pub fn new(rt: &'a R) -> HostShelf<'a, R>
-        ensures runtime { result.rt.now ≡ rt.now }
+impl<'a, R: FileStore> HostShelf<'a, R> {
+    /// The files that the store reaches.
+    pub fn new(store: &'a R) -> HostShelf<'a, R>
+        ensures store { result.store.now ≡ store.now }
         ensures faults { result.faults ≡ 0 }
     {
-        HostShelf { rt, faults: 0 }
+        HostShelf { store, faults: 0 }
     }
 }
 
-impl<R: Files> Shelf for HostShelf<'_, R> {
+impl<R: FileStore> Shelf for HostShelf<'_, R> {
     ghost content = { λ _ _. None };
 
     ghost faults = { λ s _. s.faults };
 
+    ghost loads = { λ old _ new. new.store ≡ old.store };
+
     fn load(&mut self, alloc: Global, name: &str, limit: u64) -> Result<Vec<u8>, LoadFault>
         requires { limit + 1 < 2 ^ 64 }
         ensures load { IsLoad None limit self.old.faults self.new.faults result }
-        ensures opened { result ≢ Err LoadFault.Failed → (file : R.File)
-            × IsLoad (R.File.remaining file) limit self.old.faults self.new.faults result }
+        ensures file { (result ≡ Err LoadFault.Failed × R.refuses self.old.store.now name.now)
+            ⊎ IsRead (record {
+              remaining = R.File.remaining;
+              Opens = R.opens self.old.store.now name.now;
+              Closes = R.closes self.old.store.now;
+              Fails = R.File.fails;
+            }) limit self.old.faults self.new.faults result }
         ensures taken { (taken : ℕ) → result ≡ Err (LoadFault.TooLong taken) → taken ≡ limit + 1 }
         ensures rises { result ≡ Err LoadFault.Failed → self.new.faults ≡ one_more self.old.faults }
-        ensures stays { result ≢ Err LoadFault.Failed → self.new.faults ≡ self.old.faults }
         ensures later { self.old.faults ≤ self.new.faults }
+        ensures without_fault { result ≢ Err LoadFault.Failed
+            → (n : List ℕ) → self.new.faults ≡ self.old.faults }
+        ensures loaded { self.new.store ≡ self.old.store }
     {
-        let Ok(mut file) = fs::open(self.rt, name) else {
+        let Ok(mut file) = self.store.open(name) else {
             self.faults = self.faults.saturating_add(1);
             return Err(LoadFault::Failed);
         };
-        read_all(alloc, &mut file, limit, &mut self.faults)
+        let loaded = read_all(alloc, &mut file, limit, &mut self.faults);
+        self.store.close(file);
+        loaded
     }
 }
 
 /// A writer of the host. It never answers `NoMemory`. To a writer that tells the bytes that it
-/// holds, a put that answers `Ok` appended the piece, and one that fails a prefix of it.
+/// holds, a put that answers `Ok` appended the piece, and one that fails a prefix of it. After `Ok`
+/// all was flushed.
 #[derive(Drop)]
 pub struct HostSink<W> {
     writer: W,
     faults: u64,
 }
 
-impl<W: Write> HostSink<W> {
+impl<W: Outlet> HostSink<W> {
     /// A sink that writes to the writer, and flushes after each piece. Nothing is written yet.
     pub fn new(writer: W) -> HostSink<W>
         ensures writer { result.writer ≡ writer }
@@ -73,10 +84,13 @@ impl<W: Write> HostSink<W> {
     }
 }
 
-impl<W: Write> Sink for HostSink<W> {
+impl<W: Outlet> Sink for HostSink<W> {
     ghost bytes = { λ _. None };
 
     ghost faults = { λ s. s.faults };
+
+    ghost puts = { λ old piece new. Appends (W.contents old.writer) (W.contents new.writer) piece
+        × W.is_flushed new.writer };
 
     fn put(&mut self, piece: &[u8]) -> Result<(), PutFault>
         ensures has_memory { result ≢ Err PutFault.NoMemory }
@@ -87,10 +101,13 @@ impl<W: Write> Sink for HostSink<W> {
         ensures rises { result ≡ Err PutFault.Failed → self.new.faults ≡ one_more self.old.faults }
         ensures stays { result ≢ Err PutFault.Failed → self.new.faults ≡ self.old.faults }
         ensures later { self.old.faults ≤ self.new.faults }
+        ensures taken { OnOk result
+            (Appends (W.contents self.old.writer) (W.contents self.new.writer) piece.now
+            × W.is_flushed self.new.writer) }
     {
         let mut rest = piece;
         while !rest.is_empty() {
-            match self.writer.write(rest) {
+            match self.writer.write_some(rest) {
                 Ok(count) if count > 0 => rest = rest.split_at(count).1,
                 _ => {
                     self.faults = self.faults.saturating_add(1);
@@ -98,7 +115,7 @@ impl<W: Write> Sink for HostSink<W> {
                 }
             }
         }
-        match self.writer.flush() {
+        match self.writer.flush_all() {
             Ok(()) => Ok(()),
             Err(_) => {
                 self.faults = self.faults.saturating_add(1);

@@ -5,8 +5,8 @@ ghost use Rattle.std.specs.Io.KnownBytes.{Consumes, IsAtEnd};
 ghost use Rattle.si_io.specs.Outside.{IsLoad, one_more};
 
 use crate::shelf::LoadFault;
+use crate::system::Source;
 use std::alloc::Global;
-use std::io::Read;
 
 /// How many bytes one call of `read` may take.
 const CHUNK: usize = 65_536;
@@ -25,7 +25,7 @@ fn new_chunk(alloc: Global) -> Result<Vec<u8>, LoadFault>
 /// All bytes that a reader has left, where they are at most `limit`. At most `limit + 1` of them
 /// are taken, whatever the answer. A call of `read` that fails ends it with `Failed`, and raises
 /// the count of faults.
-pub fn read_all<R: Read>(
+pub fn read_all<R: Source>(
     alloc: Global,
     reader: &mut R,
     limit: u64,
@@ -40,6 +40,7 @@ pub fn read_all<R: Read>(
         × (length part ≤ limit + 1) }
     ensures taken { (taken : ℕ) → result ≡ Err (LoadFault.TooLong taken) → taken ≡ limit + 1 }
     ensures rises { result ≡ Err LoadFault.Failed → faults.new ≡ one_more faults.old }
+    ensures broken { result ≡ Err LoadFault.Failed → R.fails reader.new }
     ensures stays { result ≢ Err LoadFault.Failed → faults.new ≡ faults.old }
     ensures later { faults.old ≤ faults.new }
 {
@@ -49,7 +50,7 @@ pub fn read_all<R: Read>(
     while bytes.len() as u64 <= limit {
         let room = (limit - bytes.len() as u64).saturating_add(1);
         let size = chunk.len().min(room as usize);
-        match reader.read(&mut chunk[..size]) {
+        match reader.read_some(&mut chunk[..size]) {
             Ok(0) => return Ok(bytes),
             Ok(count) => {
                 if bytes.extend_from_slice(&chunk[..count]).is_err() {

@@ -20,7 +20,7 @@ loop-chunk-preserved g c =
         arith,
         c.extend_from_slice.new.self.ok.0,
         still_within _ _ _ _ _ _ c.args.limit joined
-            c.read.auto.buf (omega arith),
+            c.read_some.auto.chunk (omega arith),
       );
       chunk = search rules;
       faults = search rules;

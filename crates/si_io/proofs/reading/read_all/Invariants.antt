@@ -7,7 +7,7 @@ invariant-loop-chunk g l = record {
   within : vec_len l.bytes ≤ l.limit + 1;
   chunk : 0 < length l.chunk;
   faults : l.faults ≡ l.initial.faults;
-  consumed : Consumes (g.R.Read.remaining l.initial.reader) (g.R.Read.remaining l.reader) l.bytes.items;
+  consumed : Consumes (g.R.Source.remaining l.initial.reader) (g.R.Source.remaining l.reader) l.bytes.items;
 }
 
 abbrev pub decreases-loop-chunk : goal.decreases-loop-chunk

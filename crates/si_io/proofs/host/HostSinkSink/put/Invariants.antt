@@ -7,7 +7,7 @@ invariant-loop-rest g l = record {
   faults : l.self.faults ≡ l.initial.self.faults;
   done : List ℕ;
   parts : l.initial.rest ≡ done ++ l.rest;
-  written : Appends (g.W.Write.contents l.initial.self.writer) (g.W.Write.contents l.self.writer) done;
+  written : Appends (g.W.Outlet.contents l.initial.self.writer) (g.W.Outlet.contents l.self.writer) done;
 }
 
 abbrev pub decreases-loop-rest : goal.decreases-loop-rest
