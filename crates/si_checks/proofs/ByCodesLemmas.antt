@@ -88,7 +88,8 @@ module _ (c : CodedGraph) (is : IsCoded c) where
     free_leaves : bit_or before free ≡ free → LeavesOthers c.graph a
     free_leaves same z other non_input may =
         let switches : bit before z ≡ true = (at_from z).1 may in
-        let is_free : bit free z ≡ true = ap (λ (n : ℕ). bit n z) (sym same) ∙ bit-or before free z ∙ rw switches refl in
+        let is_free : bit free z ≡ true =
+        ap (λ (n : ℕ). bit n z) (sym same) ∙ bit-or before free z ∙ rw switches refl in
         let kept : bit (bit_or after inputs) z ≡ true = sym (sets.others z other) ∙ is_free in
         let no_input : bit inputs z ≡ false = (are z (signal_within a.from z may)).1 non_input in
         (at_to z).0 (first_of _ _ (sym (bit-or after inputs z) ∙ kept) no_input)

@@ -17,11 +17,13 @@ MaySwitch g s z = (up : Bool) × IsTrue (enables g s (record { sig = z; up = up 
 
 -- after the arc each other non-input signal may switch that might before
 abbrev pub LeavesOthers : StateGraph → Edge → Type 0
-LeavesOthers g a = (z : ℕ) → z ≢ a.event.sig → IsNonInput g.signals z → MaySwitch g a.from z → MaySwitch g a.to z
+LeavesOthers g a = (z : ℕ) → z ≢ a.event.sig → IsNonInput g.signals z → MaySwitch g a.from z
+    → MaySwitch g a.to z
 
 -- of the bits of the signals those of the inputs are 1
 abbrev pub AreInputs : List Signal → ℕ → Type 0
-AreInputs signals inputs = (z : ℕ) → z < length signals → (bit inputs z ≡ false) ↔ IsNonInput signals z
+AreInputs signals inputs = (z : ℕ) → z < length signals
+    → (bit inputs z ≡ false) ↔ IsNonInput signals z
 
 -- both can be told without a look at pairs of arcs
 pub record IsProperByCodes (c : CodedGraph) : Type 0 where

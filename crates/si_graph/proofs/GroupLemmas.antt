@@ -105,7 +105,8 @@ all_in_order P xs ys same all k d within =
     All-contains P xs (get_or ys k d) all ((same (get_or ys k d)).0 (Contains-get_or ys k d within))
 
 -- a list with the same arcs, sorted and each arc once, is the arcs in order
-module _ (xs gathered sorted : List Edge) (same : HaveSameArcs gathered xs) (moved : IsPermutation gathered sorted) where
+module _ (xs gathered sorted : List Edge) (same : HaveSameArcs gathered xs)
+    (moved : IsPermutation gathered sorted) where
   same_once : HaveSameArcs (dedup edge_eq sorted) xs
   same_once a = (
     λ there. (same a).0 (Contains-permutation sorted gathered a (IsPermutation-sym gathered sorted moved)

@@ -13,4 +13,3 @@ pub mod Reach
 pub mod Renaming
 pub mod Laws
 pub mod Search
-pub mod WordSearch

@@ -15,4 +15,3 @@ mod renaming;
 pub mod search;
 mod spread;
 mod values;
-pub mod word_search;

@@ -32,7 +32,9 @@ returns-clause-persistent c =
     let d = c.args.coded.now in
     let edges : c.arcs-arcs.result.now ≡ d.graph.edges =
     c.arcs-arcs.ensures.arcs ∙ ap (λ (g : StateGraph). g.edges) c.graph-graph.ensures.same in
-    let all = rw (take_all c.loop-arc.arc-index c.arcs-arcs.result.now c.loop-arc-test.false) at c.loop-arc.invariant in (
-      λ _. leaves_persist d c.graph-graph.ensures.coded (subst (λ (xs : List Edge). All (LeavesOthers d.graph) xs) edges all),
+    let whole = take_all c.loop-arc.arc-index c.arcs-arcs.result.now c.loop-arc-test.false in
+    let all = rw whole at c.loop-arc.invariant in
+    let All_leave : List Edge → Type 0 = λ xs. All (LeavesOthers d.graph) xs in (
+      λ _. leaves_persist d c.graph-graph.ensures.coded (subst All_leave edges all),
       λ _. refl,
     )

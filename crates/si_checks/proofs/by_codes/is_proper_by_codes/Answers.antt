@@ -7,7 +7,10 @@ pub returns-clause-by_codes : goal.returns-clause-by_codes
 returns-clause-by_codes c =
     let persistent = c.if-not-is_persistent.ensures.persistent.0 refl in
     IfOk-weaker c.has_unique_codes.result _ _
-    (λ is unique. (λ yes_unique. record { persistent = persistent; unique = unique.0 yes_unique }, λ by. unique.1 by.unique))
+    (λ is unique. (
+      λ yes_unique. record { persistent = persistent; unique = unique.0 yes_unique },
+      λ by. unique.1 by.unique,
+    ))
     c.has_unique_codes.ensures
 
 pub returns-clause-proper : goal.returns-clause-proper

@@ -1,0 +1,4 @@
+//! Closures of many sets of states at once, a bit of a word for each set.
+#![tactic(auto)]
+
+pub mod word_search;
