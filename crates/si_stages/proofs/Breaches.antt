@@ -1,5 +1,5 @@
 -- The first breach is shown in one way, and a proper graph shows none.
-use Rattle.std.proofs.Common.{◌≡◌, ℕ, List, Option, None, Some, ap, refl, sym, ◌∙◌}
+use Rattle.std.proofs.Common.{◌≡◌, ℕ, List, Option, Some, ap, refl, sym, ◌∙◌}
 use Rattle.si_base.specs.Codes.{IsConsistent, IsDeterministic}
 use Rattle.si_base.specs.Graph.{StateGraph}
 use Rattle.si_base.specs.NetlistText.{name_of}

@@ -1,5 +1,5 @@
 -- Lineages of the graph that a text gives: they start at it, and their names are spelled as texts spell them.
-use Rattle.std.proofs.Common.{◌≡◌, ℕ, suc, List, [], length, false, refl, sym, ap, subst, ◌∙◌}
+use Rattle.std.proofs.Common.{◌≡◌, ℕ, List, [], length, false, sym, ap, subst, ◌∙◌}
 use Rattle.std.specs.List.{slice_index_or}
 use Rattle.std.proofs.lemmas.List.{length-map}
 use Rattle.std.proofs.lemmas.Option.{slice_get_within, get_or_from_slice_get}

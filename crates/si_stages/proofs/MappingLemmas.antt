@@ -1,7 +1,6 @@
 -- Mapping as a stage: what it gives is a netlist of cells for the given graph, and it has one result.
 use Rattle.std.proofs.Common.{◌≡◌, ℕ, ◌≤◌, ◌⊎◌, List, [], ◌∷◌, ◌++◌, length, Ok, Err, None, codes}
 use Rattle.std.proofs.Common.{refl, sym, ap, ap₂, subst, ◌∙◌, arith, inl, inr}
-use Rattle.std.proofs.lemmas.List.{append-nil}
 use Rattle.si_base.specs.Codes.{CodedGraph, IsCoded}
 use Rattle.si_base.specs.GivenGraph.{Sg}
 use Rattle.si_base.specs.Limits.{max_signals}

@@ -1,4 +1,4 @@
-use Rattle.std.proofs.Common.{Ok}
+use Rattle.std.proofs.Common.{Ok, ◌∙◌}
 use Rattle.si_refusals.specs.Ending.{MayStop}
 use Rattle.si_stages.specs.Outcomes.{TellsEnd, TellsDeparture}
 use Rattle.si_stages.specs.Replayed.{replay_end}
@@ -23,9 +23,10 @@ returns-clause-ok c =
     let states = c.args.states.now in
     let net = c.args.netlist.now in
     let events = c.args.events.now.items in
+    let count = c.len.ensures ∙ c.args.events.now.ok.0 in
     ok_map c.outcome_text.result (TellsEnd net.signals c.len.result states c.in-Ok.outcome)
     (λ text. replay_end graph states net events (Ok text))
-    (λ text tells. told_end graph states net events c.len.result c.in-Ok.outcome text c.len.ensures
+    (λ text tells. told_end graph states net events c.len.result c.in-Ok.outcome text count
     c.in-Ok.ensures.outcome tells)
     c.outcome_text.ensures.ok
 

@@ -1,6 +1,6 @@
 use Rattle.std.proofs.Common.{Ok, sym, subst}
 use Rattle.si_base.specs.Graph.{StateGraph}
-use Rattle.si_insert.specs.Lineage.{AllGiven, History}
+use Rattle.si_insert.specs.Lineage.{AllGiven}
 use Rattle.si_refusals.specs.Ending.{MayStop}
 use Rattle.si_refusals.specs.Stages.{Passes}
 use Rattle.si_stages.specs.Resolving.{lineage_of, resolution}
