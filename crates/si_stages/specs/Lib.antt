@@ -1,6 +1,7 @@
 pub mod Readings
 pub mod Checks
 pub mod Resolving
+pub mod Written
 pub mod Synthesis
 pub mod Mapping
 pub mod Replayed
