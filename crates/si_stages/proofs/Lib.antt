@@ -11,4 +11,5 @@ pub mod ReplayLemmas
 pub mod SomeLemmas
 pub mod MeaningLemmas
 pub mod ExerciseLemmas
+pub mod VerilogLemmas
 pub mod Examples
