@@ -12,4 +12,5 @@ pub mod SomeLemmas
 pub mod MeaningLemmas
 pub mod ExerciseLemmas
 pub mod VerilogLemmas
+pub mod VerilogExamples
 pub mod Examples
