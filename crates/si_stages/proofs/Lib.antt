@@ -15,4 +15,6 @@ pub mod Synthesis
 pub mod MappingLemmas
 pub mod MeaningLemmas
 pub mod ExerciseLemmas
+pub mod VerilogLemmas
+pub mod VerilogExamples
 pub mod Examples

@@ -10,3 +10,4 @@ pub mod Outcomes
 pub mod Meaning
 pub mod Laws
 pub mod Exercise
+pub mod Verilog

@@ -11,3 +11,4 @@ pub mod report;
 pub mod report_kind;
 pub mod resolving;
 pub mod synth;
+pub mod verilog;
