@@ -1,5 +1,5 @@
 -- There are at most as many classes as numbers: one more has room where one is split.
-use Rattle.std.proofs.Common.{◌≡◌, ◌≢◌, ◌⊎◌, ℕ, ◌+◌, ◌-◌, ◌<◌, ◌≤◌, zero, suc, refl, sym, ap, ◌∙◌, arith, inl, inr}
+use Rattle.std.proofs.Common.{◌≡◌, ◌≢◌, ◌⊎◌, ℕ, ◌+◌, ◌<◌, ◌≤◌, zero, suc, refl, sym, ap, ◌∙◌, arith, inl, inr}
 use Rattle.std.specs.List.{range_with_len}
 use Rattle.std.proofs.lemmas.Bool.{cases_eq, cases_lt}
 use Rattle.std.proofs.lemmas.List.FromFn.{length-range_with_len}
@@ -11,7 +11,9 @@ use Rattle.si_fold.specs.Partition.{Shape, size, class_at, place_at, number_at, 
 in_range_from : (a n x : ℕ) → In x (range_with_len a n) → (a ≤ x) × (x < a + n)
 in_range_from a zero x there = absurd there
 in_range_from a (suc n) x (inl same) = (omega (arith, same), omega (arith, same))
-in_range_from a (suc n) x (inr later) = let rest = in_range_from (a + 1) n x later in (omega (arith, rest.0), omega (arith, rest.1))
+in_range_from a (suc n) x (inr later) =
+    let rest = in_range_from (a + 1) n x later in
+    (omega (arith, rest.0), omega (arith, rest.1))
 
 in_range : (a n x : ℕ) → a ≤ x → x < a + n → In x (range_with_len a n)
 in_range a zero x low high = absurd (omega (arith, low, high))
@@ -22,7 +24,10 @@ in_range a (suc n) x low high = elim (cases_eq x a) [
 
 range_once : (a n : ℕ) → Once (range_with_len a n)
 range_once a zero = tt
-range_once a (suc n) = ((λ there. (let r = in_range_from (a + 1) n a there in omega (arith, r.0))), range_once (a + 1) n)
+range_once a (suc n) = (
+  (λ there. (let r = in_range_from (a + 1) n a there in omega (arith, r.0))),
+  range_once (a + 1) n,
+)
 
 module _ (p : Shape) (is : IsPartition p) (k : ℕ) (below : k < p.count)
     (marked : (bounds_at p k).first < (bounds_at p k).mid) (rest : (bounds_at p k).mid < (bounds_at p k).past) where

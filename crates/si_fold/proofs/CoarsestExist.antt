@@ -1,5 +1,7 @@
 -- Each graph has coarsest classes of states that steps keep.
-use Rattle.std.proofs.Common.{◌≡◌, ◌≢◌, ◌⊎◌, ℕ, ◌+◌, ◌<◌, ◌≤◌, ◌==◌, ◌&&◌, ◌||◌, not, zero, suc, Bool, true, false, [], map, if◌then◌else◌, refl, sym, subst, ◌∙◌, arith, inl, inr, nat_lt, lt-ltb, ltb-true, eq-eqb, eqb-true, zero-add}
+use Rattle.std.proofs.Common.{◌≡◌, ◌⊎◌, ℕ, ◌+◌, ◌<◌, ◌≤◌, ◌==◌, ◌&&◌, ◌||◌, not, zero, suc, Bool, true, false, []}
+use Rattle.std.proofs.Common.{map, if◌then◌else◌, refl, sym, subst, ◌∙◌, arith, inl, inr, nat_lt, lt-ltb, ltb-true}
+use Rattle.std.proofs.Common.{eq-eqb, eqb-true, zero-add}
 use Rattle.std.specs.List.{list_all, range_with_len}
 use Rattle.std.proofs.lemmas.Bool.{cases_Bool, cases_lt, and_parts, and_from, true≢false}
 use Rattle.std.proofs.lemmas.List.FromFn.{length-map-range_with_len, get_or-map-range_with_len}

@@ -1,5 +1,5 @@
 -- A class is split into its marked numbers and the others.
-use Rattle.std.proofs.Common.{◌≡◌, ◌≢◌, ◌↔◌, ◌⊎◌, ℕ, ◌+◌, ◌-◌, ◌<◌, ◌≤◌, ◌^◌, List, length, get_or, set, length-set}
+use Rattle.std.proofs.Common.{◌≡◌, ◌≢◌, ◌↔◌, ◌⊎◌, ℕ, ◌+◌, ◌<◌, ◌≤◌, ◌^◌, List, length, get_or, set, length-set}
 use Rattle.std.proofs.Common.{get_or-set_same, get_or-set_other, sym, ap, subst, ◌∙◌, arith, inl, inr}
 use Rattle.std.proofs.lemmas.Bool.{cases_eq, cases_lt}
 use Rattle.si_fold.specs.declared.partition.Bounds.{Bounds}
@@ -18,7 +18,8 @@ module _ (p : Shape) (is : IsPartition p) (k : ℕ) (below : k < p.count)
       (left_mid : left.mid ≡ left.first) (part_mid : part.mid ≡ part.first)
       (order_is : q.order ≡ p.order) (place_is : q.place ≡ p.place) (size_is : length q.class ≡ length p.class)
       (moved : (i : ℕ) → part.first ≤ i → i < part.past → class_at q (number_at p i) ≡ p.count)
-      (stayed : (s : ℕ) → ((i : ℕ) → part.first ≤ i → i < part.past → number_at p i ≡ s → ⊥) → class_at q s ≡ class_at p s)
+      (stayed : (s : ℕ) → ((i : ℕ) → part.first ≤ i → i < part.past → number_at p i ≡ s → ⊥)
+      → class_at q s ≡ class_at p s)
       (bounds_is : q.bounds ≡ set (set p.bounds k left) p.count part) (count_is : q.count ≡ p.count + 1) where
     -- s stands in the part that becomes a class
     abbrev InPart : ℕ → Type 0
@@ -134,8 +135,8 @@ module _ (p : Shape) (is : IsPartition p) (k : ℕ) (below : k < p.count)
         let low = stands.class_within in
         elim (cases_eq (class_at p s) k) [
           | inl own ↦ elim (left_or_new s within own) [
-            | inl in_part ↦ stands_in s p.count part within (in_new s within in_part) (omega (arith, count_is)) bounds_new
-                in_part.1 in_part.2
+            | inl in_part ↦ stands_in s p.count part within (in_new s within in_part) (omega (arith, count_is))
+                bounds_new in_part.1 in_part.2
             | inr left_in ↦ stands_in s k left within (in_left s own left_in.0 left_in.1)
                 (omega (arith, count_is, below)) bounds_left left_in.0 left_in.1
           ]

@@ -1,5 +1,5 @@
 -- A class of which no number is marked, or each, stays whole.
-use Rattle.std.proofs.Common.{◌≡◌, ◌≢◌, ◌⊎◌, ℕ, ◌-◌, ◌<◌, ◌^◌, List, length, get_or, set, length-set, get_or-set_same}
+use Rattle.std.proofs.Common.{◌≡◌, ◌≢◌, ◌⊎◌, ℕ, ◌<◌, ◌^◌, List, length, get_or, set, length-set, get_or-set_same}
 use Rattle.std.proofs.Common.{get_or-set_other, sym, ap, subst, ◌∙◌, arith, inl, inr}
 use Rattle.std.proofs.lemmas.Bool.{cases_eq}
 use Rattle.si_fold.specs.declared.partition.Bounds.{Bounds}
@@ -131,7 +131,8 @@ module _ (p q : Shape) (is : IsPartition p) (k : ℕ) (below : k < p.count)
     together = λ s t one two own_s own_t alike. whole_class s ∙ own_s ∙ sym own_t ∙ sym (whole_class t);
     kept = λ s within other. (
         let own = whole_class s in
-        let mid = ap (λ (x : ℕ). (bounds_at q x).mid) own ∙ ap (λ (x : Bounds). x.mid) (whole_other (class_at p s) other) in
+        let mid = ap (λ (x : ℕ). (bounds_at q x).mid) own
+        ∙ ap (λ (x : Bounds). x.mid) (whole_other (class_at p s) other) in
         let at = whole_place s in
         ((λ here. omega (arith, mid, at, here)), (λ here. omega (arith, mid, at, here))));
     cleared = λ s within own marked. (

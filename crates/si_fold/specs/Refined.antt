@@ -23,7 +23,8 @@ pub record AreByEvent (g : StateGraph) (arcs : Shape) : Type 0 where
   pub unmarked : IsUnmarked arcs
   pub size_is : size arcs ≡ length g.edges
   pub by_event : (x y : ℕ) → x < length g.edges → y < length g.edges
-      → (class_at arcs x ≡ class_at arcs y) ↔ ((edge_at g.edges x).event ≡ (edge_at g.edges y).event)
+      → (class_at arcs x ≡ class_at arcs y)
+      ↔ ((edge_at g.edges x).event ≡ (edge_at g.edges y).event)
 
 -- the arc y, out of t, is of the class of the arc x, or of its event and waits
 pub record Matches (g : StateGraph) (arcs : Shape) (done x t y : ℕ) : Type 0 where

@@ -14,18 +14,26 @@ use si_graph::coded::Coded;
 use si_graph::graph::Graph;
 use std::alloc::Global;
 
-/// A folded graph, the least member of each of its states, and for each state of the given graph the
-/// state in which it is folded.
+/// A graph with one state for each class of alike states of a given graph.
 #[derive(Drop)]
 pub struct Folded {
     pub graph: Proper,
+    /// The least member of each class, in order: state `i` of the folded graph stands for it.
     pub kept: Vec<StateId>,
+    /// For each state of the given graph the state of the folded graph that stands for it.
     pub class: Vec<StateId>,
 }
 
 /// The graph with one state for each class of alike states, in order of their least members, and
-/// the arcs between their members. States are alike where some bisimulation relates them that keeps
-/// codes. It fails only where memory runs out.
+/// the arcs between their members: its start is the class of the start.
+///
+/// Two states are alike where no walk tells them apart: they have equal codes, enable the same
+/// events, and lead by each of these to states that are alike. The work grows as the number of arcs
+/// times the logarithm of the number of states.
+///
+/// # Errors
+///
+/// `NoMemory` only where memory runs out.
 pub fn fold(alloc: Global, graph: &Proper) -> Result<Folded, NoMemory>
     ensures { IfOk result
         (λ folded. IsFolded graph.now folded.kept.items folded.class.items folded.graph) }
