@@ -15,7 +15,7 @@ in_range_from a (suc n) x (inr later) =
     let rest = in_range_from (a + 1) n x later in
     (omega (arith, rest.0), omega (arith, rest.1))
 
-in_range : (a n x : ℕ) → a ≤ x → x < a + n → In x (range_with_len a n)
+pub in_range : (a n x : ℕ) → a ≤ x → x < a + n → In x (range_with_len a n)
 in_range a zero x low high = absurd (omega (arith, low, high))
 in_range a (suc n) x low high = elim (cases_eq x a) [
   | inl same ↦ inl same

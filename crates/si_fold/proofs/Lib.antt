@@ -2,6 +2,7 @@ pub mod Quotient
 pub mod SameBehaviour
 pub mod AlikeLemmas
 pub mod FoldLemmas
+pub mod FoldedBehaviour
 pub mod UniqueFolded
 mod MarkLemmas
 mod ClassRoom
@@ -14,7 +15,8 @@ mod RefineLemmas
 mod EventLemmas
 mod NumberLemmas
 mod ClassLemmas
-mod FoldedGraph
+pub mod FoldedGraph
+pub mod FewerArcs
 mod SearchLemmas
 mod CoarsestExist
 pub mod FoldedExists
