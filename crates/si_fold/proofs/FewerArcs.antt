@@ -52,7 +52,7 @@ fewer_arcs xs ys sorted Comes own one =
 
 pub folded_no_larger : (c d : CodedGraph) (kept class : List ℕ) → IsCoded c → IsFolded c kept class d → IsNoLarger c d
 folded_no_larger c d kept class is f =
-    let states = fewer_numbers kept c.graph.states f.classes.in_order (kept_within c is kept class f.classes) in
+    let states = fewer_numbers kept c.graph.states f.classes.in_order (kept_within c kept class f.classes) in
     record {
       states = omega (arith, states, f.count);
       arcs = fewer_arcs d.graph.edges c.graph.edges f.graph.ordered (λ a b. a ≡ renamed class b)

@@ -19,12 +19,13 @@ use Rattle.si_fold.specs.Folded.{AreClasses, IsFolded}
 abbrev pub AreAmong : ℕ → List Signal → List Edge → Type 0
 AreAmong states signals arcs = All (λ a. (a.from < states) × (a.event.sig < length signals) × (a.to < states)) arcs
 
+pub kept_within : (c : CodedGraph) (kept class : List ℕ) → AreClasses c kept class → All (λ s. s < c.graph.states) kept
+kept_within c kept class are k d below =
+    ((are.members (get_or kept k d)).0 (Contains-get_or kept k d below)).1.alike.other_within
+
 module _ (c : CodedGraph) (is : IsCoded c) (kept class : List ℕ) (are : AreClasses c kept class) where
   class_inside : (s : ℕ) → s < c.graph.states → get_or class s 0 < length kept
   class_inside s within = (let own = are.each s within in slice_get_within kept (get_or class s 0) own.0 own.2)
-
-  pub kept_within : All (λ s. s < c.graph.states) kept
-  kept_within k d below = ((are.members (get_or kept k d)).0 (Contains-get_or kept k d below)).1.alike.other_within
 
   -- ---- the start
   start_is : (at place : ℕ) → at ≡ c.graph.start → place ≡ get_or class at place

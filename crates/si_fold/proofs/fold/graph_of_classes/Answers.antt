@@ -30,7 +30,7 @@ make-requires-clause-start c =
 
 pub codes_of-requires : goal.codes_of-requires
 codes_of-requires c =
-    kept_within c.args.coded.now c.graph-given.ensures.coded c.args.kept.now c.args.class.now c.requires.classes
+    kept_within c.args.coded.now c.args.kept.now c.args.class.now c.requires.classes
 
 pub known-requires : goal.known-requires
 known-requires c =
