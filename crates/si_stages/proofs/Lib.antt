@@ -1,6 +1,8 @@
 pub mod HandedOn
 pub mod Breaches
 pub mod StageLemmas
+pub mod FoldLemmas
+pub mod FoldTexts
 pub mod ReportLemmas
 pub mod LiteralCounts
 pub mod CheckLemmas
@@ -10,5 +12,6 @@ pub mod MappingLemmas
 pub mod ReplayLemmas
 pub mod SomeLemmas
 pub mod MeaningLemmas
+pub mod FoldLaws
 pub mod ExerciseLemmas
 pub mod Examples
