@@ -1,16 +1,12 @@
 -- The laws of the texts of folded graphs.
-use Rattle.std.proofs.Common.{◌≡◌, ℕ, ◌<◌, List, length, Ok, refl, sym, ap, subst, ◌∙◌}
+use Rattle.std.proofs.Common.{◌≡◌, ℕ, List, Ok, sym, ap, subst, ◌∙◌}
 use Rattle.si_base.specs.Behaviour.{Implements}
-use Rattle.si_base.specs.Bits.{bit}
-use Rattle.si_base.specs.Codes.{CodedGraph, code}
+use Rattle.si_base.specs.Codes.{CodedGraph}
 use Rattle.si_base.specs.GivenGraph.{Sg}
-use Rattle.si_base.specs.Graph.{StateGraph}
 use Rattle.si_base.specs.Netlist.{Netlist}
 use Rattle.si_base.specs.NetlistText.{netlist_text}
 use Rattle.si_base.specs.System.{IsFor}
 use Rattle.si_base.specs.WellFormed.{IsNetlist}
-use Rattle.si_base.specs.declared.graph.Signal.{Signal}
-use Rattle.si_circuit.specs.declared.style.Style.{Style}
 use Rattle.si_fold.proofs.FoldedBehaviour.{folded_behaviour, folded_for}
 use Rattle.si_fold.proofs.FoldLemmas.{folded_is_coded}
 use Rattle.si_refusals.specs.Stages.{Stage, Then, Refuses, Passes}
@@ -20,8 +16,6 @@ use Rattle.si_stages.specs.Checks.{IsSound}
 use Rattle.si_stages.specs.Fold.{IsFoldText}
 use Rattle.si_stages.specs.FoldLaws.{GivesFolded, ImplementsGiven, FoldTextsReadBack}
 use Rattle.si_stages.specs.FoldLaws.{FoldTextsAreMapped, FoldTextsAreSynthesised}
-use Rattle.si_stages.specs.Meaning.{report, synth, mapping}
-use Rattle.si_stages.specs.declared.report_kind.Report.TheVariants.{Fold}
 use Rattle.si_stages.proofs.CheckLemmas.{coded_unique}
 use Rattle.si_stages.proofs.FoldTexts.{reads_back}
 

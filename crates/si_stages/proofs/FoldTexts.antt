@@ -1,11 +1,10 @@
 -- The text of a folded graph gives that graph, and what is right for it is right for the given graph.
-use Rattle.std.proofs.Common.{◌≡◌, ◌≢◌, ℕ, ◌+◌, ◌<◌, ◌≤◌, true, false, List, [], length, map, get_or, All, AllPairs}
-use Rattle.std.proofs.Common.{Ok, Err, refl, sym, ap, subst, ◌∙◌, arith, IsTrue}
+use Rattle.std.proofs.Common.{◌≡◌, ◌≢◌, ℕ, ◌<◌, ◌≤◌, false, List, [], length, map, get_or, All, AllPairs}
+use Rattle.std.proofs.Common.{refl, sym, ap, subst, ◌∙◌, arith, IsTrue}
 use Rattle.std.proofs.lemmas.Bool.{true≢false}
 use Rattle.std.proofs.lemmas.List.{get_or-map, length-map}
 use Rattle.std.proofs.lemmas.List.Elements.{All-contains, All-map}
 use Rattle.std.specs.Ordering.{nat_cmp}
-use Rattle.std.specs.List.{slice_index_or}
 use Rattle.si_base.specs.declared.graph.Edge.{Edge}
 use Rattle.si_base.specs.declared.graph.Signal.{Signal}
 use Rattle.si_base.specs.declared.graph.SigKind.{SigKind}
@@ -18,7 +17,6 @@ use Rattle.si_base.specs.Lines.{numbered}
 use Rattle.si_base.specs.System.{is_inserted}
 use Rattle.si_base.specs.Words.{IsStateName, is_model_name, is_signal_name}
 use Rattle.si_base.proofs.Sorted.{nat_less, sorted_at}
-use Rattle.si_base.proofs.Unique.{one_place}
 use Rattle.si_fold.proofs.FewerArcs.{fewer_arcs, fewer_numbers, folded_no_larger}
 use Rattle.si_fold.proofs.FoldLemmas.{folded_is_coded}
 use Rattle.si_fold.proofs.FoldedGraph.{kept_within}

@@ -1,4 +1,4 @@
-use Rattle.std.proofs.Common.{◌≡◌, ◌<◌, ◌∙◌, All, List, ℕ, length, map, sym, ap, subst}
+use Rattle.std.proofs.Common.{◌<◌, ◌∙◌, All, List, ℕ, length, map, sym, ap, subst}
 use Rattle.si_base.specs.Codes.{CodedGraph}
 use Rattle.si_base.specs.Graph.{StateGraph}
 use Rattle.si_fold.specs.Folded.{IsFolded}
