@@ -28,7 +28,10 @@ sorted_once c o (x ∷ xs) sorted =
 nats_strict : IsStrict nat_cmp
 nats_strict = record {
   irreflexive = λ x less. (let own = nat_less x x less in omega (arith, own));
-  asymmetric = λ x y less more. (let one = nat_less x y less in let other = nat_less y x more in omega (arith, one, other));
+  asymmetric = λ x y less more. (
+      let one = nat_less x y less in
+      let other = nat_less y x more in
+      omega (arith, one, other));
 }
 
 -- ascending numbers below n are no more than n

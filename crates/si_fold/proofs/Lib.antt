@@ -20,3 +20,4 @@ pub mod FewerArcs
 mod SearchLemmas
 mod CoarsestExist
 pub mod FoldedExists
+mod Examples
