@@ -1,6 +1,8 @@
 pub mod HandedOn
 pub mod Breaches
 pub mod StageLemmas
+pub mod FoldLemmas
+pub mod FoldTexts
 pub mod ReportLemmas
 pub mod LiteralCounts
 pub mod CheckLemmas
@@ -14,6 +16,7 @@ pub mod WrittenLemmas
 pub mod Synthesis
 pub mod MappingLemmas
 pub mod MeaningLemmas
+pub mod FoldLaws
 pub mod ExerciseLemmas
 pub mod VerilogLemmas
 pub mod VerilogExamples

@@ -43,7 +43,7 @@ use Rattle.si_stages.proofs.Synthesis.{is_synthesis, synthesis_one, synthesis_so
 -- ---- to one answer at most
 pub report_one : (what : Report) (file text : List ℕ) → AtMostOne (report what file text)
 report_one what file text = then_one _ _ (graph_one file text) (λ given is.
-    then_one _ _ (proper_one given.graph given.states) (λ coded sound. told_one what given.states coded))
+    then_one _ _ (proper_one given.graph given.states) (λ coded sound. told_one what given.model given.states coded sound.coded_is))
 
 pub synth_one : (style : Style) (file text : List ℕ) → AtMostOne (synth style file text)
 synth_one style file text = then_one _ _ (graph_one file text) (λ given is.
@@ -71,7 +71,7 @@ replay_one g a n b s c = then_one _ _ (replay_readings_one g a n b s c)
 -- ---- and to some answer
 pub report_some : (what : Report) (file text : List ℕ) → HasResult (report what file text)
 report_some what file text = then_some _ _ (graph_some file text) (λ given is. then_some _ _ (proper_some text given is)
-    (λ coded sound. told_some what given.states coded sound.coded_is))
+    (λ coded sound. told_some what given.model given.states coded sound.coded_is))
 
 pub synth_some : (style : Style) (file text : List ℕ) → HasResult (synth style file text)
 synth_some style file text = then_some _ _ (graph_some file text) (λ given is.

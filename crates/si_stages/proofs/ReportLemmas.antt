@@ -7,18 +7,22 @@ use Rattle.si_listings.proofs.ListingsExist.{some_region_text, some_conflict_tex
 use Rattle.si_stages.specs.Laws.{AtMostOne, HasResult}
 use Rattle.si_stages.specs.Reports.{summary, told}
 use Rattle.si_stages.specs.declared.report_kind.Report.{Report}
-use Rattle.si_stages.specs.declared.report_kind.Report.TheVariants.{Summary, Regions, Conflicts, Covers}
+use Rattle.si_stages.specs.declared.report_kind.Report.TheVariants.{Summary, Regions, Conflicts, Covers, Fold}
+use Rattle.si_stages.proofs.FoldLemmas.{one_fold_text, some_fold_text}
 use Rattle.si_stages.proofs.StageLemmas.{gives_one, gives_some, shows_one, shows_some}
 
-pub told_one : (what : Report) (states : List (List ℕ)) (coded : CodedGraph) → AtMostOne (told what states coded)
-told_one Summary states coded = gives_one (summary coded)
-told_one Regions states coded = shows_one _ (one_region_text coded states)
-told_one Conflicts states coded = shows_one _ (one_conflict_text coded states)
-told_one Covers states coded = shows_one _ (one_cover_text coded states)
+pub told_one : (what : Report) (model : List ℕ) (states : List (List ℕ)) (coded : CodedGraph) → IsCoded coded
+    → AtMostOne (told what model states coded)
+told_one Summary model states coded is = gives_one (summary coded)
+told_one Regions model states coded is = shows_one _ (one_region_text coded states)
+told_one Conflicts model states coded is = shows_one _ (one_conflict_text coded states)
+told_one Covers model states coded is = shows_one _ (one_cover_text coded states)
+told_one Fold model states coded is = shows_one _ (one_fold_text model states coded is)
 
-pub told_some : (what : Report) (states : List (List ℕ)) (coded : CodedGraph) → IsCoded coded
-    → HasResult (told what states coded)
-told_some Summary states coded is = gives_some (summary coded)
-told_some Regions states coded is = shows_some _ (some_region_text coded states is)
-told_some Conflicts states coded is = shows_some _ (some_conflict_text coded states)
-told_some Covers states coded is = shows_some _ (some_cover_text coded states is)
+pub told_some : (what : Report) (model : List ℕ) (states : List (List ℕ)) (coded : CodedGraph) → IsCoded coded
+    → HasResult (told what model states coded)
+told_some Summary model states coded is = gives_some (summary coded)
+told_some Regions model states coded is = shows_some _ (some_region_text coded states is)
+told_some Conflicts model states coded is = shows_some _ (some_conflict_text coded states)
+told_some Covers model states coded is = shows_some _ (some_cover_text coded states is)
+told_some Fold model states coded is = shows_some _ (some_fold_text model states coded is)

@@ -5,9 +5,11 @@ pub mod Written
 pub mod Synthesis
 pub mod Mapping
 pub mod Replayed
+pub mod Fold
 pub mod Reports
 pub mod Outcomes
 pub mod Meaning
 pub mod Laws
+pub mod FoldLaws
 pub mod Exercise
 pub mod Verilog

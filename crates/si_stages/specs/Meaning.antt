@@ -16,7 +16,7 @@ abbrev pub report : Report → (file text : List ℕ) → Stage TextRefusal (Lis
 report what file text = do
   given ← graph_in file text
   coded ← proper given.graph given.states
-  told what given.states coded
+  told what given.model given.states coded
 
 abbrev pub synth : Style → (file text : List ℕ) → Stage TextRefusal (List ℕ)
 synth style file text = do

@@ -3,6 +3,8 @@
 
 pub mod checks;
 pub mod exercise;
+mod fold;
+pub mod fold_laws;
 mod literals;
 pub mod mapping;
 pub mod readings;
