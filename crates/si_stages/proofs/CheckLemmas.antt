@@ -6,8 +6,7 @@ use Rattle.si_base.specs.Bits.{bit}
 use Rattle.si_base.specs.Codes.{CodedGraph, IsCoded, IsConsistent, code}
 use Rattle.si_base.specs.Graph.{StateGraph}
 use Rattle.si_base.specs.Netlist.{Netlist}
-use Rattle.si_base.specs.NetlistText.{netlist_text, name_of}
-use Rattle.si_base.specs.GivenGraph.{Sg}
+use Rattle.si_base.specs.NetlistText.{name_of}
 use Rattle.si_base.proofs.UniqueCodes.{code_unique}
 use Rattle.si_base.specs.System.{start}
 use Rattle.si_sg.proofs.UniqueLemmas.{given_unique}
@@ -15,17 +14,13 @@ use Rattle.si_system.proofs.UniqueOutcome.{one_outcome, one_difference, for_not_
 use Rattle.si_system.specs.declared.replay.Outcome.{Outcome}
 use Rattle.si_system.specs.declared.replay.Outcome.TheVariants as outcome
 use Rattle.si_sg.specs.GraphText.{graph_fault}
-use Rattle.si_stages.specs.Checks.{proper, named, ShowsFirstBreach, matched}
-use Rattle.si_refusals.specs.declared.breach.NamedBreach.{NamedBreach}
-use Rattle.si_stages.proofs.Breaches.{breach_improper, one_breach}
+use Rattle.si_stages.specs.Checks.{proper, match_lists}
+use Rattle.si_stages.proofs.Breaches.{breach_improper, one_shown}
 use Rattle.si_stages.proofs.StageLemmas.{one_fault}
 use Rattle.si_stages.specs.Laws.{AtMostOne}
 use Rattle.si_stages.specs.Readings.{graph_in}
 use Rattle.si_refusals.specs.Refusal.{TextRefusal, ListsDiffer, Improper, Unresolved, Differs}
-use Rattle.si_stages.specs.Replayed.{replayed, replay_text, shown_signal}
-use Rattle.si_circuit.specs.declared.style.Style.{Style}
-use Rattle.si_insert.specs.Lineage.{History}
-use Rattle.si_stages.specs.Synthesis.{synthesised}
+use Rattle.si_stages.specs.Replayed.{replay_end, replay_text, shown_signal}
 
 pub graph_one : (file text : List ℕ) → AtMostOne (graph_in file text)
 graph_one file text (Ok a) (Ok b) one other = ap Ok (given_unique text a b one other)
@@ -50,57 +45,44 @@ coded_unique c d is also same =
 pub coded_consistent : (c : CodedGraph) → IsCoded c → IsConsistent c.graph
 coded_consistent c is a within = ((λ s. bit (code c s) a), is.values a within)
 
--- the first breach is shown in one way
-one_shown : (graph : StateGraph) (states : List (List ℕ)) (a b : NamedBreach) → ShowsFirstBreach graph states a
-    → ShowsFirstBreach graph states b → a ≡ b
-one_shown graph states a b one other =
-    one.2 ∙ ap (named graph.signals states) (one_breach graph one.0 other.0 one.1 other.1) ∙ sym other.2
-
 pub proper_one : (graph : StateGraph) (states : List (List ℕ)) → AtMostOne (proper graph states)
 proper_one graph states (Ok c) (Ok d) one other =
     ap Ok (coded_unique c d one.coded_is other.coded_is (one.same_graph ∙ sym other.same_graph))
-proper_one graph states (Ok c) (Err r) one other = absurd (breach_improper graph other.1.0 other.1.1 one.proper)
-proper_one graph states (Err r) (Ok d) one other = absurd (breach_improper graph one.1.0 one.1.1 other.proper)
+proper_one graph states (Ok c) (Err r) one other = absurd (breach_improper graph states other.0 other.1 one.proper)
+proper_one graph states (Err r) (Ok d) one other = absurd (breach_improper graph states one.0 one.1 other.proper)
 proper_one graph states (Err r) (Err q) one other =
     ap Err (one.2 ∙ ap Improper (one_shown graph states one.0 other.0 one.1 other.1) ∙ sym other.2)
 
-pub matched_one : (file : List ℕ) (coded : CodedGraph) (netlist : Netlist) → AtMostOne (matched file coded netlist)
-matched_one file coded netlist (Ok x) (Ok y) one other = refl
-matched_one file coded netlist (Ok x) (Err r) one other = absurd (for_not_different coded netlist other.0 one other.1)
-matched_one file coded netlist (Err r) (Ok x) one other = absurd (for_not_different coded netlist one.0 other one.1)
-matched_one file coded netlist (Err r) (Err q) one other =
+pub match_lists_one : (file : List ℕ) (coded : CodedGraph) (netlist : Netlist) → AtMostOne (match_lists file coded netlist)
+match_lists_one file coded netlist (Ok x) (Ok y) one other = refl
+match_lists_one file coded netlist (Ok x) (Err r) one other = absurd (for_not_different coded netlist other.0 one other.1)
+match_lists_one file coded netlist (Err r) (Ok x) one other = absurd (for_not_different coded netlist one.0 other one.1)
+match_lists_one file coded netlist (Err r) (Err q) one other =
     ap Err (one.2 ∙ ap (λ (k : ℕ). ListsDiffer file k) (one_difference coded netlist one.0 other.0 one.1 other.1)
     ∙ sym other.2)
 
-pub synthesised_one : (style : Style) (given : Sg) (coded : CodedGraph) (l : History)
-    → AtMostOne (synthesised style given coded l)
-synthesised_one style given coded l (Ok a) (Ok b) one other =
-    ap Ok (one.output_is ∙ ap (λ (n : Netlist). netlist_text n) (one.gates_are ∙ sym other.gates_are)
-    ∙ sym other.output_is)
-synthesised_one style given coded l (Ok a) (Err r) one other = absurd other
-synthesised_one style given coded l (Err r) b one other = absurd one
-
-pub replayed_one : (given : Sg) (netlist : Netlist) (events : List Event) → AtMostOne (replayed given netlist events)
-replayed_one given netlist events (Ok a) (Ok b) one other =
-    let same = one_outcome given.graph netlist (start given.graph netlist) events (outcome.Done one.values one.state)
+pub replay_end_one : (graph : StateGraph) (states : List (List ℕ)) (netlist : Netlist) (events : List Event)
+    → AtMostOne (replay_end graph states netlist events)
+replay_end_one graph states netlist events (Ok a) (Ok b) one other =
+    let same = one_outcome graph netlist (start graph netlist) events (outcome.Done one.values one.state)
     (outcome.Done other.values other.state) one.outcome_is other.outcome_is in
     let values : one.values ≡ other.values = cc in
     let state : one.state ≡ other.state = cc in
-    let named = sym one.named ∙ ap (λ (k : ℕ). slice_get given.states k) state ∙ other.named in
+    let named = sym one.named ∙ ap (λ (k : ℕ). slice_get states k) state ∙ other.named in
     let names : one.name ≡ other.name = cc in
     ap Ok (one.output_is ∙ ap₂ (λ (v : ℕ) (n : List ℕ). replay_text (length events) netlist.signals v n) values names
     ∙ sym other.output_is)
-replayed_one given netlist events (Ok a) (Err r) one other =
-    let same = one_outcome given.graph netlist (start given.graph netlist) events (outcome.Done one.values one.state)
+replay_end_one graph states netlist events (Ok a) (Err r) one other =
+    let same = one_outcome graph netlist (start graph netlist) events (outcome.Done one.values one.state)
     (outcome.Differs other.step other.event other.verdict) one.outcome_is other.outcome_is in
     cc
-replayed_one given netlist events (Err r) (Ok b) one other =
-    let same = one_outcome given.graph netlist (start given.graph netlist) events
+replay_end_one graph states netlist events (Err r) (Ok b) one other =
+    let same = one_outcome graph netlist (start graph netlist) events
     (outcome.Differs one.step one.event one.verdict)
     (outcome.Done other.values other.state) one.outcome_is other.outcome_is in
     cc
-replayed_one given netlist events (Err r) (Err q) one other =
-    let same = one_outcome given.graph netlist (start given.graph netlist) events
+replay_end_one graph states netlist events (Err r) (Err q) one other =
+    let same = one_outcome graph netlist (start graph netlist) events
     (outcome.Differs one.step one.event one.verdict)
     (outcome.Differs other.step other.event other.verdict) one.outcome_is other.outcome_is in
     ap Err (one.refusal_is ∙ ap go same ∙ sym other.refusal_is)

@@ -1,17 +1,23 @@
 -- A breach by its names, the summary of a graph, texts of a replay and its end, literals: the definitions at work.
 use Rattle.std.proofs.Common.{◌≡◌, ℕ, Bool, List, [], ◌∷◌, ◌++◌, Some, None, refl, ap, true, false, codes, append_assoc}
 use Rattle.std.specs.Prelude.{decimal}
-use Rattle.si_base.specs.Codes.{CodedGraph}
+use Rattle.si_base.specs.Codes.{CodedGraph, IsConsistent, IsDeterministic}
+use Rattle.si_base.specs.Graph.{StateGraph}
 use Rattle.si_base.specs.Netlist.{Netlist, SumGate, Gc}
+use Rattle.si_base.specs.Order.{IsFirst}
+use Rattle.si_base.specs.Proper.{IsCommutative, Loss, Loses, loss_place}
 use Rattle.si_base.specs.declared.graph.Signal.{Signal}
 use Rattle.si_base.specs.declared.graph.SigKind.TheVariants.{Input, Output}
 use Rattle.si_base.specs.declared.ids.Literal.{Literal}
 use Rattle.si_base.specs.declared.fault.TextKind.TheVariants.{NoEnd, Toggle, Undeclared}
 use Rattle.si_netlist_reader.specs.NetlistFault.{netlist_fault}
 use Rattle.si_netlist_reader.specs.NetlistValue.{netlist_of}
+use Rattle.si_checks.specs.Laws.{HasLoss}
+use Rattle.si_refusals.specs.declared.breach.NamedBreach.{NamedBreach}
+use Rattle.si_refusals.specs.declared.breach.NamedBreach.TheVariants.{Nonpersistent}
 use Rattle.si_refusals.specs.Ending.{Answered, line_of}
 use Rattle.si_refusals.specs.Refusal.{TextRefused, Improper}
-use Rattle.si_stages.specs.Checks.{Breach, HasLoss, named}
+use Rattle.si_stages.specs.Checks.{breach_name}
 use Rattle.si_stages.specs.Exercise.{literals_of}
 use Rattle.si_stages.specs.Replayed.{replay_text, shown_signal}
 use Rattle.si_stages.specs.Reports.{summary}
@@ -23,12 +29,28 @@ two_signals = record { name = codes "b"; kind = Input } ∷ record { name = code
 
 -- ---- a breach by its names
 -- at `s0` the event `b+` disables the event `z+`
-loss : Breach
-loss = HasLoss (record { s = 0; lost = record { sig = 1; up = true }; by = record { sig = 0; up = true } })
+abbrev loss : Loss
+loss = record { s = 0; lost = record { sig = 1; up = true }; by = record { sig = 0; up = true } }
 
-loss_line : line_of (Answered (TextRefused (Improper (named two_signals (codes "s0" ∷ codes "s1" ∷ []) loss))))
-    ≡ codes "nonpersistent s0 z+ b+\n"
-unfolding loss
+abbrev three_states : StateGraph
+three_states = record {
+  signals = two_signals;
+  states = 3;
+  edges = record { from = 0; event = record { sig = 0; up = true }; to = 1 }
+      ∷ record { from = 0; event = record { sig = 1; up = true }; to = 2 }
+      ∷ [];
+  start = 0;
+}
+
+abbrev shown_loss : NamedBreach
+shown_loss = Nonpersistent (codes "s0") (codes "z+") (codes "b+")
+
+loss_name : (d : IsDeterministic three_states) (v : IsConsistent three_states) (q : IsCommutative three_states)
+    (first : IsFirst loss_place (Loses three_states) loss)
+    → breach_name (codes "s0" ∷ codes "s1" ∷ codes "s2" ∷ []) (HasLoss d v q loss first) ≡ Some shown_loss
+loss_name d v q first = refl
+
+loss_line : line_of (Answered (TextRefused (Improper shown_loss))) ≡ codes "nonpersistent s0 z+ b+\n"
 loss_line = refl
 
 -- ---- the summary of a graph

@@ -23,11 +23,12 @@ use Rattle.si_sg.specs.GivenGraph.{IsGivenBy}
 use Rattle.si_stages.specs.Checks.{IsSound}
 use Rattle.si_stages.specs.Exercise.{IsExercise, as_it_is, exercise, exercise_text}
 use Rattle.si_stages.specs.Laws.{AtMostOne, HasResult}
-use Rattle.si_stages.specs.Resolving.{IsResolved}
 use Rattle.si_stages.specs.Synthesis.{IsSynthesis}
 use Rattle.si_stages.proofs.CheckLemmas.{coded_unique}
-use Rattle.si_stages.proofs.ReportLemmas.{shows_one, shows_some}
-use Rattle.si_stages.proofs.Synthesis.{given_signals, is_synthesis, resolved_spelled, resolved_state_names}
+use Rattle.si_stages.proofs.GivenLineages.{IsGivenLineage, given_lineage, given_signals}
+use Rattle.si_stages.proofs.ResolutionLemmas.{IsResolution}
+use Rattle.si_stages.proofs.StageLemmas.{shows_one, shows_some}
+use Rattle.si_stages.proofs.Synthesis.{is_synthesis}
 
 -- the netlist that is counted
 abbrev pub own_netlist : Sg → CodedGraph → Netlist
@@ -47,21 +48,24 @@ module _ (n : ℕ) (sg : Sg) (few : n ≤ max_handshakes) (is : IsHandshakes n s
       let Given : StateGraph → Type 0 = λ g. AllGiven g.signals in
       subst Given (sym sound.same_graph) (given_signals (sg_text sg) sg given)
 
-  resolves : IsResolved coded (as_it_is coded)
-  resolves = record { given_is = refl; resolves = record { goes = refl; done = free } }
+  resolves : IsResolution sg.graph (as_it_is coded)
+  resolves = record { sound = sound; resolves = record { goes = refl; done = free } }
+
+  line : IsGivenLineage sg (as_it_is coded)
+  line = given_lineage (sg_text sg) sg (as_it_is coded) given resolves
 
   pub spelled : AreSpelled sg.model coded.graph.signals
-  spelled = resolved_spelled (sg_text sg) sg coded (as_it_is coded) given sound resolves
+  spelled = line.spelled
 
   pub named : AreStateNames coded.graph sg.states
-  named = resolved_state_names (sg_text sg) sg coded (as_it_is coded) given sound resolves
+  named = line.names
 
   implements : Implements (own_netlist sg coded) sg.graph
   implements =
       let netlist : Netlist = own_netlist sg coded in
-      let made : IsSynthesis Complex sg coded (as_it_is coded) (netlist_text netlist) =
-      is_synthesis Complex (sg_text sg) sg coded (as_it_is coded) (netlist_text netlist) given sound resolves refl in
-      subst (λ (m : Netlist). Implements m sg.graph) made.gates_are made.implements
+      let made : IsSynthesis Complex sg (as_it_is coded) (netlist_text netlist) =
+      is_synthesis Complex (sg_text sg) sg (as_it_is coded) (netlist_text netlist) given resolves refl in
+      subst (λ (m : Netlist). Implements m sg.graph) made.gates_are made.written.implements
 
   pub is_exercise : (output : List ℕ)
       → output ≡ exercise_text n sg.graph.states (length sg.graph.edges) (own_netlist sg coded) → IsExercise n output

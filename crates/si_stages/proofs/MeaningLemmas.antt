@@ -1,12 +1,10 @@
 -- The texts of each command come to one answer.
-use Rattle.std.proofs.Common.{◌≡◌, ℕ, List, [], None, Ok, refl, sym, subst}
+use Rattle.std.proofs.Common.{◌≡◌, ℕ, List, [], None, Ok, refl}
 use Rattle.std.proofs.Common.{inl, inr}
-use Rattle.si_base.specs.Codes.{CodedGraph}
+use Rattle.si_base.specs.Codes.{CodedGraph, IsCoded}
 use Rattle.si_base.specs.GivenGraph.{Sg}
-use Rattle.si_base.specs.Graph.{StateGraph}
-use Rattle.si_base.specs.Netlist.{Netlist}
 use Rattle.si_base.specs.NetlistText.{netlist_text}
-use Rattle.si_base.specs.Proper.{IsProper}
+use Rattle.si_base.specs.Proper.{HasNoConflict}
 use Rattle.si_base.specs.System.{IsFor}
 use Rattle.si_cell.specs.LibraryText.{library_of}
 use Rattle.si_cell.proofs.LawLemmas.{text_is_library}
@@ -14,6 +12,7 @@ use Rattle.si_circuit.specs.Cells.{mapped_netlist}
 use Rattle.si_circuit.specs.Circuits.{circuit_of}
 use Rattle.si_circuit.specs.declared.style.Style.{Style}
 use Rattle.si_insert.specs.Lineage.{GoesOn, History, as_given}
+use Rattle.si_insert.proofs.Kept.{keeps}
 use Rattle.si_netlist_reader.specs.NetlistFault.{netlist_fault}
 use Rattle.si_netlist_reader.specs.NetlistValue.{netlist_of}
 use Rattle.si_refusals.specs.Refusal.{TextRefusal}
@@ -23,96 +22,110 @@ use Rattle.si_system.specs.ScheduleText.{signal_names, schedule_fault, schedule_
 use Rattle.si_stages.specs.Checks.{IsSound}
 use Rattle.si_stages.specs.Laws.{AtMostOne, HasResult, EndsOrDeparts}
 use Rattle.si_stages.specs.Laws.{FreeGraphsAreMapped, FreeGraphsAreSynthesised}
-use Rattle.si_stages.specs.Mapping.{IsMappedTo}
+use Rattle.si_stages.specs.Mapping.{EndsInCells}
 use Rattle.si_stages.specs.Meaning.{report, synth, mapping, replay}
-use Rattle.si_stages.specs.Resolving.{IsResolved}
+use Rattle.si_stages.specs.Readings.{MappingReadings, ReplayReadings, mapping_readings}
+use Rattle.si_stages.specs.Resolving.{resolution}
 use Rattle.si_stages.specs.declared.report_kind.Report.{Report}
-use Rattle.si_stages.proofs.CheckLemmas.{graph_one, proper_one, matched_one, replayed_one, synthesised_one}
-use Rattle.si_stages.proofs.MappingLemmas.{is_library, is_mapping, mapped_one, mapped_some, resolved_coded}
+use Rattle.si_stages.proofs.CheckLemmas.{graph_one, proper_one, match_lists_one, replay_end_one}
+use Rattle.si_stages.proofs.GivenLineages.{given_lineage}
+use Rattle.si_stages.proofs.MappingLemmas.{cells_text_one, cells_text_some, is_library, is_mapping}
+use Rattle.si_stages.proofs.ReadingLemmas.{mapping_readings_are, mapping_readings_one, mapping_readings_some}
+use Rattle.si_stages.proofs.ReadingLemmas.{replay_readings_given, replay_readings_one, replay_readings_some}
+use Rattle.si_stages.proofs.ReplayLemmas.{given_named_states}
 use Rattle.si_stages.proofs.ReportLemmas.{told_one, told_some}
-use Rattle.si_stages.proofs.ResolvingLemmas.{resolved_one, resolved_some}
-use Rattle.si_stages.proofs.SomeLemmas.{graph_some, proper_some, matched_some}
-use Rattle.si_stages.proofs.SomeLemmas.{replayed_ends, replayed_some, synthesised_some}
-use Rattle.si_stages.proofs.StageLemmas.{then_one, then_some, spelled_one, spelled_some}
-use Rattle.si_stages.proofs.Synthesis.{is_synthesis}
+use Rattle.si_stages.proofs.ResolutionLemmas.{IsResolution, resolution_is, resolution_of, resolution_one, resolution_some}
+use Rattle.si_stages.proofs.SomeLemmas.{graph_some, proper_some, match_lists_some}
+use Rattle.si_stages.proofs.SomeLemmas.{replay_ends_somehow, replay_end_some}
+use Rattle.si_stages.proofs.StageLemmas.{then_one, then_some}
+use Rattle.si_stages.proofs.Synthesis.{is_synthesis, synthesis_one, synthesis_some}
 
 -- ---- to one answer at most
 pub report_one : (what : Report) (file text : List ℕ) → AtMostOne (report what file text)
 report_one what file text = then_one _ _ (graph_one file text) (λ given is.
-    then_one _ _ (proper_one given.graph given.states) (λ coded sound. told_one what given.states coded))
+    then_one _ _ (proper_one given.graph given.states) (λ coded sound. told_one what given.model given.states coded sound.coded_is))
 
 pub synth_one : (style : Style) (file text : List ℕ) → AtMostOne (synth style file text)
-synth_one style file text = then_one _ _ (graph_one file text)
-    (λ given is. then_one _ _ (proper_one given.graph given.states)
-    (λ coded sound. then_one _ _ (resolved_one coded given.states sound.coded_is)
-    (λ l resolves. synthesised_one style given coded l)))
+synth_one style file text = then_one _ _ (graph_one file text) (λ given is.
+    then_one _ _ (resolution_one given.graph given.states) (λ l resolves. synthesis_one style given l))
 
 pub mapping_one : (g a n b : List ℕ) → AtMostOne (mapping g a n b)
-mapping_one g a n b = then_one _ _ (graph_one g a) (λ given is. then_one _ _ (spelled_one n _ _)
-    (λ library spelt. then_one _ _ (proper_one given.graph given.states)
-    (λ coded sound. then_one _ _ (resolved_one coded given.states sound.coded_is)
-    (λ l resolves. mapped_one library given coded l (resolved_coded a given coded l is sound resolves)))))
+mapping_one g a n b = then_one _ _ (mapping_readings_one g a n b)
+    (λ readings read. then_one _ _ (resolution_one readings.given.graph readings.given.states)
+    (λ l resolves. cells_text_one readings.library readings.given l (last_coded readings read l resolves)))
+  where
+    last_coded : (readings : MappingReadings) → mapping_readings g a n b (Ok readings)
+        → (l : History) → resolution readings.given.graph readings.given.states (Ok l)
+        → IsCoded l.current.coded
+    last_coded readings read l resolves =
+        let given = (mapping_readings_are g a n b readings read).given in
+        let is = resolution_is readings.given.graph readings.given.states l resolves in
+        (keeps l.given l.trace l.current (given_lineage a readings.given l given is).line).coded
 
 pub replay_one : (g a n b s c : List ℕ) → AtMostOne (replay g a n b s c)
-replay_one g a n b s c = then_one _ _ (graph_one g a) (λ given is. then_one _ _ (spelled_one n _ _)
-    (λ net spelt. then_one _ _ (spelled_one s _ _) (λ events read. then_one _ _ (proper_one given.graph given.states)
-    (λ coded sound. then_one _ _ (matched_one n coded net) (λ _ same. replayed_one given net events)))))
+replay_one g a n b s c = then_one _ _ (replay_readings_one g a n b s c)
+    (λ readings read. then_one _ _ (proper_one readings.given.graph readings.given.states)
+    (λ coded sound. then_one _ _ (match_lists_one n coded readings.netlist)
+    (λ _ same. replay_end_one readings.given.graph readings.given.states readings.netlist readings.events)))
 
 -- ---- and to some answer
 pub report_some : (what : Report) (file text : List ℕ) → HasResult (report what file text)
 report_some what file text = then_some _ _ (graph_some file text) (λ given is. then_some _ _ (proper_some text given is)
-    (λ coded sound. told_some what given.states coded sound.coded_is))
-
--- a graph that is the same as a proper one
-is_proper : (given : Sg) (coded : CodedGraph) → IsSound given.graph coded → IsProper coded.graph
-is_proper given coded sound = subst (λ (g : StateGraph). IsProper g) (sym sound.same_graph) sound.proper
+    (λ coded sound. told_some what given.model given.states coded sound.coded_is))
 
 pub synth_some : (style : Style) (file text : List ℕ) → HasResult (synth style file text)
-synth_some style file text = then_some _ _ (graph_some file text)
-    (λ given is. then_some _ _ (proper_some text given is)
-    (λ coded sound. then_some _ _ (resolved_some coded given.states sound.coded_is (is_proper given coded sound))
-    (λ l resolves. synthesised_some style text given coded l is sound resolves)))
+synth_some style file text = then_some _ _ (graph_some file text) (λ given is.
+    then_some _ _ (resolution_some text given is)
+    (λ l resolves. synthesis_some style text given l is (resolution_is given.graph given.states l resolves)))
 
 pub mapping_some : (g a n b : List ℕ) → HasResult (mapping g a n b)
-mapping_some g a n b = then_some _ _ (graph_some g a) (λ given is. then_some _ _ (spelled_some n _ _)
-    (λ library spelt. then_some _ _ (proper_some a given is)
-    (λ coded sound. then_some _ _ (resolved_some coded given.states sound.coded_is (is_proper given coded sound))
-    (λ l resolves. mapped_some library a given coded l (is_library b library spelt.0 spelt.1) is sound resolves))))
+mapping_some g a n b = then_some _ _ (mapping_readings_some g a n b)
+    (λ readings read. let are = mapping_readings_are g a n b readings read in
+    then_some _ _ (resolution_some a readings.given are.given)
+    (λ l resolves. let good = is_library b readings.library are.no_fault are.library in
+    let is = resolution_is readings.given.graph readings.given.states l resolves in
+    cells_text_some readings.library a readings.given l good are.given is))
 
--- a graph without conflicts is its own lineage
+pub replay_some : (g a n b s c : List ℕ) → HasResult (replay g a n b s c)
+replay_some g a n b s c = then_some _ _ (replay_readings_some g a n b s c)
+    (λ readings read. let given = replay_readings_given g a n b s c readings read in
+    then_some _ _ (proper_some a readings.given given)
+    (λ coded sound. then_some _ _ (match_lists_some n coded readings.netlist)
+    (λ _ same. replay_end_some readings.given.graph readings.given.states readings.netlist readings.events
+    (given_named_states a readings.given given))))
+
+-- ---- a graph without conflicts is its own lineage
+abbrev own_lineage : CodedGraph → History
+own_lineage coded = record { given = coded; trace = []; current = as_given coded }
+
+own_resolution : (given : Sg) (coded : CodedGraph) → IsSound given.graph coded → HasNoConflict coded
+    → IsResolution given.graph (own_lineage coded)
+own_resolution given coded sound free = record { sound = sound; resolves = record { goes = refl; done = free } }
+
 pub free_synthesised : FreeGraphsAreSynthesised
 free_synthesised style file text given coded is sound free =
-    let own : History = record { given = coded; trace = []; current = as_given coded } in
-    let resolves : IsResolved coded own =
-    record { given_is = refl; resolves = record { goes = refl; done = free } } in
-    let netlist : Netlist = circuit_of style given.model given.states own in
-    let output = netlist_text netlist in
-    let made = is_synthesis style text given coded own output is sound resolves refl in
-    (output, Passes given is (Passes coded sound (Passes own resolves made)))
+    let own = own_lineage coded in
+    let resolves = own_resolution given coded sound free in
+    let output = netlist_text (circuit_of style given.model given.states own) in
+    let made = is_synthesis style text given own output is resolves refl in
+    (output, Passes given is (Passes own (resolution_of given.graph given.states own resolves) made))
 
 pub free_mapped : FreeGraphsAreMapped
 free_mapped file text library cells given coded is none sound free fit =
-    let own : History = record { given = coded; trace = []; current = as_given coded } in
-    let resolves : IsResolved coded own =
-    record { given_is = refl; resolves = record { goes = refl; done = free } } in
+    let own = own_lineage coded in
+    let resolves = own_resolution given coded sound free in
     let spelled = library_of cells in
-    let netlist : Netlist = mapped_netlist spelled given.model given.states own in
+    let readings : MappingReadings = record { given = given; library = spelled } in
     let goes : GoesOn own [] own = record { given_stays = refl; trace_grows = refl } in
-    let maps : IsMappedTo spelled own own =
+    let maps : EndsInCells spelled own own =
     record { trace = []; goes = goes; maps = record { goes = refl; done = fit } } in
-    let made = is_mapping spelled text given coded own own (netlist_text netlist) (text_is_library cells none) is sound
-    resolves maps refl in (
-      netlist_text netlist,
-      Passes given is
-          (Passes spelled (none, refl) (Passes coded sound (Passes own resolves made))),
-    )
+    let output = netlist_text (mapped_netlist spelled given.model given.states own) in
+    let good = text_is_library cells none in
+    let made = is_mapping spelled text given own own output good is resolves maps refl in
+    let read = Passes given is (Passes spelled (none, refl) refl) in
+    (output, Passes readings read (Passes own (resolution_of given.graph given.states own resolves) made))
 
-pub replay_some : (g a n b s c : List ℕ) → HasResult (replay g a n b s c)
-replay_some g a n b s c = then_some _ _ (graph_some g a) (λ given is. then_some _ _ (spelled_some n _ _)
-    (λ net spelt. then_some _ _ (spelled_some s _ _) (λ events read. then_some _ _ (proper_some a given is)
-    (λ coded sound. then_some _ _ (matched_some n coded net) (λ _ same. replayed_some a given net events is)))))
-
--- where nothing is refused before, a replay ends or departs from the graph
+-- ---- where nothing is refused before, a replay ends or departs from the graph
 then_ends : {A : Type 0} (first : Stage TextRefusal A) (next : A → Stage TextRefusal (List ℕ)) (x : A) → first (Ok x)
     → EndsOrDeparts (next x) → EndsOrDeparts (Then TextRefusal A (List ℕ) first next)
 then_ends first next x is (inl ends) = inl (ends.0, Passes x is ends.1)
@@ -125,5 +138,7 @@ pub replay_ends : (g n s a b c : List ℕ) (given : Sg) (coded : CodedGraph) →
 replay_ends g n s a b c given coded is netlist schedule sound fits =
     let net = netlist_of b in
     let events = schedule_of (signal_names net.signals) c in
-    then_ends _ _ given is (then_ends _ _ net (netlist, refl) (then_ends _ _ events (schedule, refl)
-    (then_ends _ _ coded sound (then_ends _ _ tt fits (replayed_ends a given net events is)))))
+    let readings : ReplayReadings = record { given = given; netlist = net; events = events } in
+    let read = Passes given is (Passes net (netlist, refl) (Passes events (schedule, refl) refl)) in
+    then_ends _ _ readings read (then_ends _ _ coded sound (then_ends _ _ tt fits
+    (replay_ends_somehow given.graph given.states net events (given_named_states a given is))))

@@ -4,21 +4,22 @@ use Rattle.std.proofs.lemmas.List.{length-map}
 use Rattle.si_base.specs.declared.ids.Event.{Event}
 use Rattle.si_base.specs.declared.graph.SigKind.{SigKind}
 use Rattle.si_base.specs.declared.graph.SigKind.TheVariants.{Input, Output, Internal, Inserted}
-use Rattle.si_base.specs.Codes.{CodedGraph}
 use Rattle.si_base.specs.Graph.{StateGraph, IsGraph}
+use Rattle.si_base.specs.Codes.{CodedGraph}
 use Rattle.si_base.specs.Netlist.{Netlist}
 use Rattle.si_base.specs.GivenGraph.{Sg}
 use Rattle.si_sg.specs.GivenGraph.{IsGivenBy}
 use Rattle.si_base.specs.System.{State, May, Fires, start}
 use Rattle.si_base.proofs.Circuit.{step_within}
+use Rattle.si_graph.proofs.CutLemmas.{cut_connected}
 use Rattle.si_system.specs.Outcome.{Passes as PassesAll, IsOutcome}
 use Rattle.si_system.specs.declared.replay.Outcome.{Outcome}
 use Rattle.si_system.specs.declared.replay.Outcome.TheVariants as outcome
-use Rattle.si_stages.specs.Checks.{IsSound}
+use Rattle.si_stages.specs.Checks.{IsNamed, match_lists}
 use Rattle.si_refusals.specs.Ending.{Ending, NoMemory, Answered, MayStop}
 use Rattle.si_refusals.specs.Refusal.{TextRefused}
 use Rattle.si_stages.specs.Outcomes.{HasName, TellsEnd, TellsDeparture}
-use Rattle.si_stages.specs.Replayed.{IsReplay, replayed, replay_text}
+use Rattle.si_stages.specs.Replayed.{IsReplay, replay_end, replay_text}
 
 may_within : (kind : SigKind) (g : StateGraph) (n : Netlist) (values s : ℕ) (e : Event) (t : ℕ) → IsGraph g
     → s < g.states → May kind g n values s e (Some t) → t < g.states
@@ -58,29 +59,33 @@ pub as_many_names : (text : List ℕ) (given : Sg) → IsGivenBy text given → 
 as_many_names text given is =
     ap length is.is.given.states_are ∙ length-map is.is.given.kept _ ∙ sym is.is.given.cut.count
 
+-- each state of the given graph is reachable, and has a name
+pub given_named_states : (text : List ℕ) (given : Sg) → IsGivenBy text given → IsNamed given.graph given.states
+given_named_states text given is = record {
+  is_graph = is.is.given.cut.graph;
+  connected = cut_connected is.is.whole is.is.given.kept given.graph is.is.given.cut;
+  names = as_many_names text given is;
+}
+
 -- ---- what an outcome tells
 
--- whichever form of the graph was replayed
-pub outcome_over : (given : Sg) (p k : CodedGraph) (net : Netlist) (events : List Event) (o : Outcome) → k ≡ p
-    → IsSound given.graph p → IsOutcome k.graph net (start k.graph net) events o
-    → IsOutcome given.graph net (start given.graph net) events o
-outcome_over given p k net events o same sound out =
-    subst (λ (g : StateGraph). IsOutcome g net (start g net) events o)
-    (ap (λ (c : CodedGraph). c.graph) same ∙ sound.same_graph) out
+-- whichever form of the graph was looked at
+pub match_over : (file : List ℕ) (k p : CodedGraph) (net : Netlist) (e : Ending) → k ≡ p
+    → MayStop (match_lists file k net) e → MayStop (match_lists file p net) e
+match_over file k p net e same may = subst (λ (c : CodedGraph). MayStop (match_lists file c net) e) same may
 
-pub has_name : (text : List ℕ) (given : Sg) (net : Netlist) (events : List Event) (o : Outcome) → IsGivenBy text given
-    → IsOutcome given.graph net (start given.graph net) events o → HasName given.states o
-has_name text given net events (outcome.Done values state) is out =
-    let inside : state < given.graph.states = ends_inside given.graph net events values state is.is.given.cut.graph
-    out in
-    let many = as_many_names text given is in
+pub has_name : (graph : StateGraph) (states : List (List ℕ)) (net : Netlist) (events : List Event) (o : Outcome)
+    → IsGraph graph → length states ≡ graph.states → IsOutcome graph net (start graph net) events o
+    → HasName states o
+has_name graph states net events (outcome.Done values state) is many out =
+    let inside : state < graph.states = ends_inside graph net events values state is out in
     omega arith
-has_name text given net events (outcome.Differs step event verdict) is out = tt
+has_name graph states net events (outcome.Differs step event verdict) is many out = tt
 
-pub told_end : (given : Sg) (net : Netlist) (events : List Event) (count : ℕ) (o : Outcome) (text : List ℕ)
-    → count ≡ length events → IsOutcome given.graph net (start given.graph net) events o
-    → TellsEnd net.signals count given.states o text → IsReplay given net events text
-told_end given net events count (outcome.Done values state) text counted out tells = record {
+pub told_end : (graph : StateGraph) (states : List (List ℕ)) (net : Netlist) (events : List Event) (count : ℕ)
+    (o : Outcome) (text : List ℕ) → count ≡ length events → IsOutcome graph net (start graph net) events o
+    → TellsEnd net.signals count states o text → IsReplay graph states net events text
+told_end graph states net events count (outcome.Done values state) text counted out tells = record {
   values = values;
   state = state;
   outcome_is = out;
@@ -88,14 +93,14 @@ told_end given net events count (outcome.Done values state) text counted out tel
   named = tells.1;
   output_is = tells.2 ∙ ap (λ (n : ℕ). replay_text n net.signals values tells.0) counted;
 }
-told_end given net events count (outcome.Differs step event verdict) text counted out tells = absurd tells
+told_end graph states net events count (outcome.Differs step event verdict) text counted out tells = absurd tells
 
-pub told_departure : (given : Sg) (net : Netlist) (events : List Event) (o : Outcome) (e : Ending)
-    → IsOutcome given.graph net (start given.graph net) events o
-    → TellsDeparture net.signals o e → MayStop (replayed given net events) e
-told_departure given net events (outcome.Done values state) NoMemory out tells = tt
-told_departure given net events (outcome.Done values state) e out tells = absurd tells
-told_departure given net events (outcome.Differs step event verdict) NoMemory out tells = tt
-told_departure given net events (outcome.Differs step event verdict) (Answered (TextRefused r)) out tells =
+pub told_departure : (graph : StateGraph) (states : List (List ℕ)) (net : Netlist) (events : List Event) (o : Outcome)
+    (e : Ending) → IsOutcome graph net (start graph net) events o → TellsDeparture net.signals o e
+    → MayStop (replay_end graph states net events) e
+told_departure graph states net events (outcome.Done values state) NoMemory out tells = tt
+told_departure graph states net events (outcome.Done values state) e out tells = absurd tells
+told_departure graph states net events (outcome.Differs step event verdict) NoMemory out tells = tt
+told_departure graph states net events (outcome.Differs step event verdict) (Answered (TextRefused r)) out tells =
     record { step = step; event = event; verdict = verdict; outcome_is = out; refusal_is = tells }
-told_departure given net events (outcome.Differs step event verdict) e out tells = absurd tells
+told_departure graph states net events (outcome.Differs step event verdict) e out tells = absurd tells

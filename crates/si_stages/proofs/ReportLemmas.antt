@@ -1,33 +1,28 @@
 -- A report has one text at most, and has one.
-use Rattle.std.proofs.Common.{◌≡◌, ℕ, List, Ok, Err, ap}
+use Rattle.std.proofs.Common.{ℕ, List}
 use Rattle.si_base.specs.Codes.{CodedGraph, IsCoded}
 use Rattle.si_listings.proofs.CoverLemmas.{one_cover_text, some_cover_text}
 use Rattle.si_listings.proofs.ListingLemmas.{one_region_text, one_conflict_text}
 use Rattle.si_listings.proofs.ListingsExist.{some_region_text, some_conflict_text}
 use Rattle.si_stages.specs.Laws.{AtMostOne, HasResult}
 use Rattle.si_stages.specs.Reports.{summary, told}
-use Rattle.si_refusals.specs.Stages.{shows}
 use Rattle.si_stages.specs.declared.report_kind.Report.{Report}
-use Rattle.si_stages.specs.declared.report_kind.Report.TheVariants.{Summary, Regions, Conflicts, Covers}
-use Rattle.si_stages.proofs.StageLemmas.{gives_one, gives_some}
+use Rattle.si_stages.specs.declared.report_kind.Report.TheVariants.{Summary, Regions, Conflicts, Covers, Fold}
+use Rattle.si_stages.proofs.FoldLemmas.{one_fold_text, some_fold_text}
+use Rattle.si_stages.proofs.StageLemmas.{gives_one, gives_some, shows_one, shows_some}
 
-pub shows_one : {R A : Type 0} (P : A → Type 0) → ((x y : A) → P x → P y → x ≡ y) → AtMostOne (shows {R = R} P)
-shows_one P same (Ok x) (Ok y) one other = ap Ok (same x y one other)
-shows_one P same (Ok x) (Err r) one other = absurd other
-shows_one P same (Err r) b one other = absurd one
+pub told_one : (what : Report) (model : List ℕ) (states : List (List ℕ)) (coded : CodedGraph) → IsCoded coded
+    → AtMostOne (told what model states coded)
+told_one Summary model states coded is = gives_one (summary coded)
+told_one Regions model states coded is = shows_one _ (one_region_text coded states)
+told_one Conflicts model states coded is = shows_one _ (one_conflict_text coded states)
+told_one Covers model states coded is = shows_one _ (one_cover_text coded states)
+told_one Fold model states coded is = shows_one _ (one_fold_text model states coded is)
 
-pub shows_some : {R A : Type 0} (P : A → Type 0) → ((x : A) × P x) → HasResult (shows {R = R} P)
-shows_some P some = (Ok some.0, some.1)
-
-pub told_one : (what : Report) (states : List (List ℕ)) (coded : CodedGraph) → AtMostOne (told what states coded)
-told_one Summary states coded = gives_one (summary coded)
-told_one Regions states coded = shows_one _ (one_region_text coded states)
-told_one Conflicts states coded = shows_one _ (one_conflict_text coded states)
-told_one Covers states coded = shows_one _ (one_cover_text coded states)
-
-pub told_some : (what : Report) (states : List (List ℕ)) (coded : CodedGraph) → IsCoded coded
-    → HasResult (told what states coded)
-told_some Summary states coded is = gives_some (summary coded)
-told_some Regions states coded is = shows_some _ (some_region_text coded states is)
-told_some Conflicts states coded is = shows_some _ (some_conflict_text coded states)
-told_some Covers states coded is = shows_some _ (some_cover_text coded states is)
+pub told_some : (what : Report) (model : List ℕ) (states : List (List ℕ)) (coded : CodedGraph) → IsCoded coded
+    → HasResult (told what model states coded)
+told_some Summary model states coded is = gives_some (summary coded)
+told_some Regions model states coded is = shows_some _ (some_region_text coded states is)
+told_some Conflicts model states coded is = shows_some _ (some_conflict_text coded states)
+told_some Covers model states coded is = shows_some _ (some_cover_text coded states is)
+told_some Fold model states coded is = shows_some _ (some_fold_text model states coded is)

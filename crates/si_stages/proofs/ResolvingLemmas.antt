@@ -23,7 +23,7 @@ use Rattle.si_resolve.specs.Trace.{IsResolving, ResolvesTo, EndsUnresolved}
 use Rattle.si_resolve.proofs.EndsExist.{resolving_ends}
 use Rattle.si_resolve.proofs.Traces.{resolved_is_unique, unresolved_is_unique, ends_exclude, traces_are_lineages}
 use Rattle.si_stages.specs.Laws.{AtMostOne, HasResult}
-use Rattle.si_stages.specs.Resolving.{IsResolved, pair_told, resolved}
+use Rattle.si_stages.specs.Resolving.{conflict_refusal, lineage_of}
 
 -- ---- one result
 pub same_history : (l m : History) → l.given ≡ m.given → l.trace ≡ m.trace → l.current ≡ m.current → l ≡ m
@@ -32,33 +32,33 @@ same_history l m given trace current =
     λ g steps v. record { given = g; trace = steps; current = v } in
     ap (λ (g : CodedGraph). make g l.trace l.current) given ∙ ap₂ (make m.given) trace current
 
-pub resolved_one : (coded : CodedGraph) (states : List (List ℕ)) → IsCoded coded → AtMostOne (resolved coded states)
-resolved_one coded states is (Ok l) (Ok m) one other =
+pub lineage_one : (coded : CodedGraph) (states : List (List ℕ)) → IsCoded coded → AtMostOne (lineage_of coded states)
+lineage_one coded states is (Ok l) (Ok m) one other =
     let same = resolved_is_unique (as_given coded) l.trace m.trace l.current m.current is one.resolves other.resolves in
     ap Ok (same_history l m (one.given_is ∙ sym other.given_is) same.0 same.1)
-resolved_one coded states is (Ok l) (Err r) one (m, pair, other, at) =
+lineage_one coded states is (Ok l) (Err r) one (m, pair, other, at) =
     absurd
     (ends_exclude (as_given coded) l.trace m.trace l.current m.current pair is one.resolves other.ends)
-resolved_one coded states is (Err r) (Ok m) (l, pair, one, at) other =
+lineage_one coded states is (Err r) (Ok m) (l, pair, one, at) other =
     absurd
     (ends_exclude (as_given coded) m.trace l.trace m.current l.current pair is other.resolves one.ends)
-resolved_one coded states is (Err r) (Err q) (l, a, one, at) (m, b, other, by) =
+lineage_one coded states is (Err r) (Err q) (l, a, one, at) (m, b, other, by) =
     let same = unresolved_is_unique (as_given coded) l.trace m.trace l.current m.current a b is one.ends other.ends in
     let lineages = same_history l m (one.given_is ∙ sym other.given_is) same.0 same.1 in
-    ap Err (at ∙ ap₂ (pair_told states) lineages same.2 ∙ sym by)
+    ap Err (at ∙ ap₂ (conflict_refusal states) lineages same.2 ∙ sym by)
 
-pub resolved_some : (coded : CodedGraph) (states : List (List ℕ)) → IsCoded coded → IsProper coded.graph
-    → HasResult (resolved coded states)
-resolved_some coded states is proper = go (resolving_ends some_blocks (as_given coded) is proper)
+pub lineage_some : (coded : CodedGraph) (states : List (List ℕ)) → IsCoded coded → IsProper coded.graph
+    → HasResult (lineage_of coded states)
+lineage_some coded states is proper = go (resolving_ends some_blocks (as_given coded) is proper)
   where
     go : (trace : List TraceStep) × (w : Current)
         × (ResolvesTo (as_given coded) trace w ⊎ ((pair : ℕ × ℕ) × EndsUnresolved (as_given coded) trace w pair))
-        → HasResult (resolved coded states)
+        → HasResult (lineage_of coded states)
     go (trace, w, inl ends) =
         (Ok (record { given = coded; trace = trace; current = w }), record { given_is = refl; resolves = ends })
     go (trace, w, inr (pair, ends)) =
         let l : History = record { given = coded; trace = trace; current = w } in
-        (Err (pair_told states l pair), (l, pair, record { given_is = refl; ends = ends }, refl))
+        (Err (conflict_refusal states l pair), (l, pair, record { given_is = refl; ends = ends }, refl))
 
 -- a graph without conflicts needs no insertion
 pub none_needed : (v : Current) (trace : List TraceStep) (w : Current) → HasNoConflict v.coded → IsResolving v trace w
@@ -69,12 +69,12 @@ none_needed v (p ∷ trace) w free (u, step, rest) =
     absurd (omega (arith, none, step.improves.fewer))
 
 -- ---- what insertions keep
-pub resolved_lineage : (c : CodedGraph) (l : History) → IsCoded c → IsProper c.graph → AllGiven c.graph.signals
-    → IsResolved c l → IsLineage c l.trace l.current
-resolved_lineage c l coded proper clean is =
+pub resolved_lineage : (c : CodedGraph) (trace : List TraceStep) (w : Current) → IsCoded c → IsProper c.graph
+    → AllGiven c.graph.signals → IsResolving (as_given c) trace w → IsLineage c trace w
+resolved_lineage c trace w coded proper clean goes =
     let none : IsLineage c [] (as_given c) =
     record { coded = coded; proper = proper; none_inserted = clean; grown = refl } in
-    traces_are_lineages c [] l.trace (as_given c) l.current none is.resolves.goes
+    traces_are_lineages c [] trace (as_given c) w none goes
 
 -- the names of the inserted signals are signal names
 pub fresh_named : (signals : List Signal) (stem name : List ℕ) → IsTrue (is_signal_name stem)

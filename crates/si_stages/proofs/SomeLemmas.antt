@@ -11,18 +11,15 @@ use Rattle.si_base.specs.declared.graph.SigKind.TheVariants.{Input, Output, Inte
 use Rattle.si_base.specs.declared.graph.Signal.{Signal}
 use Rattle.si_base.specs.declared.ids.Event.{Event}
 use Rattle.si_base.specs.Bits.{bit}
-use Rattle.si_base.specs.Codes.{CodedGraph, IsConnected, code}
+use Rattle.si_base.specs.Codes.{CodedGraph, code}
 use Rattle.si_base.specs.GivenGraph.{Sg}
-use Rattle.si_base.specs.Graph.{kind_place}
+use Rattle.si_base.specs.Graph.{StateGraph, kind_place}
 use Rattle.si_base.specs.Netlist.{Netlist}
 use Rattle.si_base.specs.NetlistText.{name_of}
-use Rattle.si_base.specs.Proper.{IsProper}
 use Rattle.si_base.specs.System.{IsFor, start}
 use Rattle.si_checks.proofs.BreachesDecided.{proper_or_breach}
 use Rattle.si_checks.proofs.CodesExist.{some_codes}
-use Rattle.si_checks.specs.Laws.{ProperOrBreach, AllHold, HasNoValues}
-use Rattle.si_checks.specs.Laws as decided
-use Rattle.si_graph.proofs.CutLemmas.{cut_connected}
+use Rattle.si_checks.specs.Laws.{ProperOrBreach, AllHold, HasSplit, HasNoValues, HasFork, HasLoss}
 use Rattle.si_sg.proofs.GivenExists.{some_given}
 use Rattle.si_sg.specs.GivenGraph.{IsGivenBy}
 use Rattle.si_sg.specs.GraphText.{graph_fault}
@@ -31,18 +28,13 @@ use Rattle.si_system.specs.Lists.{given, IsSameAt, ShowsDifference}
 use Rattle.si_system.specs.Outcome.{IsOutcome}
 use Rattle.si_system.specs.declared.replay.Outcome.{Outcome}
 use Rattle.si_system.specs.declared.replay.Outcome.TheVariants as outcome
-use Rattle.si_stages.specs.Checks.{Breach, HasSplit, LacksValues, HasFork, HasLoss, IsFirstBreach, IsSound, named}
-use Rattle.si_stages.specs.Checks.{proper, matched}
+use Rattle.si_stages.specs.Checks.{IsNamed, breach_name, proper, match_lists}
 use Rattle.si_stages.specs.Laws.{HasResult, EndsOrDeparts}
 use Rattle.si_stages.specs.Readings.{graph_in}
+use Rattle.si_refusals.specs.declared.breach.NamedBreach.{NamedBreach}
 use Rattle.si_refusals.specs.Refusal.{BadText, ListsDiffer, Improper, Differs}
-use Rattle.si_stages.specs.Replayed.{IsReplay, IsDeparture, replayed, replay_text, shown_signal}
-use Rattle.si_circuit.specs.declared.style.Style.{Style}
-use Rattle.si_insert.specs.Lineage.{History}
-use Rattle.si_stages.specs.Resolving.{IsResolved}
-use Rattle.si_stages.specs.Synthesis.{synthesised}
-use Rattle.si_stages.proofs.ReplayLemmas.{has_name}
-use Rattle.si_stages.proofs.Synthesis.{is_synthesis}
+use Rattle.si_stages.specs.Replayed.{IsReplay, IsDeparture, replay_end, replay_text, shown_signal}
+use Rattle.si_stages.proofs.ReplayLemmas.{given_named_states, has_name}
 
 -- ---- the netlist is for the graph, or there is a first place at which it isn't
 
@@ -142,69 +134,61 @@ for_all_same coded net k many same = record {
   values = λ a within. (same a (omega arith)).value within;
 }
 
-pub matched_some : (file : List ℕ) (coded : CodedGraph) (net : Netlist) → HasResult (matched file coded net)
-matched_some file coded net =
+pub match_lists_some : (file : List ℕ) (coded : CodedGraph) (net : Netlist) → HasResult (match_lists file coded net)
+match_lists_some file coded net =
     let k : ℕ = length (given net) + length coded.graph.signals + 1 in
     elim (same_below coded net k) [
       | inl same ↦ (Ok tt, for_all_same coded net k (omega arith) same)
       | inr differs ↦ (Err (ListsDiffer file differs.0), (differs.0, differs.1, refl))
     ]
 
-pub replayed_ends : (text : List ℕ) (sg : Sg) (net : Netlist) (events : List Event) → IsGivenBy text sg
-    → EndsOrDeparts (replayed sg net events)
-replayed_ends text sg net events is =
-    let some = some_outcome sg.graph net (start sg.graph net) events refl in
+pub replay_ends_somehow : (graph : StateGraph) (states : List (List ℕ)) (net : Netlist) (events : List Event)
+    → IsNamed graph states → EndsOrDeparts (replay_end graph states net events)
+replay_ends_somehow graph states net events is =
+    let some = some_outcome graph net (start graph net) events refl in
     go some.0 some.1
   where
-    go : (o : Outcome) → IsOutcome sg.graph net (start sg.graph net) events o → EndsOrDeparts (replayed sg net events)
+    go : (o : Outcome) → IsOutcome graph net (start graph net) events o
+        → EndsOrDeparts (replay_end graph states net events)
     go (outcome.Done values state) out =
-        let within : state < length sg.states = has_name text sg net events (outcome.Done values state) is out in
-        let name : List ℕ = get_or sg.states state [] in
-        let named = slice_get-get_or sg.states state [] within in
-        let ends : IsReplay sg net events (replay_text (length events) net.signals values name) =
+        let within : state < length states =
+        has_name graph states net events (outcome.Done values state) is.is_graph is.names out in
+        let name : List ℕ = get_or states state [] in
+        let named = slice_get-get_or states state [] within in
+        let ends : IsReplay graph states net events (replay_text (length events) net.signals values name) =
         record { values = values; state = state; outcome_is = out; name = name; named = named; output_is = refl } in
         inl (replay_text (length events) net.signals values name, ends)
     go (outcome.Differs step event verdict) out =
         let signal = name_of net.signals (shown_signal event verdict) in
-        let departs : IsDeparture sg net events (Differs step signal verdict) =
+        let departs : IsDeparture graph net events (Differs step signal verdict) =
         record { step = step; event = event; verdict = verdict; outcome_is = out; refusal_is = refl } in
         inr (step, signal, verdict, departs)
 
-pub replayed_some : (text : List ℕ) (sg : Sg) (net : Netlist) (events : List Event) → IsGivenBy text sg
-    → HasResult (replayed sg net events)
-replayed_some text sg net events is = elim (replayed_ends text sg net events is) [
+pub replay_end_some : (graph : StateGraph) (states : List (List ℕ)) (net : Netlist) (events : List Event)
+    → IsNamed graph states → HasResult (replay_end graph states net events)
+replay_end_some graph states net events is = elim (replay_ends_somehow graph states net events is) [
   | inl ends ↦ (Ok ends.0, ends.1)
   | inr departs ↦ (Err (Differs departs.0 departs.1 departs.2), departs.3)
 ]
 
-pub synthesised_some : (style : Style) (text : List ℕ) (sg : Sg) (coded : CodedGraph) (l : History) → IsGivenBy text sg
-    → IsSound sg.graph coded → IsResolved coded l → HasResult (synthesised style sg coded l)
-synthesised_some style text sg coded l given sound is =
-    (Ok _, is_synthesis style text sg coded l _ given sound is refl)
-
 pub proper_some : (text : List ℕ) (sg : Sg) → IsGivenBy text sg → HasResult (proper sg.graph sg.states)
-proper_some text sg is = go (proper_or_breach sg.graph is.is.given.cut.graph connected)
+proper_some text sg given = go (proper_or_breach sg.graph is.is_graph is.connected)
   where
-    connected : IsConnected sg.graph
-    connected = cut_connected is.is.whole is.is.given.kept sg.graph is.is.given.cut
+    is : IsNamed sg.graph sg.states
+    is = given_named_states text sg given
 
-    sound : IsProper sg.graph → HasResult (proper sg.graph sg.states)
-    sound good =
-        let some = some_codes sg.graph is.is.given.cut.graph connected good.deterministic good.consistent in
-        (Ok some.0, record { coded_is = some.2; same_graph = some.1; proper = good })
-
-    breaks : (breach : Breach) → IsFirstBreach sg.graph breach → HasResult (proper sg.graph sg.states)
-    breaks breach first =
-        let shown = named sg.graph.signals sg.states breach in
-        (Err (Improper shown), (shown, (breach, first, refl), refl))
+    refused : (found : ProperOrBreach sg.graph) (shown : NamedBreach) → breach_name sg.states found ≡ Some shown
+        → HasResult (proper sg.graph sg.states)
+    refused found shown same = (Err (Improper shown), (shown, (found, same), refl))
 
     go : ProperOrBreach sg.graph → HasResult (proper sg.graph sg.states)
-    go (AllHold good) = sound good
-    go (decided.HasSplit b first) = breaks (HasSplit b) first
-    go (HasNoValues deterministic a first) = breaks (LacksValues a) (deterministic, first)
-    go (decided.HasFork deterministic consistent b first) = breaks (HasFork b) (deterministic, consistent, first)
-    go (decided.HasLoss deterministic consistent commutative b first) =
-        breaks (HasLoss b) (deterministic, consistent, commutative, first)
+    go (AllHold good) =
+        let some = some_codes sg.graph is.is_graph is.connected good.deterministic good.consistent in
+        (Ok some.0, record { coded_is = some.2; same_graph = some.1; proper = good })
+    go (HasSplit b first) = refused (HasSplit b first) _ refl
+    go (HasNoValues d a first) = refused (HasNoValues d a first) _ refl
+    go (HasFork d v b first) = refused (HasFork d v b first) _ refl
+    go (HasLoss d v q b first) = refused (HasLoss d v q b first) _ refl
 
 pub graph_some : (file text : List ℕ) → HasResult (graph_in file text)
 graph_some file text = decided_by (graph_fault text) refl

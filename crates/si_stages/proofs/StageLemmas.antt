@@ -1,12 +1,19 @@
 -- One stage after another: it has one result at most where each has, and has one where each has.
-use Rattle.std.proofs.Common.{◌≡◌, ℕ, List, [], ◌∷◌, Option, Some, None, Ok, Err, refl, sym, ap, subst, ◌∙◌}
+use Rattle.std.proofs.Common.{◌≡◌, ℕ, List, [], ◌∷◌, Option, Some, None, Result, Ok, Err, refl, sym, ap, subst, ◌∙◌}
 use Rattle.std.specs.List.{AllByRecursion}
 use Rattle.si_base.specs.declared.fault.TextKind.{TextKind}
 use Rattle.si_refusals.specs.Ending.{Ending, NoMemory, Answered, MayStop}
 use Rattle.si_stages.specs.Laws.{AtMostOne, HasResult}
 use Rattle.si_stages.specs.Readings.{TellsFault, spelled}
 use Rattle.si_refusals.specs.Refusal.{TextRefusal, TextRefused, BadText}
-use Rattle.si_refusals.specs.Stages.{Stage, Then, Refuses, Passes, gives, each}
+use Rattle.si_refusals.specs.Stages.{Stage, Then, Refuses, Passes, gives, shows, each}
+
+-- ---- a result is one value, or a refusal
+pub one_value : {R A : Type 0} (result : Result A R) (x y : A) → result ≡ Ok x → result ≡ Ok y → x ≡ y
+one_value result x y one other = cc
+
+pub no_refusal : {R A : Type 0} (result : Result A R) (x : A) (r : R) → result ≡ Ok x → result ≡ Err r → ⊥
+no_refusal result x r passes refuses = cc
 
 -- ---- at most one result
 pub then_one : {R A B : Type 0} (first : Stage R A) (next : A → Stage R B) → AtMostOne first
@@ -25,6 +32,11 @@ then_one first next one then a b (Passes x h g) (Passes y k l) =
 pub gives_one : {R A : Type 0} (x : A) → AtMostOne (gives {R = R} x)
 gives_one x a b one other = one ∙ sym other
 
+pub shows_one : {R A : Type 0} (P : A → Type 0) → ((x y : A) → P x → P y → x ≡ y) → AtMostOne (shows {R = R} P)
+shows_one P same (Ok x) (Ok y) one other = ap Ok (same x y one other)
+shows_one P same (Ok x) (Err r) one other = absurd other
+shows_one P same (Err r) b one other = absurd one
+
 pub each_one : {R A B : Type 0} (stage : A → Stage R B) (xs : List A) → AllByRecursion (λ x. AtMostOne (stage x)) xs
     → AtMostOne (each stage xs)
 each_one stage [] ones = gives_one []
@@ -39,6 +51,9 @@ then_some first next (Err r, is) then = (Err r, Refuses r is refl)
 
 pub gives_some : {R A : Type 0} (x : A) → HasResult (gives {R = R} x)
 gives_some x = (Ok x, refl)
+
+pub shows_some : {R A : Type 0} (P : A → Type 0) → ((x : A) × P x) → HasResult (shows {R = R} P)
+shows_some P some = (Ok some.0, some.1)
 
 pub each_some : {R A B : Type 0} (stage : A → Stage R B) (xs : List A) → AllByRecursion (λ x. HasResult (stage x)) xs
     → HasResult (each stage xs)

@@ -1,15 +1,12 @@
 -- What is checked of a graph, each as a stage.
-use Rattle.std.specs.Prelude.{◌≡◌, ℕ, List, length, Ok, Err}
-use Rattle.si_base.specs.declared.graph.Signal.{Signal}
-use Rattle.si_base.specs.Codes.{CodedGraph, IsCoded, IsConnected, IsConsistent, IsDeterministic}
+use Rattle.std.specs.Prelude.{◌≡◌, ℕ, List, length, Option, None, Some, Ok, Err}
+use Rattle.si_base.specs.Codes.{CodedGraph, IsCoded, IsConnected}
 use Rattle.si_base.specs.Graph.{StateGraph, IsGraph}
 use Rattle.si_base.specs.Netlist.{Netlist}
 use Rattle.si_base.specs.NetlistText.{name_of}
-use Rattle.si_base.specs.Order.{IsFirst}
-use Rattle.si_base.specs.Proper.{IsProper, IsCommutative}
-use Rattle.si_base.specs.Proper.{Split, Splits, split_place, IsFirstWithoutValues}
-use Rattle.si_base.specs.Proper.{Fork, Forks, fork_place, Loss, Loses, loss_place}
+use Rattle.si_base.specs.Proper.{IsProper}
 use Rattle.si_base.specs.System.{IsFor}
+use Rattle.si_checks.specs.Laws.{ProperOrBreach, AllHold, HasSplit, HasNoValues, HasFork, HasLoss}
 use Rattle.si_sg.specs.CanonicalText.{state_at, event_word}
 use Rattle.si_system.specs.Lists.{ShowsDifference}
 use Rattle.si_refusals.specs.Refusal.{TextRefusal, Improper, ListsDiffer}
@@ -20,32 +17,19 @@ use Rattle.si_refusals.specs.declared.breach.NamedBreach.TheVariants.{Inconsiste
 use Rattle.si_refusals.specs.declared.breach.NamedBreach.TheVariants.{Noncommutative}
 use Rattle.si_refusals.specs.declared.breach.NamedBreach.TheVariants.{Nonpersistent}
 
--- a breach of what makes a graph proper: of determinism, consistency, commutativity or output
--- persistency
-pub data Breach : Type 0 where
-  HasSplit : Split → Breach
-  LacksValues : (sig : ℕ) → Breach
-  HasFork : Fork → Breach
-  HasLoss : Loss → Breach
-
--- the first breach of a graph: of determinism, else of consistency, else of commutativity, else of
--- output persistency
-abbrev pub IsFirstBreach : StateGraph → Breach → Type 0
-IsFirstBreach g (HasSplit b) = IsFirst split_place (Splits g) b
-IsFirstBreach g (LacksValues sig) = IsDeterministic g × IsFirstWithoutValues g sig
-IsFirstBreach g (HasFork b) = IsDeterministic g × IsConsistent g × IsFirst fork_place (Forks g) b
-IsFirstBreach g (HasLoss b) =
-    IsDeterministic g × IsConsistent g × IsCommutative g × IsFirst loss_place (Loses g) b
-
--- a breach by the names of its states and the words of its events
-abbrev pub named : List Signal → (states : List (List ℕ)) → Breach → NamedBreach
-named signals states (HasSplit b) = Nondeterministic (state_at states b.s)
-    (event_word signals b.e) (state_at states b.t) (state_at states b.u)
-named signals states (LacksValues sig) = Inconsistent (name_of signals sig)
-named signals states (HasFork b) = Noncommutative (state_at states b.s)
-    (event_word signals b.a) (event_word signals b.c) (state_at states b.w) (state_at states b.w2)
-named signals states (HasLoss b) = Nonpersistent (state_at states b.s)
-    (event_word signals b.lost) (event_word signals b.by)
+-- a first breach by the names of its states and the words of its events; none where the graph is
+-- proper
+abbrev pub breach_name : {g : StateGraph} → (states : List (List ℕ)) → ProperOrBreach g
+    → Option NamedBreach
+breach_name states (AllHold good) = None
+breach_name {g} states (HasSplit b first) = Some (Nondeterministic (state_at states b.s)
+    (event_word g.signals b.e) (state_at states b.t) (state_at states b.u))
+breach_name {g} states (HasNoValues earlier sig first) = Some (Inconsistent (name_of g.signals sig))
+breach_name {g} states (HasFork earlier values b first) = Some (Noncommutative (state_at states b.s)
+    (event_word g.signals b.a) (event_word g.signals b.c)
+    (state_at states b.w) (state_at states b.w2))
+breach_name {g} states (HasLoss earlier values squares b first) = Some (Nonpersistent
+    (state_at states b.s) (event_word g.signals b.lost) (event_word g.signals b.by))
 
 -- each state of the graph is reachable, and has a name
 pub record IsNamed (graph : StateGraph) (states : List (List ℕ)) : Type 0 where
@@ -59,10 +43,11 @@ pub record IsSound (graph : StateGraph) (coded : CodedGraph) : Type 0 where
   pub same_graph : coded.graph ≡ graph
   pub proper : IsProper graph
 
--- the breach that is shown is the graph's first
+-- the breach that is shown is the graph's first: of determinism, else of consistency, else of
+-- commutativity, else of output persistency
 abbrev pub ShowsFirstBreach : StateGraph → (states : List (List ℕ)) → NamedBreach → Type 0
-ShowsFirstBreach graph states shown = (breach : Breach) × IsFirstBreach graph breach
-    × (shown ≡ named graph.signals states breach)
+ShowsFirstBreach graph states shown =
+    (first : ProperOrBreach graph) × (breach_name states first ≡ Some shown)
 
 -- the graph with its codes, where it is proper: else its first breach
 abbrev pub proper : StateGraph → (states : List (List ℕ)) → Stage TextRefusal CodedGraph
@@ -72,7 +57,7 @@ proper graph states (Err refusal) = (shown : NamedBreach) × ShowsFirstBreach gr
 
 -- the netlist is for it: else the first place, from 1, at which their signals or start values
 -- differ
-abbrev pub matched : (file : List ℕ) → CodedGraph → Netlist → Stage TextRefusal (Unit {0})
-matched file coded netlist (Ok _) = IsFor coded netlist
-matched file coded netlist (Err refusal) =
+abbrev pub match_lists : (file : List ℕ) → CodedGraph → Netlist → Stage TextRefusal (Unit {0})
+match_lists file coded netlist (Ok _) = IsFor coded netlist
+match_lists file coded netlist (Err refusal) =
     (place : ℕ) × ShowsDifference coded netlist place × (refusal ≡ ListsDiffer file place)

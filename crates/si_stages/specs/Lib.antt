@@ -1,11 +1,15 @@
 pub mod Readings
 pub mod Checks
 pub mod Resolving
+pub mod Written
 pub mod Synthesis
 pub mod Mapping
 pub mod Replayed
+pub mod Fold
 pub mod Reports
 pub mod Outcomes
 pub mod Meaning
 pub mod Laws
+pub mod FoldLaws
 pub mod Exercise
+pub mod Verilog

@@ -4,7 +4,7 @@ use Rattle.std.specs.Prelude.{Some, slice_get, Ok, Err}
 use Rattle.si_base.specs.declared.ids.Event.{Event}
 use Rattle.si_base.specs.declared.graph.Signal.{Signal}
 use Rattle.si_base.specs.Netlist.{Netlist}
-use Rattle.si_base.specs.GivenGraph.{Sg}
+use Rattle.si_base.specs.Graph.{StateGraph}
 use Rattle.si_base.specs.NetlistText.{bits_from, name_of, word_if_any}
 use Rattle.si_base.specs.System.{start}
 use Rattle.si_base.specs.Words.{text_of}
@@ -28,28 +28,29 @@ replay_text events signals values state = text_of ((codes "done" ∷ decimal eve
     ∷ (codes "values" ∷ word_if_any (bits_from 0 signals values))
     ∷ (codes "state" ∷ state ∷ []) ∷ [])
 
--- the output says where the schedule ends
-pub record IsReplay (given : Sg) (netlist : Netlist) (events : List Event)
-    (output : List ℕ) : Type 0 where
+-- the output says where the schedule ends, over a graph whose states have these names
+pub record IsReplay (graph : StateGraph) (states : List (List ℕ)) (netlist : Netlist)
+    (events : List Event) (output : List ℕ) : Type 0 where
   pub values : ℕ
   pub state : ℕ
-  pub outcome_is : IsOutcome given.graph netlist (start given.graph netlist) events
-      (outcome.Done values state)
+  pub outcome_is : IsOutcome graph netlist (start graph netlist) events (outcome.Done values state)
   pub name : List ℕ
-  pub named : slice_get given.states state ≡ Some name
+  pub named : slice_get states state ≡ Some name
   pub output_is : output ≡ replay_text (length events) netlist.signals values name
 
 -- the refusal shows the first event, counted from 1, whose verdict isn't `Done`
-pub record IsDeparture (given : Sg) (netlist : Netlist) (events : List Event)
+pub record IsDeparture (graph : StateGraph) (netlist : Netlist) (events : List Event)
     (refusal : TextRefusal) : Type 0 where
   pub step : ℕ
   pub event : Event
   pub verdict : Verdict
-  pub outcome_is : IsOutcome given.graph netlist (start given.graph netlist) events
+  pub outcome_is : IsOutcome graph netlist (start graph netlist) events
       (outcome.Differs step event verdict)
   pub refusal_is : refusal
       ≡ Differs step (name_of netlist.signals (shown_signal event verdict)) verdict
 
-abbrev pub replayed : Sg → Netlist → List Event → Stage TextRefusal (List ℕ)
-replayed given netlist events (Ok output) = IsReplay given netlist events output
-replayed given netlist events (Err refusal) = IsDeparture given netlist events refusal
+-- where the schedule ends: else the first event that departs from the graph
+abbrev pub replay_end : StateGraph → (states : List (List ℕ)) → Netlist → List Event
+    → Stage TextRefusal (List ℕ)
+replay_end graph states netlist events (Ok output) = IsReplay graph states netlist events output
+replay_end graph states netlist events (Err refusal) = IsDeparture graph netlist events refusal

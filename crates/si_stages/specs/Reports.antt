@@ -9,7 +9,9 @@ use Rattle.si_listings.specs.RegionText.{IsRegionText}
 use Rattle.si_refusals.specs.Refusal.{TextRefusal}
 use Rattle.si_refusals.specs.Stages.{Stage, gives, shows}
 use Rattle.si_stages.specs.declared.report_kind.Report.{Report}
-use Rattle.si_stages.specs.declared.report_kind.Report.TheVariants.{Summary, Regions, Conflicts, Covers}
+use Rattle.si_stages.specs.Fold.{IsFoldText}
+use Rattle.si_stages.specs.declared.report_kind.Report.TheVariants.{Summary, Regions}
+use Rattle.si_stages.specs.declared.report_kind.Report.TheVariants.{Conflicts, Covers, Fold}
 
 -- a line of a word and a number
 abbrev pub count_line : List ℕ → ℕ → List (List ℕ)
@@ -25,10 +27,12 @@ summary coded = text_of ((codes "proper" ∷ [])
     ∷ (codes "start" ∷ word_if_any (bits_from 0 coded.graph.signals (code coded coded.graph.start)))
     ∷ [])
 
--- of a graph with these names of its states: its summary; the text of its regions; the text of its
--- conflicts; the text of its covers
-abbrev pub told : Report → (states : List (List ℕ)) → CodedGraph → Stage TextRefusal (List ℕ)
-told Summary states coded = gives (summary coded)
-told Regions states coded = shows (IsRegionText coded states)
-told Conflicts states coded = shows (IsConflictText coded states)
-told Covers states coded = shows (IsCoverText coded states)
+-- of a graph with this model and these names of its states: its summary; the text of its regions;
+-- the text of its conflicts; the text of its covers; the text of its folded graph
+abbrev pub told : Report → (model : List ℕ) → (states : List (List ℕ)) → CodedGraph
+    → Stage TextRefusal (List ℕ)
+told Summary model states coded = gives (summary coded)
+told Regions model states coded = shows (IsRegionText coded states)
+told Conflicts model states coded = shows (IsConflictText coded states)
+told Covers model states coded = shows (IsCoverText coded states)
+told Fold model states coded = shows (IsFoldText model states coded)

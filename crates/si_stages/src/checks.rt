@@ -12,8 +12,10 @@ use si_base::names::Names;
 use si_checks::proper::{Improper, Proper};
 use si_graph::coded::{CodeFault, Coded};
 use si_graph::graph::Graph;
+use si_netlist::netlist::Netlist;
 use si_refusals::breach::{NamedBreach, event_word, name_of_signal, state_name};
 use si_refusals::refusals::Refusal;
+use si_system::system::{ListsDiffer, System};
 use std::alloc::Global;
 
 /// The graph with its codes, where these are the names of its states. `Improper` comes exactly
@@ -26,21 +28,41 @@ pub fn proper_of(alloc: Global, graph: Graph, states: &Names) -> Result<Proper, 
     let coded = match Coded::make(alloc, graph) {
         Ok(coded) => coded,
         Err((graph, fault)) => {
-            let breach = uncoded(alloc, &graph, states, fault)?;
+            let breach = breach_without_codes(alloc, &graph, states, fault)?;
             return Err(Refusal::Improper { breach });
         }
     };
     match Proper::make(alloc, coded) {
         Ok(proper) => Ok(proper),
         Err((coded, fault)) => {
-            let breach = improper(alloc, &coded, states, fault)?;
+            let breach = breach_with_codes(alloc, &coded, states, fault)?;
             Err(Refusal::Improper { breach })
         }
     }
 }
 
+/// That the netlist is for the graph: its given signals and their start values are the graph's.
+///
+/// # Errors
+///
+/// `ListsDiffer` exactly where they aren't, with the first place at which they differ.
+pub fn match_lists<'w>(file: &'w str, graph: &Coded, netlist: &Netlist) -> Result<(), Refusal<'w>>
+    ensures ok { IfOk result
+        (λ done. stage.match_lists file.now graph.now netlist.now (Ok done)) }
+    ensures err { IfErr result
+        (λ r. MayStop (stage.match_lists file.now graph.now netlist.now) (ending_of r)) }
+{
+    match System::start(graph, netlist) {
+        Ok(_) => Ok(()),
+        Err(ListsDiffer { place }) => Err(Refusal::ListsDiffer {
+            netlist: file,
+            place,
+        }),
+    }
+}
+
 /// The first breach of a graph that has no codes.
-fn uncoded(
+fn breach_without_codes(
     alloc: Global,
     graph: &Graph,
     states: &Names,
@@ -66,7 +88,7 @@ fn uncoded(
 }
 
 /// The first breach of a graph that has codes and isn't proper.
-fn improper(
+fn breach_with_codes(
     alloc: Global,
     coded: &Coded,
     states: &Names,

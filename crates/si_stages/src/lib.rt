@@ -3,6 +3,8 @@
 
 pub mod checks;
 pub mod exercise;
+mod fold;
+pub mod fold_laws;
 mod literals;
 pub mod mapping;
 pub mod readings;
@@ -11,3 +13,4 @@ pub mod report;
 pub mod report_kind;
 pub mod resolving;
 pub mod synth;
+pub mod verilog;

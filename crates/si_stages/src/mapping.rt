@@ -6,12 +6,11 @@ ghost use Rattle.si_base.specs.NetlistText.{netlist_text};
 ghost use Rattle.si_circuit.specs.Circuits.{AreStateNames};
 ghost use Rattle.si_circuit.specs.Spelled.{AreSpelled};
 ghost use Rattle.si_refusals.specs.Ending as ending;
-ghost use Rattle.si_stages.specs.Mapping.{IsMapped, TellsStuck, shows_unfit};
+ghost use Rattle.si_stages.specs.Mapping.{IsCellsText, TellsStuck, shows_unfit};
 ghost use Rattle.si_stages.specs.Meaning as meaning;
 
-use crate::checks::proper_of;
-use crate::readings::{graph_in, library_in};
-use crate::resolving::lineage_of;
+use crate::readings::{MappingReadings, mapping_readings};
+use crate::resolving::resolution;
 use si_base::ids::NoMemory;
 use si_base::names::Names;
 use si_base::text::{Name, Text};
@@ -50,15 +49,15 @@ pub fn map_texts<'w>(
     ensures err { IfErr result (λ r. MayStop (meaning.mapping graph_file.now graph.now
         library_file.now library.now) (ending_of r)) }
 {
+    let readings = mapping_readings(alloc, graph_file, graph, library_file, library)?;
+    let MappingReadings { given, library } = readings;
     let Sg {
         model,
         graph,
         states,
-    } = graph_in(alloc, graph_file, graph)?;
-    let cells = library_in(alloc, library_file, library)?;
-    let proper = proper_of(alloc, graph, &states)?;
-    let resolved = lineage_of(alloc, proper, &states)?;
-    let output = cells_text(alloc, resolved, &cells, &model, &states)?;
+    } = given;
+    let resolved = resolution(alloc, graph, &states)?;
+    let output = cells_text(alloc, resolved, &library, &model, &states)?;
     Ok(output)
 }
 
@@ -73,18 +72,18 @@ fn cells_text(
 ) -> Result<Text, Refusal<'static>>
     requires spelled { AreSpelled model.now resolved.current.coded.graph.signals }
     requires states { AreStateNames resolved.given.graph states.now }
-    ensures ok { IfOk result (λ text. IsMapped cells.now model.now states.now resolved text) }
+    ensures ok { IfOk result (λ text. IsCellsText cells.now model.now states.now resolved text) }
     ensures err { IfErr result
         (λ r. MayStop (shows_unfit cells.now states.now resolved) (ending_of r)) }
 {
     match map_cells(alloc, resolved, cells, model, states) {
-        Ok(circuit) => written(alloc, circuit.netlist()),
-        Err(Unmapped { resolved, cause }) => Err(what_is_unfit(alloc, &resolved, states, cause)?),
+        Ok(circuit) => text_of(alloc, circuit.netlist()),
+        Err(Unmapped { resolved, cause }) => Err(unfit_refusal(alloc, &resolved, states, cause)?),
     }
 }
 
 /// The text of the netlist.
-fn written(alloc: Global, netlist: &Netlist) -> Result<Text, Refusal<'static>>
+fn text_of(alloc: Global, netlist: &Netlist) -> Result<Text, Refusal<'static>>
     ensures ok { IfOk result (λ text. text ≡ netlist_text netlist.now) }
     ensures err { IfErr result (λ r. ending_of r ≡ ending.NoMemory) }
 {
@@ -95,7 +94,7 @@ fn written(alloc: Global, netlist: &Netlist) -> Result<Text, Refusal<'static>>
 }
 
 /// The first signal of the lineage's current graph that fits no cell, and the insertions.
-fn what_is_unfit(
+fn unfit_refusal(
     alloc: Global,
     resolved: &Resolved,
     states: &Names,

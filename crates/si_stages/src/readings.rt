@@ -5,6 +5,7 @@ ghost use Rattle.si_sg.specs.GivenGraph.{sg_now};
 ghost use Rattle.si_stages.specs.Checks.{IsNamed};
 ghost use Rattle.si_refusals.specs.Ending.{MayStop, ending_of};
 ghost use Rattle.si_stages.specs.Readings as stage;
+ghost use Rattle.si_stages.specs.Readings.{mapping_readings_now, replay_readings_now};
 
 use si_base::fault::TextFault;
 use si_base::ids::Event;
@@ -16,6 +17,21 @@ use si_refusals::refusals::Refusal;
 use si_sg::read::{Sg, read_sg};
 use si_system::schedule::read_schedule;
 use std::alloc::Global;
+
+/// What the texts of a mapping spell.
+#[derive(Drop)]
+pub struct MappingReadings {
+    pub given: Sg,
+    pub library: Library,
+}
+
+/// What the texts of a replay spell. The events are of the netlist's signals.
+#[derive(Drop)]
+pub struct ReplayReadings {
+    pub given: Sg,
+    pub netlist: Netlist,
+    pub events: Vec<Event>,
+}
 
 /// The graph that the text gives. Each state of it is reachable, and has a name.
 pub fn graph_in<'w>(alloc: Global, file: &'w str, text: &[u8]) -> Result<Sg, Refusal<'w>>
@@ -71,4 +87,61 @@ pub fn schedule_in<'w>(
         Err(TextFault::NoMemory) => Err(Refusal::NoMemory),
         Err(TextFault::At { line, kind }) => Err(Refusal::BadText { file, line, kind }),
     }
+}
+
+/// The graph and the library that the texts spell, each file with its text.
+///
+/// # Errors
+///
+/// `BadText` with the first fault of the texts in their order. `NoMemory` only where memory runs
+/// out.
+pub fn mapping_readings<'w>(
+    alloc: Global,
+    graph_file: &'w str,
+    graph: &[u8],
+    library_file: &'w str,
+    library: &[u8],
+) -> Result<MappingReadings, Refusal<'w>>
+    ensures ok { IfOk result (λ t. stage.mapping_readings graph_file.now graph.now
+        library_file.now library.now (Ok (mapping_readings_now t))) }
+    ensures err { IfErr result (λ r. MayStop (stage.mapping_readings graph_file.now graph.now
+        library_file.now library.now) (ending_of r)) }
+    ensures named { IfOk result (λ t. IsNamed t.given.graph t.given.states) }
+{
+    let given = graph_in(alloc, graph_file, graph)?;
+    let library = library_in(alloc, library_file, library)?;
+    Ok(MappingReadings { given, library })
+}
+
+/// The graph, the netlist and the events that the texts spell, each file with its text.
+///
+/// # Errors
+///
+/// `BadText` with the first fault of the texts in their order. `NoMemory` only where memory runs
+/// out.
+pub fn replay_readings<'w>(
+    alloc: Global,
+    graph_file: &'w str,
+    graph: &[u8],
+    netlist_file: &'w str,
+    netlist: &[u8],
+    schedule_file: &'w str,
+    schedule: &[u8],
+) -> Result<ReplayReadings, Refusal<'w>>
+    ensures ok { IfOk result (λ t. stage.replay_readings graph_file.now graph.now
+        netlist_file.now netlist.now schedule_file.now schedule.now (Ok (replay_readings_now t))) }
+    ensures err { IfErr result (λ r. MayStop (stage.replay_readings graph_file.now graph.now
+        netlist_file.now netlist.now schedule_file.now schedule.now) (ending_of r)) }
+    ensures named { IfOk result (λ t. IsNamed t.given.graph t.given.states) }
+    ensures within { IfOk result
+        (λ t. All (λ e. e.sig < length t.netlist.signals) t.events.items) }
+{
+    let given = graph_in(alloc, graph_file, graph)?;
+    let netlist = netlist_in(alloc, netlist_file, netlist)?;
+    let events = schedule_in(alloc, schedule_file, &netlist, schedule)?;
+    Ok(ReplayReadings {
+        given,
+        netlist,
+        events,
+    })
 }

@@ -1,25 +1,27 @@
 //! From the texts of a graph, a netlist and a schedule to the end of the replay.
 
-ghost use Rattle.std.specs.Prelude.{◌≡◌, ◌<◌, ◌≤◌, IfOk, IfErr, length, Ok};
+ghost use Rattle.std.specs.Prelude.{◌≡◌, ◌<◌, ◌≤◌, All, IfOk, IfErr, length, Ok};
 ghost use Rattle.si_base.specs.Limits.{max_signals};
 ghost use Rattle.si_base.specs.NetlistText.{name_of};
-ghost use Rattle.si_stages.specs.Meaning as stage;
+ghost use Rattle.si_base.specs.System.{IsFor};
+ghost use Rattle.si_stages.specs.Meaning as meaning;
 ghost use Rattle.si_refusals.specs.Ending.{MayStop, ending_of};
 ghost use Rattle.si_stages.specs.Outcomes.{Departs, HasName, TellsEnd, TellsDeparture};
+ghost use Rattle.si_stages.specs.Replayed as stage;
 ghost use Rattle.si_stages.specs.Replayed.{replay_text, shown_signal as signal_at_fault};
 
-use crate::checks::proper_of;
-use crate::readings::{graph_in, netlist_in, schedule_in};
+use crate::checks::{match_lists, proper_of};
+use crate::readings::{ReplayReadings, replay_readings};
 use si_base::ids::{Code, Event, NoMemory, Sig};
 use si_base::names::Names;
 use si_base::text::Text;
+use si_graph::coded::Coded;
 use si_netlist::netlist::Netlist;
 use si_netlist::write::add_values_line;
 use si_refusals::breach::name_of_signal;
 use si_refusals::refusals::Refusal;
 use si_sg::read::Sg;
 use si_system::replay::{Outcome, replay};
-use si_system::system::ListsDiffer;
 use si_system::verdict::Verdict;
 use si_words::writing::add_line;
 use std::alloc::Global;
@@ -41,27 +43,61 @@ pub fn replay_texts<'w>(
     schedule_file: &'w str,
     schedule: &[u8],
 ) -> Result<Text, Refusal<'w>>
-    ensures ok { IfOk result (λ output. stage.replay graph_file.now graph.now
+    ensures ok { IfOk result (λ output. meaning.replay graph_file.now graph.now
         netlist_file.now netlist.now schedule_file.now schedule.now (Ok output)) }
-    ensures err { IfErr result (λ r. MayStop (stage.replay graph_file.now graph.now
+    ensures err { IfErr result (λ r. MayStop (meaning.replay graph_file.now graph.now
         netlist_file.now netlist.now schedule_file.now schedule.now) (ending_of r)) }
 {
-    let Sg { graph, states, .. } = graph_in(alloc, graph_file, graph)?;
-    let circuit = netlist_in(alloc, netlist_file, netlist)?;
-    let events = schedule_in(alloc, schedule_file, &circuit, schedule)?;
+    let readings = replay_readings(
+        alloc,
+        graph_file,
+        graph,
+        netlist_file,
+        netlist,
+        schedule_file,
+        schedule,
+    )?;
+    let ReplayReadings {
+        given,
+        netlist,
+        events,
+    } = readings;
+    let Sg { graph, states, .. } = given;
     let proper = proper_of(alloc, graph, &states)?;
-    match replay(proper.coded(), &circuit, &events) {
-        Ok(outcome) => told(alloc, &outcome, &circuit, events.len(), &states),
-        Err(ListsDiffer { place }) => Err(Refusal::ListsDiffer {
-            netlist: netlist_file,
-            place,
-        }),
+    let coded = proper.coded();
+    match_lists(netlist_file, coded, &netlist)?;
+    replay_end(alloc, coded, &netlist, &events, &states)
+}
+
+/// Where the schedule ends, over the netlist beside the graph for which it is, or the first event
+/// that departs from the graph.
+fn replay_end(
+    alloc: Global,
+    graph: &Coded,
+    netlist: &Netlist,
+    events: &Vec<Event>,
+    states: &Names,
+) -> Result<Text, Refusal<'static>>
+    requires fits { IsFor graph.now netlist.now }
+    requires few { length netlist.now.signals ≤ max_signals }
+    requires within { All (λ e. e.sig < length netlist.now.signals) events.now.items }
+    requires names { length states.now ≡ graph.now.graph.states }
+    ensures ok { IfOk result (λ text. stage.replay_end graph.now.graph states.now
+        netlist.now events.now.items (Ok text)) }
+    ensures err { IfErr result (λ r. MayStop (stage.replay_end graph.now.graph states.now
+        netlist.now events.now.items) (ending_of r)) }
+{
+    // What holds of each coded graph comes with its graph.
+    let _graph = graph.graph();
+    match replay(graph, netlist, events) {
+        Ok(outcome) => outcome_text(alloc, &outcome, netlist, events.len(), states),
+        Err(_) => unreachable!(),
     }
 }
 
 /// What is told of an outcome after so many events: the end of the schedule, or the event that
 /// departs from the graph.
-fn told(
+fn outcome_text(
     alloc: Global,
     outcome: &Outcome,
     netlist: &Netlist,

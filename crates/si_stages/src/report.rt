@@ -9,11 +9,12 @@ ghost use Rattle.si_stages.specs.Reports as reports;
 ghost use Rattle.si_stages.specs.Reports.{count_line, summary};
 
 use crate::checks::proper_of;
+use crate::fold::fold_text;
 use crate::readings::graph_in;
 use crate::report_kind::Report;
 use si_base::ids::NoMemory;
 use si_base::names::Names;
-use si_base::text::Text;
+use si_base::text::{Name, Text};
 use si_checks::proper::Proper;
 use si_graph::coded::Coded;
 use si_listings::conflict_listing::list_conflicts;
@@ -41,24 +42,35 @@ pub fn report<'w>(
     ensures err { IfErr result
         (λ r. MayStop (stage.report what file.now text.now) (ending_of r)) }
 {
-    let Sg { graph, states, .. } = graph_in(alloc, file, text)?;
+    let Sg {
+        model,
+        graph,
+        states,
+    } = graph_in(alloc, file, text)?;
     let proper = proper_of(alloc, graph, &states)?;
-    match told(alloc, what, &proper, &states) {
+    match told(alloc, what, &proper, &model, &states) {
         Ok(text) => Ok(text),
         Err(_) => Err(Refusal::NoMemory),
     }
 }
 
-/// What is told of a proper graph with these names of its states.
-fn told(alloc: Global, what: Report, graph: &Proper, states: &Names) -> Result<Text, NoMemory>
+/// What is told of a proper graph with this model and these names of its states.
+fn told(
+    alloc: Global,
+    what: Report,
+    graph: &Proper,
+    model: &Name,
+    states: &Names,
+) -> Result<Text, NoMemory>
     requires { length states.now ≡ graph.now.graph.states }
-    ensures { IfOk result (λ text. reports.told what states.now graph.now (Ok text)) }
+    ensures { IfOk result (λ text. reports.told what model.now states.now graph.now (Ok text)) }
 {
     match what {
         Report::Summary => summary_of(alloc, graph.coded()),
         Report::Regions => list_regions(alloc, graph.coded(), states),
         Report::Conflicts => list_conflicts(alloc, graph.coded(), states),
         Report::Covers => list_covers(alloc, graph, states),
+        Report::Fold => fold_text(alloc, graph, model, states),
     }
 }
 

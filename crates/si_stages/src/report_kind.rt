@@ -11,4 +11,7 @@ pub enum Report {
     Conflicts,
     /// The covers and the monotonous cubes of its signals, or its first conflict.
     Covers,
+    /// Its folded graph, as a canonical text: one state for each class of states that no walk tells
+    /// apart.
+    Fold,
 }

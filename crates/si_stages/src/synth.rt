@@ -4,9 +4,8 @@ ghost use Rattle.std.specs.Prelude.{IfOk, IfErr, Ok};
 ghost use Rattle.si_stages.specs.Meaning as stage;
 ghost use Rattle.si_refusals.specs.Ending.{MayStop, ending_of};
 
-use crate::checks::proper_of;
 use crate::readings::graph_in;
-use crate::resolving::lineage_of;
+use crate::resolving::resolution;
 use si_base::text::Text;
 use si_circuit::circuit::Circuit;
 use si_circuit::style::Style;
@@ -38,8 +37,7 @@ pub fn synth<'w>(
         graph,
         states,
     } = graph_in(alloc, file, text)?;
-    let proper = proper_of(alloc, graph, &states)?;
-    let resolved = lineage_of(alloc, proper, &states)?;
+    let resolved = resolution(alloc, graph, &states)?;
     let Ok(circuit) = Circuit::of_style(alloc, resolved, &model, &states, style) else {
         return Err(Refusal::NoMemory);
     };

@@ -1,103 +1,81 @@
-use Rattle.std.proofs.Common.{Ok, refl, ◌∙◌, subst}
+use Rattle.std.proofs.Common.{Ok, ap, subst, sym, ◌∙◌}
 use Rattle.si_base.specs.Codes.{CodedGraph}
+use Rattle.si_base.specs.Graph.{StateGraph}
 use Rattle.si_base.specs.System.{IsFor}
-use Rattle.si_sg.specs.GivenGraph.{sg_now}
-use Rattle.si_system.specs.Lists.{ShowsDifference}
 use Rattle.si_refusals.specs.Ending.{MayStop}
+use Rattle.si_refusals.specs.Stages.{Passes}
 use Rattle.si_stages.specs.Meaning.{replay}
-use Rattle.si_stages.specs.Outcomes.{TellsEnd, TellsDeparture}
-use Rattle.si_refusals.specs.Stages.{Passes, Refuses}
-use Rattle.si_stages.proofs.HandedOn.{stops, ok_map, err_map}
-use Rattle.si_stages.proofs.ReplayLemmas.{outcome_over, has_name, told_end, told_departure}
+use Rattle.si_stages.specs.Readings.{replay_readings_now}
+use Rattle.si_stages.specs.Replayed.{replay_end}
+use Rattle.si_stages.proofs.HandedOn.{err_map, ok_map, stops}
+use Rattle.si_stages.proofs.ReplayLemmas.{match_over}
 use Rattle.si_stages.proofs.StageLemmas.{stop_first, stop_next}
 use Rattle.si_stages.proofs.replayed.replay_texts.Goals as goal
 
--- ---- where a reading or a check refuses
-pub returns-in_err-graph-clause-err : goal.returns-in_err-graph-clause-err
-returns-in_err-graph-clause-err c =
+-- ---- where a stage refuses
+pub returns-in_err-readings-clause-err : goal.returns-in_err-readings-clause-err
+returns-in_err-readings-clause-err c =
     let a = c.args in
     stops (replay a.graph_file.now a.graph.now a.netlist_file.now a.netlist.now a.schedule_file.now a.schedule.now)
-    c.from_residual.result _ c.from_residual.ensures.1 (stop_first _ _ _ c.in_err-graph.ensures.err)
-
-pub returns-in_err-circuit-clause-err : goal.returns-in_err-circuit-clause-err
-returns-in_err-circuit-clause-err c =
-    let a = c.args in
-    let given = sg_now c.in_ok-graph.field-0 in
-    stops (replay a.graph_file.now a.graph.now a.netlist_file.now a.netlist.now a.schedule_file.now a.schedule.now)
-    c.from_residual-in_err-circuit.result _ c.from_residual-in_err-circuit.ensures.1
-    (stop_next _ _ given _ c.in_ok-graph.ensures.ok (stop_first _ _ _ c.in_err-circuit.ensures.err))
-
-pub returns-in_err-events-clause-err : goal.returns-in_err-events-clause-err
-returns-in_err-events-clause-err c =
-    let a = c.args in
-    let given = sg_now c.in_ok-graph.field-0 in
-    stops (replay a.graph_file.now a.graph.now a.netlist_file.now a.netlist.now a.schedule_file.now a.schedule.now)
-    c.from_residual-in_err-events.result _ c.from_residual-in_err-events.ensures.1
-    (stop_next _ _ given _ c.in_ok-graph.ensures.ok
-    (stop_next _ _ c.in_ok-circuit.circuit _ c.in_ok-circuit.ensures.ok (stop_first _ _ _ c.in_err-events.ensures.err)))
+    c.from_residual.result _ c.from_residual.ensures.1 (stop_first _ _ _ c.in_err-readings.ensures.err)
 
 pub returns-in_err-proper-clause-err : goal.returns-in_err-proper-clause-err
 returns-in_err-proper-clause-err c =
     let a = c.args in
-    let given = sg_now c.in_ok-graph.field-0 in
     stops (replay a.graph_file.now a.graph.now a.netlist_file.now a.netlist.now a.schedule_file.now a.schedule.now)
     c.from_residual-in_err-proper.result _ c.from_residual-in_err-proper.ensures.1
-    (stop_next _ _ given _ c.in_ok-graph.ensures.ok
-    (stop_next _ _ c.in_ok-circuit.circuit _ c.in_ok-circuit.ensures.ok
-    (stop_next _ _ c.in_ok-events.events.items _ c.in_ok-events.ensures.ok
-    (stop_first _ _ _ c.in_err-proper.ensures.err))))
+    (stop_next _ _ (replay_readings_now c.in_ok-readings.readings) _ c.in_ok-readings.ensures.ok
+    (stop_first _ _ _ c.in_err-proper.ensures.err))
+
+pub returns-in_err-match_lists-clause-err : goal.returns-in_err-match_lists-clause-err
+returns-in_err-match_lists-clause-err c =
+    let a = c.args in
+    let read = replay_readings_now c.in_ok-readings.readings in
+    let proper = c.in_ok-proper.proper in
+    stops (replay a.graph_file.now a.graph.now a.netlist_file.now a.netlist.now a.schedule_file.now a.schedule.now)
+    c.from_residual-in_err-match_lists.result _ c.from_residual-in_err-match_lists.ensures.1
+    (stop_next _ _ read _ c.in_ok-readings.ensures.ok
+    (stop_next _ _ proper _ c.in_ok-proper.ensures.ok
+    (stop_first _ _ _ (match_over a.netlist_file.now _ _ read.netlist _ c.coded-coded.ensures.same
+    c.in_err-match_lists.ensures.err))))
+
+-- ---- what the call asks for
+pub replay_end-requires-clause-names : goal.replay_end-requires-clause-names
+replay_end-requires-clause-names c =
+    let graph = ap (λ (k : CodedGraph). k.graph) c.coded-coded.ensures.same ∙ c.in_ok-proper.ensures.ok.same_graph in
+    c.in_ok-readings.ensures.named.names ∙ sym (ap (λ (g : StateGraph). g.states) graph)
+
+-- ---- where the schedule ends
+pub returns-clause-ok : goal.returns-clause-ok
+returns-clause-ok c =
+    let a = c.args in
+    let read = replay_readings_now c.in_ok-readings.readings in
+    let proper = c.in_ok-proper.proper in
+    let sound = c.in_ok-proper.ensures.ok in
+    let coded = c.coded-coded.result.now in
+    let same = c.coded-coded.ensures.same in
+    let graph = ap (λ (k : CodedGraph). k.graph) same ∙ sound.same_graph in
+    let fits = subst (λ (k : CodedGraph). IsFor k read.netlist) same c.in_ok-match_lists.ensures.ok in
+    ok_map c.replay_end.result (λ text. replay_end coded.graph read.given.states read.netlist read.events (Ok text))
+    (λ text. replay a.graph_file.now a.graph.now a.netlist_file.now a.netlist.now a.schedule_file.now a.schedule.now
+    (Ok text))
+    (λ text ends. Passes read c.in_ok-readings.ensures.ok (Passes proper sound (Passes tt fits
+    (subst (λ (g : StateGraph). replay_end g read.given.states read.netlist read.events (Ok text)) graph ends))))
+    c.replay_end.ensures.ok
 
 pub returns-clause-err : goal.returns-clause-err
 returns-clause-err c =
-    let net = c.in_ok-circuit.circuit in
-    let place = c.in-Err.field-0.place in
-    let differs = subst (λ (k : CodedGraph). ShowsDifference k net place) c.coded.ensures.same c.in-Err.ensures.same in
-    Passes (sg_now c.in_ok-graph.field-0) c.in_ok-graph.ensures.ok (Passes net c.in_ok-circuit.ensures.ok
-    (Passes c.in_ok-events.events.items c.in_ok-events.ensures.ok
-    (Passes c.in_ok-proper.proper c.in_ok-proper.ensures.ok (Refuses _ (place, differs, refl) refl))))
-
--- ---- where the replay has an outcome
-pub told-requires-clause-state : goal.told-requires-clause-state
-told-requires-clause-state c =
-    let given = sg_now c.in_ok-graph.field-0 in
-    let net = c.in_ok-circuit.circuit in
-    let events = c.in_ok-events.events.items in
-    let out = outcome_over given c.in_ok-proper.proper c.coded.result.now net events c.in-Ok.outcome
-    c.coded.ensures.same c.in_ok-proper.ensures.ok c.in-Ok.ensures.outcome in
-    has_name c.args.graph.now given net events c.in-Ok.outcome c.in_ok-graph.ensures.ok out
-
-pub returns-in-Ok-clause-ok : goal.returns-in-Ok-clause-ok
-returns-in-Ok-clause-ok c =
     let a = c.args in
-    let given = sg_now c.in_ok-graph.field-0 in
-    let net = c.in_ok-circuit.circuit in
-    let events = c.in_ok-events.events.items in
-    let count = c.len.ensures ∙ c.in_ok-events.events.ok.0 in
-    let matches = subst (λ (k : CodedGraph). IsFor k net) c.coded.ensures.same c.in-Ok.ensures.same in
-    let out = outcome_over given c.in_ok-proper.proper c.coded.result.now net events c.in-Ok.outcome
-    c.coded.ensures.same c.in_ok-proper.ensures.ok c.in-Ok.ensures.outcome in
-    ok_map c.told.result (TellsEnd net.signals c.len.result c.in_ok-graph.field-0.states c.in-Ok.outcome)
-    (λ text. replay a.graph_file.now a.graph.now a.netlist_file.now a.netlist.now a.schedule_file.now a.schedule.now
-    (Ok text))
-    (λ text tells. Passes given c.in_ok-graph.ensures.ok (Passes net c.in_ok-circuit.ensures.ok
-    (Passes events c.in_ok-events.ensures.ok (Passes c.in_ok-proper.proper c.in_ok-proper.ensures.ok
-    (Passes tt matches (told_end given net events c.len.result c.in-Ok.outcome text count out tells))))))
-    c.told.ensures.ok
-
-pub returns-in-Ok-clause-err : goal.returns-in-Ok-clause-err
-returns-in-Ok-clause-err c =
-    let a = c.args in
-    let given = sg_now c.in_ok-graph.field-0 in
-    let net = c.in_ok-circuit.circuit in
-    let events = c.in_ok-events.events.items in
-    let matches = subst (λ (k : CodedGraph). IsFor k net) c.coded.ensures.same c.in-Ok.ensures.same in
-    let out = outcome_over given c.in_ok-proper.proper c.coded.result.now net events c.in-Ok.outcome
-    c.coded.ensures.same c.in_ok-proper.ensures.ok c.in-Ok.ensures.outcome in
-    err_map c.told.result (TellsDeparture net.signals c.in-Ok.outcome)
+    let read = replay_readings_now c.in_ok-readings.readings in
+    let proper = c.in_ok-proper.proper in
+    let sound = c.in_ok-proper.ensures.ok in
+    let coded = c.coded-coded.result.now in
+    let same = c.coded-coded.ensures.same in
+    let graph = ap (λ (k : CodedGraph). k.graph) same ∙ sound.same_graph in
+    let fits = subst (λ (k : CodedGraph). IsFor k read.netlist) same c.in_ok-match_lists.ensures.ok in
+    err_map c.replay_end.result (MayStop (replay_end coded.graph read.given.states read.netlist read.events))
     (MayStop
     (replay a.graph_file.now a.graph.now a.netlist_file.now a.netlist.now a.schedule_file.now a.schedule.now))
-    (λ e tells. stop_next _ _ given e c.in_ok-graph.ensures.ok (stop_next _ _ net e c.in_ok-circuit.ensures.ok
-    (stop_next _ _ events e c.in_ok-events.ensures.ok
-    (stop_next _ _ c.in_ok-proper.proper e c.in_ok-proper.ensures.ok
-    (stop_next _ _ tt e matches (told_departure given net events c.in-Ok.outcome e out tells))))))
-    c.told.ensures.err
+    (λ e may. stop_next _ _ read e c.in_ok-readings.ensures.ok (stop_next _ _ proper e sound (stop_next _ _ tt e fits
+    (subst (λ (g : StateGraph). MayStop (replay_end g read.given.states read.netlist read.events) e) graph may))))
+    c.replay_end.ensures.err

@@ -5,19 +5,19 @@ use Rattle.si_stages.proofs.HandedOn.{stops}
 use Rattle.si_stages.proofs.StageLemmas.{stop_first, stop_next}
 use Rattle.si_stages.proofs.report.report.Goals as goal
 
-pub returns-in_err-graph-clause-err : goal.returns-in_err-graph-clause-err
-returns-in_err-graph-clause-err c =
+pub returns-in_err-model-clause-err : goal.returns-in_err-model-clause-err
+returns-in_err-model-clause-err c =
     stops (report c.args.what c.args.file.now c.args.text.now) c.from_residual.result _ c.from_residual.ensures.1
-    (stop_first _ _ _ c.in_err-graph.ensures.err)
+    (stop_first _ _ _ c.in_err-model.ensures.err)
 
 pub returns-in_err-proper-clause-err : goal.returns-in_err-proper-clause-err
 returns-in_err-proper-clause-err c =
     stops (report c.args.what c.args.file.now c.args.text.now)
     c.from_residual-in_err-proper.result _ c.from_residual-in_err-proper.ensures.1
-    (stop_next _ _ (sg_now c.in_ok-graph.field-0) _ c.in_ok-graph.ensures.ok
+    (stop_next _ _ (sg_now c.in_ok-model.field-0) _ c.in_ok-model.ensures.ok
     (stop_first _ _ _ c.in_err-proper.ensures.err))
 
 pub returns-in-Ok-clause-ok : goal.returns-in-Ok-clause-ok
 returns-in-Ok-clause-ok c =
-    Passes (sg_now c.in_ok-graph.field-0) c.in_ok-graph.ensures.ok
+    Passes (sg_now c.in_ok-model.field-0) c.in_ok-model.ensures.ok
     (Passes c.in_ok-proper.proper c.in_ok-proper.ensures.ok c.in-Ok.ensures)

@@ -1,6 +1,6 @@
 use Rattle.si_base.specs.Proper.{Split}
 use Rattle.si_stages.proofs.Breaches.{split_shown, values_shown}
-use Rattle.si_stages.proofs.checks.uncoded.Goals as goal
+use Rattle.si_stages.proofs.checks.breach_without_codes.Goals as goal
 
 pub returns-in_ok-state_name-in-Nondeterministic-3 : goal.returns-in_ok-state_name-in-Nondeterministic-3
 returns-in_ok-state_name-in-Nondeterministic-3 c =
@@ -14,5 +14,6 @@ returns-in_ok-state_name-in-Nondeterministic-3 c =
 pub returns-in_ok-name_of_signal-in-Inconsistent : goal.returns-in_ok-name_of_signal-in-Inconsistent
 returns-in_ok-name_of_signal-in-Inconsistent c =
     let told = c.in-Inconsistent in
-    values_shown c.args.graph.now c.args.states.now told.sig _ (rw told.is at c.requires.shown)
+    let shown = rw told.is at c.requires.shown in
+    values_shown c.args.graph.now c.args.states.now told.sig _ shown.0 shown.1
     (rw (← c.signals-signals.ensures) c.in_ok-name_of_signal-in-Inconsistent.ensures)

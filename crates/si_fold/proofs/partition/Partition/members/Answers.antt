@@ -1,0 +1,7 @@
+use Rattle.si_fold.specs.Partition.{shape}
+use Rattle.si_fold.proofs.MemberLemmas.{members_are}
+use Rattle.si_fold.proofs.partition.Partition.members.Goals as goal
+
+pub returns : goal.returns
+returns c = members_are (shape c.args.self.now) c.args.class c.bounds-bounds.result c.deref.result.now
+    c.requires.partition c.requires.class c.bounds-bounds.ensures c.deref.ensures.value

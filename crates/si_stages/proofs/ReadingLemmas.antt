@@ -1,0 +1,58 @@
+-- All texts of a command, read in their order: one result, and what each text gives.
+use Rattle.std.proofs.Common.{◌≡◌, ℕ, List, None, Ok, refl, sym, subst}
+use Rattle.si_cell.specs.LibraryText.{library_fault, library_of}
+use Rattle.si_refusals.specs.Stages.{Passes, Refuses}
+use Rattle.si_sg.specs.GivenGraph.{IsGivenBy}
+use Rattle.si_stages.specs.Laws.{AtMostOne, HasResult}
+use Rattle.si_stages.specs.Readings.{MappingReadings, ReplayReadings, mapping_readings, replay_readings}
+use Rattle.si_stages.proofs.CheckLemmas.{graph_one}
+use Rattle.si_stages.proofs.SomeLemmas.{graph_some}
+use Rattle.si_stages.proofs.StageLemmas.{gives_one, gives_some, no_refusal, one_value, spelled_one, spelled_some, then_one, then_some}
+
+-- ---- a graph, and a library
+pub mapping_readings_one : (g a n b : List ℕ) → AtMostOne (mapping_readings g a n b)
+mapping_readings_one g a n b =
+    then_one _ _ (graph_one g a) (λ given is. then_one _ _ (spelled_one n _ _) (λ library spelt. gives_one _))
+
+pub mapping_readings_some : (g a n b : List ℕ) → HasResult (mapping_readings g a n b)
+mapping_readings_some g a n b =
+    then_some _ _ (graph_some g a) (λ given is. then_some _ _ (spelled_some n _ _) (λ library spelt. gives_some _))
+
+pub record AreMappingReadings (a b : List ℕ) (readings : MappingReadings) : Type 0 where
+  pub given : IsGivenBy a readings.given
+  pub no_fault : library_fault b ≡ None
+  pub library : readings.library ≡ library_of b
+
+pub mapping_readings_are : (g a n b : List ℕ) (readings : MappingReadings) → mapping_readings g a n b (Ok readings)
+    → AreMappingReadings a b readings
+mapping_readings_are g a n b readings (Refuses r h same) = absurd (no_refusal (Ok readings) readings r refl same)
+mapping_readings_are g a n b readings (Passes given is (Refuses r h same)) =
+    absurd (no_refusal (Ok readings) readings r refl same)
+mapping_readings_are g a n b readings (Passes given is (Passes cells spelt same)) =
+    let read : MappingReadings = record { given = given; library = cells } in
+    let readings_are = one_value (Ok readings) readings read refl same in
+    let found : AreMappingReadings a b read =
+    record { given = is; no_fault = spelt.0; library = spelt.1 } in
+    subst (AreMappingReadings a b) (sym readings_are) found
+
+-- ---- a graph, a netlist, and the events of a schedule
+pub replay_readings_one : (g a n b s c : List ℕ) → AtMostOne (replay_readings g a n b s c)
+replay_readings_one g a n b s c = then_one _ _ (graph_one g a) (λ given is. then_one _ _ (spelled_one n _ _)
+    (λ net spelt. then_one _ _ (spelled_one s _ _) (λ events read. gives_one _)))
+
+pub replay_readings_some : (g a n b s c : List ℕ) → HasResult (replay_readings g a n b s c)
+replay_readings_some g a n b s c = then_some _ _ (graph_some g a) (λ given is. then_some _ _ (spelled_some n _ _)
+    (λ net spelt. then_some _ _ (spelled_some s _ _) (λ events read. gives_some _)))
+
+pub replay_readings_given : (g a n b s c : List ℕ) (readings : ReplayReadings)
+    → replay_readings g a n b s c (Ok readings) → IsGivenBy a readings.given
+replay_readings_given g a n b s c readings (Refuses r h same) =
+    absurd (no_refusal (Ok readings) readings r refl same)
+replay_readings_given g a n b s c readings (Passes given is (Refuses r h same)) =
+    absurd (no_refusal (Ok readings) readings r refl same)
+replay_readings_given g a n b s c readings (Passes given is (Passes net spelt (Refuses r h same))) =
+    absurd (no_refusal (Ok readings) readings r refl same)
+replay_readings_given g a n b s c readings (Passes given is (Passes net spelt (Passes events read same))) =
+    let all : ReplayReadings = record { given = given; netlist = net; events = events } in
+    let readings_are = one_value (Ok readings) readings all refl same in
+    subst (λ (r : ReplayReadings). IsGivenBy a r.given) (sym readings_are) is
