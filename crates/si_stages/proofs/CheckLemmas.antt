@@ -53,10 +53,13 @@ proper_one graph states (Err r) (Ok d) one other = absurd (breach_improper graph
 proper_one graph states (Err r) (Err q) one other =
     ap Err (one.2 ∙ ap Improper (one_shown graph states one.0 other.0 one.1 other.1) ∙ sym other.2)
 
-pub match_lists_one : (file : List ℕ) (coded : CodedGraph) (netlist : Netlist) → AtMostOne (match_lists file coded netlist)
+pub match_lists_one : (file : List ℕ) (coded : CodedGraph) (netlist : Netlist)
+    → AtMostOne (match_lists file coded netlist)
 match_lists_one file coded netlist (Ok x) (Ok y) one other = refl
-match_lists_one file coded netlist (Ok x) (Err r) one other = absurd (for_not_different coded netlist other.0 one other.1)
-match_lists_one file coded netlist (Err r) (Ok x) one other = absurd (for_not_different coded netlist one.0 other one.1)
+match_lists_one file coded netlist (Ok x) (Err r) one other =
+    absurd (for_not_different coded netlist other.0 one other.1)
+match_lists_one file coded netlist (Err r) (Ok x) one other =
+    absurd (for_not_different coded netlist one.0 other one.1)
 match_lists_one file coded netlist (Err r) (Err q) one other =
     ap Err (one.2 ∙ ap (λ (k : ℕ). ListsDiffer file k) (one_difference coded netlist one.0 other.0 one.1 other.1)
     ∙ sym other.2)

@@ -18,7 +18,8 @@ use Rattle.si_insert.proofs.Kept.{keeps}
 use Rattle.si_insert.specs.declared.lineage.TraceStep.{TraceStep}
 use Rattle.si_insert.specs.Lineage.{Current, GoesOn, History, IsLineage, Keeps, as_given}
 use Rattle.si_map.specs.Trace.{IsMapping as IsMappingTrace, MapsTo, EndsUnmapped}
-use Rattle.si_map.proofs.MapTraces.{fitted_is_mapped, mapped_is_unique, unmapped_is_unique, ends_exclude, traces_are_lineages}
+use Rattle.si_map.proofs.MapTraces.{fitted_is_mapped, mapped_is_unique, unmapped_is_unique}
+use Rattle.si_map.proofs.MapTraces.{ends_exclude, traces_are_lineages}
 use Rattle.si_divisor.proofs.DivisorsExist.{some_divisors}
 use Rattle.si_divisor.proofs.PartitionExists.{partitions_exist}
 use Rattle.si_map.proofs.EndExists.{mapping_ends}
@@ -32,7 +33,8 @@ use Rattle.si_refusals.specs.Ending as ending
 use Rattle.si_refusals.specs.Refusal.{TextRefused}
 use Rattle.si_sg.specs.GivenGraph.{IsGivenBy}
 use Rattle.si_stages.specs.Laws.{AtMostOne, HasResult}
-use Rattle.si_stages.specs.Mapping.{EndsInCells, EndsUnfit, IsMapping, TellsStuck, cells_text, shows_unfit, unfit_refusal}
+use Rattle.si_stages.specs.Mapping.{EndsInCells, EndsUnfit, IsMapping, TellsStuck}
+use Rattle.si_stages.specs.Mapping.{cells_text, shows_unfit, unfit_refusal}
 use Rattle.si_stages.proofs.GivenLineages.{IsGivenLineage, given_lineage}
 use Rattle.si_stages.proofs.ResolutionLemmas.{IsResolution}
 use Rattle.si_stages.proofs.ResolvingLemmas.{AreNamed, fresh_named, named_after, none_needed, same_history}
@@ -96,7 +98,8 @@ is_mapping library text sg l m output good given is ends output_is =
       written = is_written gate sg m output line gives forms output_is;
       gates_are = refl;
       none_inserted = λ free all.
-          no_insertion gate sg m (nothing_inserted library l m ends.trace is.resolves ends.goes ends.maps.goes free all);
+          no_insertion gate sg m
+          (nothing_inserted library l m ends.trace is.resolves ends.goes ends.maps.goes free all);
     }
 
 -- the library that a text without fault spells

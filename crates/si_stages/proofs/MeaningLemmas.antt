@@ -34,9 +34,10 @@ use Rattle.si_stages.proofs.ReadingLemmas.{mapping_readings_are, mapping_reading
 use Rattle.si_stages.proofs.ReadingLemmas.{replay_readings_given, replay_readings_one, replay_readings_some}
 use Rattle.si_stages.proofs.ReplayLemmas.{given_named_states}
 use Rattle.si_stages.proofs.ReportLemmas.{told_one, told_some}
-use Rattle.si_stages.proofs.ResolutionLemmas.{IsResolution, resolution_is, resolution_of, resolution_one, resolution_some}
+use Rattle.si_stages.proofs.ResolutionLemmas.{IsResolution, resolution_is, resolution_of}
+use Rattle.si_stages.proofs.ResolutionLemmas.{resolution_one, resolution_some}
 use Rattle.si_stages.proofs.SomeLemmas.{graph_some, proper_some, match_lists_some}
-use Rattle.si_stages.proofs.SomeLemmas.{replay_ends_somehow, replay_end_some}
+use Rattle.si_stages.proofs.SomeLemmas.{ends_or_departs, replay_end_some}
 use Rattle.si_stages.proofs.StageLemmas.{then_one, then_some}
 use Rattle.si_stages.proofs.Synthesis.{is_synthesis, synthesis_one, synthesis_some}
 
@@ -141,4 +142,4 @@ replay_ends g n s a b c given coded is netlist schedule sound fits =
     let readings : ReplayReadings = record { given = given; netlist = net; events = events } in
     let read = Passes given is (Passes net (netlist, refl) (Passes events (schedule, refl) refl)) in
     then_ends _ _ readings read (then_ends _ _ coded sound (then_ends _ _ tt fits
-    (replay_ends_somehow given.graph given.states net events (given_named_states a given is))))
+    (ends_or_departs given.graph given.states net events (given_named_states a given is))))

@@ -7,7 +7,8 @@ use Rattle.si_stages.specs.Laws.{AtMostOne, HasResult}
 use Rattle.si_stages.specs.Readings.{MappingReadings, ReplayReadings, mapping_readings, replay_readings}
 use Rattle.si_stages.proofs.CheckLemmas.{graph_one}
 use Rattle.si_stages.proofs.SomeLemmas.{graph_some}
-use Rattle.si_stages.proofs.StageLemmas.{gives_one, gives_some, no_refusal, one_value, spelled_one, spelled_some, then_one, then_some}
+use Rattle.si_stages.proofs.StageLemmas.{gives_one, gives_some, spelled_one, spelled_some, then_one, then_some}
+use Rattle.si_stages.proofs.StageLemmas.{no_refusal, one_value}
 
 -- ---- a graph, and a library
 pub mapping_readings_one : (g a n b : List ℕ) → AtMostOne (mapping_readings g a n b)

@@ -142,9 +142,9 @@ match_lists_some file coded net =
       | inr differs ↦ (Err (ListsDiffer file differs.0), (differs.0, differs.1, refl))
     ]
 
-pub replay_ends_somehow : (graph : StateGraph) (states : List (List ℕ)) (net : Netlist) (events : List Event)
+pub ends_or_departs : (graph : StateGraph) (states : List (List ℕ)) (net : Netlist) (events : List Event)
     → IsNamed graph states → EndsOrDeparts (replay_end graph states net events)
-replay_ends_somehow graph states net events is =
+ends_or_departs graph states net events is =
     let some = some_outcome graph net (start graph net) events refl in
     go some.0 some.1
   where
@@ -166,7 +166,7 @@ replay_ends_somehow graph states net events is =
 
 pub replay_end_some : (graph : StateGraph) (states : List (List ℕ)) (net : Netlist) (events : List Event)
     → IsNamed graph states → HasResult (replay_end graph states net events)
-replay_end_some graph states net events is = elim (replay_ends_somehow graph states net events is) [
+replay_end_some graph states net events is = elim (ends_or_departs graph states net events is) [
   | inl ends ↦ (Ok ends.0, ends.1)
   | inr departs ↦ (Err (Differs departs.0 departs.1 departs.2), departs.3)
 ]

@@ -39,14 +39,14 @@ pub fn exercise(alloc: Global, n: u32) -> Result<Text, Refusal<'static>>
     ensures ok { IfOk result (λ output. stage.exercise n (Ok output)) }
     ensures err { IfErr result (λ r. MayStop (stage.exercise n) (ending_of r)) }
 {
-    match exercised(alloc, n) {
+    match circuit_sizes(alloc, n) {
         Ok(text) => Ok(text),
         Err(_) => Err(Refusal::NoMemory),
     }
 }
 
-/// What `exercise` does.
-fn exercised(alloc: Global, n: u32) -> Result<Text, NoMemory>
+/// The sizes of the graph, and of its netlist of complex gates.
+fn circuit_sizes(alloc: Global, n: u32) -> Result<Text, NoMemory>
     requires some { 0 < n }
     requires few { n ≤ max_handshakes }
     ensures { IfOk result (IsExercise n) }
@@ -58,7 +58,7 @@ fn exercised(alloc: Global, n: u32) -> Result<Text, NoMemory>
     } = handshakes(alloc, n)?;
     let state_count = graph.states();
     let arc_count = graph.edges();
-    let proper = sound(alloc, graph)?;
+    let proper = proper_graph(alloc, graph)?;
     let resolved = as_it_is(alloc, proper)?;
     let Ok(circuit) = Circuit::of_sums(alloc, resolved, &model, &states) else {
         return Err(NoMemory);
@@ -67,7 +67,7 @@ fn exercised(alloc: Global, n: u32) -> Result<Text, NoMemory>
 }
 
 /// The graph with its codes, where no check refuses it.
-fn sound(alloc: Global, graph: Graph) -> Result<Proper, NoMemory>
+fn proper_graph(alloc: Global, graph: Graph) -> Result<Proper, NoMemory>
     requires connected { IsConnected graph }
     requires proper { IsProper graph }
     ensures { IfOk result (IsSound graph) }

@@ -20,7 +20,7 @@ pub fn literals_of(netlist: &Netlist) -> Result<u64, NoMemory>
     let mut count = 0;
     let gates = netlist.gates();
     for gate in gates {
-        count = added(count, gate_literals(gate)?)?;
+        count = total(count, gate_literals(gate)?)?;
     }
     Ok(count)
 }
@@ -31,7 +31,7 @@ fn gate_literals(gate: &Gate) -> Result<u64, NoMemory>
 {
     match gate {
         Gate::Sum(sum) => sum_literals(sum),
-        Gate::Gc { set, reset } => added(sum_literals(set)?, sum_literals(reset)?),
+        Gate::Gc { set, reset } => total(sum_literals(set)?, sum_literals(reset)?),
         Gate::Cell { sum, .. } => sum_literals(sum),
     }
 }
@@ -43,7 +43,7 @@ fn sum_literals(sum: &Sum) -> Result<u64, NoMemory>
     let mut count = 0;
     let cubes = sum.cubes();
     for cube in cubes {
-        count = added(count, cube_literals(cube))?;
+        count = total(count, cube_literals(cube))?;
     }
     Ok(count)
 }
@@ -62,7 +62,7 @@ fn cube_literals(cube: &Cube) -> u64
 }
 
 /// Both counts together.
-fn added(one: u64, other: u64) -> Result<u64, NoMemory>
+fn total(one: u64, other: u64) -> Result<u64, NoMemory>
     ensures { IfOk result (λ count. count ≡ one + other) }
 {
     match one.checked_add(other) {

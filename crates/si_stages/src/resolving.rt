@@ -70,7 +70,8 @@ fn what_is_left(
     requires names { length states.now ≡ lineage.now.given.graph.states }
     requires shown { ShowsStuck lineage.now.current.coded cause }
     ensures { IfOk result (λ r. (pair : ℕ × ℕ) × IsStuck lineage.now.current.coded pair
-        × (ending_of r ≡ Answered (TextRefused (stage.conflict_refusal states.now lineage.now pair)))) }
+        × (ending_of r
+        ≡ Answered (TextRefused (stage.conflict_refusal states.now lineage.now pair)))) }
 {
     match cause {
         Stuck::NoMemory => Err(NoMemory),

@@ -7,10 +7,10 @@ use Rattle.si_sg.specs.GivenGraph.{sg_now}
 use Rattle.si_stages.specs.Exercise.{IsExercise, exercise_text}
 use Rattle.si_stages.proofs.ExerciseLemmas.{counted, free, named, none_inserted, spelled}
 use Rattle.si_stages.proofs.HandedOn.{ok_map}
-use Rattle.si_stages.proofs.exercise.exercised.Goals as goal
+use Rattle.si_stages.proofs.exercise.circuit_sizes.Goals as goal
 
-pub sound-requires-clause-proper : goal.sound-requires-clause-proper
-sound-requires-clause-proper c =
+pub proper_graph-requires-clause-proper : goal.proper_graph-requires-clause-proper
+proper_graph-requires-clause-proper c =
     proper c.args.n (sg_now c.in_ok-model.field-0) c.in_ok-model.ensures.handshakes
 
 pub as_it_is-requires-clause-given : goal.as_it_is-requires-clause-given
