@@ -66,13 +66,17 @@ fn literals_of(alloc: Global, cube: &Cube) -> Result<Vec<Literal>, NoMemory>
     ensures { IfOk result (λ v. v.items ≡ cube.now) }
 {
     let mut literals = Vec::new(alloc);
-    for i in 0..CODE_WIDTH {
-        let sig = Sig(i as u8);
-        if !cube.care.get(sig) {
-            continue;
+    let mut at = 0;
+    // goes from one signal of the cube to the next: few signals of many stand in most cubes
+    while at < CODE_WIDTH {
+        let rest = cube.care.0 >> at;
+        if rest == 0 {
+            return Ok(literals);
         }
+        let sig = Sig((at + rest.trailing_zeros() as usize) as u8);
         let plain = cube.value.get(sig);
         literals.push(Literal { sig, plain })?;
+        at = sig.0 as usize + 1;
     }
     Ok(literals)
 }
