@@ -11,7 +11,7 @@ use Rattle.si_tool.specs.declared.command.GraphTask.TheVariants.{Tell, Synth}
 use Rattle.si_tool.specs.declared.command.HandshakeCount.{HandshakeCount}
 use Rattle.si_tool.specs.declared.command.HandshakeCount.TheVariants.{One, Two, Three, Four, Five, Six, Seven, Eight}
 use Rattle.si_stages.specs.declared.report_kind.Report.{Report}
-use Rattle.si_stages.specs.declared.report_kind.Report.TheVariants.{Summary, Regions, Conflicts, Covers}
+use Rattle.si_stages.specs.declared.report_kind.Report.TheVariants.{Summary, Regions, Conflicts, Covers, Fold}
 use Rattle.si_refusals.specs.Ending.{Ending, NoMemory, Usage, WriteFault, Answered, IsRefusal, status_of}
 use Rattle.si_refusals.specs.Ending.{line_of, ending_of}
 use Rattle.si_tool.specs.Laws.{ShowsCause}
@@ -39,7 +39,8 @@ report_by : List ℕ → Option Report
 report_by word = if bytes_eq word (codes "check") then Some Summary
     else if bytes_eq word (codes "regions") then Some Regions
     else if bytes_eq word (codes "conflicts") then Some Conflicts
-    else if bytes_eq word (codes "covers") then Some Covers else None
+    else if bytes_eq word (codes "covers") then Some Covers
+    else if bytes_eq word (codes "fold") then Some Fold else None
 
 handshakes_by : List ℕ → Option HandshakeCount
 handshakes_by word = if bytes_eq word (codes "1") then Some One
@@ -73,6 +74,7 @@ asked_back (AsksOfGraph (Tell Summary) file) = refl
 asked_back (AsksOfGraph (Tell Regions) file) = refl
 asked_back (AsksOfGraph (Tell Conflicts) file) = refl
 asked_back (AsksOfGraph (Tell Covers) file) = refl
+asked_back (AsksOfGraph (Tell Fold) file) = refl
 asked_back (AsksOfGraph (Synth Complex) file) = refl
 asked_back (AsksOfGraph (Synth GeneralisedC) file) = refl
 asked_back (AsksMap graph library) = refl

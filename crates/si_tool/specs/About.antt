@@ -13,6 +13,7 @@ help_lines =
     codes "  sisyn regions F                    where events are excited, and what follows" ∷
     codes "  sisyn conflicts F                  states that no gates can tell apart" ∷
     codes "  sisyn covers F                     sums for each signal, and monotonous cubes" ∷
+    codes "  sisyn fold F                       the graph with alike states merged" ∷
     codes "  sisyn synth F complex              a netlist of complex gates" ∷
     codes "  sisyn synth F gc                   a netlist of generalised C-elements" ∷
     codes "  sisyn map F LIB                    a netlist of cells of a library" ∷

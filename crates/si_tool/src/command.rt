@@ -116,7 +116,7 @@ fn about_of(words: &[String]) -> Option<Command<'_>>
     }
 }
 
-/// `check F`, `regions F`, `conflicts F` and `covers F`.
+/// `check F`, `regions F`, `conflicts F`, `covers F` and `fold F`.
 fn report_of(words: &[String]) -> Option<Command<'_>>
     ensures { MatchOption result
         ((report : Reports) (file : List ℕ)
@@ -142,6 +142,7 @@ fn report_named(word: &str) -> Option<Report>
         "regions" => Some(Report::Regions),
         "conflicts" => Some(Report::Conflicts),
         "covers" => Some(Report::Covers),
+        "fold" => Some(Report::Fold),
         _ => None,
     }
 }
