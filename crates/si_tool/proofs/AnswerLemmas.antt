@@ -3,61 +3,56 @@ use Rattle.std.proofs.Common.{◌≡◌, ℕ, List, [], ◌∷◌, length, Resul
 use Rattle.std.proofs.Common.{◌⊎◌, inl, inr}
 use Rattle.si_io.specs.Outside.{Rose}
 use Rattle.si_tool.specs.About.{about_text}
-use Rattle.si_tool.specs.Command.{Asked, AsksAbout, AsksOfGraph, AsksMap, AsksReplay, files_of}
-use Rattle.si_tool.specs.Command.{AsksExercise, number_of}
+use Rattle.si_tool.specs.Command.{Request, file_count, form_of, number_of}
 use Rattle.si_tool.specs.Loads.{Contents, Counts, loads, load_well, loads_well, AreTold}
 use Rattle.si_tool.specs.Meaning.{meaning, ComesTo}
 use Rattle.si_refusals.specs.Refusal.{TextRefusal, ReadFault, Answer, Output, FileRefused, TextRefused}
-use Rattle.si_tool.specs.declared.command.GraphTask.TheVariants.{Tell, Synth}
+use Rattle.si_tool.specs.declared.command.Task.{Task}
+use Rattle.si_tool.specs.declared.command.Task.TheVariants.{About, Tell, Synth, Map, Replay, Exercise}
 use Rattle.si_stages.specs.Laws.{AtMostOne, HasResult}
 use Rattle.si_stages.proofs.ExerciseLemmas.{exercise_one, exercise_some}
 use Rattle.si_stages.proofs.MeaningLemmas.{report_one, synth_one, mapping_one, replay_one}
 use Rattle.si_stages.proofs.MeaningLemmas.{report_some, synth_some, mapping_some, replay_some}
 use Rattle.si_stages.proofs.StageLemmas.{gives_one, gives_some}
 use Rattle.si_tool.proofs.LoadLemmas.{all_one, all_some, all_or_fault, as_many}
-use Rattle.si_tool.proofs.WordLemmas.{few_handshakes}
+use Rattle.si_tool.proofs.TaskLemmas.{few_handshakes}
 
 -- ---- by their texts: to one answer at most
-pub meaning_one : (asked : Asked) (texts : List (List ℕ)) → AtMostOne (meaning asked texts)
-meaning_one (AsksAbout topic) [] = gives_one (about_text topic)
-meaning_one (AsksOfGraph (Tell what) file) (text ∷ []) = report_one what file text
-meaning_one (AsksOfGraph (Synth style) file) (text ∷ []) = synth_one style file text
-meaning_one (AsksMap g l) (a ∷ b ∷ []) = mapping_one g a l b
-meaning_one (AsksReplay g n s) (a ∷ b ∷ c ∷ []) = replay_one g a n b s c
-meaning_one (AsksExercise count) [] = exercise_one (number_of count)
-meaning_one asked texts = λ a b one other. absurd one
+pub meaning_one : (task : Task) (files texts : List (List ℕ)) → AtMostOne (meaning task files texts)
+meaning_one (About topic) [] [] = gives_one (about_text topic)
+meaning_one (Tell what) (file ∷ []) (text ∷ []) = report_one what file text
+meaning_one (Synth style) (file ∷ []) (text ∷ []) = synth_one style file text
+meaning_one Map (g ∷ l ∷ []) (a ∷ b ∷ []) = mapping_one g a l b
+meaning_one Replay (g ∷ n ∷ s ∷ []) (a ∷ b ∷ c ∷ []) = replay_one g a n b s c
+meaning_one (Exercise count) [] [] = exercise_one (number_of count)
+meaning_one task files texts = λ a b one other. absurd one
 
--- ---- and to some answer
-pub meaning_some : (asked : Asked) (texts : List (List ℕ)) → length texts ≡ length (files_of asked)
-    → HasResult (meaning asked texts)
-meaning_some (AsksAbout topic) [] many = gives_some (about_text topic)
-meaning_some (AsksAbout topic) (text ∷ texts) many = absurd (omega arith)
-meaning_some (AsksOfGraph (Tell what) file) (text ∷ []) many = report_some what file text
-meaning_some (AsksOfGraph (Synth style) file) (text ∷ []) many = synth_some style file text
-meaning_some (AsksMap g l) (a ∷ b ∷ []) many = mapping_some g a l b
-meaning_some (AsksReplay g n s) (a ∷ b ∷ c ∷ []) many = replay_some g a n b s c
-meaning_some (AsksExercise count) [] many = exercise_some (number_of count) (few_handshakes count)
-meaning_some (AsksExercise count) (text ∷ texts) many = absurd (omega arith)
-meaning_some (AsksOfGraph task file) [] many = absurd (omega arith)
-meaning_some (AsksOfGraph task file) (text ∷ more ∷ texts) many = absurd (omega arith)
-meaning_some (AsksMap g l) texts many = absurd (omega arith)
-meaning_some (AsksReplay g n s) texts many = absurd (omega arith)
+-- ---- and to some answer, where a task has as many files as its form, and each its text
+pub meaning_some : (task : Task) (files texts : List (List ℕ)) → length files ≡ file_count (form_of task)
+    → length texts ≡ length files → HasResult (meaning task files texts)
+meaning_some (About topic) [] [] many each = gives_some (about_text topic)
+meaning_some (Tell what) (file ∷ []) (text ∷ []) many each = report_some what file text
+meaning_some (Synth style) (file ∷ []) (text ∷ []) many each = synth_some style file text
+meaning_some Map (g ∷ l ∷ []) (a ∷ b ∷ []) many each = mapping_some g a l b
+meaning_some Replay (g ∷ n ∷ s ∷ []) (a ∷ b ∷ c ∷ []) many each = replay_some g a n b s c
+meaning_some (Exercise count) [] [] many each = exercise_some (number_of count) (few_handshakes count)
+meaning_some task files texts many each = absurd (omega (arith, many, each))
 
 -- ---- by their files: to one answer at most
-pub command_one : (content : Contents) (asked : Asked) (a b : Answer) → AreTold content (files_of asked)
+pub command_one : (content : Contents) (asked : Request) (a b : Answer) → AreTold content asked.files
     → ComesTo (loads_well content) asked a → ComesTo (loads_well content) asked b → a ≡ b
 command_one content asked a b told = by a b
   where
-    loaded_one : AtMostOne (loads_well content (files_of asked))
-    loaded_one = all_one content (files_of asked) told
+    loaded_one : AtMostOne (loads_well content asked.files)
+    loaded_one = all_one content asked.files told
 
     texts_one : (texts others : List (List ℕ)) (r q : Result (List ℕ) TextRefusal)
-        → loads_well content (files_of asked) (Ok texts) → loads_well content (files_of asked) (Ok others)
-        → meaning asked texts r → meaning asked others q → r ≡ q
+        → loads_well content asked.files (Ok texts) → loads_well content asked.files (Ok others)
+        → meaning asked.task asked.files texts r → meaning asked.task asked.files others q → r ≡ q
     texts_one texts others r q one other means also =
         let same = loaded_one (Ok texts) (Ok others) one other in
         let same_texts : texts ≡ others = cc in
-        meaning_one asked others r q (subst (λ (ts : List (List ℕ)). meaning asked ts r) same_texts means) also
+        meaning_one asked.task asked.files others r q (subst (λ (ts : List (List ℕ)). meaning asked.task asked.files ts r) same_texts means) also
 
     by : (a b : Answer) → ComesTo (loads_well content) asked a → ComesTo (loads_well content) asked b → a ≡ b
     by (Output t) (Output u) x y = (let same = texts_one x.0 y.0 (Ok t) (Ok u) x.1 y.1 x.2 y.2 in cc)
@@ -84,15 +79,15 @@ texts_well content before now files texts is = elim (all_or_fault content before
   | inr fault ↦ (let fault_is = fault.is in cc)
 ]
 
-pub command_or_fault : (content : Contents) (before now : Counts) (asked : Asked) (a : Answer)
+pub command_or_fault : (content : Contents) (before now : Counts) (asked : Request) (a : Answer)
     → ComesTo (loads content before now) asked a
-    → ComesTo (loads_well content) asked a ⊎ IsReadFault before now (files_of asked) a
+    → ComesTo (loads_well content) asked a ⊎ IsReadFault before now asked.files a
 command_or_fault content before now asked (Output t) is =
-    inl (is.0, texts_well content before now (files_of asked) is.0 is.1, is.2)
+    inl (is.0, texts_well content before now asked.files is.0 is.1, is.2)
 command_or_fault content before now asked (TextRefused r) is =
-    inl (is.0, texts_well content before now (files_of asked) is.0 is.1, is.2)
+    inl (is.0, texts_well content before now asked.files is.0 is.1, is.2)
 command_or_fault content before now asked (FileRefused r) is =
-    elim (all_or_fault content before now (files_of asked) (Err r) is) [
+    elim (all_or_fault content before now asked.files (Err r) is) [
       | inl well ↦ inl well
       | inr fault ↦ (
           let fault_is = fault.is in
@@ -102,16 +97,18 @@ command_or_fault content before now asked (FileRefused r) is =
     ]
 
 -- ---- told files come to some answer
-pub command_some : (content : Contents) (asked : Asked) → AreTold content (files_of asked)
+pub command_some : (content : Contents) (asked : Request)
+    → length asked.files ≡ file_count (form_of asked.task) → AreTold content asked.files
     → (a : Answer) × ComesTo (loads_well content) asked a
-command_some content asked told = go (all_some content (files_of asked) told)
+command_some content asked many told = go (all_some content asked.files told)
   where
-    answered : (texts : List (List ℕ)) → loads_well content (files_of asked) (Ok texts)
-        → HasResult (meaning asked texts) → (a : Answer) × ComesTo (loads_well content) asked a
+    answered : (texts : List (List ℕ)) → loads_well content asked.files (Ok texts)
+        → HasResult (meaning asked.task asked.files texts) → (a : Answer) × ComesTo (loads_well content) asked a
     answered texts are (Ok output, means) = (Output output, (texts, are, means))
     answered texts are (Err refusal, means) = (TextRefused refusal, (texts, are, means))
 
-    go : HasResult (loads_well content (files_of asked)) → (a : Answer) × ComesTo (loads_well content) asked a
+    go : HasResult (loads_well content asked.files) → (a : Answer) × ComesTo (loads_well content) asked a
     go (Err refusal, is) = (FileRefused refusal, is)
     go (Ok texts, is) =
-        answered texts is (meaning_some asked texts (as_many (load_well content) (files_of asked) texts is))
+        answered texts is (meaning_some asked.task asked.files texts many
+        (as_many (load_well content) asked.files texts is))

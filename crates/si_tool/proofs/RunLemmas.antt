@@ -1,106 +1,36 @@
 -- How a run ends, by what the words ask for and what the files come to.
-use Rattle.std.proofs.Common.{◌≡◌, ◌≢◌, ℕ, zero, suc, List, [], ◌∷◌, Option, Some, None, take, refl, sym, ap, subst}
-use Rattle.std.proofs.Common.{◌∙◌, arith, ◌⊎◌, inl, inr, codes, String, Global, bytes_eq, option_map, if◌then◌else◌}
-use Rattle.si_circuit.specs.declared.style.Style.{Style}
-use Rattle.si_circuit.specs.declared.style.Style.TheVariants.{Complex, GeneralisedC}
+use Rattle.std.proofs.Common.{◌≡◌, ◌≢◌, ℕ, zero, suc, List, [], ◌∷◌, ◌++◌, take, refl, sym, ap, subst}
+use Rattle.std.proofs.Common.{◌∙◌, arith, ◌⊎◌, inl, inr, String, Global}
 use Rattle.si_io.specs.Outside.{Rose, Appends, AppendsPrefix}
-use Rattle.si_tool.specs.Command.{Asked, AsksAbout, AsksOfGraph, AsksMap, AsksReplay, Asks, AsksNothing, words_for, files_of}
-use Rattle.si_tool.specs.Command.{AsksExercise}
-use Rattle.si_tool.specs.declared.about.Topic.TheVariants.{Help, Version}
-use Rattle.si_tool.specs.declared.command.GraphTask.TheVariants.{Tell, Synth}
-use Rattle.si_tool.specs.declared.command.HandshakeCount.{HandshakeCount}
-use Rattle.si_tool.specs.declared.command.HandshakeCount.TheVariants.{One, Two, Three, Four, Five, Six, Seven, Eight}
-use Rattle.si_stages.specs.declared.report_kind.Report.{Report}
-use Rattle.si_stages.specs.declared.report_kind.Report.TheVariants.{Summary, Regions, Conflicts, Covers, Fold}
+use Rattle.si_tool.specs.Command.{Request, Asks, AsksNothing, NamesNoFile}
 use Rattle.si_refusals.specs.Ending.{Ending, NoMemory, Usage, WriteFault, Answered, IsRefusal, status_of}
 use Rattle.si_refusals.specs.Ending.{line_of, ending_of}
 use Rattle.si_tool.specs.Laws.{ShowsCause}
-use Rattle.si_tool.specs.Loads.{Contents, Counts, AreTold, loads, loads_well, no_faults}
+use Rattle.si_tool.specs.Loads.{Contents, Counts, AreTold, AreLoaded, loads, loads_well, no_faults}
 use Rattle.si_tool.specs.Meaning.{LoadStage, ComesTo, MayStopCommand, WordsComeTo}
 use Rattle.si_refusals.specs.Refusal.{TextRefusal, Answer, Output, FileRefused, TextRefused}
 use Rattle.si_refusals.specs.Refusal.{ReadFault, TooLong}
 use Rattle.si_refusals.specs.Refusal.{Improper, answer_status, text_status}
 use Rattle.si_tool.specs.Run.{SinkChange, IsKept, IsCutShort, IsDone, MayEnd, Ends, PutsDue, Deserve}
+use Rattle.si_tool.specs.Run.{LoadsNamed, NoneLoaded, FirstLoaded}
 use Rattle.si_tool.specs.Run.{ReadRose, IsDeservedUnlessFault, AsDeserved, WithoutMemory, ByReadFault, ByWriteFault}
 use Rattle.si_refusals.specs.declared.refusals.Refusal.{Refusal}
 use Rattle.si_refusals.specs.declared.refusals.Refusal.TheVariants as made
 use Rattle.si_refusals.specs.declared.status.Status.{Status}
 use Rattle.si_refusals.specs.declared.status.Status.TheVariants as status
 use Rattle.si_tool.proofs.AnswerLemmas.{command_one, command_or_fault, IsReadFault}
-use Rattle.si_tool.proofs.LoadLemmas.{read_rose}
+use Rattle.si_tool.proofs.LoadLemmas.{read_rose, long_without_fault}
+use Rattle.si_tool.proofs.OverlapLemmas.{one_request}
 use Rattle.si_tool.proofs.SinkLemmas.{nothing_put, put_nothing}
-
--- ---- words ask for one thing
-style_by : List ℕ → Option Style
-style_by word = if bytes_eq word (codes "complex") then Some Complex
-    else if bytes_eq word (codes "gc") then Some GeneralisedC else None
-
-report_by : List ℕ → Option Report
-report_by word = if bytes_eq word (codes "check") then Some Summary
-    else if bytes_eq word (codes "regions") then Some Regions
-    else if bytes_eq word (codes "conflicts") then Some Conflicts
-    else if bytes_eq word (codes "covers") then Some Covers
-    else if bytes_eq word (codes "fold") then Some Fold else None
-
-handshakes_by : List ℕ → Option HandshakeCount
-handshakes_by word = if bytes_eq word (codes "1") then Some One
-    else if bytes_eq word (codes "2") then Some Two
-    else if bytes_eq word (codes "3") then Some Three
-    else if bytes_eq word (codes "4") then Some Four
-    else if bytes_eq word (codes "5") then Some Five
-    else if bytes_eq word (codes "6") then Some Six
-    else if bytes_eq word (codes "7") then Some Seven
-    else if bytes_eq word (codes "8") then Some Eight else None
-
-asked_by : List (List ℕ) → Option Asked
-asked_by (word ∷ []) =
-    if bytes_eq word (codes "--help") then Some (AsksAbout Help)
-    else if bytes_eq word (codes "--version") then Some (AsksAbout Version) else None
-asked_by (word ∷ file ∷ []) =
-    if bytes_eq word (codes "exercise") then option_map AsksExercise (handshakes_by file)
-    else option_map (λ r. AsksOfGraph (Tell r) file) (report_by word)
-asked_by (word ∷ file ∷ style ∷ []) =
-    if bytes_eq word (codes "synth") then option_map (λ s. AsksOfGraph (Synth s) file) (style_by style)
-    else if bytes_eq word (codes "map") then Some (AsksMap file style) else None
-asked_by (word ∷ graph ∷ netlist ∷ schedule ∷ []) =
-    if bytes_eq word (codes "replay") then Some (AsksReplay graph netlist schedule) else None
-asked_by words = None
-
-asked_back : (asked : Asked) → asked_by (words_for asked) ≡ Some asked
-unfolding asked_by style_by report_by handshakes_by
-asked_back (AsksAbout Help) = refl
-asked_back (AsksAbout Version) = refl
-asked_back (AsksOfGraph (Tell Summary) file) = refl
-asked_back (AsksOfGraph (Tell Regions) file) = refl
-asked_back (AsksOfGraph (Tell Conflicts) file) = refl
-asked_back (AsksOfGraph (Tell Covers) file) = refl
-asked_back (AsksOfGraph (Tell Fold) file) = refl
-asked_back (AsksOfGraph (Synth Complex) file) = refl
-asked_back (AsksOfGraph (Synth GeneralisedC) file) = refl
-asked_back (AsksMap graph library) = refl
-asked_back (AsksReplay graph netlist schedule) = refl
-asked_back (AsksExercise One) = refl
-asked_back (AsksExercise Two) = refl
-asked_back (AsksExercise Three) = refl
-asked_back (AsksExercise Four) = refl
-asked_back (AsksExercise Five) = refl
-asked_back (AsksExercise Six) = refl
-asked_back (AsksExercise Seven) = refl
-asked_back (AsksExercise Eight) = refl
-
-pub one_asked : (words : List (String Global)) (a b : Asked) → Asks words a → Asks words b → a ≡ b
-one_asked words a b one other =
-    let same = sym (asked_back a) ∙ ap (λ (ws : List (List ℕ)). asked_by ws) (sym one ∙ other) ∙ asked_back b in
-    cc
 
 -- ---- what a run was told comes to one answer, faults of loads aside
 comes_as : (words : List (String Global)) (content : Contents) (before now : Counts) (a b : Answer)
     (come : WordsComeTo words (loads content before now) a) → Deserve words content b
-    → (a ≡ b) ⊎ IsReadFault before now (files_of come.asked) a
+    → (a ≡ b) ⊎ IsReadFault before now come.asked.files a
 comes_as words content before now a b come deserve =
-    let same = one_asked words deserve.asked come.asked deserve.asks come.asks in
-    let told = subst (λ (k : Asked). AreTold content (files_of k)) same deserve.told in
-    let there = subst (λ (k : Asked). ComesTo (loads_well content) k b) same deserve.comes in
+    let same = one_request words deserve.asked come.asked deserve.asks come.asks in
+    let told = subst (λ (k : Request). AreTold content k.files) same deserve.told in
+    let there = subst (λ (k : Request). ComesTo (loads_well content) k b) same deserve.comes in
     elim (command_or_fault content before now come.asked a come.comes) [
       | inl here ↦ inl (command_one content come.asked a b told here there)
       | inr fault ↦ inr fault
@@ -158,7 +88,7 @@ of_texts r = record {
 
 module _ (words : List (String Global)) (loading : LoadStage) (out : SinkChange) where
   pub by_done : (e : Ending) → MayEnd words loading out e → status_of e ≡ status.Done → IsDone words loading out
-  by_done (Answered (Output text)) may is = record { output = text; comes = may.0; written = may.1 }
+  by_done (Answered (Output text)) may is = record { output = text; comes = may.0; written = may.1.0; taken = may.1.1 }
   by_done (Answered (FileRefused (ReadFault file))) may is = cc
   by_done (Answered (FileRefused (TooLong file))) may is = cc
   by_done (Answered (TextRefused r)) may is = absurd ((of_texts r).not_done is)
@@ -242,9 +172,11 @@ shows_cause words content before now out err result ends = record {
   read_rose = λ is. (let fault = read is in record {
     asked = fault.1.asked;
     asks = fault.1.asks;
-    rose = read_rose content before now (files_of fault.1.asked) fault.0 fault.1.comes;
+    rose = read_rose content before now fault.1.asked.files fault.0 fault.1.comes;
   });
-  too_long = λ is. by_long words loading out ends.ending ends.may (at status.TooLong is);
+  too_long = λ is. long is;
+  long_without_fault = λ is. (let found = long is in
+      long_without_fault content before now found.1.asked.files found.0 found.1.comes);
   refused = λ q is. rw ends.puts.status_is
       (by_refused words loading out ends.ending q ends.may (sym is ∙ ends.puts.status_is));
   write_fault = λ is. by_unwritten words loading out ends.ending ends.may (at status.WriteFault is);
@@ -260,6 +192,10 @@ shows_cause words content before now out err result ends = record {
     read : result ≡ status.ReadFault → (file : List ℕ)
         × WordsComeTo words (loads content before now) (FileRefused (ReadFault file)) × IsKept out
     read is = by_read words (loads content before now) out ends.ending ends.may (at status.ReadFault is)
+
+    long : result ≡ status.TooLong → (file : List ℕ)
+        × WordsComeTo words (loads content before now) (FileRefused (TooLong file)) × IsKept out
+    long is = by_long words (loads content before now) out ends.ending ends.may (at status.TooLong is)
 
 take_nothing : (k : ℕ) → take {A = ℕ} k [] ≡ []
 take_nothing zero = refl
@@ -338,11 +274,11 @@ refusal_ends (made.Improper breach) = tt
 refusal_ends r = tt
 
 pub ends_written : (words : List (String Global)) (loading : LoadStage) (out err : SinkChange) (output : List ℕ)
-    → WordsComeTo words loading (Output output) → Appends out.old output out.new → err.new ≡ err.old
-    → Ends words loading out err status.Done
-ends_written words loading out err output comes written kept = record {
+    → WordsComeTo words loading (Output output) → Appends out.old output out.new → out.Took output
+    → err.new ≡ err.old → Ends words loading out err status.Done
+ends_written words loading out err output comes written taken kept = record {
   ending = Answered (Output output);
-  may = (comes, written);
+  may = (comes, (written, taken));
   puts = record {
     status_is = refl;
     part = (0, nothing_put err.old err.new [] kept);
@@ -351,7 +287,7 @@ ends_written words loading out err output comes written kept = record {
 }
 
 -- a call that stops before the output is there
-pub stops_run : (words : List (String Global)) (loading : LoadStage) (out : SinkChange) (asked : Asked) (e : Ending)
+pub stops_run : (words : List (String Global)) (loading : LoadStage) (out : SinkChange) (asked : Request) (e : Ending)
     → Asks words asked → IsKept out → MayStopCommand loading asked e → MayEnd words loading out e
 stops_run words loading out asked NoMemory asks kept may = inl kept
 stops_run words loading out asked (Answered (FileRefused u)) asks kept may =
@@ -359,3 +295,25 @@ stops_run words loading out asked (Answered (FileRefused u)) asks kept may =
 stops_run words loading out asked (Answered (TextRefused r)) asks kept may =
     (record { asked = asked; asks = asks; comes = may }, kept)
 stops_run words loading out asked e asks kept may = absurd may
+
+-- ---- which files are loaded
+pub none_named : {Shelf : Type 0} (Loads : Shelf → List ℕ → Shelf → Type 0) (words : List (String Global))
+    (old new : Shelf) → NamesNoFile words → LoadsNamed Loads words old new → new ≡ old
+none_named Loads words old new none (NoneLoaded same) = same
+none_named Loads words old new none (FirstLoaded asked asks first) =
+    untouched first.0 first.1 (sym (none asked asks) ∙ first.2) first.3
+  where
+    untouched : (former later : List (List ℕ)) → [] ≡ former ++ later → AreLoaded Loads former old new → new ≡ old
+    untouched [] later is path = path
+    untouched (file ∷ former) later is path = cc
+
+-- where a load changes nothing
+pub always_same : {Shelf : Type 0} (words : List (String Global)) (old new : Shelf)
+    → LoadsNamed (λ before name after. after ≡ before) words old new → new ≡ old
+always_same words old new (NoneLoaded same) = same
+always_same {Shelf} words old new (FirstLoaded asked asks first) = along first.0 old first.3
+  where
+    along : (names : List (List ℕ)) (now : Shelf) → AreLoaded (λ before name after. after ≡ before) names now new
+        → new ≡ now
+    along [] now path = path
+    along (name ∷ names) now path = along names path.0 path.2 ∙ path.1

@@ -2,6 +2,7 @@
 
 ghost use Rattle.std.specs.Prelude.{◌≡◌, IfOk};
 ghost use Rattle.si_tool.specs.About.{about_text};
+ghost use Rattle.si_tool.specs.Command as command;
 
 use si_base::ids::NoMemory;
 use si_base::text::Text;
@@ -10,10 +11,35 @@ use std::alloc::Global;
 /// What is asked of the program itself.
 #[derive(Clone, Copy, PartialEq, Eq, Debug)]
 pub enum Topic {
-    /// How it is called.
-    Help,
+    /// How it is called, asked by this word.
+    Help(HelpWord),
     /// Its version.
     Version,
+}
+
+/// The words that ask for help.
+#[derive(Clone, Copy, PartialEq, Eq, Debug)]
+pub enum HelpWord {
+    /// `--help`
+    Long,
+    /// `-h`
+    Short,
+    /// `help`
+    Plain,
+}
+
+impl Topic {
+    /// The word that asks for it.
+    pub fn word(self) -> &'static str
+        ensures { result.now ≡ command.topic_word self }
+    {
+        match self {
+            Topic::Help(HelpWord::Long) => "--help",
+            Topic::Help(HelpWord::Short) => "-h",
+            Topic::Help(HelpWord::Plain) => "help",
+            Topic::Version => "--version",
+        }
+    }
 }
 
 /// Each form of the command line, the statuses, and where the documents are.
@@ -23,13 +49,14 @@ const HELP: &[u8] = b"sisyn makes circuits without a clock from state graphs.
   sisyn regions F                    where events are excited, and what follows
   sisyn conflicts F                  states that no gates can tell apart
   sisyn covers F                     sums for each signal, and monotonous cubes
-  sisyn fold F                       the graph with alike states merged
   sisyn synth F complex              a netlist of complex gates
   sisyn synth F gc                   a netlist of generalised C-elements
   sisyn map F LIB                    a netlist of cells of a library
   sisyn replay F NETLIST SCHEDULE    where a schedule over a netlist ends
   sisyn exercise N                   the sizes of N handshakes, from 1 to 8
   sisyn --help                       this text
+  sisyn -h                           this text
+  sisyn help                         this text
   sisyn --version                    the version
 
 F is a state graph, LIB a library of cells, NETLIST a netlist and SCHEDULE a
@@ -59,7 +86,7 @@ pub fn about(alloc: Global, topic: Topic) -> Result<Text, NoMemory>
     ensures { IfOk result (λ text. text ≡ about_text topic) }
 {
     match topic {
-        Topic::Help => Text::copy_of(alloc, HELP),
+        Topic::Help(_) => Text::copy_of(alloc, HELP),
         Topic::Version => Text::copy_of(alloc, b"sisyn 0.1\n"),
     }
 }

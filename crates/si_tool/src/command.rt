@@ -1,27 +1,18 @@
 //! What the words of a command line ask for.
 
-ghost use Rattle.std.specs.Prelude.{◌≢◌, ◌≡◌, ◌<◌, ◌≤◌, ℕ, List, MatchOption};
-ghost use Rattle.si_circuit.specs.declared.style.Style as gates;
-ghost use Rattle.si_tool.specs.Command.{Asks, AsksAbout, AsksMap, AsksNothing, AsksOfGraph, AsksReplay};
-ghost use Rattle.si_tool.specs.Command.{AsksExercise, asked_now, count_word, number_of};
-ghost use Rattle.si_tool.specs.Command.{report_word, style_word};
+ghost use Rattle.std.specs.Prelude.{◌≡◌, ◌<◌, ◌≤◌, ℕ, List, IfOk, IfErr, MatchOption};
+ghost use Rattle.si_refusals.specs.Ending.{ending_of};
+ghost use Rattle.si_tool.specs.Command.{Asks, AsksNothing, MayStopAsking};
+ghost use Rattle.si_tool.specs.Command as command;
+ghost use Rattle.si_tool.specs.Reads.{names_now, request_of};
 ghost use Rattle.si_handshakes.specs.Handshakes.{max_handshakes};
-ghost use Rattle.si_tool.specs.declared.about.Topic.{Topic as Topics};
-ghost use Rattle.si_tool.specs.declared.command.HandshakeCount.{HandshakeCount as Counts};
-ghost use Rattle.si_stages.specs.declared.report_kind.Report.{Report as Reports};
 
-use crate::about::Topic;
+use crate::about::{HelpWord, Topic};
+use crate::form::{Slot, files_in};
 use si_circuit::style::Style;
+use si_refusals::refusals::Refusal;
 use si_stages::report_kind::Report;
-
-/// What is asked of one graph.
-#[derive(Clone, Copy, PartialEq, Eq, Debug)]
-pub enum GraphTask {
-    /// A report on it.
-    Tell(Report),
-    /// Its netlist, with gates of the style.
-    Synth(Style),
-}
+use std::alloc::{AllocError, Global};
 
 /// How many handshakes are exercised.
 #[derive(Clone, Copy, PartialEq, Eq, Debug)]
@@ -39,7 +30,7 @@ pub enum HandshakeCount {
 impl HandshakeCount {
     /// The number, from 1 to 8.
     pub fn number(self) -> u32
-        ensures number { result ≡ number_of self }
+        ensures number { result ≡ command.number_of self }
         ensures some { 0 < result }
         ensures few { result ≤ max_handshakes }
     {
@@ -54,189 +45,139 @@ impl HandshakeCount {
             HandshakeCount::Eight => 8,
         }
     }
+
+    /// The word for the number: its digit.
+    fn word(self) -> &'static str
+        ensures { result.now ≡ command.count_word self }
+    {
+        match self {
+            HandshakeCount::One => "1",
+            HandshakeCount::Two => "2",
+            HandshakeCount::Three => "3",
+            HandshakeCount::Four => "4",
+            HandshakeCount::Five => "5",
+            HandshakeCount::Six => "6",
+            HandshakeCount::Seven => "7",
+            HandshakeCount::Eight => "8",
+        }
+    }
 }
 
-/// A command, with the names of its files.
-#[derive(Clone, Copy)]
-pub enum Command<'w> {
+/// What a command does, whatever its files.
+#[derive(Clone, Copy, PartialEq, Eq, Debug)]
+pub enum Task {
     /// What the program tells of itself.
     About(Topic),
-    /// Something asked of the graph in one file.
-    OfGraph(GraphTask, &'w str),
+    /// A report on a graph.
+    Tell(Report),
+    /// The netlist of a graph, with gates of the style.
+    Synth(Style),
     /// The netlist of a graph, of the cells of a library.
-    Map {
-        graph: &'w str,
-        library: &'w str,
-    },
+    Map,
     /// The end of a schedule over a netlist beside a graph.
-    Replay {
-        graph: &'w str,
-        netlist: &'w str,
-        schedule: &'w str,
-    },
+    Replay,
     /// The sizes of so many handshakes.
     Exercise(HandshakeCount),
 }
 
-/// The command that the words ask for, or `None` exactly where they ask for none.
-pub fn command_of(words: &[String]) -> Option<Command<'_>>
-    ensures { MatchOption result (AsksNothing words.now)
-        (λ command. Asks words.now (asked_now command)) }
-{
-    if let Some(command) = about_of(words) {
-        return Some(command);
-    }
-    if let Some(command) = report_of(words) {
-        return Some(command);
-    }
-    if let Some(command) = synth_of(words) {
-        return Some(command);
-    }
-    if let Some(command) = map_of(words) {
-        return Some(command);
-    }
-    if let Some(command) = replay_of(words) {
-        return Some(command);
-    }
-    if let Some(command) = exercise_of(words) {
-        return Some(command);
-    }
-    None
+/// Each task. No two of them have a form in common.
+const TASKS: [Task; 20] = [
+    Task::About(Topic::Help(HelpWord::Long)),
+    Task::About(Topic::Help(HelpWord::Short)),
+    Task::About(Topic::Help(HelpWord::Plain)),
+    Task::About(Topic::Version),
+    Task::Tell(Report::Summary),
+    Task::Tell(Report::Regions),
+    Task::Tell(Report::Conflicts),
+    Task::Tell(Report::Covers),
+    Task::Synth(Style::Complex),
+    Task::Synth(Style::GeneralisedC),
+    Task::Map,
+    Task::Replay,
+    Task::Exercise(HandshakeCount::One),
+    Task::Exercise(HandshakeCount::Two),
+    Task::Exercise(HandshakeCount::Three),
+    Task::Exercise(HandshakeCount::Four),
+    Task::Exercise(HandshakeCount::Five),
+    Task::Exercise(HandshakeCount::Six),
+    Task::Exercise(HandshakeCount::Seven),
+    Task::Exercise(HandshakeCount::Eight),
+];
+
+/// A command: its task, and the names of its files in the order of the words.
+#[derive(Drop)]
+pub struct Command<'w> {
+    pub task: Task,
+    pub files: Vec<&'w str>,
 }
 
-/// `--help` and `--version`.
-fn about_of(words: &[String]) -> Option<Command<'_>>
-    ensures { MatchOption result ((topic : Topics) → Asks words.now (AsksAbout topic) → ⊥)
-        (λ command. Asks words.now (asked_now command)) }
+/// The command that the words ask for, or `Usage` exactly where they ask for none.
+pub fn command_of<'w>(alloc: Global, words: &'w [String]) -> Result<Command<'w>, Refusal<'w>>
+    ensures ok { IfOk result (λ command. Asks words.now (request_of command)) }
+    ensures err { IfErr result (λ r. MayStopAsking words.now (ending_of r)) }
 {
-    match words {
-        [word] if word.as_str() == "--help" => Some(Command::About(Topic::Help)),
-        [word] if word.as_str() == "--version" => Some(Command::About(Topic::Version)),
-        _ => None,
-    }
-}
-
-/// `check F`, `regions F`, `conflicts F`, `covers F` and `fold F`.
-fn report_of(words: &[String]) -> Option<Command<'_>>
-    ensures { MatchOption result
-        ((report : Reports) (file : List ℕ)
-        → Asks words.now (AsksOfGraph (GraphTask.Tell report) file) → ⊥)
-        (λ command. Asks words.now (asked_now command)) }
-{
-    match words {
-        [command, file] => {
-            let report = report_named(command.as_str())?;
-            Some(Command::OfGraph(GraphTask::Tell(report), file.as_str()))
+    for task in TASKS {
+        match files_for(alloc, words, task) {
+            Ok(Some(files)) => return Ok(Command { task, files }),
+            Ok(None) => {}
+            Err(_) => return Err(Refusal::NoMemory),
         }
-        _ => None,
     }
+    Err(Refusal::Usage)
 }
 
-/// The report for which the word asks.
-fn report_named(word: &str) -> Option<Report>
-    ensures { MatchOption result ((report : Reports) → word.now ≢ report_word report)
-        (λ report. word.now ≡ report_word report) }
+/// The files that the words name, where they ask for the task, and `None` where they don't.
+fn files_for<'w>(
+    alloc: Global,
+    words: &'w [String],
+    task: Task,
+) -> Result<Option<Vec<&'w str>>, AllocError>
+    ensures { IfOk result (λ found. MatchOption found
+        ((files : List (List ℕ)) → Asks words.now (record { task = task; files = files }) → ⊥)
+        (λ files. Asks words.now (record { task = task; files = names_now files.items }))) }
 {
-    match word {
-        "check" => Some(Report::Summary),
-        "regions" => Some(Report::Regions),
-        "conflicts" => Some(Report::Conflicts),
-        "covers" => Some(Report::Covers),
-        "fold" => Some(Report::Fold),
-        _ => None,
-    }
-}
-
-/// `synth F complex` and `synth F gc`.
-fn synth_of(words: &[String]) -> Option<Command<'_>>
-    ensures { MatchOption result
-        ((style : gates.Style) (file : List ℕ)
-        → Asks words.now (AsksOfGraph (GraphTask.Synth style) file) → ⊥)
-        (λ command. Asks words.now (asked_now command)) }
-{
-    match words {
-        [command, file, style] if command.as_str() == "synth" => {
-            let style = style_of(style.as_str())?;
-            Some(Command::OfGraph(GraphTask::Synth(style), file.as_str()))
+    match task {
+        Task::About(topic) => files_in(alloc, words, &[Slot::Word(topic.word())]),
+        Task::Tell(report) => {
+            files_in(alloc, words, &[Slot::Word(report_word(report)), Slot::File])
         }
-        _ => None,
-    }
-}
-
-/// The style of gates that the word names.
-fn style_of(word: &str) -> Option<Style>
-    ensures { MatchOption result ((style : gates.Style) → word.now ≢ style_word style)
-        (λ style. word.now ≡ style_word style) }
-{
-    match word {
-        "complex" => Some(Style::Complex),
-        "gc" => Some(Style::GeneralisedC),
-        _ => None,
-    }
-}
-
-/// `map F LIB`.
-fn map_of(words: &[String]) -> Option<Command<'_>>
-    ensures { MatchOption result
-        ((graph library : List ℕ) → Asks words.now (AsksMap graph library) → ⊥)
-        (λ command. Asks words.now (asked_now command)) }
-{
-    match words {
-        [command, graph, library] if command.as_str() == "map" => Some(Command::Map {
-            graph: graph.as_str(),
-            library: library.as_str(),
-        }),
-        _ => None,
-    }
-}
-
-/// `replay F NETLIST SCHEDULE`.
-fn replay_of(words: &[String]) -> Option<Command<'_>>
-    ensures { MatchOption result
-        ((graph netlist schedule : List ℕ) → Asks words.now (AsksReplay graph netlist schedule) → ⊥)
-        (λ command. Asks words.now (asked_now command)) }
-{
-    match words {
-        [command, graph, netlist, schedule] if command.as_str() == "replay" => {
-            Some(Command::Replay {
-                graph: graph.as_str(),
-                netlist: netlist.as_str(),
-                schedule: schedule.as_str(),
-            })
+        Task::Synth(style) => {
+            let style = Slot::Word(style_word(style));
+            files_in(alloc, words, &[Slot::Word("synth"), Slot::File, style])
         }
-        _ => None,
-    }
-}
-
-/// `exercise 1` to `exercise 8`.
-fn exercise_of(words: &[String]) -> Option<Command<'_>>
-    ensures { MatchOption result
-        ((count : Counts) → Asks words.now (AsksExercise count) → ⊥)
-        (λ command. Asks words.now (asked_now command)) }
-{
-    match words {
-        [command, count] if command.as_str() == "exercise" => {
-            let count = count_of(count.as_str())?;
-            Some(Command::Exercise(count))
+        Task::Map => files_in(alloc, words, &[Slot::Word("map"), Slot::File, Slot::File]),
+        Task::Replay => {
+            let form = [Slot::Word("replay"), Slot::File, Slot::File, Slot::File];
+            files_in(alloc, words, &form)
         }
-        _ => None,
+        Task::Exercise(count) => {
+            files_in(
+                alloc,
+                words,
+                &[Slot::Word("exercise"), Slot::Word(count.word())],
+            )
+        }
     }
 }
 
-/// The count that the word names, by one digit.
-fn count_of(word: &str) -> Option<HandshakeCount>
-    ensures { MatchOption result ((count : Counts) → word.now ≢ count_word count)
-        (λ count. word.now ≡ count_word count) }
+/// The word for a report.
+fn report_word(report: Report) -> &'static str
+    ensures { result.now ≡ command.report_word report }
 {
-    match word {
-        "1" => Some(HandshakeCount::One),
-        "2" => Some(HandshakeCount::Two),
-        "3" => Some(HandshakeCount::Three),
-        "4" => Some(HandshakeCount::Four),
-        "5" => Some(HandshakeCount::Five),
-        "6" => Some(HandshakeCount::Six),
-        "7" => Some(HandshakeCount::Seven),
-        "8" => Some(HandshakeCount::Eight),
-        _ => None,
+    match report {
+        Report::Summary => "check",
+        Report::Regions => "regions",
+        Report::Conflicts => "conflicts",
+        Report::Covers => "covers",
+    }
+}
+
+/// The word for a style of gates.
+fn style_word(style: Style) -> &'static str
+    ensures { result.now ≡ command.style_word style }
+{
+    match style {
+        Style::Complex => "complex",
+        Style::GeneralisedC => "gc",
     }
 }

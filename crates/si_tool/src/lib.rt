@@ -3,6 +3,7 @@
 
 pub mod about;
 pub mod command;
+mod form;
 pub mod laws;
 mod output;
 pub mod refusing;

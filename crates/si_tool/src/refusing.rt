@@ -15,7 +15,7 @@ use std::alloc::Global;
 /// memory ran out.
 pub fn refuse<E: Sink>(alloc: Global, refusal: &Refusal<'_>, err: &mut E) -> Status
     ensures puts { PutsDue (ending_of refusal.now)
-        (change (E.faults err.old) (E.faults err.new) (E.bytes err.old) (E.bytes err.new)) result }
+        (change E.faults E.bytes E.puts err.old err.new) result }
     ensures later { E.faults err.old ≤ E.faults err.new }
 {
     let Ok(line) = refusal.line(alloc) else {

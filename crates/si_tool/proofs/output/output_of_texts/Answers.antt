@@ -1,0 +1,75 @@
+use Rattle.std.proofs.Common.{◌≡◌, ◌∙◌, length}
+use Rattle.si_tool.proofs.ItemLemmas.{one_name, two_names, three_names, one_text, two_texts, three_texts}
+use Rattle.si_tool.proofs.output.output_of_texts.Goals as goal
+
+pub returns-in-Tell-clause-ok : goal.returns-in-Tell-clause-ok
+returns-in-Tell-clause-ok c =
+    let many : length c.args.files.now ≡ 1 = rw c.in-Tell.is at c.requires.files in
+    let names = one_name c.args.files.now many in
+    let texts = one_text c.args.texts.now c.index-texts-0.result
+    c.deref.result.now (c.requires.texts ∙ many)
+    c.index-texts-0.is c.deref.ensures.value in
+    rw (c.in-Tell.is, names, texts) c.report.ensures.ok
+
+pub returns-in-Tell-clause-err : goal.returns-in-Tell-clause-err
+returns-in-Tell-clause-err c =
+    let many : length c.args.files.now ≡ 1 = rw c.in-Tell.is at c.requires.files in
+    let names = one_name c.args.files.now many in
+    let texts = one_text c.args.texts.now c.index-texts-0.result
+    c.deref.result.now (c.requires.texts ∙ many)
+    c.index-texts-0.is c.deref.ensures.value in
+    rw (c.in-Tell.is, names, texts) c.report.ensures.err
+
+pub returns-in-Synth-clause-ok : goal.returns-in-Synth-clause-ok
+returns-in-Synth-clause-ok c =
+    let many : length c.args.files.now ≡ 1 = rw c.in-Synth.is at c.requires.files in
+    let names = one_name c.args.files.now many in
+    let texts = one_text c.args.texts.now c.index-texts-0-in-Synth.result
+    c.deref-in-Synth.result.now (c.requires.texts ∙ many)
+    c.index-texts-0-in-Synth.is c.deref-in-Synth.ensures.value in
+    rw (c.in-Synth.is, names, texts) c.synth.ensures.ok
+
+pub returns-in-Synth-clause-err : goal.returns-in-Synth-clause-err
+returns-in-Synth-clause-err c =
+    let many : length c.args.files.now ≡ 1 = rw c.in-Synth.is at c.requires.files in
+    let names = one_name c.args.files.now many in
+    let texts = one_text c.args.texts.now c.index-texts-0-in-Synth.result
+    c.deref-in-Synth.result.now (c.requires.texts ∙ many)
+    c.index-texts-0-in-Synth.is c.deref-in-Synth.ensures.value in
+    rw (c.in-Synth.is, names, texts) c.synth.ensures.err
+
+pub returns-in-Map-clause-ok : goal.returns-in-Map-clause-ok
+returns-in-Map-clause-ok c =
+    let many : length c.args.files.now ≡ 2 = rw c.in-Map.is at c.requires.files in
+    let names = two_names c.args.files.now many in
+    let texts = two_texts c.args.texts.now c.index-texts-0-in-Map.result c.index-texts-1.result
+    c.deref-in-Map.result.now c.deref-in-Map-2.result.now (c.requires.texts ∙ many)
+    c.index-texts-0-in-Map.is c.index-texts-1.is c.deref-in-Map.ensures.value c.deref-in-Map-2.ensures.value in
+    rw (c.in-Map.is, names, texts) c.map_texts.ensures.ok
+
+pub returns-in-Map-clause-err : goal.returns-in-Map-clause-err
+returns-in-Map-clause-err c =
+    let many : length c.args.files.now ≡ 2 = rw c.in-Map.is at c.requires.files in
+    let names = two_names c.args.files.now many in
+    let texts = two_texts c.args.texts.now c.index-texts-0-in-Map.result c.index-texts-1.result
+    c.deref-in-Map.result.now c.deref-in-Map-2.result.now (c.requires.texts ∙ many)
+    c.index-texts-0-in-Map.is c.index-texts-1.is c.deref-in-Map.ensures.value c.deref-in-Map-2.ensures.value in
+    rw (c.in-Map.is, names, texts) c.map_texts.ensures.err
+
+pub returns-in-Replay-clause-ok : goal.returns-in-Replay-clause-ok
+returns-in-Replay-clause-ok c =
+    let many : length c.args.files.now ≡ 3 = rw c.in-Replay.is at c.requires.files in
+    let names = three_names c.args.files.now many in
+    let texts = three_texts c.args.texts.now c.index-texts-0-in-Replay.result c.index-texts-1-in-Replay.result c.index-texts-2.result
+    c.deref-in-Replay.result.now c.deref-in-Replay-2.result.now c.deref-in-Replay-3.result.now (c.requires.texts ∙ many)
+    c.index-texts-0-in-Replay.is c.index-texts-1-in-Replay.is c.index-texts-2.is c.deref-in-Replay.ensures.value c.deref-in-Replay-2.ensures.value c.deref-in-Replay-3.ensures.value in
+    rw (c.in-Replay.is, names, texts) c.replay_texts.ensures.ok
+
+pub returns-in-Replay-clause-err : goal.returns-in-Replay-clause-err
+returns-in-Replay-clause-err c =
+    let many : length c.args.files.now ≡ 3 = rw c.in-Replay.is at c.requires.files in
+    let names = three_names c.args.files.now many in
+    let texts = three_texts c.args.texts.now c.index-texts-0-in-Replay.result c.index-texts-1-in-Replay.result c.index-texts-2.result
+    c.deref-in-Replay.result.now c.deref-in-Replay-2.result.now c.deref-in-Replay-3.result.now (c.requires.texts ∙ many)
+    c.index-texts-0-in-Replay.is c.index-texts-1-in-Replay.is c.index-texts-2.is c.deref-in-Replay.ensures.value c.deref-in-Replay-2.ensures.value c.deref-in-Replay-3.ensures.value in
+    rw (c.in-Replay.is, names, texts) c.replay_texts.ensures.err
