@@ -8,12 +8,13 @@ use Rattle.si_tool.specs.Loads.{Contents, Counts, loads, load_well, loads_well, 
 use Rattle.si_tool.specs.Meaning.{meaning, ComesTo}
 use Rattle.si_refusals.specs.Refusal.{TextRefusal, ReadFault, Answer, Output, FileRefused, TextRefused}
 use Rattle.si_tool.specs.declared.command.Task.{Task}
-use Rattle.si_tool.specs.declared.command.Task.TheVariants.{About, Tell, Synth, Map, Replay, Exercise}
+use Rattle.si_tool.specs.declared.command.Task.TheVariants.{About, Tell, Synth, Map, Verilog, Replay, Exercise}
 use Rattle.si_stages.specs.Laws.{AtMostOne, HasResult}
 use Rattle.si_stages.proofs.ExerciseLemmas.{exercise_one, exercise_some}
 use Rattle.si_stages.proofs.MeaningLemmas.{report_one, synth_one, mapping_one, replay_one}
 use Rattle.si_stages.proofs.MeaningLemmas.{report_some, synth_some, mapping_some, replay_some}
 use Rattle.si_stages.proofs.StageLemmas.{gives_one, gives_some}
+use Rattle.si_stages.proofs.VerilogLemmas.{verilog_one, verilog_some}
 use Rattle.si_tool.proofs.LoadLemmas.{all_one, all_some, all_or_fault, as_many}
 use Rattle.si_tool.proofs.TaskLemmas.{few_handshakes}
 
@@ -23,6 +24,7 @@ meaning_one (About topic) [] [] = gives_one (about_text topic)
 meaning_one (Tell what) (file ∷ []) (text ∷ []) = report_one what file text
 meaning_one (Synth style) (file ∷ []) (text ∷ []) = synth_one style file text
 meaning_one Map (g ∷ l ∷ []) (a ∷ b ∷ []) = mapping_one g a l b
+meaning_one Verilog (file ∷ []) (text ∷ []) = verilog_one file text
 meaning_one Replay (g ∷ n ∷ s ∷ []) (a ∷ b ∷ c ∷ []) = replay_one g a n b s c
 meaning_one (Exercise count) [] [] = exercise_one (number_of count)
 meaning_one task files texts = λ a b one other. absurd one
@@ -34,6 +36,7 @@ meaning_some (About topic) [] [] many each = gives_some (about_text topic)
 meaning_some (Tell what) (file ∷ []) (text ∷ []) many each = report_some what file text
 meaning_some (Synth style) (file ∷ []) (text ∷ []) many each = synth_some style file text
 meaning_some Map (g ∷ l ∷ []) (a ∷ b ∷ []) many each = mapping_some g a l b
+meaning_some Verilog (file ∷ []) (text ∷ []) many each = verilog_some file text
 meaning_some Replay (g ∷ n ∷ s ∷ []) (a ∷ b ∷ c ∷ []) many each = replay_some g a n b s c
 meaning_some (Exercise count) [] [] many each = exercise_some (number_of count) (few_handshakes count)
 meaning_some task files texts many each = absurd (omega (arith, many, each))

@@ -10,9 +10,9 @@ use Rattle.si_tool.specs.declared.about.Topic.TheVariants.{Help, Version}
 use Rattle.si_tool.specs.declared.command.HandshakeCount.{HandshakeCount}
 use Rattle.si_tool.specs.declared.command.HandshakeCount.TheVariants.{One, Two, Three, Four, Five, Six, Seven, Eight}
 use Rattle.si_tool.specs.declared.command.Task.{Task}
-use Rattle.si_tool.specs.declared.command.Task.TheVariants.{About, Tell, Synth, Map, Replay, Exercise}
+use Rattle.si_tool.specs.declared.command.Task.TheVariants.{About, Tell, Synth, Map, Verilog, Replay, Exercise}
 use Rattle.si_tool.specs.declared.command.TheConstants.{TASKS}
-use Rattle.si_stages.specs.declared.report_kind.Report.TheVariants.{Summary, Regions, Conflicts, Covers}
+use Rattle.si_stages.specs.declared.report_kind.Report.TheVariants.{Summary, Regions, Conflicts, Covers, Fold}
 
 -- what a read past the end of the table gives
 abbrev pub first_task : Task
@@ -20,7 +20,7 @@ first_task = About (Help Long)
 
 -- ---- the table has each task
 abbrev pub IsListed : Task → Type 0
-IsListed task = (place : ℕ) × (place < 20) × (get_or TASKS place first_task ≡ task)
+IsListed task = (place : ℕ) × (place < 22) × (get_or TASKS place first_task ≡ task)
 
 pub each_listed : (task : Task) → IsListed task
 each_listed (About (Help Long)) = (0, omega arith, refl)
@@ -31,18 +31,20 @@ each_listed (Tell Summary) = (4, omega arith, refl)
 each_listed (Tell Regions) = (5, omega arith, refl)
 each_listed (Tell Conflicts) = (6, omega arith, refl)
 each_listed (Tell Covers) = (7, omega arith, refl)
-each_listed (Synth Complex) = (8, omega arith, refl)
-each_listed (Synth GeneralisedC) = (9, omega arith, refl)
-each_listed Map = (10, omega arith, refl)
-each_listed Replay = (11, omega arith, refl)
-each_listed (Exercise One) = (12, omega arith, refl)
-each_listed (Exercise Two) = (13, omega arith, refl)
-each_listed (Exercise Three) = (14, omega arith, refl)
-each_listed (Exercise Four) = (15, omega arith, refl)
-each_listed (Exercise Five) = (16, omega arith, refl)
-each_listed (Exercise Six) = (17, omega arith, refl)
-each_listed (Exercise Seven) = (18, omega arith, refl)
-each_listed (Exercise Eight) = (19, omega arith, refl)
+each_listed (Tell Fold) = (8, omega arith, refl)
+each_listed (Synth Complex) = (9, omega arith, refl)
+each_listed (Synth GeneralisedC) = (10, omega arith, refl)
+each_listed Map = (11, omega arith, refl)
+each_listed Verilog = (12, omega arith, refl)
+each_listed Replay = (13, omega arith, refl)
+each_listed (Exercise One) = (14, omega arith, refl)
+each_listed (Exercise Two) = (15, omega arith, refl)
+each_listed (Exercise Three) = (16, omega arith, refl)
+each_listed (Exercise Four) = (17, omega arith, refl)
+each_listed (Exercise Five) = (18, omega arith, refl)
+each_listed (Exercise Six) = (19, omega arith, refl)
+each_listed (Exercise Seven) = (20, omega arith, refl)
+each_listed (Exercise Eight) = (21, omega arith, refl)
 
 -- ---- words ask for none of the tasks up to a place
 abbrev pub AsksNoneBefore : List (String Global) → (place : ℕ) → Type 0
@@ -60,7 +62,7 @@ asks_one_less words place before here k below files asks = elim (cases_lt k plac
       )
 ]
 
-pub asks_nothing : (words : List (String Global)) (place : ℕ) → 20 ≤ place → AsksNoneBefore words place
+pub asks_nothing : (words : List (String Global)) (place : ℕ) → 22 ≤ place → AsksNoneBefore words place
     → AsksNothing words
 asks_nothing words place end none request asks =
     let listed = each_listed request.task in

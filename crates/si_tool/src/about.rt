@@ -49,9 +49,11 @@ const HELP: &[u8] = b"sisyn makes circuits without a clock from state graphs.
   sisyn regions F                    where events are excited, and what follows
   sisyn conflicts F                  states that no gates can tell apart
   sisyn covers F                     sums for each signal, and monotonous cubes
+  sisyn fold F                       the graph with alike states merged
   sisyn synth F complex              a netlist of complex gates
   sisyn synth F gc                   a netlist of generalised C-elements
   sisyn map F LIB                    a netlist of cells of a library
+  sisyn verilog NETLIST              a netlist as a module of Verilog
   sisyn replay F NETLIST SCHEDULE    where a schedule over a netlist ends
   sisyn exercise N                   the sizes of N handshakes, from 1 to 8
   sisyn --help                       this text

@@ -74,6 +74,8 @@ pub enum Task {
     Synth(Style),
     /// The netlist of a graph, of the cells of a library.
     Map,
+    /// A netlist as a module of Verilog.
+    Verilog,
     /// The end of a schedule over a netlist beside a graph.
     Replay,
     /// The sizes of so many handshakes.
@@ -81,7 +83,7 @@ pub enum Task {
 }
 
 /// Each task. No two of them have a form in common.
-const TASKS: [Task; 20] = [
+const TASKS: [Task; 22] = [
     Task::About(Topic::Help(HelpWord::Long)),
     Task::About(Topic::Help(HelpWord::Short)),
     Task::About(Topic::Help(HelpWord::Plain)),
@@ -90,9 +92,11 @@ const TASKS: [Task; 20] = [
     Task::Tell(Report::Regions),
     Task::Tell(Report::Conflicts),
     Task::Tell(Report::Covers),
+    Task::Tell(Report::Fold),
     Task::Synth(Style::Complex),
     Task::Synth(Style::GeneralisedC),
     Task::Map,
+    Task::Verilog,
     Task::Replay,
     Task::Exercise(HandshakeCount::One),
     Task::Exercise(HandshakeCount::Two),
@@ -146,6 +150,7 @@ fn files_for<'w>(
             files_in(alloc, words, &[Slot::Word("synth"), Slot::File, style])
         }
         Task::Map => files_in(alloc, words, &[Slot::Word("map"), Slot::File, Slot::File]),
+        Task::Verilog => files_in(alloc, words, &[Slot::Word("verilog"), Slot::File]),
         Task::Replay => {
             let form = [Slot::Word("replay"), Slot::File, Slot::File, Slot::File];
             files_in(alloc, words, &form)
@@ -169,6 +174,7 @@ fn report_word(report: Report) -> &'static str
         Report::Regions => "regions",
         Report::Conflicts => "conflicts",
         Report::Covers => "covers",
+        Report::Fold => "fold",
     }
 }
 

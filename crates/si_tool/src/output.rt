@@ -20,6 +20,7 @@ use si_stages::mapping::map_texts;
 use si_stages::replayed::replay_texts;
 use si_stages::report::report;
 use si_stages::synth::synth;
+use si_stages::verilog::verilog;
 use std::alloc::Global;
 
 /// The output of a command over the files of the shelf, or the refusal that is due.
@@ -61,6 +62,7 @@ fn output_of_texts<'w>(
         Task::About(topic) => Ok(about(alloc, topic)?),
         Task::Tell(what) => report(alloc, what, files[0], &texts[0]),
         Task::Synth(style) => synth(alloc, style, files[0], &texts[0]),
+        Task::Verilog => verilog(alloc, files[0], &texts[0]),
         Task::Map => map_texts(alloc, files[0], &texts[0], files[1], &texts[1]),
         Task::Replay => {
             let (graph, netlist, schedule) = (files[0], files[1], files[2]);

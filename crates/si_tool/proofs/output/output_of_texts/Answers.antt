@@ -38,6 +38,24 @@ returns-in-Synth-clause-err c =
     c.index-texts-0-in-Synth.is c.deref-in-Synth.ensures.value in
     rw (c.in-Synth.is, names, texts) c.synth.ensures.err
 
+pub returns-in-Verilog-clause-ok : goal.returns-in-Verilog-clause-ok
+returns-in-Verilog-clause-ok c =
+    let many : length c.args.files.now ≡ 1 = rw c.in-Verilog.is at c.requires.files in
+    let names = one_name c.args.files.now many in
+    let texts = one_text c.args.texts.now c.index-texts-0-in-Verilog.result
+    c.deref-in-Verilog.result.now (c.requires.texts ∙ many)
+    c.index-texts-0-in-Verilog.is c.deref-in-Verilog.ensures.value in
+    rw (c.in-Verilog.is, names, texts) c.verilog.ensures.ok
+
+pub returns-in-Verilog-clause-err : goal.returns-in-Verilog-clause-err
+returns-in-Verilog-clause-err c =
+    let many : length c.args.files.now ≡ 1 = rw c.in-Verilog.is at c.requires.files in
+    let names = one_name c.args.files.now many in
+    let texts = one_text c.args.texts.now c.index-texts-0-in-Verilog.result
+    c.deref-in-Verilog.result.now (c.requires.texts ∙ many)
+    c.index-texts-0-in-Verilog.is c.deref-in-Verilog.ensures.value in
+    rw (c.in-Verilog.is, names, texts) c.verilog.ensures.err
+
 pub returns-in-Map-clause-ok : goal.returns-in-Map-clause-ok
 returns-in-Map-clause-ok c =
     let many : length c.args.files.now ≡ 2 = rw c.in-Map.is at c.requires.files in
