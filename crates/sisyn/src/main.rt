@@ -9,6 +9,8 @@ mod hostile_tests;
 mod replay_tests;
 #[cfg(test)]
 mod tests;
+#[cfg(test)]
+mod verilog_tests;
 
 ghost use Rattle.std.specs.Prelude.{◌≡◌, ◌⊎◌, List, String, drop, IfErr, IfOk};
 ghost use Rattle.std.specs.Process.{exit_status as exit_byte};
