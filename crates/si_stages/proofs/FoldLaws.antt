@@ -3,12 +3,10 @@ use Rattle.std.proofs.Common.{◌≡◌, ℕ, List, Ok, sym, ap, subst, ◌∙�
 use Rattle.si_base.specs.Behaviour.{Implements}
 use Rattle.si_base.specs.Codes.{CodedGraph}
 use Rattle.si_base.specs.GivenGraph.{Sg}
-use Rattle.si_base.specs.Netlist.{Netlist}
-use Rattle.si_base.specs.NetlistText.{netlist_text}
 use Rattle.si_base.specs.System.{IsFor}
-use Rattle.si_base.specs.WellFormed.{IsNetlist}
 use Rattle.si_fold.proofs.FoldedBehaviour.{folded_behaviour, folded_for}
 use Rattle.si_fold.proofs.FoldLemmas.{folded_is_coded}
+use Rattle.si_insert.specs.Lineage.{History}
 use Rattle.si_refusals.specs.Stages.{Stage, Then, Refuses, Passes}
 use Rattle.si_sg.proofs.UniqueLemmas.{given_unique}
 use Rattle.si_sg.specs.GivenGraph.{IsGivenBy}
@@ -17,7 +15,9 @@ use Rattle.si_stages.specs.Fold.{IsFoldText}
 use Rattle.si_stages.specs.FoldLaws.{GivesFolded, ImplementsGiven, FoldTextsReadBack}
 use Rattle.si_stages.specs.FoldLaws.{FoldTextsAreMapped, FoldTextsAreSynthesised}
 use Rattle.si_stages.proofs.CheckLemmas.{coded_unique}
+use Rattle.si_stages.specs.Written.{IsWritten}
 use Rattle.si_stages.proofs.FoldTexts.{reads_back}
+use Rattle.si_stages.proofs.ReadingLemmas.{mapping_readings_are}
 
 -- where two stages give a value, so does the first
 passed : {R A B : Type 0} (first : Stage R A) (next : A → Stage R B) (value : B)
@@ -60,15 +60,14 @@ module _ (text folded_text output : List ℕ) (f : GivesFolded text folded_text)
       f.is_folded.is_folded in
       coded_unique coded recoded sound.coded_is again (sound.same_graph ∙ ap (λ (sg : Sg). sg.graph) same_sg)
 
-  pub serves_given : (netlist : Netlist) → IsNetlist netlist → output ≡ netlist_text netlist
-      → netlist.model ≡ read.model → IsFor coded netlist → Implements netlist read.graph
-      → ImplementsGiven text output
-  serves_given netlist is_netlist output_is model_is is_for implements =
+  -- a lineage that starts at that graph, and a text that is written over it
+  pub serves_given : (l : History) → l.given ≡ coded → IsWritten read l output → ImplementsGiven text output
+  serves_given l given_is w =
       let kept = f.is_folded.kept in
       let class = f.is_folded.class in
-      let alike = folded_behaviour f.coded recoded kept class netlist f.sound.coded_is f.is_folded.is_folded in
-      let own = subst (λ (sg : Sg). Implements netlist sg.graph) same_sg implements in
-      let meets : Implements netlist f.coded.graph = record {
+      let alike = folded_behaviour f.coded recoded kept class w.netlist f.sound.coded_is f.is_folded.is_folded in
+      let own = subst (λ (sg : Sg). Implements w.netlist sg.graph) same_sg w.implements in
+      let meets : Implements w.netlist f.coded.graph = record {
         speed_independent = alike.excitations.1 own.speed_independent;
         bisimilar = alike.bisimilarity.1 own.bisimilar;
         no_silent_cycle = alike.silent_cycles.1 own.no_silent_cycle;
@@ -78,13 +77,13 @@ module _ (text folded_text output : List ℕ) (f : GivesFolded text folded_text)
         is_given = f.is_given;
         coded = f.coded;
         sound = f.sound;
-        netlist = netlist;
-        is_netlist = is_netlist;
-        output_is = output_is;
-        model_is = model_is ∙ ap (λ (sg : Sg). sg.model) same_sg ∙ f.is_folded.model_is;
-        is_for = folded_for f.coded recoded kept class netlist f.sound.coded_is f.is_folded.is_folded
-            (subst (λ (c : CodedGraph). IsFor c netlist) same_codes is_for);
-        implements = subst (Implements netlist) f.sound.same_graph meets;
+        netlist = w.netlist;
+        is_netlist = w.is_netlist;
+        output_is = w.text_is;
+        model_is = w.model_is ∙ ap (λ (sg : Sg). sg.model) same_sg ∙ f.is_folded.model_is;
+        is_for = folded_for f.coded recoded kept class w.netlist f.sound.coded_is f.is_folded.is_folded
+            (subst (λ (c : CodedGraph). IsFor c w.netlist) (given_is ∙ same_codes) w.is_for);
+        implements = subst (Implements w.netlist) f.sound.same_graph meets;
       }
 
 -- ---- what comes of that text
@@ -92,19 +91,18 @@ pub texts_are_synthesised : FoldTextsAreSynthesised
 texts_are_synthesised style file text folded_file folded output told made =
     let given = texts_read_back file text folded told in
     let read = passed _ _ output made in
-    let checked = passed _ _ output read.2 in
-    let resolved = passed _ _ output checked.2 in
-    let m = resolved.2 in
-    serves_given text folded output given read.0 read.1 checked.0 checked.1 m.netlist m.is_netlist m.output_is
-    m.model_is m.is_for m.implements
+    let resolved = passed _ _ output read.2 in
+    let checked = passed _ _ resolved.0 resolved.1 in
+    serves_given text folded output given read.0 read.1 checked.0 checked.1 resolved.0 checked.2.given_is
+    resolved.2.written
 
 pub texts_are_mapped : FoldTextsAreMapped
 texts_are_mapped file text folded_file folded library cells output told made =
     let given = texts_read_back file text folded told in
     let read = passed _ _ output made in
-    let spelled = passed _ _ output read.2 in
-    let checked = passed _ _ output spelled.2 in
-    let resolved = passed _ _ output checked.2 in
+    let is_given = (mapping_readings_are folded_file folded library cells read.0 read.1).given in
+    let resolved = passed _ _ output read.2 in
+    let checked = passed _ _ resolved.0 resolved.1 in
     let m = resolved.2 in
-    serves_given text folded output given read.0 read.1 checked.0 checked.1 m.netlist m.is_netlist m.output_is
-    m.model_is m.is_for m.implements
+    serves_given text folded output given read.0.given is_given checked.0 checked.1 m.lineage
+    (m.maps.goes.given_stays ∙ checked.2.given_is) m.written
