@@ -90,5 +90,11 @@ fn folded_graphs(rt: HostRuntime) -> Result<(), Fail> {
     expect_output(&rt, alloc, &FOLD, only(ONE_ROUND), ONE_ROUND)?;
     expect_output(&rt, alloc, &FOLD, only(TWO_PULSES), SIX_STATES)?;
     let line = b"nonpersistent s0 z+ a+\n";
-    expect(&rt, alloc, &FOLD, only(DISABLED_OUTPUT), (Status::Improper, b"", line))
+    expect(
+        &rt,
+        alloc,
+        &FOLD,
+        only(DISABLED_OUTPUT),
+        (Status::Improper, b"", line),
+    )
 }
