@@ -44,7 +44,8 @@ use Rattle.si_stages.proofs.Synthesis.{is_synthesis, synthesis_one, synthesis_so
 -- ---- to one answer at most
 pub report_one : (what : Report) (file text : List ℕ) → AtMostOne (report what file text)
 report_one what file text = then_one _ _ (graph_one file text) (λ given is.
-    then_one _ _ (proper_one given.graph given.states) (λ coded sound. told_one what given.model given.states coded sound.coded_is))
+    then_one _ _ (proper_one given.graph given.states)
+    (λ coded sound. told_one what given.model given.states coded sound.coded_is))
 
 pub synth_one : (style : Style) (file text : List ℕ) → AtMostOne (synth style file text)
 synth_one style file text = then_one _ _ (graph_one file text) (λ given is.

@@ -55,7 +55,8 @@ command_one content asked a b told = by a b
     texts_one texts others r q one other means also =
         let same = loaded_one (Ok texts) (Ok others) one other in
         let same_texts : texts ≡ others = cc in
-        meaning_one asked.task asked.files others r q (subst (λ (ts : List (List ℕ)). meaning asked.task asked.files ts r) same_texts means) also
+        let Means : List (List ℕ) → Type 0 = λ ts. meaning asked.task asked.files ts r in
+        meaning_one asked.task asked.files others r q (subst Means same_texts means) also
 
     by : (a b : Answer) → ComesTo (loads_well content) asked a → ComesTo (loads_well content) asked b → a ≡ b
     by (Output t) (Output u) x y = (let same = texts_one x.0 y.0 (Ok t) (Ok u) x.1 y.1 x.2 y.2 in cc)

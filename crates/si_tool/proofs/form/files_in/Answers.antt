@@ -12,14 +12,16 @@ returns-then-words-form c = λ files.
     let form = c.args.form.now in
     let words = c.args.words.now in
     no_form_of_length (slots_now form) (words_of words) files
-    (λ same. c.if-words-form.true (omega (arith, same, length-map form slot_now, length-map words (λ w. string_bytes w))))
+    (λ same. c.if-words-form.true
+    (omega (arith, same, length-map form slot_now, length-map words (λ w. string_bytes w))))
 
 pub loop-place-init : goal.loop-place-init
 loop-place-init c = rw (c.new-files.ensures.items) (none_filled (slots_now c.args.form.now) (words_of c.args.words.now))
 
 pub returns-then-ne : goal.returns-then-ne
 returns-then-ne c =
-    let below : c.loop-place.place < length c.args.words.now = omega (arith, c.loop-place-test.true, c.if-words-form.false) in
+    let below : c.loop-place.place < length c.args.words.now =
+    omega (arith, c.loop-place-test.true, c.if-words-form.false) in
     let slot = slot_at c.args.form.now c.loop-place.place _ _ c.loop-place-test.true c.in-Word.is in
     let word = word_at c.args.words.now c.loop-place.place c.index-words-place.result c.as_str-word.result.now
     below c.index-words-place.is c.as_str-word.ensures.value in
@@ -28,7 +30,8 @@ returns-then-ne c =
 
 pub loop-place-preserved : goal.loop-place-preserved
 loop-place-preserved c =
-    let below : c.loop-place.place < length c.args.words.now = omega (arith, c.loop-place-test.true, c.if-words-form.false) in
+    let below : c.loop-place.place < length c.args.words.now =
+    omega (arith, c.loop-place-test.true, c.if-words-form.false) in
     let word = word_at c.args.words.now c.loop-place.place c.index-words-place.result c.as_str-word.result.now
     below c.index-words-place.is c.as_str-word.ensures.value in
     elim c.match-slot.branch [

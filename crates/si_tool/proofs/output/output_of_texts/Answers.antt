@@ -78,16 +78,20 @@ pub returns-in-Replay-clause-ok : goal.returns-in-Replay-clause-ok
 returns-in-Replay-clause-ok c =
     let many : length c.args.files.now ≡ 3 = rw c.in-Replay.is at c.requires.files in
     let names = three_names c.args.files.now many in
-    let texts = three_texts c.args.texts.now c.index-texts-0-in-Replay.result c.index-texts-1-in-Replay.result c.index-texts-2.result
+    let texts = three_texts c.args.texts.now c.index-texts-0-in-Replay.result c.index-texts-1-in-Replay.result
+    c.index-texts-2.result
     c.deref-in-Replay.result.now c.deref-in-Replay-2.result.now c.deref-in-Replay-3.result.now (c.requires.texts ∙ many)
-    c.index-texts-0-in-Replay.is c.index-texts-1-in-Replay.is c.index-texts-2.is c.deref-in-Replay.ensures.value c.deref-in-Replay-2.ensures.value c.deref-in-Replay-3.ensures.value in
+    c.index-texts-0-in-Replay.is c.index-texts-1-in-Replay.is c.index-texts-2.is c.deref-in-Replay.ensures.value
+    c.deref-in-Replay-2.ensures.value c.deref-in-Replay-3.ensures.value in
     rw (c.in-Replay.is, names, texts) c.replay_texts.ensures.ok
 
 pub returns-in-Replay-clause-err : goal.returns-in-Replay-clause-err
 returns-in-Replay-clause-err c =
     let many : length c.args.files.now ≡ 3 = rw c.in-Replay.is at c.requires.files in
     let names = three_names c.args.files.now many in
-    let texts = three_texts c.args.texts.now c.index-texts-0-in-Replay.result c.index-texts-1-in-Replay.result c.index-texts-2.result
+    let texts = three_texts c.args.texts.now c.index-texts-0-in-Replay.result c.index-texts-1-in-Replay.result
+    c.index-texts-2.result
     c.deref-in-Replay.result.now c.deref-in-Replay-2.result.now c.deref-in-Replay-3.result.now (c.requires.texts ∙ many)
-    c.index-texts-0-in-Replay.is c.index-texts-1-in-Replay.is c.index-texts-2.is c.deref-in-Replay.ensures.value c.deref-in-Replay-2.ensures.value c.deref-in-Replay-3.ensures.value in
+    c.index-texts-0-in-Replay.is c.index-texts-1-in-Replay.is c.index-texts-2.is c.deref-in-Replay.ensures.value
+    c.deref-in-Replay-2.ensures.value c.deref-in-Replay-3.ensures.value in
     rw (c.in-Replay.is, names, texts) c.replay_texts.ensures.err
