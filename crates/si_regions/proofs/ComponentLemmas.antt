@@ -49,7 +49,7 @@ module _ (g : StateGraph) (e : Event) (enabling : List Bool) (s : ℕ) (er : Lis
   path_in t (v ∷ vs) u in_er enables leads =
       let next : Contains er v =
       (reached.exactly v).1 (reached_on (IsNext g Both enabling) (IsSeed enabling (s ∷ [])) t v
-          ((reached.exactly t).0 in_er) leads.0) in
+      ((reached.exactly t).0 in_er) leads.0) in
       let rest = path_in v vs u next leads.0.1 leads.1 in
       ((leads.0.0, next, rest.0), rest.1)
 
@@ -77,7 +77,7 @@ module _ (g : StateGraph) (e : Event) (enabling : List Bool) (s : ℕ) (er : Lis
         });
     maximal = λ t u there beside enables.
         (reached.exactly u).1 (reached_on (IsNext g Both enabling) (IsSeed enabling (s ∷ [])) t u
-            ((reached.exactly t).0 there)
+        ((reached.exactly t).0 there)
         (beside, (marks.exactly u).1 enables));
   }
 

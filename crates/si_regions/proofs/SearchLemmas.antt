@@ -139,7 +139,7 @@ search_finds g along within seeds marks found list x split same order = record {
     λ there. x.sound t ((all_found marks found split t).1 ((same t).0 there)),
     λ r. (same t).1 ((all_found marks found split t).0
         (along_path (IsNext g along within) (λ s. IsIn marks s) closed r.seed r.path t
-            (x.begun r.seed r.there) r.leads)),
+        (x.begun r.seed r.there) r.leads)),
   );
 }
   where
