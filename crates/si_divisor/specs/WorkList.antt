@@ -141,7 +141,8 @@ ExitsDone g target b marks first other after = MayExit g target b marks first ot
     → Step g other.to first.event w → IsIn after w
 
 -- and so with two arcs out of one state, each being the first
-abbrev pub ExitsBothWays : StateGraph → (ℕ → Bool) → Bool → List Bool → Edge → Edge → List Bool → Type 0
+abbrev pub ExitsBothWays : StateGraph → (ℕ → Bool) → Bool → List Bool → Edge → Edge → List Bool
+    → Type 0
 ExitsBothWays g target b marks arc beside after = ExitsDone g target b marks beside arc after
     × ExitsDone g target b marks arc beside after
 

@@ -172,7 +172,8 @@ fn reach_all_into(
     ensures marks { OnOk result (Marks (Belongs graph.now ones.now b)
         search.old.marks search.old.work search.new.marks search.new.work) }
     ensures done { OnOk result ((a : Edge) (t : ℕ) → Contains graph.now.edges a → a.to ≡ x
-        → FollowsInto graph.now (target ones.now) b search.old.marks a t → IsIn search.new.marks t) }
+        → FollowsInto graph.now (target ones.now) b search.old.marks a t
+        → IsIn search.new.marks t) }
 {
     let mut at = graph.first_in(x);
     while let Some(k) = at {
