@@ -1,5 +1,5 @@
 -- The netlist of the generalised C-element as a module, in both versions of its text, and a text that is cut short.
-use Rattle.std.proofs.Common.{◌≡◌, ℕ, List, ◌++◌, Ok, Err, refl, codes}
+use Rattle.std.proofs.Common.{ℕ, List, ◌++◌, Ok, Err, refl, codes}
 use Rattle.si_base.specs.declared.fault.TextKind.TheVariants.{NoEnd}
 use Rattle.si_netlist_reader.specs.NetlistFault.{netlist_fault}
 use Rattle.si_netlist_reader.specs.NetlistValue.{netlist_of}
