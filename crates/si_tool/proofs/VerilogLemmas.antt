@@ -9,7 +9,7 @@ use Rattle.si_tool.specs.Command.{Request, Asks}
 use Rattle.si_tool.specs.Laws.{PutsModule}
 use Rattle.si_tool.specs.Loads.{Contents, Counts, loads}
 use Rattle.si_tool.specs.Meaning.{ComesTo, meaning}
-use Rattle.si_tool.specs.Run.{SinkChange, Ends, IsDone}
+use Rattle.si_tool.specs.Run.{SinkChange, Ends}
 use Rattle.si_tool.specs.declared.command.Task.TheVariants.{Verilog}
 use Rattle.si_tool.proofs.OverlapLemmas.{one_request}
 use Rattle.si_tool.proofs.RunLemmas.{ends_done}
