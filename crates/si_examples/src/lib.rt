@@ -7,8 +7,6 @@ mod block_tests;
 #[cfg(test)]
 mod cell_tests;
 #[cfg(test)]
-mod check_tests;
-#[cfg(test)]
 mod cover_tests;
 #[cfg(test)]
 mod cube_tests;
@@ -16,8 +14,6 @@ mod cube_tests;
 mod divisor_call_tests;
 #[cfg(test)]
 mod divisor_tests;
-#[cfg(test)]
-mod graph_tests;
 #[cfg(test)]
 mod graphs;
 #[cfg(test)]

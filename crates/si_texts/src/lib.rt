@@ -1,4 +1,4 @@
-//! Tests of the calls that read and write texts. Nothing stands on this crate, so that a new test
+//! Tests of the plain words, of graphs and their checks, and of the calls that read and write texts. Nothing stands on this crate, so that a new test
 //! proves nothing else anew, and each crate below is proved but once.
 #![tactic(auto)]
 
@@ -6,6 +6,10 @@
 mod base_tests;
 #[cfg(test)]
 mod cell_tests;
+#[cfg(test)]
+mod check_tests;
+#[cfg(test)]
+mod graph_tests;
 #[cfg(test)]
 mod handshakes_tests;
 #[cfg(test)]

@@ -1,5 +1,5 @@
 use Rattle.std.proofs.Common.{◌≡◌, ◌<◌, length, All}
-use Rattle.si_examples.proofs.check_tests.coded.Given as goal
+use Rattle.si_texts.proofs.check_tests.coded.Given as goal
 
 abbrev pub invariant-loop-arc : goal.invariant-loop-arc
 invariant-loop-arc g l = record {

@@ -1,5 +1,5 @@
 use Rattle.std.proofs.Common.{◌≡◌, ◌<◌, length, All}
-use Rattle.si_examples.proofs.graph_tests.c_element.Given as goal
+use Rattle.si_texts.proofs.graph_tests.c_element.Given as goal
 
 abbrev pub invariant-loop-one : goal.invariant-loop-one
 invariant-loop-one g l = record {

@@ -2,7 +2,7 @@ use Rattle.std.proofs.Common.{◌<◌, lit<, List, [], ◌∷◌, Bool, All}
 use Rattle.std.proofs.lemmas.List.Elements.{All-from_recursion}
 use Rattle.si_base.specs.declared.graph.Edge.{Edge}
 use Rattle.si_base.specs.Graph.{arc, rise, fall}
-use Rattle.si_examples.proofs.graph_tests.toggle.Goals as goal
+use Rattle.si_texts.proofs.graph_tests.toggle.Goals as goal
 
 abbrev arcs : Bool → List Edge
 arcs up = arc 2 (record { sig = 0; up = up }) 0 ∷ arc 0 (rise 0) 2 ∷ arc 1 (rise 0) 2
