@@ -1,5 +1,6 @@
-//! Tests of the plain words, of graphs and their checks, and of the calls that read and write texts. Nothing stands on this crate, so that a new test
-//! proves nothing else anew, and each crate below is proved but once.
+//! Tests of the plain words, of graphs and their checks, and of the calls that read and write
+//! texts. Nothing stands on this crate, so that a new test proves nothing else anew, and each crate
+//! below is proved but once.
 #![tactic(auto)]
 
 #[cfg(test)]
