@@ -189,34 +189,35 @@ module _ (states : List (List ℕ)) (c : CodedGraph) (n : Netlist) (can : CanBeA
         (keeps l.given l.trace l.current spelled_last.lineage)
 
     at_end : Answer
-    at_end = elim (least_or_none (StartsOtherwise l.given l.current n) (other_start l.given l.current) (length n.signals)) [
-      | inl (z, is, first) ↦ unbuilt (Start z) (λ (e : Start z ≡ NoMemory). cc)
-          (at_first_signal (StartsOtherwise l.given l.current n) z is first)
-      | inr none ↦ (
-          let signals = last_signals states c n l can.netlist can.fits all in
-          let no_other : (z : ℕ) → StartsOtherwise c l.current n z → ⊥ =
-          subst (λ (d : CodedGraph). (z : ℕ) → StartsOtherwise d l.current n z → ⊥) given_is
-          (λ z is. none z is.there is) in
-          elim (first_spot l.current.coded) [
-            | inl (z, found, first) ↦ unbuilt (Gate z (current_word states l found.0))
-                (λ (e : Gate z (current_word states l found.0) ≡ NoMemory). cc)
-                (record {
-                  starts = same_start c l.current n can.netlist can.fits kept_last signals no_other;
-                  at = found.0;
-                  first = at_first_spot (IsWrong l.current.coded n) z found.0 found.1
-                      (λ x below is. none_at l.current.coded x.sig (first x.sig below) x.state is) found.2;
-                  word = refl;
-                })
-            | inr no_spot ↦ inl (
-              l,
-              record {
-                taken = all;
-                built = is_built c l.current n can.netlist can.fits kept_last signals no_other
-                    (gives_if_none l.current.coded n no_spot);
-              },
-            )
-          ])
-    ]
+    at_end = elim (least_or_none (StartsOtherwise l.given l.current n) (other_start l.given l.current)
+        (length n.signals)) [
+          | inl (z, is, first) ↦ unbuilt (Start z) (λ (e : Start z ≡ NoMemory). cc)
+              (at_first_signal (StartsOtherwise l.given l.current n) z is first)
+          | inr none ↦ (
+              let signals = last_signals states c n l can.netlist can.fits all in
+              let no_other : (z : ℕ) → StartsOtherwise c l.current n z → ⊥ =
+              subst (λ (d : CodedGraph). (z : ℕ) → StartsOtherwise d l.current n z → ⊥) given_is
+              (λ z is. none z is.there is) in
+              elim (first_spot l.current.coded) [
+                | inl (z, found, first) ↦ unbuilt (Gate z (current_word states l found.0))
+                    (λ (e : Gate z (current_word states l found.0) ≡ NoMemory). cc)
+                    (record {
+                      starts = same_start c l.current n can.netlist can.fits kept_last signals no_other;
+                      at = found.0;
+                      first = at_first_spot (IsWrong l.current.coded n) z found.0 found.1
+                          (λ x below is. none_at l.current.coded x.sig (first x.sig below) x.state is) found.2;
+                      word = refl;
+                    })
+                | inr no_spot ↦ inl (
+                  l,
+                  record {
+                    taken = all;
+                    built = is_built c l.current n can.netlist can.fits kept_last signals no_other
+                        (gives_if_none l.current.coded n no_spot);
+                  },
+                )
+              ])
+        ]
 
   -- ---- insertion after insertion
   walk : (before rest : List Insertion) (l : History) → n.inserts ≡ before ++ rest → TakesAll states (begun c) before l

@@ -1,3 +1,4 @@
+pub mod ColumnLemmas
 pub mod WordParts
 pub mod StateWords
 pub mod SetWords
@@ -13,3 +14,4 @@ pub mod ReasonExists
 pub mod SetsExist
 pub mod AnswerExists
 pub mod Telling
+mod Examples

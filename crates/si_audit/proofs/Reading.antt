@@ -14,8 +14,8 @@ use Rattle.si_audit.proofs.SetWords.{members, not_first}
 
 -- the states before s are looked at, and the first words, so many, are those of the set so far; what
 -- is left names states from s on
-pub record IsReadTo (states : List (List ℕ)) (l : History) (words : List (List ℕ)) (size s taken : ℕ) (found : List Bool)
-    : Type 0 where
+pub record IsReadTo (states : List (List ℕ)) (l : History) (words : List (List ℕ)) (size s taken : ℕ)
+    (found : List Bool) : Type 0 where
   pub size_is : length found ≡ size
   pub few : taken ≤ length words
   pub so_far : take taken words ≡ map (current_word states l) (members found 0 s)
@@ -83,7 +83,8 @@ module _ (states : List (List ℕ)) (l : History) (words : List (List ℕ)) (siz
       → map (current_word states l) (members other (s + 1) left) ≡ current_word states l s ∷ vs → ⊥
   not_later other left at vs same =
       not_first (current_word states l) other (s + 1) left (current_word states l s) vs
-      (λ t above below e. (let here : t ≡ s = one_word states l spelled t s (omega arith) (omega arith) e in omega arith))
+      (λ t above below e. (let here : t ≡ s = one_word states l spelled t s (omega arith) (omega arith) e in
+      omega arith))
       same
 
   pub word_taken : (more : ℕ) (new : List Bool) → slice_get words taken ≡ Some (current_word states l s)

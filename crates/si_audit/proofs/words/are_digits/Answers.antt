@@ -8,7 +8,8 @@ pub returns-then-bytes-i : goal.returns-then-bytes-i
 returns-then-bytes-i c = (
   λ (e : false ≡ true). absurd (true≢false (sym e)),
   λ same. absurd (not_digits c.args.k c.args.bits c.loop-i.i c.args.bytes.now c.loop-i-test.true
-      (λ at. c.if-bytes-i.true (at ∙ sym (c.digit.ensures ∙ ap (λ (b : Bool). spelled.digit b) c.get-is_one.ensures))) same),
+      (λ at. c.if-bytes-i.true
+      (at ∙ sym (c.digit.ensures ∙ ap (λ (b : Bool). spelled.digit b) c.get-is_one.ensures))) same),
 )
 
 pub returns : goal.returns
