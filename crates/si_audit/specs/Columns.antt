@@ -28,7 +28,8 @@ abbrev pub HasCode : List (List ℕ) → (s k : ℕ) → Type 0
 HasCode columns s k = (z : ℕ) → z < code_width → flag (column columns z) s ≡ bit k z
 
 -- a column of as many words, with the value of f for the code of each state
-pub record Computes (size : ℕ) (columns : List (List ℕ)) (f : ℕ → Bool) (values : List ℕ) : Type 0 where
+pub record Computes (size : ℕ) (columns : List (List ℕ)) (f : ℕ → Bool) (values : List ℕ)
+    : Type 0 where
   pub size_is : length values ≡ size
   pub each : (s k : ℕ) → s / 64 < size → HasCode columns s k → flag values s ≡ f k
 

@@ -9,8 +9,8 @@ use si_base::ids::{NoMemory, StateId};
 use std::alloc::Global;
 use std::marker::Model;
 
-/// A value for each state of a graph. Contracts see it as its words, which hold 64 values each, from
-/// the lowest bit up.
+/// A value for each state of a graph. Contracts see it as its words, which hold 64 values each,
+/// from the lowest bit up.
 #[derive(Drop)]
 pub(crate) struct Column {
     words: Vec<u64>,
