@@ -13,7 +13,7 @@ digit_one_way true false same = (let e : 49 ≡ 48 = same in absurd (omega (arit
 digit_one_way false true same = (let e : 48 ≡ 49 = same in absurd (omega (arith, e)))
 digit_one_way false false same = refl
 
-digit_at : (k bits i : ℕ) → i < k → get_or (digits k bits) i 0 ≡ digit (bit bits i)
+pub digit_at : (k bits i : ℕ) → i < k → get_or (digits k bits) i 0 ≡ digit (bit bits i)
 digit_at k bits i within =
     get_or-map-range_with_len (λ (j : ℕ). digit (bit bits j)) 0 k i i 0 within (omega arith)
 

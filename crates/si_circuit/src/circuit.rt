@@ -1,8 +1,9 @@
 //! Circuits: a lineage without conflicts, with a netlist that implements its given graph.
 
-ghost use Rattle.std.specs.Prelude.{◌≡◌, ℕ, IfOk, IfErr};
+ghost use Rattle.std.specs.Prelude.{◌≡◌, ℕ, IfOk, IfErr, map};
 ghost use Rattle.si_base.specs.Behaviour.{Implements};
 ghost use Rattle.si_base.specs.WellFormed.{IsNetlist};
+ghost use Rattle.si_insert.specs.Built.{IsBuilt};
 ghost use Rattle.si_circuit.specs.Cells.{AllFit, ShowsUnfit, mapped_netlist};
 ghost use Rattle.si_circuit.specs.Circuits.{AreStateNames, IsCircuit, circuit_of};
 ghost use Rattle.si_circuit.specs.Spelled.{AreSpelled};
@@ -133,6 +134,21 @@ impl Circuit {
             Ok(netlist) => Ok(Circuit { resolved, netlist }),
             Err(no_memory) => Err((resolved, no_memory)),
         }
+    }
+
+    /// The circuit of a netlist that stands already: it has the signals and the start of the
+    /// lineage's current graph, its gates give that graph's next values, and its insertions have the
+    /// names of the trace, in order. So it implements the lineage's given graph, whoever wrote it.
+    pub fn of_netlist(resolved: Resolved, netlist: Netlist) -> Circuit
+        requires built { IsBuilt resolved.current netlist }
+        requires inserted { map (λ i. i.name) netlist.inserts ≡ map (λ p. p.name) resolved.trace }
+        ensures same { result.lineage ≡ resolved }
+        ensures netlist { result.netlist ≡ netlist }
+        ensures implements { Implements netlist resolved.given.graph }
+    {
+        // What holds of each lineage comes with its trace.
+        let _trace = resolved.lineage().trace();
+        Circuit { resolved, netlist }
     }
 
     /// The netlist, and that it implements the lineage's given graph.
