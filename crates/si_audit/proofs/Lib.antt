@@ -13,3 +13,4 @@ pub mod ReasonExists
 pub mod SetsExist
 pub mod AnswerExists
 pub mod Telling
+pub mod BuiltLineages
