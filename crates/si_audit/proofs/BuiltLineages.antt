@@ -103,7 +103,8 @@ module _ (states : List (List ℕ)) (given : CodedGraph) where
   so_far done now = record { given = given; trace = done; current = now }
 
   word_is : (done : List TraceStep) (now : Current) (k : ℕ) (ds : List Descent) → IsReached given done now k ds
-      → (s : ℕ) → s < now.coded.graph.states → state_word states k (descent ds s) ≡ current_word states (so_far done now) s
+      → (s : ℕ) → s < now.coded.graph.states
+      → state_word states k (descent ds s) ≡ current_word states (so_far done now) s
   word_is done now k ds reached s within =
       current_word_made states (so_far done now) s k (descent ds s) (state_word states k (descent ds s)) reached.count
       (reached.descents.origins s within) (λ i. reached.descents.values s i within) refl
