@@ -15,6 +15,7 @@ pub mod GivenLineages
 pub mod WrittenLemmas
 pub mod Synthesis
 pub mod MappingLemmas
+pub mod AuditLemmas
 pub mod MeaningLemmas
 pub mod FoldLaws
 pub mod ExerciseLemmas

@@ -8,6 +8,7 @@ pub mod Replayed
 pub mod Fold
 pub mod Reports
 pub mod Outcomes
+pub mod Audited
 pub mod Meaning
 pub mod Laws
 pub mod FoldLaws
