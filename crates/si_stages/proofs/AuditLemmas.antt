@@ -27,7 +27,7 @@ use Rattle.si_netlist_reader.specs.NetlistValue.{netlist_of}
 use Rattle.si_netlist_reader.proofs.ReadLaw.{read_is_netlist}
 use Rattle.si_refusals.specs.Ending.{Ending, NoMemory, Answered, MayStop}
 use Rattle.si_refusals.specs.Refusal.{TextRefusal, TextRefused, Rejected}
-use Rattle.si_refusals.specs.Stages.{Stage, Then, Refuses, Passes}
+use Rattle.si_refusals.specs.Stages.{Stage, Then, Passes}
 use Rattle.si_refusals.specs.declared.rejection.NamedRejection.{NamedRejection}
 use Rattle.si_refusals.specs.declared.rejection.NamedRejection.TheVariants as named
 use Rattle.si_sg.proofs.GivenApart.{given_apart}
@@ -43,7 +43,7 @@ use Rattle.si_stages.proofs.CheckLemmas.{graph_one, proper_one, match_lists_one}
 use Rattle.si_stages.proofs.ReadingLemmas.{AreAuditReadings, audit_readings_are, audit_readings_one, audit_readings_some}
 use Rattle.si_stages.proofs.ReplayLemmas.{as_many_names}
 use Rattle.si_stages.proofs.SomeLemmas.{match_lists_some, proper_some}
-use Rattle.si_stages.proofs.StageLemmas.{then_one, then_some}
+use Rattle.si_stages.proofs.StageLemmas.{passed, then_one, then_some}
 
 -- ---- a fault that is told has one name
 not_memory : (signals : List Signal) (f : AuditFault) (r : NamedRejection) → IsNamedSo signals f r
@@ -195,11 +195,11 @@ audit_ends g a n b given coded is none sound fits =
 passes_all : (g a n b output : List ℕ) → audit g a n b (Ok output) → (readings : AuditReadings)
     × AreAuditReadings a b readings × (coded : CodedGraph) × IsSound readings.given.graph coded
     × IsFor coded readings.netlist × IsAudit readings.given.states coded readings.netlist output
-passes_all g a n b output (Refuses r refused is) = cc
-passes_all g a n b output (Passes readings read (Refuses r refused is)) = cc
-passes_all g a n b output (Passes readings read (Passes coded sound (Refuses r refused is))) = cc
-passes_all g a n b output (Passes readings read (Passes coded sound (Passes _ fits told))) =
-    (readings, audit_readings_are g a n b readings read, coded, sound, fits, told)
+passes_all g a n b output comes =
+    let read = passed _ _ output comes in
+    let checked = passed _ _ output read.2 in
+    let matched = passed _ _ output checked.2 in
+    (read.0, audit_readings_are g a n b read.0 read.1, checked.0, checked.1, matched.1, matched.2)
 
 pub output_certified : (g a n b output : List ℕ) → audit g a n b (Ok output) → IsCertified a b output
 output_certified g a n b output comes =

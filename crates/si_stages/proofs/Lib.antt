@@ -18,6 +18,7 @@ pub mod MappingLemmas
 pub mod AuditLemmas
 pub mod MeaningLemmas
 pub mod FoldLaws
+pub mod AuditLaws
 pub mod ExerciseLemmas
 pub mod VerilogLemmas
 pub mod VerilogExamples

@@ -11,6 +11,7 @@ pub mod Outcomes
 pub mod Audited
 pub mod Meaning
 pub mod Laws
+pub mod AuditLaws
 pub mod FoldLaws
 pub mod Exercise
 pub mod Verilog
