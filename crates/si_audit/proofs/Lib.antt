@@ -14,3 +14,4 @@ pub mod SetsExist
 pub mod AnswerExists
 pub mod Telling
 pub mod BuiltLineages
+mod BuiltExamples
