@@ -8,10 +8,10 @@ pub mod Walking
 pub mod Building
 pub mod OneReason
 pub mod OneAudit
+pub mod BuiltLineages
+mod BuiltExamples
 pub mod OneAnswer
 pub mod ReasonExists
 pub mod SetsExist
 pub mod AnswerExists
 pub mod Telling
-pub mod BuiltLineages
-mod BuiltExamples
