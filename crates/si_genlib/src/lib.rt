@@ -3,6 +3,7 @@
 
 mod cell;
 mod decimal;
+mod demand;
 mod expression;
 mod fault;
 mod gate;
@@ -13,3 +14,4 @@ pub mod reader;
 mod source;
 mod statements;
 mod symbol;
+mod table;
