@@ -2,6 +2,7 @@
 #![tactic(auto)]
 
 mod cell;
+pub mod cell_laws;
 mod decimal;
 mod demand;
 mod expression;
