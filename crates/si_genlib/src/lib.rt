@@ -13,3 +13,5 @@ pub mod reader;
 mod source;
 mod statements;
 mod symbol;
+pub mod write;
+pub mod written_laws;
