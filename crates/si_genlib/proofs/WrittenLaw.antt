@@ -102,11 +102,15 @@ module _ (library : Library) (is : IsLibrary library) where
       let make : List Cell → Library = λ cs. record { name = library.name; cells = cs } in
       rw (words_back head head_words) (ap make (read 0).cells_are)
 
-  pub no_fault_in_text : library_fault (library_text library) ≡ None
+  no_fault_in_text : library_fault (library_text library) ≡ None
   unfolding library_text
   no_fault_in_text = ap (lines_fault (after_last (library_text library))) (lines_are (library_text library) refl)
       ∙ lines_good (after_last (library_text library))
 
-  pub text_spells : library_of (library_text library) ≡ library
+  text_spells : library_of (library_text library) ≡ library
   unfolding library_text
   text_spells = ap library_in (lines_are (library_text library) refl) ∙ lines_spell
+
+pub text_reads_back : (library : Library) → IsLibrary library
+    → (library_fault (library_text library) ≡ None) × (library_of (library_text library) ≡ library)
+text_reads_back library is = (no_fault_in_text library is, text_spells library is)
