@@ -43,7 +43,8 @@ pub cell_by_calls : (cell : Cell) (text head named pinned marked all : List ℕ)
     → head ≡ text ++ codes ".cell" → named ≡ head ++ 32 ∷ cell.name → pinned ≡ named ++ spaced cell.pins
     → marked ≡ pinned ++ 32 ∷ codes "=" → all ≡ marked ++ spaced (sum_words (signals_in cell) cell.sum)
     → all ++ 10 ∷ [] ≡ text ++ line (cell_line cell)
-cell_by_calls cell text head named pinned marked all e1 e2 e3 e4 e5 = rw (e5, e4, e3, e2, e1) (cell_whole text cell)
+cell_by_calls cell text head named pinned marked all head_is named_is pinned_is marked_is all_is =
+    rw (all_is, marked_is, pinned_is, named_is, head_is) (cell_whole text cell)
 
 -- ---- the text
 
@@ -52,8 +53,8 @@ pub text_by_calls : (library : Library) (none head cells all : List ℕ) → non
     → cells ≡ head ++ text_of (map cell_line library.cells) → all ≡ cells ++ line (codes ".end" ∷ [])
     → all ≡ library_text library
 unfolding library_text
-text_by_calls library none head cells all e1 e2 e3 e4 =
+text_by_calls library none head cells all none_is head_is cells_are all_is =
     let first : List ℕ = line (codes ".library" ∷ library.name ∷ []) in
     let middle : List (List (List ℕ)) = map cell_line library.cells in
-    rw (e4, e3, e2, e1) (append_assoc first (text_of middle) (line (codes ".end" ∷ []))
+    rw (all_is, cells_are, head_is, none_is) (append_assoc first (text_of middle) (line (codes ".end" ∷ []))
     ∙ ap (λ (t : List ℕ). first ++ t) (sym (flat_map-append line middle ((codes ".end" ∷ []) ∷ []))))

@@ -1,5 +1,5 @@
 -- The literals of a cube are in literal order already.
-use Rattle.std.proofs.Common.{◌≡◌, ℕ, zero, suc, ◌+◌, ◌<◌, ◌≤◌, ◌||◌, Bool, true, false, not, List, [], ◌∷◌, length, filter, get_or, refl, ap, ◌∙◌, inl, inr, arith}
+use Rattle.std.proofs.Common.{◌≡◌, ℕ, zero, suc, ◌+◌, ◌<◌, ◌≤◌, ◌||◌, Bool, true, false, not, List, [], ◌∷◌, length, filter, get_or, refl, ap, ap₂, ◌∙◌, inl, inr, arith}
 use Rattle.std.proofs.lemmas.Bool.Decides.{eqb_tells}
 use Rattle.std.proofs.lemmas.List.Elements.{recursion_from_All}
 use Rattle.std.specs.List.{AllByRecursion}
@@ -60,53 +60,73 @@ or_none : (b : Bool) → (b || false) ≡ b
 or_none true = refl
 or_none false = refl
 
--- of both literals of the signals from the i-th on, just these pass
-kept : (n i : ℕ) (p : Literal → Bool) (ls : List Literal) → Rises i ls → AreBelow (i + n) ls
-    → ((m : Literal) → i ≤ m.sig → p m ≡ has_literal ls m) → filter p (both_from n i) ≡ ls
-kept zero i p [] rises low told = refl
-kept zero i p (l ∷ ls) rises low told =
+beq_plain : (v : Bool) → beq true v ≡ v
+beq_plain true = refl
+beq_plain false = refl
+
+beq_other : (v : Bool) → beq false v ≡ not v
+beq_other true = refl
+beq_other false = refl
+
+-- of the literals of the signals from the i-th on, just these pass
+abbrev Pass : (Literal → Bool) → ℕ → List Literal → Type 0
+Pass p i ls = (m : Literal) → i ≤ m.sig → p m ≡ has_literal ls m
+
+-- ---- the first literal is of signal i
+
+its_signs : (p : Literal → Bool) (i : ℕ) (l : Literal) (ls : List Literal) → Pass p i (l ∷ ls) → i ≡ l.sig
+    → Rises (l.sig + 1) ls → (v : Bool) → p (lit i v) ≡ beq v l.plain
+its_signs p i l ls pass same rises v =
+    let sign : same_literal (lit i v) l ≡ beq v l.plain =
+    ap (λ (s : ℕ). same_literal (lit s v) l) same ∙ its_sign l v in
+    let none : has_literal ls (lit i v) ≡ false = absent (lit i v) (i + 1) ls (omega arith) (rw same rises) in
+    pass (lit i v) (omega arith) ∙ rw (sign, none) (or_none (beq v l.plain))
+
+behind_first : (p : Literal → Bool) (i : ℕ) (l : Literal) (ls : List Literal) → Pass p i (l ∷ ls) → i ≡ l.sig
+    → Pass p (i + 1) ls
+behind_first p i l ls pass same m above =
+    let other : same_literal m l ≡ false = other_signal m l (λ e. omega (arith, e, above, same)) in
+    pass m (omega arith) ∙ rw other refl
+
+first_kept : (p : Literal → Bool) (i : ℕ) (l : Literal) (ls rest : List Literal) → Pass p i (l ∷ ls) → i ≡ l.sig
+    → Rises (l.sig + 1) ls → filter p rest ≡ ls → filter p (lit i true ∷ lit i false ∷ rest) ≡ l ∷ ls
+first_kept p i l ls rest pass same rises later =
+    let signs : (v : Bool) → p (lit i v) ≡ beq v l.plain = its_signs p i l ls pass same rises in
+    one_sign p i l.plain rest (signs true ∙ beq_plain l.plain) (signs false ∙ beq_other l.plain)
+    ∙ ap₂ (λ (s : ℕ) (ms : List Literal). lit s l.plain ∷ ms) same later
+
+-- ---- it is of a later signal
+
+none_kept : (p : Literal → Bool) (i : ℕ) (ls rest : List Literal) → Pass p i ls → Rises (i + 1) ls
+    → filter p rest ≡ ls → filter p (lit i true ∷ lit i false ∷ rest) ≡ ls
+none_kept p i ls rest pass rises later =
+    let none : (v : Bool) → p (lit i v) ≡ false =
+    λ v. pass (lit i v) (omega arith) ∙ absent (lit i v) (i + 1) ls (omega arith) rises in
+    no_sign p i rest (none true) (none false) ∙ later
+
+one_less : (n i : ℕ) (ls : List Literal) → AreBelow (i + suc n) ls → AreBelow (i + 1 + n) ls
+one_less n i [] below = tt
+one_less n i (l ∷ ls) below = (omega (arith, below.0), one_less n i ls below.1)
+
+-- just these literals of the next signals, so many, from the i-th on, pass
+kept : (n i : ℕ) (p : Literal → Bool) (ls : List Literal) → Rises i ls → AreBelow (i + n) ls → Pass p i ls
+    → filter p (both_from n i) ≡ ls
+kept zero i p [] rises low pass = refl
+kept zero i p (l ∷ ls) rises low pass =
     let from : i ≤ l.sig = rises.0 in
     let below : l.sig < i + 0 = low.0 in
     absurd (omega arith)
-kept (suc n) i p [] rises low told =
-    no_sign p i (both_from n (i + 1)) (told (lit i true) (omega arith)) (told (lit i false) (omega arith))
-    ∙ kept n (i + 1) p [] tt tt (λ m from. told m (omega arith))
-kept (suc n) i p (l ∷ ls) rises low told = elim (eqb_tells i l.sig) [
-  | inl same ↦ (
-      let from : Rises (i + 1) ls = rw same.1 rises.1 in
-      let sign : (v : Bool) → p (lit i v) ≡ beq v l.plain = λ v. here v same.1 in
-      one_sign p i l.plain (both_from n (i + 1)) (sign true ∙ beq_plain l.plain) (sign false ∙ beq_other l.plain)
-      ∙ ap (λ (rest : List Literal). lit i l.plain ∷ rest) (kept n (i + 1) p ls from (next ls low.1)
-      (λ m above. told m (omega arith) ∙ rw (other_signal m l (λ e. omega (arith, e, above, same.1))) refl))
-      ∙ ap (λ (s : ℕ). lit s l.plain ∷ ls) same.1)
-  | inr other ↦ (
+kept (suc n) i p [] rises low pass = none_kept p i [] (both_from n (i + 1)) pass tt
+    (kept n (i + 1) p [] tt tt (λ m above. pass m (omega arith)))
+kept (suc n) i p (l ∷ ls) rises low pass = elim (eqb_tells i l.sig) [
+  | inl same ↦ first_kept p i l ls (both_from n (i + 1)) pass same.1 rises.1 (kept n (i + 1) p ls
+      (rw same.1 rises.1) (one_less n i ls low.1) (behind_first p i l ls pass same.1))
+  | inr other ↦
       let first : i ≤ l.sig = rises.0 in
       let later : Rises (i + 1) (l ∷ ls) = (omega (arith, other.1), rises.1) in
-      let none : (v : Bool) → p (lit i v) ≡ false =
-      λ v. told (lit i v) (omega arith) ∙ absent (lit i v) (i + 1) (l ∷ ls) (omega arith) later in
-      no_sign p i (both_from n (i + 1)) (none true) (none false)
-      ∙ kept n (i + 1) p (l ∷ ls) later (next (l ∷ ls) low) (λ m above. told m (omega arith)))
+      none_kept p i (l ∷ ls) (both_from n (i + 1)) pass later (kept n (i + 1) p (l ∷ ls) later
+      (one_less n i (l ∷ ls) low) (λ m above. pass m (omega arith)))
 ]
-  where
-    next : (ms : List Literal) → AreBelow (i + suc n) ms → AreBelow (i + 1 + n) ms
-    next [] below = tt
-    next (m ∷ ms) below = (omega (arith, below.0), next ms below.1)
-
-    here : (v : Bool) → i ≡ l.sig → p (lit i v) ≡ beq v l.plain
-    here v same = told (lit i v) (omega arith)
-        ∙ rw (
-          ap (λ (s : ℕ). same_literal (lit s v) l) same ∙ its_sign l v,
-          absent (lit i v) (i + 1) ls (omega arith)
-              (rw same rises.1),
-        ) (or_none (beq v l.plain))
-
-    beq_plain : (v : Bool) → beq true v ≡ v
-    beq_plain true = refl
-    beq_plain false = refl
-
-    beq_other : (v : Bool) → beq false v ≡ not v
-    beq_other true = refl
-    beq_other false = refl
 
 pub in_order : (ls : List Literal) → IsRising ls → AreBelow code_width ls → in_literal_order ls ≡ ls
 unfolding in_literal_order

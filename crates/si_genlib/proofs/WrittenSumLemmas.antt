@@ -13,6 +13,7 @@ use Rattle.si_base.specs.declared.ids.Literal.{Literal}
 use Rattle.si_base.specs.declared.graph.Signal.{Signal}
 use Rattle.si_base.specs.Faults.{first_after, first_in}
 use Rattle.si_base.specs.Graph.{name_of}
+use Rattle.si_base.specs.Limits.{code_width}
 use Rattle.si_base.specs.Netlist.{Sum}
 use Rattle.si_base.specs.NetlistText.{literal_word, cube_words, more_cubes, sum_words}
 use Rattle.si_base.specs.Words.{is_signal_name, is_name_byte, is_letter}
@@ -34,7 +35,7 @@ names_in signals = map (λ (x : Signal). x.name) signals
 pub record AreNames (names : List (List ℕ)) : Type 0 where
   pub good : All (λ w. IsTrue (is_signal_name w)) names
   pub distinct : AllPairs (λ x y. x ≢ y) names
-  pub few : length names ≤ 128
+  pub few : length names ≤ code_width
 
 name_bytes : (name : List ℕ) → is_signal_name name ≡ true → list_all is_name_byte name ≡ true
 name_bytes [] is = refl
@@ -207,11 +208,11 @@ module _ (signals : List Signal) (are : AreNames (names_in signals)) where
   cube_good (l ∷ ls) fits = rw (not_one (codes "1") l (map word ls) refl fits.there.0)
       (literals_good [] (l ∷ ls) (All-nil IsThere) fits.there fits.rising)
 
-  small : (ls : List Literal) → AreThere ls → AreBelow 128 ls
+  small : (ls : List Literal) → AreThere ls → AreBelow code_width ls
   small [] there = tt
   small (l ∷ ls) there =
       let below : l.sig < length names = there.0 in
-      let few : length names ≤ 128 = are.few in
+      let few : length names ≤ code_width = are.few in
       (omega arith, small ls there.1)
 
   pub cube_spelled : (cube : List Literal) → CubeFits cube → cube_of names (cube_words signals cube) ≡ cube
