@@ -2,7 +2,9 @@
 #![tactic(auto)]
 
 mod cell;
+pub mod cell_laws;
 mod decimal;
+mod demand;
 mod expression;
 mod fault;
 mod gate;
@@ -13,5 +15,6 @@ pub mod reader;
 mod source;
 mod statements;
 mod symbol;
+mod table;
 pub mod write;
 pub mod written_laws;
