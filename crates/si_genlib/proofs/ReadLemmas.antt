@@ -21,12 +21,12 @@ use Rattle.si_genlib.specs.Gate.{no_pins, Pins, with_pin, with_token, ends_expre
 use Rattle.si_genlib.specs.Tables.{tables, slot, variable}
 
 -- ---- names among pins
-stands_push : (names : List (List ℕ)) (n m : List ℕ) → stands_in (names ++ n ∷ []) m ≡ (stands_in names m || bytes_eq m n)
+pub stands_push : (names : List (List ℕ)) (n m : List ℕ) → stands_in (names ++ n ∷ []) m ≡ (stands_in names m || bytes_eq m n)
 stands_push [] n m = elim (cases_Bool (bytes_eq m n)) [ inl h ↦ rw h refl | inr h ↦ rw h refl ]
 stands_push (x ∷ names) n m =
     elim (cases_Bool (bytes_eq m x)) [ inl h ↦ rw h refl | inr h ↦ rw h (stands_push names n m) ]
 
-first_there : (p : List ℕ → Bool) (xs ys : List (List ℕ)) → list_any p xs ≡ true
+pub first_there : (p : List ℕ → Bool) (xs ys : List (List ℕ)) → list_any p xs ≡ true
     → (prefix_len (λ x. not (p x)) (xs ++ ys) ≡ prefix_len (λ x. not (p x)) xs)
     × (prefix_len (λ x. not (p x)) xs < length xs)
 first_there p [] ys there = absurd (true≢false (sym there))
@@ -77,7 +77,7 @@ apart_too a b apart = elim (cases_Bool (bytes_eq b a)) [
   | inr fine ↦ fine
 ]
 
-same_bytes : (a : List ℕ) → bytes_eq a a ≡ true
+pub same_bytes : (a : List ℕ) → bytes_eq a a ≡ true
 same_bytes a = (bytes_eq-Decides a a).1 refl
 
 added : (out : List ℕ) (pins : Pins) (name : List ℕ) → IsLawful out pins
@@ -168,35 +168,35 @@ abbrev is_end : {X : Type 0} → Symbol X → Bool
 is_end End = true
 is_end _ = false
 
-end_of : (c1 c2 c3 c4 c5 c6 c7 : Bool) → (c7 ≡ true → c1 ≡ false) → (c7 ≡ true → c2 ≡ false) → (c7 ≡ true → c3 ≡ false)
+end_of : (X : Type 0) (c1 c2 c3 c4 c5 c6 c7 : Bool) → (c7 ≡ true → c1 ≡ false) → (c7 ≡ true → c2 ≡ false) → (c7 ≡ true → c3 ≡ false)
     → (c7 ≡ true → c4 ≡ false) → (c7 ≡ true → c5 ≡ false) → (c7 ≡ true → c6 ≡ false)
-    → is_end {X = ℕ} (if c1 then Complement else if c2 then Prime else if c3 then Times
+    → is_end {X = X} (if c1 then Complement else if c2 then Prime else if c3 then Times
     else if c4 then Plus else if c5 then Open else if c6 then Close else if c7 then End else Other) ≡ c7
-end_of true c2 c3 c4 c5 c6 true a b c d e f = absurd (true≢false (a refl))
-end_of true c2 c3 c4 c5 c6 false a b c d e f = refl
-end_of false true c3 c4 c5 c6 true a b c d e f = absurd (true≢false (b refl))
-end_of false true c3 c4 c5 c6 false a b c d e f = refl
-end_of false false true c4 c5 c6 true a b c d e f = absurd (true≢false (c refl))
-end_of false false true c4 c5 c6 false a b c d e f = refl
-end_of false false false true c5 c6 true a b c d e f = absurd (true≢false (d refl))
-end_of false false false true c5 c6 false a b c d e f = refl
-end_of false false false false true c6 true a b c d e f = absurd (true≢false (e refl))
-end_of false false false false true c6 false a b c d e f = refl
-end_of false false false false false true true a b c d e f = absurd (true≢false (f refl))
-end_of false false false false false true false a b c d e f = refl
-end_of false false false false false false true a b c d e f = refl
-end_of false false false false false false false a b c d e f = refl
+end_of X true c2 c3 c4 c5 c6 true a b c d e f = absurd (true≢false (a refl))
+end_of X true c2 c3 c4 c5 c6 false a b c d e f = refl
+end_of X false true c3 c4 c5 c6 true a b c d e f = absurd (true≢false (b refl))
+end_of X false true c3 c4 c5 c6 false a b c d e f = refl
+end_of X false false true c4 c5 c6 true a b c d e f = absurd (true≢false (c refl))
+end_of X false false true c4 c5 c6 false a b c d e f = refl
+end_of X false false false true c5 c6 true a b c d e f = absurd (true≢false (d refl))
+end_of X false false false true c5 c6 false a b c d e f = refl
+end_of X false false false false true c6 true a b c d e f = absurd (true≢false (e refl))
+end_of X false false false false true c6 false a b c d e f = refl
+end_of X false false false false false true true a b c d e f = absurd (true≢false (f refl))
+end_of X false false false false false true false a b c d e f = refl
+end_of X false false false false false false true a b c d e f = refl
+end_of X false false false false false false false a b c d e f = refl
 
-mark_end : (bytes : List ℕ) → is_end {X = ℕ} (mark bytes) ≡ ends_expression bytes
-mark_end [] = refl
-mark_end (b ∷ c ∷ bs) = refl
-mark_end (b ∷ []) =
-    end_of (b == 33) (b == 39) (b == 42) (b == 43) (b == 40) (b == 41) (b == 59)
+mark_end : (X : Type 0) (bytes : List ℕ) → is_end {X = X} (mark bytes) ≡ ends_expression bytes
+mark_end X [] = refl
+mark_end X (b ∷ c ∷ bs) = refl
+mark_end X (b ∷ []) =
+    end_of X (b == 33) (b == 39) (b == 42) (b == 43) (b == 40) (b == 41) (b == 59)
     (λ e. ap (λ (n : ℕ). n == 33) (eqb-true b 59 e)) (λ e. ap (λ (n : ℕ). n == 39) (eqb-true b 59 e))
     (λ e. ap (λ (n : ℕ). n == 42) (eqb-true b 59 e)) (λ e. ap (λ (n : ℕ). n == 43) (eqb-true b 59 e))
     (λ e. ap (λ (n : ℕ). n == 40) (eqb-true b 59 e)) (λ e. ap (λ (n : ℕ). n == 41) (eqb-true b 59 e))
 
-name_not_end : (bytes : List ℕ) → is_name bytes ≡ true → ends_expression bytes ≡ false
+pub name_not_end : (bytes : List ℕ) → is_name bytes ≡ true → ends_expression bytes ≡ false
 name_not_end [] name = refl
 name_not_end (b ∷ c ∷ bs) name = refl
 name_not_end (b ∷ []) name = elim (cases_Bool (b == 59)) [
@@ -204,10 +204,10 @@ name_not_end (b ∷ []) name = elim (cases_Bool (b == 59)) [
   | inr other ↦ other
 ]
 
-symbol_end : (o : Operations ℕ) (bytes : List ℕ) → is_end (symbol o bytes) ≡ ends_expression bytes
-symbol_end o bytes = elim (cases_Bool (is_name bytes)) [
+symbol_end : {X : Type 0} (o : Operations X) (bytes : List ℕ) → is_end (symbol o bytes) ≡ ends_expression bytes
+symbol_end {X} o bytes = elim (cases_Bool (is_name bytes)) [
   | inl name ↦ rw name (sym (name_not_end bytes name))
-  | inr mark ↦ rw mark (mark_end bytes)
+  | inr mark ↦ rw mark (mark_end X bytes)
 ]
 
 -- what a step leads to
@@ -238,7 +238,7 @@ closed_goes x [] = refl
 closed_goes x (operators.Complement ∷ ops) = refl
 closed_goes x (operators.Paren terms factors ∷ ops) = refl
 
-ended_stays : (x : ℕ) (ops : List (Operator ℕ)) → goes (ended x ops) ≡ false
+ended_stays : {X : Type 0} (x : X) (ops : List (Operator X)) → goes (ended x ops) ≡ false
 ended_stays x [] = refl
 ended_stays x (op ∷ ops) = refl
 
@@ -256,7 +256,7 @@ no_end o s (Some v) End other = absurd (true≢false other)
 no_end o s (Some v) Other other = refl
 
 -- `;` leads nowhere
-no_more : (o : Operations ℕ) (s : State ℕ) (m : Option ℕ) (x : Symbol ℕ) → is_end x ≡ true → goes (step_at o s m x) ≡ false
+no_more : {X : Type 0} (o : Operations X) (s : State X) (m : Option X) (x : Symbol X) → is_end x ≡ true → goes (step_at o s m x) ≡ false
 no_more o s None End end = refl
 no_more o s (Some v) End end = ended_stays (all_terms o s v) (still s.unfinished)
 no_more o s m (Leaf y) end = absurd (true≢false (sym end))
@@ -268,7 +268,7 @@ no_more o s m Plus end = absurd (true≢false (sym end))
 no_more o s m Close end = absurd (true≢false (sym end))
 no_more o s m Other end = absurd (true≢false (sym end))
 
-goes_not_end : (o : Operations ℕ) (s t : State ℕ) (bytes : List ℕ) → step o s (symbol o bytes) ≡ Goes t → ends_expression bytes ≡ false
+pub goes_not_end : {X : Type 0} (o : Operations X) (s t : State X) (bytes : List ℕ) → step o s (symbol o bytes) ≡ Goes t → ends_expression bytes ≡ false
 unfolding step
 goes_not_end o s t bytes on = elim (cases_Bool (ends_expression bytes)) [
   | inr fine ↦ fine

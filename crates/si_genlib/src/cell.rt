@@ -11,48 +11,16 @@ ghost use Rattle.si_genlib.specs.Held.{gate_now, Reads};
 ghost use Rattle.si_genlib.specs.Tables.{tabled, table_value};
 
 use crate::fault::{ReadFault, Stop};
+use crate::demand::sum_of;
 use crate::gate::Gate;
+use crate::table::falls;
 use si_base::fault::TextKind;
 use si_base::ids::NoMemory;
 use si_base::text::Name;
 use si_cell::cell::Cell;
 use si_cell::limits::MAX_CELLS;
-use si_cube::sum::Sum;
 use si_words::words::is_name_byte;
 use std::alloc::Global;
-
-/// The value of a table at the code of so many pins and the own output.
-fn value(count: u32, table: u32, code: u32) -> bool
-    requires few { count ≤ max_pins }
-    requires fits { code < 2 ^ (count + 1) }
-    ensures { result ≡ table_value count table code }
-{
-    let size = 1 << count;
-    table >> (code % size + 16 * (code / size)) & 1 == 1
-}
-
-/// Whether the value at these pins is 1 where the own output is 0, and 0 where it is 1.
-fn falls_at(count: u32, table: u32, pins: u32) -> bool
-    requires few { count ≤ max_pins }
-    requires fits { pins < 2 ^ count }
-    ensures { result ≡ spec.falls_at count (table_value count table) pins }
-{
-    value(count, table, pins) && !value(count, table, pins + (1 << count))
-}
-
-/// Whether it is so for some values of the pins.
-fn falls(count: u32, table: u32) -> bool
-    requires { count ≤ max_pins }
-    ensures { result ≡ spec.falls count (table_value count table) }
-{
-    let size = 1 << count;
-    for pins in 0..size {
-        if falls_at(count, table, pins) {
-            return true;
-        }
-    }
-    false
-}
 
 fn is_letter(b: u8) -> bool
     ensures { result ≡ words.is_letter b }
@@ -113,15 +81,6 @@ fn fresh(cells: &[Cell], first: Vec<u8>) -> Result<Vec<u8>, NoMemory>
         name.push(b'_')?;
     }
     Ok(name)
-}
-
-/// The sum that is chosen for the codes at which the table has the value 1.
-fn sum_of(alloc: Global, bits: u32, count: u32, table: u32) -> Result<Sum, NoMemory>
-    requires few { count ≤ max_pins }
-    requires width { bits ≤ count + 1 }
-    ensures { IfOk result (λ sum. sum ≡ spec.sum_of bits (table_value count table)) }
-{
-    Err(NoMemory)
 }
 
 fn pin_name(k: u32) -> &'static [u8]

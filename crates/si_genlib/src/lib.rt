@@ -2,7 +2,9 @@
 #![tactic(auto)]
 
 mod cell;
+pub mod cell_laws;
 mod decimal;
+mod demand;
 mod expression;
 mod fault;
 mod gate;
@@ -13,3 +15,4 @@ pub mod reader;
 mod source;
 mod statements;
 mod symbol;
+mod table;
