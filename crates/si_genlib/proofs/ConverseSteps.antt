@@ -1,5 +1,5 @@
 -- Each step keeps what a state tells of the tokens that led to it.
-use Rattle.std.proofs.Common.{◌≡◌, ℕ, suc, ◌+◌, ◌<◌, ◌≤◌, max, ◌==◌, if◌then◌else◌, Bool, true, false, List, [], ◌∷◌, ◌++◌, length, nat_le, codes, Option, Some, None, IsTrue, refl, sym, ap, ◌∙◌, arith, inl, inr, subst, ◌⊎◌, append_assoc, append-nil, leb-false, eqb-true}
+use Rattle.std.proofs.Common.{◌≡◌, ℕ, suc, ◌<◌, ◌≤◌, ◌==◌, if◌then◌else◌, Bool, true, false, List, [], ◌∷◌, ◌++◌, length, nat_le, codes, Option, Some, None, IsTrue, refl, sym, ap, ◌∙◌, arith, inl, inr, subst, ◌⊎◌, append_assoc, append-nil, leb-false, eqb-true}
 use Rattle.std.proofs.lemmas.Bool.{cases_Bool}
 use Rattle.si_base.specs.declared.fault.TextKind.{TextKind}
 use Rattle.si_base.specs.declared.fault.TextKind.TheVariants.{BadExpression, TooDeep}
@@ -7,14 +7,15 @@ use Rattle.si_genlib.specs.declared.symbol.Symbol.{Symbol}
 use Rattle.si_genlib.specs.declared.symbol.Symbol.TheVariants as symbols
 use Rattle.si_genlib.specs.declared.symbol.Operator.{Operator}
 use Rattle.si_genlib.specs.declared.symbol.Operator.TheVariants as operators
-use Rattle.si_genlib.specs.Expression.{Tree, Not, And, Or, trees, State, Outcome, Goes, Ends, Stops, start, after, complemented, still, term, all_terms, next_factor, next_term, opened, due, closed, ended, behind, step_at, step, leaf, mark, symbol, is_name}
-use Rattle.si_genlib.specs.Grammar.{Syntax, Word, InParens, Primed, Plus, strength, IsExpression, written, tree_of, height, IsBeginning, BeginsWith}
+use Rattle.si_genlib.specs.Expression.{Tree, Not, trees, State, Outcome, Goes, Ends, Stops, start, complemented, still, term, all_terms, next_factor, opened, due, closed, ended, behind, step_at, step, leaf, mark, symbol, is_name}
+use Rattle.si_genlib.specs.Grammar.{Syntax, Word, InParens, Primed, written, IsBeginning}
 use Rattle.si_genlib.proofs.GrammarLemmas.{steps, led_on}
-use Rattle.si_genlib.proofs.Converse.{Reads, SpellsTerms, SpellsFactors, IfAny, Stands, EndsIn, Before, Outside, parted, rejoined, EndsFactor, factor_ends, EndsTerm, term_ends, EndsTerms, terms_end, cut_short, moved, in_parens, parens_read, weaker, completed, due_begins}
+use Rattle.si_genlib.proofs.Converse.{Reads, Stands, Before, Outside, parted, rejoined, EndsFactor, factor_ends, EndsTerm, term_ends, EndsTerms, terms_end, moved, in_parens, parens_read, weaker, completed, due_begins}
 
 -- ---- what a state tells of the tokens that led to it
 
-pub record IsDue (limit : ℕ) (ops : List (Operator Tree)) (terms factors : Option Tree) (tokens : List (List ℕ)) : Type 0 where
+pub record IsDue (limit : ℕ) (ops : List (Operator Tree)) (terms factors : Option Tree)
+    (tokens : List (List ℕ)) : Type 0 where
   pub before : Before limit ops terms factors tokens
   pub few : length ops ≤ 64
 
@@ -116,7 +117,8 @@ module _ (limit : ℕ) (enough : 64 ≤ limit) (tokens : List (List ℕ)) (token
   opens : (old : State Tree) (ops : List (Operator Tree)) (terms factors : Option Tree)
       → Before limit ops terms factors (tokens ++ token ∷ []) → length ops ≡ suc (length old.unfinished)
       → length old.unfinished ≤ 64
-      → StepMeans limit tokens token (opened old (record { operand = None; unfinished = ops; terms = terms; factors = factors }))
+      → StepMeans limit tokens token
+      (opened old (record { operand = None; unfinished = ops; terms = terms; factors = factors }))
   opens old ops terms factors before one_more few = elim (cases_Bool (nat_le 64 (length old.unfinished))) [
     | inl full ↦ rw full (λ deeper. due_begins limit ops terms factors (tokens ++ token ∷ []) (omega arith) before)
     | inr room ↦ rw room (record { before = before; few = omega (arith, leb-false 64 (length old.unfinished) room) })
@@ -181,7 +183,7 @@ module _ (limit : ℕ) (enough : 64 ≤ limit) (tokens : List (List ℕ)) (token
     factor : EndsFactor limit s.unfinished s.terms s.factors x tokens
     factor =
         let f = factor_ends limit s.unfinished s.terms s.factors x b.front b.s
-            (weaker limit (length s.unfinished) x b.s b.reads) b.before in
+        (weaker limit (length s.unfinished) x b.s b.reads) b.before in
         record { s = f.s; reads = f.reads; front = f.front; before = f.before; same = b.same ∙ f.same }
 
     stands : Stands limit (Outside limit ops) (length ops) s.terms s.factors factor.front
@@ -190,7 +192,7 @@ module _ (limit : ℕ) (enough : 64 ≤ limit) (tokens : List (List ℕ)) (token
     term_read : EndsTerm limit (Outside limit ops) (length ops) s.terms (term trees s x) tokens
     term_read =
         let t = term_ends limit (Outside limit ops) (length ops) s.terms s.factors (complemented trees x s.unfinished)
-            factor.front factor.s stands factor.reads in
+        factor.front factor.s stands factor.reads in
         record {
           s = t.s;
           reads = t.reads;
@@ -207,7 +209,8 @@ module _ (limit : ℕ) (enough : 64 ≤ limit) (tokens : List (List ℕ)) (token
     few_left : length ops ≤ 64
     few_left = omega (arith, still_short s.unfinished, b.few)
 
-    factor_due : (tail all : List (List ℕ)) → (tail ≡ written term_read.s) ⊎ (tail ≡ written term_read.s ++ codes "*" ∷ [])
+    factor_due : (tail all : List (List ℕ)) → (tail ≡ written term_read.s) ⊎
+        (tail ≡ written term_read.s ++ codes "*" ∷ [])
         → all ≡ term_read.front ++ (term_read.first ++ tail) → IsDue limit ops s.terms (Some (term trees s x)) all
     factor_due tail all joined same = record {
       before = rejoined limit s.unfinished s.terms (Some (term trees s x)) all (record {
@@ -236,7 +239,8 @@ module _ (limit : ℕ) (enough : 64 ≤ limit) (tokens : List (List ℕ)) (token
         terms_read = record { s = all_read.s; reads = all_read.reads; same = refl };
         factors_read = refl;
         same = spelled is ∙ longer tokens all_read.front (written all_read.s) (codes "+" ∷ []) all_read.same
-            ∙ ap (λ (more : List (List ℕ)). all_read.front ++ more) (sym (append-nil (written all_read.s ++ codes "+" ∷ [])));
+            ∙ ap (λ (more : List (List ℕ)). all_read.front ++ more)
+            (sym (append-nil (written all_read.s ++ codes "+" ∷ [])));
       });
       few = few_left;
     }
@@ -256,7 +260,8 @@ module _ (limit : ℕ) (enough : 64 ≤ limit) (tokens : List (List ℕ)) (token
       same = spelled is ∙ longer tokens b.front (written b.s) (codes "'" ∷ []) b.same;
     }
     behind_step symbols.Times is = factor_due (written term_read.s ++ codes "*" ∷ []) (tokens ++ token ∷ []) (inr refl)
-        (spelled is ∙ longest tokens term_read.front term_read.first (written term_read.s) (codes "*" ∷ []) term_read.same)
+        (spelled is ∙ longest tokens term_read.front term_read.first (written term_read.s)
+        (codes "*" ∷ []) term_read.same)
     behind_step symbols.Plus is = term_due is
     behind_step symbols.Close is = closes ops (all_terms trees s x) all_read few_left is
     behind_step symbols.End is = ends ops (all_terms trees s x) all_read is
@@ -270,7 +275,8 @@ module _ (limit : ℕ) (enough : 64 ≤ limit) (tokens : List (List ℕ)) (token
   at_step s None holds sym is = due_step s holds sym is
   at_step s (Some x) holds sym is = behind_step s x holds sym is
 
-  pub step_means : (s : State Tree) → Holds limit s tokens → StepMeans limit tokens token (step trees s (symbol trees token))
+  pub step_means : (s : State Tree) → Holds limit s tokens
+      → StepMeans limit tokens token (step trees s (symbol trees token))
   unfolding step
   step_means s holds = at_step s s.operand holds (symbol trees token) (symbol_is token)
 
@@ -296,7 +302,8 @@ module _ (limit : ℕ) (enough : 64 ≤ limit) where
           → ((u : State Tree) → Holds limit u (done ++ token ∷ []) → steps trees u tokens ≡ Goes t
           → Holds limit t ((done ++ token ∷ []) ++ tokens))
           → Holds limit t (done ++ token ∷ tokens)
-      by_outcome (Goes u) holds leads later = subst (Holds limit t) (append_assoc done (token ∷ []) tokens) (later u holds leads)
+      by_outcome (Goes u) holds leads later = subst (Holds limit t) (append_assoc done (token ∷ []) tokens)
+          (later u holds leads)
       by_outcome (Ends x) whole leads later = absurd (cc leads)
       by_outcome (Stops kind) means leads later = absurd (cc leads)
 
@@ -310,5 +317,6 @@ module _ (limit : ℕ) (enough : 64 ≤ limit) where
   begins (Some x) ops terms factors tokens b = moved limit tokens (b.front ++ written b.s) b.same
       (completed limit ops terms factors b.front x b.s (weaker limit (length ops) x b.s b.reads) b.before)
 
-  pub reached_begins : (tokens : List (List ℕ)) (s : State Tree) → steps trees start tokens ≡ Goes s → IsBeginning limit tokens
+  pub reached_begins : (tokens : List (List ℕ)) (s : State Tree) → steps trees start tokens ≡ Goes s
+      → IsBeginning limit tokens
   reached_begins tokens s leads = begins s.operand s.unfinished s.terms s.factors tokens (reached tokens s leads)
