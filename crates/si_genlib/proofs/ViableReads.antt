@@ -1,5 +1,5 @@
 -- What is read of the tokens of a text, in the words of the grammar.
-use Rattle.std.proofs.Common.{◌≡◌, ℕ, suc, zero, ◌+◌, ◌<◌, ◌≤◌, ◌⊎◌, ◌↔◌, Bool, true, false, List, [], ◌∷◌, ◌++◌, map, codes, Option, Some, None, Result, Ok, Err, refl, sym, ap, ◌∙◌, arith, inl, inr, ⊎_elim, subst, append_assoc, append-nil}
+use Rattle.std.proofs.Common.{◌≡◌, ℕ, suc, ◌<◌, List, [], ◌∷◌, ◌++◌, Result, Ok, Err, refl, sym, ap, ◌∙◌, arith, inl, inr, subst, append_assoc, append-nil}
 use Rattle.std.proofs.lemmas.Bool.{cases_lt}
 use Rattle.std.proofs.lemmas.List.{map-append}
 use Rattle.si_base.specs.declared.fault.TextKind.{TextKind}
@@ -9,10 +9,9 @@ use Rattle.si_genlib.specs.declared.fault.Stop.TheVariants.{Cut, Fault}
 use Rattle.si_genlib.specs.Limits.{max_unfinished}
 use Rattle.si_genlib.specs.Unread.{Unread, Piece}
 use Rattle.si_genlib.specs.Expression.{Tree, trees, State, Outcome, Goes, Ends, Stops, start, step, symbol, led, read}
-use Rattle.si_genlib.specs.Grammar.{Syntax, IsExpression, written, tree_of, height, IsBeginning, BeginsWith, IsDead, sentence, Split, bytes_of, ahead, through, IsSentence, CannotGoOn, GoesTooDeep}
-use Rattle.si_genlib.proofs.GrammarLemmas.{steps, led_on, steps-append, each_read, tree_read}
-use Rattle.si_genlib.proofs.Converse.{Reads}
-use Rattle.si_genlib.proofs.ConverseSteps.{IsWhole, StepMeans, StopMeans, step_means, reached, reached_begins}
+use Rattle.si_genlib.specs.Grammar.{Syntax, IsExpression, tree_of, height, IsBeginning, BeginsWith, IsDead, sentence, Split, bytes_of, IsSentence, CannotGoOn, GoesTooDeep}
+use Rattle.si_genlib.proofs.GrammarLemmas.{steps, led_on, steps-append, tree_read}
+use Rattle.si_genlib.proofs.ConverseSteps.{IsWhole, StepMeans, step_means, reached, reached_begins}
 use Rattle.si_genlib.proofs.Viable.{dead_behind}
 
 -- ---- what a token does behind tokens that reading comes to
@@ -53,8 +52,10 @@ verdict_of : (tokens : List (List ℕ)) (token : List ℕ) (s : State Tree) → 
 verdict_of tokens token s leads (Goes t) same low high = one_more tokens token s leads ∙ ap (led_on (λ u. Goes u)) same
 verdict_of tokens token s leads (Ends x) same low high = low
 verdict_of tokens token s leads (Stops BadExpression) same low high = dead_behind tokens token s leads same
-verdict_of tokens token s leads (Stops TooDeep) same low high = (high (omega arith),
-    deep_behind (tokens ++ token ∷ []) (one_more tokens token s leads ∙ ap (led_on (λ u. Goes u)) same))
+verdict_of tokens token s leads (Stops TooDeep) same low high = (
+  high (omega arith),
+  deep_behind (tokens ++ token ∷ []) (one_more tokens token s leads ∙ ap (led_on (λ u. Goes u)) same),
+)
 verdict_of tokens token s leads (Stops kind) same low high = absurd low
 
 pub verdict : (tokens : List (List ℕ)) (token : List ℕ) (s : State Tree) → steps trees start tokens ≡ Goes s
@@ -126,8 +127,10 @@ means_from before s leads [] = subst (λ (tokens : List Piece). IsBeginning max_
 means_from before s leads (token ∷ more) =
     token_means before token more s leads (step trees s (symbol trees token.bytes))
     (verdict (bytes_of before) token.bytes s leads)
-    (λ t leads_on. subst (λ (tokens : List Piece). Means tokens (read trees t more)) (append_assoc before (token ∷ []) more)
-    (means_from (before ++ token ∷ []) t (ap (steps trees start) (map-append (λ p. p.bytes) before (token ∷ [])) ∙ leads_on) more))
+    (λ t leads_on. subst (λ (tokens : List Piece). Means tokens (read trees t more))
+    (append_assoc before (token ∷ []) more)
+    (means_from (before ++ token ∷ []) t
+    (ap (steps trees start) (map-append (λ p. p.bytes) before (token ∷ [])) ∙ leads_on) more))
 
 -- whatever is read of tokens has a meaning in the grammar
 pub read_means : (tokens : List Piece) → Means tokens (read trees start tokens)
