@@ -8,7 +8,7 @@ use Rattle.si_genlib.specs.declared.symbol.Symbol.TheVariants as symbols
 use Rattle.si_genlib.specs.declared.symbol.Operator.{Operator}
 use Rattle.si_genlib.specs.declared.symbol.Operator.TheVariants as operators
 use Rattle.si_genlib.specs.Expression.{Tree, Not, trees, State, Outcome, Goes, Ends, Stops, start, complemented, still, term, all_terms, next_factor, opened, due, closed, ended, behind, step_at, step, leaf, mark, symbol, is_name}
-use Rattle.si_genlib.specs.Grammar.{Syntax, Word, InParens, Primed, written, IsBeginning}
+use Rattle.si_genlib.specs.Grammar.{Syntax, Word, InParens, Primed, written, IsBeginning, IsOpening}
 use Rattle.si_genlib.proofs.GrammarLemmas.{steps, led_on}
 use Rattle.si_genlib.proofs.Converse.{Reads, Stands, Before, Outside, parted, rejoined, EndsFactor, factor_ends, EndsTerm, term_ends, EndsTerms, terms_end, moved, in_parens, parens_read, weaker, completed, due_begins}
 
@@ -77,10 +77,10 @@ symbol_is bytes = elim (cases_Bool (is_name bytes)) [
 
 -- ---- a step
 
-abbrev pub StopMeans : ℕ → List (List ℕ) → TextKind → Type 0
-StopMeans limit tokens TooDeep = 64 < limit → IsBeginning limit tokens
-StopMeans limit tokens BadExpression = Unit {0}
-StopMeans limit tokens _ = ⊥
+abbrev pub StopMeans : ℕ → List (List ℕ) → List ℕ → TextKind → Type 0
+StopMeans limit tokens token TooDeep = IsOpening token × (64 < limit → IsBeginning limit (tokens ++ token ∷ []))
+StopMeans limit tokens token BadExpression = Unit {0}
+StopMeans limit tokens token _ = ⊥
 
 pub record IsWhole (limit : ℕ) (x : Tree) (tokens : List (List ℕ)) (token : List ℕ) : Type 0 where
   pub s : Syntax
@@ -92,7 +92,7 @@ pub record IsWhole (limit : ℕ) (x : Tree) (tokens : List (List ℕ)) (token : 
 abbrev pub StepMeans : ℕ → List (List ℕ) → List ℕ → Outcome Tree → Type 0
 StepMeans limit tokens token (Goes s) = Holds limit s (tokens ++ token ∷ [])
 StepMeans limit tokens token (Ends x) = IsWhole limit x tokens token
-StepMeans limit tokens token (Stops kind) = StopMeans limit (tokens ++ token ∷ []) kind
+StepMeans limit tokens token (Stops kind) = StopMeans limit tokens token kind
 
 still_short : (ops : List (Operator Tree)) → length (still ops) ≤ length ops
 still_short [] = omega arith
@@ -116,11 +116,15 @@ module _ (limit : ℕ) (enough : 64 ≤ limit) (tokens : List (List ℕ)) (token
 
   opens : (old : State Tree) (ops : List (Operator Tree)) (terms factors : Option Tree)
       → Before limit ops terms factors (tokens ++ token ∷ []) → length ops ≡ suc (length old.unfinished)
-      → length old.unfinished ≤ 64
+      → length old.unfinished ≤ 64 → IsOpening token
       → StepMeans limit tokens token
       (opened old (record { operand = None; unfinished = ops; terms = terms; factors = factors }))
-  opens old ops terms factors before one_more few = elim (cases_Bool (nat_le 64 (length old.unfinished))) [
-    | inl full ↦ rw full (λ deeper. due_begins limit ops terms factors (tokens ++ token ∷ []) (omega arith) before)
+  opens old ops terms factors before one_more few opening = elim (cases_Bool (nat_le 64 (length old.unfinished))) [
+    | inl full ↦ rw full (
+      opening,
+      λ deeper.
+          due_begins limit ops terms factors (tokens ++ token ∷ []) (omega arith) before,
+    )
     | inr room ↦ rw room (record { before = before; few = omega (arith, leb-false 64 (length old.unfinished) room) })
   ]
 
@@ -135,7 +139,7 @@ module _ (limit : ℕ) (enough : 64 ≤ limit) (tokens : List (List ℕ)) (token
     same = refl;
   }
   due_step s held symbols.Complement is = opens s (operators.Complement ∷ s.unfinished) s.terms s.factors
-      (record { front = tokens; before = held.before; same = spelled is }) refl held.few
+      (record { front = tokens; before = held.before; same = spelled is }) refl held.few (inr is)
   due_step s held symbols.Open is = opens s (operators.Paren s.terms s.factors ∷ s.unfinished) None None (record {
     front = tokens ++ token ∷ [];
     outer = record { front = tokens; before = held.before; same = spelled is };
@@ -144,7 +148,7 @@ module _ (limit : ℕ) (enough : 64 ≤ limit) (tokens : List (List ℕ)) (token
     terms_read = refl;
     factors_read = refl;
     same = sym (append-nil (tokens ++ token ∷ []));
-  }) refl held.few
+  }) refl held.few (inl is)
   due_step s held symbols.Prime is = tt
   due_step s held symbols.Times is = tt
   due_step s held symbols.Plus is = tt

@@ -8,7 +8,7 @@ use Rattle.si_genlib.specs.declared.symbol.Symbol.TheVariants as symbols
 use Rattle.si_genlib.specs.declared.symbol.Operator.{Operator}
 use Rattle.si_genlib.specs.declared.symbol.Operator.TheVariants as operators
 use Rattle.si_genlib.specs.Expression.{Tree, trees, State, Outcome, Goes, Ends, Stops, start, still, next_factor, opened, due, closed, ended, all_terms, behind, step_at, step, symbol}
-use Rattle.si_genlib.specs.Grammar.{Syntax, Word, InParens, Primed, Complemented, Beside, Times, Plus, IsExpression, written, IsDead, sentence}
+use Rattle.si_genlib.specs.Grammar.{Syntax, Word, InParens, Primed, Complemented, Beside, Times, Plus, IsExpression, written, NoneBegins, sentence}
 use Rattle.si_genlib.proofs.GrammarLemmas.{steps, led_on}
 
 -- ---- the outline of a state: whether an operand is due, and how many parentheses are open
@@ -208,7 +208,7 @@ next_none tokens more token p leads stops = run-append (tokens ++ token ∷ []) 
     ∙ ap (onward (run more)) (two_runs tokens (token ∷ []) true 0 p leads ∙ ap (onward (run [])) stops)
 
 pub dead_behind : (tokens : List (List ℕ)) (token : List ℕ) (s : State Tree) → steps trees start tokens ≡ Goes s
-    → step trees s (symbol trees token) ≡ Stops BadExpression → IsDead (tokens ++ token ∷ [])
+    → step trees s (symbol trees token) ≡ Stops BadExpression → NoneBegins (tokens ++ token ∷ [])
 dead_behind tokens token s leads stops e is begins =
     apart (sym (sentence_run e is) ∙ ap (λ (all : List (List ℕ)). run all true 0) begins.1
     ∙ next_none tokens begins.0 token (is_due s.operand, parens s.unfinished) (steps_run tokens start s leads)

@@ -6,10 +6,10 @@ use Rattle.si_genlib.specs.declared.fault.Stop.TheVariants.{Cut, Fault}
 use Rattle.si_genlib.specs.Limits.{max_unfinished}
 use Rattle.si_genlib.specs.Unread.{Unread, Piece}
 use Rattle.si_genlib.specs.Expression.{Tree, trees, State, Outcome, Goes, Ends, Stops, start, step, symbol, led, read}
-use Rattle.si_genlib.specs.Grammar.{Syntax, IsExpression, written, tree_of, height, IsBeginning, BeginsWith, IsDead, sentence, Split, bytes_of, ahead, IsSentence, CannotGoOn, GoesTooDeep}
+use Rattle.si_genlib.specs.Grammar.{Syntax, IsExpression, written, tree_of, height, IsBeginning, BeginsWith, NoneBegins, OnlyDeeperBegin, sentence, Split, bytes_of, ahead, IsSentence, CannotGoOn, GoesTooDeep}
 use Rattle.si_genlib.proofs.GrammarLemmas.{steps, led_on, steps-append, each_read, tree_read}
 use Rattle.si_genlib.proofs.ConverseSteps.{IsWhole, same_state, reached_begins}
-use Rattle.si_genlib.proofs.ViableReads.{IsDeep, StopVerdict, Verdict, verdict, one_more, Means, FaultMeans, read_means}
+use Rattle.si_genlib.proofs.ViableReads.{StopVerdict, Verdict, verdict, one_more, Means, FaultMeans, read_means}
 
 -- ---- reading comes to the end of each beginning
 
@@ -92,34 +92,35 @@ whole_begins limit x tokens token w = (
 )
 
 -- a beginning isn't dead
-live : (limit : ℕ) (tokens : List (List ℕ)) → IsBeginning limit tokens → IsDead tokens → ⊥
+live : (limit : ℕ) (tokens : List (List ℕ)) → IsBeginning limit tokens → NoneBegins tokens → ⊥
 live limit tokens b dead = dead b.whole b.is (sentence_begins b.whole tokens b.begins)
 
 -- nor deep, within the limit
-shallow : (tokens : List (List ℕ)) → IsBeginning max_unfinished tokens → IsDeep tokens → ⊥
+shallow : (tokens : List (List ℕ)) → IsBeginning max_unfinished tokens → OnlyDeeperBegin tokens → ⊥
 shallow tokens b deep = omega (arith, b.within, deep b.whole b.is (sentence_begins b.whole tokens b.begins))
 
 module _ (tokens : List (List ℕ)) (token : List ℕ) where
-  bad_stop : (kind : TextKind) → StopVerdict (tokens ++ token ∷ []) kind
-      → IsDead (tokens ++ token ∷ []) → kind ≡ BadExpression
+  bad_stop : (kind : TextKind) → StopVerdict tokens token kind
+      → NoneBegins (tokens ++ token ∷ []) → kind ≡ BadExpression
   bad_stop BadExpression stops dead = refl
-  bad_stop TooDeep stops dead = absurd (live 65 (tokens ++ token ∷ []) stops.0 dead)
+  bad_stop TooDeep stops dead = absurd (live 65 (tokens ++ token ∷ []) stops.1 dead)
   bad_stop kind stops dead = absurd stops
 
-  deep_stop : (kind : TextKind) → StopVerdict (tokens ++ token ∷ []) kind → IsBeginning 65 (tokens ++ token ∷ [])
+  deep_stop : (kind : TextKind) → StopVerdict tokens token kind → IsBeginning 65 (tokens ++ token ∷ [])
       → kind ≡ TooDeep
   deep_stop BadExpression stops deeper = absurd (live 65 (tokens ++ token ∷ []) deeper stops)
   deep_stop TooDeep stops deeper = refl
   deep_stop kind stops deeper = absurd stops
 
-  bad_outcome : (c : Outcome Tree) → Verdict tokens token c → IsDead (tokens ++ token ∷ []) → c ≡ Stops BadExpression
+  bad_outcome : (c : Outcome Tree) → Verdict tokens token c → NoneBegins (tokens ++ token ∷ [])
+      → c ≡ Stops BadExpression
   bad_outcome (Goes s) leads dead = absurd (live 64 (tokens ++ token ∷ [])
       (reached_begins 64 (omega arith) (tokens ++ token ∷ []) s leads) dead)
   bad_outcome (Ends x) whole dead = absurd (dead whole.s whole.reads.is (whole_begins 64 x tokens token whole))
   bad_outcome (Stops kind) stops dead = ap (λ (k : TextKind). Stops k) (bad_stop kind stops dead)
 
   deep_outcome : (c : Outcome Tree) → Verdict tokens token c → IsBeginning 65 (tokens ++ token ∷ [])
-      → IsDeep (tokens ++ token ∷ []) → c ≡ Stops TooDeep
+      → OnlyDeeperBegin (tokens ++ token ∷ []) → c ≡ Stops TooDeep
   deep_outcome (Goes s) leads deeper deep = absurd (shallow (tokens ++ token ∷ [])
       (reached_begins 64 (omega arith) (tokens ++ token ∷ []) s leads) deep)
   deep_outcome (Ends x) whole deeper deep = absurd (omega (
@@ -143,13 +144,13 @@ module _ (tokens : List Piece) (split : Split tokens) (begun : IsBeginning max_u
 bad_read : (tokens : List Piece) (line : ℕ) → CannotGoOn tokens line
     → read trees start tokens ≡ Err (Fault line BadExpression)
 bad_read tokens line found = fault_read tokens found.split found.begun BadExpression
-    (λ c means. bad_outcome (ahead found.split) found.split.token.bytes c means found.dead)
+    (λ c means. bad_outcome (ahead found.split) found.split.token.bytes c means found.none)
     ∙ ap (λ (n : ℕ). Err (Fault n BadExpression)) found.here
 
 deep_read : (tokens : List Piece) (line : ℕ) → GoesTooDeep tokens line
     → read trees start tokens ≡ Err (Fault line TooDeep)
 deep_read tokens line found = fault_read tokens found.split found.begun TooDeep
-    (λ c means. deep_outcome (ahead found.split) found.split.token.bytes c means found.deeper found.deep)
+    (λ c means. deep_outcome (ahead found.split) found.split.token.bytes c means found.deeper found.only)
     ∙ ap (λ (n : ℕ). Err (Fault n TooDeep)) found.here
 
 cut_read : (tokens : List Piece) → IsBeginning max_unfinished (bytes_of tokens) → read trees start tokens ≡ Err Cut
