@@ -1,14 +1,14 @@
 -- The names of cells: they are signal names, and no two cells have the same.
-use Rattle.std.proofs.Common.{◌≡◌, ◌≢◌, ℕ, zero, suc, ◌+◌, ◌<◌, ◌≤◌, ◌&&◌, ◌||◌, Bool, true, false, if◌then◌else◌, List, [], ◌∷◌, ◌++◌, length, map, take, nat_le, bytes_eq, codes, All, AllPairs, IsTrue, refl, sym, ap, subst, ◌∙◌, inl, inr, arith, get_or, count_by}
-use Rattle.std.specs.List.{list_any, list_all}
-use Rattle.std.proofs.lemmas.Bool.{cases_Bool, true≢false, and_from, and_parts, le-leb, lt-leb, leb-true, leb-false}
+use Rattle.std.proofs.Common.{◌≡◌, ℕ, zero, suc, ◌+◌, ◌<◌, ◌≤◌, Bool, true, false, if◌then◌else◌, List, [], ◌∷◌, ◌++◌, length, map, nat_le, bytes_eq, refl, sym, ◌∙◌, inl, inr, arith}
+use Rattle.std.specs.List.{list_all}
+use Rattle.std.proofs.lemmas.Bool.{cases_Bool, true≢false, and_from, and_parts, le-leb, lt-leb, leb-true}
 use Rattle.std.proofs.lemmas.List.{length_push}
 use Rattle.std.proofs.lemmas.List.Folds.{list_all-append}
 use Rattle.si_base.specs.Bytes.{underscore}
 use Rattle.si_base.specs.Words.{is_letter, is_name_byte, is_signal_name}
 use Rattle.si_words.specs.Names.{stands_in}
 use Rattle.si_cell.proofs.CubeLemmas.{names_same}
-use Rattle.si_genlib.specs.Gate.{lawful_byte, front, lawful, fresh, cell_name}
+use Rattle.si_genlib.specs.Gate.{lawful_byte, lawful, fresh, cell_name}
 
 -- ---- signal names
 lawful_is_name_byte : (b : ℕ) → is_name_byte (lawful_byte b) ≡ true

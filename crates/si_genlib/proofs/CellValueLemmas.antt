@@ -1,11 +1,10 @@
 -- The sum of a kept gate's cell has the gate's value for all values of the pins and the own output.
-use Rattle.std.proofs.Common.{◌≡◌, ◌≢◌, ◌⊎◌, ℕ, zero, suc, ◌+◌, ◌-◌, ◌*◌, ◌<◌, ◌≤◌, ◌^◌, ◌==◌, ◌&&◌, ◌||◌, not, Bool, true, false, if◌then◌else◌, List, [], ◌∷◌, ◌++◌, length, bytes_eq, nat_le, nat_lt, position, unwrap_or, Some, None, Option, All, Result, Ok, Err, refl, sym, ap, subst, ◌∙◌, inl, inr, arith}
-use Rattle.std.specs.List.{list_any, list_all, prefix_len}
-use Rattle.std.proofs.lemmas.Bool.{cases_Bool, cases_lt, true≢false, ltb-true, lt-ltb}
+use Rattle.std.proofs.Common.{◌≡◌, ℕ, ◌+◌, ◌-◌, ◌*◌, ◌<◌, ◌^◌, ◌==◌, ◌&&◌, not, Bool, true, false, if◌then◌else◌, List, [], ◌∷◌, ◌++◌, length, bytes_eq, nat_le, nat_lt, All, Result, Ok, Err, refl, sym, ap, subst, ◌∙◌, inl, inr, arith}
+use Rattle.std.specs.List.{list_all, prefix_len}
+use Rattle.std.proofs.lemmas.Bool.{cases_Bool, cases_lt, true≢false, lt-ltb}
 use Rattle.std.proofs.lemmas.List.Elements.{All-head, All-tail}
 use Rattle.std.proofs.lemmas.Nat.{pow-add}
 use Rattle.std.proofs.lemmas.Nat.Bits.{bit_at_cat_low}
-use mathlib.Core.Bool.{beq}
 use Rattle.si_base.specs.declared.ids.Literal.{Literal}
 use Rattle.si_base.specs.Bits.{bit}
 use Rattle.si_base.specs.Netlist.{Sum, literal_value, sum_value}
@@ -15,14 +14,14 @@ use Rattle.si_words.specs.Names.{stands_in}
 use Rattle.si_genlib.specs.declared.fault.Stop.{Stop}
 use Rattle.si_genlib.specs.declared.symbol.Symbol.{Symbol}
 use Rattle.si_genlib.specs.Unread.{◌>>=◌, Unread, Piece, tokens}
-use Rattle.si_genlib.specs.Expression.{Tree, Operations, trees, truth, value_of, State, Outcome, Goes, Ends, Stops, start, symbol, leaf, is_name, is_constant, step, led, read}
+use Rattle.si_genlib.specs.Expression.{Tree, trees, truth, value_of, State, Outcome, Goes, Ends, Stops, start, symbol, is_name, is_constant, step, led, read}
 use Rattle.si_genlib.specs.Gate.{Gate, Pins, no_pins, with_pin, with_token, pins_from, ends_expression, pin_count, width, place, gate_value, demand, sum_of, cell_of}
 use Rattle.si_genlib.specs.Statements.{name_at, decimal_at, out_at, equals_at, body_at, gate_at}
 use Rattle.si_genlib.proofs.ReadLemmas.{stands_push, first_there, same_bytes, name_not_end, goes_not_end}
 use Rattle.si_genlib.proofs.MachineLemmas.{result_of, value_read}
 use Rattle.si_genlib.proofs.DemandLemmas.{prime_cover, sum_well_formed, same_value}
-use Rattle.si_genlib.proofs.GateCellLemmas.{Holds, IsReadGate}
-use Rattle.si_genlib.proofs.GateReadLemmas.{then_holds, anything, gate_is_read}
+use Rattle.si_genlib.proofs.GateCellLemmas.{Holds}
+use Rattle.si_genlib.proofs.GateReadLemmas.{then_holds, anything}
 
 -- ---- a name that stands among the pins stays there
 stands_more : (names : List (List ℕ)) (other name : List ℕ) → stands_in names name ≡ true
@@ -172,12 +171,15 @@ body_depends : (line : ℕ) (name out : List ℕ) (u : Unread) → Holds {A = Ga
 unfolding body_at gate_value
 body_depends line name out u = by_result (read trees start (tokens u)) refl
   where
-    by_result : (r : Result (Tree × Unread) Stop) → read trees start (tokens u) ≡ r → Holds {A = Gate × Unread} (λ x. DependsOnPins x.0) (r >>= λ x. Ok (record {
-      line = line;
-      name = name;
-      pins = pins_from out no_pins (tokens u);
-      tree = x.0;
-    }, x.1))
+    by_result : (r : Result (Tree × Unread) Stop) → read trees start (tokens u) ≡ r → Holds {A = Gate × Unread} (λ x. DependsOnPins x.0) (r >>= λ x. Ok (
+      record {
+        line = line;
+        name = name;
+        pins = pins_from out no_pins (tokens u);
+        tree = x.0;
+      },
+      x.1,
+    ))
     by_result (Err stop) is = tt
     by_result (Ok x) is = λ plain one other same.
         same_tree_value (λ n. bit one (place (pins_from out no_pins (tokens u)).names n))

@@ -1,6 +1,5 @@
 -- The codes at which a value is 1 and those at which it is 0, and the sum that is chosen for them.
-use Rattle.std.proofs.Common.{◌≡◌, ◌≢◌, ℕ, zero, suc, ◌+◌, ◌-◌, ◌*◌, ◌%◌, ◌<◌, ◌≤◌, ◌^◌, ◌==◌, ◌&&◌, not, Bool, true, false, if◌then◌else◌, List, [], ◌∷◌, ◌++◌, length, filter, get_or, All, Contains, IsTrue, refl, sym, ap, subst, ◌∙◌, inl, inr, arith}
-use Rattle.std.specs.List.{list_any, list_all}
+use Rattle.std.proofs.Common.{◌≡◌, ◌≢◌, ℕ, zero, suc, ◌+◌, ◌-◌, ◌*◌, ◌%◌, ◌<◌, ◌≤◌, ◌^◌, ◌==◌, not, Bool, true, false, List, [], ◌∷◌, ◌++◌, length, filter, get_or, All, Contains, refl, sym, ap, subst, ◌∙◌, inl, inr, arith}
 use Rattle.std.specs.List.Sorted.{IsNonDecreasing}
 use Rattle.std.proofs.lemmas.Bool.{cases_Bool, cases_lt, true≢false, not-true, eqb-true, eqb-false}
 use Rattle.std.proofs.lemmas.List.{append-nil, get_or_default}
@@ -15,7 +14,7 @@ use Rattle.si_base.specs.Bits.{bit}
 use Rattle.si_base.specs.Netlist.{Sum, literal_value, sum_value}
 use Rattle.si_base.specs.WellFormed.{IsCube, IsSum}
 use Rattle.si_base.proofs.Sorted.{In}
-use Rattle.si_cube.specs.Covers.{Demand, IsMeetable, IsPrimeCover, without}
+use Rattle.si_cube.specs.Covers.{IsMeetable, IsPrimeCover, without}
 use Rattle.si_cube.specs.Rule.{covers}
 use Rattle.si_cube.proofs.CubeFacts.{no_bit}
 use Rattle.si_cube.proofs.NeededLemmas.{in_left, in_right, in_from_Contains, Contains_from_in, all_in, all_from_in, any_from_in}
@@ -133,7 +132,7 @@ with_literal n cube l k is has others holds = all_from_in (literal_value k) cube
     elim (cases_Bool (m.sig == l.sig)) [
       | inl same ↦ (
           let one : l ≡ m = one_literal n cube l m is (Contains_from_in cube l has) (Contains_from_in cube m here)
-              (eqb-true m.sig l.sig same) in
+          (eqb-true m.sig l.sig same) in
           subst (λ (x : Literal). literal_value k x ≡ true) one holds)
       | inr apart ↦ all_in (literal_value k) (without l.sig cube) others m
           (in_filter (λ x. not (x.sig == l.sig)) cube m here (ap not apart))
@@ -202,7 +201,7 @@ plain_own n value rises cube l there has at = elim (cases_Bool l.plain) [
             let small : j < 2 ^ n = omega (arith, fits, twice) in
             let whole : k ≡ 1 * 2 ^ n + j = omega (arith, above) in
             let without_it : covers (without n cube) (1 * 2 ^ n + j) ≡ true = rw at at (subst (λ (x : ℕ).
-                covers (without l.sig cube) x ≡ true) whole others) in
+            covers (without l.sig cube) x ≡ true) whole others) in
             let below_it : covers (without l.sig cube) j ≡ true = rw at (either_last n j cube is without_it) in
             let low : bit j n ≡ false = no_bit j n n small (omega arith) in
             let holds : literal_value j l ≡ true = rw (at, low, complemented) refl in

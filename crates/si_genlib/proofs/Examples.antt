@@ -1,8 +1,8 @@
 -- A small genlib text, the library that it spells, and texts with faults.
-use Rattle.std.proofs.Common.{◌≡◌, ℕ, List, [], ◌∷◌, ◌++◌, true, false, Some, None, Ok, codes, refl, bytes_eq}
+use Rattle.std.proofs.Common.{◌≡◌, ℕ, List, true, false, Some, None, codes, refl}
 use Rattle.si_base.specs.declared.fault.TextKind.TheVariants as kinds
 use Rattle.si_genlib.specs.Decimal.{is_decimal}
-use Rattle.si_genlib.specs.GenlibText.{genlib_fault, library_of, all_cells}
+use Rattle.si_genlib.specs.GenlibText.{genlib_fault, all_cells}
 use Rattle.si_genlib.specs.Statements.{name_at, decimal_at, out_at, equals_at, body_at, gate_at, phase_at, pin_at, gate_statement_at, pin_statement_at, statement_at}
 use Rattle.si_genlib.specs.Unread.{word, word_at, tokens}
 use Rattle.si_genlib.specs.Expression.{step}

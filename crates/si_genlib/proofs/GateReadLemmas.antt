@@ -1,14 +1,13 @@
 -- Each gate that is read has a name, and few pins.
-use Rattle.std.proofs.Common.{◌≡◌, ℕ, zero, suc, ◌<◌, ◌≤◌, ◌==◌, ◌||◌, ◌&&◌, Bool, true, false, List, [], ◌∷◌, length, take, drop, bytes_eq, codes, nat_le, Result, Ok, Err, refl, inl, inr, arith}
+use Rattle.std.proofs.Common.{◌≡◌, ℕ, zero, suc, ◌<◌, ◌==◌, ◌||◌, false, List, [], ◌∷◌, length, drop, nat_le, Result, Ok, Err, refl, inl, inr, arith}
 use Rattle.std.proofs.lemmas.Bool.{cases_Bool, true≢false, or_parts, eqb-false, leb-false}
 use Rattle.std.proofs.lemmas.List.{length-take-le}
 use Rattle.si_base.specs.Lines.{begins}
 use Rattle.si_words.specs.Sums.{is_empty}
 use Rattle.si_genlib.specs.declared.fault.Stop.{Stop}
-use Rattle.si_genlib.specs.Unread.{◌>>=◌, Unread, Piece, to_next, word_here, if_there, tokens}
+use Rattle.si_genlib.specs.Unread.{◌>>=◌, Unread, Piece, to_next, word_here, tokens}
 use Rattle.si_genlib.specs.Expression.{Tree, trees, start, read}
-use Rattle.si_genlib.specs.Gate.{Gate, no_pins, pins_from}
-use Rattle.si_genlib.specs.Statements.{quoted_len, quoted, name_of_word, name_here, name_at, decimal_at, out_at, equals_at, body_at, gate_at}
+use Rattle.si_genlib.specs.Statements.{quoted_len, quoted, name_of_word, name_at, decimal_at, out_at, equals_at, body_at, gate_at}
 use Rattle.si_genlib.proofs.GateCellLemmas.{IsReadGate, Holds}
 use Rattle.si_genlib.proofs.ReadLemmas.{pins_few}
 
@@ -55,10 +54,10 @@ name_named : (u : Unread) → Holds IsNamed (name_at u)
 unfolding name_at
 name_named u = elim (cases_Bool (begins (λ b. b == 34) (to_next u).here)) [
   | inl quote ↦ rw quote (quoted_named (record {
-      number = (to_next u).number;
-      here = drop 1 (to_next u).here;
-      lines = (to_next u).lines;
-    }))
+    number = (to_next u).number;
+    here = drop 1 (to_next u).here;
+    lines = (to_next u).lines;
+  }))
   | inr plain ↦ rw plain (word_named (word_here (to_next u)))
 ]
 

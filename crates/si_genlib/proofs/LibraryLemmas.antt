@@ -1,11 +1,11 @@
 -- What a text without fault spells is a library.
-use Rattle.std.proofs.Common.{◌≡◌, ℕ, zero, suc, ◌&&◌, Bool, true, false, List, [], ◌∷◌, length, bytes_eq, codes, Result, Ok, Err, All, AllPairs, refl, sym, subst, inl, inr, arith}
+use Rattle.std.proofs.Common.{◌≡◌, ℕ, zero, suc, ◌&&◌, List, [], bytes_eq, codes, Result, Ok, Err, refl, inl, inr, arith}
 use Rattle.std.proofs.lemmas.Bool.{cases_Bool}
 use Rattle.std.proofs.lemmas.List.Elements.{All-nil}
 use Rattle.si_words.specs.Sums.{is_empty}
-use Rattle.si_cell.specs.Library.{Cell, IsCell, AreCells, Library, IsLibrary}
+use Rattle.si_cell.specs.Library.{Cell, IsCell, AreCells, IsLibrary}
 use Rattle.si_genlib.specs.declared.fault.Stop.{Stop}
-use Rattle.si_genlib.specs.Unread.{◌>>=◌, Unread, Piece, unread, size, word}
+use Rattle.si_genlib.specs.Unread.{Unread, Piece, unread, size, word}
 use Rattle.si_genlib.specs.Gate.{Gate, with_gate}
 use Rattle.si_genlib.specs.Statements.{gate_at, pin_at, Progress, nothing_yet, gate_statement_at, pin_statement_at, statement_at, cells_from}
 use Rattle.si_genlib.specs.GenlibText.{all_cells, cells_or_none, library_of}

@@ -1,14 +1,13 @@
 -- One token of an expression: its pins, and where it leads.
-use Rattle.std.proofs.Common.{◌≡◌, ◌⊎◌, ℕ, suc, ◌+◌, ◌<◌, ◌≤◌, ◌==◌, ◌&&◌, ◌||◌, not, Bool, true, false, if◌then◌else◌, List, [], ◌∷◌, ◌++◌, length, nat_le, nat_lt, bytes_eq, position, unwrap_or, Option, Some, None, Result, Ok, Err, refl, sym, ap, subst, ◌∙◌, arith, inl, inr}
+use Rattle.std.proofs.Common.{◌≡◌, ◌⊎◌, ℕ, ◌+◌, ◌<◌, ◌≤◌, ◌==◌, ◌&&◌, ◌||◌, not, Bool, true, false, if◌then◌else◌, List, [], ◌∷◌, ◌++◌, length, nat_le, nat_lt, bytes_eq, Option, Some, None, Result, Ok, Err, refl, sym, ap, subst, ◌∙◌, arith, inl, inr}
 use Rattle.std.specs.List.{prefix_len, list_any}
-use Rattle.std.proofs.lemmas.Bool.{cases_Bool, true≢false, eqb-true, leb-true, leb-false, lt-ltb, le-ltb, and_parts}
+use Rattle.std.proofs.lemmas.Bool.{cases_Bool, true≢false, eqb-true, leb-true, leb-false, lt-ltb, le-ltb}
 use Rattle.std.proofs.lemmas.List.{length_push, length-append}
 use Rattle.std.proofs.lemmas.Slice.Eq.{bytes_eq-Decides}
 use Rattle.si_base.specs.Words.{is_name_byte}
 use Rattle.si_words.specs.Names.{stands_in}
 use Rattle.si_cell.specs.Limits.{max_pins}
 use Rattle.si_base.specs.declared.fault.TextKind.{TextKind}
-use Rattle.si_base.specs.declared.fault.TextKind.TheVariants.{TooDeep}
 use Rattle.si_genlib.specs.declared.fault.Stop.{Stop}
 use Rattle.si_genlib.specs.declared.fault.Stop.TheVariants.{Fault}
 use Rattle.si_genlib.specs.declared.symbol.Symbol.{Symbol}
@@ -16,7 +15,7 @@ use Rattle.si_genlib.specs.declared.symbol.Symbol.TheVariants.{Leaf, Complement,
 use Rattle.si_genlib.specs.declared.symbol.Operator.{Operator}
 use Rattle.si_genlib.specs.declared.symbol.Operator.TheVariants as operators
 use Rattle.si_genlib.specs.Unread.{Unread, Piece}
-use Rattle.si_genlib.specs.Expression.{Operations, State, Outcome, Goes, Ends, Stops, is_name, is_constant, mark, symbol, opened, due, closed, ended, behind, still, all_terms, next_factor, step_at, step, led, read}
+use Rattle.si_genlib.specs.Expression.{Operations, State, Outcome, Goes, Ends, Stops, is_name, is_constant, mark, symbol, opened, due, closed, ended, still, all_terms, next_factor, step_at, step, led, read}
 use Rattle.si_genlib.specs.Gate.{no_pins, Pins, with_pin, with_token, ends_expression, pins_from}
 use Rattle.si_genlib.specs.Tables.{tables, slot, variable}
 
@@ -319,9 +318,11 @@ module _ (out : List ℕ) (pins new : Pins) (all rest : List Piece) (token : Pie
       let last : symbol (tables end.names) token.bytes ≡ x =
       subst (λ (p : Pins). symbol (tables p.names) token.bytes ≡ x) same final in
       let lead : read (tables end.names) s (token ∷ rest) ≡ read (tables end.names) t rest =
-      ap (led (λ u. read (tables end.names) u rest) token) (stepped end.names s (Goes t) last on) in
-      (same, sym lead ∙ subst (λ (ps : List Piece). read (tables end.names) s ps ≡ result) taken.first is,
-      subst (IsLawful out) (sym taken.pins_are) (token_lawful out pins token.bytes taken.lawful))
+      ap (led (λ u. read (tables end.names) u rest) token) (stepped end.names s (Goes t) last on) in (
+        same,
+        sym lead ∙ subst (λ (ps : List Piece). read (tables end.names) s ps ≡ result) taken.first is,
+        subst (IsLawful out) (sym taken.pins_are) (token_lawful out pins token.bytes taken.lawful),
+      )
 
   pins_end : ends_expression token.bytes ≡ true → (pins_from out pins all ≡ pins) × (new ≡ pins)
   pins_end ends =

@@ -1,5 +1,5 @@
 -- Each part of a statement takes bytes, so that reading ends.
-use Rattle.std.proofs.Common.{◌≡◌, ℕ, zero, suc, ◌+◌, ◌-◌, ◌<◌, ◌≤◌, ◌==◌, ◌||◌, ◌&&◌, Bool, true, false, if◌then◌else◌, List, [], ◌∷◌, length, take, drop, bytes_eq, codes, nat_le, Result, Ok, Err, refl, sym, ap, ◌∙◌, arith, inl, inr}
+use Rattle.std.proofs.Common.{◌≡◌, ℕ, zero, suc, ◌+◌, ◌<◌, ◌≤◌, ◌==◌, ◌||◌, ◌&&◌, Bool, true, false, List, [], ◌∷◌, length, take, drop, bytes_eq, codes, nat_le, Result, Ok, Err, refl, arith, inl, inr}
 use Rattle.std.specs.List.{prefix_len}
 use Rattle.std.proofs.lemmas.Bool.{cases_Bool, true≢false}
 use Rattle.std.proofs.lemmas.List.{length-drop}
@@ -12,7 +12,7 @@ use Rattle.si_genlib.specs.Unread.{◌>>=◌, Unread, Piece, size, lines_size, a
 use Rattle.si_genlib.specs.Decimal.{is_decimal}
 use Rattle.si_genlib.specs.Expression.{Tree, trees, State, Outcome, Goes, Ends, Stops, start, read, led, step, symbol, is_name}
 use Rattle.si_genlib.specs.Gate.{Gate, with_gate}
-use Rattle.si_genlib.specs.Statements.{if_passes, quoted_len, quoted, name_of_word, name_here, name_at, decimal_at, out_at, equals_at, body_at, gate_at, is_phase, phase_at, decimals_at, pin_at, Progress, gate_statement_at, pin_statement_at, statement_at, cells_from, word_kind}
+use Rattle.si_genlib.specs.Statements.{if_passes, quoted_len, quoted, name_here, name_at, decimal_at, out_at, equals_at, body_at, gate_at, is_phase, phase_at, decimals_at, pin_at, Progress, gate_statement_at, pin_statement_at, statement_at, cells_from}
 use Rattle.si_genlib.specs.GenlibText.{all_cells}
 use Rattle.si_genlib.proofs.SourceLemmas.{AllSmaller, all_smaller}
 

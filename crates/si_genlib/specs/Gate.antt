@@ -15,7 +15,7 @@ use Rattle.si_cube.specs.Rule.{chosen}
 use Rattle.si_genlib.specs.declared.fault.Stop.{Stop}
 use Rattle.si_genlib.specs.declared.fault.Stop.TheVariants.{Fault}
 use Rattle.si_genlib.specs.Unread.{Piece}
-use Rattle.si_genlib.specs.Expression.{Tree, truth, value_of, is_name, is_constant, symbol}
+use Rattle.si_genlib.specs.Expression.{Tree, truth, value_of, is_name, is_constant}
 
 -- ---- pins
 

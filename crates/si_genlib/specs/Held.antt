@@ -1,5 +1,5 @@
 -- What readers hold and answer, as the definitions see it.
-use Rattle.std.specs.Prelude.{◌≡◌, ℕ, List, reverse, Option, Some, None, Result, Ok, Err}
+use Rattle.std.specs.Prelude.{◌≡◌, ℕ, reverse, Option, Some, None, Result, Ok, Err}
 use Rattle.si_words.specs.Reads.{words_now}
 use Rattle.si_genlib.specs.declared.fault.ReadFault.{ReadFault}
 use Rattle.si_genlib.specs.declared.fault.ReadFault.TheVariants as faults

@@ -8,3 +8,4 @@ pub mod Statements
 pub mod GenlibText
 pub mod Held
 pub mod Grammar
+pub mod Written

@@ -1,5 +1,5 @@
 -- Statements of a genlib text.
-use Rattle.std.specs.Prelude.{ℕ, ◌+◌, ◌==◌, ◌&&◌, ◌||◌, not, Bool, true, false, List, [], ◌∷◌, length, take, drop, nat_le, bytes_eq, codes, if◌then◌else◌, zero, suc, Result, Ok, Err}
+use Rattle.std.specs.Prelude.{ℕ, ◌+◌, ◌==◌, ◌&&◌, ◌||◌, not, Bool, true, false, List, [], length, take, drop, nat_le, bytes_eq, codes, if◌then◌else◌, zero, suc, Result, Ok, Err}
 use Rattle.std.specs.List.{prefix_len}
 use Rattle.si_base.specs.Lines.{begins}
 use Rattle.si_base.specs.declared.fault.TextKind.{TextKind}
@@ -27,11 +27,14 @@ quoted_len bytes = prefix_len (λ b. not (b == 34)) bytes
 abbrev pub quoted : Unread → Result (List ℕ × Unread) Stop
 quoted u = if (quoted_len u.here == 0) || nat_le (length u.here) (quoted_len u.here)
     then Err (Fault u.number BadGate)
-    else Ok (take (quoted_len u.here) u.here, record {
-      number = u.number;
-      here = drop (quoted_len u.here + 1) u.here;
-      lines = u.lines;
-    })
+    else Ok (
+      take (quoted_len u.here) u.here,
+      record {
+        number = u.number;
+        here = drop (quoted_len u.here + 1) u.here;
+        lines = u.lines;
+      },
+    )
 
 abbrev pub name_of_word : Piece → Result (List ℕ × Unread) Stop
 name_of_word piece = if_there piece >>= λ p. Ok (p.bytes, p.rest)
@@ -68,12 +71,15 @@ equals_at u = do
 unfoldable pub body_at : ℕ → List ℕ → List ℕ → Unread → Result (Gate × Unread) Stop
 body_at line name out u = do
   expression ← read trees start (tokens u)
-  Ok (record {
-    line = line;
-    name = name;
-    pins = pins_from out no_pins (tokens u);
-    tree = expression.0;
-  }, expression.1)
+  Ok (
+    record {
+      line = line;
+      name = name;
+      pins = pins_from out no_pins (tokens u);
+      tree = expression.0;
+    },
+    expression.1,
+  )
 
 -- a gate whose statement begins at this line, behind its first word
 unfoldable pub gate_at : ℕ → Unread → Result (Gate × Unread) Stop

@@ -10,8 +10,8 @@ ghost use Rattle.si_genlib.specs.Gate.{Gate as GateValue};
 ghost use Rattle.si_genlib.specs.Held.{gate_now, Reads};
 ghost use Rattle.si_genlib.specs.Tables.{tabled, table_value};
 
-use crate::fault::{ReadFault, Stop};
 use crate::demand::sum_of;
+use crate::fault::{ReadFault, Stop};
 use crate::gate::Gate;
 use crate::table::falls;
 use si_base::fault::TextKind;
@@ -114,10 +114,10 @@ fn pin_names(alloc: Global, count: u32) -> Result<Vec<Name>, NoMemory>
 fn cell_of(alloc: Global, cells: &[Cell], gate: &Gate<'_>) -> Result<Cell, NoMemory>
     requires { length (gate_now gate.now).pins.names ≤ max_pins }
     ensures { IfOk result (λ cell. cell ≡ record {
-        name = spec.cell_name (names_of cells.now) gate.now.name.now;
-        pins = take (length (gate_now gate.now).pins.names) spec.pin_names;
-        sum = spec.sum_of (spec.bits_of (gate_now gate.now).pins)
-            (table_value (length (gate_now gate.now).pins.names) gate.now.table);
+      name = spec.cell_name (names_of cells.now) gate.now.name.now;
+      pins = take (length (gate_now gate.now).pins.names) spec.pin_names;
+      sum = spec.sum_of (spec.bits_of (gate_now gate.now).pins)
+          (table_value (length (gate_now gate.now).pins.names) gate.now.table);
     }) }
 {
     let count = gate.pins.names.len() as u32;
@@ -130,11 +130,7 @@ fn cell_of(alloc: Global, cells: &[Cell], gate: &Gate<'_>) -> Result<Cell, NoMem
 }
 
 /// Adds the cell of a gate, if it isn't passed over.
-pub(crate) fn keep(
-    alloc: Global,
-    cells: &mut Vec<Cell>,
-    gate: &Gate<'_>,
-) -> Result<(), ReadFault>
+pub(crate) fn keep(alloc: Global, cells: &mut Vec<Cell>, gate: &Gate<'_>) -> Result<(), ReadFault>
     requires { length (gate_now gate.now).pins.names ≤ max_pins }
     ensures { (g : GateValue) → tabled g ≡ gate_now gate.now
         → Reads (λ _. cells.new.items) result (spec.with_gate cells.old.items g) }

@@ -6,9 +6,9 @@ ghost use Rattle.si_genlib.specs.declared.symbol.Symbol.TheVariants as symbols;
 ghost use Rattle.si_genlib.specs.Held.{state_now, Steps};
 ghost use Rattle.si_genlib.specs.Tables.{tables};
 
-use si_base::fault::{LineFault, TextKind};
 use crate::limits::MAX_UNFINISHED;
 use crate::symbol::{Operator, Symbol};
+use si_base::fault::{LineFault, TextKind};
 use std::alloc::Global;
 
 /// What is read of an expression.
@@ -100,10 +100,10 @@ impl Reading {
     fn open(&mut self, operator: Operator<u32>) -> Result<Option<u32>, LineFault>
         ensures { Steps result (state_now self.new)
             (spec.opened (state_now self.old) (record {
-                operand = None;
-                unfinished = operator ∷ (state_now self.old).unfinished;
-                terms = self.old.terms;
-                factors = self.old.factors;
+              operand = None;
+              unfinished = operator ∷ (state_now self.old).unfinished;
+              terms = self.old.terms;
+              factors = self.old.factors;
             })) }
     {
         if self.unfinished.len() >= MAX_UNFINISHED {
@@ -203,11 +203,7 @@ impl Reading {
         }
     }
 
-    fn next_operand(
-        &mut self,
-        operand: u32,
-        symbol: Symbol<u32>,
-    ) -> Result<Option<u32>, LineFault>
+    fn next_operand(&mut self, operand: u32, symbol: Symbol<u32>) -> Result<Option<u32>, LineFault>
         ensures { Steps result (state_now self.new)
             (spec.due (spec.next_factor (tables []) (state_now self.old) operand) symbol) }
     {

@@ -13,9 +13,9 @@ ghost use Rattle.si_genlib.specs.Unread.{tokens, word_here};
 use crate::decimal::is_decimal;
 use crate::expression::Reading;
 use crate::fault::{ReadFault, Stop};
-use si_base::fault::{LineFault, TextKind};
 use crate::pins::{PinList, is_name, symbol_of};
 use crate::source::Source;
+use si_base::fault::{LineFault, TextKind};
 use std::alloc::Global;
 
 /// An expression: its pins, and its truth table.

@@ -16,3 +16,5 @@ mod source;
 mod statements;
 mod symbol;
 mod table;
+pub mod write;
+pub mod written_laws;

@@ -10,9 +10,9 @@ ghost use Rattle.si_base.specs.TextFaults.{Shows as TextShows, Gives};
 ghost use Rattle.si_genlib.specs.Unread as unread;
 
 use crate::fault::{ReadFault, Stop};
-use si_base::fault::{TextFault, TextKind};
 use crate::source::Source;
 use crate::statements::read_cells;
+use si_base::fault::{TextFault, TextKind};
 use si_base::lines::{Lines, has_bad_byte};
 use si_base::text::Name;
 use si_cell::cell::Cell;

@@ -8,8 +8,8 @@ ghost use Rattle.si_genlib.specs.Statements as text;
 use crate::cell::keep;
 use crate::fault::{ReadFault, Stop};
 use crate::gate::{read_decimal, read_gate};
-use si_base::fault::TextKind;
 use crate::source::{Part, Source};
+use si_base::fault::TextKind;
 use si_cell::cell::Cell;
 use std::alloc::Global;
 

@@ -1,4 +1,3 @@
-use Rattle.std.proofs.Common.{◌≡◌, sym, ◌∙◌}
 use Rattle.si_genlib.specs.Tables.{table_value}
 use Rattle.si_genlib.proofs.DemandLemmas.{code_fits, one_required, one_forbidden}
 use Rattle.si_genlib.proofs.demand.demand_of.Goals as goal

@@ -1,4 +1,4 @@
-use Rattle.std.proofs.Common.{◌≡◌, ℕ, Option, Some, None, Result, Ok, Err, ◌≤◌, length, refl, sym, ap, subst, ◌∙◌}
+use Rattle.std.proofs.Common.{◌≡◌, ℕ, Option, Some, None, Result, Err, ◌≤◌, length, refl, sym, subst, ◌∙◌}
 use Rattle.si_genlib.specs.declared.fault.ReadFault.{ReadFault}
 use Rattle.si_genlib.specs.declared.fault.Stop.{Stop}
 use Rattle.si_genlib.specs.declared.fault.Stop.TheVariants.{Fault}
@@ -7,7 +7,7 @@ use Rattle.si_base.specs.declared.fault.LineFault.TheVariants as line_faults
 use Rattle.si_base.specs.declared.fault.TextKind.{TextKind}
 use Rattle.si_cell.specs.Limits.{max_pins}
 use Rattle.si_genlib.specs.Gate.{Pins}
-use Rattle.si_genlib.specs.Unread.{tokens, Unread}
+use Rattle.si_genlib.specs.Unread.{tokens}
 use Rattle.si_genlib.specs.Expression.{State, Outcome, Goes, Ends, Stops}
 use Rattle.si_genlib.specs.Held.{left, piece, pins_now, state_now, LeadsOn, StopsWith, ToldAt, Shows}
 use Rattle.si_genlib.proofs.SourceLemmas.{token_smaller}
