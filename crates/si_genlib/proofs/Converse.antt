@@ -245,16 +245,15 @@ module _ (limit : ℕ) where
   pub weaker : (depth : ℕ) (x : Tree) (s : Syntax) → Reads limit 3 depth x s → Reads limit 2 depth x s
   weaker depth x s reads = record {
     is = reads.is;
-    strong = omega
-        (arith, reads.strong);
+    strong = omega (arith, reads.strong);
     room = reads.room;
     tree = reads.tree;
   }
 
   -- with a `)` for each that is open
-  pub completed : (ops : List (Operator Tree)) (terms factors : Option Tree) (tokens : List (List ℕ)) (x : Tree)
-      (s : Syntax)
-      → Reads limit 2 (length ops) x s → Before limit ops terms factors tokens → IsBeginning limit (tokens ++ written s)
+  pub completed : (ops : List (Operator Tree)) (terms factors : Option Tree) (tokens : List (List ℕ))
+      (x : Tree) (s : Syntax) → Reads limit 2 (length ops) x s → Before limit ops terms factors tokens
+      → IsBeginning limit (tokens ++ written s)
   completed [] terms factors tokens x s reads before =
       let all = terms_end (λ front. front ≡ []) 0 terms (after trees.both factors x) (tokens ++ written s)
       (term_ends (λ front. front ≡ []) 0 terms factors x tokens s before reads) in
@@ -290,8 +289,7 @@ module _ (limit : ℕ) where
 
   -- where an operand is due, `CONST0` may stand
   pub due_begins : (ops : List (Operator Tree)) (terms factors : Option Tree) (tokens : List (List ℕ))
-      → length ops ≤ limit
-      → Before limit ops terms factors tokens → IsBeginning limit tokens
+      → length ops ≤ limit → Before limit ops terms factors tokens → IsBeginning limit tokens
   due_begins ops terms factors tokens few before = cut_short tokens (written (Word (codes "CONST0")))
       (completed ops terms factors tokens (leaf trees (codes "CONST0")) (Word (codes "CONST0")) (record {
         is = refl;
