@@ -10,9 +10,13 @@ mod cell_tests;
 #[cfg(test)]
 mod check_tests;
 #[cfg(test)]
+mod genlib_tests;
+#[cfg(test)]
 mod graph_tests;
 #[cfg(test)]
 mod handshakes_tests;
+#[cfg(test)]
+mod library_text_tests;
 #[cfg(test)]
 mod listings_tests;
 #[cfg(test)]

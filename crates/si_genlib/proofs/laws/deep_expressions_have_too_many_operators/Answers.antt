@@ -1,0 +1,5 @@
+use Rattle.si_genlib.proofs.ViableLaws.{deep_expressions}
+use Rattle.si_genlib.proofs.laws.deep_expressions_have_too_many_operators.Goals as goal
+
+pub returns : goal.returns
+returns c = deep_expressions

@@ -1,0 +1,5 @@
+use Rattle.si_genlib.proofs.ViableLaws.{kinds}
+use Rattle.si_genlib.proofs.laws.expressions_have_two_faults.Goals as goal
+
+pub returns : goal.returns
+returns c = kinds

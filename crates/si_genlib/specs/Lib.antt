@@ -1,0 +1,9 @@
+pub mod Limits
+pub mod Expression
+pub mod Gate
+pub mod Tables
+pub mod Statements
+pub mod GenlibText
+pub mod Held
+pub mod Grammar
+pub mod Written

@@ -1,0 +1,17 @@
+//! The reader of genlib libraries, and the writer of library texts.
+#![tactic(auto)]
+
+mod cell;
+pub mod cell_laws;
+mod demand;
+mod expression;
+mod gate;
+pub mod laws;
+pub mod limits;
+mod pins;
+pub mod reader;
+mod statements;
+mod symbol;
+mod table;
+pub mod write;
+pub mod written_laws;
