@@ -1,6 +1,6 @@
-//! Tests of the plain words, of graphs and their checks, and of the calls that read and write
-//! texts. Nothing stands on this crate, so that a new test proves nothing else anew, and each crate
-//! below is proved but once.
+//! Tests of the plain words, of graphs, and of the calls that read and write texts. Nothing stands
+//! on this crate, so that a new test proves nothing else anew, and each crate below is proved but
+//! once.
 #![tactic(auto)]
 
 #[cfg(test)]
@@ -8,13 +8,9 @@ mod base_tests;
 #[cfg(test)]
 mod cell_tests;
 #[cfg(test)]
-mod check_tests;
-#[cfg(test)]
 mod graph_tests;
 #[cfg(test)]
 mod handshakes_tests;
-#[cfg(test)]
-mod listings_tests;
 #[cfg(test)]
 mod netlist_reader_tests;
 #[cfg(test)]
