@@ -51,10 +51,16 @@ s0 a+ s1 b+ s2 a- s3 b- s0
 fn literal(letter: u8) -> Literal
     ensures { result.sig < code_width }
 {
-    let sig = Sig(if letter == b'a' || letter == b'A' { 0 } else { 1 });
-    Literal {
-        sig,
-        plain: letter >= b'a',
+    if letter == b'a' || letter == b'A' {
+        Literal {
+            sig: Sig(0),
+            plain: letter == b'a',
+        }
+    } else {
+        Literal {
+            sig: Sig(1),
+            plain: letter == b'b',
+        }
     }
 }
 
@@ -170,9 +176,11 @@ fn gates_over_the_c_element(rt: HostRuntime) -> Result<(), Fail> {
 #[test]
 fn gates_without_a_partition(rt: HostRuntime) -> Result<(), Fail> {
     let alloc = rt.alloc();
-    let (s0, s1) = (StateId(0), StateId(1));
-    has_none(&rt, alloc, BACK, C2, b"aB", NoPartition::Unforced { s: s0 })?;
-    has_none(&rt, alloc, BACK, C2, b"ab", NoPartition::Contradiction { s: s1 })?;
+    let unforced = NoPartition::Unforced { s: StateId(0) };
+    let contradiction = NoPartition::Contradiction { s: StateId(1) };
+    let leaves = NoPartition::LeavesForced { s: StateId(0) };
+    has_none(&rt, alloc, BACK, C2, b"aB", unforced)?;
+    has_none(&rt, alloc, BACK, C2, b"ab", contradiction)?;
     has_none(&rt, alloc, BACK, BUF, b"a", NoPartition::Constant)?;
-    has_none(&rt, alloc, RING, C2, b"ab", NoPartition::LeavesForced { s: s0 })
+    has_none(&rt, alloc, RING, C2, b"ab", leaves)
 }
