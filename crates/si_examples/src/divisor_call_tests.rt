@@ -1,21 +1,18 @@
 //! Partitions for instances over small graphs.
 
-ghost use Rattle.std.specs.Prelude.{◌≡◌, ◌<◌, All, IfOk, true};
+ghost use Rattle.std.specs.Prelude.{◌≡◌, ◌<◌, All, true};
 ghost use Rattle.si_base.specs.Limits.{code_width};
 ghost use Rattle.si_cell.specs.Library.{IsInstance};
 
+use crate::graphs::{LATCH, proper};
 use arrayvec::ArrayVec;
-use si_base::graph::{Edge, SigKind, Signal};
-use si_base::ids::{Event, Literal, NoMemory, Sig, StateId};
-use si_base::text::Name;
+use si_base::ids::{Literal, NoMemory, Sig, StateId};
 use si_cell::cell::{Instance, PinLiteral};
 use si_cell::library::Library;
 use si_cell::reader::read_library;
 use si_checks::proper::Proper;
 use si_divisor::fault::NoPartition;
 use si_divisor::partition_for::{partition_for, partition_if};
-use si_graph::coded::Coded;
-use si_graph::graph::{Cut, Graph};
 use si_insert::partition::{Class, Partition};
 use std::alloc::Global;
 use std::process::Abort;
@@ -31,80 +28,52 @@ const AND2: u8 = 1;
 
 const C2: u8 = 2;
 
-fn rise(sig: u8) -> Event {
-    Event {
-        sig: Sig(sig),
-        up: true,
-    }
-}
+/// The input `b` rises and falls again and again once `a` has risen.
+const BACK: &[u8] = b".inputs a b
+.outputs c
+.state graph
+s0 a+ s1 b+ s2 b- s1
+.marking {s0}
+.end
+";
 
-fn fall(sig: u8) -> Event {
-    Event {
-        sig: Sig(sig),
-        up: false,
-    }
-}
+/// The inputs rise one after the other, and fall so.
+const RING: &[u8] = b".inputs a b
+.outputs c
+.state graph
+s0 a+ s1 b+ s2 a- s3 b- s0
+.marking {s0}
+.end
+";
 
-fn signal(alloc: Global, name: &[u8], kind: SigKind) -> Result<Signal, NoMemory>
-    ensures { IfOk result (λ x. x ≡ record { name = name.now; kind = kind }) }
+/// The literal that a letter stands for: a small one for the plain literal, a capital for its
+/// complement.
+fn literal(letter: u8) -> Literal
+    ensures { result.sig < code_width }
 {
-    let name = Name::copy_of(alloc, name)?;
-    Ok(Signal { name, kind })
-}
-
-/// The proper graph of these arcs over the inputs `a` and `b` and the output `c`, which starts in
-/// state 0.
-fn proper(
-    rt: &impl Abort,
-    alloc: Global,
-    states: u32,
-    arcs: &[(u32, Event, u32)],
-) -> Result<Proper, Fail> {
-    let signals = vec![in alloc;
-        signal(alloc, b"a", SigKind::Input)?,
-        signal(alloc, b"b", SigKind::Input)?,
-        signal(alloc, b"c", SigKind::Output)?,
-    ]?;
-    assert!(rt; arcs.len() < 100 && 0 < states && states < 100);
-    let mut edges = Vec::new(alloc);
-    for arc in arcs {
-        let (from, event, to) = *arc;
-        assert!(rt; from < states && (event.sig.0 as usize) < signals.len() && to < states);
-        edges.push(Edge {
-            from: StateId(from),
-            event,
-            to: StateId(to),
-        })?;
-    }
-    let graph = Graph::make(alloc, signals, states, edges, StateId(0))?;
-    let Cut { graph, kept: _ } = graph.cut(alloc)?;
-    let Ok(coded) = Coded::make(alloc, graph) else {
-        return Err(NoMemory)?;
-    };
-    match Proper::make(alloc, coded) {
-        Ok(proper) => Ok(proper),
-        Err(_) => Err(NoMemory)?,
+    if letter == b'a' || letter == b'A' {
+        Literal {
+            sig: Sig(0),
+            plain: letter == b'a',
+        }
+    } else {
+        Literal {
+            sig: Sig(1),
+            plain: letter == b'b',
+        }
     }
 }
 
-/// An instance of the cell with literals of these signals, each plain where it says so.
-fn instance(rt: &impl Abort, cell: u8, literals: &[(u8, bool)]) -> Instance
+/// An instance of the cell with the literals of these letters at its pins.
+fn instance(rt: &impl Abort, cell: u8, letters: &[u8]) -> Instance
     ensures { All (λ l. l.sig < code_width) result.literals }
 {
-    assert!(rt; literals.len() <= 4);
-    let mut list = ArrayVec::new();
-    for literal in literals {
-        let (sig, plain) = *literal;
-        assert!(rt; sig < 128);
-        list.push(PinLiteral(Literal {
-            sig: Sig(sig),
-            plain,
-        }));
+    assert!(rt; letters.len() <= 4);
+    let mut literals = ArrayVec::new();
+    for letter in letters {
+        literals.push(PinLiteral(literal(*letter)));
     }
-    Instance {
-        cell,
-        literals: list,
-    }
+    Instance { cell, literals }
 }
 
 /// Whether the instance has a cell of the library, and a literal for each of its pins.
@@ -146,17 +115,18 @@ fn are_same(found: &Result<Partition, NoPartition>, early: &Option<Partition>) -
     }
 }
 
-/// The answer for the cell with these literals is that reason.
+/// The answer over the graph for the cell with the literals of these letters is that reason.
 fn has_none(
     rt: &impl Abort,
     alloc: Global,
-    graph: &Proper,
+    graph: &[u8],
     cell: u8,
-    literals: &[(u8, bool)],
+    letters: &[u8],
     reason: NoPartition,
 ) -> Result<(), Fail> {
-    let instance = instance(rt, cell, literals);
-    let found = answer(rt, alloc, graph, &instance)?;
+    let graph = proper(alloc, graph)?;
+    let instance = instance(rt, cell, letters);
+    let found = answer(rt, alloc, &graph, &instance)?;
     assert!(rt; is_reason(&found, reason));
     Ok(())
 }
@@ -168,100 +138,49 @@ fn is_reason(found: &Result<Partition, NoPartition>, reason: NoPartition) -> boo
     }
 }
 
-/// The answer for the cell with these literals has these classes.
-fn has_classes(
-    rt: &impl Abort,
-    alloc: Global,
-    graph: &Proper,
-    cell: u8,
-    literals: &[(u8, bool)],
-    classes: &[Class],
-) -> Result<(), Fail> {
-    let instance = instance(rt, cell, literals);
-    let found = answer(rt, alloc, graph, &instance)?;
-    assert!(rt; are_classes(&found, classes));
-    Ok(())
+/// A letter for each class, in the order of the states.
+fn spelled(alloc: Global, partition: &Partition) -> Result<Vec<u8>, NoMemory> {
+    let mut letters = Vec::new(alloc);
+    for class in partition.classes() {
+        letters.push(letter_of(*class))?;
+    }
+    Ok(letters)
 }
 
-fn are_classes(found: &Result<Partition, NoPartition>, classes: &[Class]) -> bool {
-    match found {
-        Ok(partition) => partition.classes() == classes,
-        Err(_) => false,
+fn letter_of(class: Class) -> u8 {
+    match class {
+        Class::Low => b'L',
+        Class::Rising => b'R',
+        Class::High => b'H',
+        Class::Falling => b'F',
     }
 }
 
-/// The arcs of the C-element.
-fn c_element() -> [(u32, Event, u32); 10] {
-    [
-        (0, rise(0), 1),
-        (0, rise(1), 2),
-        (1, rise(1), 3),
-        (2, rise(0), 3),
-        (3, rise(2), 4),
-        (4, fall(0), 5),
-        (4, fall(1), 6),
-        (5, fall(1), 7),
-        (6, fall(0), 7),
-        (7, fall(2), 0),
-    ]
+/// The answer over the C-element for the cell that reads `a` and `b` has these classes.
+fn has_classes(rt: &impl Abort, alloc: Global, cell: u8, classes: &[u8]) -> Result<(), Fail> {
+    let graph = proper(alloc, LATCH)?;
+    let instance = instance(rt, cell, b"ab");
+    let Ok(partition) = answer(rt, alloc, &graph, &instance)? else {
+        return Err("no partition")?;
+    };
+    assert_eq!(rt; spelled(alloc, &partition)?.as_slice(), classes);
+    Ok(())
 }
 
 #[test]
 fn gates_over_the_c_element(rt: HostRuntime) -> Result<(), Fail> {
-    let alloc = rt.alloc();
-    let arcs = c_element();
-    let graph = proper(&rt, alloc, 8, &arcs)?;
-    let low = Class::Low;
-    let rising = Class::Rising;
-    let high = Class::High;
-    let falling = Class::Falling;
-    let of_c2 = [low, low, low, rising, high, high, high, falling];
-    let of_and = [low, low, low, rising, high, falling, falling, falling];
-    let literals = [(0, true), (1, true)];
-    has_classes(&rt, alloc, &graph, C2, &literals, &of_c2)?;
-    has_classes(&rt, alloc, &graph, AND2, &literals, &of_and)
+    has_classes(&rt, rt.alloc(), C2, b"LLLRHHHF")?;
+    has_classes(&rt, rt.alloc(), AND2, b"LLLRHFFF")
 }
 
 #[test]
 fn gates_without_a_partition(rt: HostRuntime) -> Result<(), Fail> {
     let alloc = rt.alloc();
-    let s0 = StateId(0);
-    let s1 = StateId(1);
-    let both = [(0, true), (1, true)];
-    let back = [(0, rise(0), 1), (1, rise(1), 2), (2, fall(1), 1)];
-    let graph = proper(&rt, alloc, 3, &back)?;
-    let other = [(0, true), (1, false)];
-    let first = [(0, true)];
-    has_none(
-        &rt,
-        alloc,
-        &graph,
-        C2,
-        &other,
-        NoPartition::Unforced { s: s0 },
-    )?;
-    has_none(
-        &rt,
-        alloc,
-        &graph,
-        C2,
-        &both,
-        NoPartition::Contradiction { s: s1 },
-    )?;
-    has_none(&rt, alloc, &graph, BUF, &first, NoPartition::Constant)?;
-    let ring = [
-        (0, rise(0), 1),
-        (1, rise(1), 2),
-        (2, fall(0), 3),
-        (3, fall(1), 0),
-    ];
-    let graph = proper(&rt, alloc, 4, &ring)?;
-    has_none(
-        &rt,
-        alloc,
-        &graph,
-        C2,
-        &both,
-        NoPartition::LeavesForced { s: s0 },
-    )
+    let unforced = NoPartition::Unforced { s: StateId(0) };
+    let contradiction = NoPartition::Contradiction { s: StateId(1) };
+    let leaves = NoPartition::LeavesForced { s: StateId(0) };
+    has_none(&rt, alloc, BACK, C2, b"aB", unforced)?;
+    has_none(&rt, alloc, BACK, C2, b"ab", contradiction)?;
+    has_none(&rt, alloc, BACK, BUF, b"a", NoPartition::Constant)?;
+    has_none(&rt, alloc, RING, C2, b"ab", leaves)
 }

@@ -1,5 +1,8 @@
 //! Pin literals and divisors of the three-input C-element, and of a buffer that rises once.
 
+ghost use Rattle.si_base.specs.Graph.{IsNonInput};
+ghost use Rattle.si_checks.specs.Lent.{lent_graph};
+
 use crate::graphs::{BUFFERED_ONCE, C_ELEMENT, is_driven, proper};
 use si_base::graph::Signal;
 use si_base::ids::{Literal, NoMemory, Sig};
@@ -48,6 +51,53 @@ fn spelled_pins(alloc: Global, signals: &[Signal], instance: &Instance) -> Resul
     Ok(text)
 }
 
+/// The pin literals of the signal, in order.
+fn spelled_pin_set(alloc: Global, graph: Distinct<'_>, z: Sig) -> Result<Text, NoMemory>
+    requires { IsNonInput (lent_graph graph).graph.signals z }
+{
+    let found = pin_set(alloc, graph, z)?;
+    spelled(
+        alloc,
+        graph.proper().coded().graph().signals(),
+        found.as_slice(),
+    )
+}
+
+/// Says that the last of the instances has these literals, and the cell at the place of so many
+/// pins.
+fn expect_last(
+    rt: &impl Abort,
+    alloc: Global,
+    signals: &[Signal],
+    found: &[Instance],
+    last: &[u8],
+) -> Result<(), Fail> {
+    let Some(instance) = found.last() else {
+        return Err("no divisor")?;
+    };
+    assert!(rt; instance.cell as usize == instance.literals.len());
+    assert_eq!(rt; spelled_pins(alloc, signals, instance)?.bytes(), last);
+    Ok(())
+}
+
+/// Says that the signal has so many divisors, of which the last has these literals.
+fn expect_divisors(
+    rt: &impl Abort,
+    alloc: Global,
+    graph: Distinct<'_>,
+    z: Sig,
+    count: usize,
+    last: &[u8],
+) -> Result<(), Fail>
+    requires { IsNonInput (lent_graph graph).graph.signals z }
+{
+    let cells = read_library(alloc, CELLS)?;
+    let found = divisors(alloc, graph, &cells, z)?;
+    assert!(rt; found.len() == count);
+    let signals = graph.proper().coded().graph().signals();
+    expect_last(rt, alloc, signals, found.as_slice(), last)
+}
+
 /// Says that the signal of the graph has these pin literals, and so many divisors, of which the
 /// last has these literals.
 fn expect_pins(
@@ -64,18 +114,8 @@ fn expect_pins(
         return Err("a conflict")?;
     };
     assert!(rt; is_driven(distinct, z));
-    let signals = graph.coded().graph().signals();
-    let found = pin_set(alloc, distinct, z)?;
-    assert_eq!(rt; spelled(alloc, signals, found.as_slice())?.bytes(), pins);
-    let cells = read_library(alloc, CELLS)?;
-    let found = divisors(alloc, distinct, &cells, z)?;
-    assert_eq!(rt; found.len(), count);
-    let Some(instance) = found.as_slice().last() else {
-        return Err("no divisor")?;
-    };
-    assert_eq!(rt; instance.cell as usize, instance.literals.len());
-    assert_eq!(rt; spelled_pins(alloc, signals, instance)?.bytes(), last);
-    Ok(())
+    assert_eq!(rt; spelled_pin_set(alloc, distinct, z)?.bytes(), pins);
+    expect_divisors(rt, alloc, distinct, z, count, last)
 }
 
 #[test]

@@ -74,6 +74,34 @@ h110 b- h100
 .end
 ";
 
+/// The C-element of the inputs `a` and `b` and the output `c`. Its states come in the order of
+/// their numbers.
+pub const LATCH: &[u8] = b".inputs a b
+.outputs c
+.state graph
+s0 a+ s1
+s0 b+ s2
+s1 b+ s3
+s2 a+ s3 c+ s4 a- s5
+s4 b- s6
+s5 b- s7 c- s0
+s6 a- s7
+.marking {s0}
+.end
+";
+
+/// The output `z` rises once `a` or `b` has risen, and nothing falls.
+pub const EITHER_RISES: &[u8] = b".inputs a b
+.outputs z
+.state graph
+s0 a+ s1 b+ s3 z+ s6
+s0 b+ s2 a+ s3
+s1 z+ s4 b+ s6
+s2 z+ s5 a+ s6
+.marking {s0}
+.end
+";
+
 /// The output `z` rises after the input `a`, once.
 pub const BUFFERED_ONCE: &[u8] = b".inputs a
 .outputs z

@@ -2,14 +2,14 @@
 
 ghost use Rattle.std.specs.Prelude.{◌≡◌, IfOk, length};
 
-use si_base::graph::{Edge, SigKind, Signal};
+use si_base::graph::{SigKind, Signal};
 use si_base::ids::{Code, Event, NoMemory, Sig, StateId};
 use si_base::text::Name;
 use si_cube::sum::Sum;
 use si_graph::coded::Coded;
-use si_graph::graph::Graph;
 use si_netlist::gate::Gate;
 use si_netlist::netlist::Netlist;
+use si_sg::read::read_sg;
 use si_system::replay::{Outcome, replay};
 use si_system::system::{ListsDiffer, System};
 use si_system::verdict::Verdict;
@@ -27,27 +27,17 @@ const FALL: Event = Event {
 };
 
 /// The state 0 leads by `a-` to 1, and 1 by `a+` to 0.
-fn toggle(alloc: Global) -> Result<Graph, NoMemory> {
-    let name = Name::copy_of(alloc, b"a")?;
-    let signals = vec![in alloc;
-        Signal {
-            name,
-            kind: SigKind::Output
-        },
-    ]?;
-    let edges = vec![in alloc;
-        Edge {
-            from: StateId(0),
-            event: FALL,
-            to: StateId(1)
-        },
-        Edge {
-            from: StateId(1),
-            event: RISE,
-            to: StateId(0)
-        },
-    ]?;
-    Graph::make(alloc, signals, 2, edges, StateId(0))
+const TOGGLE: &[u8] = b".outputs a
+.state graph
+s0 a- s1 a+ s0
+.marking {s0}
+.end
+";
+
+fn toggle(alloc: Global) -> Result<Coded, Fail> {
+    let given = read_sg(alloc, TOGGLE)?;
+    let coded = Coded::make(alloc, given.graph).ok().ok_or("no codes")?;
+    Ok(coded)
 }
 
 /// The gate of `a` has the value 0.
@@ -70,8 +60,7 @@ fn constant(alloc: Global, start: bool) -> Result<Netlist, NoMemory>
 #[test]
 fn a_fall_and_no_rise(rt: HostRuntime) -> Result<(), Fail> {
     let alloc = rt.alloc();
-    let cut = toggle(alloc)?.cut(alloc)?;
-    let graph = Coded::make(alloc, cut.graph).ok().ok_or("no codes")?;
+    let graph = toggle(alloc)?;
     let netlist = constant(alloc, true)?;
     let mut system = System::start(&graph, &netlist).ok().ok_or("no system")?;
     assert_eq!(rt; system.values(), Code(1));
@@ -88,8 +77,7 @@ fn a_fall_and_no_rise(rt: HostRuntime) -> Result<(), Fail> {
 #[test]
 fn replays(rt: HostRuntime) -> Result<(), Fail> {
     let alloc = rt.alloc();
-    let cut = toggle(alloc)?.cut(alloc)?;
-    let graph = Coded::make(alloc, cut.graph).ok().ok_or("no codes")?;
+    let graph = toggle(alloc)?;
     let netlist = constant(alloc, true)?;
     let mut schedule = vec![in alloc; FALL]?;
     assert_eq!(rt;

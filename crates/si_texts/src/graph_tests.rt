@@ -10,8 +10,9 @@ use si_base::text::Name;
 use si_closures::word_search::closures;
 use si_graph::arc_store::EdgeId;
 use si_graph::closure::{Along, closure};
-use si_graph::coded::{CodeFault, Coded};
+use si_graph::coded::Coded;
 use si_graph::graph::Graph;
+use si_sg::read::read_sg;
 use std::alloc::Global;
 use std::process::Abort;
 use std::test::Fail;
@@ -26,13 +27,20 @@ const FALL: Event = Event {
     up: false,
 };
 
-/// The state 0 leads by `a+` to 2, and 2 by `a-` to 0, or by `a+` where `last_up` says so; the
-/// state 1 leads to both.
-fn toggle(alloc: Global, last_up: bool) -> Result<Graph, NoMemory> {
-    let last = Event {
-        sig: Sig(0),
-        up: last_up,
-    };
+fn arc(from: u32, sig: u8, up: bool, to: u32) -> Edge
+    ensures { result ≡ record { from = from; event = record { sig = sig; up = up }; to = to } }
+{
+    Edge {
+        from: StateId(from),
+        event: Event { sig: Sig(sig), up },
+        to: StateId(to),
+    }
+}
+
+/// The state 0 leads by `a+` to 2, twice told, and 2 by `a-` to 0; the state 1 leads to both.
+fn toggle(alloc: Global) -> Result<Graph, NoMemory>
+    ensures { IfOk result (λ g. (g.states ≡ 3) × (length g.signals ≡ 1)) }
+{
     let name = Name::copy_of(alloc, b"a")?;
     let signals = vec![in alloc;
         Signal {
@@ -41,42 +49,26 @@ fn toggle(alloc: Global, last_up: bool) -> Result<Graph, NoMemory> {
         },
     ]?;
     let edges = vec![in alloc;
-        Edge {
-            from: StateId(2),
-            event: last,
-            to: StateId(0)
-        },
-        Edge {
-            from: StateId(0),
-            event: RISE,
-            to: StateId(2)
-        },
-        Edge {
-            from: StateId(1),
-            event: RISE,
-            to: StateId(2)
-        },
-        Edge {
-            from: StateId(1),
-            event: FALL,
-            to: StateId(0)
-        },
-        Edge {
-            from: StateId(0),
-            event: RISE,
-            to: StateId(2)
-        },
+        arc(2, 0, false, 0),
+        arc(0, 0, true, 2),
+        arc(1, 0, true, 2),
+        arc(1, 0, false, 0),
+        arc(0, 0, true, 2),
     ]?;
     Graph::make(alloc, signals, 3, edges, StateId(0))
 }
 
 #[test]
-fn walks_and_look_ups(rt: HostRuntime) -> Result<(), Fail> {
-    let graph = toggle(rt.alloc(), false)?;
-    assert_eq!(rt; graph.states(), 3);
-    assert_eq!(rt; graph.edges(), 4);
-    assert_eq!(rt; graph.start(), StateId(0));
-    assert_eq!(rt; graph.signals().len(), 1);
+fn parts_of_a_graph(rt: HostRuntime) -> Result<(), Fail> {
+    let graph = toggle(rt.alloc())?;
+    assert!(rt; graph.states() == 3 && graph.edges() == 4);
+    assert!(rt; graph.signals().len() == 1 && graph.start() == StateId(0));
+    Ok(())
+}
+
+#[test]
+fn look_ups(rt: HostRuntime) -> Result<(), Fail> {
+    let graph = toggle(rt.alloc())?;
     assert_eq!(rt; graph.arcs_out(StateId(1)).len(), 2);
     assert_eq!(rt; graph.succ(StateId(1), FALL), Some(StateId(0)));
     assert_eq!(rt; graph.succ(StateId(2), RISE), None);
@@ -84,64 +76,39 @@ fn walks_and_look_ups(rt: HostRuntime) -> Result<(), Fail> {
     Ok(())
 }
 
-/// An output that rises once both inputs have risen, and falls once both have fallen.
-const C_ELEMENT: [(u32, u8, bool, u32); 10] = [
-    (0, 0, true, 1),
-    (0, 1, true, 2),
-    (1, 1, true, 3),
-    (2, 0, true, 3),
-    (3, 2, true, 4),
-    (4, 0, false, 5),
-    (4, 1, false, 6),
-    (5, 1, false, 7),
-    (6, 0, false, 7),
-    (7, 2, false, 0),
-];
+/// An output that rises once both inputs have risen, and falls once both have fallen. Its states
+/// come in the order of their numbers.
+const C_ELEMENT: &[u8] = b".inputs a b
+.outputs c
+.state graph
+s0 a+ s1
+s0 b+ s2
+s1 b+ s3
+s2 a+ s3 c+ s4 a- s5
+s4 b- s6
+s5 b- s7 c- s0
+s6 a- s7
+.marking {s0}
+.end
+";
 
-fn arc((from, sig, up, to): (u32, u8, bool, u32)) -> Edge {
-    Edge {
-        from: StateId(from),
-        event: Event { sig: Sig(sig), up },
-        to: StateId(to),
-    }
-}
-
-fn signal(alloc: Global, name: &[u8], kind: SigKind) -> Result<Signal, NoMemory>
-    ensures { IfOk result (λ x. x ≡ record { name = name.now; kind = kind }) }
+fn c_element(rt: &impl Abort, alloc: Global) -> Result<Graph, Fail>
+    ensures { IfOk result (λ g. (g.states ≡ 8) × (length g.edges ≡ 10)) }
 {
-    let name = Name::copy_of(alloc, name)?;
-    Ok(Signal { name, kind })
-}
-
-fn c_element(rt: &impl Abort, alloc: Global) -> Result<Graph, NoMemory> {
-    let signals = vec![in alloc;
-        signal(alloc, b"a", SigKind::Input)?,
-        signal(alloc, b"b", SigKind::Input)?,
-        signal(alloc, b"c", SigKind::Output)?,
-    ]?;
-    let told: &[(u32, u8, bool, u32)] = &C_ELEMENT;
-    let mut edges = Vec::new(alloc);
-    for one in told {
-        let (from, sig, up, to) = *one;
-        assert!(rt; from < 8 && sig < 3 && to < 8);
-        edges.push(Edge {
-            from: StateId(from),
-            event: Event { sig: Sig(sig), up },
-            to: StateId(to),
-        })?;
-    }
-    Graph::make(alloc, signals, 8, edges, StateId(0))
+    let given = read_sg(alloc, C_ELEMENT)?;
+    let graph = given.graph;
+    assert!(rt; graph.states() == 8 && graph.edges() == 10);
+    Ok(graph)
 }
 
 #[test]
 fn walks_into_a_state(rt: HostRuntime) -> Result<(), Fail> {
     let graph = c_element(&rt, rt.alloc())?;
-    assert!(rt; graph.edges() == 10);
     let into = [EdgeId(2), EdgeId(3)];
     assert_eq!(rt; graph.first_in(StateId(3)), Some(into[0]));
-    assert_eq!(rt; graph.edge(into[0]), arc((1, 1, true, 3)));
+    assert_eq!(rt; graph.edge(into[0]), arc(1, 1, true, 3));
     assert_eq!(rt; graph.next_in(into[0]), Some(into[1]));
-    assert_eq!(rt; graph.edge(into[1]), arc((2, 0, true, 3)));
+    assert_eq!(rt; graph.edge(into[1]), arc(2, 0, true, 3));
     assert_eq!(rt; graph.next_in(into[1]), None);
     Ok(())
 }
@@ -149,12 +116,11 @@ fn walks_into_a_state(rt: HostRuntime) -> Result<(), Fail> {
 #[test]
 fn walks_out_of_a_state(rt: HostRuntime) -> Result<(), Fail> {
     let graph = c_element(&rt, rt.alloc())?;
-    assert!(rt; graph.edges() == 10);
     let out = [EdgeId(5), EdgeId(6)];
     assert_eq!(rt; graph.first_out(StateId(4)), Some(out[0]));
-    assert_eq!(rt; graph.edge(out[0]), arc((4, 0, false, 5)));
+    assert_eq!(rt; graph.edge(out[0]), arc(4, 0, false, 5));
     assert_eq!(rt; graph.next_out(out[0]), Some(out[1]));
-    assert_eq!(rt; graph.edge(out[1]), arc((4, 1, false, 6)));
+    assert_eq!(rt; graph.edge(out[1]), arc(4, 1, false, 6));
     assert_eq!(rt; graph.next_out(out[1]), None);
     Ok(())
 }
@@ -194,7 +160,6 @@ fn holds_just(set: &StateSet, states: &[u32]) -> bool {
 fn closures_within_sets(rt: HostRuntime) -> Result<(), Fail> {
     let alloc = rt.alloc();
     let graph = c_element(&rt, alloc)?;
-    assert!(rt; graph.states() == 8);
     let within = set_of(&rt, alloc, [1, 2, 4, 5].as_slice())?;
     let seeds = set_of(&rt, alloc, [3].as_slice())?;
     let out = closure(alloc, &graph, Along::Out, &within, &seeds)?;
@@ -208,9 +173,7 @@ fn closures_within_sets(rt: HostRuntime) -> Result<(), Fail> {
 
 #[test]
 fn closures_of_two_sets_at_once(rt: HostRuntime) -> Result<(), Fail> {
-    let graph = toggle(rt.alloc(), false)?;
-    assert!(rt; graph.states() == 3);
-    assert!(rt; graph.signals().len() == 1);
+    let graph = toggle(rt.alloc())?;
     let within = [3, 3, 3];
     let passes = [1, 3];
     let seeds = [0, 3, 0];
@@ -227,19 +190,10 @@ fn closures_of_two_sets_at_once(rt: HostRuntime) -> Result<(), Fail> {
 
 #[test]
 fn codes_of_the_reachable_states(rt: HostRuntime) -> Result<(), Fail> {
-    let cut = toggle(rt.alloc(), false)?.cut(rt.alloc())?;
+    let cut = toggle(rt.alloc())?.cut(rt.alloc())?;
     assert_eq!(rt; cut.kept.as_slice(), [StateId(0), StateId(2)].as_slice());
     let coded = Coded::make(rt.alloc(), cut.graph).ok().ok_or("no codes")?;
     assert_eq!(rt; coded.graph().states(), 2);
     assert!(rt; coded.code(StateId(0)) == Code(0) && coded.next(StateId(0)) == Code(1));
-    Ok(())
-}
-
-#[test]
-fn a_signal_that_only_rises_has_no_values(rt: HostRuntime) -> Result<(), Fail> {
-    let cut = toggle(rt.alloc(), true)?.cut(rt.alloc())?;
-    let (graph, fault) = Coded::make(rt.alloc(), cut.graph).err().ok_or("codes")?;
-    assert!(rt; matches!(fault, CodeFault::Inconsistent { sig: Sig(0) }));
-    assert_eq!(rt; graph.states(), 2);
     Ok(())
 }

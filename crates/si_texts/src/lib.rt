@@ -1,14 +1,12 @@
-//! Tests of the plain words, of graphs and their checks, and of the calls that read and write
-//! texts. Nothing stands on this crate, so that a new test proves nothing else anew, and each crate
-//! below is proved but once.
+//! Tests of the plain words, of graphs, and of the calls that read and write texts. Nothing stands
+//! on this crate, so that a new test proves nothing else anew, and each crate below is proved but
+//! once.
 #![tactic(auto)]
 
 #[cfg(test)]
 mod base_tests;
 #[cfg(test)]
 mod cell_tests;
-#[cfg(test)]
-mod check_tests;
 #[cfg(test)]
 mod genlib_tests;
 #[cfg(test)]
@@ -17,8 +15,6 @@ mod graph_tests;
 mod handshakes_tests;
 #[cfg(test)]
 mod library_text_tests;
-#[cfg(test)]
-mod listings_tests;
 #[cfg(test)]
 mod netlist_reader_tests;
 #[cfg(test)]

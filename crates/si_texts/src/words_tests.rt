@@ -66,6 +66,11 @@ fn lines_of_names(rt: HostRuntime) -> Result<(), Fail> {
     Ok(())
 }
 
+const A_RISES: Event = Event {
+    sig: Sig(0),
+    up: true,
+};
+
 const B_FALLS: Event = Event {
     sig: Sig(1),
     up: false,
@@ -77,7 +82,7 @@ fn event_words(rt: HostRuntime) -> Result<(), Fail> {
     assert!(rt; add_names(&mut names, 2, &[b"a".as_slice(), b"b".as_slice()]).is_ok());
     assert_eq!(rt; read_event(&names, b"b-"), Ok(B_FALLS));
     assert_eq!(rt; read_event(&names, b"b-/123456789"), Ok(B_FALLS));
-    assert_eq!(rt; read_event(&names, b"a+").map(|e| e.up), Ok(true));
+    assert_eq!(rt; read_event(&names, b"a+"), Ok(A_RISES));
     for word in [
         b"b-/".as_slice(),
         b"b-/1234567890",
@@ -97,9 +102,10 @@ fn event_words(rt: HostRuntime) -> Result<(), Fail> {
 fn words_around_a_mark(rt: HostRuntime) -> Result<(), Fail> {
     let mut rows = Rows::new(b"c gc a b' | a'\n");
     let words = rows.next_words(rt.alloc())?;
-    assert!(rt;
-        cut_at(b"|", &words).is_some_and(|(set, reset)| set.len() == 4 && is_one(b"a'", reset))
-    );
+    let Some((set, reset)) = cut_at(b"|", &words) else {
+        return Err("no mark")?;
+    };
+    assert!(rt; set.len() == 4 && is_one(b"a'", reset));
     assert!(rt; cut_at(b":", &words).is_none());
     Ok(())
 }
