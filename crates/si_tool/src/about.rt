@@ -53,6 +53,8 @@ const HELP: &[u8] = b"sisyn makes circuits without a clock from state graphs.
   sisyn synth F complex              a netlist of complex gates
   sisyn synth F gc                   a netlist of generalised C-elements
   sisyn map F LIB                    a netlist of cells of a library
+  sisyn map F genlib FILE            a netlist of gates of a library of genlib
+  sisyn genlib FILE                  a library of genlib as a library of cells
   sisyn verilog NETLIST              a netlist as a module of Verilog
   sisyn replay F NETLIST SCHEDULE    where a schedule over a netlist ends
   sisyn audit F NETLIST              whether a netlist is certified for a graph
