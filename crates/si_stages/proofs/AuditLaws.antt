@@ -73,9 +73,9 @@ synthesised_pass style file text output made =
     written_passes text output sg l given.1 is.sound line.line s.written inserts
 
 pub mapped_pass : MappedPass
-mapped_pass file text library cells output made =
+mapped_pass format file text library cells output made =
     let read = passed _ _ output made in
-    let given = (mapping_readings_are file text library cells read.0 read.1).given in
+    let given = (mapping_readings_are format file text library cells read.0 read.1).given in
     let resolved = passed _ _ output read.2 in
     let sg = read.0.given in
     let is = resolution_is sg.graph sg.states resolved.0 resolved.1 in
