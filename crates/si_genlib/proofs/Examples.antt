@@ -1,0 +1,54 @@
+-- A small genlib text, the library that it spells, and texts with faults.
+use Rattle.std.proofs.Common.{◌≡◌, ℕ, List, [], ◌∷◌, ◌++◌, true, false, Some, None, Ok, codes, refl, bytes_eq}
+use Rattle.si_base.specs.declared.fault.TextKind.TheVariants as kinds
+use Rattle.si_genlib.specs.Decimal.{is_decimal}
+use Rattle.si_genlib.specs.GenlibText.{genlib_fault, library_of, all_cells}
+use Rattle.si_genlib.specs.Statements.{name_at, decimal_at, out_at, equals_at, body_at, gate_at, phase_at, pin_at, gate_statement_at, pin_statement_at, statement_at}
+use Rattle.si_genlib.specs.Unread.{word, word_at, tokens}
+use Rattle.si_genlib.specs.Expression.{step}
+use Rattle.si_genlib.specs.Gate.{gate_value, sum_of, cell_of, with_gate}
+
+decimals : (is_decimal (codes "+1.e2")) ≡ true
+decimals = refl
+
+bad_decimals : (is_decimal (codes "1e")) ≡ false
+bad_decimals = refl
+
+small : List ℕ
+small = codes "# small\nGATE inv1 1 O=!a; PIN * INV 1 999 0.9 0.3 0.9 0.3\n"
+
+no_fault : genlib_fault small ≡ None
+unfolding small genlib_fault all_cells name_at decimal_at out_at equals_at body_at gate_at phase_at pin_at gate_statement_at pin_statement_at statement_at word word_at tokens step gate_value sum_of cell_of with_gate
+no_fault = refl
+
+no_operand : genlib_fault (codes "GATE x 1 O=a+;") ≡ Some (1, kinds.BadExpression)
+unfolding genlib_fault all_cells name_at decimal_at out_at equals_at body_at gate_at phase_at pin_at gate_statement_at pin_statement_at statement_at word word_at tokens step gate_value sum_of cell_of with_gate
+no_operand = refl
+
+latch : genlib_fault (codes "LATCH d 1 Q=D;") ≡ Some (1, kinds.Latch)
+unfolding genlib_fault all_cells name_at decimal_at out_at equals_at body_at gate_at phase_at pin_at gate_statement_at pin_statement_at statement_at word word_at tokens step gate_value sum_of cell_of with_gate
+latch = refl
+
+own_falls : genlib_fault (codes "GATE x 1 O=!O*a;") ≡ Some (1, kinds.OwnFalling)
+unfolding genlib_fault all_cells name_at decimal_at out_at equals_at body_at gate_at phase_at pin_at gate_statement_at pin_statement_at statement_at word word_at tokens step gate_value sum_of cell_of with_gate
+own_falls = refl
+
+word_glued : genlib_fault (codes "GATE x 1O=a;") ≡ Some (1, kinds.BadNumber)
+unfolding genlib_fault all_cells name_at decimal_at out_at equals_at body_at gate_at phase_at pin_at gate_statement_at pin_statement_at statement_at word word_at tokens step gate_value sum_of cell_of with_gate
+word_glued = refl
+
+not_closed : genlib_fault (codes "GATE \"x 1 O=a;") ≡ Some (1, kinds.BadGate)
+unfolding genlib_fault all_cells name_at decimal_at out_at equals_at body_at gate_at phase_at pin_at gate_statement_at pin_statement_at statement_at word word_at tokens step gate_value sum_of cell_of with_gate
+not_closed = refl
+
+cut : genlib_fault (codes "GATE x 1 O=\na") ≡ Some (3, kinds.NoEnd)
+unfolding genlib_fault all_cells name_at decimal_at out_at equals_at body_at gate_at phase_at pin_at gate_statement_at pin_statement_at statement_at word word_at tokens step gate_value sum_of cell_of with_gate
+cut = refl
+
+bad_byte : genlib_fault (codes "GATE x 1 O=\n\u{1}") ≡ Some (2, kinds.BadByte)
+unfolding genlib_fault all_cells name_at decimal_at out_at equals_at body_at gate_at phase_at pin_at gate_statement_at pin_statement_at statement_at word word_at tokens step gate_value sum_of cell_of with_gate
+bad_byte = refl
+
+pin_first : genlib_fault (codes "PIN") ≡ Some (1, kinds.BadWord)
+unfolding genlib_fault all_cells name_at decimal_at out_at equals_at body_at gate_at phase_at pin_at gate_statement_at pin_statement_at statement_at word word_at tokens step gate_value sum_of cell_of with_gate
+pin_first = refl

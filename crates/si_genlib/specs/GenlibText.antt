@@ -1,0 +1,39 @@
+-- The text of a genlib library: its first fault, and the library that a text without one spells.
+use Rattle.std.specs.Prelude.{ℕ, ◌+◌, suc, List, [], codes, Option, Some, None, Result, Ok, Err}
+use Rattle.si_base.specs.Lines.{numbered}
+use Rattle.si_base.specs.declared.fault.TextKind.{TextKind}
+use Rattle.si_base.specs.declared.fault.TextKind.TheVariants.{BadByte, NoEnd}
+use Rattle.si_cell.specs.Library.{Cell, Library}
+use Rattle.si_words.specs.Ends.{after_last}
+use Rattle.si_genlib.specs.declared.fault.Stop.{Stop}
+use Rattle.si_genlib.specs.declared.fault.Stop.TheVariants.{Cut, Fault}
+use Rattle.si_genlib.specs.Unread.{Unread, unread, size, bad_line}
+use Rattle.si_genlib.specs.Statements.{Progress, nothing_yet, cells_from}
+
+-- each statement takes at least one byte
+unfoldable pub all_cells : Progress → Unread → Result (List Cell) Stop
+all_cells old u = cells_from (suc (size u)) old u
+
+-- where the lines without a bad byte end, the next line, which has one, is a fault; at the end of
+-- the text a statement that isn't whole is one
+abbrev pub end_fault : ℕ → Option ℕ → Result (List Cell) Stop → Option (ℕ × TextKind)
+end_fault last bad (Err (Fault line kind)) = Some (line, kind)
+end_fault last (Some line) _ = Some (line, BadByte)
+end_fault last None (Err Cut) = Some (last, NoEnd)
+end_fault last None (Ok cells) = None
+
+-- the first fault of the text
+unfoldable pub genlib_fault : List ℕ → Option (ℕ × TextKind)
+genlib_fault text =
+    end_fault (after_last text) (bad_line (numbered text)) (all_cells nothing_yet (unread text))
+
+abbrev pub cells_or_none : Result (List Cell) Stop → List Cell
+cells_or_none (Ok cells) = cells
+cells_or_none (Err stop) = []
+
+-- the library that a text without fault spells
+unfoldable pub library_of : List ℕ → Library
+library_of text = record {
+  name = codes "genlib";
+  cells = cells_or_none (all_cells nothing_yet (unread text));
+}

@@ -1,0 +1,11 @@
+pub mod Limits
+pub mod Unread
+pub mod Decimal
+pub mod Expression
+pub mod Gate
+pub mod Tables
+pub mod Statements
+pub mod GenlibText
+pub mod Held
+pub mod Grammar
+pub mod Written

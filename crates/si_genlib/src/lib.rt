@@ -1,0 +1,20 @@
+//! The reader of genlib libraries, and the writer of library texts.
+#![tactic(auto)]
+
+mod cell;
+pub mod cell_laws;
+mod decimal;
+mod demand;
+mod expression;
+mod fault;
+mod gate;
+pub mod laws;
+pub mod limits;
+mod pins;
+pub mod reader;
+mod source;
+mod statements;
+mod symbol;
+mod table;
+pub mod write;
+pub mod written_laws;

@@ -1,0 +1,14 @@
+//! The text of a library that is written reads back. The function does nothing: its contract is the
+//! law.
+
+ghost use Rattle.std.specs.Prelude.{◌≡◌, None};
+ghost use Rattle.si_cell.specs.Library.{Library as LibraryValue, IsLibrary};
+ghost use Rattle.si_cell.specs.LibraryText.{library_fault, library_of};
+ghost use Rattle.si_genlib.specs.Written.{library_text};
+
+/// The text of a library has no fault, and spells that library.
+pub fn libraries_read_back()
+    ensures { (library : LibraryValue) → IsLibrary library
+        → (library_fault (library_text library) ≡ None)
+        × (library_of (library_text library) ≡ library) }
+{}
