@@ -5,6 +5,8 @@ use Rattle.si_cell.specs.LibraryText.{library_fault, library_of}
 use Rattle.si_genlib.specs.GenlibText.{genlib_fault}
 use Rattle.si_genlib.specs.GenlibText as gates
 use Rattle.si_genlib.specs.Written.{library_text}
+use Rattle.si_genlib.proofs.LibraryLemmas.{is_library}
+use Rattle.si_genlib.proofs.WrittenLaw.{text_reads_back}
 use Rattle.si_refusals.specs.Refusal.{TextRefusal}
 use Rattle.si_refusals.specs.Stages.{Stage, Then, Refuses, Passes, gives}
 use Rattle.si_stages.specs.Genlib.{IsItsLibrary, genlib}
@@ -26,7 +28,7 @@ genlib_some file text = then_some _ _ (spelled_some file _ _) (λ cells spelt. g
 is_its_library : (text output : List ℕ) → genlib_fault text ≡ None → output ≡ library_text (gates.library_of text)
     → IsItsLibrary text output
 is_its_library text output sound is =
-    let back = library_reads_back (gates.library_of text) (gates_are_library text sound) in
+    let back = text_reads_back (gates.library_of text) (is_library text) in
     record {
       sound = sound;
       output_is = is;

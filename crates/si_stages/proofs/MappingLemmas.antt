@@ -9,6 +9,7 @@ use Rattle.si_base.specs.NetlistText.{netlist_text}
 use Rattle.si_base.specs.Proper.{HasNoConflict}
 use Rattle.si_cell.specs.Library.{Library, IsLibrary}
 use Rattle.si_cell.proofs.LawLemmas.{text_is_library}
+use Rattle.si_genlib.proofs.LibraryLemmas.{is_library as gates_are_library}
 use Rattle.si_circuit.proofs.CellLemmas.{cells_give, cells_are_netlist}
 use Rattle.si_circuit.specs.Cells.{AllFit, cell_gate, mapped_netlist}
 use Rattle.si_circuit.specs.Circuits.{AreStateNames}
@@ -108,7 +109,7 @@ is_mapping library text sg l m output good given is ends output_is =
 pub is_library : (format : LibraryFormat) (text : List ℕ) (library : Library) → fault_in format text ≡ None
     → library ≡ library_from format text → IsLibrary library
 is_library Own text library none is = subst IsLibrary (sym is) (text_is_library text none)
-is_library Genlib text library none is = subst IsLibrary (sym is) (gates_are_library text none)
+is_library Genlib text library none is = subst IsLibrary (sym is) (gates_are_library text)
 
 -- ---- one result
 one_lineage : (l m n : History) (xs ys : List TraceStep) → GoesOn l xs m → GoesOn l ys n → xs ≡ ys
