@@ -161,7 +161,12 @@ fn files_for<'w>(
             files_in(alloc, words, &[Slot::Word("map"), Slot::File, Slot::File])
         }
         Task::Map(LibraryFormat::Genlib) => {
-            let form = [Slot::Word("map"), Slot::File, Slot::Word("genlib"), Slot::File];
+            let form = [
+                Slot::Word("map"),
+                Slot::File,
+                Slot::Word("genlib"),
+                Slot::File,
+            ];
             files_in(alloc, words, &form)
         }
         Task::FromGenlib => files_in(alloc, words, &[Slot::Word("genlib"), Slot::File]),

@@ -66,9 +66,7 @@ fn output_of_texts<'w>(
         Task::Synth(style) => synth(alloc, style, files[0], &texts[0]),
         Task::Verilog => verilog(alloc, files[0], &texts[0]),
         Task::FromGenlib => genlib(alloc, files[0], &texts[0]),
-        Task::Map(format) => {
-            map_texts(alloc, format, files[0], &texts[0], files[1], &texts[1])
-        }
+        Task::Map(format) => map_texts(alloc, format, files[0], &texts[0], files[1], &texts[1]),
         Task::Replay => {
             let (graph, netlist, schedule) = (files[0], files[1], files[2]);
             replay_texts(

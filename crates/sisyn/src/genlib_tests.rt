@@ -75,11 +75,5 @@ fn faulty_gates(rt: HostRuntime) -> Result<(), Fail> {
     expect_fault(&rt, alloc, b"GATE x 1 O=!O*a;", line)?;
     let texts = with_cells(C_ELEMENT, b"GATE x 1 O=a+;");
     let line = b"badtext c.net 1 BadExpression\n";
-    expect(
-        &rt,
-        alloc,
-        &MAP_GENLIB,
-        texts,
-        (Status::BadText, b"", line),
-    )
+    expect(&rt, alloc, &MAP_GENLIB, texts, (Status::BadText, b"", line))
 }
