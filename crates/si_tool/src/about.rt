@@ -64,10 +64,10 @@ const HELP: &[u8] = b"sisyn makes circuits without a clock from state graphs.
   sisyn help                         this text
   sisyn --version                    the version
 
-F is a state graph, LIB a library of cells, NETLIST a netlist and SCHEDULE a
-list of events, each the name of a file. A run that succeeds writes to standard
-output. A refused run writes one line to standard error, and ends with the
-status of its first word:
+F is a state graph, LIB a library of cells, FILE a library of genlib, NETLIST a
+netlist and SCHEDULE a list of events, each the name of a file. A run that
+succeeds writes to standard output. A refused run writes one line to standard
+error, and ends with the status of its first word:
 
   0  the command was done
   1  nomemory: memory ran out

@@ -422,6 +422,6 @@ fn help_fits_a_screen(rt: HostRuntime) -> Result<(), Fail> {
     assert_eq!(rt; status, Status::Done);
     let mut lines = out.bytes().split(|b| *b == b'\n');
     assert!(rt; lines.all(|line| line.len() <= 80));
-    assert!(rt; out.bytes().split(|b| *b == b'\n').count() <= 45);
+    assert!(rt; out.bytes().split(|b| *b == b'\n').count() <= 43);
     Ok(())
 }
