@@ -1,11 +1,11 @@
 -- What is written for a graph passes the audit for that graph: its lineage certifies it.
-use Rattle.std.proofs.Common.{◌≡◌, ℕ, List, None, Ok, sym, ap, subst, ◌∙◌}
+use Rattle.std.proofs.Common.{◌≡◌, ℕ, List, None, sym, ap, subst, ◌∙◌}
 use Rattle.si_audit.specs.Audit.{Certifies}
 use Rattle.si_audit.proofs.BuiltLineages.{built_are_certified}
 use Rattle.si_base.specs.Behaviour.{Implements}
 use Rattle.si_base.specs.Codes.{CodedGraph}
 use Rattle.si_base.specs.GivenGraph.{Sg}
-use Rattle.si_base.specs.Netlist.{Insertion, Netlist}
+use Rattle.si_base.specs.Netlist.{Netlist}
 use Rattle.si_base.specs.NetlistText.{Version2, netlist_text}
 use Rattle.si_base.specs.System.{IsFor}
 use Rattle.si_base.specs.WellFormed.{IsNetlist}
