@@ -1,11 +1,11 @@
 -- What is written for a graph passes the audit for that graph: its lineage certifies it.
-use Rattle.std.proofs.Common.{◌≡◌, ℕ, List, None, Ok, sym, ap, subst, ◌∙◌}
+use Rattle.std.proofs.Common.{◌≡◌, ℕ, List, None, sym, ap, subst, ◌∙◌}
 use Rattle.si_audit.specs.Audit.{Certifies}
 use Rattle.si_audit.proofs.BuiltLineages.{built_are_certified}
 use Rattle.si_base.specs.Behaviour.{Implements}
 use Rattle.si_base.specs.Codes.{CodedGraph}
 use Rattle.si_base.specs.GivenGraph.{Sg}
-use Rattle.si_base.specs.Netlist.{Insertion, Netlist}
+use Rattle.si_base.specs.Netlist.{Netlist}
 use Rattle.si_base.specs.NetlistText.{Version2, netlist_text}
 use Rattle.si_base.specs.System.{IsFor}
 use Rattle.si_base.specs.WellFormed.{IsNetlist}
@@ -73,9 +73,9 @@ synthesised_pass style file text output made =
     written_passes text output sg l given.1 is.sound line.line s.written inserts
 
 pub mapped_pass : MappedPass
-mapped_pass file text library cells output made =
+mapped_pass format file text library cells output made =
     let read = passed _ _ output made in
-    let given = (mapping_readings_are file text library cells read.0 read.1).given in
+    let given = (mapping_readings_are format file text library cells read.0 read.1).given in
     let resolved = passed _ _ output read.2 in
     let sg = read.0.given in
     let is = resolution_is sg.graph sg.states resolved.0 resolved.1 in

@@ -1,5 +1,5 @@
 -- An audit comes to one answer: the netlist is certified, or there is a first reason against it.
-use Rattle.std.proofs.Common.{◌≡◌, ◌≢◌, ℕ, List, None, Ok, Err, refl, sym, ap, subst, ◌∙◌, ◌⊎◌, inl, inr}
+use Rattle.std.proofs.Common.{◌≡◌, ◌≢◌, ℕ, List, None, Ok, Err, refl, sym, ap, subst, ◌∙◌, inl, inr}
 use Rattle.si_audit.specs.declared.fault.AuditFault.{AuditFault}
 use Rattle.si_audit.specs.declared.fault.AuditFault.TheVariants as fault
 use Rattle.si_audit.specs.Audit.{Certifies}
@@ -18,8 +18,6 @@ use Rattle.si_base.specs.Netlist.{Netlist}
 use Rattle.si_base.specs.NetlistText.{name_of}
 use Rattle.si_base.specs.Proper.{IsProper}
 use Rattle.si_base.specs.System.{IsFor}
-use Rattle.si_base.specs.WellFormed.{IsNetlist}
-use Rattle.si_insert.specs.declared.accept.Rejected.{Rejected as Reasons}
 use Rattle.si_insert.specs.declared.accept.Rejected.TheVariants as why
 use Rattle.si_insert.specs.Lineage.{History}
 use Rattle.si_netlist_reader.specs.NetlistFault.{netlist_fault}
@@ -39,7 +37,7 @@ use Rattle.si_stages.specs.Checks.{IsSound}
 use Rattle.si_stages.specs.Laws.{AtMostOne, HasResult}
 use Rattle.si_stages.specs.Meaning.{audit}
 use Rattle.si_stages.specs.Readings.{AuditReadings}
-use Rattle.si_stages.proofs.CheckLemmas.{graph_one, proper_one, match_lists_one}
+use Rattle.si_stages.proofs.CheckLemmas.{proper_one, match_lists_one}
 use Rattle.si_stages.proofs.ReadingLemmas.{AreAuditReadings, audit_readings_are, audit_readings_one, audit_readings_some}
 use Rattle.si_stages.proofs.ReplayLemmas.{as_many_names}
 use Rattle.si_stages.proofs.SomeLemmas.{match_lists_some, proper_some}

@@ -1,5 +1,5 @@
 -- The laws of the texts of folded graphs.
-use Rattle.std.proofs.Common.{◌≡◌, ℕ, List, Ok, sym, ap, subst, ◌∙◌}
+use Rattle.std.proofs.Common.{◌≡◌, ℕ, List, sym, ap, subst, ◌∙◌}
 use Rattle.si_base.specs.Behaviour.{Implements}
 use Rattle.si_base.specs.Codes.{CodedGraph}
 use Rattle.si_base.specs.GivenGraph.{Sg}
@@ -91,10 +91,10 @@ texts_are_synthesised style file text folded_file folded output told made =
     resolved.2.written
 
 pub texts_are_mapped : FoldTextsAreMapped
-texts_are_mapped file text folded_file folded library cells output told made =
+texts_are_mapped format file text folded_file folded library cells output told made =
     let given = texts_read_back file text folded told in
     let read = passed _ _ output made in
-    let is_given = (mapping_readings_are folded_file folded library cells read.0 read.1).given in
+    let is_given = (mapping_readings_are format folded_file folded library cells read.0 read.1).given in
     let resolved = passed _ _ output read.2 in
     let checked = passed _ _ resolved.0 resolved.1 in
     let m = resolved.2 in

@@ -21,5 +21,6 @@ pub mod FoldLaws
 pub mod AuditLaws
 pub mod ExerciseLemmas
 pub mod VerilogLemmas
+pub mod GenlibLemmas
 pub mod VerilogExamples
 pub mod Examples

@@ -8,8 +8,8 @@ use Rattle.si_base.specs.Netlist.{Netlist}
 use Rattle.si_base.specs.NetlistText.{netlist_text}
 use Rattle.si_base.specs.Proper.{HasNoConflict}
 use Rattle.si_cell.specs.Library.{Library, IsLibrary}
-use Rattle.si_cell.specs.LibraryText.{library_fault, library_of}
 use Rattle.si_cell.proofs.LawLemmas.{text_is_library}
+use Rattle.si_genlib.proofs.LibraryLemmas.{is_library as gates_are_library}
 use Rattle.si_circuit.proofs.CellLemmas.{cells_give, cells_are_netlist}
 use Rattle.si_circuit.specs.Cells.{AllFit, cell_gate, mapped_netlist}
 use Rattle.si_circuit.specs.Circuits.{AreStateNames}
@@ -35,6 +35,9 @@ use Rattle.si_sg.specs.GivenGraph.{IsGivenBy}
 use Rattle.si_stages.specs.Laws.{AtMostOne, HasResult}
 use Rattle.si_stages.specs.Mapping.{EndsInCells, EndsUnfit, IsMapping, TellsStuck}
 use Rattle.si_stages.specs.Mapping.{cells_text, shows_unfit, unfit_refusal}
+use Rattle.si_stages.specs.Readings.{fault_in, library_from}
+use Rattle.si_stages.specs.declared.library_format.LibraryFormat.{LibraryFormat}
+use Rattle.si_stages.specs.declared.library_format.LibraryFormat.TheVariants.{Own, Genlib}
 use Rattle.si_stages.proofs.GivenLineages.{IsGivenLineage, given_lineage}
 use Rattle.si_stages.proofs.ResolutionLemmas.{IsResolution}
 use Rattle.si_stages.proofs.ResolvingLemmas.{AreNamed, fresh_named, named_after, none_needed, same_history}
@@ -103,9 +106,10 @@ is_mapping library text sg l m output good given is ends output_is =
     }
 
 -- the library that a text without fault spells
-pub is_library : (text : List ℕ) (library : Library) → library_fault text ≡ None → library ≡ library_of text
-    → IsLibrary library
-is_library text library none is = subst IsLibrary (sym is) (text_is_library text none)
+pub is_library : (format : LibraryFormat) (text : List ℕ) (library : Library) → fault_in format text ≡ None
+    → library ≡ library_from format text → IsLibrary library
+is_library Own text library none is = subst IsLibrary (sym is) (text_is_library text none)
+is_library Genlib text library none is = subst IsLibrary (sym is) (gates_are_library text)
 
 -- ---- one result
 one_lineage : (l m n : History) (xs ys : List TraceStep) → GoesOn l xs m → GoesOn l ys n → xs ≡ ys

@@ -1,43 +1,43 @@
 -- All texts of a command, read in their order: one result, and what each text gives.
 use Rattle.std.proofs.Common.{◌≡◌, ℕ, List, None, Ok, refl, sym, subst}
-use Rattle.si_cell.specs.LibraryText.{library_fault, library_of}
 use Rattle.si_netlist_reader.specs.NetlistFault.{netlist_fault}
 use Rattle.si_netlist_reader.specs.NetlistValue.{netlist_of}
 use Rattle.si_refusals.specs.Stages.{Passes, Refuses}
 use Rattle.si_sg.specs.GivenGraph.{IsGivenBy}
 use Rattle.si_stages.specs.Laws.{AtMostOne, HasResult}
 use Rattle.si_stages.specs.Readings.{AuditReadings, MappingReadings, ReplayReadings}
-use Rattle.si_stages.specs.Readings.{audit_readings, mapping_readings, replay_readings}
+use Rattle.si_stages.specs.Readings.{audit_readings, fault_in, library_from, mapping_readings, replay_readings}
+use Rattle.si_stages.specs.declared.library_format.LibraryFormat.{LibraryFormat}
 use Rattle.si_stages.proofs.CheckLemmas.{graph_one}
 use Rattle.si_stages.proofs.SomeLemmas.{graph_some}
 use Rattle.si_stages.proofs.StageLemmas.{gives_one, gives_some, spelled_one, spelled_some, then_one, then_some}
 use Rattle.si_stages.proofs.StageLemmas.{no_refusal, one_value}
 
 -- ---- a graph, and a library
-pub mapping_readings_one : (g a n b : List ℕ) → AtMostOne (mapping_readings g a n b)
-mapping_readings_one g a n b =
+pub mapping_readings_one : (format : LibraryFormat) (g a n b : List ℕ) → AtMostOne (mapping_readings format g a n b)
+mapping_readings_one format g a n b =
     then_one _ _ (graph_one g a) (λ given is. then_one _ _ (spelled_one n _ _) (λ library spelt. gives_one _))
 
-pub mapping_readings_some : (g a n b : List ℕ) → HasResult (mapping_readings g a n b)
-mapping_readings_some g a n b =
+pub mapping_readings_some : (format : LibraryFormat) (g a n b : List ℕ) → HasResult (mapping_readings format g a n b)
+mapping_readings_some format g a n b =
     then_some _ _ (graph_some g a) (λ given is. then_some _ _ (spelled_some n _ _) (λ library spelt. gives_some _))
 
-pub record AreMappingReadings (a b : List ℕ) (readings : MappingReadings) : Type 0 where
+pub record AreMappingReadings (format : LibraryFormat) (a b : List ℕ) (readings : MappingReadings) : Type 0 where
   pub given : IsGivenBy a readings.given
-  pub no_fault : library_fault b ≡ None
-  pub library : readings.library ≡ library_of b
+  pub no_fault : fault_in format b ≡ None
+  pub library : readings.library ≡ library_from format b
 
-pub mapping_readings_are : (g a n b : List ℕ) (readings : MappingReadings) → mapping_readings g a n b (Ok readings)
-    → AreMappingReadings a b readings
-mapping_readings_are g a n b readings (Refuses r h same) = absurd (no_refusal (Ok readings) readings r refl same)
-mapping_readings_are g a n b readings (Passes given is (Refuses r h same)) =
+pub mapping_readings_are : (format : LibraryFormat) (g a n b : List ℕ) (readings : MappingReadings)
+    → mapping_readings format g a n b (Ok readings) → AreMappingReadings format a b readings
+mapping_readings_are format g a n b readings (Refuses r h same) = absurd (no_refusal (Ok readings) readings r refl same)
+mapping_readings_are format g a n b readings (Passes given is (Refuses r h same)) =
     absurd (no_refusal (Ok readings) readings r refl same)
-mapping_readings_are g a n b readings (Passes given is (Passes cells spelt same)) =
+mapping_readings_are format g a n b readings (Passes given is (Passes cells spelt same)) =
     let read : MappingReadings = record { given = given; library = cells } in
     let readings_are = one_value (Ok readings) readings read refl same in
-    let found : AreMappingReadings a b read =
+    let found : AreMappingReadings format a b read =
     record { given = is; no_fault = spelt.0; library = spelt.1 } in
-    subst (AreMappingReadings a b) (sym readings_are) found
+    subst (AreMappingReadings format a b) (sym readings_are) found
 
 -- ---- a graph, and a netlist
 pub audit_readings_one : (g a n b : List ℕ) → AtMostOne (audit_readings g a n b)

@@ -2,6 +2,7 @@
 use Rattle.std.specs.Prelude.{ℕ, List, Ok}
 use Rattle.si_circuit.specs.declared.style.Style.{Style}
 use Rattle.si_stages.specs.Meaning.{audit, mapping, synth}
+use Rattle.si_stages.specs.declared.library_format.LibraryFormat.{LibraryFormat}
 
 -- the netlist of the one text is certified for the graph of the other: their audit comes to an
 -- output, whatever the names of their files
@@ -16,5 +17,5 @@ SynthesisedPass = (style : Style) (file text output : List ℕ) → synth style 
 
 -- and so does what a graph is mapped to
 abbrev pub MappedPass : Type 0
-MappedPass = (file text library cells output : List ℕ)
-    → mapping file text library cells (Ok output) → PassesAudit text output
+MappedPass = (format : LibraryFormat) (file text library cells output : List ℕ)
+    → mapping format file text library cells (Ok output) → PassesAudit text output

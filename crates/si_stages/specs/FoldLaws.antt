@@ -12,6 +12,7 @@ use Rattle.si_sg.specs.GivenGraph.{IsGivenBy}
 use Rattle.si_stages.specs.Checks.{IsSound}
 use Rattle.si_stages.specs.Fold.{IsFoldedGraph}
 use Rattle.si_stages.specs.Meaning.{report, synth, mapping}
+use Rattle.si_stages.specs.declared.library_format.LibraryFormat.{LibraryFormat}
 use Rattle.si_stages.specs.declared.report_kind.Report.TheVariants.{Fold}
 
 -- the output gives the folded graph of the proper graph that the text gives
@@ -51,6 +52,8 @@ FoldTextsAreSynthesised = (style : Style) (file text folded_file folded output :
 
 -- and so does the one to which that text is mapped
 abbrev pub FoldTextsAreMapped : Type 0
-FoldTextsAreMapped = (file text folded_file folded library cells output : List ℕ)
-    → report Fold file text (Ok folded) → mapping folded_file folded library cells (Ok output)
+FoldTextsAreMapped = (format : LibraryFormat)
+    (file text folded_file folded library cells output : List ℕ)
+    → report Fold file text (Ok folded)
+    → mapping format folded_file folded library cells (Ok output)
     → ImplementsGiven text output

@@ -3,7 +3,6 @@ use Rattle.std.specs.Prelude.{◌≡◌, ℕ, ◌⊎◌, List, Result, Ok, Err, 
 use Rattle.si_base.specs.Codes.{CodedGraph}
 use Rattle.si_base.specs.GivenGraph.{Sg}
 use Rattle.si_base.specs.Proper.{HasNoConflict}
-use Rattle.si_cell.specs.LibraryText.{library_fault, library_of}
 use Rattle.si_circuit.specs.Cells.{AllFit}
 use Rattle.si_circuit.specs.declared.style.Style.{Style}
 use Rattle.si_sg.specs.GivenGraph.{IsGivenBy}
@@ -12,6 +11,8 @@ use Rattle.si_refusals.specs.Refusal.{TextRefusal, Differs}
 use Rattle.si_refusals.specs.Stages.{Stage}
 use Rattle.si_stages.specs.Checks.{IsSound}
 use Rattle.si_stages.specs.Meaning.{synth, mapping}
+use Rattle.si_stages.specs.Readings.{fault_in, library_from}
+use Rattle.si_stages.specs.declared.library_format.LibraryFormat.{LibraryFormat}
 
 -- it has one result at most
 abbrev pub AtMostOne : {R A : Type 0} → Stage R A → Type 0
@@ -36,7 +37,7 @@ FreeGraphsAreSynthesised = (style : Style) (file text : List ℕ) (given : Sg) (
 -- a proper graph without conflicts is mapped, where each of its signals that the circuit drives
 -- fits a cell
 abbrev pub FreeGraphsAreMapped : Type 0
-FreeGraphsAreMapped = (file text library cells : List ℕ) (given : Sg) (coded : CodedGraph)
-    → IsGivenBy text given → library_fault cells ≡ None → IsSound given.graph coded
-    → HasNoConflict coded → AllFit coded (library_of cells)
-    → (output : List ℕ) × mapping file text library cells (Ok output)
+FreeGraphsAreMapped = (format : LibraryFormat) (file text library cells : List ℕ) (given : Sg)
+    (coded : CodedGraph) → IsGivenBy text given → fault_in format cells ≡ None
+    → IsSound given.graph coded → HasNoConflict coded → AllFit coded (library_from format cells)
+    → (output : List ℕ) × mapping format file text library cells (Ok output)

@@ -15,3 +15,4 @@ pub mod AuditLaws
 pub mod FoldLaws
 pub mod Exercise
 pub mod Verilog
+pub mod Genlib

@@ -12,6 +12,7 @@ use Rattle.si_stages.specs.Replayed.{replay_end}
 use Rattle.si_stages.specs.Reports.{told}
 use Rattle.si_stages.specs.Resolving.{resolution}
 use Rattle.si_stages.specs.Synthesis.{synthesis}
+use Rattle.si_stages.specs.declared.library_format.LibraryFormat.{LibraryFormat}
 use Rattle.si_stages.specs.declared.report_kind.Report.{Report}
 
 abbrev pub report : Report → (file text : List ℕ) → Stage TextRefusal (List ℕ)
@@ -26,10 +27,11 @@ synth style file text = do
   lineage ← resolution given.graph given.states
   synthesis style given lineage
 
--- each file with its text
-abbrev pub mapping : (graph graph_text library library_text : List ℕ) → Stage TextRefusal (List ℕ)
-mapping graph graph_text library library_text = do
-  readings ← mapping_readings graph graph_text library library_text
+-- each file with its text, and the library read in either format
+abbrev pub mapping : LibraryFormat → (graph graph_text library library_text : List ℕ)
+    → Stage TextRefusal (List ℕ)
+mapping format graph graph_text library library_text = do
+  readings ← mapping_readings format graph graph_text library library_text
   lineage ← resolution readings.given.graph readings.given.states
   cells_text readings.library readings.given lineage
 

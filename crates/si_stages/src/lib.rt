@@ -7,6 +7,8 @@ pub mod checks;
 pub mod exercise;
 mod fold;
 pub mod fold_laws;
+pub mod genlib;
+pub mod library_format;
 mod literals;
 pub mod mapping;
 pub mod readings;

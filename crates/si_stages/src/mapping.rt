@@ -9,6 +9,7 @@ ghost use Rattle.si_refusals.specs.Ending as ending;
 ghost use Rattle.si_stages.specs.Mapping.{IsCellsText, TellsStuck, shows_unfit};
 ghost use Rattle.si_stages.specs.Meaning as meaning;
 
+use crate::library_format::LibraryFormat;
 use crate::readings::{MappingReadings, mapping_readings};
 use crate::resolving::resolution;
 use si_base::ids::NoMemory;
@@ -27,8 +28,8 @@ use std::alloc::Global;
 
 /// The text of the netlist of the graph that the text spells, with its conflicts resolved and
 /// further signals inserted until each that the circuit drives fits a cell, and of the first
-/// fitting instances of the library that the other text spells. A refusal shows the names of the
-/// texts' files.
+/// fitting instances of the library that the other text spells in the format. A refusal shows the
+/// names of the texts' files.
 ///
 /// # Errors
 ///
@@ -39,17 +40,18 @@ use std::alloc::Global;
 /// insertions. `NoMemory` only where memory runs out.
 pub fn map_texts<'w>(
     alloc: Global,
+    format: LibraryFormat,
     graph_file: &'w str,
     graph: &[u8],
     library_file: &'w str,
     library: &[u8],
 ) -> Result<Text, Refusal<'w>>
-    ensures ok { IfOk result (λ output. meaning.mapping graph_file.now graph.now
+    ensures ok { IfOk result (λ output. meaning.mapping format graph_file.now graph.now
         library_file.now library.now (Ok output)) }
-    ensures err { IfErr result (λ r. MayStop (meaning.mapping graph_file.now graph.now
+    ensures err { IfErr result (λ r. MayStop (meaning.mapping format graph_file.now graph.now
         library_file.now library.now) (ending_of r)) }
 {
-    let readings = mapping_readings(alloc, graph_file, graph, library_file, library)?;
+    let readings = mapping_readings(alloc, format, graph_file, graph, library_file, library)?;
     let MappingReadings { given, library } = readings;
     let Sg {
         model,

@@ -3,15 +3,18 @@
 ghost use Rattle.std.specs.Prelude.{◌<◌, All, IfOk, IfErr, length, Ok};
 ghost use Rattle.si_sg.specs.GivenGraph.{sg_now};
 ghost use Rattle.si_stages.specs.Checks.{IsNamed};
+ghost use Rattle.si_base.specs.TextFaults.{Gives};
 ghost use Rattle.si_refusals.specs.Ending.{MayStop, ending_of};
 ghost use Rattle.si_stages.specs.Readings as stage;
 ghost use Rattle.si_stages.specs.Readings.{audit_readings_now, mapping_readings_now};
 ghost use Rattle.si_stages.specs.Readings.{replay_readings_now};
 
+use crate::library_format::LibraryFormat;
 use si_base::fault::TextFault;
 use si_base::ids::Event;
 use si_cell::library::Library;
 use si_cell::reader::read_library;
+use si_genlib::reader::read_genlib;
 use si_netlist::netlist::Netlist;
 use si_netlist_reader::reader::read_netlist;
 use si_refusals::refusals::Refusal;
@@ -54,15 +57,32 @@ pub fn graph_in<'w>(alloc: Global, file: &'w str, text: &[u8]) -> Result<Sg, Ref
     }
 }
 
-/// The library that the text spells.
-pub fn library_in<'w>(alloc: Global, file: &'w str, text: &[u8]) -> Result<Library, Refusal<'w>>
-    ensures ok { IfOk result (λ l. stage.library_in file.now text.now (Ok l)) }
-    ensures err { IfErr result (λ r. MayStop (stage.library_in file.now text.now) (ending_of r)) }
+/// The library that the text spells in the format.
+pub fn library_in<'w>(
+    alloc: Global,
+    format: LibraryFormat,
+    file: &'w str,
+    text: &[u8],
+) -> Result<Library, Refusal<'w>>
+    ensures ok { IfOk result (λ l. stage.library_in format file.now text.now (Ok l)) }
+    ensures err { IfErr result (λ r.
+        MayStop (stage.library_in format file.now text.now) (ending_of r)) }
 {
-    match read_library(alloc, text) {
+    match library_from(alloc, format, text) {
         Ok(library) => Ok(library),
         Err(TextFault::NoMemory) => Err(Refusal::NoMemory),
         Err(TextFault::At { line, kind }) => Err(Refusal::BadText { file, line, kind }),
+    }
+}
+
+/// The library that the text spells in the format, or its first fault.
+fn library_from(alloc: Global, format: LibraryFormat, text: &[u8]) -> Result<Library, TextFault>
+    ensures { Gives (λ library. library) result (stage.fault_in format text.now)
+        (stage.library_from format text.now) }
+{
+    match format {
+        LibraryFormat::Own => read_library(alloc, text),
+        LibraryFormat::Genlib => read_genlib(alloc, text),
     }
 }
 
@@ -97,7 +117,8 @@ pub fn schedule_in<'w>(
     }
 }
 
-/// The graph and the library that the texts spell, each file with its text.
+/// The graph and the library that the texts spell, each file with its text, and the library in the
+/// format.
 ///
 /// # Errors
 ///
@@ -105,19 +126,20 @@ pub fn schedule_in<'w>(
 /// out.
 pub fn mapping_readings<'w>(
     alloc: Global,
+    format: LibraryFormat,
     graph_file: &'w str,
     graph: &[u8],
     library_file: &'w str,
     library: &[u8],
 ) -> Result<MappingReadings, Refusal<'w>>
-    ensures ok { IfOk result (λ t. stage.mapping_readings graph_file.now graph.now
+    ensures ok { IfOk result (λ t. stage.mapping_readings format graph_file.now graph.now
         library_file.now library.now (Ok (mapping_readings_now t))) }
-    ensures err { IfErr result (λ r. MayStop (stage.mapping_readings graph_file.now graph.now
+    ensures err { IfErr result (λ r. MayStop (stage.mapping_readings format graph_file.now graph.now
         library_file.now library.now) (ending_of r)) }
     ensures named { IfOk result (λ t. IsNamed t.given.graph t.given.states) }
 {
     let given = graph_in(alloc, graph_file, graph)?;
-    let library = library_in(alloc, library_file, library)?;
+    let library = library_in(alloc, format, library_file, library)?;
     Ok(MappingReadings { given, library })
 }
 

@@ -8,10 +8,12 @@ use Rattle.si_tool.specs.Loads.{Contents, Counts, loads, load_well, loads_well, 
 use Rattle.si_tool.specs.Meaning.{meaning, ComesTo}
 use Rattle.si_refusals.specs.Refusal.{TextRefusal, ReadFault, Answer, Output, FileRefused, TextRefused}
 use Rattle.si_tool.specs.declared.command.Task.{Task}
-use Rattle.si_tool.specs.declared.command.Task.TheVariants.{About, Tell, Synth, Map, Verilog, Replay, Audit, Exercise}
+use Rattle.si_tool.specs.declared.command.Task.TheVariants.{About, Tell, Synth, Map, FromGenlib, Verilog, Replay, Audit, Exercise}
 use Rattle.si_stages.specs.Laws.{AtMostOne, HasResult}
+use Rattle.si_stages.specs.declared.library_format.LibraryFormat.TheVariants.{Own, Genlib}
 use Rattle.si_stages.proofs.AuditLemmas.{audit_one, audit_some}
 use Rattle.si_stages.proofs.ExerciseLemmas.{exercise_one, exercise_some}
+use Rattle.si_stages.proofs.GenlibLemmas.{genlib_one, genlib_some}
 use Rattle.si_stages.proofs.MeaningLemmas.{report_one, synth_one, mapping_one, replay_one}
 use Rattle.si_stages.proofs.MeaningLemmas.{report_some, synth_some, mapping_some, replay_some}
 use Rattle.si_stages.proofs.StageLemmas.{gives_one, gives_some}
@@ -24,7 +26,8 @@ pub meaning_one : (task : Task) (files texts : List (List ℕ)) → AtMostOne (m
 meaning_one (About topic) [] [] = gives_one (about_text topic)
 meaning_one (Tell what) (file ∷ []) (text ∷ []) = report_one what file text
 meaning_one (Synth style) (file ∷ []) (text ∷ []) = synth_one style file text
-meaning_one Map (g ∷ l ∷ []) (a ∷ b ∷ []) = mapping_one g a l b
+meaning_one (Map format) (g ∷ l ∷ []) (a ∷ b ∷ []) = mapping_one format g a l b
+meaning_one FromGenlib (file ∷ []) (text ∷ []) = genlib_one file text
 meaning_one Verilog (file ∷ []) (text ∷ []) = verilog_one file text
 meaning_one Replay (g ∷ n ∷ s ∷ []) (a ∷ b ∷ c ∷ []) = replay_one g a n b s c
 meaning_one Audit (g ∷ n ∷ []) (a ∷ b ∷ []) = audit_one g a n b
@@ -37,7 +40,9 @@ pub meaning_some : (task : Task) (files texts : List (List ℕ)) → length file
 meaning_some (About topic) [] [] many each = gives_some (about_text topic)
 meaning_some (Tell what) (file ∷ []) (text ∷ []) many each = report_some what file text
 meaning_some (Synth style) (file ∷ []) (text ∷ []) many each = synth_some style file text
-meaning_some Map (g ∷ l ∷ []) (a ∷ b ∷ []) many each = mapping_some g a l b
+meaning_some (Map Own) (g ∷ l ∷ []) (a ∷ b ∷ []) many each = mapping_some Own g a l b
+meaning_some (Map Genlib) (g ∷ l ∷ []) (a ∷ b ∷ []) many each = mapping_some Genlib g a l b
+meaning_some FromGenlib (file ∷ []) (text ∷ []) many each = genlib_some file text
 meaning_some Verilog (file ∷ []) (text ∷ []) many each = verilog_some file text
 meaning_some Replay (g ∷ n ∷ s ∷ []) (a ∷ b ∷ c ∷ []) many each = replay_some g a n b s c
 meaning_some Audit (g ∷ n ∷ []) (a ∷ b ∷ []) many each = audit_some g a n b

@@ -4,13 +4,14 @@ use Rattle.std.specs.declared.alloc.Global.{Global}
 use Rattle.si_tool.specs.About.{about_text}
 use Rattle.si_tool.specs.Command.{Request, Asks, number_of}
 use Rattle.si_tool.specs.declared.command.Task.{Task}
-use Rattle.si_tool.specs.declared.command.Task.TheVariants.{About, Tell, Synth, Map, Verilog}
-use Rattle.si_tool.specs.declared.command.Task.TheVariants.{Replay, Audit, Exercise}
+use Rattle.si_tool.specs.declared.command.Task.TheVariants.{About, Tell, Synth, Map, FromGenlib}
+use Rattle.si_tool.specs.declared.command.Task.TheVariants.{Verilog, Replay, Audit, Exercise}
 use Rattle.si_refusals.specs.Ending.{Ending, NoMemory, Answered}
 use Rattle.si_refusals.specs.Refusal.{FileRefusal, TextRefusal, Answer, Output}
 use Rattle.si_refusals.specs.Refusal.{FileRefused, TextRefused}
 use Rattle.si_refusals.specs.Stages.{Stage, gives}
 use Rattle.si_stages.specs.Exercise.{exercise}
+use Rattle.si_stages.specs.Genlib.{genlib}
 use Rattle.si_stages.specs.Meaning.{report, synth, mapping, replay, audit}
 use Rattle.si_stages.specs.Verilog.{verilog}
 
@@ -19,7 +20,8 @@ abbrev pub meaning : Task → (files texts : List (List ℕ)) → Stage TextRefu
 meaning (About topic) [] [] = gives (about_text topic)
 meaning (Tell what) (file ∷ []) (text ∷ []) = report what file text
 meaning (Synth style) (file ∷ []) (text ∷ []) = synth style file text
-meaning Map (g ∷ l ∷ []) (graph ∷ library ∷ []) = mapping g graph l library
+meaning (Map format) (g ∷ l ∷ []) (graph ∷ library ∷ []) = mapping format g graph l library
+meaning FromGenlib (file ∷ []) (text ∷ []) = genlib file text
 meaning Verilog (file ∷ []) (text ∷ []) = verilog file text
 meaning Replay (g ∷ n ∷ s ∷ []) (graph ∷ netlist ∷ schedule ∷ []) =
     replay g graph n netlist s schedule

@@ -53,6 +53,8 @@ const HELP: &[u8] = b"sisyn makes circuits without a clock from state graphs.
   sisyn synth F complex              a netlist of complex gates
   sisyn synth F gc                   a netlist of generalised C-elements
   sisyn map F LIB                    a netlist of cells of a library
+  sisyn map F genlib FILE            a netlist of gates of a library of genlib
+  sisyn genlib FILE                  a library of genlib as a library of cells
   sisyn verilog NETLIST              a netlist as a module of Verilog
   sisyn replay F NETLIST SCHEDULE    where a schedule over a netlist ends
   sisyn audit F NETLIST              whether a netlist is certified for a graph
@@ -62,10 +64,10 @@ const HELP: &[u8] = b"sisyn makes circuits without a clock from state graphs.
   sisyn help                         this text
   sisyn --version                    the version
 
-F is a state graph, LIB a library of cells, NETLIST a netlist and SCHEDULE a
-list of events, each the name of a file. A run that succeeds writes to standard
-output. A refused run writes one line to standard error, and ends with the
-status of its first word:
+F is a state graph, LIB a library of cells, FILE a library of genlib, NETLIST a
+netlist and SCHEDULE a list of events, each the name of a file. A run that
+succeeds writes to standard output. A refused run writes one line to standard
+error, and ends with the status of its first word:
 
   0  the command was done
   1  nomemory: memory ran out

@@ -11,6 +11,7 @@ use crate::about::{HelpWord, Topic};
 use crate::form::{Slot, files_in};
 use si_circuit::style::Style;
 use si_refusals::refusals::Refusal;
+use si_stages::library_format::LibraryFormat;
 use si_stages::report_kind::Report;
 use std::alloc::{AllocError, Global};
 
@@ -72,8 +73,10 @@ pub enum Task {
     Tell(Report),
     /// The netlist of a graph, with gates of the style.
     Synth(Style),
-    /// The netlist of a graph, of the cells of a library.
-    Map,
+    /// The netlist of a graph, of the cells of a library that is read in the format.
+    Map(LibraryFormat),
+    /// A library of genlib in the tool's own format.
+    FromGenlib,
     /// A netlist as a module of Verilog.
     Verilog,
     /// The end of a schedule over a netlist beside a graph.
@@ -85,7 +88,7 @@ pub enum Task {
 }
 
 /// Each task. No two of them have a form in common.
-const TASKS: [Task; 23] = [
+const TASKS: [Task; 25] = [
     Task::About(Topic::Help(HelpWord::Long)),
     Task::About(Topic::Help(HelpWord::Short)),
     Task::About(Topic::Help(HelpWord::Plain)),
@@ -97,7 +100,9 @@ const TASKS: [Task; 23] = [
     Task::Tell(Report::Fold),
     Task::Synth(Style::Complex),
     Task::Synth(Style::GeneralisedC),
-    Task::Map,
+    Task::Map(LibraryFormat::Own),
+    Task::Map(LibraryFormat::Genlib),
+    Task::FromGenlib,
     Task::Verilog,
     Task::Replay,
     Task::Audit,
@@ -152,7 +157,19 @@ fn files_for<'w>(
             let style = Slot::Word(style_word(style));
             files_in(alloc, words, &[Slot::Word("synth"), Slot::File, style])
         }
-        Task::Map => files_in(alloc, words, &[Slot::Word("map"), Slot::File, Slot::File]),
+        Task::Map(LibraryFormat::Own) => {
+            files_in(alloc, words, &[Slot::Word("map"), Slot::File, Slot::File])
+        }
+        Task::Map(LibraryFormat::Genlib) => {
+            let form = [
+                Slot::Word("map"),
+                Slot::File,
+                Slot::Word("genlib"),
+                Slot::File,
+            ];
+            files_in(alloc, words, &form)
+        }
+        Task::FromGenlib => files_in(alloc, words, &[Slot::Word("genlib"), Slot::File]),
         Task::Verilog => files_in(alloc, words, &[Slot::Word("verilog"), Slot::File]),
         Task::Replay => {
             let form = [Slot::Word("replay"), Slot::File, Slot::File, Slot::File];

@@ -17,6 +17,7 @@ use si_io::shelf::{LoadFault, Shelf};
 use si_refusals::refusals::Refusal;
 use si_stages::audited::audit_texts;
 use si_stages::exercise::exercise;
+use si_stages::genlib::genlib;
 use si_stages::mapping::map_texts;
 use si_stages::replayed::replay_texts;
 use si_stages::report::report;
@@ -64,7 +65,8 @@ fn output_of_texts<'w>(
         Task::Tell(what) => report(alloc, what, files[0], &texts[0]),
         Task::Synth(style) => synth(alloc, style, files[0], &texts[0]),
         Task::Verilog => verilog(alloc, files[0], &texts[0]),
-        Task::Map => map_texts(alloc, files[0], &texts[0], files[1], &texts[1]),
+        Task::FromGenlib => genlib(alloc, files[0], &texts[0]),
+        Task::Map(format) => map_texts(alloc, format, files[0], &texts[0], files[1], &texts[1]),
         Task::Replay => {
             let (graph, netlist, schedule) = (files[0], files[1], files[2]);
             replay_texts(

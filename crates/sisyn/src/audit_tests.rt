@@ -70,7 +70,10 @@ csc0 sum DSr' + LDTACK csc0
 
 /// A netlist of the VME bus controller with one inserted signal.
 fn vme_netlist(alloc: Global, start: &[u8], insertion: &[u8]) -> Result<Text, Fail> {
-    let mut text = Text::copy_of(alloc, b".model vme\n.inputs DSr LDTACK\n.outputs D DTACK LDS\n")?;
+    let mut text = Text::copy_of(
+        alloc,
+        b".model vme\n.inputs DSr LDTACK\n.outputs D DTACK LDS\n",
+    )?;
     text.add(b".internal\n.inserted csc0\n.start ")?;
     text.add(start)?;
     text.add(b"\n.insert csc0 ")?;
@@ -104,12 +107,7 @@ fn certified_netlists(rt: HostRuntime) -> Result<(), Fail> {
 }
 
 /// Audits the C-element with this gate, and expects that it is rejected.
-fn expect_wrong_gate(
-    rt: &impl Abort,
-    alloc: Global,
-    gate: &[u8],
-    line: &[u8],
-) -> Result<(), Fail> {
+fn expect_wrong_gate(rt: &impl Abort, alloc: Global, gate: &[u8], line: &[u8]) -> Result<(), Fail> {
     let netlist = netlist_with(alloc, b"a b", gate)?;
     let texts = texts(C_ELEMENT, netlist.bytes());
     expect(rt, alloc, &AUDIT, texts, (Status::Rejected, b"", line))

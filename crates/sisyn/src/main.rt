@@ -6,6 +6,8 @@ mod audit_tests;
 #[cfg(test)]
 mod fold_tests;
 #[cfg(test)]
+mod genlib_tests;
+#[cfg(test)]
 mod hostile_tests;
 #[cfg(test)]
 mod replay_tests;

@@ -13,13 +13,13 @@ use Rattle.si_stages.proofs.mapping.map_texts.Goals as goal
 pub returns-in_err-readings-clause-err : goal.returns-in_err-readings-clause-err
 returns-in_err-readings-clause-err c =
     let a = c.args in
-    stops (mapping a.graph_file.now a.graph.now a.library_file.now a.library.now) c.from_residual.result _
+    stops (mapping a.format a.graph_file.now a.graph.now a.library_file.now a.library.now) c.from_residual.result _
     c.from_residual.ensures.1 (stop_first _ _ _ c.in_err-readings.ensures.err)
 
 pub returns-in_err-resolved-clause-err : goal.returns-in_err-resolved-clause-err
 returns-in_err-resolved-clause-err c =
     let a = c.args in
-    stops (mapping a.graph_file.now a.graph.now a.library_file.now a.library.now)
+    stops (mapping a.format a.graph_file.now a.graph.now a.library_file.now a.library.now)
     c.from_residual-in_err-resolved.result _ c.from_residual-in_err-resolved.ensures.1
     (stop_next _ _ (mapping_readings_now c.in_ok-readings.readings) _ c.in_ok-readings.ensures.ok
     (stop_first _ _ _ c.in_err-resolved.ensures.err))
@@ -28,7 +28,7 @@ pub returns-in_err-output-clause-err : goal.returns-in_err-output-clause-err
 returns-in_err-output-clause-err c =
     let a = c.args in
     let read = mapping_readings_now c.in_ok-readings.readings in
-    stops (mapping a.graph_file.now a.graph.now a.library_file.now a.library.now)
+    stops (mapping a.format a.graph_file.now a.graph.now a.library_file.now a.library.now)
     c.from_residual-in_err-output.result _ c.from_residual-in_err-output.ensures.1
     (stop_next _ _ read _ c.in_ok-readings.ensures.ok
     (stop_next _ _ c.in_ok-resolved.resolved _ c.in_ok-resolved.ensures.ok
@@ -39,7 +39,7 @@ pub resolution-requires-clause-given : goal.resolution-requires-clause-given
 resolution-requires-clause-given c =
     let a = c.args in
     let read = mapping_readings_now c.in_ok-readings.readings in
-    let are = mapping_readings_are a.graph_file.now a.graph.now a.library_file.now a.library.now read
+    let are = mapping_readings_are a.format a.graph_file.now a.graph.now a.library_file.now a.library.now read
     c.in_ok-readings.ensures.ok in
     given_signals a.graph.now read.given are.given
 
@@ -47,7 +47,7 @@ pub cells_text-requires-clause-spelled : goal.cells_text-requires-clause-spelled
 cells_text-requires-clause-spelled c =
     let a = c.args in
     let read = mapping_readings_now c.in_ok-readings.readings in
-    let are = mapping_readings_are a.graph_file.now a.graph.now a.library_file.now a.library.now read
+    let are = mapping_readings_are a.format a.graph_file.now a.graph.now a.library_file.now a.library.now read
     c.in_ok-readings.ensures.ok in
     let l = c.in_ok-resolved.resolved in
     let is = resolution_is read.given.graph read.given.states l c.in_ok-resolved.ensures.ok in
@@ -57,7 +57,7 @@ pub cells_text-requires-clause-states : goal.cells_text-requires-clause-states
 cells_text-requires-clause-states c =
     let a = c.args in
     let read = mapping_readings_now c.in_ok-readings.readings in
-    let are = mapping_readings_are a.graph_file.now a.graph.now a.library_file.now a.library.now read
+    let are = mapping_readings_are a.format a.graph_file.now a.graph.now a.library_file.now a.library.now read
     c.in_ok-readings.ensures.ok in
     let l = c.in_ok-resolved.resolved in
     let is = resolution_is read.given.graph read.given.states l c.in_ok-resolved.ensures.ok in
@@ -68,11 +68,11 @@ pub returns-clause-ok : goal.returns-clause-ok
 returns-clause-ok c =
     let a = c.args in
     let read = mapping_readings_now c.in_ok-readings.readings in
-    let are = mapping_readings_are a.graph_file.now a.graph.now a.library_file.now a.library.now read
+    let are = mapping_readings_are a.format a.graph_file.now a.graph.now a.library_file.now a.library.now read
     c.in_ok-readings.ensures.ok in
     let l = c.in_ok-resolved.resolved in
     let is = resolution_is read.given.graph read.given.states l c.in_ok-resolved.ensures.ok in
-    let good = is_library a.library.now read.library are.no_fault are.library in
+    let good = is_library a.format a.library.now read.library are.no_fault are.library in
     let text = c.in_ok-output.ensures.ok in
     let output = is_mapping read.library a.graph.now read.given l text.lineage c.in_ok-output.output good are.given is
     text.maps text.text_is in

@@ -56,6 +56,24 @@ returns-in-Verilog-clause-err c =
     c.index-texts-0-in-Verilog.is c.deref-in-Verilog.ensures.value in
     rw (c.in-Verilog.is, names, texts) c.verilog.ensures.err
 
+pub returns-in-FromGenlib-clause-ok : goal.returns-in-FromGenlib-clause-ok
+returns-in-FromGenlib-clause-ok c =
+    let many : length c.args.files.now ≡ 1 = rw c.in-FromGenlib.is at c.requires.files in
+    let names = one_name c.args.files.now many in
+    let texts = one_text c.args.texts.now c.index-texts-0-in-FromGenlib.result
+    c.deref-in-FromGenlib.result.now (c.requires.texts ∙ many)
+    c.index-texts-0-in-FromGenlib.is c.deref-in-FromGenlib.ensures.value in
+    rw (c.in-FromGenlib.is, names, texts) c.genlib.ensures.ok
+
+pub returns-in-FromGenlib-clause-err : goal.returns-in-FromGenlib-clause-err
+returns-in-FromGenlib-clause-err c =
+    let many : length c.args.files.now ≡ 1 = rw c.in-FromGenlib.is at c.requires.files in
+    let names = one_name c.args.files.now many in
+    let texts = one_text c.args.texts.now c.index-texts-0-in-FromGenlib.result
+    c.deref-in-FromGenlib.result.now (c.requires.texts ∙ many)
+    c.index-texts-0-in-FromGenlib.is c.deref-in-FromGenlib.ensures.value in
+    rw (c.in-FromGenlib.is, names, texts) c.genlib.ensures.err
+
 pub returns-in-Map-clause-ok : goal.returns-in-Map-clause-ok
 returns-in-Map-clause-ok c =
     let many : length c.args.files.now ≡ 2 = rw c.in-Map.is at c.requires.files in

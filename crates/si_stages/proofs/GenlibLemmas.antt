@@ -1,0 +1,104 @@
+-- A text of genlib comes to one answer: its library, or its first fault; and mapping to it is mapping to that library.
+use Rattle.std.proofs.Common.{◌≡◌, ℕ, List, None, Ok, Err, refl, sym, ap, subst, ◌∙◌}
+use Rattle.si_cell.specs.Library.{Library}
+use Rattle.si_cell.specs.LibraryText.{library_fault, library_of}
+use Rattle.si_genlib.specs.GenlibText.{genlib_fault}
+use Rattle.si_genlib.specs.GenlibText as gates
+use Rattle.si_genlib.specs.Written.{library_text}
+use Rattle.si_genlib.proofs.LibraryLemmas.{is_library}
+use Rattle.si_genlib.proofs.WrittenLaw.{text_reads_back}
+use Rattle.si_refusals.specs.Refusal.{TextRefusal}
+use Rattle.si_refusals.specs.Stages.{Stage, Then, Refuses, Passes, gives}
+use Rattle.si_stages.specs.Genlib.{IsItsLibrary, genlib}
+use Rattle.si_stages.specs.Laws.{AtMostOne, HasResult}
+use Rattle.si_stages.specs.Meaning.{mapping}
+use Rattle.si_stages.specs.Readings.{MappingReadings, TellsFault, library_in, mapping_readings}
+use Rattle.si_stages.specs.declared.library_format.LibraryFormat.TheVariants.{Own, Genlib}
+use Rattle.si_stages.proofs.ReadingLemmas.{mapping_readings_are}
+use Rattle.si_stages.proofs.StageLemmas.{then_one, then_some, spelled_one, spelled_some, gives_one, gives_some}
+
+pub genlib_one : (file text : List ℕ) → AtMostOne (genlib file text)
+genlib_one file text = then_one _ _ (spelled_one file _ _) (λ cells spelt. gives_one (library_text cells))
+
+pub genlib_some : (file text : List ℕ) → HasResult (genlib file text)
+genlib_some file text = then_some _ _ (spelled_some file _ _) (λ cells spelt. gives_some (library_text cells))
+
+-- ---- an output is the library that the text spells
+
+is_its_library : (text output : List ℕ) → genlib_fault text ≡ None → output ≡ library_text (gates.library_of text)
+    → IsItsLibrary text output
+is_its_library text output sound is =
+    let back = text_reads_back (gates.library_of text) (is_library text) in
+    record {
+      sound = sound;
+      output_is = is;
+      back_sound = ap library_fault is ∙ back.0;
+      back = ap library_of is ∙ back.1;
+    }
+
+by_stages : (file text output : List ℕ)
+    → Then TextRefusal Library (List ℕ) (library_in Genlib file text) (λ l. gives (library_text l)) (Ok output)
+    → IsItsLibrary text output
+by_stages file text output (Refuses refusal is other) = cc
+by_stages file text output (Passes l spelt given) =
+    let same : output ≡ library_text l = cc in
+    is_its_library text output spelt.0 (same ∙ ap library_text spelt.1)
+
+pub output_is_library : (file text output : List ℕ) → genlib file text (Ok output) → IsItsLibrary text output
+output_is_library file text output is = by_stages file text output is
+
+pub library_is_output : (file text output : List ℕ) → IsItsLibrary text output → genlib file text (Ok output)
+library_is_output file text output is =
+    Passes (gates.library_of text) (is.sound, refl) (ap (λ (t : List ℕ). Ok t) is.output_is)
+
+-- ---- a refusal is the first fault
+
+refused_by_stages : (file text : List ℕ) (refusal : TextRefusal)
+    → Then TextRefusal Library (List ℕ) (library_in Genlib file text) (λ l. gives (library_text l)) (Err refusal)
+    → TellsFault file (genlib_fault text) refusal
+refused_by_stages file text refusal (Refuses other tells same) =
+    let is : other ≡ refusal = cc in
+    subst (TellsFault file (genlib_fault text)) is tells
+refused_by_stages file text refusal (Passes l spelt given) = cc
+
+pub refusal_is_fault : (file text : List ℕ) (refusal : TextRefusal) → genlib file text (Err refusal)
+    → TellsFault file (genlib_fault text) refusal
+refusal_is_fault file text refusal is = refused_by_stages file text refusal is
+
+pub fault_is_refusal : (file text : List ℕ) (refusal : TextRefusal) → TellsFault file (genlib_fault text) refusal
+    → genlib file text (Err refusal)
+fault_is_refusal file text refusal tells = Refuses refusal tells refl
+
+-- ---- one library, read in either format
+
+-- where the readings of one list of texts are those of another, what comes of them does too
+other_readings : {B : Type 0} (one other : Stage TextRefusal MappingReadings)
+    (next : MappingReadings → Stage TextRefusal B) (output : B)
+    → ((r : MappingReadings) → one (Ok r) → other (Ok r)) → Then TextRefusal MappingReadings B one next (Ok output)
+    → Then TextRefusal MappingReadings B other next (Ok output)
+other_readings one other next output same (Refuses r refused is) = cc
+other_readings one other next output same (Passes readings read then) = Passes readings (same readings read) then
+
+readings_from : (g a n b m written : List ℕ) (made : IsItsLibrary b written) (r : MappingReadings)
+    → mapping_readings Genlib g a n b (Ok r) → mapping_readings Own g a m written (Ok r)
+readings_from g a n b m written made r read =
+    let are = mapping_readings_are Genlib g a n b r read in
+    let library : r.library ≡ library_of written = are.library ∙ sym made.back in
+    Passes r.given are.given (Passes r.library (made.back_sound, library) refl)
+
+readings_back : (g a n b m written : List ℕ) (made : IsItsLibrary b written) (r : MappingReadings)
+    → mapping_readings Own g a m written (Ok r) → mapping_readings Genlib g a n b (Ok r)
+readings_back g a n b m written made r read =
+    let are = mapping_readings_are Own g a m written r read in
+    let library : r.library ≡ gates.library_of b = are.library ∙ made.back in
+    Passes r.given are.given (Passes r.library (made.sound, library) refl)
+
+pub gates_serve_cells : (g a n b m written output : List ℕ) → genlib n b (Ok written)
+    → mapping Genlib g a n b (Ok output) → mapping Own g a m written (Ok output)
+gates_serve_cells g a n b m written output made mapped =
+    other_readings _ _ _ output (readings_from g a n b m written (output_is_library n b written made)) mapped
+
+pub cells_serve_gates : (g a n b m written output : List ℕ) → genlib n b (Ok written)
+    → mapping Own g a m written (Ok output) → mapping Genlib g a n b (Ok output)
+cells_serve_gates g a n b m written output made mapped =
+    other_readings _ _ _ output (readings_back g a n b m written (output_is_library n b written made)) mapped

@@ -1,0 +1,21 @@
+use Rattle.std.proofs.Common.{ℕ, List, Ok, ap}
+use Rattle.si_refusals.specs.Stages.{Passes}
+use Rattle.si_refusals.specs.declared.refusals.Refusal.TheVariants.{NoMemory}
+use Rattle.si_stages.specs.Genlib.{genlib}
+use Rattle.si_stages.proofs.HandedOn.{stops}
+use Rattle.si_stages.proofs.StageLemmas.{stop_first}
+use Rattle.si_stages.proofs.genlib.genlib.Goals as goal
+
+pub returns-in_err-library-clause-err : goal.returns-in_err-library-clause-err
+returns-in_err-library-clause-err c =
+    stops (genlib c.args.file.now c.args.text.now) c.from_residual.result _ c.from_residual.ensures.1
+    (stop_first _ _ _ c.in_err-library.ensures.err)
+
+pub returns-in_err-output-clause-err : goal.returns-in_err-output-clause-err
+returns-in_err-output-clause-err c =
+    stops (genlib c.args.file.now c.args.text.now)
+    c.from_residual-in_err-output.result NoMemory c.from_residual-in_err-output.ensures.1 tt
+
+pub returns-clause-ok : goal.returns-clause-ok
+returns-clause-ok c = Passes c.in_ok-library.library c.in_ok-library.ensures.ok
+    (ap (λ (t : List ℕ). Ok t) c.in_ok-output.ensures)

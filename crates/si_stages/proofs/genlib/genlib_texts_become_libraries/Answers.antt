@@ -1,0 +1,8 @@
+use Rattle.si_stages.proofs.GenlibLemmas.{output_is_library, library_is_output, refusal_is_fault, fault_is_refusal}
+use Rattle.si_stages.proofs.genlib.genlib_texts_become_libraries.Goals as goal
+
+pub returns : goal.returns
+returns c = record {
+  output = λ file text output. (output_is_library file text output, library_is_output file text output);
+  refusal = λ file text refusal. (refusal_is_fault file text refusal, fault_is_refusal file text refusal);
+}
