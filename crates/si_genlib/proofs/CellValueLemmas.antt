@@ -11,9 +11,9 @@ use Rattle.si_base.specs.Netlist.{Sum, literal_value, sum_value}
 use Rattle.si_base.specs.WellFormed.{IsCube, IsSum}
 use Rattle.si_cube.specs.Covers.{IsPrimeCover}
 use Rattle.si_words.specs.Names.{stands_in}
-use Rattle.si_genlib.specs.declared.fault.Stop.{Stop}
+use Rattle.si_tokens.specs.declared.fault.Stop.{Stop}
 use Rattle.si_genlib.specs.declared.symbol.Symbol.{Symbol}
-use Rattle.si_genlib.specs.Unread.{◌>>=◌, Unread, Piece, tokens}
+use Rattle.si_tokens.specs.Unread.{◌>>=◌, Unread, Piece, tokens}
 use Rattle.si_genlib.specs.Expression.{Tree, trees, truth, value_of, State, Outcome, Goes, Ends, Stops, start, symbol, is_name, is_constant, step, led, read}
 use Rattle.si_genlib.specs.Gate.{Gate, Pins, no_pins, with_pin, with_token, pins_from, ends_expression, pin_count, width, place, gate_value, demand, sum_of, cell_of}
 use Rattle.si_genlib.specs.Statements.{name_at, decimal_at, out_at, equals_at, body_at, gate_at}
@@ -56,7 +56,8 @@ pin_includes out pins name = elim (cases_Bool (bytes_eq name out)) [
   | inr apart ↦ elim (cases_Bool (stands_in pins.names name)) [
     | inl there ↦ rw (apart, there) (includes_itself pins)
     | inr new ↦ elim (cases_Bool (nat_le 4 (length pins.names))) [
-      | inl full ↦ rw (apart, new, full) (record { names = λ n there. there; more_stays = λ so. refl; own_stays = λ so. so })
+      | inl full ↦ rw (apart, new, full)
+          (record { names = λ n there. there; more_stays = λ so. refl; own_stays = λ so. so })
       | inr room ↦ rw (apart, new, room) (record {
         names = λ n there. stands_more pins.names name n there;
         more_stays = λ so. so;
@@ -102,7 +103,8 @@ pin_stands out pins end name within plain = elim (cases_Bool (bytes_eq name out)
 ]
 
 -- ---- expressions read with two valuations that agree at the pins
-first_same : (v w : Bool) (rest : Unread) (r : Result (Bool × Unread) Stop) → r ≡ Ok (v, rest) → r ≡ Ok (w, rest) → v ≡ w
+first_same : (v w : Bool) (rest : Unread) (r : Result (Bool × Unread) Stop) → r ≡ Ok (v, rest) → r ≡ Ok (w, rest) → v
+    ≡ w
 first_same v w rest r one other =
     let both : (v, rest) ≡ (w, rest) = cc in
     ap (λ (x : Bool × Unread). x.0) both
@@ -167,19 +169,21 @@ abbrev DependsOnPins : Gate → Type 0
 DependsOnPins g = IsPlain g.pins → (one other : ℕ) → ((k : ℕ) → k < pin_count g → bit one k ≡ bit other k)
     → gate_value g one ≡ gate_value g other
 
-body_depends : (line : ℕ) (name out : List ℕ) (u : Unread) → Holds {A = Gate × Unread} (λ x. DependsOnPins x.0) (body_at line name out u)
+body_depends : (line : ℕ) (name out : List ℕ) (u : Unread)
+    → Holds {A = Gate × Unread} (λ x. DependsOnPins x.0) (body_at line name out u)
 unfolding body_at gate_value
 body_depends line name out u = by_result (read trees start (tokens u)) refl
   where
-    by_result : (r : Result (Tree × Unread) Stop) → read trees start (tokens u) ≡ r → Holds {A = Gate × Unread} (λ x. DependsOnPins x.0) (r >>= λ x. Ok (
-      record {
-        line = line;
-        name = name;
-        pins = pins_from out no_pins (tokens u);
-        tree = x.0;
-      },
-      x.1,
-    ))
+    by_result : (r : Result (Tree × Unread) Stop) → read trees start (tokens u) ≡ r
+        → Holds {A = Gate × Unread} (λ x. DependsOnPins x.0) (r >>= λ x. Ok (
+          record {
+            line = line;
+            name = name;
+            pins = pins_from out no_pins (tokens u);
+            tree = x.0;
+          },
+          x.1,
+        ))
     by_result (Err stop) is = tt
     by_result (Ok x) is = λ plain one other same.
         same_tree_value (λ n. bit one (place (pins_from out no_pins (tokens u)).names n))
@@ -189,10 +193,14 @@ body_depends line name out u = by_result (read trees start (tokens u)) refl
 
 gate_depends : (line : ℕ) (u : Unread) → Holds {A = Gate × Unread} (λ x. DependsOnPins x.0) (gate_at line u)
 unfolding gate_at
-gate_depends line u = then_holds {A = List ℕ × Unread} (λ x. Unit {0}) (λ x. DependsOnPins x.0) (name_at u) _ (anything (name_at u))
-    (λ name any. then_holds {A = Unread} (λ x. Unit {0}) (λ x. DependsOnPins x.0) (decimal_at name.1) _ (anything (decimal_at name.1))
-    (λ area any. then_holds {A = List ℕ × Unread} (λ x. Unit {0}) (λ x. DependsOnPins x.0) (out_at area) _ (anything (out_at area))
-    (λ out any. then_holds {A = Unread} (λ x. Unit {0}) (λ x. DependsOnPins x.0) (equals_at out.1) _ (anything (equals_at out.1))
+gate_depends line u = then_holds {A = List ℕ × Unread} (λ x. Unit {0}) (λ x. DependsOnPins x.0) (name_at u) _
+    (anything (name_at u))
+    (λ name any. then_holds {A = Unread} (λ x. Unit {0}) (λ x. DependsOnPins x.0) (decimal_at name.1) _
+    (anything (decimal_at name.1))
+    (λ area any. then_holds {A = List ℕ × Unread} (λ x. Unit {0}) (λ x. DependsOnPins x.0) (out_at area) _
+    (anything (out_at area))
+    (λ out any. then_holds {A = Unread} (λ x. Unit {0}) (λ x. DependsOnPins x.0) (equals_at out.1) _
+    (anything (equals_at out.1))
     (λ body any. body_depends line name.0 out.0 body))))
 
 -- ---- the value of a sum of the pins alone
@@ -245,8 +253,10 @@ pub cell_value : (line : ℕ) (u : Unread) (g : Gate) (rest : Unread) (names : L
     → gate_at line u ≡ Ok (g, rest) → g.pins.more ≡ false → code < 2 ^ (pin_count g + 1)
     → sum_value code (cell_of names g).sum ≡ gate_value g code
 unfolding cell_of
-cell_value line u g rest names code is kept fits = value_at g g.pins.own refl kept (rw is at (gate_depends line u)) code fits
+cell_value line u g rest names code is kept fits = value_at g g.pins.own refl kept
+    (rw is at (gate_depends line u)) code fits
 
-pub cell_cover : (g : Gate) (names : List (List ℕ)) → IsPrimeCover (demand (width g) (gate_value g)) (cell_of names g).sum
+pub cell_cover : (g : Gate) (names : List (List ℕ)) → IsPrimeCover (demand (width g) (gate_value g))
+    (cell_of names g).sum
 unfolding cell_of
 cell_cover g names = prime_cover (width g) (gate_value g)

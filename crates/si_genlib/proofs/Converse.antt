@@ -1,9 +1,9 @@
 -- What is read of tokens has a syntax: each state keeps that of what was read so far.
-use Rattle.std.proofs.Common.{◌≡◌, ℕ, suc, ◌+◌, ◌<◌, ◌≤◌, max, ◌⊎◌, Bool, true, false, List, [], ◌∷◌, ◌++◌, length, nat_le, codes, Option, Some, None, IsTrue, refl, sym, ap, subst, ◌∙◌, arith, inl, inr, ⊎_elim, append_assoc, append-nil}
+use Rattle.std.proofs.Common.{◌≡◌, ℕ, suc, ◌+◌, ◌≤◌, ◌⊎◌, List, [], ◌∷◌, ◌++◌, length, codes, Option, Some, None, refl, sym, ap, subst, ◌∙◌, arith, ⊎_elim, append_assoc, append-nil}
 use Rattle.si_genlib.specs.declared.symbol.Operator.{Operator}
 use Rattle.si_genlib.specs.declared.symbol.Operator.TheVariants as operators
-use Rattle.si_genlib.specs.Expression.{Tree, Not, And, Or, trees, after, complemented, still, leaf}
-use Rattle.si_genlib.specs.Grammar.{Syntax, Word, InParens, Primed, Complemented, Beside, Times, Plus, strength, IsExpression, written, tree_of, height, IsBeginning, BeginsWith}
+use Rattle.si_genlib.specs.Expression.{Tree, Not, And, trees, after, complemented, still, leaf}
+use Rattle.si_genlib.specs.Grammar.{Syntax, Word, InParens, Complemented, Beside, Times, Plus, strength, IsExpression, written, tree_of, height, IsBeginning}
 
 -- ---- what the parts of a state spell
 
@@ -131,9 +131,11 @@ module _ (limit : ℕ) where
   product : (depth : ℕ) (factors : Option Tree) (x : Tree) (second : List (List ℕ)) (s : Syntax)
       → IfAny (SpellsFactors limit depth) factors second → Reads limit 2 depth x s
       → (t : Syntax) × Reads limit 1 depth (after trees.both factors x) t × (second ++ written s ≡ written t)
-  product depth None x second s empty reads =
-      (s, record { is = reads.is; strong = omega (arith, reads.strong); room = reads.room; tree = reads.tree },
-      ap (λ (tokens : List (List ℕ)). tokens ++ written s) empty)
+  product depth None x second s empty reads = (
+    s,
+    record { is = reads.is; strong = omega (arith, reads.strong); room = reads.room; tree = reads.tree },
+    ap (λ (tokens : List (List ℕ)). tokens ++ written s) empty,
+  )
   product depth (Some y) x second s spells reads = ⊎_elim beside times spells.same
     where
       f : Syntax
@@ -141,35 +143,49 @@ module _ (limit : ℕ) where
 
       beside : second ≡ written f
           → (t : Syntax) × Reads limit 1 depth (And y x) t × (second ++ written s ≡ written t)
-      beside same = (Beside f s, record {
-        is = (spells.reads.is, reads.is, spells.reads.strong, reads.strong);
-        strong = omega arith;
-        room = omega (arith, spells.reads.room, reads.room);
-        tree = rw (spells.reads.tree, reads.tree) refl;
-      }, ap (λ (tokens : List (List ℕ)). tokens ++ written s) same)
+      beside same = (
+        Beside f s,
+        record {
+          is = (spells.reads.is, reads.is, spells.reads.strong, reads.strong);
+          strong = omega arith;
+          room = omega (arith, spells.reads.room, reads.room);
+          tree = rw (spells.reads.tree, reads.tree) refl;
+        },
+        ap (λ (tokens : List (List ℕ)). tokens ++ written s) same,
+      )
 
       times : second ≡ written f ++ codes "*" ∷ []
           → (t : Syntax) × Reads limit 1 depth (And y x) t × (second ++ written s ≡ written t)
-      times same = (Times f s, record {
-        is = (spells.reads.is, reads.is, spells.reads.strong, reads.strong);
-        strong = omega arith;
-        room = omega (arith, spells.reads.room, reads.room);
-        tree = rw (spells.reads.tree, reads.tree) refl;
-      }, regrouped second (written f) (written s) (codes "*") same)
+      times same = (
+        Times f s,
+        record {
+          is = (spells.reads.is, reads.is, spells.reads.strong, reads.strong);
+          strong = omega arith;
+          room = omega (arith, spells.reads.room, reads.room);
+          tree = rw (spells.reads.tree, reads.tree) refl;
+        },
+        regrouped second (written f) (written s) (codes "*") same,
+      )
 
   -- the terms before it, and this term
   sum : (depth : ℕ) (terms : Option Tree) (x : Tree) (first : List (List ℕ)) (s : Syntax)
       → IfAny (SpellsTerms limit depth) terms first → Reads limit 1 depth x s
       → (t : Syntax) × Reads limit 0 depth (after trees.either terms x) t × (first ++ written s ≡ written t)
-  sum depth None x first s empty reads =
-      (s, record { is = reads.is; strong = omega arith; room = reads.room; tree = reads.tree },
-      ap (λ (tokens : List (List ℕ)). tokens ++ written s) empty)
-  sum depth (Some y) x first s spells reads = (Plus spells.s s, record {
-    is = (spells.reads.is, reads.is, reads.strong);
-    strong = omega arith;
-    room = omega (arith, spells.reads.room, reads.room);
-    tree = rw (spells.reads.tree, reads.tree) refl;
-  }, regrouped first (written spells.s) (written s) (codes "+") spells.same)
+  sum depth None x first s empty reads = (
+    s,
+    record { is = reads.is; strong = omega arith; room = reads.room; tree = reads.tree },
+    ap (λ (tokens : List (List ℕ)). tokens ++ written s) empty,
+  )
+  sum depth (Some y) x first s spells reads = (
+    Plus spells.s s,
+    record {
+      is = (spells.reads.is, reads.is, reads.strong);
+      strong = omega arith;
+      room = omega (arith, spells.reads.room, reads.room);
+      tree = rw (spells.reads.tree, reads.tree) refl;
+    },
+    regrouped first (written spells.s) (written s) (codes "+") spells.same,
+  )
 
   pub term_ends : (Outer : List (List ℕ) → Type 0) (depth : ℕ) (terms factors : Option Tree) (x : Tree)
       (tokens : List (List ℕ)) (s : Syntax) → Stands limit Outer depth terms factors tokens
@@ -213,10 +229,12 @@ module _ (limit : ℕ) where
 
   pub in_parens : (tokens front outer inner : List (List ℕ)) → tokens ≡ front ++ inner → front ≡ outer ++ codes "(" ∷ []
       → tokens ++ codes ")" ∷ [] ≡ outer ++ (codes "(" ∷ inner ++ codes ")" ∷ [])
-  in_parens tokens front outer inner same opens = rw (same, opens) (append_assoc (outer ++ codes "(" ∷ []) inner (codes ")" ∷ [])
+  in_parens tokens front outer inner same opens = rw (same, opens)
+      (append_assoc (outer ++ codes "(" ∷ []) inner (codes ")" ∷ [])
       ∙ append_assoc outer (codes "(" ∷ []) (inner ++ codes ")" ∷ []))
 
-  pub parens_read : (depth : ℕ) (x : Tree) (s : Syntax) → Reads limit 0 (suc depth) x s → Reads limit 3 depth x (InParens s)
+  pub parens_read : (depth : ℕ) (x : Tree) (s : Syntax) → Reads limit 0 (suc depth) x s
+      → Reads limit 3 depth x (InParens s)
   parens_read depth x s reads = record {
     is = reads.is;
     strong = omega arith;
@@ -225,20 +243,29 @@ module _ (limit : ℕ) where
   }
 
   pub weaker : (depth : ℕ) (x : Tree) (s : Syntax) → Reads limit 3 depth x s → Reads limit 2 depth x s
-  weaker depth x s reads = record { is = reads.is; strong = omega (arith, reads.strong); room = reads.room; tree = reads.tree }
+  weaker depth x s reads = record {
+    is = reads.is;
+    strong = omega (arith, reads.strong);
+    room = reads.room;
+    tree = reads.tree;
+  }
 
   -- with a `)` for each that is open
-  pub completed : (ops : List (Operator Tree)) (terms factors : Option Tree) (tokens : List (List ℕ)) (x : Tree) (s : Syntax)
-      → Reads limit 2 (length ops) x s → Before limit ops terms factors tokens → IsBeginning limit (tokens ++ written s)
+  pub completed : (ops : List (Operator Tree)) (terms factors : Option Tree) (tokens : List (List ℕ))
+      (x : Tree) (s : Syntax) → Reads limit 2 (length ops) x s → Before limit ops terms factors tokens
+      → IsBeginning limit (tokens ++ written s)
   completed [] terms factors tokens x s reads before =
       let all = terms_end (λ front. front ≡ []) 0 terms (after trees.both factors x) (tokens ++ written s)
-          (term_ends (λ front. front ≡ []) 0 terms factors x tokens s before reads) in
+      (term_ends (λ front. front ≡ []) 0 terms factors x tokens s before reads) in
       record {
         whole = all.s;
         is = all.reads.is;
         within = omega (arith, all.reads.room);
-        begins = ([], sym (append-nil (tokens ++ written s) ∙ all.same
-            ∙ ap (λ (front : List (List ℕ)). front ++ written all.s) all.outer));
+        begins = (
+          [],
+          sym (append-nil (tokens ++ written s) ∙ all.same
+              ∙ ap (λ (front : List (List ℕ)). front ++ written all.s) all.outer),
+        );
       }
   completed (operators.Complement ∷ ops) terms factors tokens x s reads before =
       moved (tokens ++ written s) (before.front ++ written (Complemented s))
@@ -253,7 +280,7 @@ module _ (limit : ℕ) where
       let y : Tree = after trees.either terms (after trees.both factors x) in
       let Outer : List (List ℕ) → Type 0 = EndsIn (codes "(") (Before limit ops outer_terms outer_factors) in
       let all = terms_end Outer (suc (length ops)) terms (after trees.both factors x) (tokens ++ written s)
-          (term_ends Outer (suc (length ops)) terms factors x tokens s before reads) in
+      (term_ends Outer (suc (length ops)) terms factors x tokens s before reads) in
       cut_short (tokens ++ written s) (codes ")" ∷ [])
       (moved ((tokens ++ written s) ++ codes ")" ∷ []) (all.outer.front ++ written (InParens all.s))
       (in_parens (tokens ++ written s) all.front all.outer.front (written all.s) all.same all.outer.same)
@@ -261,8 +288,8 @@ module _ (limit : ℕ) where
       (weaker (length ops) y (InParens all.s) (parens_read (length ops) y all.s all.reads)) all.outer.before))
 
   -- where an operand is due, `CONST0` may stand
-  pub due_begins : (ops : List (Operator Tree)) (terms factors : Option Tree) (tokens : List (List ℕ)) → length ops ≤ limit
-      → Before limit ops terms factors tokens → IsBeginning limit tokens
+  pub due_begins : (ops : List (Operator Tree)) (terms factors : Option Tree) (tokens : List (List ℕ))
+      → length ops ≤ limit → Before limit ops terms factors tokens → IsBeginning limit tokens
   due_begins ops terms factors tokens few before = cut_short tokens (written (Word (codes "CONST0")))
       (completed ops terms factors tokens (leaf trees (codes "CONST0")) (Word (codes "CONST0")) (record {
         is = refl;

@@ -1,5 +1,5 @@
 -- Each step keeps what a state tells of the tokens that led to it.
-use Rattle.std.proofs.Common.{◌≡◌, ℕ, suc, ◌+◌, ◌<◌, ◌≤◌, max, ◌==◌, if◌then◌else◌, Bool, true, false, List, [], ◌∷◌, ◌++◌, length, nat_le, codes, Option, Some, None, IsTrue, refl, sym, ap, ◌∙◌, arith, inl, inr, subst, ◌⊎◌, append_assoc, append-nil, leb-false, eqb-true}
+use Rattle.std.proofs.Common.{◌≡◌, ℕ, suc, ◌<◌, ◌≤◌, ◌==◌, if◌then◌else◌, Bool, true, false, List, [], ◌∷◌, ◌++◌, length, nat_le, codes, Option, Some, None, IsTrue, refl, sym, ap, ◌∙◌, arith, inl, inr, subst, ◌⊎◌, append_assoc, append-nil, leb-false, eqb-true}
 use Rattle.std.proofs.lemmas.Bool.{cases_Bool}
 use Rattle.si_base.specs.declared.fault.TextKind.{TextKind}
 use Rattle.si_base.specs.declared.fault.TextKind.TheVariants.{BadExpression, TooDeep}
@@ -7,14 +7,15 @@ use Rattle.si_genlib.specs.declared.symbol.Symbol.{Symbol}
 use Rattle.si_genlib.specs.declared.symbol.Symbol.TheVariants as symbols
 use Rattle.si_genlib.specs.declared.symbol.Operator.{Operator}
 use Rattle.si_genlib.specs.declared.symbol.Operator.TheVariants as operators
-use Rattle.si_genlib.specs.Expression.{Tree, Not, And, Or, trees, State, Outcome, Goes, Ends, Stops, start, after, complemented, still, term, all_terms, next_factor, next_term, opened, due, closed, ended, behind, step_at, step, leaf, mark, symbol, is_name}
-use Rattle.si_genlib.specs.Grammar.{Syntax, Word, InParens, Primed, Plus, strength, IsExpression, written, tree_of, height, IsBeginning, BeginsWith}
+use Rattle.si_genlib.specs.Expression.{Tree, Not, trees, State, Outcome, Goes, Ends, Stops, start, complemented, still, term, all_terms, next_factor, opened, due, closed, ended, behind, step_at, step, leaf, mark, symbol, is_name}
+use Rattle.si_genlib.specs.Grammar.{Syntax, Word, InParens, Primed, written, IsBeginning, IsOpening}
 use Rattle.si_genlib.proofs.GrammarLemmas.{steps, led_on}
-use Rattle.si_genlib.proofs.Converse.{Reads, SpellsTerms, SpellsFactors, IfAny, Stands, EndsIn, Before, Outside, parted, rejoined, EndsFactor, factor_ends, EndsTerm, term_ends, EndsTerms, terms_end, cut_short, moved, in_parens, parens_read, weaker, completed, due_begins}
+use Rattle.si_genlib.proofs.Converse.{Reads, Stands, Before, Outside, parted, rejoined, EndsFactor, factor_ends, EndsTerm, term_ends, EndsTerms, terms_end, moved, in_parens, parens_read, weaker, completed, due_begins}
 
 -- ---- what a state tells of the tokens that led to it
 
-pub record IsDue (limit : ℕ) (ops : List (Operator Tree)) (terms factors : Option Tree) (tokens : List (List ℕ)) : Type 0 where
+pub record IsDue (limit : ℕ) (ops : List (Operator Tree)) (terms factors : Option Tree)
+    (tokens : List (List ℕ)) : Type 0 where
   pub before : Before limit ops terms factors tokens
   pub few : length ops ≤ 64
 
@@ -76,10 +77,10 @@ symbol_is bytes = elim (cases_Bool (is_name bytes)) [
 
 -- ---- a step
 
-abbrev pub StopMeans : ℕ → List (List ℕ) → TextKind → Type 0
-StopMeans limit tokens TooDeep = 64 < limit → IsBeginning limit tokens
-StopMeans limit tokens BadExpression = Unit {0}
-StopMeans limit tokens _ = ⊥
+abbrev pub StopMeans : ℕ → List (List ℕ) → List ℕ → TextKind → Type 0
+StopMeans limit tokens token TooDeep = IsOpening token × (64 < limit → IsBeginning limit (tokens ++ token ∷ []))
+StopMeans limit tokens token BadExpression = Unit {0}
+StopMeans limit tokens token _ = ⊥
 
 pub record IsWhole (limit : ℕ) (x : Tree) (tokens : List (List ℕ)) (token : List ℕ) : Type 0 where
   pub s : Syntax
@@ -91,7 +92,7 @@ pub record IsWhole (limit : ℕ) (x : Tree) (tokens : List (List ℕ)) (token : 
 abbrev pub StepMeans : ℕ → List (List ℕ) → List ℕ → Outcome Tree → Type 0
 StepMeans limit tokens token (Goes s) = Holds limit s (tokens ++ token ∷ [])
 StepMeans limit tokens token (Ends x) = IsWhole limit x tokens token
-StepMeans limit tokens token (Stops kind) = StopMeans limit (tokens ++ token ∷ []) kind
+StepMeans limit tokens token (Stops kind) = StopMeans limit tokens token kind
 
 still_short : (ops : List (Operator Tree)) → length (still ops) ≤ length ops
 still_short [] = omega arith
@@ -115,40 +116,45 @@ module _ (limit : ℕ) (enough : 64 ≤ limit) (tokens : List (List ℕ)) (token
 
   opens : (old : State Tree) (ops : List (Operator Tree)) (terms factors : Option Tree)
       → Before limit ops terms factors (tokens ++ token ∷ []) → length ops ≡ suc (length old.unfinished)
-      → length old.unfinished ≤ 64
-      → StepMeans limit tokens token (opened old (record { operand = None; unfinished = ops; terms = terms; factors = factors }))
-  opens old ops terms factors before one_more few = elim (cases_Bool (nat_le 64 (length old.unfinished))) [
-    | inl full ↦ rw full (λ deeper. due_begins limit ops terms factors (tokens ++ token ∷ []) (omega arith) before)
+      → length old.unfinished ≤ 64 → IsOpening token
+      → StepMeans limit tokens token
+      (opened old (record { operand = None; unfinished = ops; terms = terms; factors = factors }))
+  opens old ops terms factors before one_more few opening = elim (cases_Bool (nat_le 64 (length old.unfinished))) [
+    | inl full ↦ rw full (
+      opening,
+      λ deeper.
+          due_begins limit ops terms factors (tokens ++ token ∷ []) (omega arith) before,
+    )
     | inr room ↦ rw room (record { before = before; few = omega (arith, leb-false 64 (length old.unfinished) room) })
   ]
 
   due_step : (s : State Tree) → IsDue limit s.unfinished s.terms s.factors tokens
-      → (sym : Symbol Tree) → IsSymbol token sym → StepMeans limit tokens token (due s sym)
-  due_step s d (symbols.Leaf x) is = record {
+      → (sign : Symbol Tree) → IsSymbol token sign → StepMeans limit tokens token (due s sign)
+  due_step s held (symbols.Leaf x) is = record {
     s = Word token;
-    reads = record { is = is.0; strong = omega arith; room = omega (arith, d.few); tree = sym is.1 };
-    few = d.few;
+    reads = record { is = is.0; strong = omega arith; room = omega (arith, held.few); tree = sym is.1 };
+    few = held.few;
     front = tokens;
-    before = d.before;
+    before = held.before;
     same = refl;
   }
-  due_step s d symbols.Complement is = opens s (operators.Complement ∷ s.unfinished) s.terms s.factors
-      (record { front = tokens; before = d.before; same = spelled is }) refl d.few
-  due_step s d symbols.Open is = opens s (operators.Paren s.terms s.factors ∷ s.unfinished) None None (record {
+  due_step s held symbols.Complement is = opens s (operators.Complement ∷ s.unfinished) s.terms s.factors
+      (record { front = tokens; before = held.before; same = spelled is }) refl held.few (inr is)
+  due_step s held symbols.Open is = opens s (operators.Paren s.terms s.factors ∷ s.unfinished) None None (record {
     front = tokens ++ token ∷ [];
-    outer = record { front = tokens; before = d.before; same = spelled is };
+    outer = record { front = tokens; before = held.before; same = spelled is };
     first = [];
     second = [];
     terms_read = refl;
     factors_read = refl;
     same = sym (append-nil (tokens ++ token ∷ []));
-  }) refl d.few
-  due_step s d symbols.Prime is = tt
-  due_step s d symbols.Times is = tt
-  due_step s d symbols.Plus is = tt
-  due_step s d symbols.Close is = tt
-  due_step s d symbols.End is = tt
-  due_step s d symbols.Other is = tt
+  }) refl held.few (inl is)
+  due_step s held symbols.Prime is = tt
+  due_step s held symbols.Times is = tt
+  due_step s held symbols.Plus is = tt
+  due_step s held symbols.Close is = tt
+  due_step s held symbols.End is = tt
+  due_step s held symbols.Other is = tt
 
   closes : (ops : List (Operator Tree)) (x : Tree) → EndsTerms limit (Outside limit ops) (length ops) x tokens
       → length ops ≤ 64 → token ≡ codes ")" → StepMeans limit tokens token (closed x ops)
@@ -174,15 +180,15 @@ module _ (limit : ℕ) (enough : 64 ≤ limit) (tokens : List (List ℕ)) (token
   ends (operator ∷ ops) x all is = tt
 
   -- ---- behind an operand
-  module _ (s : State Tree) (x : Tree) (b : IsBehind limit x s.unfinished s.terms s.factors tokens) where
+  module _ (s : State Tree) (x : Tree) (held : IsBehind limit x s.unfinished s.terms s.factors tokens) where
     abbrev ops : List (Operator Tree)
     ops = still s.unfinished
 
     factor : EndsFactor limit s.unfinished s.terms s.factors x tokens
     factor =
-        let f = factor_ends limit s.unfinished s.terms s.factors x b.front b.s
-            (weaker limit (length s.unfinished) x b.s b.reads) b.before in
-        record { s = f.s; reads = f.reads; front = f.front; before = f.before; same = b.same ∙ f.same }
+        let f = factor_ends limit s.unfinished s.terms s.factors x held.front held.s
+        (weaker limit (length s.unfinished) x held.s held.reads) held.before in
+        record { s = f.s; reads = f.reads; front = f.front; before = f.before; same = held.same ∙ f.same }
 
     stands : Stands limit (Outside limit ops) (length ops) s.terms s.factors factor.front
     stands = parted limit s.unfinished s.terms s.factors factor.front factor.before
@@ -190,7 +196,7 @@ module _ (limit : ℕ) (enough : 64 ≤ limit) (tokens : List (List ℕ)) (token
     term_read : EndsTerm limit (Outside limit ops) (length ops) s.terms (term trees s x) tokens
     term_read =
         let t = term_ends limit (Outside limit ops) (length ops) s.terms s.factors (complemented trees x s.unfinished)
-            factor.front factor.s stands factor.reads in
+        factor.front factor.s stands factor.reads in
         record {
           s = t.s;
           reads = t.reads;
@@ -205,10 +211,12 @@ module _ (limit : ℕ) (enough : 64 ≤ limit) (tokens : List (List ℕ)) (token
     all_read = terms_end limit (Outside limit ops) (length ops) s.terms (term trees s x) tokens term_read
 
     few_left : length ops ≤ 64
-    few_left = omega (arith, still_short s.unfinished, b.few)
+    few_left = omega (arith, still_short s.unfinished, held.few)
 
-    factor_due : (tail all : List (List ℕ)) → (tail ≡ written term_read.s) ⊎ (tail ≡ written term_read.s ++ codes "*" ∷ [])
-        → all ≡ term_read.front ++ (term_read.first ++ tail) → IsDue limit ops s.terms (Some (term trees s x)) all
+    factor_due : (tail all : List (List ℕ))
+        → (tail ≡ written term_read.s) ⊎ (tail ≡ written term_read.s ++ codes "*" ∷ [])
+        → all ≡ term_read.front ++ (term_read.first ++ tail)
+        → IsDue limit ops s.terms (Some (term trees s x)) all
     factor_due tail all joined same = record {
       before = rejoined limit s.unfinished s.terms (Some (term trees s x)) all (record {
         front = term_read.front;
@@ -222,9 +230,10 @@ module _ (limit : ℕ) (enough : 64 ≤ limit) (tokens : List (List ℕ)) (token
       few = few_left;
     }
 
-    next_to : (sym : Symbol Tree) → IsSymbol token sym → StepMeans limit tokens token (due (next_factor trees s x) sym)
-    next_to sym is =
-        due_step (next_factor trees s x) (factor_due (written term_read.s) tokens (inl refl) term_read.same) sym is
+    next_to : (sign : Symbol Tree) → IsSymbol token sign
+        → StepMeans limit tokens token (due (next_factor trees s x) sign)
+    next_to sign is =
+        due_step (next_factor trees s x) (factor_due (written term_read.s) tokens (inl refl) term_read.same) sign is
 
     term_due : token ≡ codes "+" → IsDue limit ops (Some (all_terms trees s x)) None (tokens ++ token ∷ [])
     term_due is = record {
@@ -236,27 +245,29 @@ module _ (limit : ℕ) (enough : 64 ≤ limit) (tokens : List (List ℕ)) (token
         terms_read = record { s = all_read.s; reads = all_read.reads; same = refl };
         factors_read = refl;
         same = spelled is ∙ longer tokens all_read.front (written all_read.s) (codes "+" ∷ []) all_read.same
-            ∙ ap (λ (more : List (List ℕ)). all_read.front ++ more) (sym (append-nil (written all_read.s ++ codes "+" ∷ [])));
+            ∙ ap (λ (more : List (List ℕ)). all_read.front ++ more)
+            (sym (append-nil (written all_read.s ++ codes "+" ∷ [])));
       });
       few = few_left;
     }
 
-    behind_step : (sym : Symbol Tree) → IsSymbol token sym → StepMeans limit tokens token (behind trees s x sym)
+    behind_step : (sign : Symbol Tree) → IsSymbol token sign → StepMeans limit tokens token (behind trees s x sign)
     behind_step symbols.Prime is = record {
-      s = Primed b.s;
+      s = Primed held.s;
       reads = record {
-        is = (b.reads.is, b.reads.strong);
+        is = (held.reads.is, held.reads.strong);
         strong = omega arith;
-        room = b.reads.room;
-        tree = ap (λ (t : Tree). Not t) b.reads.tree;
+        room = held.reads.room;
+        tree = ap (λ (t : Tree). Not t) held.reads.tree;
       };
-      few = b.few;
-      front = b.front;
-      before = b.before;
-      same = spelled is ∙ longer tokens b.front (written b.s) (codes "'" ∷ []) b.same;
+      few = held.few;
+      front = held.front;
+      before = held.before;
+      same = spelled is ∙ longer tokens held.front (written held.s) (codes "'" ∷ []) held.same;
     }
     behind_step symbols.Times is = factor_due (written term_read.s ++ codes "*" ∷ []) (tokens ++ token ∷ []) (inr refl)
-        (spelled is ∙ longest tokens term_read.front term_read.first (written term_read.s) (codes "*" ∷ []) term_read.same)
+        (spelled is
+        ∙ longest tokens term_read.front term_read.first (written term_read.s) (codes "*" ∷ []) term_read.same)
     behind_step symbols.Plus is = term_due is
     behind_step symbols.Close is = closes ops (all_terms trees s x) all_read few_left is
     behind_step symbols.End is = ends ops (all_terms trees s x) all_read is
@@ -266,11 +277,12 @@ module _ (limit : ℕ) (enough : 64 ≤ limit) (tokens : List (List ℕ)) (token
     behind_step symbols.Other is = tt
 
   at_step : (s : State Tree) (m : Option Tree) → HoldsAt limit m s.unfinished s.terms s.factors tokens
-      → (sym : Symbol Tree) → IsSymbol token sym → StepMeans limit tokens token (step_at trees s m sym)
-  at_step s None holds sym is = due_step s holds sym is
-  at_step s (Some x) holds sym is = behind_step s x holds sym is
+      → (sign : Symbol Tree) → IsSymbol token sign → StepMeans limit tokens token (step_at trees s m sign)
+  at_step s None holds sign is = due_step s holds sign is
+  at_step s (Some x) holds sign is = behind_step s x holds sign is
 
-  pub step_means : (s : State Tree) → Holds limit s tokens → StepMeans limit tokens token (step trees s (symbol trees token))
+  pub step_means : (s : State Tree) → Holds limit s tokens
+      → StepMeans limit tokens token (step trees s (symbol trees token))
   unfolding step
   step_means s holds = at_step s s.operand holds (symbol trees token) (symbol_is token)
 
@@ -278,7 +290,15 @@ module _ (limit : ℕ) (enough : 64 ≤ limit) (tokens : List (List ℕ)) (token
 
 pub start_holds : (limit : ℕ) → Holds limit start []
 start_holds limit = record {
-  before = record { front = []; outer = refl; first = []; second = []; terms_read = refl; factors_read = refl; same = refl };
+  before = record {
+    front = [];
+    outer = refl;
+    first = [];
+    second = [];
+    terms_read = refl;
+    factors_read = refl;
+    same = refl;
+  };
   few = omega arith;
 }
 
@@ -296,7 +316,8 @@ module _ (limit : ℕ) (enough : 64 ≤ limit) where
           → ((u : State Tree) → Holds limit u (done ++ token ∷ []) → steps trees u tokens ≡ Goes t
           → Holds limit t ((done ++ token ∷ []) ++ tokens))
           → Holds limit t (done ++ token ∷ tokens)
-      by_outcome (Goes u) holds leads later = subst (Holds limit t) (append_assoc done (token ∷ []) tokens) (later u holds leads)
+      by_outcome (Goes u) holds leads later =
+          subst (Holds limit t) (append_assoc done (token ∷ []) tokens) (later u holds leads)
       by_outcome (Ends x) whole leads later = absurd (cc leads)
       by_outcome (Stops kind) means leads later = absurd (cc leads)
 
@@ -306,9 +327,12 @@ module _ (limit : ℕ) (enough : 64 ≤ limit) where
 
   pub begins : (m : Option Tree) (ops : List (Operator Tree)) (terms factors : Option Tree) (tokens : List (List ℕ))
       → HoldsAt limit m ops terms factors tokens → IsBeginning limit tokens
-  begins None ops terms factors tokens d = due_begins limit ops terms factors tokens (omega (arith, d.few)) d.before
-  begins (Some x) ops terms factors tokens b = moved limit tokens (b.front ++ written b.s) b.same
-      (completed limit ops terms factors b.front x b.s (weaker limit (length ops) x b.s b.reads) b.before)
+  begins None ops terms factors tokens held =
+      due_begins limit ops terms factors tokens (omega (arith, held.few)) held.before
+  begins (Some x) ops terms factors tokens held = moved limit tokens (held.front ++ written held.s) held.same
+      (completed limit ops terms factors held.front x held.s (weaker limit (length ops) x held.s held.reads)
+      held.before)
 
-  pub reached_begins : (tokens : List (List ℕ)) (s : State Tree) → steps trees start tokens ≡ Goes s → IsBeginning limit tokens
+  pub reached_begins : (tokens : List (List ℕ)) (s : State Tree) → steps trees start tokens ≡ Goes s
+      → IsBeginning limit tokens
   reached_begins tokens s leads = begins s.operand s.unfinished s.terms s.factors tokens (reached tokens s leads)

@@ -72,7 +72,8 @@ pub required_fit : (bits : ℕ) (value : ℕ → Bool) → All (λ k. k < 2 ^ bi
 required_fit bits value = All-filter value (λ k. k < 2 ^ bits) (below (2 ^ bits)) (below_small (2 ^ bits))
 
 pub forbidden_fit : (bits : ℕ) (value : ℕ → Bool) → All (λ k. k < 2 ^ bits) (demand bits value).forbidden
-forbidden_fit bits value = All-filter (λ code. not (value code)) (λ k. k < 2 ^ bits) (below (2 ^ bits)) (below_small (2 ^ bits))
+forbidden_fit bits value = All-filter (λ code. not (value code)) (λ k. k < 2 ^ bits) (below (2 ^ bits))
+    (below_small (2 ^ bits))
 
 pub forbidden_rises : (bits : ℕ) (value : ℕ → Bool) → IsNonDecreasing (demand bits value).forbidden
 forbidden_rises bits value =
@@ -85,7 +86,8 @@ can_be_met bits value k required forbidden = true≢false (sym (kept_tells value
 -- ---- the sum
 pub prime_cover : (bits : ℕ) (value : ℕ → Bool) → IsPrimeCover (demand bits value) (sum_of bits value)
 unfolding sum_of
-prime_cover bits value = chosen_is_prime_cover bits (demand bits value) (required_fit bits value) (forbidden_fit bits value)
+prime_cover bits value = chosen_is_prime_cover bits (demand bits value) (required_fit bits value)
+    (forbidden_fit bits value)
     (can_be_met bits value)
 
 pub sum_well_formed : (bits : ℕ) (value : ℕ → Bool) → IsSum bits (sum_of bits value)
@@ -93,7 +95,8 @@ unfolding sum_of
 sum_well_formed bits value = chosen_is_sum bits (demand bits value)
 
 -- the sum has the value for which it is chosen
-pub same_value : (bits : ℕ) (value : ℕ → Bool) (code : ℕ) → code < 2 ^ bits → sum_value code (sum_of bits value) ≡ value code
+pub same_value : (bits : ℕ) (value : ℕ → Bool) (code : ℕ) → code < 2 ^ bits → sum_value code (sum_of bits value)
+    ≡ value code
 same_value bits value code less = elim (cases_Bool (value code)) [
   | inl one ↦ (prime_cover bits value).cover.covers code (kept_from value (2 ^ bits) code less one) ∙ sym one
   | inr none ↦ (prime_cover bits value).cover.avoids code
@@ -114,7 +117,8 @@ one_literal n cube l m is one other same = elim (cases_lt one.0 other.0) [
     | inl before ↦ (
         let less = is.rising other.0 one.0 l before one.1 in
         let first : get_or cube one.0 l ≡ l = one.2 in
-        let second : get_or cube other.0 l ≡ m = get_or_default cube other.0 l m (omega (arith, before, one.1)) ∙ other.2 in
+        let second : get_or cube other.0 l ≡ m = get_or_default cube other.0 l m (omega (arith, before, one.1))
+        ∙ other.2 in
         let apart : m.sig < l.sig = rw (second, first) at less in
         absurd (omega (arith, apart, same)))
     | inr back ↦ (
@@ -144,7 +148,8 @@ either_last : (n k : ℕ) (cube : List Literal) → IsCube (n + 1) cube → cove
 either_last n k cube is all = all_from_in (literal_value k) (without n cube) (λ m here. (
     let inside : In m cube = in_from_filter (λ x. not (x.sig == n)) cube m here in
     let apart : not (m.sig == n) ≡ true = filter_holds m here in
-    let there : m.sig < n + 1 = All-contains (λ (l : Literal). l.sig < n + 1) cube m is.there (Contains_from_in cube m inside) in
+    let there : m.sig < n + 1 = All-contains (λ (l : Literal). l.sig < n + 1) cube m is.there
+    (Contains_from_in cube m inside) in
     let small : m.sig < n = by_test m.sig there (not-true (m.sig == n) apart) in
     let same : bit (1 * 2 ^ n + k) m.sig ≡ bit k m.sig = ap (λ (b : ℕ). b == 1) (bit_at_cat_low 1 n k m.sig small) in
     ap (λ (b : Bool). beq b m.plain) (sym same) ∙ all_in (literal_value (1 * 2 ^ n + k)) (without n cube) all m here))
@@ -182,7 +187,8 @@ plain_own n value rises cube l there has at = elim (cases_Bool l.plain) [
     is : IsCube (n + 1) cube
     is = All-contains (IsCube (n + 1)) sum cube (sum_well_formed (n + 1) value) there
 
-    covered : (k : ℕ) → k < 2 ^ (n + 1) → covers (without l.sig cube) k ≡ true → literal_value k l ≡ true → value k ≡ true
+    covered : (k : ℕ) → k < 2 ^ (n + 1) → covers (without l.sig cube) k ≡ true → literal_value k l ≡ true → value k
+        ≡ true
     covered k fits others holds = sym (same_value (n + 1) value k fits)
         ∙ any_from_in (λ c. covers c k) sum cube (in_from_Contains sum cube there)
         (with_literal (n + 1) cube l k is (in_from_Contains cube l has) others holds)
@@ -218,12 +224,14 @@ plain_own n value rises cube l there has at = elim (cases_Bool l.plain) [
     never complemented =
         let found = (prime_cover (n + 1) value).prime cube l there has in
         at_code complemented found.0
-        (All-contains (λ k. k < 2 ^ (n + 1)) (demand (n + 1) value).forbidden found.0 (forbidden_fit (n + 1) value) found.1)
+        (All-contains (λ k. k < 2 ^ (n + 1)) (demand (n + 1) value).forbidden found.0
+        (forbidden_fit (n + 1) value) found.1)
         (not-true (value found.0) (kept_tells (λ code. not (value code)) (2 ^ (n + 1)) found.0 found.1)) found.2
 
 -- ---- one more code
 -- a code of the bits is one of the pins and the own output
-pub code_fits : (bits count code : ℕ) → count ≤ 4 → bits ≤ count + 1 → code < 1 * 2 ^ bits % 4294967296 → code < 2 ^ (count + 1)
+pub code_fits : (bits count code : ℕ) → count ≤ 4 → bits ≤ count + 1 → code < 1 * 2 ^ bits % 4294967296
+    → code < 2 ^ (count + 1)
 code_fits bits count code few width less =
     let here : code < 2 ^ bits = rw (shifted bits (omega (arith, few, width))) at less in
     elim (cases_lt bits (count + 1)) [
@@ -244,7 +252,8 @@ pub one_required : (value : ℕ → Bool) (n : ℕ) (rs fs : List ℕ) → ArePa
 one_required value n rs fs are one =
     let here : value n ≡ true = sym one in record {
       required = rw (are.required, below_next n, filter_push value (below n) n, here) refl;
-      forbidden = rw (are.forbidden, below_next n, filter_push (λ code. not (value code)) (below n) n, here) (sym (append-nil _));
+      forbidden = rw (are.forbidden, below_next n, filter_push (λ code. not (value code)) (below n) n, here)
+          (sym (append-nil _));
     }
 
 pub one_forbidden : (value : ℕ → Bool) (n : ℕ) (rs fs : List ℕ) → ArePartedBy value n rs fs → false ≡ value n

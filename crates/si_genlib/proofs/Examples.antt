@@ -1,18 +1,11 @@
 -- A small genlib text, the library that it spells, and texts with faults.
-use Rattle.std.proofs.Common.{◌≡◌, ℕ, List, true, false, Some, None, codes, refl}
+use Rattle.std.proofs.Common.{◌≡◌, ℕ, List, Some, None, codes, refl}
 use Rattle.si_base.specs.declared.fault.TextKind.TheVariants as kinds
-use Rattle.si_genlib.specs.Decimal.{is_decimal}
 use Rattle.si_genlib.specs.GenlibText.{genlib_fault, all_cells}
 use Rattle.si_genlib.specs.Statements.{name_at, decimal_at, out_at, equals_at, body_at, gate_at, phase_at, pin_at, gate_statement_at, pin_statement_at, statement_at}
-use Rattle.si_genlib.specs.Unread.{word, word_at, tokens}
+use Rattle.si_tokens.specs.Unread.{word, word_at, tokens}
 use Rattle.si_genlib.specs.Expression.{step}
 use Rattle.si_genlib.specs.Gate.{gate_value, sum_of, cell_of, with_gate}
-
-decimals : (is_decimal (codes "+1.e2")) ≡ true
-decimals = refl
-
-bad_decimals : (is_decimal (codes "1e")) ≡ false
-bad_decimals = refl
 
 small : List ℕ
 small = codes "# small\nGATE inv1 1 O=!a; PIN * INV 1 999 0.9 0.3 0.9 0.3\n"

@@ -15,8 +15,8 @@ use Rattle.si_cell.specs.Library.{own, Cell, IsPinName, IsCell, AreCells}
 use Rattle.si_cell.specs.LibraryText.{names_of}
 use Rattle.si_cell.proofs.CubeLemmas.{same_name}
 use Rattle.si_cell.proofs.CellLemmas.{more_cells}
-use Rattle.si_genlib.specs.declared.fault.Stop.{Stop}
-use Rattle.si_genlib.specs.declared.fault.Stop.TheVariants.{Fault}
+use Rattle.si_tokens.specs.declared.fault.Stop.{Stop}
+use Rattle.si_tokens.specs.declared.fault.Stop.TheVariants.{Fault}
 use Rattle.si_genlib.specs.Gate.{Gate, pin_count, width, gate_value, falls, sum_of, pin_names, cell_of, with_gate}
 use Rattle.si_genlib.proofs.DemandLemmas.{sum_well_formed, plain_own}
 use Rattle.si_genlib.proofs.CellNameLemmas.{cell_name_is_name, cell_name_is_free}
@@ -60,7 +60,8 @@ pin_names_distinct =
     AllPairs-cons R (codes "p1") second (differs_from (codes "p1") second refl)
     (AllPairs-cons R (codes "p2") third (differs_from (codes "p2") third refl)
     (AllPairs-cons R (codes "p3") fourth (differs_from (codes "p3") fourth refl)
-    (AllPairs-cons R (codes "p4") [] (All-nil (R (codes "p4"))) (λ i j d order within. absurd (omega (arith, within))))))
+    (AllPairs-cons R (codes "p4") [] (All-nil (R (codes "p4")))
+    (λ i j d order within. absurd (omega (arith, within))))))
 
 first_distinct : (n : ℕ) (names : List (List ℕ)) → n ≤ length names → AllPairs (λ x y. x ≢ y) names
     → AllPairs (λ x y. x ≢ y) (take n names)
@@ -76,7 +77,8 @@ pins_length n few = length-take-le n pin_names few
 wider : (m n : ℕ) → m ≤ n → (sum : Sum) → IsSum m sum → IsSum n sum
 wider m n more sum is = All-weaker (IsCube m) (IsCube n) (λ cube c. record {
   rising = c.rising;
-  there = All-weaker (λ (l : Literal). l.sig < m) (λ (l : Literal). l.sig < n) (λ l less. omega (arith, less, more)) cube c.there;
+  there = All-weaker (λ (l : Literal). l.sig < m) (λ (l : Literal). l.sig < n)
+      (λ l less. omega (arith, less, more)) cube c.there;
 }) sum is
 
 -- the own output stands plain in the sum of so many bits
@@ -99,7 +101,8 @@ own_plain_at : (n : ℕ) (value : ℕ → Bool) (has : Bool) → falls n value �
 own_plain_at n value true rises = own_with n value rises
 own_plain_at n value false rises =
     let same : n + 0 ≡ n = omega arith in
-    own_without n (sum_of (n + 0) value) (subst (λ (m : ℕ). IsSum m (sum_of (n + 0) value)) same (sum_well_formed (n + 0) value))
+    own_without n (sum_of (n + 0) value) (subst (λ (m : ℕ). IsSum m (sum_of (n + 0) value)) same
+    (sum_well_formed (n + 0) value))
 
 at_most_one : (n : ℕ) (has : Bool) → n + (if has then 1 else 0) ≤ n + 1
 at_most_one n true = omega arith
@@ -141,7 +144,8 @@ by_tests cells g true falling full are is rises room = are
 by_tests cells g false true full are is rises room = tt
 by_tests cells g false false true are is rises room = tt
 by_tests cells g false false false are is rises room = more_cells cells (cell_of (names_of cells) g) are
-    (is_cell (names_of cells) g is rises) (cell_name_is_free (names_of cells) g.name) (leb-false max_cells (length cells) room)
+    (is_cell (names_of cells) g is rises) (cell_name_is_free (names_of cells) g.name)
+    (leb-false max_cells (length cells) room)
 
 pub still_cells : (cells : List Cell) (g : Gate) → AreCells cells → IsReadGate g → Holds AreCells (with_gate cells g)
 unfolding with_gate

@@ -4,8 +4,8 @@ use Rattle.std.proofs.lemmas.Bool.{cases_Bool, true≢false, or_parts, eqb-false
 use Rattle.std.proofs.lemmas.List.{length-take-le}
 use Rattle.si_base.specs.Lines.{begins}
 use Rattle.si_words.specs.Sums.{is_empty}
-use Rattle.si_genlib.specs.declared.fault.Stop.{Stop}
-use Rattle.si_genlib.specs.Unread.{◌>>=◌, Unread, Piece, to_next, word_here, tokens}
+use Rattle.si_tokens.specs.declared.fault.Stop.{Stop}
+use Rattle.si_tokens.specs.Unread.{◌>>=◌, Unread, Piece, to_next, word_here, tokens}
 use Rattle.si_genlib.specs.Expression.{Tree, trees, start, read}
 use Rattle.si_genlib.specs.Statements.{quoted_len, quoted, name_of_word, name_at, decimal_at, out_at, equals_at, body_at, gate_at}
 use Rattle.si_genlib.proofs.GateCellLemmas.{IsReadGate, Holds}
@@ -72,7 +72,10 @@ body_is_read line name out u some = then_holds {A = Tree × Unread} (λ x. Unit 
 pub gate_is_read : (line : ℕ) (u : Unread) → Holds (λ x. IsReadGate x.0) (gate_at line u)
 unfolding gate_at
 gate_is_read line u = then_holds {A = List ℕ × Unread} IsNamed (λ x. IsReadGate x.0) (name_at u) _ (name_named u)
-    (λ name some. then_holds {A = Unread} (λ x. Unit {0}) (λ x. IsReadGate x.0) (decimal_at name.1) _ (anything (decimal_at name.1))
-    (λ area any. then_holds {A = List ℕ × Unread} (λ x. Unit {0}) (λ x. IsReadGate x.0) (out_at area) _ (anything (out_at area))
-    (λ out any. then_holds {A = Unread} (λ x. Unit {0}) (λ x. IsReadGate x.0) (equals_at out.1) _ (anything (equals_at out.1))
+    (λ name some. then_holds {A = Unread} (λ x. Unit {0}) (λ x. IsReadGate x.0) (decimal_at name.1) _
+    (anything (decimal_at name.1))
+    (λ area any. then_holds {A = List ℕ × Unread} (λ x. Unit {0}) (λ x. IsReadGate x.0) (out_at area) _
+    (anything (out_at area))
+    (λ out any. then_holds {A = Unread} (λ x. Unit {0}) (λ x. IsReadGate x.0) (equals_at out.1) _
+    (anything (equals_at out.1))
     (λ body any. body_is_read line name.0 out.0 body some))))

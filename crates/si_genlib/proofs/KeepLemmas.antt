@@ -5,7 +5,7 @@ use Rattle.std.proofs.lemmas.Nat.{pow-add}
 use Rattle.si_cell.specs.Library.{Cell}
 use Rattle.si_cell.specs.LibraryText.{names_of}
 use Rattle.si_base.specs.declared.fault.TextKind.TheVariants.{OwnFalling, TooManyCells}
-use Rattle.si_genlib.specs.declared.fault.Stop.TheVariants.{Fault}
+use Rattle.si_tokens.specs.declared.fault.Stop.TheVariants.{Fault}
 use Rattle.si_genlib.specs.Gate.{Gate, bits_of, pin_count, width, gate_value, falls, sum_of, cell_name, pin_names, cell_of, with_gate}
 use Rattle.si_genlib.specs.Tables.{TabledGate, tabled, table_value}
 use Rattle.si_genlib.proofs.ValueLemmas.{value_is, filter_same, falls_same}
@@ -30,16 +30,20 @@ last false true c x y z w m t k = absurd (true≢false t)
 last false false true x y z w m t k = absurd (true≢false k)
 last false false false x y z w m t k = refl
 
-pub passed : (cells : List Cell) (g : Gate) (t : TabledGate) → tabled g ≡ t → t.pins.more ≡ true → with_gate cells g ≡ Ok cells
+pub passed : (cells : List Cell) (g : Gate) (t : TabledGate) → tabled g ≡ t → t.pins.more ≡ true → with_gate cells g
+    ≡ Ok cells
 unfolding with_gate
 passed cells g t e more =
     let m : g.pins.more ≡ true = subst (λ (u : TabledGate). u.pins.more ≡ true) (sym e) more in rw m refl
 
-pub falling : (cells : List Cell) (g : Gate) (t : TabledGate) (n : ℕ) → tabled g ≡ t → t.pins.more ≡ false → n ≡ length t.pins.names
-    → length t.pins.names ≤ 4 → true ≡ falls n (table_value n t.table) → with_gate cells g ≡ Err (Fault t.line OwnFalling)
+pub falling : (cells : List Cell) (g : Gate) (t : TabledGate) (n : ℕ) → tabled g ≡ t → t.pins.more ≡ false → n
+    ≡ length t.pins.names
+    → length t.pins.names ≤ 4 → true ≡ falls n (table_value n t.table) → with_gate cells g
+    ≡ Err (Fault t.line OwnFalling)
 unfolding with_gate
 falling cells g t n e more count few so = subst (λ (u : TabledGate). u.pins.more ≡ false → n ≡ length u.pins.names
-    → length u.pins.names ≤ 4 → true ≡ falls n (table_value n u.table) → with_gate cells g ≡ Err (Fault u.line OwnFalling))
+    → length u.pins.names ≤ 4 → true ≡ falls n (table_value n u.table) → with_gate cells g
+    ≡ Err (Fault u.line OwnFalling))
     e at_table more count few so
   where
     at_table : g.pins.more ≡ false → n ≡ pin_count g → pin_count g ≤ 4 → true ≡ falls n (table_value n (tabled g).table)
@@ -48,23 +52,28 @@ falling cells g t n e more count few so = subst (λ (u : TabledGate). u.pins.mor
         let there : falls (pin_count g) (gate_value g) ≡ true =
         sym (falls_same g f) ∙ sym (subst (λ (k : ℕ). true ≡ falls k (table_value k (tabled g).table)) c s) in
         second g.pins.more (falls (pin_count g) (gate_value g)) (nat_le 64 (length cells)) (Ok cells)
-        (Err (Fault g.line OwnFalling)) (Err (Fault g.line TooManyCells)) (Ok (cells ++ cell_of (names_of cells) g ∷ [])) m there
+        (Err (Fault g.line OwnFalling)) (Err (Fault g.line TooManyCells))
+        (Ok (cells ++ cell_of (names_of cells) g ∷ [])) m there
 
-pub full : (cells : List Cell) (g : Gate) (t : TabledGate) (n : ℕ) → tabled g ≡ t → t.pins.more ≡ false → n ≡ length t.pins.names
+pub full : (cells : List Cell) (g : Gate) (t : TabledGate) (n : ℕ) → tabled g ≡ t → t.pins.more ≡ false → n
+    ≡ length t.pins.names
     → length t.pins.names ≤ 4 → false ≡ falls n (table_value n t.table) → nat_le 64 (length cells) ≡ true
     → with_gate cells g ≡ Err (Fault t.line TooManyCells)
 unfolding with_gate
 full cells g t n e more count few so many = subst (λ (u : TabledGate). u.pins.more ≡ false → n ≡ length u.pins.names
-    → length u.pins.names ≤ 4 → false ≡ falls n (table_value n u.table) → with_gate cells g ≡ Err (Fault u.line TooManyCells))
+    → length u.pins.names ≤ 4 → false ≡ falls n (table_value n u.table) → with_gate cells g
+    ≡ Err (Fault u.line TooManyCells))
     e at_table more count few so
   where
-    at_table : g.pins.more ≡ false → n ≡ pin_count g → pin_count g ≤ 4 → false ≡ falls n (table_value n (tabled g).table)
+    at_table : g.pins.more ≡ false → n ≡ pin_count g → pin_count g ≤ 4 → false
+        ≡ falls n (table_value n (tabled g).table)
         → with_gate cells g ≡ Err (Fault g.line TooManyCells)
     at_table m c f s =
         let there : falls (pin_count g) (gate_value g) ≡ false =
         sym (falls_same g f) ∙ sym (subst (λ (k : ℕ). false ≡ falls k (table_value k (tabled g).table)) c s) in
         third g.pins.more (falls (pin_count g) (gate_value g)) (nat_le 64 (length cells)) (Ok cells)
-        (Err (Fault g.line OwnFalling)) (Err (Fault g.line TooManyCells)) (Ok (cells ++ cell_of (names_of cells) g ∷ [])) m there many
+        (Err (Fault g.line OwnFalling)) (Err (Fault g.line TooManyCells))
+        (Ok (cells ++ cell_of (names_of cells) g ∷ [])) m there many
 
 -- a code of the bits is one of the pins and the own output
 within : (g : Gate) (code : ℕ) → code < 2 ^ width g → code < 2 ^ (pin_count g + 1)
@@ -84,11 +93,13 @@ unfolding sum_of
 sums_same g few =
     let required = filter_same (table_value (pin_count g) (tabled g).table) (gate_value g) (2 ^ width g)
     (λ code less. value_is g code few (within g code less)) in
-    let forbidden = filter_same (λ code. not (table_value (pin_count g) (tabled g).table code)) (λ code. not (gate_value g code))
+    let forbidden = filter_same (λ code. not (table_value (pin_count g) (tabled g).table code))
+    (λ code. not (gate_value g code))
     (2 ^ width g) (λ code less. ap not (value_is g code few (within g code less))) in
     rw (required, forbidden) refl
 
-pub kept : (cells items : List Cell) (cell : Cell) (g : Gate) (t : TabledGate) (n : ℕ) → tabled g ≡ t → t.pins.more ≡ false
+pub kept : (cells items : List Cell) (cell : Cell) (g : Gate) (t : TabledGate) (n : ℕ) → tabled g ≡ t → t.pins.more
+    ≡ false
     → n ≡ length t.pins.names → length t.pins.names ≤ 4 → false ≡ falls n (table_value n t.table)
     → nat_le 64 (length cells) ≡ false
     → cell ≡ record {
@@ -106,7 +117,8 @@ kept cells items cell g t n e more count few so room cell_is items_are =
     } → with_gate cells g ≡ Ok items)
     e at_table more count few so cell_is
   where
-    at_table : g.pins.more ≡ false → n ≡ pin_count g → pin_count g ≤ 4 → false ≡ falls n (table_value n (tabled g).table)
+    at_table : g.pins.more ≡ false → n ≡ pin_count g → pin_count g ≤ 4 → false
+        ≡ falls n (table_value n (tabled g).table)
         → cell ≡ record {
           name = cell_name (names_of cells) g.name;
           pins = take (pin_count g) pin_names;
@@ -119,5 +131,6 @@ kept cells items cell g t n e more count few so room cell_is items_are =
         let all : items ≡ cells ++ cell_of (names_of cells) g ∷ [] =
         items_are ∙ ap (λ (x : Cell). cells ++ x ∷ []) same in
         last g.pins.more (falls (pin_count g) (gate_value g)) (nat_le 64 (length cells)) (Ok cells)
-        (Err (Fault g.line OwnFalling)) (Err (Fault g.line TooManyCells)) (Ok (cells ++ cell_of (names_of cells) g ∷ [])) m there room
+        (Err (Fault g.line OwnFalling)) (Err (Fault g.line TooManyCells))
+        (Ok (cells ++ cell_of (names_of cells) g ∷ [])) m there room
         ∙ ap (λ (xs : List Cell). Ok xs) (sym all)

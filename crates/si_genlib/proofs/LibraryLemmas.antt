@@ -4,8 +4,8 @@ use Rattle.std.proofs.lemmas.Bool.{cases_Bool}
 use Rattle.std.proofs.lemmas.List.Elements.{All-nil}
 use Rattle.si_words.specs.Sums.{is_empty}
 use Rattle.si_cell.specs.Library.{Cell, IsCell, AreCells, IsLibrary}
-use Rattle.si_genlib.specs.declared.fault.Stop.{Stop}
-use Rattle.si_genlib.specs.Unread.{Unread, Piece, unread, size, word}
+use Rattle.si_tokens.specs.declared.fault.Stop.{Stop}
+use Rattle.si_tokens.specs.Unread.{Unread, Piece, unread, size, word}
 use Rattle.si_genlib.specs.Gate.{Gate, with_gate}
 use Rattle.si_genlib.specs.Statements.{gate_at, pin_at, Progress, nothing_yet, gate_statement_at, pin_statement_at, statement_at, cells_from}
 use Rattle.si_genlib.specs.GenlibText.{all_cells, cells_or_none, library_of}
@@ -23,15 +23,19 @@ no_cells = record {
 abbrev HasCells : Progress × Unread → Type 0
 HasCells x = AreCells x.0.cells
 
-gate_adds : (old : Progress) (line : ℕ) (u : Unread) → AreCells old.cells → Holds HasCells (gate_statement_at old line u)
+gate_adds : (old : Progress) (line : ℕ) (u : Unread) → AreCells old.cells
+    → Holds HasCells (gate_statement_at old line u)
 unfolding gate_statement_at
-gate_adds old line u are = then_holds {A = Gate × Unread} (λ x. IsReadGate x.0) HasCells (gate_at line u) _ (gate_is_read line u)
-    (λ gate is. then_holds {A = List Cell} AreCells HasCells (with_gate old.cells gate.0) _ (still_cells old.cells gate.0 are is)
+gate_adds old line u are = then_holds {A = Gate × Unread} (λ x. IsReadGate x.0) HasCells (gate_at line u) _
+    (gate_is_read line u)
+    (λ gate is. then_holds {A = List Cell} AreCells HasCells (with_gate old.cells gate.0) _
+    (still_cells old.cells gate.0 are is)
     (λ cells fine. fine))
 
 pin_adds : (old : Progress) (u : Unread) → AreCells old.cells → Holds HasCells (pin_statement_at old u)
 unfolding pin_statement_at
-pin_adds old u are = then_holds {A = Unread} (λ x. Unit {0}) HasCells (pin_at u) _ (anything (pin_at u)) (λ rest any. are)
+pin_adds old u are = then_holds {A = Unread} (λ x. Unit {0}) HasCells (pin_at u) _ (anything (pin_at u))
+    (λ rest any. are)
 
 statement_adds : (old : Progress) (p : Piece) → AreCells old.cells → Holds HasCells (statement_at old p)
 unfolding statement_at
@@ -61,7 +65,11 @@ read_are u cells is = rw is at (all_are u)
 
 pub is_library : (text : List ℕ) → IsLibrary (library_of text)
 unfolding library_of
-is_library text = record { name = refl; cells = by_result (all_cells nothing_yet (unread text)) (all_are (unread text)) }
+is_library text = record {
+  name = refl;
+  cells = by_result (all_cells nothing_yet (unread text))
+      (all_are (unread text));
+}
   where
     by_result : (r : Result (List Cell) Stop) → Holds AreCells r → AreCells (cells_or_none r)
     by_result (Ok cells) are = are

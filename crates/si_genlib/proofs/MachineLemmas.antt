@@ -3,12 +3,12 @@ use Rattle.std.proofs.Common.{◌≡◌, ℕ, ◌==◌, Bool, true, false, not, 
 use Rattle.std.proofs.lemmas.Bool.{cases_Bool}
 use Rattle.std.proofs.lemmas.List.{length-map}
 use Rattle.si_base.specs.declared.fault.TextKind.TheVariants.{TooDeep}
-use Rattle.si_genlib.specs.declared.fault.Stop.{Stop}
+use Rattle.si_tokens.specs.declared.fault.Stop.{Stop}
 use Rattle.si_genlib.specs.declared.symbol.Symbol.{Symbol}
 use Rattle.si_genlib.specs.declared.symbol.Symbol.TheVariants.{Leaf, Complement, Prime, Times, Plus, Open, Close, End, Other}
 use Rattle.si_genlib.specs.declared.symbol.Operator.{Operator}
 use Rattle.si_genlib.specs.declared.symbol.Operator.TheVariants as operators
-use Rattle.si_genlib.specs.Unread.{Unread, Piece}
+use Rattle.si_tokens.specs.Unread.{Unread, Piece}
 use Rattle.si_genlib.specs.Expression.{Operations, Tree, trees, value_of, State, Outcome, Goes, Ends, Stops, start, symbol, leaf, mark, is_name, is_constant, is_zero, after, opened, due, complemented, still, term, all_terms, next_factor, next_term, closed, ended, behind, step_at, step, led, read}
 
 pub record Respects {X Y : Type 0} (o : Operations X) (p : Operations Y) (f : X → Y) : Type 0 where
@@ -51,7 +51,8 @@ result_of f (Ok x) = Ok (f x.0, x.1)
 result_of f (Err stop) = Err stop
 
 module _ (X Y : Type 0) (o : Operations X) (p : Operations Y) (f : X → Y) (r : Respects o p f) where
-  mark_of : (c1 c2 c3 c4 c5 c6 c7 : Bool) → symbol_of f (if c1 then Complement else if c2 then Prime else if c3 then Times
+  mark_of : (c1 c2 c3 c4 c5 c6 c7 : Bool) → symbol_of f
+      (if c1 then Complement else if c2 then Prime else if c3 then Times
       else if c4 then Plus else if c5 then Open else if c6 then Close else if c7 then End else Other)
       ≡ (if c1 then Complement else if c2 then Prime else if c3 then Times
       else if c4 then Plus else if c5 then Open else if c6 then Close else if c7 then End else Other)
@@ -81,7 +82,8 @@ module _ (X Y : Type 0) (o : Operations X) (p : Operations Y) (f : X → Y) (r :
     | inr other ↦ rw other (mark_same bytes)
   ]
 
-  complemented_same : (x : X) (ops : List (Operator X)) → f (complemented o x ops) ≡ complemented p (f x) (map (op_of f) ops)
+  complemented_same : (x : X) (ops : List (Operator X)) → f (complemented o x ops)
+      ≡ complemented p (f x) (map (op_of f) ops)
   complemented_same x [] = refl
   complemented_same x (operators.Complement ∷ ops) =
       complemented_same (o.complement x) ops ∙ ap (λ (y : Y). complemented p y (map (op_of f) ops)) (r.complement x)
@@ -167,7 +169,8 @@ module _ (X Y : Type 0) (o : Operations X) (p : Operations Y) (f : X → Y) (r :
   at_same s None sym = due_same s sym
   at_same s (Some x) sym = behind_same s x sym
 
-  step_same : (s : State X) (bytes : List ℕ) → outcome_of f (step o s (symbol o bytes)) ≡ step p (state_of f s) (symbol p bytes)
+  step_same : (s : State X) (bytes : List ℕ) → outcome_of f (step o s (symbol o bytes))
+      ≡ step p (state_of f s) (symbol p bytes)
   unfolding step
   step_same s bytes = at_same s s.operand (symbol o bytes)
       ∙ ap (step_at p (state_of f s) (option_map f s.operand)) (symbol_same bytes)
@@ -175,7 +178,8 @@ module _ (X Y : Type 0) (o : Operations X) (p : Operations Y) (f : X → Y) (r :
   -- the values of what is read are read
   pub read_same : (s : State X) (tokens : List Piece) → read p (state_of f s) tokens ≡ result_of f (read o s tokens)
   read_same s [] = refl
-  read_same s (t ∷ ts) = ap (led (λ u. read p u ts) t) (sym (step_same s t.bytes)) ∙ by_outcome (λ u. read_same u ts) (step o s (symbol o t.bytes))
+  read_same s (t ∷ ts) = ap (led (λ u. read p u ts) t) (sym (step_same s t.bytes))
+      ∙ by_outcome (λ u. read_same u ts) (step o s (symbol o t.bytes))
     where
       by_outcome : ((u : State X) → read p (state_of f u) ts ≡ result_of f (read o u ts)) → (c : Outcome X)
           → led (λ u. read p u ts) t (outcome_of f c) ≡ result_of f (led (λ u. read o u ts) t c)

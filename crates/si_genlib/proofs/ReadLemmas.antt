@@ -8,19 +8,20 @@ use Rattle.si_base.specs.Words.{is_name_byte}
 use Rattle.si_words.specs.Names.{stands_in}
 use Rattle.si_cell.specs.Limits.{max_pins}
 use Rattle.si_base.specs.declared.fault.TextKind.{TextKind}
-use Rattle.si_genlib.specs.declared.fault.Stop.{Stop}
-use Rattle.si_genlib.specs.declared.fault.Stop.TheVariants.{Fault}
+use Rattle.si_tokens.specs.declared.fault.Stop.{Stop}
+use Rattle.si_tokens.specs.declared.fault.Stop.TheVariants.{Fault}
 use Rattle.si_genlib.specs.declared.symbol.Symbol.{Symbol}
 use Rattle.si_genlib.specs.declared.symbol.Symbol.TheVariants.{Leaf, Complement, Prime, Times, Plus, Open, Close, End, Other}
 use Rattle.si_genlib.specs.declared.symbol.Operator.{Operator}
 use Rattle.si_genlib.specs.declared.symbol.Operator.TheVariants as operators
-use Rattle.si_genlib.specs.Unread.{Unread, Piece}
+use Rattle.si_tokens.specs.Unread.{Unread, Piece}
 use Rattle.si_genlib.specs.Expression.{Operations, State, Outcome, Goes, Ends, Stops, is_name, is_constant, mark, symbol, opened, due, closed, ended, still, all_terms, next_factor, step_at, step, led, read}
 use Rattle.si_genlib.specs.Gate.{no_pins, Pins, with_pin, with_token, ends_expression, pins_from}
 use Rattle.si_genlib.specs.Tables.{tables, slot, variable}
 
 -- ---- names among pins
-pub stands_push : (names : List (List ℕ)) (n m : List ℕ) → stands_in (names ++ n ∷ []) m ≡ (stands_in names m || bytes_eq m n)
+pub stands_push : (names : List (List ℕ)) (n m : List ℕ) → stands_in (names ++ n ∷ []) m
+    ≡ (stands_in names m || bytes_eq m n)
 stands_push [] n m = elim (cases_Bool (bytes_eq m n)) [ inl h ↦ rw h refl | inr h ↦ rw h refl ]
 stands_push (x ∷ names) n m =
     elim (cases_Bool (bytes_eq m x)) [ inl h ↦ rw h refl | inr h ↦ rw h (stands_push names n m) ]
@@ -117,7 +118,8 @@ kept out pins other name ok placed = elim (cases_Bool (bytes_eq other out)) [
   where
     by_place : IsPlaced out pins name → bytes_eq other out ≡ false → length pins.names < max_pins
         → (slot (pins.names ++ other ∷ []) name ≡ slot pins.names name)
-        × ((stands_in (pins.names ++ other ∷ []) name ≡ true) ⊎ ((name ≡ out) ⊎ (max_pins ≤ length (pins.names ++ other ∷ []))))
+        × ((stands_in (pins.names ++ other ∷ []) name ≡ true) ⊎
+        ((name ≡ out) ⊎ (max_pins ≤ length (pins.names ++ other ∷ []))))
     by_place (inl there) apart room = (
       slot_there pins.names (other ∷ []) name there,
       inl (rw (stands_push pins.names other name, there) refl),
@@ -156,7 +158,8 @@ symbol_stays out pins bytes more ok = elim (cases_Bool (is_name bytes)) [
   ]
 ]
 
-token_lawful : (out : List ℕ) (pins : Pins) (bytes : List ℕ) → IsLawful out pins → IsLawful out (with_token out pins bytes)
+token_lawful : (out : List ℕ) (pins : Pins) (bytes : List ℕ) → IsLawful out pins
+    → IsLawful out (with_token out pins bytes)
 token_lawful out pins bytes ok = elim (cases_Bool (is_name bytes && not (is_constant bytes))) [
   | inl pin ↦ rw pin (added out pins bytes ok).0
   | inr none ↦ rw none ok
@@ -167,7 +170,8 @@ abbrev is_end : {X : Type 0} → Symbol X → Bool
 is_end End = true
 is_end _ = false
 
-end_of : (X : Type 0) (c1 c2 c3 c4 c5 c6 c7 : Bool) → (c7 ≡ true → c1 ≡ false) → (c7 ≡ true → c2 ≡ false) → (c7 ≡ true → c3 ≡ false)
+end_of : (X : Type 0) (c1 c2 c3 c4 c5 c6 c7 : Bool) → (c7 ≡ true → c1 ≡ false) → (c7 ≡ true → c2 ≡ false)
+    → (c7 ≡ true → c3 ≡ false)
     → (c7 ≡ true → c4 ≡ false) → (c7 ≡ true → c5 ≡ false) → (c7 ≡ true → c6 ≡ false)
     → is_end {X = X} (if c1 then Complement else if c2 then Prime else if c3 then Times
     else if c4 then Plus else if c5 then Open else if c6 then Close else if c7 then End else Other) ≡ c7
@@ -219,7 +223,8 @@ finishes (Ends x) = true
 finishes _ = false
 
 opened_goes : (s t : State ℕ) → finishes (opened s t) ≡ false
-opened_goes s t = elim (cases_Bool (nat_le 64 (length s.unfinished))) [ inl full ↦ rw full refl | inr room ↦ rw room refl ]
+opened_goes s t = elim
+    (cases_Bool (nat_le 64 (length s.unfinished))) [ inl full ↦ rw full refl | inr room ↦ rw room refl ]
 
 due_goes : (s : State ℕ) (x : Symbol ℕ) → finishes (due s x) ≡ false
 due_goes s (Leaf x) = refl
@@ -242,7 +247,8 @@ ended_stays x [] = refl
 ended_stays x (op ∷ ops) = refl
 
 -- a symbol other than `;` ends nothing
-no_end : (o : Operations ℕ) (s : State ℕ) (m : Option ℕ) (x : Symbol ℕ) → is_end x ≡ false → finishes (step_at o s m x) ≡ false
+no_end : (o : Operations ℕ) (s : State ℕ) (m : Option ℕ) (x : Symbol ℕ) → is_end x ≡ false
+    → finishes (step_at o s m x) ≡ false
 no_end o s None x other = due_goes s x
 no_end o s (Some v) (Leaf y) other = due_goes (next_factor o s v) (Leaf y)
 no_end o s (Some v) Complement other = due_goes (next_factor o s v) Complement
@@ -255,7 +261,8 @@ no_end o s (Some v) End other = absurd (true≢false other)
 no_end o s (Some v) Other other = refl
 
 -- `;` leads nowhere
-no_more : {X : Type 0} (o : Operations X) (s : State X) (m : Option X) (x : Symbol X) → is_end x ≡ true → goes (step_at o s m x) ≡ false
+no_more : {X : Type 0} (o : Operations X) (s : State X) (m : Option X) (x : Symbol X) → is_end x ≡ true
+    → goes (step_at o s m x) ≡ false
 no_more o s None End end = refl
 no_more o s (Some v) End end = ended_stays (all_terms o s v) (still s.unfinished)
 no_more o s m (Leaf y) end = absurd (true≢false (sym end))
@@ -267,18 +274,21 @@ no_more o s m Plus end = absurd (true≢false (sym end))
 no_more o s m Close end = absurd (true≢false (sym end))
 no_more o s m Other end = absurd (true≢false (sym end))
 
-pub goes_not_end : {X : Type 0} (o : Operations X) (s t : State X) (bytes : List ℕ) → step o s (symbol o bytes) ≡ Goes t → ends_expression bytes ≡ false
+pub goes_not_end : {X : Type 0} (o : Operations X) (s t : State X) (bytes : List ℕ) → step o s (symbol o bytes)
+    ≡ Goes t → ends_expression bytes ≡ false
 unfolding step
 goes_not_end o s t bytes on = elim (cases_Bool (ends_expression bytes)) [
   | inr fine ↦ fine
   | inl end ↦ absurd (true≢false (sym (ap goes on) ∙ no_more o s s.operand (symbol o bytes) (symbol_end o bytes ∙ end)))
 ]
 
-ends_at_end : (o : Operations ℕ) (s : State ℕ) (x : ℕ) (bytes : List ℕ) → step o s (symbol o bytes) ≡ Ends x → ends_expression bytes ≡ true
+ends_at_end : (o : Operations ℕ) (s : State ℕ) (x : ℕ) (bytes : List ℕ) → step o s (symbol o bytes) ≡ Ends x
+    → ends_expression bytes ≡ true
 unfolding step
 ends_at_end o s x bytes ends = elim (cases_Bool (ends_expression bytes)) [
   | inl fine ↦ fine
-  | inr other ↦ absurd (true≢false (sym (ap finishes ends) ∙ no_end o s s.operand (symbol o bytes) (symbol_end o bytes ∙ other)))
+  | inr other ↦ absurd (true≢false (sym (ap finishes ends)
+      ∙ no_end o s s.operand (symbol o bytes) (symbol_end o bytes ∙ other)))
 ]
 
 -- ---- one token
@@ -294,8 +304,10 @@ module _ (out : List ℕ) (pins new : Pins) (all rest : List Piece) (token : Pie
   -- it is the same in the end
   final : symbol (tables (pins_from out new rest).names) token.bytes ≡ x
   final = let same : symbol (tables (pins_from out (with_token out pins token.bytes) rest).names) token.bytes
-      ≡ symbol (tables (with_token out pins token.bytes).names) token.bytes = symbol_stays out pins token.bytes rest taken.lawful in
-      subst (λ (p : Pins). symbol (tables (pins_from out p rest).names) token.bytes ≡ symbol (tables p.names) token.bytes)
+      ≡ symbol
+      (tables (with_token out pins token.bytes).names) token.bytes = symbol_stays out pins token.bytes rest taken.lawful in
+      subst (λ (p : Pins). symbol (tables (pins_from out p rest).names) token.bytes
+      ≡ symbol (tables p.names) token.bytes)
       (sym taken.pins_are) same ∙ sym taken.symbol_is
 
   pins_on : ends_expression token.bytes ≡ false → pins_from out pins all ≡ pins_from out new rest
@@ -359,7 +371,8 @@ module _ (out : List ℕ) (pins new : Pins) (all rest : List Piece) (token : Pie
       by_end : (c : Bool) → ends_expression token.bytes ≡ c → symbol (tables end.names) token.bytes ≡ x
       by_end true ends =
           let at = pins_end ends in
-          subst (λ (p : Pins). symbol (tables p.names) token.bytes ≡ x) (at.1 ∙ sym at.0 ∙ pins_are) (sym taken.symbol_is)
+          subst (λ (p : Pins). symbol (tables p.names) token.bytes ≡ x) (at.1 ∙ sym at.0 ∙ pins_are)
+          (sym taken.symbol_is)
       by_end false other =
           subst (λ (p : Pins). symbol (tables p.names) token.bytes ≡ x) (sym (pins_on other) ∙ pins_are) final
 

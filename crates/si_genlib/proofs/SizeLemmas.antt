@@ -7,21 +7,22 @@ use Rattle.si_base.specs.Lines.{Line, is_blank, begins}
 use Rattle.si_words.specs.Sums.{is_empty}
 use Rattle.si_cell.specs.Library.{Cell}
 use Rattle.si_base.specs.declared.fault.TextKind.{TextKind}
-use Rattle.si_genlib.specs.declared.fault.Stop.{Stop}
-use Rattle.si_genlib.specs.Unread.{◌>>=◌, Unread, Piece, size, lines_size, after_blanks, to_next_from, to_next, word_len, word_here, word, if_there, word_at, first_of, tokens, token_at}
-use Rattle.si_genlib.specs.Decimal.{is_decimal}
+use Rattle.si_tokens.specs.declared.fault.Stop.{Stop}
+use Rattle.si_tokens.specs.Unread.{◌>>=◌, Unread, Piece, size, lines_size, after_blanks, to_next_from, to_next, word_len, word_here, word, if_there, word_at, first_of, tokens, token_at}
+use Rattle.si_tokens.specs.Decimal.{is_decimal}
 use Rattle.si_genlib.specs.Expression.{Tree, trees, State, Outcome, Goes, Ends, Stops, start, read, led, step, symbol, is_name}
 use Rattle.si_genlib.specs.Gate.{Gate, with_gate}
 use Rattle.si_genlib.specs.Statements.{if_passes, quoted_len, quoted, name_here, name_at, decimal_at, out_at, equals_at, body_at, gate_at, is_phase, phase_at, decimals_at, pin_at, Progress, gate_statement_at, pin_statement_at, statement_at, cells_from}
 use Rattle.si_genlib.specs.GenlibText.{all_cells}
-use Rattle.si_genlib.proofs.SourceLemmas.{AllSmaller, all_smaller}
+use Rattle.si_tokens.proofs.SourceLemmas.{AllSmaller, all_smaller}
 
 -- no more is left behind what is read
 abbrev Shrinks : {A : Type 0} → (A → Unread) → Result A Stop → Unread → Type 0
 Shrinks rest (Ok x) u = size (rest x) ≤ size u
 Shrinks rest (Err stop) u = Unit {0}
 
-then_shrinks : {A B : Type 0} (one : A → Unread) (other : B → Unread) (r : Result A Stop) (f : A → Result B Stop) (u : Unread)
+then_shrinks : {A B : Type 0} (one : A → Unread) (other : B → Unread) (r : Result A Stop) (f : A → Result B Stop)
+    (u : Unread)
     → Shrinks one r u → ((x : A) → Shrinks other (f x) (one x)) → Shrinks other (r >>= f) u
 then_shrinks {A} {B} one other (Ok x) f u first next = from (f x) (next x)
   where
@@ -34,7 +35,8 @@ then_shrinks one other (Err stop) f u first next = tt
 blanks_size : (bs : List ℕ) → length (after_blanks bs) ≤ length bs
 blanks_size bs = omega (arith, length-drop (prefix_len is_blank bs) bs)
 
-next_size : (n : ℕ) (here : List ℕ) (lines : List Line) → size (to_next_from n here lines) ≤ length here + lines_size lines
+next_size : (n : ℕ) (here : List ℕ) (lines : List Line)
+    → size (to_next_from n here lines) ≤ length here + lines_size lines
 next_size n here [] = let less = blanks_size here in omega (arith, less)
 next_size n here (line ∷ lines) = elim (cases_Bool (is_empty (after_blanks here))) [
   | inl empty ↦ let less = next_size line.0 line.1 lines in rw empty (omega (arith, less))
@@ -76,7 +78,8 @@ passes_shrinks true kind p = omega arith
 passes_shrinks false kind p = tt
 
 -- ---- tokens
-first_shrinks : (k : ℕ) (ps : List Piece) (u : Unread) → AllSmaller k ps → k ≤ size u → Shrinks (λ (q : Piece). q.rest) (first_of ps) u
+first_shrinks : (k : ℕ) (ps : List Piece) (u : Unread) → AllSmaller k ps → k ≤ size u
+    → Shrinks (λ (q : Piece). q.rest) (first_of ps) u
 first_shrinks k [] u all less = tt
 first_shrinks k (p ∷ ps) u all less = omega (arith, all.0)
 
@@ -141,17 +144,22 @@ out_shrinks u = then_shrinks (λ (q : Piece). q.rest) (λ (x : List ℕ × Unrea
     (λ p. then_shrinks (λ (v : Unread). v) (λ (x : List ℕ × Unread). x.1) (if_passes (is_name p.bytes) _ p) _ p.rest
     (passes_shrinks (is_name p.bytes) _ p) (λ rest. omega arith))
 
-body_shrinks : (line : ℕ) (name out : List ℕ) (u : Unread) → Shrinks (λ (x : Gate × Unread). x.1) (body_at line name out u) u
+body_shrinks : (line : ℕ) (name out : List ℕ) (u : Unread)
+    → Shrinks (λ (x : Gate × Unread). x.1) (body_at line name out u) u
 unfolding body_at
 body_shrinks line name out u = then_shrinks (λ (x : Tree × Unread). x.1) (λ (x : Gate × Unread). x.1)
     (read trees start (tokens u)) _ u (read_shrinks start (tokens u) u (all_smaller u)) (λ x. omega arith)
 
 gate_shrinks : (line : ℕ) (u : Unread) → Shrinks (λ (x : Gate × Unread). x.1) (gate_at line u) u
 unfolding gate_at
-gate_shrinks line u = then_shrinks (λ (x : List ℕ × Unread). x.1) (λ (x : Gate × Unread). x.1) (name_at u) _ u (name_shrinks u)
-    (λ name. then_shrinks (λ (v : Unread). v) (λ (x : Gate × Unread). x.1) (decimal_at name.1) _ name.1 (decimal_shrinks name.1)
-    (λ area. then_shrinks (λ (x : List ℕ × Unread). x.1) (λ (x : Gate × Unread). x.1) (out_at area) _ area (out_shrinks area)
-    (λ out. then_shrinks (λ (v : Unread). v) (λ (x : Gate × Unread). x.1) (equals_at out.1) _ out.1 (equals_shrinks out.1)
+gate_shrinks line u = then_shrinks (λ (x : List ℕ × Unread). x.1) (λ (x : Gate × Unread). x.1) (name_at u) _ u
+    (name_shrinks u)
+    (λ name. then_shrinks (λ (v : Unread). v) (λ (x : Gate × Unread). x.1) (decimal_at name.1) _ name.1
+    (decimal_shrinks name.1)
+    (λ area. then_shrinks (λ (x : List ℕ × Unread). x.1) (λ (x : Gate × Unread). x.1) (out_at area) _ area
+    (out_shrinks area)
+    (λ out. then_shrinks (λ (v : Unread). v) (λ (x : Gate × Unread). x.1) (equals_at out.1) _ out.1
+    (equals_shrinks out.1)
     (λ body. body_shrinks line name.0 out.0 body))))
 
 -- ---- pins
@@ -177,13 +185,16 @@ cells_shrink : (r : Result (List Cell) Stop) (u : Unread) → Shrinks (λ (x : P
 cells_shrink (Ok cells) u = omega arith
 cells_shrink (Err stop) u = tt
 
-pub statement_shrinks : (old : Progress) (p : Piece) → Shrinks (λ (x : Progress × Unread). x.1) (statement_at old p) p.rest
+pub statement_shrinks : (old : Progress) (p : Piece) → Shrinks (λ (x : Progress × Unread). x.1)
+    (statement_at old p) p.rest
 unfolding statement_at gate_statement_at pin_statement_at
 statement_shrinks old p = elim (cases_Bool (bytes_eq (codes "GATE") p.bytes)) [
-  | inl gate ↦ rw gate (then_shrinks (λ (x : Gate × Unread). x.1) (λ (x : Progress × Unread). x.1) (gate_at p.line p.rest) _ p.rest
+  | inl gate ↦ rw gate (then_shrinks (λ (x : Gate × Unread). x.1) (λ (x : Progress × Unread). x.1)
+      (gate_at p.line p.rest) _ p.rest
       (gate_shrinks p.line p.rest) (λ g. cells_shrink (with_gate old.cells g.0) g.1))
   | inr other ↦ elim (cases_Bool (bytes_eq (codes "PIN") p.bytes && old.begun)) [
-    | inl pin ↦ rw (other, pin) (then_shrinks (λ (v : Unread). v) (λ (x : Progress × Unread). x.1) (pin_at p.rest) _ p.rest
+    | inl pin ↦ rw (other, pin) (then_shrinks (λ (v : Unread). v) (λ (x : Progress × Unread). x.1)
+        (pin_at p.rest) _ p.rest
         (pin_shrinks p.rest) (λ rest. omega arith))
     | inr none ↦ rw (other, none) tt
   ]
@@ -195,11 +206,13 @@ enough zero m old u one other = absurd (omega arith)
 enough (suc n) zero old u one other = absurd (omega arith)
 enough (suc n) (suc m) old u one other = elim (cases_Bool (is_empty (word u).bytes)) [
   | inl none ↦ rw none refl
-  | inr some ↦ rw some (by_result (λ new rest less. enough n m new rest (omega (arith, word_takes u some)) (omega (arith, word_takes u some)))
+  | inr some ↦ rw some (by_result (λ new rest less. enough n m new rest (omega (arith, word_takes u some))
+      (omega (arith, word_takes u some)))
       (statement_at old (word u)) (statement_shrinks old (word u)))
 ]
   where
-    by_result : ((new : Progress) (rest : Unread) → size rest ≤ size (word u).rest → cells_from n new rest ≡ cells_from m new rest)
+    by_result : ((new : Progress) (rest : Unread) → size rest ≤ size (word u).rest → cells_from n new rest
+        ≡ cells_from m new rest)
         → (r : Result (Progress × Unread) Stop) → Shrinks (λ (x : Progress × Unread). x.1) r (word u).rest
         → (r >>= λ new. cells_from n new.0 new.1) ≡ (r >>= λ new. cells_from m new.0 new.1)
     by_result later (Ok x) less = later x.0 x.1 less

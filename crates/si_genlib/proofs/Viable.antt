@@ -1,16 +1,15 @@
 -- Where no expression goes on, and where only expressions do that have too many unfinished operators.
-use Rattle.std.proofs.Common.{◌≡◌, ℕ, suc, zero, ◌+◌, ◌<◌, ◌≤◌, Bool, true, false, List, [], ◌∷◌, ◌++◌, length, nat_le, codes, if◌then◌else◌, Option, Some, None, IsTrue, refl, sym, ap, ◌∙◌, arith, inl, inr, subst, append_assoc, append-nil}
-use Rattle.std.proofs.lemmas.Bool.{cases_Bool, cases_lt}
+use Rattle.std.proofs.Common.{◌≡◌, ℕ, suc, zero, Bool, true, false, List, [], ◌∷◌, ◌++◌, length, nat_le, codes, Option, Some, None, refl, sym, ap, ◌∙◌, inl, inr, subst}
+use Rattle.std.proofs.lemmas.Bool.{cases_Bool}
 use Rattle.si_base.specs.declared.fault.TextKind.{TextKind}
-use Rattle.si_base.specs.declared.fault.TextKind.TheVariants.{BadExpression, TooDeep}
+use Rattle.si_base.specs.declared.fault.TextKind.TheVariants.{BadExpression}
 use Rattle.si_genlib.specs.declared.symbol.Symbol.{Symbol}
 use Rattle.si_genlib.specs.declared.symbol.Symbol.TheVariants as symbols
 use Rattle.si_genlib.specs.declared.symbol.Operator.{Operator}
 use Rattle.si_genlib.specs.declared.symbol.Operator.TheVariants as operators
 use Rattle.si_genlib.specs.Expression.{Tree, trees, State, Outcome, Goes, Ends, Stops, start, still, next_factor, opened, due, closed, ended, all_terms, behind, step_at, step, symbol}
-use Rattle.si_genlib.specs.Grammar.{Syntax, Word, InParens, Primed, Complemented, Beside, Times, Plus, IsExpression, written, tree_of, height, IsBeginning, BeginsWith, IsDead, sentence}
-use Rattle.si_genlib.proofs.GrammarLemmas.{steps, led_on, steps-append, each_read, tree_read}
-use Rattle.si_genlib.proofs.ConverseSteps.{IsWhole, StepMeans, StopMeans, step_means, reached_begins}
+use Rattle.si_genlib.specs.Grammar.{Syntax, Word, InParens, Primed, Complemented, Beside, Times, Plus, IsExpression, written, NoneBegins, sentence}
+use Rattle.si_genlib.proofs.GrammarLemmas.{steps, led_on}
 
 -- ---- the outline of a state: whether an operand is due, and how many parentheses are open
 
@@ -34,12 +33,12 @@ after_operand n symbols.Times = Some (true, n)
 after_operand n symbols.Plus = Some (true, n)
 after_operand n symbols.Close = at_close n
 after_operand n symbols.End = at_end n
-after_operand n symbol = at_operand n symbol
+after_operand n sign = at_operand n sign
 
 -- the next outline, where the symbol may stand
 abbrev outline : Bool → ℕ → Symbol Tree → Option (Bool × ℕ)
-outline true n symbol = at_operand n symbol
-outline false n symbol = after_operand n symbol
+outline true n sign = at_operand n sign
+outline false n sign = after_operand n sign
 
 abbrev onward : (Bool → ℕ → Option (Bool × ℕ)) → Option (Bool × ℕ) → Option (Bool × ℕ)
 onward next None = None
@@ -49,7 +48,8 @@ abbrev run : List (List ℕ) → Bool → ℕ → Option (Bool × ℕ)
 run [] is_due n = Some (is_due, n)
 run (token ∷ tokens) is_due n = onward (run tokens) (outline is_due n (symbol trees token))
 
-run-append : (xs ys : List (List ℕ)) (is_due : Bool) (n : ℕ) → run (xs ++ ys) is_due n ≡ onward (run ys) (run xs is_due n)
+run-append : (xs ys : List (List ℕ)) (is_due : Bool) (n : ℕ)
+    → run (xs ++ ys) is_due n ≡ onward (run ys) (run xs is_due n)
 run-append [] ys is_due n = refl
 run-append (x ∷ xs) ys is_due n = by_next (outline is_due n (symbol trees x)) (run-append xs ys)
   where
@@ -63,7 +63,8 @@ two_runs : (xs ys : List (List ℕ)) (is_due : Bool) (n : ℕ) (p : Bool × ℕ)
     → run (xs ++ ys) is_due n ≡ run ys p.0 p.1
 two_runs xs ys is_due n p first = run-append xs ys is_due n ∙ ap (onward (run ys)) first
 
-joined_run : (xs ys : List (List ℕ)) (n : ℕ) → run xs false n ≡ run xs true n → run (xs ++ ys) false n ≡ run (xs ++ ys) true n
+joined_run : (xs ys : List (List ℕ)) (n : ℕ) → run xs false n ≡ run xs true n
+    → run (xs ++ ys) false n ≡ run (xs ++ ys) true n
 joined_run xs ys n same = run-append xs ys false n ∙ ap (onward (run ys)) same ∙ sym (run-append xs ys true n)
 
 -- an operand may follow an operand: it begins the next factor
@@ -79,14 +80,17 @@ same_run (Plus t u) is n = joined_run (written t) (codes "+" ∷ written u) n (s
 -- the outlines on the way of an expression
 pub expression_run : (s : Syntax) → IsExpression s → (n : ℕ) → run (written s) true n ≡ Some (false, n)
 expression_run (Word bytes) is n = rw is refl
-expression_run (InParens s) is n = two_runs (written s) (codes ")" ∷ []) true (suc n) (false, suc n) (expression_run s is (suc n))
+expression_run (InParens s) is n =
+    two_runs (written s) (codes ")" ∷ []) true (suc n) (false, suc n) (expression_run s is (suc n))
 expression_run (Primed s) is n = two_runs (written s) (codes "'" ∷ []) true n (false, n) (expression_run s is.0 n)
 expression_run (Complemented s) is n = expression_run s is.0 n
 expression_run (Beside s t) is n = two_runs (written s) (written t) true n (false, n) (expression_run s is.0 n)
     ∙ same_run t is.1 n ∙ expression_run t is.1 n
-expression_run (Times s t) is n = two_runs (written s) (codes "*" ∷ written t) true n (false, n) (expression_run s is.0 n)
+expression_run (Times s t) is n =
+    two_runs (written s) (codes "*" ∷ written t) true n (false, n) (expression_run s is.0 n)
     ∙ expression_run t is.1 n
-expression_run (Plus s t) is n = two_runs (written s) (codes "+" ∷ written t) true n (false, n) (expression_run s is.0 n)
+expression_run (Plus s t) is n =
+    two_runs (written s) (codes "+" ∷ written t) true n (false, n) (expression_run s is.0 n)
     ∙ expression_run t is.1 n
 
 sentence_run : (s : Syntax) → IsExpression s → run (sentence s) true 0 ≡ Some (true, 0)
@@ -118,13 +122,15 @@ OutlineFits next (Goes t) = next ≡ Some (is_due t.operand, parens t.unfinished
 OutlineFits next (Ends x) = Unit {0}
 OutlineFits next (Stops kind) = StopFits next kind
 
-opened_fits : (n : ℕ) (s t : State Tree) → is_due t.operand ≡ true → parens t.unfinished ≡ n → OutlineFits (Some (true, n)) (opened s t)
+opened_fits : (n : ℕ) (s t : State Tree) → is_due t.operand ≡ true → parens t.unfinished ≡ n
+    → OutlineFits (Some (true, n)) (opened s t)
 opened_fits n s t operand count = elim (cases_Bool (nat_le 64 (length s.unfinished))) [
   | inl full ↦ rw full tt
   | inr room ↦ rw (room, operand, count) refl
 ]
 
-due_fits : (n : ℕ) (s : State Tree) → parens s.unfinished ≡ n → (symbol : Symbol Tree) → OutlineFits (at_operand n symbol) (due s symbol)
+due_fits : (n : ℕ) (s : State Tree) → parens s.unfinished ≡ n → (sign : Symbol Tree)
+    → OutlineFits (at_operand n sign) (due s sign)
 due_fits n s count (symbols.Leaf x) = rw count refl
 due_fits n s count symbols.Complement = opened_fits n s _ refl count
 due_fits n s count symbols.Open = opened_fits (suc n) s _ refl (ap suc count)
@@ -135,13 +141,15 @@ due_fits n s count symbols.Close = refl
 due_fits n s count symbols.End = refl
 due_fits n s count symbols.Other = refl
 
-closed_fits : (n : ℕ) (x : Tree) (ops : List (Operator Tree)) → parens (still ops) ≡ n → OutlineFits (at_close n) (closed x (still ops))
+closed_fits : (n : ℕ) (x : Tree) (ops : List (Operator Tree)) → parens (still ops) ≡ n
+    → OutlineFits (at_close n) (closed x (still ops))
 closed_fits n x [] count = subst (λ (k : ℕ). at_close k ≡ None) count refl
 closed_fits n x (operators.Complement ∷ ops) count = closed_fits n x ops count
 closed_fits n x (operators.Paren terms factors ∷ ops) count =
     subst (λ (k : ℕ). at_close k ≡ Some (false, parens ops)) count refl
 
-ended_fits : (n : ℕ) (x : Tree) (ops : List (Operator Tree)) → parens (still ops) ≡ n → OutlineFits (at_end n) (ended x (still ops))
+ended_fits : (n : ℕ) (x : Tree) (ops : List (Operator Tree)) → parens (still ops) ≡ n
+    → OutlineFits (at_end n) (ended x (still ops))
 ended_fits n x [] count = tt
 ended_fits n x (operators.Complement ∷ ops) count = ended_fits n x ops count
 ended_fits n x (operators.Paren terms factors ∷ ops) count = subst (λ (k : ℕ). at_end k ≡ None) count refl
@@ -150,20 +158,26 @@ module _ (s : State Tree) where
   all_parens : parens (still s.unfinished) ≡ parens s.unfinished
   all_parens = still_parens s.unfinished
 
-  behind_fits : (x : Tree) (symbol : Symbol Tree) → OutlineFits (after_operand (parens s.unfinished) symbol) (behind trees s x symbol)
+  next_fits : (x : Tree) (sign : Symbol Tree)
+      → OutlineFits (at_operand (parens s.unfinished) sign) (due (next_factor trees s x) sign)
+  next_fits x sign = due_fits (parens s.unfinished) (next_factor trees s x) all_parens sign
+
+  behind_fits : (x : Tree) (sign : Symbol Tree)
+      → OutlineFits (after_operand (parens s.unfinished) sign) (behind trees s x sign)
   behind_fits x symbols.Prime = refl
   behind_fits x symbols.Times = rw all_parens refl
   behind_fits x symbols.Plus = rw all_parens refl
   behind_fits x symbols.Close = closed_fits (parens s.unfinished) (all_terms trees s x) s.unfinished all_parens
   behind_fits x symbols.End = ended_fits (parens s.unfinished) (all_terms trees s x) s.unfinished all_parens
-  behind_fits x (symbols.Leaf y) = due_fits (parens s.unfinished) (next_factor trees s x) all_parens (symbols.Leaf y)
-  behind_fits x symbols.Complement = due_fits (parens s.unfinished) (next_factor trees s x) all_parens symbols.Complement
-  behind_fits x symbols.Open = due_fits (parens s.unfinished) (next_factor trees s x) all_parens symbols.Open
-  behind_fits x symbols.Other = due_fits (parens s.unfinished) (next_factor trees s x) all_parens symbols.Other
+  behind_fits x (symbols.Leaf y) = next_fits x (symbols.Leaf y)
+  behind_fits x symbols.Complement = next_fits x symbols.Complement
+  behind_fits x symbols.Open = next_fits x symbols.Open
+  behind_fits x symbols.Other = next_fits x symbols.Other
 
-  at_fits : (m : Option Tree) (symbol : Symbol Tree) → OutlineFits (outline (is_due m) (parens s.unfinished) symbol) (step_at trees s m symbol)
-  at_fits None symbol = due_fits (parens s.unfinished) s refl symbol
-  at_fits (Some x) symbol = behind_fits x symbol
+  at_fits : (m : Option Tree) (sign : Symbol Tree)
+      → OutlineFits (outline (is_due m) (parens s.unfinished) sign) (step_at trees s m sign)
+  at_fits None sign = due_fits (parens s.unfinished) s refl sign
+  at_fits (Some x) sign = behind_fits x sign
 
   step_fits : (token : List ℕ) → OutlineFits (outline (is_due s.operand) (parens s.unfinished) (symbol trees token))
       (step trees s (symbol trees token))
@@ -194,11 +208,12 @@ next_none tokens more token p leads stops = run-append (tokens ++ token ∷ []) 
     ∙ ap (onward (run more)) (two_runs tokens (token ∷ []) true 0 p leads ∙ ap (onward (run [])) stops)
 
 pub dead_behind : (tokens : List (List ℕ)) (token : List ℕ) (s : State Tree) → steps trees start tokens ≡ Goes s
-    → step trees s (symbol trees token) ≡ Stops BadExpression → IsDead (tokens ++ token ∷ [])
+    → step trees s (symbol trees token) ≡ Stops BadExpression → NoneBegins (tokens ++ token ∷ [])
 dead_behind tokens token s leads stops e is begins =
     apart (sym (sentence_run e is) ∙ ap (λ (all : List (List ℕ)). run all true 0) begins.1
     ∙ next_none tokens begins.0 token (is_due s.operand, parens s.unfinished) (steps_run tokens start s leads)
-    (subst (OutlineFits (outline (is_due s.operand) (parens s.unfinished) (symbol trees token))) stops (step_fits s token)))
+    (subst (OutlineFits (outline (is_due s.operand) (parens s.unfinished) (symbol trees token))) stops
+    (step_fits s token)))
   where
     apart : ◌≡◌ {A = Option (Bool × ℕ)} (Some (true, 0)) None → ⊥
     apart same = cc

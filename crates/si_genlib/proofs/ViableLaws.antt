@@ -1,17 +1,15 @@
 -- The meaning of what is read, both ways.
-use Rattle.std.proofs.Common.{◌≡◌, ℕ, suc, zero, ◌+◌, ◌<◌, ◌≤◌, ◌⊎◌, ◌↔◌, Bool, true, false, List, [], ◌∷◌, ◌++◌, map, codes, Option, Some, None, Result, Ok, Err, refl, sym, ap, ◌∙◌, arith, inl, inr, subst, append_assoc, append-nil}
+use Rattle.std.proofs.Common.{◌≡◌, ℕ, ◌≤◌, ◌⊎◌, ◌↔◌, List, [], ◌∷◌, ◌++◌, codes, Ok, Err, refl, sym, ap, ◌∙◌, arith, inl, inr, subst, append_assoc, append-nil}
 use Rattle.si_base.specs.declared.fault.TextKind.{TextKind}
 use Rattle.si_base.specs.declared.fault.TextKind.TheVariants.{BadExpression, TooDeep}
-use Rattle.si_genlib.specs.declared.fault.Stop.{Stop}
-use Rattle.si_genlib.specs.declared.fault.Stop.TheVariants.{Cut, Fault}
+use Rattle.si_tokens.specs.declared.fault.Stop.TheVariants.{Cut, Fault}
 use Rattle.si_genlib.specs.Limits.{max_unfinished}
-use Rattle.si_genlib.specs.Unread.{Unread, Piece}
+use Rattle.si_tokens.specs.Unread.{Unread, Piece}
 use Rattle.si_genlib.specs.Expression.{Tree, trees, State, Outcome, Goes, Ends, Stops, start, step, symbol, led, read}
-use Rattle.si_genlib.specs.Grammar.{Syntax, IsExpression, written, tree_of, height, IsBeginning, BeginsWith, IsDead, sentence, Split, bytes_of, ahead, through, IsSentence, CannotGoOn, GoesTooDeep}
+use Rattle.si_genlib.specs.Grammar.{Syntax, IsExpression, written, tree_of, height, IsBeginning, BeginsWith, NoneBegins, OnlyDeeperBegin, sentence, Split, bytes_of, ahead, IsSentence, CannotGoOn, GoesTooDeep}
 use Rattle.si_genlib.proofs.GrammarLemmas.{steps, led_on, steps-append, each_read, tree_read}
-use Rattle.si_genlib.proofs.Converse.{Reads}
 use Rattle.si_genlib.proofs.ConverseSteps.{IsWhole, same_state, reached_begins}
-use Rattle.si_genlib.proofs.ViableReads.{IsDeep, StopVerdict, Verdict, verdict, one_more, Means, FaultMeans, read_means}
+use Rattle.si_genlib.proofs.ViableReads.{StopVerdict, Verdict, verdict, one_more, Means, FaultMeans, read_means}
 
 -- ---- reading comes to the end of each beginning
 
@@ -35,7 +33,8 @@ read_past (token ∷ before) more s t leads =
     by_outcome (step trees s (symbol trees token.bytes)) leads (λ u. read_past before more u t)
   where
     by_outcome : (c : Outcome Tree) → led_on (λ u. steps trees u (bytes_of before)) c ≡ Goes t
-        → ((u : State Tree) → steps trees u (bytes_of before) ≡ Goes t → read trees u (before ++ more) ≡ read trees t more)
+        → ((u : State Tree) → steps trees u (bytes_of before) ≡ Goes t
+        → read trees u (before ++ more) ≡ read trees t more)
         → led (λ u. read trees u (before ++ more)) token c ≡ read trees t more
     by_outcome (Goes u) leads later = later u leads
     by_outcome (Ends x) leads later = absurd (cc leads)
@@ -48,69 +47,87 @@ ends_with x (Goes s) same = absurd (cc same)
 ends_with x (Ends y) same = same
 ends_with x (Stops kind) same = absurd (cc same)
 
-end_step : (e : Syntax) (s : State Tree) → IsExpression e → height e ≤ max_unfinished → steps trees start (written e) ≡ Goes s
-    → step trees s (symbol trees (codes ";")) ≡ Ends (tree_of e)
+end_step : (e : Syntax) (s : State Tree) → IsExpression e → height e ≤ max_unfinished
+    → steps trees start (written e) ≡ Goes s → step trees s (symbol trees (codes ";")) ≡ Ends (tree_of e)
 end_step e s is low leads = ends_with (tree_of e) (step trees s (symbol trees (codes ";")))
     (sym (one_more (written e) (codes ";") s leads) ∙ tree_read e is low)
 
 sentence_read : (tokens : List Piece) (tree : Tree) (rest : Unread) → IsSentence tokens tree rest
     → read trees start tokens ≡ Ok (tree, rest)
-sentence_read tokens tree rest q =
-    let b : IsBeginning max_unfinished (written q.expression) =
-        record { whole = q.expression; is = q.is; within = q.within; begins = ([], sym (append-nil (written q.expression))) } in
-    let s = beginning_goes (written q.expression) b in
-    let ended : step trees s.0 (symbol trees q.end.token.bytes) ≡ Ends (tree_of q.expression) =
-        ap (λ (bytes : List ℕ). step trees s.0 (symbol trees bytes)) q.ends ∙ end_step q.expression s.0 q.is q.within s.1 in
-    ap (read trees start) q.end.parts
-    ∙ read_past q.end.before (q.end.token ∷ q.end.behind) start s.0 (ap (steps trees start) q.spelled ∙ s.1)
-    ∙ ap (led (λ t. read trees t q.end.behind) q.end.token) ended
-    ∙ ap (λ (u : Unread). Ok (tree_of q.expression, u)) q.left
-    ∙ ap (λ (t : Tree). Ok (t, rest)) q.means
+sentence_read tokens tree rest found =
+    let all = written found.expression in
+    let begun : IsBeginning max_unfinished all = record {
+      whole = found.expression;
+      is = found.is;
+      within = found.within;
+      begins = ([], sym (append-nil all));
+    } in
+    let s = beginning_goes all begun in
+    let ended : step trees s.0 (symbol trees found.end.token.bytes) ≡ Ends (tree_of found.expression) =
+    ap (λ (bytes : List ℕ). step trees s.0 (symbol trees bytes)) found.ends
+    ∙ end_step found.expression s.0 found.is found.within s.1 in
+    ap (read trees start) found.end.parts
+    ∙ read_past found.end.before (found.end.token ∷ found.end.behind) start s.0
+    (ap (steps trees start) found.spelled ∙ s.1)
+    ∙ ap (led (λ t. read trees t found.end.behind) found.end.token) ended
+    ∙ ap (λ (u : Unread). Ok (tree_of found.expression, u)) found.left
+    ∙ ap (λ (t : Tree). Ok (t, rest)) found.means
 
 -- ---- faults
 
 sentence_begins : (e : Syntax) (tokens : List (List ℕ)) → BeginsWith (written e) tokens → BeginsWith (sentence e) tokens
-sentence_begins e tokens b = (b.0 ++ codes ";" ∷ [], ap (λ (all : List (List ℕ)). all ++ codes ";" ∷ []) b.1
-    ∙ append_assoc tokens b.0 (codes ";" ∷ []))
+sentence_begins e tokens b = (
+  b.0 ++ codes ";" ∷ [],
+  ap (λ (all : List (List ℕ)). all ++ codes ";" ∷ []) b.1
+      ∙ append_assoc tokens b.0 (codes ";" ∷ []),
+)
 
 whole_begins : (limit : ℕ) (x : Tree) (tokens : List (List ℕ)) (token : List ℕ) (w : IsWhole limit x tokens token)
     → BeginsWith (sentence w.s) (tokens ++ token ∷ [])
-whole_begins limit x tokens token w = ([], sym (append-nil (tokens ++ token ∷ [])
-    ∙ ap (λ (all : List (List ℕ)). all ++ token ∷ []) w.same
-    ∙ ap (λ (last : List ℕ). written w.s ++ last ∷ []) w.ends))
+whole_begins limit x tokens token w = (
+  [],
+  sym (append-nil (tokens ++ token ∷ [])
+      ∙ ap (λ (all : List (List ℕ)). all ++ token ∷ []) w.same
+      ∙ ap (λ (last : List ℕ). written w.s ++ last ∷ []) w.ends),
+)
 
 -- a beginning isn't dead
-live : (limit : ℕ) (tokens : List (List ℕ)) → IsBeginning limit tokens → IsDead tokens → ⊥
+live : (limit : ℕ) (tokens : List (List ℕ)) → IsBeginning limit tokens → NoneBegins tokens → ⊥
 live limit tokens b dead = dead b.whole b.is (sentence_begins b.whole tokens b.begins)
 
 -- nor deep, within the limit
-shallow : (tokens : List (List ℕ)) → IsBeginning max_unfinished tokens → IsDeep tokens → ⊥
+shallow : (tokens : List (List ℕ)) → IsBeginning max_unfinished tokens → OnlyDeeperBegin tokens → ⊥
 shallow tokens b deep = omega (arith, b.within, deep b.whole b.is (sentence_begins b.whole tokens b.begins))
 
 module _ (tokens : List (List ℕ)) (token : List ℕ) where
-  bad_stop : (kind : TextKind) → StopVerdict (tokens ++ token ∷ []) kind → IsDead (tokens ++ token ∷ []) → kind ≡ BadExpression
+  bad_stop : (kind : TextKind) → StopVerdict tokens token kind
+      → NoneBegins (tokens ++ token ∷ []) → kind ≡ BadExpression
   bad_stop BadExpression stops dead = refl
-  bad_stop TooDeep stops dead = absurd (live 65 (tokens ++ token ∷ []) stops.0 dead)
+  bad_stop TooDeep stops dead = absurd (live 65 (tokens ++ token ∷ []) stops.1 dead)
   bad_stop kind stops dead = absurd stops
 
-  deep_stop : (kind : TextKind) → StopVerdict (tokens ++ token ∷ []) kind → IsBeginning 65 (tokens ++ token ∷ [])
+  deep_stop : (kind : TextKind) → StopVerdict tokens token kind → IsBeginning 65 (tokens ++ token ∷ [])
       → kind ≡ TooDeep
   deep_stop BadExpression stops deeper = absurd (live 65 (tokens ++ token ∷ []) deeper stops)
   deep_stop TooDeep stops deeper = refl
   deep_stop kind stops deeper = absurd stops
 
-  bad_outcome : (c : Outcome Tree) → Verdict tokens token c → IsDead (tokens ++ token ∷ []) → c ≡ Stops BadExpression
+  bad_outcome : (c : Outcome Tree) → Verdict tokens token c → NoneBegins (tokens ++ token ∷ [])
+      → c ≡ Stops BadExpression
   bad_outcome (Goes s) leads dead = absurd (live 64 (tokens ++ token ∷ [])
       (reached_begins 64 (omega arith) (tokens ++ token ∷ []) s leads) dead)
   bad_outcome (Ends x) whole dead = absurd (dead whole.s whole.reads.is (whole_begins 64 x tokens token whole))
   bad_outcome (Stops kind) stops dead = ap (λ (k : TextKind). Stops k) (bad_stop kind stops dead)
 
   deep_outcome : (c : Outcome Tree) → Verdict tokens token c → IsBeginning 65 (tokens ++ token ∷ [])
-      → IsDeep (tokens ++ token ∷ []) → c ≡ Stops TooDeep
+      → OnlyDeeperBegin (tokens ++ token ∷ []) → c ≡ Stops TooDeep
   deep_outcome (Goes s) leads deeper deep = absurd (shallow (tokens ++ token ∷ [])
       (reached_begins 64 (omega arith) (tokens ++ token ∷ []) s leads) deep)
-  deep_outcome (Ends x) whole deeper deep = absurd (omega (arith, whole.reads.room,
-      deep whole.s whole.reads.is (whole_begins 64 x tokens token whole)))
+  deep_outcome (Ends x) whole deeper deep = absurd (omega (
+    arith,
+    whole.reads.room,
+    deep whole.s whole.reads.is (whole_begins 64 x tokens token whole),
+  ))
   deep_outcome (Stops kind) stops deeper deep = ap (λ (k : TextKind). Stops k) (deep_stop kind stops deeper)
 
 module _ (tokens : List Piece) (split : Split tokens) (begun : IsBeginning max_unfinished (ahead split)) where
@@ -124,15 +141,17 @@ module _ (tokens : List Piece) (split : Split tokens) (begun : IsBeginning max_u
       ∙ ap (led (λ t. read trees t split.behind) split.token)
       (stops (step trees s.0 (symbol trees split.token.bytes)) (verdict (ahead split) split.token.bytes s.0 s.1))
 
-bad_read : (tokens : List Piece) (line : ℕ) → CannotGoOn tokens line → read trees start tokens ≡ Err (Fault line BadExpression)
-bad_read tokens line q = fault_read tokens q.split q.begun BadExpression
-    (λ c means. bad_outcome (ahead q.split) q.split.token.bytes c means q.dead)
-    ∙ ap (λ (n : ℕ). Err (Fault n BadExpression)) q.here
+bad_read : (tokens : List Piece) (line : ℕ) → CannotGoOn tokens line
+    → read trees start tokens ≡ Err (Fault line BadExpression)
+bad_read tokens line found = fault_read tokens found.split found.begun BadExpression
+    (λ c means. bad_outcome (ahead found.split) found.split.token.bytes c means found.none)
+    ∙ ap (λ (n : ℕ). Err (Fault n BadExpression)) found.here
 
-deep_read : (tokens : List Piece) (line : ℕ) → GoesTooDeep tokens line → read trees start tokens ≡ Err (Fault line TooDeep)
-deep_read tokens line q = fault_read tokens q.split q.begun TooDeep
-    (λ c means. deep_outcome (ahead q.split) q.split.token.bytes c means q.deeper q.deep)
-    ∙ ap (λ (n : ℕ). Err (Fault n TooDeep)) q.here
+deep_read : (tokens : List Piece) (line : ℕ) → GoesTooDeep tokens line
+    → read trees start tokens ≡ Err (Fault line TooDeep)
+deep_read tokens line found = fault_read tokens found.split found.begun TooDeep
+    (λ c means. deep_outcome (ahead found.split) found.split.token.bytes c means found.deeper found.only)
+    ∙ ap (λ (n : ℕ). Err (Fault n TooDeep)) found.here
 
 cut_read : (tokens : List Piece) → IsBeginning max_unfinished (bytes_of tokens) → read trees start tokens ≡ Err Cut
 cut_read tokens b = let s = beginning_goes (bytes_of tokens) b in

@@ -1,35 +1,31 @@
 -- What is read of the tokens of a text, in the words of the grammar.
-use Rattle.std.proofs.Common.{◌≡◌, ℕ, suc, zero, ◌+◌, ◌<◌, ◌≤◌, ◌⊎◌, ◌↔◌, Bool, true, false, List, [], ◌∷◌, ◌++◌, map, codes, Option, Some, None, Result, Ok, Err, refl, sym, ap, ◌∙◌, arith, inl, inr, ⊎_elim, subst, append_assoc, append-nil}
+use Rattle.std.proofs.Common.{◌≡◌, ℕ, suc, List, [], ◌∷◌, ◌++◌, Result, Ok, Err, refl, sym, ap, ◌∙◌, arith, inl, inr, subst, append_assoc, append-nil}
 use Rattle.std.proofs.lemmas.Bool.{cases_lt}
 use Rattle.std.proofs.lemmas.List.{map-append}
 use Rattle.si_base.specs.declared.fault.TextKind.{TextKind}
 use Rattle.si_base.specs.declared.fault.TextKind.TheVariants.{BadExpression, TooDeep}
-use Rattle.si_genlib.specs.declared.fault.Stop.{Stop}
-use Rattle.si_genlib.specs.declared.fault.Stop.TheVariants.{Cut, Fault}
+use Rattle.si_tokens.specs.declared.fault.Stop.{Stop}
+use Rattle.si_tokens.specs.declared.fault.Stop.TheVariants.{Cut, Fault}
 use Rattle.si_genlib.specs.Limits.{max_unfinished}
-use Rattle.si_genlib.specs.Unread.{Unread, Piece}
+use Rattle.si_tokens.specs.Unread.{Unread, Piece}
 use Rattle.si_genlib.specs.Expression.{Tree, trees, State, Outcome, Goes, Ends, Stops, start, step, symbol, led, read}
-use Rattle.si_genlib.specs.Grammar.{Syntax, IsExpression, written, tree_of, height, IsBeginning, BeginsWith, IsDead, sentence, Split, bytes_of, ahead, through, IsSentence, CannotGoOn, GoesTooDeep}
-use Rattle.si_genlib.proofs.GrammarLemmas.{steps, led_on, steps-append, each_read, tree_read}
-use Rattle.si_genlib.proofs.Converse.{Reads}
-use Rattle.si_genlib.proofs.ConverseSteps.{IsWhole, StepMeans, StopMeans, step_means, reached, reached_begins}
+use Rattle.si_genlib.specs.Grammar.{tree_of, height, IsBeginning, NoneBegins, OnlyDeeperBegin, IsOpening, Split, bytes_of, IsSentence, CannotGoOn, GoesTooDeep}
+use Rattle.si_genlib.proofs.GrammarLemmas.{steps, led_on, steps-append, tree_read}
+use Rattle.si_genlib.proofs.ConverseSteps.{IsWhole, StepMeans, step_means, reached, reached_begins}
 use Rattle.si_genlib.proofs.Viable.{dead_behind}
 
 -- ---- what a token does behind tokens that reading comes to
 
--- each expression that begins so has too many unfinished operators at once
-abbrev pub IsDeep : List (List ℕ) → Type 0
-IsDeep tokens = (s : Syntax) → IsExpression s → BeginsWith (sentence s) tokens → max_unfinished < height s
-
-abbrev pub StopVerdict : List (List ℕ) → TextKind → Type 0
-StopVerdict tokens BadExpression = IsDead tokens
-StopVerdict tokens TooDeep = IsBeginning (suc max_unfinished) tokens × IsDeep tokens
-StopVerdict tokens _ = ⊥
+abbrev pub StopVerdict : List (List ℕ) → List ℕ → TextKind → Type 0
+StopVerdict tokens token BadExpression = NoneBegins (tokens ++ token ∷ [])
+StopVerdict tokens token TooDeep = IsOpening token × IsBeginning (suc max_unfinished) (tokens ++ token ∷ [])
+    × OnlyDeeperBegin (tokens ++ token ∷ [])
+StopVerdict tokens token _ = ⊥
 
 abbrev pub Verdict : List (List ℕ) → List ℕ → Outcome Tree → Type 0
 Verdict tokens token (Goes s) = steps trees start (tokens ++ token ∷ []) ≡ Goes s
 Verdict tokens token (Ends x) = IsWhole max_unfinished x tokens token
-Verdict tokens token (Stops kind) = StopVerdict (tokens ++ token ∷ []) kind
+Verdict tokens token (Stops kind) = StopVerdict tokens token kind
 
 pub one_more : (tokens : List (List ℕ)) (token : List ℕ) (s : State Tree) → steps trees start tokens ≡ Goes s
     → steps trees start (tokens ++ token ∷ []) ≡ led_on (λ t. Goes t) (step trees s (symbol trees token))
@@ -37,7 +33,7 @@ one_more tokens token s leads = steps-append trees start tokens (token ∷ [])
     ∙ ap (led_on (λ t. steps trees t (token ∷ []))) leads
 
 -- what is read to its end has no stop
-deep_behind : (tokens : List (List ℕ)) → steps trees start tokens ≡ Stops TooDeep → IsDeep tokens
+deep_behind : (tokens : List (List ℕ)) → steps trees start tokens ≡ Stops TooDeep → OnlyDeeperBegin tokens
 deep_behind tokens stops s is begins = elim (cases_lt 64 (height s)) [
   | inl high ↦ high
   | inr low ↦ absurd (apart (sym (tree_read s is low) ∙ ap (steps trees start) begins.1
@@ -53,8 +49,11 @@ verdict_of : (tokens : List (List ℕ)) (token : List ℕ) (s : State Tree) → 
 verdict_of tokens token s leads (Goes t) same low high = one_more tokens token s leads ∙ ap (led_on (λ u. Goes u)) same
 verdict_of tokens token s leads (Ends x) same low high = low
 verdict_of tokens token s leads (Stops BadExpression) same low high = dead_behind tokens token s leads same
-verdict_of tokens token s leads (Stops TooDeep) same low high = (high (omega arith),
-    deep_behind (tokens ++ token ∷ []) (one_more tokens token s leads ∙ ap (led_on (λ u. Goes u)) same))
+verdict_of tokens token s leads (Stops TooDeep) same low high = (
+  high.0,
+  high.1 (omega arith),
+  deep_behind (tokens ++ token ∷ []) (one_more tokens token s leads ∙ ap (led_on (λ u. Goes u)) same),
+)
 verdict_of tokens token s leads (Stops kind) same low high = absurd low
 
 pub verdict : (tokens : List (List ℕ)) (token : List ℕ) (s : State Tree) → steps trees start tokens ≡ Goes s
@@ -83,21 +82,22 @@ module _ (before : List Piece) (token : Piece) (behind : List Piece) (s : State 
   abbrev last_of : Outcome Tree → Type 0
   last_of c = Means (before ++ token ∷ behind) (led (λ t. read trees t behind) token c)
 
-  stop_means : (kind : TextKind) → StopVerdict (bytes_of before ++ token.bytes ∷ []) kind
+  stop_means : (kind : TextKind) → StopVerdict (bytes_of before) token.bytes kind
       → FaultMeans (before ++ token ∷ behind) token.line kind
   unfolding split
   stop_means BadExpression dead = record {
     split = split;
     here = refl;
     begun = reached_begins 64 (omega arith) (bytes_of before) s leads;
-    dead = dead;
+    none = dead;
   }
   stop_means TooDeep deep = record {
     split = split;
     here = refl;
     begun = reached_begins 64 (omega arith) (bytes_of before) s leads;
-    deeper = deep.0;
-    deep = deep.1;
+    opens = deep.0;
+    deeper = deep.1;
+    only = deep.2;
   }
   stop_means kind none = absurd none
 
@@ -126,8 +126,10 @@ means_from before s leads [] = subst (λ (tokens : List Piece). IsBeginning max_
 means_from before s leads (token ∷ more) =
     token_means before token more s leads (step trees s (symbol trees token.bytes))
     (verdict (bytes_of before) token.bytes s leads)
-    (λ t leads_on. subst (λ (tokens : List Piece). Means tokens (read trees t more)) (append_assoc before (token ∷ []) more)
-    (means_from (before ++ token ∷ []) t (ap (steps trees start) (map-append (λ p. p.bytes) before (token ∷ [])) ∙ leads_on) more))
+    (λ t leads_on. subst (λ (tokens : List Piece). Means tokens (read trees t more))
+    (append_assoc before (token ∷ []) more)
+    (means_from (before ++ token ∷ []) t
+    (ap (steps trees start) (map-append (λ p. p.bytes) before (token ∷ [])) ∙ leads_on) more))
 
 -- whatever is read of tokens has a meaning in the grammar
 pub read_means : (tokens : List Piece) → Means tokens (read trees start tokens)

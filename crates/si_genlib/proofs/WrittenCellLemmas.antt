@@ -97,7 +97,8 @@ is_new name before x later distinct = list_any_none (λ a. bytes_eq (name x) (na
     distinct k (length before) d inside within (ap name (get_or_append_left before (x ∷ later) d k inside)
     ∙ sym (names_same _ _ same) ∙ ap name (sym (get_or_at before x later d (length before) refl)))))
 
-pub at_here : {A : Type 0} (P : A → Type 0) (before : List A) (x : A) (later : List A) → All P (before ++ x ∷ later) → P x
+pub at_here : {A : Type 0} (P : A → Type 0) (before : List A) (x : A) (later : List A) → All P (before ++ x ∷ later)
+    → P x
 at_here P before x later all =
     let within : length before < length (before ++ x ∷ later) = omega (arith, length-append before (x ∷ later)) in
     subst P (get_or_at before x later x (length before) refl) (all (length before) x within)

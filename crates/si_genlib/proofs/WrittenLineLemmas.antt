@@ -104,7 +104,8 @@ words_joined (w ∷ v ∷ ws) good = word_first w (32 ∷ join_with_byte 32 (v �
     ∙ ap (λ (l : List (List ℕ)). w ∷ l) (words_joined (v ∷ ws) good.1)
 
 pub words_back : (ws : List (List ℕ)) → AreWords ws → words_in false (before_comment (join_with_byte 32 ws)) ≡ ws
-words_back ws good = ap (words_in false) (no_comment (join_with_byte 32 ws) (join_in_line ws good)) ∙ words_joined ws good
+words_back ws good = ap (words_in false) (no_comment (join_with_byte 32 ws) (join_in_line ws good))
+    ∙ words_joined ws good
 
 -- ---- the lines of a text are those that were written
 

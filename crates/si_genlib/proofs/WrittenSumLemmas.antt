@@ -225,7 +225,8 @@ module _ (signals : List Signal) (are : AreNames (names_in signals)) where
   abbrev pub SumFits : Sum → Type 0
   SumFits sum = AllByRecursion CubeFits sum
 
-  unlike_plus : (ls : List Literal) → AreThere ls → AllByRecursion (λ (l : Literal). bytes_eq (codes "+") (word l) ≡ false) ls
+  unlike_plus : (ls : List Literal) → AreThere ls → AllByRecursion
+      (λ (l : Literal). bytes_eq (codes "+") (word l) ≡ false) ls
   unlike_plus [] there = tt
   unlike_plus (l ∷ ls) there = (no_literal (codes "+") (word l) refl (is_word l there.0), unlike_plus ls there.1)
 

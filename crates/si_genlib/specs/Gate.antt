@@ -12,9 +12,9 @@ use Rattle.si_cell.specs.Limits.{max_cells, max_pins}
 use Rattle.si_cell.specs.LibraryText.{names_of}
 use Rattle.si_cube.specs.Covers.{Demand}
 use Rattle.si_cube.specs.Rule.{chosen}
-use Rattle.si_genlib.specs.declared.fault.Stop.{Stop}
-use Rattle.si_genlib.specs.declared.fault.Stop.TheVariants.{Fault}
-use Rattle.si_genlib.specs.Unread.{Piece}
+use Rattle.si_tokens.specs.declared.fault.Stop.{Stop}
+use Rattle.si_tokens.specs.declared.fault.Stop.TheVariants.{Fault}
+use Rattle.si_tokens.specs.Unread.{Piece}
 use Rattle.si_genlib.specs.Expression.{Tree, truth, value_of, is_name, is_constant}
 
 -- ---- pins
@@ -124,7 +124,8 @@ lawful name = front name ++ map lawful_byte name
 -- `_` at the end while the name is one of these, at most so often
 abbrev pub fresh : ℕ → List (List ℕ) → List ℕ → List ℕ
 fresh zero names name = name
-fresh (suc n) names name = if stands_in names name then fresh n names (name ++ underscore ∷ []) else name
+fresh (suc n) names name =
+    if stands_in names name then fresh n names (name ++ underscore ∷ []) else name
 
 abbrev pub cell_name : List (List ℕ) → List ℕ → List ℕ
 cell_name names name = fresh (length names) names (lawful name)

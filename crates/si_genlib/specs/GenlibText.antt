@@ -5,9 +5,9 @@ use Rattle.si_base.specs.declared.fault.TextKind.{TextKind}
 use Rattle.si_base.specs.declared.fault.TextKind.TheVariants.{BadByte, NoEnd}
 use Rattle.si_cell.specs.Library.{Cell, Library}
 use Rattle.si_words.specs.Ends.{after_last}
-use Rattle.si_genlib.specs.declared.fault.Stop.{Stop}
-use Rattle.si_genlib.specs.declared.fault.Stop.TheVariants.{Cut, Fault}
-use Rattle.si_genlib.specs.Unread.{Unread, unread, size, bad_line}
+use Rattle.si_tokens.specs.declared.fault.Stop.{Stop}
+use Rattle.si_tokens.specs.declared.fault.Stop.TheVariants.{Cut, Fault}
+use Rattle.si_tokens.specs.Unread.{Unread, unread, size, bad_line}
 use Rattle.si_genlib.specs.Statements.{Progress, nothing_yet, cells_from}
 
 -- each statement takes at least one byte

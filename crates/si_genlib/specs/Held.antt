@@ -1,17 +1,13 @@
 -- What readers hold and answer, as the definitions see it.
 use Rattle.std.specs.Prelude.{◌≡◌, ℕ, reverse, Option, Some, None, Result, Ok, Err}
 use Rattle.si_words.specs.Reads.{words_now}
-use Rattle.si_genlib.specs.declared.fault.ReadFault.{ReadFault}
-use Rattle.si_genlib.specs.declared.fault.ReadFault.TheVariants as faults
-use Rattle.si_genlib.specs.declared.fault.Stop.{Stop}
-use Rattle.si_genlib.specs.declared.fault.Stop.TheVariants as stops
+use Rattle.si_tokens.specs.declared.fault.ReadFault.{ReadFault}
+use Rattle.si_tokens.specs.declared.fault.ReadFault.TheVariants as faults
+use Rattle.si_tokens.specs.declared.fault.Stop.TheVariants as stops
 use Rattle.si_base.specs.declared.fault.LineFault.{LineFault}
 use Rattle.si_base.specs.declared.fault.LineFault.TheVariants as line_faults
-use Rattle.si_genlib.specs.declared.source.Source.{Source}
-use Rattle.si_genlib.specs.declared.source.Part.{Part}
 use Rattle.si_genlib.specs.declared.expression.Reading.{Reading}
 use Rattle.si_genlib.specs.declared.pins.PinList.{PinList}
-use Rattle.si_genlib.specs.Unread.{Unread, Piece, clean}
 use Rattle.si_genlib.specs.Expression.{State, Outcome, Goes, Ends, Stops}
 use Rattle.si_genlib.specs.Gate.{Pins}
 use Rattle.si_genlib.specs.Statements.{Progress}
@@ -20,13 +16,6 @@ use Rattle.si_genlib.specs.Tables.{TabledGate}
 use Rattle.si_genlib.specs.declared.gate.Gate.{Gate as GateHeld}
 
 -- ---- values
-
-abbrev pub left : Source → Unread
-left s = record { number = s.number; here = s.here.now; lines = clean s.lines }
-
--- the part, with what is left behind it
-abbrev pub piece : Part → Unread → Piece
-piece p rest = record { line = p.line; bytes = p.bytes.now; rest = rest }
 
 -- the operators that aren't finished stand the last last
 abbrev pub state_now : Reading → State ℕ
@@ -47,16 +36,6 @@ abbrev pub progress_now : ProgressHeld → Progress
 progress_now p = record { cells = p.cells.items; begun = p.begun }
 
 -- ---- answers
-
--- it is this stop, or `NoMemory`
-abbrev pub Shows : {Y : Type 0} → ReadFault → Result Y Stop → Type 0
-Shows faults.NoMemory read = Unit {0}
-Shows (faults.Stop stop) read = read ≡ Err stop
-
--- what is read, seen so, or why reading stops; either may want memory
-abbrev pub Reads : {X Y : Type 0} → (X → Y) → Result X ReadFault → Result Y Stop → Type 0
-Reads view (Ok x) read = read ≡ Ok (view x)
-Reads view (Err e) read = Shows e read
 
 abbrev pub StopsWith : LineFault → Outcome ℕ → Type 0
 StopsWith line_faults.NoMemory outcome = Unit {0}

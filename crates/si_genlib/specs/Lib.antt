@@ -1,6 +1,4 @@
 pub mod Limits
-pub mod Unread
-pub mod Decimal
 pub mod Expression
 pub mod Gate
 pub mod Tables

@@ -6,10 +6,10 @@ use Rattle.si_base.specs.declared.fault.TextKind.{TextKind}
 use Rattle.si_base.specs.declared.fault.TextKind.TheVariants.{BadGate, BadNumber, BadPin, BadWord, Latch}
 use Rattle.si_words.specs.Sums.{is_empty}
 use Rattle.si_cell.specs.Library.{Cell}
-use Rattle.si_genlib.specs.declared.fault.Stop.{Stop}
-use Rattle.si_genlib.specs.declared.fault.Stop.TheVariants.{Cut, Fault}
-use Rattle.si_genlib.specs.Unread.{◌>>=◌, Unread, Piece, to_next, word_here, if_there, word, word_at, token_at, tokens}
-use Rattle.si_genlib.specs.Decimal.{is_decimal}
+use Rattle.si_tokens.specs.declared.fault.Stop.{Stop}
+use Rattle.si_tokens.specs.declared.fault.Stop.TheVariants.{Cut, Fault}
+use Rattle.si_tokens.specs.Unread.{◌>>=◌, Unread, Piece, to_next, word_here, if_there, word, word_at, token_at, tokens}
+use Rattle.si_tokens.specs.Decimal.{is_decimal}
 use Rattle.si_genlib.specs.Expression.{trees, start, read, is_name}
 use Rattle.si_genlib.specs.Gate.{Gate, no_pins, pins_from, with_gate}
 

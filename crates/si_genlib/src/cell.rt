@@ -7,11 +7,11 @@ ghost use Rattle.si_cell.specs.LibraryText.{names_of};
 ghost use Rattle.si_cell.specs.Limits.{max_pins};
 ghost use Rattle.si_genlib.specs.Gate as spec;
 ghost use Rattle.si_genlib.specs.Gate.{Gate as GateValue};
-ghost use Rattle.si_genlib.specs.Held.{gate_now, Reads};
+ghost use Rattle.si_tokens.specs.Parts.{Reads};
+ghost use Rattle.si_genlib.specs.Held.{gate_now};
 ghost use Rattle.si_genlib.specs.Tables.{tabled, table_value};
 
 use crate::demand::sum_of;
-use crate::fault::{ReadFault, Stop};
 use crate::gate::Gate;
 use crate::table::falls;
 use si_base::fault::TextKind;
@@ -19,6 +19,7 @@ use si_base::ids::NoMemory;
 use si_base::text::Name;
 use si_cell::cell::Cell;
 use si_cell::limits::MAX_CELLS;
+use si_tokens::fault::{ReadFault, Stop};
 use si_words::words::is_name_byte;
 use std::alloc::Global;
 

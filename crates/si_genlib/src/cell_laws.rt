@@ -8,7 +8,7 @@ ghost use Rattle.si_genlib.specs.Gate.{Gate as GateValue, gate_value, pin_count,
 ghost use Rattle.si_genlib.specs.Gate.{demand, cell_of};
 ghost use Rattle.si_genlib.specs.GenlibText.{library_of};
 ghost use Rattle.si_genlib.specs.Statements.{gate_at};
-ghost use Rattle.si_genlib.specs.Unread.{Unread};
+ghost use Rattle.si_tokens.specs.Unread.{Unread};
 
 /// The sum of the cell that a gate becomes has the gate's value, for all values of its pins and of
 /// its own output.

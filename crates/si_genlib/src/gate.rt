@@ -5,17 +5,18 @@ ghost use Rattle.std.specs.List.{prefix_len};
 ghost use Rattle.si_cell.specs.Limits.{max_pins};
 ghost use Rattle.si_genlib.specs.Expression as expression;
 ghost use Rattle.si_genlib.specs.Gate.{no_pins, pins_from};
-ghost use Rattle.si_genlib.specs.Held.{left, pins_now, gate_now, Reads, ToldAt};
+ghost use Rattle.si_tokens.specs.Parts.{left, Reads};
+ghost use Rattle.si_genlib.specs.Held.{pins_now, gate_now, ToldAt};
 ghost use Rattle.si_genlib.specs.Statements as text;
 ghost use Rattle.si_genlib.specs.Tables.{tables, with_table};
-ghost use Rattle.si_genlib.specs.Unread.{tokens, word_here};
+ghost use Rattle.si_tokens.specs.Unread.{tokens, word_here};
 
-use crate::decimal::is_decimal;
 use crate::expression::Reading;
-use crate::fault::{ReadFault, Stop};
 use crate::pins::{PinList, is_name, symbol_of};
-use crate::source::Source;
 use si_base::fault::{LineFault, TextKind};
+use si_tokens::decimal::is_decimal;
+use si_tokens::fault::{ReadFault, Stop};
+use si_tokens::source::Source;
 use std::alloc::Global;
 
 /// An expression: its pins, and its truth table.

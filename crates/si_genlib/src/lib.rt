@@ -3,16 +3,13 @@
 
 mod cell;
 pub mod cell_laws;
-mod decimal;
 mod demand;
 mod expression;
-mod fault;
 mod gate;
 pub mod laws;
 pub mod limits;
 mod pins;
 pub mod reader;
-mod source;
 mod statements;
 mod symbol;
 mod table;

@@ -4,19 +4,19 @@ ghost use Rattle.std.specs.Prelude.{◌≡◌, Err, IfOk};
 ghost use Rattle.si_base.specs.Lines.{numbered};
 ghost use Rattle.si_cell.specs.Library.{AreCells};
 ghost use Rattle.si_words.specs.Ends.{after_last as line_after_last};
-ghost use Rattle.si_genlib.specs.declared.fault.Stop.TheVariants as stops;
+ghost use Rattle.si_tokens.specs.declared.fault.Stop.TheVariants as stops;
 ghost use Rattle.si_genlib.specs.GenlibText as spec;
 ghost use Rattle.si_base.specs.TextFaults.{Shows as TextShows, Gives};
-ghost use Rattle.si_genlib.specs.Unread as unread;
+ghost use Rattle.si_tokens.specs.Unread as unread;
 
-use crate::fault::{ReadFault, Stop};
-use crate::source::Source;
 use crate::statements::read_cells;
 use si_base::fault::{TextFault, TextKind};
 use si_base::lines::{Lines, has_bad_byte};
 use si_base::text::Name;
 use si_cell::cell::Cell;
 use si_cell::library::Library;
+use si_tokens::fault::{ReadFault, Stop};
+use si_tokens::source::Source;
 use si_words::ends::after_last;
 use std::alloc::Global;
 

@@ -2,15 +2,16 @@
 
 ghost use Rattle.std.specs.Prelude.{◌≡◌};
 ghost use Rattle.si_genlib.specs.GenlibText.{all_cells};
-ghost use Rattle.si_genlib.specs.Held.{left, piece, progress_now, Reads};
+ghost use Rattle.si_tokens.specs.Parts.{left, piece, Reads};
+ghost use Rattle.si_genlib.specs.Held.{progress_now};
 ghost use Rattle.si_genlib.specs.Statements as text;
 
 use crate::cell::keep;
-use crate::fault::{ReadFault, Stop};
 use crate::gate::{read_decimal, read_gate};
-use crate::source::{Part, Source};
 use si_base::fault::TextKind;
 use si_cell::cell::Cell;
+use si_tokens::fault::{ReadFault, Stop};
+use si_tokens::source::{Part, Source};
 use std::alloc::Global;
 
 /// The cells so far, and whether a gate stands before.

@@ -10,6 +10,8 @@ mod cell_tests;
 #[cfg(test)]
 mod check_tests;
 #[cfg(test)]
+mod genlib_tests;
+#[cfg(test)]
 mod graph_tests;
 #[cfg(test)]
 mod handshakes_tests;

@@ -10,10 +10,12 @@ pub loop-code-preserved : goal.loop-code-preserved
 loop-code-preserved c = elim c.if-value.branch [
   | then-value+in_ok-push w ↦
       rw (w.required-is, w.forbidden-is, w.in_ok-push.ensures.items, w.from.ensures)
-      (one_required (table_value c.args.count c.args.table) c.loop-code.code c.loop-code.required.items c.loop-code.forbidden.items
+      (one_required
+      (table_value c.args.count c.args.table) c.loop-code.code c.loop-code.required.items c.loop-code.forbidden.items
       c.loop-code.invariant w.if-value.ensures)
   | else-value+in_ok-push-2 w ↦
       rw (w.required-is, w.forbidden-is, w.in_ok-push-2.ensures.items, w.from-else-value.ensures)
-      (one_forbidden (table_value c.args.count c.args.table) c.loop-code.code c.loop-code.required.items c.loop-code.forbidden.items
+      (one_forbidden
+      (table_value c.args.count c.args.table) c.loop-code.code c.loop-code.required.items c.loop-code.forbidden.items
       c.loop-code.invariant w.if-value.ensures)
 ]

@@ -8,15 +8,18 @@ use Rattle.si_genlib.proofs.DemandLemmas.{required_fit, forbidden_fit, forbidden
 use Rattle.si_genlib.proofs.demand.sum_of.Goals as goal
 
 pub sum_of_codes-requires-clause-in_order : goal.sum_of_codes-requires-clause-in_order
-sum_of_codes-requires-clause-in_order c = subst IsNonDecreasing (sym (c.deref-2.ensures.value ∙ c.in_ok-demand.ensures.forbidden))
+sum_of_codes-requires-clause-in_order c = subst IsNonDecreasing
+    (sym (c.deref-2.ensures.value ∙ c.in_ok-demand.ensures.forbidden))
     (forbidden_rises c.args.bits (table_value c.args.count c.args.table))
 
 pub sum_of_codes-requires-clause-required_fit : goal.sum_of_codes-requires-clause-required_fit
 sum_of_codes-requires-clause-required_fit c = subst (All (λ (k : ℕ). k < 2 ^ c.args.bits))
-    (sym (c.deref.ensures.value ∙ c.in_ok-demand.ensures.required)) (required_fit c.args.bits (table_value c.args.count c.args.table))
+    (sym (c.deref.ensures.value ∙ c.in_ok-demand.ensures.required))
+    (required_fit c.args.bits (table_value c.args.count c.args.table))
 
 pub sum_of_codes-requires-clause-meetable : goal.sum_of_codes-requires-clause-meetable
-sum_of_codes-requires-clause-meetable c = subst IsMeetable (sym (same_demand c.args.bits (table_value c.args.count c.args.table)
+sum_of_codes-requires-clause-meetable c = subst IsMeetable
+    (sym (same_demand c.args.bits (table_value c.args.count c.args.table)
     c.deref.result.now c.deref-2.result.now (c.deref.ensures.value ∙ c.in_ok-demand.ensures.required)
     (c.deref-2.ensures.value ∙ c.in_ok-demand.ensures.forbidden)))
     (can_be_met c.args.bits (table_value c.args.count c.args.table))

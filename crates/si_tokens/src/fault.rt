@@ -1,7 +1,7 @@
 //! Why reading stops.
 
 ghost use Rattle.std.specs.Prelude.{◌≡◌};
-ghost use Rattle.si_genlib.specs.declared.fault.ReadFault.TheVariants as faults;
+ghost use Rattle.si_tokens.specs.declared.fault.ReadFault.TheVariants as faults;
 
 use si_base::fault::TextKind;
 use si_base::ids;

@@ -1,0 +1,5 @@
+use Rattle.si_genlib.proofs.ConverseOne.{one_way}
+use Rattle.si_genlib.proofs.laws.expressions_are_written_in_one_way.Goals as goal
+
+pub returns : goal.returns
+returns c = one_way
