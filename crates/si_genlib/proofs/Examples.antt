@@ -1,7 +1,9 @@
--- A small genlib text, the library that it spells, and texts with faults.
-use Rattle.std.proofs.Common.{◌≡◌, ℕ, List, Some, None, codes, refl}
+-- Genlib texts with faults, and a text with the library that it spells.
+use Rattle.std.proofs.Common.{◌≡◌, ℕ, List, [], ◌∷◌, true, false, Some, None, codes, refl}
+use Rattle.si_base.specs.declared.ids.Literal.{Literal}
 use Rattle.si_base.specs.declared.fault.TextKind.TheVariants as kinds
-use Rattle.si_genlib.specs.GenlibText.{genlib_fault, all_cells}
+use Rattle.si_cell.specs.Library.{Cell}
+use Rattle.si_genlib.specs.GenlibText.{genlib_fault, library_of, all_cells}
 use Rattle.si_genlib.specs.Statements.{name_at, decimal_at, out_at, equals_at, body_at, gate_at, phase_at, pin_at, gate_statement_at, pin_statement_at, statement_at}
 use Rattle.si_tokens.specs.Unread.{word, word_at, tokens}
 use Rattle.si_genlib.specs.Expression.{step}
@@ -45,3 +47,41 @@ bad_byte = refl
 pin_first : genlib_fault (codes "PIN") ≡ Some (1, kinds.BadWord)
 unfolding genlib_fault all_cells name_at decimal_at out_at equals_at body_at gate_at phase_at pin_at gate_statement_at pin_statement_at statement_at word word_at tokens step gate_value sum_of cell_of with_gate
 pin_first = refl
+
+-- ---- a library of several gates
+several : List ℕ
+several = codes "# small\nGATE inv1 1 O=!a; PIN * INV 1 999 0.9 0.3 0.9 0.3\nGATE \"1310:nand\" 2.00 O=!(1A*1B);\n  PIN * INV 1 999 1.0 0.2 1.0 0.2\nGATE one 0 O=CONST1;\nGATE aoi 4 O=(a*b+c*d+e*f)';\nGATE C2 3 O=a b + O (a+b); PIN * UNKNOWN 1 999 1 .2 1 .2\n"
+
+plain : ℕ → Literal
+plain s = record { sig = s; plain = true }
+
+complemented : ℕ → Literal
+complemented s = record { sig = s; plain = false }
+
+inverter : Cell
+inverter = record { name = codes "inv1"; pins = codes "p1" ∷ []; sum = (complemented 0 ∷ []) ∷ [] }
+
+nand : Cell
+nand = record {
+  name = codes "_1310_nand";
+  pins = codes "p1" ∷ codes "p2" ∷ [];
+  sum = (complemented 1 ∷ []) ∷ (complemented 0 ∷ []) ∷ [];
+}
+
+one : Cell
+one = record { name = codes "one"; pins = []; sum = [] ∷ [] }
+
+c_element : Cell
+c_element = record {
+  name = codes "C2";
+  pins = codes "p1" ∷ codes "p2" ∷ [];
+  sum = (plain 0 ∷ plain 1 ∷ []) ∷ (plain 0 ∷ plain 2 ∷ []) ∷ (plain 1 ∷ plain 2 ∷ []) ∷ [];
+}
+
+-- the gate of six pins is passed over, and `O` in the last one is its own output
+several_spell : library_of several ≡ record {
+  name = codes "genlib";
+  cells = inverter ∷ nand ∷ one ∷ c_element ∷ [];
+}
+unfolding several inverter nand one c_element plain complemented library_of all_cells name_at decimal_at out_at equals_at body_at gate_at phase_at pin_at gate_statement_at pin_statement_at statement_at word word_at tokens step gate_value sum_of cell_of with_gate
+several_spell = refl

@@ -305,7 +305,8 @@ module _ (out : List ℕ) (pins new : Pins) (all rest : List Piece) (token : Pie
   final : symbol (tables (pins_from out new rest).names) token.bytes ≡ x
   final = let same : symbol (tables (pins_from out (with_token out pins token.bytes) rest).names) token.bytes
       ≡ symbol
-      (tables (with_token out pins token.bytes).names) token.bytes = symbol_stays out pins token.bytes rest taken.lawful in
+      (tables (with_token out pins token.bytes).names) token.bytes =
+      symbol_stays out pins token.bytes rest taken.lawful in
       subst (λ (p : Pins). symbol (tables (pins_from out p rest).names) token.bytes
       ≡ symbol (tables p.names) token.bytes)
       (sym taken.pins_are) same ∙ sym taken.symbol_is

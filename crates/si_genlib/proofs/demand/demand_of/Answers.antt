@@ -4,7 +4,8 @@ use Rattle.si_genlib.proofs.demand.demand_of.Goals as goal
 use Rattle.si_genlib.proofs.demand.demand_of.Goals.{then-value+in_ok-push, else-value+in_ok-push-2}
 
 pub value-requires-clause-fits : goal.value-requires-clause-fits
-value-requires-clause-fits c = code_fits c.args.bits c.args.count c.loop-code.code c.requires.few c.requires.width c.loop-code-test.true
+value-requires-clause-fits c = code_fits c.args.bits c.args.count c.loop-code.code c.requires.few
+    c.requires.width c.loop-code-test.true
 
 pub loop-code-preserved : goal.loop-code-preserved
 loop-code-preserved c = elim c.if-value.branch [

@@ -62,7 +62,8 @@ returns-in-Ok-Some-clause-table c =
     } in
     let on = ends_so c.in-Ok-Some.field-0
     (state_now c.step.new.self) _ c.in-Ok-Some.table c.in-Ok-Some.field-0-is c.in-Ok-Some.ensures in
-    let last = ends_there _ _ _ _ _ _ _ taken _ _ c.in-Ok-Some.table _ on c.loop-token.invariant.pins c.loop-token.invariant.read in
+    let last = ends_there _ _ _ _ _ _ _ taken _ _ c.in-Ok-Some.table _ on c.loop-token.invariant.pins
+    c.loop-token.invariant.read in
     last.0 ∙ (rw c.in-Ok-Some.table-is refl)
 
 pub returns-in-Ok-Some-clause-pins : goal.returns-in-Ok-Some-clause-pins
@@ -78,7 +79,8 @@ returns-in-Ok-Some-clause-pins c =
     } in
     let on = ends_so c.in-Ok-Some.field-0
     (state_now c.step.new.self) _ c.in-Ok-Some.table c.in-Ok-Some.field-0-is c.in-Ok-Some.ensures in
-    (ends_there _ _ _ _ _ _ _ taken _ _ c.in-Ok-Some.table _ on c.loop-token.invariant.pins c.loop-token.invariant.read).1
+    (ends_there _ _ _ _ _ _ _ taken _ _ c.in-Ok-Some.table _ on c.loop-token.invariant.pins
+    c.loop-token.invariant.read).1
 
 pub returns-in-Err-clause-table : goal.returns-in-Err-clause-table
 returns-in-Err-clause-table c =
