@@ -11,6 +11,7 @@ use Rattle.si_genlib.specs.declared.symbol.Symbol.{Symbol}
 use Rattle.si_genlib.specs.declared.symbol.Symbol.TheVariants.{Leaf, Complement, Prime, Times, Plus, Open, Close, End, Other}
 use Rattle.si_genlib.specs.declared.symbol.Operator.{Operator}
 use Rattle.si_genlib.specs.declared.symbol.Operator.TheVariants as operators
+use Rattle.si_genlib.specs.Marks.{exclamation_mark, opening_parenthesis, closing_parenthesis, asterisk, semicolon}
 use Rattle.si_genlib.specs.Limits.{max_unfinished}
 use Rattle.si_tokens.specs.Unread.{Unread, Piece}
 
@@ -75,13 +76,13 @@ abbrev pub mark : {X : Type 0} → List ℕ → Symbol X
 mark [] = Other
 mark (b ∷ c ∷ bs) = Other
 mark (b ∷ []) =
-    if b == 33 then Complement
+    if b == exclamation_mark then Complement
     else if b == apostrophe then Prime
-    else if b == 42 then Times
+    else if b == asterisk then Times
     else if b == plus then Plus
-    else if b == 40 then Open
-    else if b == 41 then Close
-    else if b == 59 then End
+    else if b == opening_parenthesis then Open
+    else if b == closing_parenthesis then Close
+    else if b == semicolon then End
     else Other
 
 abbrev pub symbol : {X : Type 0} → Operations X → List ℕ → Symbol X

@@ -15,6 +15,7 @@ use Rattle.si_cube.specs.Rule.{chosen}
 use Rattle.si_tokens.specs.declared.fault.Stop.{Stop}
 use Rattle.si_tokens.specs.declared.fault.Stop.TheVariants.{Fault}
 use Rattle.si_tokens.specs.Unread.{Piece}
+use Rattle.si_genlib.specs.Marks.{semicolon}
 use Rattle.si_genlib.specs.Expression.{Tree, truth, value_of, is_name, is_constant}
 
 -- ---- pins
@@ -46,7 +47,7 @@ with_token out pins bytes =
     if is_name bytes && not (is_constant bytes) then with_pin out pins bytes else pins
 
 abbrev pub ends_expression : List ℕ → Bool
-ends_expression (b ∷ []) = b == 59
+ends_expression (b ∷ []) = b == semicolon
 ends_expression _ = false
 
 -- the pins of the expression of these tokens

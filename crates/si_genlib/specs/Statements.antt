@@ -10,6 +10,7 @@ use Rattle.si_tokens.specs.declared.fault.Stop.{Stop}
 use Rattle.si_tokens.specs.declared.fault.Stop.TheVariants.{Cut, Fault}
 use Rattle.si_tokens.specs.Unread.{◌>>=◌, Unread, Piece, to_next, word_here, if_there, word, word_at, token_at, tokens}
 use Rattle.si_tokens.specs.Decimal.{is_decimal}
+use Rattle.si_genlib.specs.Marks.{double_quote}
 use Rattle.si_genlib.specs.Expression.{trees, start, read, is_name}
 use Rattle.si_genlib.specs.Gate.{Gate, no_pins, pins_from, with_gate}
 
@@ -21,7 +22,7 @@ if_passes passes kind piece = if passes then Ok piece.rest else Err (Fault piece
 
 -- how many bytes stand before the next double quote
 abbrev pub quoted_len : List ℕ → ℕ
-quoted_len bytes = prefix_len (λ b. not (b == 34)) bytes
+quoted_len bytes = prefix_len (λ b. not (b == double_quote)) bytes
 
 -- a name behind a double quote, up to the next one on its line
 abbrev pub quoted : Unread → Result (List ℕ × Unread) Stop
@@ -40,7 +41,7 @@ abbrev pub name_of_word : Piece → Result (List ℕ × Unread) Stop
 name_of_word piece = if_there piece >>= λ p. Ok (p.bytes, p.rest)
 
 abbrev pub name_here : Unread → Result (List ℕ × Unread) Stop
-name_here u = if begins (λ b. b == 34) u.here then quoted (record {
+name_here u = if begins (λ b. b == double_quote) u.here then quoted (record {
   number = u.number;
   here = drop 1 u.here;
   lines = u.lines;

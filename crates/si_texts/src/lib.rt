@@ -14,8 +14,6 @@ mod graph_tests;
 #[cfg(test)]
 mod handshakes_tests;
 #[cfg(test)]
-mod library_text_tests;
-#[cfg(test)]
 mod netlist_reader_tests;
 #[cfg(test)]
 mod sg_tests;
