@@ -1,1 +1,2 @@
 pub mod WordSearchLemmas
+pub mod WordLemmas
