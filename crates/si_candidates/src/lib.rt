@@ -5,6 +5,7 @@ pub mod block;
 pub mod blocks;
 pub mod classes;
 pub mod interval;
+pub mod intervals;
 pub mod laws;
 pub mod part_laws;
 pub mod parting;
