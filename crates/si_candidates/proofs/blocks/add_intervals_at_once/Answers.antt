@@ -1,4 +1,4 @@
-use Rattle.std.proofs.Common.{◌∙◌, arith, sym}
+use Rattle.std.proofs.Common.{arith}
 use Rattle.si_candidates.proofs.AddingLemmas.{full_from, column_more, all_columns}
 use Rattle.si_candidates.proofs.blocks.add_intervals_at_once.Goals as goal
 

@@ -1,8 +1,8 @@
-use Rattle.std.proofs.Common.{◌≡◌, ◌<◌, ◌*◌, ◌∙◌, length, get_or, sym, subst, arith}
+use Rattle.std.proofs.Common.{◌≡◌, ◌<◌, ◌*◌, length, get_or, sym, subst, arith}
 use Rattle.std.proofs.lemmas.List.{get_or_read}
 use Rattle.si_base.specs.declared.ids.Event.{Event}
 use Rattle.si_base.specs.Graph.{event_place}
-use Rattle.si_closures.proofs.WordLemmas.{AreLeft, none_barred, one_barred, place_below, passes_others}
+use Rattle.si_closures.proofs.WordLemmas.{none_barred, one_barred, place_below, passes_others}
 use Rattle.si_closures.proofs.words.all_but.Goals as goal
 
 pub loop-k-init : goal.loop-k-init
