@@ -20,3 +20,5 @@ pub mod BlocksExist
 pub mod AddingLemmas
 pub mod ClassesExist
 pub mod AcceptanceDecided
+pub mod TreeLemmas
+mod SpreadLemmas

@@ -148,3 +148,14 @@ pub below_none : (c d : CodedGraph) → d ≡ c → IsCoded d → (classes : Lis
 below_none c d d_is coded classes lawful n bar (Some m) left_n enough = enough
 below_none c d d_is coded classes lawful n bar None left_n enough = λ m left_m. (
     let same = one_left c (subst IsCoded d_is coded) classes lawful m n left_m left_n in omega (arith, same, enough))
+
+-- what a test of a number against a bar tells of the sum that it is below the bar, and no more than it otherwise
+pub told_below : (total sum bar : ℕ) → (total < bar → total ≡ sum) → (bar ≤ total → bar ≤ sum)
+    → (total < bar) ↔ (sum < bar)
+told_below total sum bar all more = (
+  λ below. (let same = all below in omega (arith, below, same)),
+  λ below. elim (cases_lt total bar) [
+    | inl yes_below ↦ yes_below
+    | inr above ↦ absurd (let enough = more above in omega (arith, enough, below))
+  ],
+)
