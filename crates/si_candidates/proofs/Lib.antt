@@ -22,3 +22,4 @@ pub mod ClassesExist
 pub mod AcceptanceDecided
 pub mod TreeLemmas
 mod SpreadLemmas
+mod SpreadExamples

@@ -1,16 +1,15 @@
 -- Classes spread along a tree of arcs: a lawful partition has no others.
-use Rattle.std.proofs.Common.{◌≡◌, ◌≢◌, ℕ, ◌+◌, ◌<◌, ◌≤◌, ◌⊎◌, ◌↔◌, ◌∙◌, Bool, true, false, List, length, get_or, set, Option, Some, None, refl, sym, ap, ap₂, subst, arith, inl, inr, get_or-set_same, get_or-set_other, length-set}
+use Rattle.std.proofs.Common.{◌≡◌, ◌≢◌, ℕ, ◌+◌, ◌<◌, ◌≤◌, ◌↔◌, ◌∙◌, Bool, true, false, List, length, get_or, set, Option, Some, None, refl, sym, ap, ap₂, subst, arith, inl, inr, get_or-set_same, get_or-set_other, length-set}
 use Rattle.std.proofs.lemmas.Bool.{cases_eq, cases_Bool, true≢false}
 use Rattle.std.proofs.lemmas.List.{get_or_default, ext_get_or}
-use Rattle.si_base.specs.declared.ids.Event.{Event}
-use Rattle.si_base.specs.Graph.{StateGraph, Step, IsGraph}
+use Rattle.si_base.specs.Graph.{StateGraph, IsGraph}
 use Rattle.si_base.specs.Sets.{IsIn}
 use Rattle.si_base.proofs.StepFacts.{step_within}
 use Rattle.si_insert.specs.declared.partition.Class.{Class}
 use Rattle.si_insert.specs.declared.partition.Class.TheVariants.{Low, Rising, High, Falling}
 use Rattle.si_insert.specs.Partition.{class_of, may_lead}
 use Rattle.si_candidates.specs.declared.tree.Link.{Link}
-use Rattle.si_candidates.specs.Spreading.{IsLinkAt, IsMet, IsTree, next_class, IsPartitionFrom}
+use Rattle.si_candidates.specs.Spreading.{IsMet, IsTree, next_class, IsPartitionFrom}
 
 -- ---- one arc
 abbrev is_rising : Class → Bool

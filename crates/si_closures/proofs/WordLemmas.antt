@@ -90,11 +90,11 @@ module _ (stops : List Event) (n : ℕ) (x : Event) (inside : n < length stops) 
         let there : p ≡ event_place x = sym b.place ∙ ap event_place is in
         absurd (elim apart [ inl other ↦ other same | inr elsewhere ↦ elsewhere there ]))
     | inr other ↦ record {
-        stop = b.stop;
-        early = (let early = b.early in omega (arith, early, other));
-        at = b.at;
-        place = b.place;
-      }
+      stop = b.stop;
+      early = (let early = b.early in omega (arith, early, other));
+      at = b.at;
+      place = b.place;
+    }
   ]
 
   module _ (events w : ℕ) (words : List ℕ) (before : AreLeft events stops n words)

@@ -1,4 +1,4 @@
-use Rattle.std.proofs.Common.{◌≡◌, ◌∙◌, ℕ, ◌+◌, set, sym, ap, subst}
+use Rattle.std.proofs.Common.{◌∙◌, ℕ, ◌+◌, set, sym, ap, subst}
 use Rattle.si_candidates.specs.declared.tree.Link.{Link}
 use Rattle.si_candidates.proofs.SpreadLemmas.{AreSpreadTo, next_asked, spread_more, no_next, all_spread}
 use Rattle.si_candidates.proofs.spreading.spread.Goals as goal
