@@ -1,11 +1,14 @@
 -- Walks without an event, and what is reached along the arcs by other events.
-use Rattle.std.proofs.Common.{◌≡◌, ℕ, ◌<◌, ◌∙◌, Bool, sym, subst, List, [], ◌∷◌}
+use Rattle.std.proofs.Common.{◌≡◌, ◌≢◌, ℕ, ◌<◌, ◌≤◌, ◌↔◌, ◌∙◌, Bool, sym, subst, List, [], ◌∷◌, length, arith}
 use Rattle.si_base.specs.declared.ids.Event.{Event}
 use Rattle.si_base.specs.Graph.{StateGraph, IsGraph}
 use Rattle.si_base.specs.Sets.{IsIn}
 use Rattle.si_base.proofs.StepFacts.{step_within}
 use Rattle.si_graph.specs.declared.closure.Along.TheVariants.{OutWithout}
-use Rattle.si_graph.specs.Closure.{IsBeside, Path, IsClosure}
+use Rattle.si_graph.specs.Closure.{IsBeside, Path, PathBy, IsClosure}
+use Rattle.si_closures.specs.WordSearch.{column, Passes, IsNextBy, IsClosureBy}
+use Rattle.si_closures.specs.Words.{HasAll, IsEventAt}
+use Rattle.si_closures.proofs.WordSearchLemmas.{in_column}
 use Rattle.si_candidates.specs.Interval.{WalkWithout, IsReachedBefore, IsInterval}
 use Rattle.si_candidates.proofs.SetTests.{same_states}
 
@@ -54,3 +57,40 @@ module _ (g : StateGraph) (stop : Event) where
         let walk = walk_of all r.seed r.path t r.leads in
         record { begin = r.seed; there = r.there; events = walk.0; walk = walk.1 });
   }
+
+  -- so is the least set that is closed along arcs by events with P, where these are the others
+  module _ (P : Event → Type 0) (others : (e : Event) → e.sig < length g.signals → P e ↔ (e ≢ stop)) (is : IsGraph g) where
+    walk_by : (within : List Bool) (s : ℕ) (path : List ℕ) (t : ℕ) → PathBy (IsNextBy g P within) s path t
+        → (es : List Event) × WalkWithout g stop s es t
+    walk_by within s [] t same = ([], same)
+    walk_by within s (u ∷ us) t (((e, passes, step), there), path) =
+        let rest = walk_by within u us t path in
+        (e ∷ rest.0, (u, (others e (step_within g s e u is step).1).0 passes, step, rest.1))
+
+    pub interval_by : (all from set : List Bool) → ((s : ℕ) → s < g.states → IsIn all s)
+        → IsClosureBy g P all from set → IsInterval g from stop set
+    interval_by all from set everywhere closure = record {
+      size = closure.size;
+      has = closure.seeds_in;
+      closed = λ s e t here step apart. closure.closed s t here (
+        (e, (others e (step_within g s e t is step).1).1 apart, step),
+        everywhere t (step_within g s e t is step).2,
+      );
+      reached = λ t there. (
+          let r = closure.reached t there in
+          let walk = walk_by all r.seed r.path t r.leads in
+          record { begin = r.seed; there = r.there; events = walk.0; walk = walk.1 });
+    }
+
+-- many at once: the closures of words are intervals, one for each of the events
+pub intervals_of : (g : StateGraph) (from : List Bool) (stops : List Event) (passes within seeds words : List ℕ)
+    → IsGraph g → length stops ≤ 128
+    → ((k : ℕ) (stop e : Event) → IsEventAt stops k stop → e.sig < length g.signals → Passes passes k e ↔ (e ≢ stop))
+    → HasAll g.states within → ((k : ℕ) → k < 128 → column k seeds ≡ from)
+    → ((k : ℕ) → IsClosureBy g (Passes passes k) (column k within) (column k seeds) (column k words))
+    → (k : ℕ) (stop : Event) → IsEventAt stops k stop → IsInterval g from stop (column k words)
+intervals_of g from stops passes within seeds words is few others all same closures k stop at =
+    let small : k < 128 = let inside = at.inside in omega (arith, inside, few) in
+    interval_by g stop (Passes passes k) (λ e below. others k stop e at below) is (column k within) from
+    (column k words) (λ s below. (in_column k within s).1 (all.each k s small below))
+    (subst (λ x. IsClosureBy g (Passes passes k) (column k within) x (column k words)) (same k small) (closures k))

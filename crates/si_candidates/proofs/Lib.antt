@@ -20,3 +20,6 @@ pub mod BlocksExist
 pub mod AddingLemmas
 pub mod ClassesExist
 pub mod AcceptanceDecided
+pub mod TreeLemmas
+mod SpreadLemmas
+mod SpreadExamples

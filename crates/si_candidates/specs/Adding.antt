@@ -4,7 +4,6 @@ use Rattle.std.specs.List.{list_any}
 use Rattle.si_base.specs.declared.ids.Event.{Event}
 use Rattle.si_base.specs.Graph.{StateGraph}
 use Rattle.si_regions.specs.declared.regions.Region.{Region}
-use Rattle.si_candidates.specs.Interval.{IsInterval}
 use Rattle.si_candidates.specs.Blocks.{same_set, max_blocks, AreIntervalsFrom, AreIntervals}
 
 -- the sum of the states of a set whose first flag is that of the state a
@@ -24,14 +23,7 @@ abbrev pub with_blocks : List (List Bool) → List (List Bool) → List (List Bo
 with_blocks sets [] = sets
 with_blocks sets (x ∷ xs) = with_blocks (with_block sets x) xs
 
--- the list grows by an interval
-pub record AddsInterval (g : StateGraph) (from : List Bool) (stop : Event)
-    (old new : List (List Bool)) : Type 0 where
-  pub set : List Bool
-  pub is : IsInterval g from stop set
-  pub added : new ≡ with_block old set
-
--- by the intervals from one set, up to each of the events
+-- the list grows by the intervals from one set, up to each of the events
 pub record AddsIntervalsFrom (g : StateGraph) (from : List Bool) (stops : List Event)
     (old new : List (List Bool)) : Type 0 where
   pub sets : List (List Bool)

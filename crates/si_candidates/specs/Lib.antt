@@ -5,3 +5,4 @@ pub mod Parts
 pub mod Blocking
 pub mod Laws
 pub mod Raising
+pub mod Spreading

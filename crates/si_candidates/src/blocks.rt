@@ -1,18 +1,20 @@
 //! The blocks of a graph: sets of states in which a new signal may switch.
 
-ghost use Rattle.std.specs.Prelude.{◌≡◌, ◌≤◌, ◌<◌, ℕ, IfOk, OnOk, All, length, map};
+ghost use Rattle.std.specs.Prelude.{◌≡◌, ◌≤◌, ◌<◌, ◌*◌, ℕ, IfOk, OnOk, All, length, map};
 ghost use Rattle.std.specs.List.{list_any};
 ghost use Rattle.si_base.specs.Graph.{IsGraph};
 ghost use Rattle.si_base.specs.Limits.{max_signals};
+ghost use Rattle.si_closures.specs.WordSearch.{column};
 ghost use Rattle.si_regions.specs.Regions.{AreRegions};
-ghost use Rattle.si_candidates.specs.Adding.{weight_from, with_block, with_blocks, AddsInterval, AddsIntervalsFrom, AddsIntervals};
+ghost use Rattle.si_candidates.specs.Adding.{weight_from, with_block, with_blocks, AddsIntervalsFrom, AddsIntervals};
 ghost use Rattle.si_candidates.specs.Blocks.{AreBlocks, driven_events, marked, same_set};
 
-use crate::interval::interval;
+use crate::intervals::intervals;
 use si_base::graph::Signal;
 use si_base::ids::{Event, NoMemory, Sig, StateId};
 use si_base::sets::StateSet;
 use si_checks::proper::Proper;
+use si_closures::words::{SETS, set_at};
 use si_regions::regions::Region;
 use std::alloc::Global;
 use std::marker::Model;
@@ -105,36 +107,61 @@ fn add_intervals_from(
 ) -> Result<(), NoMemory>
     requires graph { IsGraph graph.now.graph }
     requires from { All (λ s. s < graph.now.graph.states) from.now }
+    requires few { length stops.now ≤ 2 * max_signals }
+    requires within { All (λ e. e.sig < length graph.now.graph.signals) stops.now }
     ensures { OnOk result (AddsIntervalsFrom graph.now.graph
         (marked graph.now.graph.states from.now) stops.now found.old.items found.new.items) }
 {
-    if found.len() >= MAX_BLOCKS {
-        return Ok(());
-    }
     let from = marked_set(alloc, graph.coded().graph().states(), from)?;
-    for stop in stops {
-        add_interval(alloc, graph, &from, stop, found)?;
-    }
+    // All events of the most signals fill two words.
+    let (first, last) = stops.split_at(stops.len().min(SETS));
+    add_intervals_at_once(alloc, graph, &from, first, found)?;
+    add_intervals_at_once(alloc, graph, &from, last, found)?;
     Ok(())
 }
 
-/// Adds the interval from the set up to the event.
-fn add_interval(
+/// Adds the intervals from the set up to each of at most 128 events.
+fn add_intervals_at_once(
     alloc: Global,
     graph: &Proper,
     from: &StateSet,
-    stop: &Event,
+    stops: &[Event],
     found: &mut Vec<Weighed>,
 ) -> Result<(), NoMemory>
     requires graph { IsGraph graph.now.graph }
     requires from { length from.now ≡ graph.now.graph.states }
-    ensures { OnOk result (AddsInterval graph.now.graph from.now stop.now
+    requires few { length stops.now ≤ 128 }
+    requires within { All (λ e. e.sig < length graph.now.graph.signals) stops.now }
+    ensures { OnOk result (AddsIntervalsFrom graph.now.graph from.now stops.now
         found.old.items found.new.items) }
 {
     if found.len() >= MAX_BLOCKS {
         return Ok(());
     }
-    let set = interval(alloc, graph, from, *stop)?;
+    let words = intervals(alloc, graph, from, stops)?;
+    let states = from.size();
+    for k in 0..stops.len() {
+        add_column(alloc, &words, states, k as u32, found)?;
+    }
+    Ok(())
+}
+
+/// Adds the set k of the words, which are for so many states.
+fn add_column(
+    alloc: Global,
+    words: &[u128],
+    states: u32,
+    k: u32,
+    found: &mut Vec<Weighed>,
+) -> Result<(), NoMemory>
+    requires size { length words.now ≡ states }
+    requires few { k < 128 }
+    ensures { OnOk result (found.new.items ≡ with_block found.old.items (column k words.now)) }
+{
+    if found.len() >= MAX_BLOCKS {
+        return Ok(());
+    }
+    let set = set_at(alloc, words, states, k)?;
     add_block(set, found)?;
     Ok(())
 }

@@ -1,12 +1,16 @@
 //! The classes of one candidate after another, in memory that is taken once.
 
-ghost use Rattle.std.specs.Prelude.{◌≡◌, ℕ, true, false, IfOk, length};
+ghost use Rattle.std.specs.Prelude.{◌≡◌, ℕ, true, false, List, IfOk, length};
 ghost use Rattle.si_base.specs.Sets.{IsIn};
+ghost use Rattle.si_insert.specs.declared.partition.Class.{Class};
 ghost use Rattle.si_candidates.specs.Blocks.{AreDisjoint};
 ghost use Rattle.si_candidates.specs.Parts.{AreClasses, IsTorn};
+ghost use Rattle.si_candidates.specs.Spreading.{IsPartitionFrom, IsTree};
 
 use crate::block::Block;
 use crate::raising::Raising;
+use crate::spreading::spread;
+use crate::tree::Link;
 use si_base::ids::NoMemory;
 use si_checks::proper::Proper;
 use si_insert::partition::Class;
@@ -71,5 +75,32 @@ impl Parting {
     {
         let parted = self.raising.part(graph.coded(), plus, minus)?;
         Ok(parted)
+    }
+
+    /// Finds the only classes that a lawful partition can have which is Rising in the one block,
+    /// Falling in the other, and has that class at the start. `false` where an arc of the tree
+    /// shows that there is none.
+    pub fn spread(
+        &mut self,
+        graph: &Proper,
+        tree: &[Link],
+        plus: &Block,
+        minus: &Block,
+        first: Class,
+    ) -> bool
+        requires room { length self.old ≡ graph.now.graph.states }
+        requires tree { IsTree graph.now.graph tree.now }
+        requires plus_size { length plus.now ≡ graph.now.graph.states }
+        requires minus_size { length minus.now ≡ graph.now.graph.states }
+        ensures room { length self.new ≡ length self.old }
+        ensures only { result ≡ true → (others : List Class)
+            → IsPartitionFrom graph.now.graph plus.now minus.now first others
+            → others ≡ self.new }
+        ensures none { result ≡ false → (others : List Class)
+            → IsPartitionFrom graph.now.graph plus.now minus.now first others → ⊥ }
+    {
+        let g = graph.coded().graph();
+        let classes = self.raising.classes.as_mut_slice();
+        spread(classes, g, tree, plus.set(), minus.set(), first)
     }
 }

@@ -25,7 +25,7 @@ use std::alloc::Global;
 #[derive(Drop)]
 pub(crate) struct Raising {
     alloc: Global,
-    classes: Vec<Class>,
+    pub(crate) classes: Vec<Class>,
     work: Vec<StateId>,
 }
 

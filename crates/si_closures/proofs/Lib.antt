@@ -1,1 +1,3 @@
 pub mod WordSearchLemmas
+pub mod WordLemmas
+mod Examples

@@ -1,1 +1,2 @@
 pub mod WordSearch
+pub mod Words

@@ -2,3 +2,4 @@
 #![tactic(auto)]
 
 pub mod word_search;
+pub mod words;

@@ -1,5 +1,6 @@
 -- The number of conflicts that an insertion leaves.
-use Rattle.std.proofs.Common.{◌≡◌, ℕ, ◌+◌, List, [], Option, Some, None, IfSome, IfNone, ◌≤◌, ◌<◌, map, arith, refl, sym, ap, ap₂, subst, ◌∙◌}
+use Rattle.std.proofs.Common.{◌≡◌, ℕ, ◌+◌, List, [], Option, Some, None, IfSome, IfNone, ◌≤◌, ◌<◌, ◌↔◌, true, ltb, inl, inr, le-ltb, map, arith, refl, sym, ap, ap₂, subst, ◌∙◌}
+use Rattle.std.proofs.lemmas.Bool.{cases_lt, lt-ltb, true≢false}
 use Rattle.si_base.specs.declared.graph.Signal.{Signal}
 use Rattle.si_base.specs.Graph.{StateGraph}
 use Rattle.si_base.specs.Codes.{CodedGraph, IsCoded}
@@ -148,3 +149,19 @@ pub below_none : (c d : CodedGraph) → d ≡ c → IsCoded d → (classes : Lis
 below_none c d d_is coded classes lawful n bar (Some m) left_n enough = enough
 below_none c d d_is coded classes lawful n bar None left_n enough = λ m left_m. (
     let same = one_left c (subst IsCoded d_is coded) classes lawful m n left_m left_n in omega (arith, same, enough))
+
+-- a count up to a bar is below it just where the sum is
+pub told_below : (total sum bar : ℕ) → (total < bar → total ≡ sum) → (bar ≤ total → bar ≤ sum)
+    → (ltb total bar ≡ true) ↔ (sum < bar)
+told_below total sum bar all more = elim (cases_lt total bar) [
+  | inl below ↦ (
+      let same = all below in (
+        λ _. omega (arith, below, same),
+        λ _. lt-ltb total bar below,
+      ))
+  | inr above ↦ (
+      let enough = more above in (
+        λ yes_below. absurd (true≢false (sym yes_below ∙ le-ltb total bar above)),
+        λ below. absurd (omega (arith, enough, below)),
+      ))
+]

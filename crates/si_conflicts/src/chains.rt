@@ -1,8 +1,10 @@
 //! States of equal code, linked into rings, and the conflicts that an insertion would leave.
 
-ghost use Rattle.std.specs.Prelude.{◌≡◌, ℕ, ◌<◌, ◌≤◌, IfOk, IfSome, IfNone, length, slice_index};
+ghost use Rattle.std.specs.Prelude.{◌≡◌, ℕ, ◌<◌, ◌≤◌, ◌↔◌, false, IsTrue, IfOk, IfSome, IfNone, length, slice_index};
 ghost use Rattle.si_insert.specs.Accepted.{IsAccepted};
 ghost use Rattle.si_insert.specs.Partition.{IsLawful};
+ghost use Rattle.si_conflicts.specs.Apart as Apart;
+ghost use Rattle.si_conflicts.specs.Apart.{pair_sum};
 ghost use Rattle.si_conflicts.specs.Chains.{AreChains};
 ghost use Rattle.si_conflicts.specs.Left.{LeavesConflicts};
 
@@ -56,6 +58,21 @@ impl CodeChains {
         ensures { result ≡ slice_index self.now.next s }
     {
         self.next[s.0 as usize]
+    }
+
+    /// Whether the insertion may leave fewer conflicts than `bar`, by those that the new signal
+    /// shows and those of copies where it is stable: the others are not counted.
+    pub fn may_leave_below(&self, graph: &Proper, classes: &[Class], bar: u64) -> bool
+        requires chains { AreChains graph.now self.now }
+        requires count { length classes.now ≡ graph.now.graph.states }
+        ensures told { IsTrue result
+            ↔ (pair_sum (Apart.told_apart classes.now) self.now.members < bar) }
+        ensures none { result ≡ false → IsLawful graph.now.graph classes.now
+            → (n : ℕ) → LeavesConflicts graph.now classes.now n → bar ≤ n }
+    {
+        let _given = graph.coded().graph();
+        let members = self.members.as_slice();
+        told_apart(members, classes, bar) < bar
     }
 
     /// How many conflicts the insertion by the partition leaves. The chains stay as they are. It

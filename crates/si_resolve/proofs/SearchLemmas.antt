@@ -1,5 +1,5 @@
 -- What becomes of a search with each candidate.
-use Rattle.std.proofs.Common.{◌≡◌, ℕ, ◌+◌, ◌<◌, ◌≤◌, ◌↔◌, Bool, false, List, length, slice_index_or, Option, Some, None, IfNone, IfSome, IsTrue, refl, sym, ap, subst, ◌∙◌, arith, inl, inr}
+use Rattle.std.proofs.Common.{◌≡◌, ℕ, ◌+◌, ◌<◌, ◌≤◌, ◌↔◌, Bool, false, List, length, slice_index_or, Option, Some, None, IfNone, IfSome, IsTrue, refl, sym, ap, ap₂, subst, ◌∙◌, arith, inl, inr}
 use Rattle.std.proofs.lemmas.Bool.{true≢false}
 use Rattle.si_base.specs.Graph.{StateGraph, IsGraph}
 use Rattle.si_base.specs.Limits.{max_signals}
@@ -8,7 +8,9 @@ use Rattle.si_base.specs.Proper.{IsProper}
 use Rattle.si_base.specs.Sets.{IsIn}
 use Rattle.si_graph.proofs.MarkLemmas.{in_below}
 use Rattle.si_insert.specs.declared.partition.Class.{Class}
-use Rattle.si_insert.specs.Partition.{IsLawful}
+use Rattle.si_insert.specs.declared.partition.Class.TheVariants.{Low, Rising, High, Falling}
+use Rattle.si_insert.specs.Partition.{class_of, IsLawful}
+use Rattle.si_candidates.specs.Spreading.{IsPartitionFrom}
 use Rattle.si_candidates.specs.Blocks.{AreBlocks, block_at}
 use Rattle.si_candidates.specs.Parts.{AreClasses, IsTorn}
 use Rattle.si_candidates.proofs.PartLaws.{classes_lawful, classes_unique, torn_have_none}
@@ -21,7 +23,7 @@ use Rattle.si_resolve.specs.declared.search.Search.{Search}
 use Rattle.si_resolve.specs.Best.{Choice, IsChoice, NoneImproves}
 use Rattle.si_resolve.specs.Search.{IsBestSoFar, IsEarlier, bar}
 use Rattle.si_resolve.specs.Usable.{IsUsable, AreUsable}
-use Rattle.si_resolve.specs.Progress.{found_of, best_of, IsSearching, IsFound, bar_of, MayBeAccepted, LeavesBelow, LeavesNoneBelow, NoneIsBelow, HasSameRoom}
+use Rattle.si_resolve.specs.Progress.{found_of, best_of, IsSearching, IsFound, bar_of, MayBeAccepted, LeavesBelow, LeavesNoneBelow, LeavesNoneFrom, NoneIsBelow, HasSameRoom}
 use Rattle.si_candidates.proofs.Separable.{accepted_by_blocks}
 use Rattle.si_candidates.proofs.CopyCount.{copies_by_blocks}
 use Rattle.si_resolve.proofs.BlockSizes.{size_at}
@@ -51,6 +53,46 @@ one_leaves_none c plus minus classes low is plus_size minus_size r f are high ot
     let same = classes_unique c.graph plus minus others classes r.0 f.0 is.graph_is is.connected
     r.1 (omega (arith, r_in)) f.1 (omega (arith, f_in)) also are in
     high n (subst (λ xs. LeavesConflicts c xs n) same leaves)
+
+-- the classes that spread from that class at the start are those of the blocks, if there are any
+module _ (c : CodedGraph) (plus minus : List Bool) (first : Class) (is : IsCoded c)
+    (plus_size : length plus ≡ c.graph.states) (minus_size : length minus ≡ c.graph.states)
+    (r : (s : ℕ) × IsIn plus s) (f : (s : ℕ) × IsIn minus s) where
+  partition_from : (classes : List Class) → AreClasses c.graph plus minus classes
+      → class_of classes c.graph.start ≡ first → IsPartitionFrom c.graph plus minus first classes
+  partition_from classes are at_start = record {
+    lawful = lawful_classes c.graph plus minus classes is.graph_is plus_size minus_size r f are;
+    rising = are.rising;
+    falling = are.falling;
+    start = at_start;
+  }
+
+  pub none_spread : (low : ℕ)
+      → ((others : List Class) → IsPartitionFrom c.graph plus minus first others → ⊥)
+      → LeavesNoneFrom c plus minus first low
+  none_spread low none classes n are at_start leaves = absurd (none classes (partition_from classes are at_start))
+
+  pub one_spread : (low : ℕ) (spread : List Class)
+      → ((others : List Class) → IsPartitionFrom c.graph plus minus first others → others ≡ spread)
+      → (IsLawful c.graph spread → (n : ℕ) → LeavesConflicts c spread n → low ≤ n)
+      → LeavesNoneFrom c plus minus first low
+  one_spread low spread only enough classes n are at_start leaves =
+      let from = partition_from classes are at_start in
+      let same : classes ≡ spread = only classes from in
+      enough (subst (IsLawful c.graph) same from.lawful) n (subst (λ xs. LeavesConflicts c xs n) same leaves)
+
+-- a start has one of the four classes
+pub by_start : (c : CodedGraph) (plus minus : List Bool) (low : ℕ) → LeavesNoneFrom c plus minus Low low
+    → LeavesNoneFrom c plus minus Rising low → LeavesNoneFrom c plus minus High low
+    → LeavesNoneFrom c plus minus Falling low → LeavesNoneBelow c plus minus low
+by_start c plus minus low at_low at_rising at_high at_falling classes n are leaves =
+    by (class_of classes c.graph.start) refl
+  where
+    by : (first : Class) → class_of classes c.graph.start ≡ first → low ≤ n
+    by Low same = at_low classes n are same leaves
+    by Rising same = at_rising classes n are same leaves
+    by High same = at_high classes n are same leaves
+    by Falling same = at_falling classes n are same leaves
 
 pub if_none : {A : Type 0} {P Q : Type 0} (o : Option A) → (P → Q) → IfNone o P → IfNone o Q
 if_none None f is = f is
@@ -112,6 +154,17 @@ bar_same n (Some x) = refl
 pub same_room : (s : Search) → HasSameRoom s s
 same_room s = record { given = refl; best = refl; chains = refl; room = refl }
 
+pub same_rooms : (s t u : Search) → HasSameRoom s t → HasSameRoom t u → HasSameRoom s u
+same_rooms s t u one next = record {
+  given = next.given ∙ one.given;
+  best = next.best ∙ one.best;
+  chains = next.chains ∙ one.chains;
+  room = next.room ∙ one.room;
+}
+
+pub same_bar : (s t : Search) → HasSameRoom s t → bar_of t ≡ bar_of s
+same_bar s t same = ap₂ (λ (n : ℕ) (o : Option Found). bar_by n o) same.given same.best
+
 pub skip : (c : CodedGraph) (blocks : List (List Bool)) (j i : ℕ) (s t : Search) → IsSearching c blocks j i s
     → HasSameRoom s t
     → NoneIsBelow c blocks i j (bar_of s) → IsSearching c blocks j (i + 1) t
@@ -144,6 +197,19 @@ keep c blocks j i s t x is so same choice at_j at_i fewer =
       is_best = subst (λ m. IsBestSoFar c blocks m j (i + 1) (Some x)) (sym same.given) next;
       found = refl;
     }
+
+-- one class of the start after another, each with the search that the one before left
+pub four_starts : (c : CodedGraph) (plus minus : List Bool) (s one two three : Search) → HasSameRoom s one
+    → HasSameRoom one two → HasSameRoom two three → LeavesNoneFrom c plus minus Low (bar_of s)
+    → LeavesNoneFrom c plus minus Rising (bar_of one) → LeavesNoneFrom c plus minus High (bar_of two)
+    → LeavesNoneFrom c plus minus Falling (bar_of three) → LeavesNoneBelow c plus minus (bar_of s)
+four_starts c plus minus s one two three same next last at_low at_rising at_high at_falling =
+    let second = same_rooms s one two same next in
+    let third = same_rooms s two three second last in
+    by_start c plus minus (bar_of s) at_low
+    (subst (λ (low : ℕ). LeavesNoneFrom c plus minus Rising low) (same_bar s one same) at_rising)
+    (subst (λ (low : ℕ). LeavesNoneFrom c plus minus High low) (same_bar s two second) at_high)
+    (subst (λ (low : ℕ). LeavesNoneFrom c plus minus Falling low) (same_bar s three third) at_falling)
 
 -- a row that no accepted candidate is in, and the end of each row
 pub skip_row : (c : CodedGraph) (blocks : List (List Bool)) (j : ℕ) (s : Search) → IsSearching c blocks j 0 s

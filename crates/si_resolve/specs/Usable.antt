@@ -8,6 +8,7 @@ use Rattle.si_base.specs.Proper.{IsProper}
 use Rattle.si_base.specs.Sets.{IsIn}
 use Rattle.si_candidates.specs.Blocks.{AreBlocks, block_at}
 use Rattle.si_candidates.specs.Blocking.{MaySwitch}
+use Rattle.si_candidates.specs.Spreading.{IsTree}
 use Rattle.si_resolve.specs.declared.block_list.BlockList.{BlockList}
 
 -- the block has a state, and a new signal may switch in it
@@ -23,10 +24,12 @@ pub record AreUsable (g : StateGraph) (blocks : List (List Bool)) (usable : List
   pub each : (k : ℕ) → k < length blocks
       → (slice_index_or usable k false ≡ true) ↔ IsUsable g (block_at blocks k)
 
--- c is a proper graph with room for one more signal, and the list has its blocks
+-- c is a proper graph with room for one more signal, and the list has its blocks and a tree of its
+-- arcs
 pub record AreSearched (c : CodedGraph) (list : BlockList) : Type 0 where
   pub coded : IsCoded c
   pub proper : IsProper c.graph
   pub few_signals : length c.graph.signals < max_signals
   pub are : AreBlocks c list.blocks.items
   pub usable : AreUsable c.graph list.blocks.items list.usable.items
+  pub tree : IsTree c.graph list.tree.items

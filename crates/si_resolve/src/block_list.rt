@@ -8,16 +8,18 @@ ghost use Rattle.si_resolve.specs.Usable.{IsUsable, AreUsable, AreSearched};
 use si_base::ids::{NoMemory, StateId};
 use si_candidates::block::Block;
 use si_candidates::blocks::blocks;
+use si_candidates::tree::{Link, tree};
 use si_checks::proper::Proper;
 use si_regions::regions::regions;
 use std::alloc::Global;
 
 /// The blocks of a graph, and for each whether it has a state and a new signal may switch in it: no
-/// other block is in an accepted candidate.
+/// other block is in an accepted candidate. Beside them the arcs along which classes spread.
 #[derive(Drop)]
 pub(crate) struct BlockList {
     pub(crate) blocks: Vec<Block>,
     pub(crate) usable: Vec<bool>,
+    pub(crate) tree: Vec<Link>,
 }
 
 impl BlockList {
@@ -50,7 +52,12 @@ pub(crate) fn block_list(alloc: Global, graph: &Proper) -> Result<BlockList, NoM
     let _graph = graph.coded().graph();
     let blocks = all_blocks(alloc, graph)?;
     let usable = usable_ones(alloc, graph, &blocks)?;
-    Ok(BlockList { blocks, usable })
+    let tree = tree(alloc, graph)?;
+    Ok(BlockList {
+        blocks,
+        usable,
+        tree,
+    })
 }
 
 /// The blocks of the graph.

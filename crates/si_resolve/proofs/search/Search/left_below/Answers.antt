@@ -4,6 +4,9 @@ use Rattle.si_resolve.specs.Progress.{LeavesNoneBelow}
 use Rattle.si_resolve.proofs.SearchLemmas.{lawful_classes, one_leaves_none, if_none, if_some}
 use Rattle.si_resolve.proofs.search.Search.left_below.Goals as goal
 
+pub returns-then-not-may_leave_fewer-clause-none : goal.returns-then-not-may_leave_fewer-clause-none
+returns-then-not-may_leave_fewer-clause-none c = c.may_leave_fewer.ensures.none c.if-not-may_leave_fewer.true
+
 pub trial_below-requires-clause-lawful : goal.trial_below-requires-clause-lawful
 trial_below-requires-clause-lawful c =
     let g = c.args.graph.now.graph in
