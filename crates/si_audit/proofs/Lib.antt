@@ -9,6 +9,8 @@ pub mod Walking
 pub mod Building
 pub mod OneReason
 pub mod OneAudit
+pub mod BuiltLineages
+mod BuiltExamples
 pub mod OneAnswer
 pub mod ReasonExists
 pub mod SetsExist

@@ -90,7 +90,7 @@ copied_descents given v p u k ds size ins are = record {
       ∙ ap (λ (c : ℕ). bit c (n + j)) (sym (code_at v.coded ins.copies ins.graph s x.copy x.at)));
 }
 
-next_descents : (given : CodedGraph) (v : Current) (p : TraceStep) (u : Current) (k : ℕ) (ds : List Descent)
+pub next_descents : (given : CodedGraph) (v : Current) (p : TraceStep) (u : Current) (k : ℕ) (ds : List Descent)
     → Keeps given v → length v.coded.graph.signals ≡ length given.graph.signals + k → Inserts v p u
     → AreDescents given v ds → AreDescents given u (descents_after k p.partition ds)
 next_descents given v p u k ds keeps size ins are =
@@ -108,7 +108,7 @@ pub record At (given : CodedGraph) (rest : List TraceStep) (v : Current) (k : �
   pub grows : Grows now rest v
   pub descents : AreDescents given now ds
 
-given_are : (given : CodedGraph) → IsCoded given
+pub given_are : (given : CodedGraph) → IsCoded given
     → AreDescents given (as_given given) (given_descents given.graph.states)
 given_are given is = record {
   count = length-map (range_with_len 0 given.graph.states) own ∙ length-range_with_len 0 given.graph.states;
@@ -141,7 +141,7 @@ at_start given trace v lineage = record {
 }
 
 -- the graph that an insertion makes has one signal more
-one_more : (v : Current) (p : TraceStep) (u : Current) → Inserts v p u
+pub one_more : (v : Current) (p : TraceStep) (u : Current) → Inserts v p u
     → length u.coded.graph.signals ≡ length v.coded.graph.signals + 1
 one_more v p u ins =
     ap (λ (w : Current). length w.coded.graph.signals) ins.makes

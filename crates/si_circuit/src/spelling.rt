@@ -18,9 +18,9 @@ use std::alloc::Global;
 /// Where a state of a lineage comes from: its given state, and the values of the inserted signals,
 /// bit k that of number k, counted from 0 in order of insertion.
 #[derive(Clone, Copy)]
-pub(crate) struct Descent {
-    pub(crate) origin: StateId,
-    pub(crate) bits: Code,
+pub struct Descent {
+    pub origin: StateId,
+    pub bits: Code,
 }
 
 /// The insertions of a lineage in their order: of each the name, and the states at which the signal

@@ -2,3 +2,4 @@ pub mod Refusal
 pub mod Stages
 pub mod Ending
 pub mod ExitStatus
+pub mod Rejection

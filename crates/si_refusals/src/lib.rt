@@ -3,4 +3,5 @@
 
 pub mod breach;
 pub mod refusals;
+pub mod rejection;
 pub mod status;

@@ -1,6 +1,7 @@
 -- A breach by its names, the summary of a graph, texts of a replay and its end, literals: the definitions at work.
 use Rattle.std.proofs.Common.{◌≡◌, ℕ, Bool, List, [], ◌∷◌, ◌++◌, Some, None, refl, ap, true, false, codes, append_assoc}
 use Rattle.std.specs.Prelude.{decimal}
+use Rattle.si_audit.specs.declared.fault.AuditFault.TheVariants as fault
 use Rattle.si_base.specs.Codes.{CodedGraph, IsConsistent, IsDeterministic}
 use Rattle.si_base.specs.Graph.{StateGraph}
 use Rattle.si_base.specs.Netlist.{Netlist, SumGate, Gc}
@@ -13,10 +14,14 @@ use Rattle.si_base.specs.declared.fault.TextKind.TheVariants.{NoEnd, Toggle, Und
 use Rattle.si_netlist_reader.specs.NetlistFault.{netlist_fault}
 use Rattle.si_netlist_reader.specs.NetlistValue.{netlist_of}
 use Rattle.si_checks.specs.Laws.{HasLoss}
+use Rattle.si_insert.specs.declared.accept.Rejected.TheVariants as why
+use Rattle.si_insert.specs.Lineage.{History, as_given}
 use Rattle.si_refusals.specs.declared.breach.NamedBreach.{NamedBreach}
 use Rattle.si_refusals.specs.declared.breach.NamedBreach.TheVariants.{Nonpersistent}
 use Rattle.si_refusals.specs.Ending.{Answered, line_of}
 use Rattle.si_refusals.specs.Refusal.{TextRefused, Improper}
+use Rattle.si_refusals.specs.declared.rejection.NamedRejection.TheVariants.{Delays, Gate}
+use Rattle.si_stages.specs.Audited.{IsNamedSo, audit_text}
 use Rattle.si_stages.specs.Checks.{breach_name}
 use Rattle.si_stages.specs.Exercise.{literals_of}
 use Rattle.si_stages.specs.Replayed.{replay_text, shown_signal}
@@ -143,3 +148,22 @@ two_gates = record {
 
 seven_literals : literals_of two_gates ≡ 7
 seven_literals = refl
+
+-- ---- an audit
+-- a lineage of two states without insertions, and a netlist of two gates
+abbrev two_states_alone : History
+two_states_alone = record { given = two_states; trace = []; current = as_given two_states }
+
+yes_text : audit_text two_states_alone two_gates
+    ≡ codes "audited\ninserted " ++ (decimal 0 ++ (codes "\nstates " ++ (decimal 2 ++ (codes "\ngates "
+    ++ (decimal 2 ++ codes "\n")))))
+yes_text =
+    three_ends (decimal 0) (decimal 2) (decimal 2) (codes "audited\ninserted ") (codes "states ") (codes "gates ") []
+
+-- the signals and events of a fault are shown by their names
+wrong_gate : IsNamedSo signals (fault.Gate 1 (codes "s1")) (Gate (codes "c") (codes "s1"))
+wrong_gate = refl
+
+delayed_input : IsNamedSo signals (fault.Refused 1 (codes "s5") (why.DelaysInput 5 (record { sig = 0; up = false })))
+    (Delays 1 (codes "s5") (codes "a-"))
+delayed_input = refl

@@ -7,7 +7,6 @@ use Rattle.si_base.specs.System.{IsFor}
 use Rattle.si_fold.proofs.FoldedBehaviour.{folded_behaviour, folded_for}
 use Rattle.si_fold.proofs.FoldLemmas.{folded_is_coded}
 use Rattle.si_insert.specs.Lineage.{History}
-use Rattle.si_refusals.specs.Stages.{Stage, Then, Refuses, Passes}
 use Rattle.si_sg.proofs.UniqueLemmas.{given_unique}
 use Rattle.si_sg.specs.GivenGraph.{IsGivenBy}
 use Rattle.si_stages.specs.Checks.{IsSound}
@@ -18,12 +17,7 @@ use Rattle.si_stages.proofs.CheckLemmas.{coded_unique}
 use Rattle.si_stages.specs.Written.{IsWritten}
 use Rattle.si_stages.proofs.FoldTexts.{reads_back}
 use Rattle.si_stages.proofs.ReadingLemmas.{mapping_readings_are}
-
--- where two stages give a value, so does the first
-passed : {R A B : Type 0} (first : Stage R A) (next : A → Stage R B) (value : B)
-    → Then R A B first next (Ok value) → (x : A) × first (Ok x) × next x (Ok value)
-passed first next value (Refuses r refused is) = cc
-passed first next value (Passes x is then) = (x, is, then)
+use Rattle.si_stages.proofs.StageLemmas.{passed}
 
 gives_folded : (text output : List ℕ) (given : Sg) → IsGivenBy text given → (coded : CodedGraph)
     → IsSound given.graph coded → IsFoldText given.model given.states coded output → GivesFolded text output

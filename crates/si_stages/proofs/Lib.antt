@@ -15,8 +15,10 @@ pub mod GivenLineages
 pub mod WrittenLemmas
 pub mod Synthesis
 pub mod MappingLemmas
+pub mod AuditLemmas
 pub mod MeaningLemmas
 pub mod FoldLaws
+pub mod AuditLaws
 pub mod ExerciseLemmas
 pub mod VerilogLemmas
 pub mod VerilogExamples

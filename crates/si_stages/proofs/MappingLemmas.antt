@@ -50,7 +50,7 @@ mapped_names library v (p ∷ trace) w (u, step, rest) named =
     (named_after v p u step.inserts (fresh_named v.coded.graph.signals (codes "map") p.name refl few step.name) named)
 
 -- a lineage of the given graph that goes on by mapping is one
-mapped_lineage : (library : Library) (sg : Sg) (l m : History) (trace : List TraceStep) → IsGivenLineage sg l
+pub mapped_lineage : (library : Library) (sg : Sg) (l m : History) (trace : List TraceStep) → IsGivenLineage sg l
     → GoesOn l trace m → IsMappingTrace library l.current trace m.current → IsGivenLineage sg m
 mapped_lineage library sg l m trace is goes maps =
     let given : l.given ≡ m.given = sym goes.given_stays in

@@ -1,10 +1,13 @@
 -- All texts of a command, read in their order: one result, and what each text gives.
 use Rattle.std.proofs.Common.{◌≡◌, ℕ, List, None, Ok, refl, sym, subst}
 use Rattle.si_cell.specs.LibraryText.{library_fault, library_of}
+use Rattle.si_netlist_reader.specs.NetlistFault.{netlist_fault}
+use Rattle.si_netlist_reader.specs.NetlistValue.{netlist_of}
 use Rattle.si_refusals.specs.Stages.{Passes, Refuses}
 use Rattle.si_sg.specs.GivenGraph.{IsGivenBy}
 use Rattle.si_stages.specs.Laws.{AtMostOne, HasResult}
-use Rattle.si_stages.specs.Readings.{MappingReadings, ReplayReadings, mapping_readings, replay_readings}
+use Rattle.si_stages.specs.Readings.{AuditReadings, MappingReadings, ReplayReadings}
+use Rattle.si_stages.specs.Readings.{audit_readings, mapping_readings, replay_readings}
 use Rattle.si_stages.proofs.CheckLemmas.{graph_one}
 use Rattle.si_stages.proofs.SomeLemmas.{graph_some}
 use Rattle.si_stages.proofs.StageLemmas.{gives_one, gives_some, spelled_one, spelled_some, then_one, then_some}
@@ -35,6 +38,32 @@ mapping_readings_are g a n b readings (Passes given is (Passes cells spelt same)
     let found : AreMappingReadings a b read =
     record { given = is; no_fault = spelt.0; library = spelt.1 } in
     subst (AreMappingReadings a b) (sym readings_are) found
+
+-- ---- a graph, and a netlist
+pub audit_readings_one : (g a n b : List ℕ) → AtMostOne (audit_readings g a n b)
+audit_readings_one g a n b =
+    then_one _ _ (graph_one g a) (λ given is. then_one _ _ (spelled_one n _ _) (λ circuit spelt. gives_one _))
+
+pub audit_readings_some : (g a n b : List ℕ) → HasResult (audit_readings g a n b)
+audit_readings_some g a n b =
+    then_some _ _ (graph_some g a) (λ given is. then_some _ _ (spelled_some n _ _) (λ circuit spelt. gives_some _))
+
+pub record AreAuditReadings (a b : List ℕ) (readings : AuditReadings) : Type 0 where
+  pub given : IsGivenBy a readings.given
+  pub no_fault : netlist_fault b ≡ None
+  pub netlist : readings.netlist ≡ netlist_of b
+
+pub audit_readings_are : (g a n b : List ℕ) (readings : AuditReadings) → audit_readings g a n b (Ok readings)
+    → AreAuditReadings a b readings
+audit_readings_are g a n b readings (Refuses r h same) = absurd (no_refusal (Ok readings) readings r refl same)
+audit_readings_are g a n b readings (Passes given is (Refuses r h same)) =
+    absurd (no_refusal (Ok readings) readings r refl same)
+audit_readings_are g a n b readings (Passes given is (Passes circuit spelt same)) =
+    let read : AuditReadings = record { given = given; netlist = circuit } in
+    let readings_are = one_value (Ok readings) readings read refl same in
+    let found : AreAuditReadings a b read =
+    record { given = is; no_fault = spelt.0; netlist = spelt.1 } in
+    subst (AreAuditReadings a b) (sym readings_are) found
 
 -- ---- a graph, a netlist, and the events of a schedule
 pub replay_readings_one : (g a n b s c : List ℕ) → AtMostOne (replay_readings g a n b s c)

@@ -15,6 +15,12 @@ one_value result x y one other = cc
 pub no_refusal : {R A : Type 0} (result : Result A R) (x : A) (r : R) → result ≡ Ok x → result ≡ Err r → ⊥
 no_refusal result x r passes refuses = cc
 
+-- where two stages give a value, so does the first
+pub passed : {R A B : Type 0} (first : Stage R A) (next : A → Stage R B) (value : B)
+    → Then R A B first next (Ok value) → (x : A) × first (Ok x) × next x (Ok value)
+passed first next value (Refuses r refused is) = cc
+passed first next value (Passes x is then) = (x, is, then)
+
 -- ---- at most one result
 pub then_one : {R A B : Type 0} (first : Stage R A) (next : A → Stage R B) → AtMostOne first
     → ((x : A) → first (Ok x) → AtMostOne (next x)) → AtMostOne (Then R A B first next)

@@ -39,6 +39,11 @@ module _ (gate : ℕ → Gate) (sg : Sg) (l : History) where
   unfolding netlist_of
   has_model = refl
 
+  -- and the insertions of the trace
+  pub has_insertions : lineage_netlist.inserts ≡ insertions_of sg.states l
+  unfolding netlist_of
+  has_insertions = refl
+
   pub is_for_given : IsLineage l.given l.trace l.current → IsFor l.given lineage_netlist
   unfolding netlist_of
   is_for_given line =

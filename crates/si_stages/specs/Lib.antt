@@ -8,8 +8,10 @@ pub mod Replayed
 pub mod Fold
 pub mod Reports
 pub mod Outcomes
+pub mod Audited
 pub mod Meaning
 pub mod Laws
+pub mod AuditLaws
 pub mod FoldLaws
 pub mod Exercise
 pub mod Verilog

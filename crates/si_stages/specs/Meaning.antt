@@ -3,9 +3,11 @@ use Rattle.std.specs.Prelude.{ℕ, List}
 use Rattle.si_circuit.specs.declared.style.Style.{Style}
 use Rattle.si_refusals.specs.Refusal.{TextRefusal}
 use Rattle.si_refusals.specs.Stages.{Stage, ◌>>=◌}
+use Rattle.si_stages.specs.Audited.{audited}
 use Rattle.si_stages.specs.Checks.{proper, match_lists}
 use Rattle.si_stages.specs.Mapping.{cells_text}
-use Rattle.si_stages.specs.Readings.{graph_in, mapping_readings, replay_readings}
+use Rattle.si_stages.specs.Readings.{graph_in, mapping_readings}
+use Rattle.si_stages.specs.Readings.{audit_readings, replay_readings}
 use Rattle.si_stages.specs.Replayed.{replay_end}
 use Rattle.si_stages.specs.Reports.{told}
 use Rattle.si_stages.specs.Resolving.{resolution}
@@ -38,3 +40,10 @@ replay graph graph_text netlist netlist_text schedule schedule_text = do
   coded ← proper readings.given.graph readings.given.states
   _ ← match_lists netlist coded readings.netlist
   replay_end readings.given.graph readings.given.states readings.netlist readings.events
+
+abbrev pub audit : (graph graph_text netlist netlist_text : List ℕ) → Stage TextRefusal (List ℕ)
+audit graph graph_text netlist netlist_text = do
+  readings ← audit_readings graph graph_text netlist netlist_text
+  coded ← proper readings.given.graph readings.given.states
+  _ ← match_lists netlist coded readings.netlist
+  audited readings.given.states coded readings.netlist

@@ -1,6 +1,8 @@
 //! The commands as rows of stages: from the bytes of texts to the bytes of an output.
 #![tactic(auto)]
 
+pub mod audit_laws;
+pub mod audited;
 pub mod checks;
 pub mod exercise;
 mod fold;

@@ -5,7 +5,8 @@ ghost use Rattle.si_sg.specs.GivenGraph.{sg_now};
 ghost use Rattle.si_stages.specs.Checks.{IsNamed};
 ghost use Rattle.si_refusals.specs.Ending.{MayStop, ending_of};
 ghost use Rattle.si_stages.specs.Readings as stage;
-ghost use Rattle.si_stages.specs.Readings.{mapping_readings_now, replay_readings_now};
+ghost use Rattle.si_stages.specs.Readings.{audit_readings_now, mapping_readings_now};
+ghost use Rattle.si_stages.specs.Readings.{replay_readings_now};
 
 use si_base::fault::TextFault;
 use si_base::ids::Event;
@@ -23,6 +24,13 @@ use std::alloc::Global;
 pub struct MappingReadings {
     pub given: Sg,
     pub library: Library,
+}
+
+/// What the texts of an audit spell.
+#[derive(Drop)]
+pub struct AuditReadings {
+    pub given: Sg,
+    pub netlist: Netlist,
 }
 
 /// What the texts of a replay spell. The events are of the netlist's signals.
@@ -111,6 +119,30 @@ pub fn mapping_readings<'w>(
     let given = graph_in(alloc, graph_file, graph)?;
     let library = library_in(alloc, library_file, library)?;
     Ok(MappingReadings { given, library })
+}
+
+/// The graph and the netlist that the texts spell, each file with its text.
+///
+/// # Errors
+///
+/// `BadText` with the first fault of the texts in their order. `NoMemory` only where memory runs
+/// out.
+pub fn audit_readings<'w>(
+    alloc: Global,
+    graph_file: &'w str,
+    graph: &[u8],
+    netlist_file: &'w str,
+    netlist: &[u8],
+) -> Result<AuditReadings, Refusal<'w>>
+    ensures ok { IfOk result (λ t. stage.audit_readings graph_file.now graph.now
+        netlist_file.now netlist.now (Ok (audit_readings_now t))) }
+    ensures err { IfErr result (λ r. MayStop (stage.audit_readings graph_file.now graph.now
+        netlist_file.now netlist.now) (ending_of r)) }
+    ensures named { IfOk result (λ t. IsNamed t.given.graph t.given.states) }
+{
+    let given = graph_in(alloc, graph_file, graph)?;
+    let netlist = netlist_in(alloc, netlist_file, netlist)?;
+    Ok(AuditReadings { given, netlist })
 }
 
 /// The graph, the netlist and the events that the texts spell, each file with its text.

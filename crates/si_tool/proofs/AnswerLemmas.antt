@@ -8,8 +8,9 @@ use Rattle.si_tool.specs.Loads.{Contents, Counts, loads, load_well, loads_well, 
 use Rattle.si_tool.specs.Meaning.{meaning, ComesTo}
 use Rattle.si_refusals.specs.Refusal.{TextRefusal, ReadFault, Answer, Output, FileRefused, TextRefused}
 use Rattle.si_tool.specs.declared.command.Task.{Task}
-use Rattle.si_tool.specs.declared.command.Task.TheVariants.{About, Tell, Synth, Map, Verilog, Replay, Exercise}
+use Rattle.si_tool.specs.declared.command.Task.TheVariants.{About, Tell, Synth, Map, Verilog, Replay, Audit, Exercise}
 use Rattle.si_stages.specs.Laws.{AtMostOne, HasResult}
+use Rattle.si_stages.proofs.AuditLemmas.{audit_one, audit_some}
 use Rattle.si_stages.proofs.ExerciseLemmas.{exercise_one, exercise_some}
 use Rattle.si_stages.proofs.MeaningLemmas.{report_one, synth_one, mapping_one, replay_one}
 use Rattle.si_stages.proofs.MeaningLemmas.{report_some, synth_some, mapping_some, replay_some}
@@ -26,6 +27,7 @@ meaning_one (Synth style) (file ∷ []) (text ∷ []) = synth_one style file tex
 meaning_one Map (g ∷ l ∷ []) (a ∷ b ∷ []) = mapping_one g a l b
 meaning_one Verilog (file ∷ []) (text ∷ []) = verilog_one file text
 meaning_one Replay (g ∷ n ∷ s ∷ []) (a ∷ b ∷ c ∷ []) = replay_one g a n b s c
+meaning_one Audit (g ∷ n ∷ []) (a ∷ b ∷ []) = audit_one g a n b
 meaning_one (Exercise count) [] [] = exercise_one (number_of count)
 meaning_one task files texts = λ a b one other. absurd one
 
@@ -38,6 +40,7 @@ meaning_some (Synth style) (file ∷ []) (text ∷ []) many each = synth_some st
 meaning_some Map (g ∷ l ∷ []) (a ∷ b ∷ []) many each = mapping_some g a l b
 meaning_some Verilog (file ∷ []) (text ∷ []) many each = verilog_some file text
 meaning_some Replay (g ∷ n ∷ s ∷ []) (a ∷ b ∷ c ∷ []) many each = replay_some g a n b s c
+meaning_some Audit (g ∷ n ∷ []) (a ∷ b ∷ []) many each = audit_some g a n b
 meaning_some (Exercise count) [] [] many each = exercise_some (number_of count) (few_handshakes count)
 meaning_some task files texts many each = absurd (omega (arith, many, each))
 

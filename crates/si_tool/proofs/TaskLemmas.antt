@@ -10,7 +10,7 @@ use Rattle.si_tool.specs.declared.about.Topic.TheVariants.{Help, Version}
 use Rattle.si_tool.specs.declared.command.HandshakeCount.{HandshakeCount}
 use Rattle.si_tool.specs.declared.command.HandshakeCount.TheVariants.{One, Two, Three, Four, Five, Six, Seven, Eight}
 use Rattle.si_tool.specs.declared.command.Task.{Task}
-use Rattle.si_tool.specs.declared.command.Task.TheVariants.{About, Tell, Synth, Map, Verilog, Replay, Exercise}
+use Rattle.si_tool.specs.declared.command.Task.TheVariants.{About, Tell, Synth, Map, Verilog, Replay, Audit, Exercise}
 use Rattle.si_tool.specs.declared.command.TheConstants.{TASKS}
 use Rattle.si_stages.specs.declared.report_kind.Report.TheVariants.{Summary, Regions, Conflicts, Covers, Fold}
 
@@ -20,7 +20,7 @@ first_task = About (Help Long)
 
 -- ---- the table has each task
 abbrev pub IsListed : Task → Type 0
-IsListed task = (place : ℕ) × (place < 22) × (get_or TASKS place first_task ≡ task)
+IsListed task = (place : ℕ) × (place < 23) × (get_or TASKS place first_task ≡ task)
 
 pub each_listed : (task : Task) → IsListed task
 each_listed (About (Help Long)) = (0, omega arith, refl)
@@ -37,14 +37,15 @@ each_listed (Synth GeneralisedC) = (10, omega arith, refl)
 each_listed Map = (11, omega arith, refl)
 each_listed Verilog = (12, omega arith, refl)
 each_listed Replay = (13, omega arith, refl)
-each_listed (Exercise One) = (14, omega arith, refl)
-each_listed (Exercise Two) = (15, omega arith, refl)
-each_listed (Exercise Three) = (16, omega arith, refl)
-each_listed (Exercise Four) = (17, omega arith, refl)
-each_listed (Exercise Five) = (18, omega arith, refl)
-each_listed (Exercise Six) = (19, omega arith, refl)
-each_listed (Exercise Seven) = (20, omega arith, refl)
-each_listed (Exercise Eight) = (21, omega arith, refl)
+each_listed Audit = (14, omega arith, refl)
+each_listed (Exercise One) = (15, omega arith, refl)
+each_listed (Exercise Two) = (16, omega arith, refl)
+each_listed (Exercise Three) = (17, omega arith, refl)
+each_listed (Exercise Four) = (18, omega arith, refl)
+each_listed (Exercise Five) = (19, omega arith, refl)
+each_listed (Exercise Six) = (20, omega arith, refl)
+each_listed (Exercise Seven) = (21, omega arith, refl)
+each_listed (Exercise Eight) = (22, omega arith, refl)
 
 -- ---- words ask for none of the tasks up to a place
 abbrev pub AsksNoneBefore : List (String Global) → (place : ℕ) → Type 0
@@ -62,7 +63,7 @@ asks_one_less words place before here k below files asks = elim (cases_lt k plac
       )
 ]
 
-pub asks_nothing : (words : List (String Global)) (place : ℕ) → 22 ≤ place → AsksNoneBefore words place
+pub asks_nothing : (words : List (String Global)) (place : ℕ) → 23 ≤ place → AsksNoneBefore words place
     → AsksNothing words
 asks_nothing words place end none request asks =
     let listed = each_listed request.task in

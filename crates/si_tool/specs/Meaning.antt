@@ -4,13 +4,14 @@ use Rattle.std.specs.declared.alloc.Global.{Global}
 use Rattle.si_tool.specs.About.{about_text}
 use Rattle.si_tool.specs.Command.{Request, Asks, number_of}
 use Rattle.si_tool.specs.declared.command.Task.{Task}
-use Rattle.si_tool.specs.declared.command.Task.TheVariants.{About, Tell, Synth, Map, Verilog, Replay, Exercise}
+use Rattle.si_tool.specs.declared.command.Task.TheVariants.{About, Tell, Synth, Map, Verilog}
+use Rattle.si_tool.specs.declared.command.Task.TheVariants.{Replay, Audit, Exercise}
 use Rattle.si_refusals.specs.Ending.{Ending, NoMemory, Answered}
 use Rattle.si_refusals.specs.Refusal.{FileRefusal, TextRefusal, Answer, Output}
 use Rattle.si_refusals.specs.Refusal.{FileRefused, TextRefused}
 use Rattle.si_refusals.specs.Stages.{Stage, gives}
 use Rattle.si_stages.specs.Exercise.{exercise}
-use Rattle.si_stages.specs.Meaning.{report, synth, mapping, replay}
+use Rattle.si_stages.specs.Meaning.{report, synth, mapping, replay, audit}
 use Rattle.si_stages.specs.Verilog.{verilog}
 
 -- a task over its files, each with its text
@@ -22,6 +23,7 @@ meaning Map (g ∷ l ∷ []) (graph ∷ library ∷ []) = mapping g graph l libr
 meaning Verilog (file ∷ []) (text ∷ []) = verilog file text
 meaning Replay (g ∷ n ∷ s ∷ []) (graph ∷ netlist ∷ schedule ∷ []) =
     replay g graph n netlist s schedule
+meaning Audit (g ∷ n ∷ []) (graph ∷ netlist ∷ []) = audit g graph n netlist
 meaning (Exercise count) [] [] = exercise (number_of count)
 meaning task files texts = λ answer. ⊥
 

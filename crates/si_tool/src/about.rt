@@ -55,6 +55,7 @@ const HELP: &[u8] = b"sisyn makes circuits without a clock from state graphs.
   sisyn map F LIB                    a netlist of cells of a library
   sisyn verilog NETLIST              a netlist as a module of Verilog
   sisyn replay F NETLIST SCHEDULE    where a schedule over a netlist ends
+  sisyn audit F NETLIST              whether a netlist is certified for a graph
   sisyn exercise N                   the sizes of N handshakes, from 1 to 8
   sisyn --help                       this text
   sisyn -h                           this text
@@ -78,6 +79,7 @@ status of its first word:
   8  unresolved: two states of one code want different things of the circuit
   9  unmapped: a signal fits no cell of the library
  10  differs: the schedule has an event that the circuit or the graph refuses
+ 11  rejected: the netlist isn't certified for the graph
 
 The documents stand beside the sources: README.md has a walk through the
 commands, docs/FORMATS.md each text and line, docs/THEOREM.md what is proved.

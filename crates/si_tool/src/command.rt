@@ -78,12 +78,14 @@ pub enum Task {
     Verilog,
     /// The end of a schedule over a netlist beside a graph.
     Replay,
+    /// Whether a netlist is certified for a graph.
+    Audit,
     /// The sizes of so many handshakes.
     Exercise(HandshakeCount),
 }
 
 /// Each task. No two of them have a form in common.
-const TASKS: [Task; 22] = [
+const TASKS: [Task; 23] = [
     Task::About(Topic::Help(HelpWord::Long)),
     Task::About(Topic::Help(HelpWord::Short)),
     Task::About(Topic::Help(HelpWord::Plain)),
@@ -98,6 +100,7 @@ const TASKS: [Task; 22] = [
     Task::Map,
     Task::Verilog,
     Task::Replay,
+    Task::Audit,
     Task::Exercise(HandshakeCount::One),
     Task::Exercise(HandshakeCount::Two),
     Task::Exercise(HandshakeCount::Three),
@@ -155,6 +158,7 @@ fn files_for<'w>(
             let form = [Slot::Word("replay"), Slot::File, Slot::File, Slot::File];
             files_in(alloc, words, &form)
         }
+        Task::Audit => files_in(alloc, words, &[Slot::Word("audit"), Slot::File, Slot::File]),
         Task::Exercise(count) => {
             files_in(
                 alloc,

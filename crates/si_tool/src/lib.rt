@@ -3,6 +3,7 @@
 
 pub mod about;
 pub mod command;
+pub mod fold_law;
 mod form;
 pub mod laws;
 mod output;

@@ -15,6 +15,7 @@ use si_base::limits::MAX_TEXT;
 use si_base::text::Text;
 use si_io::shelf::{LoadFault, Shelf};
 use si_refusals::refusals::Refusal;
+use si_stages::audited::audit_texts;
 use si_stages::exercise::exercise;
 use si_stages::mapping::map_texts;
 use si_stages::replayed::replay_texts;
@@ -70,6 +71,7 @@ fn output_of_texts<'w>(
                 alloc, graph, &texts[0], netlist, &texts[1], schedule, &texts[2],
             )
         }
+        Task::Audit => audit_texts(alloc, files[0], &texts[0], files[1], &texts[1]),
         Task::Exercise(count) => Ok(exercise(alloc, count.number())?),
     }
 }

@@ -104,7 +104,7 @@ s0 z+ s2
 ";
 
 /// The read cycle of a VME bus controller.
-const VME: &[u8] = b".model vme
+pub(crate) const VME: &[u8] = b".model vme
 .inputs DSr LDTACK
 .outputs D DTACK LDS
 .state graph
@@ -422,6 +422,6 @@ fn help_fits_a_screen(rt: HostRuntime) -> Result<(), Fail> {
     assert_eq!(rt; status, Status::Done);
     let mut lines = out.bytes().split(|b| *b == b'\n');
     assert!(rt; lines.all(|line| line.len() <= 80));
-    assert!(rt; out.bytes().split(|b| *b == b'\n').count() <= 41);
+    assert!(rt; out.bytes().split(|b| *b == b'\n').count() <= 43);
     Ok(())
 }

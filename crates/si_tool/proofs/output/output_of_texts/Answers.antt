@@ -95,3 +95,23 @@ returns-in-Replay-clause-err c =
     c.index-texts-0-in-Replay.is c.index-texts-1-in-Replay.is c.index-texts-2.is c.deref-in-Replay.ensures.value
     c.deref-in-Replay-2.ensures.value c.deref-in-Replay-3.ensures.value in
     rw (c.in-Replay.is, names, texts) c.replay_texts.ensures.err
+
+pub returns-in-Audit-clause-ok : goal.returns-in-Audit-clause-ok
+returns-in-Audit-clause-ok c =
+    let many : length c.args.files.now ≡ 2 = rw c.in-Audit.is at c.requires.files in
+    let names = two_names c.args.files.now many in
+    let texts = two_texts c.args.texts.now c.index-texts-0-in-Audit.result c.index-texts-1-in-Audit.result
+    c.deref-in-Audit.result.now c.deref-in-Audit-2.result.now (c.requires.texts ∙ many)
+    c.index-texts-0-in-Audit.is c.index-texts-1-in-Audit.is c.deref-in-Audit.ensures.value
+    c.deref-in-Audit-2.ensures.value in
+    rw (c.in-Audit.is, names, texts) c.audit_texts.ensures.ok
+
+pub returns-in-Audit-clause-err : goal.returns-in-Audit-clause-err
+returns-in-Audit-clause-err c =
+    let many : length c.args.files.now ≡ 2 = rw c.in-Audit.is at c.requires.files in
+    let names = two_names c.args.files.now many in
+    let texts = two_texts c.args.texts.now c.index-texts-0-in-Audit.result c.index-texts-1-in-Audit.result
+    c.deref-in-Audit.result.now c.deref-in-Audit-2.result.now (c.requires.texts ∙ many)
+    c.index-texts-0-in-Audit.is c.index-texts-1-in-Audit.is c.deref-in-Audit.ensures.value
+    c.deref-in-Audit-2.ensures.value in
+    rw (c.in-Audit.is, names, texts) c.audit_texts.ensures.err

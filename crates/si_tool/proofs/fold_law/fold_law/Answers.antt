@@ -1,7 +1,7 @@
 use Rattle.std.proofs.Common.{subst}
 use Rattle.si_base.specs.Codes.{IsCoded}
 use Rattle.si_fold.proofs.FoldedBehaviour.{folded_behaviour}
-use Rattle.si_stages.proofs.fold_laws.fold_law.Goals as goal
+use Rattle.si_tool.proofs.fold_law.fold_law.Goals as goal
 
 pub returns : goal.returns
 returns c =

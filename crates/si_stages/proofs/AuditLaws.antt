@@ -1,0 +1,89 @@
+-- What is written for a graph passes the audit for that graph: its lineage certifies it.
+use Rattle.std.proofs.Common.{◌≡◌, ℕ, List, None, Ok, sym, ap, subst, ◌∙◌}
+use Rattle.si_audit.specs.Audit.{Certifies}
+use Rattle.si_audit.proofs.BuiltLineages.{built_are_certified}
+use Rattle.si_base.specs.Behaviour.{Implements}
+use Rattle.si_base.specs.Codes.{CodedGraph}
+use Rattle.si_base.specs.GivenGraph.{Sg}
+use Rattle.si_base.specs.Netlist.{Insertion, Netlist}
+use Rattle.si_base.specs.NetlistText.{Version2, netlist_text}
+use Rattle.si_base.specs.System.{IsFor}
+use Rattle.si_base.specs.WellFormed.{IsNetlist}
+use Rattle.si_circuit.specs.Cells.{cell_gate}
+use Rattle.si_circuit.specs.Gates.{gate_of}
+use Rattle.si_circuit.specs.Spelling.{insertions_of}
+use Rattle.si_insert.specs.Lineage.{History, IsLineage}
+use Rattle.si_netlist_reader.specs.NetlistFault.{netlist_fault}
+use Rattle.si_netlist_reader.specs.NetlistValue.{netlist_of}
+use Rattle.si_netlist_reader.proofs.WriteLaw.{written_reads}
+use Rattle.si_sg.specs.GivenGraph.{IsGivenBy}
+use Rattle.si_stages.specs.AuditLaws.{MappedPass, PassesAudit, SynthesisedPass}
+use Rattle.si_stages.specs.Audited.{IsCertified, audit_text}
+use Rattle.si_stages.specs.Checks.{IsSound}
+use Rattle.si_stages.specs.Written.{IsWritten}
+use Rattle.si_stages.proofs.AuditLemmas.{certified_output}
+use Rattle.si_stages.proofs.GivenLineages.{given_lineage}
+use Rattle.si_stages.proofs.MappingLemmas.{mapped_lineage}
+use Rattle.si_stages.proofs.ReadingLemmas.{mapping_readings_are}
+use Rattle.si_stages.proofs.ResolutionLemmas.{resolution_is}
+use Rattle.si_stages.proofs.StageLemmas.{passed}
+use Rattle.si_stages.proofs.WrittenLemmas.{has_insertions}
+
+reads_back : (n : Netlist) → IsNetlist n → (netlist_fault (netlist_text n) ≡ None) × (netlist_of (netlist_text n) ≡ n)
+unfolding netlist_text
+reads_back n is = (let read = written_reads Version2 n is is.few in (read.1, read.2))
+
+-- a lineage of the given graph certifies the netlist that is written over it, with its insertions
+module _ (text output : List ℕ) (sg : Sg) (l : History) (is : IsGivenBy text sg) (sound : IsSound sg.graph l.given)
+    (line : IsLineage l.given l.trace l.current) (w : IsWritten sg l output)
+    (inserts : w.netlist.inserts ≡ insertions_of sg.states l) where
+  read : netlist_of output ≡ w.netlist
+  read = ap netlist_of w.text_is ∙ (reads_back w.netlist w.is_netlist).1
+
+  is_certified : IsCertified text output (audit_text l w.netlist)
+  is_certified =
+      let back : w.netlist ≡ netlist_of output = sym read in
+      let certifies = built_are_certified sg.states l w.netlist line w.circuit.built inserts in
+      record {
+        given = sg;
+        is_given = is;
+        no_fault = ap netlist_fault w.text_is ∙ (reads_back w.netlist w.is_netlist).0;
+        coded = l.given;
+        sound = sound;
+        is_for = subst (λ (n : Netlist). IsFor l.given n) back w.is_for;
+        lineage = l;
+        certifies = subst (λ (n : Netlist). Certifies sg.states l.given n l) back certifies;
+        implements = subst (λ (n : Netlist). Implements n sg.graph) back w.implements;
+        output_is = ap (λ (n : Netlist). audit_text l n) back;
+      }
+
+  written_passes : PassesAudit text output
+  written_passes = (audit_text l w.netlist, λ g n. certified_output g text n output (audit_text l w.netlist) is_certified)
+
+pub synthesised_pass : SynthesisedPass
+synthesised_pass style file text output made =
+    let given = passed _ _ output made in
+    let resolved = passed _ _ output given.2 in
+    let sg = given.0 in
+    let l = resolved.0 in
+    let is = resolution_is sg.graph sg.states l resolved.1 in
+    let line = given_lineage text sg l given.1 is in
+    let s = resolved.2 in
+    let inserts = ap (λ (n : Netlist). n.inserts) s.gates_are ∙ has_insertions (gate_of style l.current.coded) sg l in
+    written_passes text output sg l given.1 is.sound line.line s.written inserts
+
+pub mapped_pass : MappedPass
+mapped_pass file text library cells output made =
+    let read = passed _ _ output made in
+    let given = (mapping_readings_are file text library cells read.0 read.1).given in
+    let resolved = passed _ _ output read.2 in
+    let sg = read.0.given in
+    let is = resolution_is sg.graph sg.states resolved.0 resolved.1 in
+    let first = given_lineage text sg resolved.0 given is in
+    let s = resolved.2 in
+    let l = s.lineage in
+    let line = mapped_lineage read.0.library sg resolved.0 l s.maps.trace first s.maps.goes s.maps.maps.goes in
+    let sound = subst (λ (c : CodedGraph). IsSound sg.graph c) (sym s.maps.goes.given_stays) is.sound in
+    let inserts = ap (λ (n : Netlist). n.inserts) s.gates_are
+    ∙ has_insertions (cell_gate l.current.coded read.0.library) sg l in
+    written_passes text output sg l given sound line.line s.written inserts
