@@ -4,7 +4,7 @@ use Rattle.std.proofs.Common.{String, Global}
 use Rattle.std.proofs.lemmas.Bool.{cases_lt}
 use Rattle.si_circuit.specs.declared.style.Style.TheVariants.{Complex, GeneralisedC}
 use Rattle.si_handshakes.specs.Handshakes.{max_handshakes}
-use Rattle.si_tool.specs.Command.{Asks, AsksNothing, number_of}
+use Rattle.si_tool.specs.Command.{Asks, AsksNothing, file_count, form_of, number_of}
 use Rattle.si_tool.specs.declared.about.HelpWord.TheVariants.{Long, Short, Plain}
 use Rattle.si_tool.specs.declared.about.Topic.TheVariants.{Help, Version}
 use Rattle.si_tool.specs.declared.command.HandshakeCount.{HandshakeCount}
@@ -12,6 +12,7 @@ use Rattle.si_tool.specs.declared.command.HandshakeCount.TheVariants.{One, Two, 
 use Rattle.si_tool.specs.declared.command.Task.{Task}
 use Rattle.si_tool.specs.declared.command.Task.TheVariants.{About, Tell, Synth, Map, FromGenlib, Verilog, Replay, Audit, Exercise}
 use Rattle.si_tool.specs.declared.command.TheConstants.{TASKS}
+use Rattle.si_stages.specs.declared.library_format.LibraryFormat.{LibraryFormat}
 use Rattle.si_stages.specs.declared.library_format.LibraryFormat.TheVariants.{Own, Genlib}
 use Rattle.si_stages.specs.declared.report_kind.Report.TheVariants.{Summary, Regions, Conflicts, Covers, Fold}
 
@@ -72,6 +73,11 @@ asks_nothing words place end none request asks =
     let listed = each_listed request.task in
     let has_task : Task → Type 0 = λ task. Asks words (record { task = task; files = request.files }) in
     none listed.0 (omega (arith, listed.1)) request.files (subst has_task (sym listed.2) asks)
+
+-- a graph and a library, in whichever format, are two files
+pub two_files : (format : LibraryFormat) → file_count (form_of (Map format)) ≡ 2
+two_files Own = refl
+two_files Genlib = refl
 
 -- as many handshakes as are exercised have a graph
 pub few_handshakes : (count : HandshakeCount) → number_of count ≤ max_handshakes

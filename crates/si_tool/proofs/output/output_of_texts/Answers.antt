@@ -1,5 +1,6 @@
 use Rattle.std.proofs.Common.{◌≡◌, ◌∙◌, length}
 use Rattle.si_tool.proofs.ItemLemmas.{one_name, two_names, three_names, one_text, two_texts, three_texts}
+use Rattle.si_tool.proofs.TaskLemmas.{two_files}
 use Rattle.si_tool.proofs.output.output_of_texts.Goals as goal
 
 pub returns-in-Tell-clause-ok : goal.returns-in-Tell-clause-ok
@@ -76,7 +77,8 @@ returns-in-FromGenlib-clause-err c =
 
 pub returns-in-Map-clause-ok : goal.returns-in-Map-clause-ok
 returns-in-Map-clause-ok c =
-    let many : length c.args.files.now ≡ 2 = rw c.in-Map.is at c.requires.files in
+    let counted = rw c.in-Map.is at c.requires.files in
+    let many : length c.args.files.now ≡ 2 = counted ∙ two_files c.in-Map.format in
     let names = two_names c.args.files.now many in
     let texts = two_texts c.args.texts.now c.index-texts-0-in-Map.result c.index-texts-1.result
     c.deref-in-Map.result.now c.deref-in-Map-2.result.now (c.requires.texts ∙ many)
@@ -85,7 +87,8 @@ returns-in-Map-clause-ok c =
 
 pub returns-in-Map-clause-err : goal.returns-in-Map-clause-err
 returns-in-Map-clause-err c =
-    let many : length c.args.files.now ≡ 2 = rw c.in-Map.is at c.requires.files in
+    let counted = rw c.in-Map.is at c.requires.files in
+    let many : length c.args.files.now ≡ 2 = counted ∙ two_files c.in-Map.format in
     let names = two_names c.args.files.now many in
     let texts = two_texts c.args.texts.now c.index-texts-0-in-Map.result c.index-texts-1.result
     c.deref-in-Map.result.now c.deref-in-Map-2.result.now (c.requires.texts ∙ many)
