@@ -33,7 +33,7 @@ use Rattle.si_words.specs.Writing.{spaced}
 use Rattle.si_words.proofs.WritingLemmas.{whole_line}
 use Rattle.si_listings.specs.CoverText.{Told, LeastCube, NoCube, IsTold, Component, AreComponents, regions_of, sum_line, told_words, mono_line, mono_lines, monos_after, signal_lines, lines_from, covers_text, conflict_text, IsCoverText}
 use Rattle.si_listings.specs.RegionText.{number_after}
-use Rattle.si_listings.specs.Words.{event_word}
+use Rattle.si_sg.specs.CanonicalText.{event_word}
 
 -- ---- what is told of a region is one
 literal_place : Literal → List ℕ

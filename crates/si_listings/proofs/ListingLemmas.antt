@@ -14,7 +14,7 @@ use Rattle.si_regions.proofs.UniqueRegions as unique
 use Rattle.si_conflicts.specs.declared.conflicts.Pair.{Pair}
 use Rattle.si_conflicts.specs.Conflicts.{AreFirstConflicts, pairs_of}
 use Rattle.si_conflicts.proofs.Counted.{one_count, first_unique}
-use Rattle.si_listings.specs.Words.{state_word, event_word}
+use Rattle.si_sg.specs.CanonicalText.{state_at, event_word}
 use Rattle.si_listings.specs.RegionText.{set_line, region_lines, number_after, lines_after, regions_text, IsRegionText}
 use Rattle.si_listings.specs.ConflictText.{max_printed, pair_line, conflicts_text, IsConflictText}
 
@@ -33,16 +33,16 @@ one_conflict_text c states x y a b =
 
 -- ---- the names of states, from the i-th on
 abbrev pub states_from : List (List ℕ) → List ℕ → ℕ → List ℕ
-states_from names states i = spaced (map (state_word names) (drop i states))
+states_from names states i = spaced (map (state_at names) (drop i states))
 
 pub state_more : (names : List (List ℕ)) (states : List ℕ) (i s : ℕ) (name old text new : List ℕ) → i < length states
-    → s ≡ get_or states i s → text ++ states_from names states i ≡ old → name ≡ state_word names s
+    → s ≡ get_or states i s → text ++ states_from names states i ≡ old → name ≡ state_at names s
     → new ≡ text ++ 32 ∷ name
     → new ++ states_from names states (i + 1) ≡ old
 state_more names states i s name old text new within at so_far named is =
     let left : states_from names states i ≡ (32 ∷ name) ++ states_from names states (i + 1) =
-    ap (λ (l : List ℕ). spaced (map (state_word names) l)) (drop-cons states i s within)
-    ∙ ap (λ (n : List ℕ). (32 ∷ n) ++ states_from names states (suc i)) (ap (state_word names) (sym at) ∙ sym named) ∙
+    ap (λ (l : List ℕ). spaced (map (state_at names) l)) (drop-cons states i s within)
+    ∙ ap (λ (n : List ℕ). (32 ∷ n) ++ states_from names states (suc i)) (ap (state_at names) (sym at) ∙ sym named) ∙
     rw add-one refl in
     ap (λ (t : List ℕ). t ++ states_from names states (i + 1)) is
     ∙ append_assoc text (32 ∷ name) (states_from names states (i + 1))
@@ -53,8 +53,8 @@ abbrev pub pairs_from : List (List ℕ) → List Pair → ℕ → List ℕ
 pairs_from states pairs i = text_of (map (pair_line states) (pairs_of (drop i pairs)))
 
 pub pair_more : (states : List (List ℕ)) (pairs : List Pair) (i : ℕ) (x : Pair) (p q old text new : List ℕ)
-    → i < length pairs → x ≡ get_or pairs i x → text ++ pairs_from states pairs i ≡ old → p ≡ state_word states x.p
-    → q ≡ state_word states x.q → new ≡ text ++ line (p ∷ q ∷ [])
+    → i < length pairs → x ≡ get_or pairs i x → text ++ pairs_from states pairs i ≡ old → p ≡ state_at states x.p
+    → q ≡ state_at states x.q → new ≡ text ++ line (p ∷ q ∷ [])
     → new ++ pairs_from states pairs (i + 1) ≡ old
 pair_more states pairs i x p q old text new within at so_far first second is =
     let line_of : Pair → List ℕ = λ y. line (pair_line states (y.p, y.q)) in
@@ -82,11 +82,11 @@ grouped text kind event number states = simp append_assoc
 pub set_by_calls : (text kind : List ℕ) (signals : List Signal) (states : List (List ℕ)) (e : Event) (number : List ℕ)
     (set : List ℕ) (first second third fourth : List ℕ) → first ≡ text ++ kind
     → second ≡ first ++ 32 ∷ event_word signals e → third ≡ second ++ 32 ∷ number
-    → fourth ≡ third ++ spaced (map (state_word states) set)
+    → fourth ≡ third ++ spaced (map (state_at states) set)
     → fourth ++ 10 ∷ [] ≡ text ++ line (set_line kind signals states e number set)
 set_by_calls text kind signals states e number set first second third fourth e1 e2 e3 e4 =
-    rw (e4, e3, e2, e1) (grouped text kind (event_word signals e) number (spaced (map (state_word states) set))
-    ∙ whole_line text kind (event_word signals e ∷ number ∷ map (state_word states) set))
+    rw (e4, e3, e2, e1) (grouped text kind (event_word signals e) number (spaced (map (state_at states) set))
+    ∙ whole_line text kind (event_word signals e ∷ number ∷ map (state_at states) set))
 
 -- ---- the lines of a region
 three : (text a b c : List ℕ) → ((text ++ a) ++ b) ++ c ≡ text ++ (a ++ (b ++ (c ++ [])))

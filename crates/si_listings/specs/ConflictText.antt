@@ -3,14 +3,14 @@ use Rattle.std.specs.Prelude.{◌≡◌, ℕ, List, [], ◌∷◌, map, codes, d
 use Rattle.si_base.specs.Codes.{CodedGraph}
 use Rattle.si_base.specs.Words.{text_of}
 use Rattle.si_conflicts.specs.Conflicts.{HasConflicts, AreFirstConflicts}
-use Rattle.si_listings.specs.Words.{state_word}
+use Rattle.si_sg.specs.CanonicalText.{state_at}
 
 -- the most conflicts that are printed
 abbrev pub max_printed : ℕ
 max_printed = 1000
 
 abbrev pub pair_line : List (List ℕ) → ℕ × ℕ → List (List ℕ)
-pair_line states pair = state_word states pair.0 ∷ state_word states pair.1 ∷ []
+pair_line states pair = state_at states pair.0 ∷ state_at states pair.1 ∷ []
 
 -- how many conflicts there are, and these ones
 unfoldable pub conflicts_text : List (List ℕ) → ℕ → List (ℕ × ℕ) → List ℕ

@@ -16,7 +16,7 @@ use Rattle.si_cover.specs.Mono.{InSignalOrder, IsLeastMono, ShowsNoMono}
 use Rattle.si_cover.specs.Demands.{chosen_sum}
 use Rattle.si_listings.specs.ConflictText.{pair_line}
 use Rattle.si_listings.specs.RegionText.{number_after}
-use Rattle.si_listings.specs.Words.{state_word, event_word}
+use Rattle.si_sg.specs.CanonicalText.{state_at, event_word}
 
 -- what is told of a region: its least monotonous cube, or a state that shows that it has none
 pub data Told : Type 0 where
@@ -48,7 +48,7 @@ sum_line signals word z sum = word ∷ name_of signals z ∷ sum_words signals s
 
 abbrev pub told_words : List Signal → List (List ℕ) → Told → List (List ℕ)
 told_words signals states (LeastCube cube) = cube_words signals cube
-told_words signals states (NoCube state) = codes "none" ∷ state_word states state ∷ []
+told_words signals states (NoCube state) = codes "none" ∷ state_at states state ∷ []
 
 -- a region: its event, the number of its component, and what is told of it
 abbrev pub mono_line : List Signal → List (List ℕ) → ℕ → Region → Told → List (List ℕ)

@@ -1,4 +1,3 @@
-pub mod Words
 pub mod RegionText
 pub mod ConflictText
 pub mod CoverText

@@ -7,13 +7,13 @@ use Rattle.si_base.specs.Graph.{same_event}
 use Rattle.si_base.specs.Words.{text_of}
 use Rattle.si_regions.specs.declared.regions.Region.{Region}
 use Rattle.si_regions.specs.Regions.{AreRegions}
-use Rattle.si_listings.specs.Words.{state_word, event_word}
+use Rattle.si_sg.specs.CanonicalText.{state_at, event_word}
 
 -- a set of states: what it is, its event, the number of its component, and its states
 abbrev pub set_line : List ℕ → List Signal → List (List ℕ) → Event → List ℕ → List ℕ
     → List (List ℕ)
 set_line kind signals states e number set =
-    kind ∷ event_word signals e ∷ number ∷ map (state_word states) set
+    kind ∷ event_word signals e ∷ number ∷ map (state_at states) set
 
 -- a region: its excitation, switching and quiescent region
 abbrev pub region_lines : List Signal → List (List ℕ) → ℕ → Region → List (List (List ℕ))

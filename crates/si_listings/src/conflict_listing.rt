@@ -5,12 +5,12 @@ ghost use Rattle.si_base.specs.Words.{text_of};
 ghost use Rattle.si_listings.specs.ConflictText.{IsConflictText, conflicts_text, pair_line};
 ghost use Rattle.si_conflicts.specs.Conflicts.{pairs_of};
 
-use crate::words::name_at;
 use si_base::ids::NoMemory;
 use si_base::names::Names;
 use si_base::text::Text;
 use si_conflicts::conflicts::{Pair, conflicts, count};
 use si_graph::coded::Coded;
+use si_sg::write::name_at;
 use si_words::writing::add_line;
 use std::alloc::Global;
 

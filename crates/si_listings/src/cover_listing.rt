@@ -10,12 +10,12 @@ ghost use Rattle.si_listings.specs.CoverText.{Told, IsTold, Component, AreCompon
 ghost use Rattle.si_listings.specs.CoverText.{sum_line, sum_lines, told_words, mono_line, mono_lines};
 ghost use Rattle.si_listings.specs.CoverText.{monos_after, signal_lines, conflict_text};
 ghost use Rattle.si_listings.specs.CoverText.{TellsCovers, IsCoverText};
-ghost use Rattle.si_listings.specs.Words.{state_word};
+ghost use Rattle.si_sg.specs.CanonicalText.{state_at};
 ghost use Rattle.si_regions.specs.Regions.{IsRegion, AreRegions};
 ghost use Rattle.si_words.specs.Writing.{spaced};
 
 use crate::numbers::goes_on;
-use crate::words::{add_event, name_at};
+use crate::words::add_event;
 use si_base::graph::{Signal, signal_name};
 use si_base::ids::{NoMemory, Sig, StateId};
 use si_base::names::Names;
@@ -29,6 +29,7 @@ use si_cube::cube::Cube;
 use si_cube::sum::Sum;
 use si_cube::write_sums::{add_cube, add_sum};
 use si_regions::regions::{Region, regions};
+use si_sg::write::name_at;
 use si_words::writing::{add_line, add_word};
 use std::alloc::Global;
 
@@ -236,7 +237,7 @@ fn add_least(text: &mut Text, signals: &[Signal], cube: &Cube) -> Result<(), NoM
 fn add_none(text: &mut Text, states: &Names, state: StateId) -> Result<(), NoMemory>
     requires { state < length states.now }
     ensures { OnOk result (text.new ≡ text.old
-        ++ spaced (codes "none" ∷ state_word states.now state ∷ [])) }
+        ++ spaced (codes "none" ∷ state_at states.now state ∷ [])) }
 {
     add_word(text, b"none")?;
     add_word(text, name_at(states, state))
