@@ -68,7 +68,11 @@ pub(crate) fn rejection_line(alloc: Global, reason: &NamedRejection) -> Result<T
             line_of(alloc, b"rejected", &[b"start", signal.bytes()])
         }
         NamedRejection::Gate { signal, state } => {
-            line_of(alloc, b"rejected", &[b"gate", signal.bytes(), state.bytes()])
+            line_of(
+                alloc,
+                b"rejected",
+                &[b"gate", signal.bytes(), state.bytes()],
+            )
         }
     }
 }
@@ -123,7 +127,11 @@ fn too_large_line(alloc: Global, k: u32, states: u64) -> Result<Text, NoMemory>
     let Ok(states) = states.to_string(alloc) else {
         return Err(NoMemory);
     };
-    line_of(alloc, b"rejected", &[b"insert", k.as_bytes(), b"toolarge", states.as_bytes()])
+    line_of(
+        alloc,
+        b"rejected",
+        &[b"insert", k.as_bytes(), b"toolarge", states.as_bytes()],
+    )
 }
 
 /// The line of a reason against an insertion that shows two words.
@@ -152,5 +160,9 @@ fn line_of_three_shown<'a>(
     ensures { IfOk result (λ text. text ≡ line (codes "rejected" ∷ codes "insert" ∷ k.now
         ∷ what.now ∷ one.now ∷ second.now ∷ third.now ∷ [])) }
 {
-    line_of(alloc, b"rejected", &[b"insert", k, what, one, second, third])
+    line_of(
+        alloc,
+        b"rejected",
+        &[b"insert", k, what, one, second, third],
+    )
 }
