@@ -2,7 +2,7 @@
 use Rattle.std.proofs.Common.{◌≡◌, ℕ, Bool, true, false, List, [], ◌∷◌, ◌++◌, refl, Some, None, codes}
 use Rattle.si_base.specs.declared.fault.TextKind.TheVariants as kinds
 use Rattle.si_base.specs.declared.ids.Literal.{Literal}
-use Rattle.si_cell.specs.Library.{Library, instance_value}
+use Rattle.si_cell.specs.Library.{Library, instance_value, table_of}
 use Rattle.si_cell.specs.Expanded.{expanded}
 use Rattle.si_cell.specs.Literals.{in_literal_order}
 use Rattle.si_cell.specs.LibraryText.{library_fault, library_of}
@@ -78,6 +78,13 @@ mark_as_name = refl
 
 no_name : library_fault (four (codes ".cell = a")) ≡ Some (2, kinds.BadLine)
 no_name = refl
+
+-- a b + q is true at the codes 3 to 7, whatever the values of the two signals behind are
+table : table_of ((lit 0 true ∷ lit 1 true ∷ []) ∷ (lit 2 true ∷ []) ∷ []) ≡ 0xF8F8F8F8
+table = refl
+
+no_cube : table_of [] ≡ 0
+no_cube = refl
 
 -- the cell of the small library with the literals of signals 5 and 3, as the gate of signal 3
 value : instance_value small (record { cell = 0; literals = lit 5 true ∷ lit 3 false ∷ [] }) 32 true ≡ true

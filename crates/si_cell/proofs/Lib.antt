@@ -7,4 +7,5 @@ pub mod CellLemmas
 pub mod PartLemmas
 pub mod PlacedLemmas
 pub mod ExpandedLemmas
+mod TableLemmas
 pub mod LawLemmas

@@ -1,11 +1,12 @@
 -- Libraries of cells, and the values of their instances.
 use Rattle.std.specs.Prelude.{◌≡◌, ◌≢◌, ℕ, ◌<◌, ◌≤◌, ◌+◌, ◌*◌, Bool, List, [], ◌∷◌, ◌++◌, length, map, codes, if◌then◌else◌, slice_index_or, IsTrue, All, AllPairs}
+use Rattle.std.specs.List.{range_with_len}
 use Rattle.si_base.specs.declared.ids.Literal.{Literal}
 use Rattle.si_base.specs.Limits.{code_width}
 use Rattle.si_base.specs.Netlist.{Sum, literal_value, sum_value}
 use Rattle.si_base.specs.WellFormed.{IsSum}
 use Rattle.si_base.specs.Words.{is_signal_name}
-use Rattle.si_cell.specs.Limits.{max_cells, max_pins}
+use Rattle.si_cell.specs.Limits.{max_cells, max_pins, table_codes}
 
 -- the name that stands for a cell's own output
 abbrev pub own : List ℕ
@@ -71,6 +72,10 @@ pub record IsInstance (library : Library) (i : Instance) : Type 0 where
 abbrev pub code_of : List Bool → ℕ
 code_of [] = 0
 code_of (v ∷ vs) = (if v then 1 else 0) + 2 * code_of vs
+
+-- the truth table of a sum: bit i is its value at the code i
+abbrev pub table_of : Sum → ℕ
+table_of sum = code_of (map (λ code. sum_value code sum) (range_with_len 0 table_codes))
 
 -- the values of the pins, which are those of these literals at the code, and of the own output
 abbrev pub pin_values : List Literal → ℕ → Bool → ℕ

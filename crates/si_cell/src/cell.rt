@@ -1,8 +1,12 @@
 //! Cells, and instances of cells.
 
-use crate::limits::MAX_PINS;
+ghost use Rattle.std.specs.Prelude.{◌≡◌};
+ghost use Rattle.si_base.specs.Netlist.{sum_value};
+ghost use Rattle.si_cell.specs.Library as spec;
+
+use crate::limits::{MAX_PINS, TABLE_CODES};
 use arrayvec::ArrayVec;
-use si_base::ids::{Literal, Sig};
+use si_base::ids::{Code, Literal, Sig};
 use si_base::text::Name;
 use si_cube::sum::Sum;
 use std::marker::Model;
@@ -16,14 +20,54 @@ pub struct Cell {
     /// What it computes: signal i is the i-th pin, from 0, and the signal after the last pin is the
     /// cell's own output.
     pub sum: Sum,
+    table: u32,
 }
 
 impl Model for Cell {
-    ghost use Rattle.si_cell.specs.Library as spec;
-
     ghost Value = { spec.Cell };
 
     ghost view = { λ c. record { name = c.name; pins = c.pins.items; sum = c.sum } };
+
+    ghost invariant = { λ c. c.table ≡ spec.table_of c.sum };
+}
+
+impl Cell {
+    /// The cell of this name, these pins and this sum.
+    pub fn new(name: Name, pins: Vec<Name>, sum: Sum) -> Cell
+        ensures { result ≡ record { name = name; pins = pins.items; sum = sum } }
+    {
+        let table = table_of(&sum);
+        Cell {
+            name,
+            pins,
+            sum,
+            table,
+        }
+    }
+
+    /// The value of its sum at the code, in which bit i is the value of the i-th pin, and the bit
+    /// after the last pin's that of the own output.
+    pub fn value(&self, code: Code) -> bool
+        ensures { result ≡ sum_value code self.now.sum }
+    {
+        if code.0 < u128::from(TABLE_CODES) {
+            self.table >> code.0 & 1 == 1
+        } else {
+            self.sum.value(code)
+        }
+    }
+}
+
+/// The truth table of a sum: bit i is its value at the code i.
+fn table_of(sum: &Sum) -> u32
+    ensures { result ≡ spec.table_of sum.now }
+{
+    let mut table = 0;
+    for k in 0..TABLE_CODES {
+        let code = Code(u128::from(TABLE_CODES - 1 - k));
+        table = u32::from(sum.value(code)) + 2 * table;
+    }
+    table
 }
 
 /// The literal at a pin. Contracts see the literal.
@@ -59,8 +103,6 @@ pub struct Instance {
 }
 
 impl Model for Instance {
-    ghost use Rattle.si_cell.specs.Library as spec;
-
     ghost Value = { spec.Instance };
 
     ghost view = { λ i. record { cell = i.cell; literals = i.literals.items } };

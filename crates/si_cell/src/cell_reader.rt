@@ -136,5 +136,5 @@ pub(crate) fn read_cell(
     let sum = read_sum(alloc, &declared, words.sum)?;
     let name = Name::copy_of(alloc, words.name)?;
     let pins = names_of(alloc, words.pins)?;
-    Ok(Cell { name, pins, sum })
+    Ok(Cell::new(name, pins, sum))
 }

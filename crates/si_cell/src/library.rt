@@ -67,7 +67,7 @@ impl Library {
         ensures { result ≡ instance_value self.now instance.now code q }
     {
         let values = values_of(instance.literals.as_slice(), code, q);
-        self.cell(instance.cell).sum.value(values)
+        self.cell(instance.cell).value(values)
     }
 }
 

@@ -127,7 +127,7 @@ fn cell_of(alloc: Global, cells: &[Cell], gate: &Gate<'_>) -> Result<Cell, NoMem
     let name = Name::copy_of(alloc, name.as_slice())?;
     let pins = pin_names(alloc, count)?;
     let sum = sum_of(alloc, bits, count, gate.table)?;
-    Ok(Cell { name, pins, sum })
+    Ok(Cell::new(name, pins, sum))
 }
 
 /// Adds the cell of a gate, if it isn't passed over.

@@ -10,22 +10,21 @@ ghost use Rattle.si_match.specs.Search.{IsRefuted, IsRefutedAt, AgreeOutside};
 use si_base::ids::{Code, Sig, StateId};
 use si_cell::cell::{Cell, PinLiteral};
 use si_cell::library::values_of;
-use si_cube::sum::Sum;
 use si_graph::coded::Coded;
 
-/// Whether the sum has the value at one of the codes that differ from this one only at signals from
-/// `from` on, up to `to`.
-fn can_be(sum: &Sum, values: Code, from: usize, to: usize, value: bool) -> bool
+/// Whether the cell's sum has the value at one of the codes that differ from this one only at
+/// signals from `from` on, up to `to`.
+fn can_be(cell: &Cell, values: Code, from: usize, to: usize, value: bool) -> bool
     requires { to < code_width }
     ensures { result ≡ false → (other : ℕ) → AgreeOutside from to values other
-        → sum_value other sum.now ≡ value → ⊥ }
+        → sum_value other cell.now.sum ≡ value → ⊥ }
 {
     if from >= to {
-        return sum.value(values) == value;
+        return cell.value(values) == value;
     }
     let pin = Sig(from as u8);
-    can_be(sum, values.set(pin, false), from + 1, to, value)
-        || can_be(sum, values.set(pin, true), from + 1, to, value)
+    can_be(cell, values.set(pin, false), from + 1, to, value)
+        || can_be(cell, values.set(pin, true), from + 1, to, value)
 }
 
 /// Whether at the state no instance of the cell with these literals at its first pins has the next
@@ -43,13 +42,7 @@ fn is_refuted_at(coded: &Coded, z: Sig, cell: &Cell, literals: &[PinLiteral], s:
     let code = coded.code(s);
     let pins = cell.pins.len();
     let values = values_of(literals, code, false).set(Sig(pins as u8), code.get(z));
-    !can_be(
-        &cell.sum,
-        values,
-        literals.len(),
-        pins,
-        coded.next_value(s, z),
-    )
+    !can_be(cell, values, literals.len(), pins, coded.next_value(s, z))
 }
 
 /// Whether one of the states refutes all instances of the cell with these literals at its first

@@ -23,7 +23,7 @@ fn suits(coded: &Coded, z: Sig, cell: &Cell, literals: &[PinLiteral], s: StateId
 {
     let code = coded.code(s);
     let values = values_of(literals, code, code.get(z));
-    cell.sum.value(values) == coded.next_value(s, z)
+    cell.value(values) == coded.next_value(s, z)
 }
 
 /// Whether it does so at every state.
