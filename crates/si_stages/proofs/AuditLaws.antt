@@ -19,14 +19,14 @@ use Rattle.si_netlist_reader.proofs.WriteLaw.{written_reads}
 use Rattle.si_sg.specs.GivenGraph.{IsGivenBy}
 use Rattle.si_stages.specs.AuditLaws.{MappedPass, PassesAudit, SynthesisedPass}
 use Rattle.si_stages.specs.Audited.{IsCertified, audit_text}
-use Rattle.si_stages.specs.Checks.{IsSound}
+use Rattle.si_readings.specs.Checks.{IsSound}
 use Rattle.si_stages.specs.Written.{IsWritten}
 use Rattle.si_stages.proofs.AuditLemmas.{certified_output}
 use Rattle.si_stages.proofs.GivenLineages.{given_lineage}
 use Rattle.si_stages.proofs.MappingLemmas.{mapped_lineage}
-use Rattle.si_stages.proofs.ReadingLemmas.{mapping_readings_are}
+use Rattle.si_readings.proofs.ReadingLemmas.{mapping_readings_are}
 use Rattle.si_stages.proofs.ResolutionLemmas.{resolution_is}
-use Rattle.si_stages.proofs.StageLemmas.{passed}
+use Rattle.si_readings.proofs.StageLemmas.{passed}
 use Rattle.si_stages.proofs.WrittenLemmas.{has_insertions}
 
 reads_back : (n : Netlist) → IsNetlist n → (netlist_fault (netlist_text n) ≡ None) × (netlist_of (netlist_text n) ≡ n)

@@ -33,15 +33,15 @@ use Rattle.si_sg.specs.CanonicalText.{event_word}
 use Rattle.si_sg.specs.GivenGraph.{IsGivenBy}
 use Rattle.si_stages.specs.Audited.{EndsOrRejects, IsAudit, IsCertified, IsNamedSo, IsRejection, TellsRejection}
 use Rattle.si_stages.specs.Audited.{audit_text, audited}
-use Rattle.si_stages.specs.Checks.{IsSound}
-use Rattle.si_stages.specs.Laws.{AtMostOne, HasResult}
+use Rattle.si_readings.specs.Checks.{IsSound}
+use Rattle.si_readings.specs.Laws.{AtMostOne, HasResult}
 use Rattle.si_stages.specs.Meaning.{audit}
-use Rattle.si_stages.specs.Readings.{AuditReadings}
-use Rattle.si_stages.proofs.CheckLemmas.{proper_one, match_lists_one}
-use Rattle.si_stages.proofs.ReadingLemmas.{AreAuditReadings, audit_readings_are, audit_readings_one, audit_readings_some}
-use Rattle.si_stages.proofs.ReplayLemmas.{as_many_names}
-use Rattle.si_stages.proofs.SomeLemmas.{match_lists_some, proper_some}
-use Rattle.si_stages.proofs.StageLemmas.{passed, then_one, then_some}
+use Rattle.si_readings.specs.Readings.{AuditReadings}
+use Rattle.si_readings.proofs.CheckLemmas.{proper_one, match_lists_one}
+use Rattle.si_readings.proofs.ReadingLemmas.{AreAuditReadings, audit_readings_are, audit_readings_one, audit_readings_some}
+use Rattle.si_readings.proofs.GivenNames.{as_many_names}
+use Rattle.si_readings.proofs.SomeLemmas.{match_lists_some, proper_some}
+use Rattle.si_readings.proofs.StageLemmas.{passed, then_one, then_some}
 
 -- ---- a fault that is told has one name
 not_memory : (signals : List Signal) (f : AuditFault) (r : NamedRejection) → IsNamedSo signals f r

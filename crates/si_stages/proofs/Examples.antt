@@ -1,62 +1,23 @@
--- A breach by its names, the summary of a graph, texts of a replay and its end, literals: the definitions at work.
-use Rattle.std.proofs.Common.{◌≡◌, ℕ, Bool, List, [], ◌∷◌, ◌++◌, Some, None, refl, ap, true, false, codes, append_assoc}
+-- The summary of a graph, the end of a replay, literals, an audit: the definitions at work.
+use Rattle.std.proofs.Common.{◌≡◌, ℕ, Bool, List, [], ◌∷◌, ◌++◌, refl, ap, true, false, codes, append_assoc}
 use Rattle.std.specs.Prelude.{decimal}
 use Rattle.si_audit.specs.declared.fault.AuditFault.TheVariants as fault
-use Rattle.si_base.specs.Codes.{CodedGraph, IsConsistent, IsDeterministic}
-use Rattle.si_base.specs.Graph.{StateGraph}
+use Rattle.si_base.specs.Codes.{CodedGraph}
 use Rattle.si_base.specs.Netlist.{Netlist, SumGate, Gc}
-use Rattle.si_base.specs.Order.{IsFirst}
-use Rattle.si_base.specs.Proper.{IsCommutative, Loss, Loses, loss_place}
 use Rattle.si_base.specs.declared.graph.Signal.{Signal}
 use Rattle.si_base.specs.declared.graph.SigKind.TheVariants.{Input, Output}
 use Rattle.si_base.specs.declared.ids.Literal.{Literal}
-use Rattle.si_base.specs.declared.fault.TextKind.TheVariants.{NoEnd, Toggle, Undeclared}
-use Rattle.si_netlist_reader.specs.NetlistFault.{netlist_fault}
-use Rattle.si_netlist_reader.specs.NetlistValue.{netlist_of}
-use Rattle.si_checks.specs.Laws.{HasLoss}
 use Rattle.si_insert.specs.declared.accept.Rejected.TheVariants as why
 use Rattle.si_insert.specs.Lineage.{History, as_given}
-use Rattle.si_refusals.specs.declared.breach.NamedBreach.{NamedBreach}
-use Rattle.si_refusals.specs.declared.breach.NamedBreach.TheVariants.{Nonpersistent}
-use Rattle.si_refusals.specs.Ending.{Answered, line_of}
-use Rattle.si_refusals.specs.Refusal.{TextRefused, Improper}
 use Rattle.si_refusals.specs.declared.rejection.NamedRejection.TheVariants.{Delays, Gate}
 use Rattle.si_stages.specs.Audited.{IsNamedSo, audit_text}
-use Rattle.si_stages.specs.Checks.{breach_name}
 use Rattle.si_stages.specs.Exercise.{literals_of}
 use Rattle.si_stages.specs.Replayed.{replay_text, shown_signal}
 use Rattle.si_stages.specs.Reports.{summary}
-use Rattle.si_system.specs.ScheduleText.{signal_names, schedule_fault, schedule_of}
 use Rattle.si_system.specs.declared.verdict.Verdict.TheVariants.{Lost, Blocked}
 
 abbrev two_signals : List Signal
 two_signals = record { name = codes "b"; kind = Input } ∷ record { name = codes "z"; kind = Output } ∷ []
-
--- ---- a breach by its names
--- at `s0` the event `b+` disables the event `z+`
-abbrev loss : Loss
-loss = record { s = 0; lost = record { sig = 1; up = true }; by = record { sig = 0; up = true } }
-
-abbrev three_states : StateGraph
-three_states = record {
-  signals = two_signals;
-  states = 3;
-  edges = record { from = 0; event = record { sig = 0; up = true }; to = 1 }
-      ∷ record { from = 0; event = record { sig = 1; up = true }; to = 2 }
-      ∷ [];
-  start = 0;
-}
-
-abbrev shown_loss : NamedBreach
-shown_loss = Nonpersistent (codes "s0") (codes "z+") (codes "b+")
-
-loss_name : (d : IsDeterministic three_states) (v : IsConsistent three_states) (q : IsCommutative three_states)
-    (first : IsFirst loss_place (Loses three_states) loss)
-    → breach_name (codes "s0" ∷ codes "s1" ∷ codes "s2" ∷ []) (HasLoss d v q loss first) ≡ Some shown_loss
-loss_name d v q first = refl
-
-loss_line : line_of (Answered (TextRefused (Improper shown_loss))) ≡ codes "nonpersistent s0 z+ b+\n"
-loss_line = refl
 
 -- ---- the summary of a graph
 abbrev two_states : CodedGraph
@@ -81,36 +42,6 @@ summary_text : summary two_states
 summary_text =
     three_ends (decimal 2) (decimal 2) (decimal 1) (codes "proper\nsignals ") (codes "states ") (codes "arcs ")
     (codes "start 10\n")
-
--- ---- the texts of a replay
-abbrev element : List ℕ
-element =
-    codes ".model c2\n.inputs a b\n.outputs c\n.internal\n.inserted\n.start 000\n.gates\nc sum a b + b c + a c\n.end\n"
-
-cut_short : netlist_fault (codes ".model c2\n.inputs a b\n") ≡ Some (3, NoEnd)
-unfolding netlist_fault
-cut_short = refl
-
-element_good : netlist_fault element ≡ None
-unfolding netlist_fault
-element_good = refl
-
-element_names : signal_names (netlist_of element).signals ≡ codes "a" ∷ codes "b" ∷ codes "c" ∷ []
-unfolding netlist_of
-element_names = refl
-
-toggle_fault : schedule_fault (signal_names (netlist_of element).signals) (codes "a+ b+\n\nc~") ≡ Some (3, Toggle)
-unfolding netlist_of
-toggle_fault = refl
-
-undeclared_fault : schedule_fault (signal_names (netlist_of element).signals) (codes "a+ d-/2") ≡ Some (1, Undeclared)
-unfolding netlist_of
-undeclared_fault = refl
-
-two_events : schedule_of (signal_names (netlist_of element).signals) (codes "a+ # first\nc-/2")
-    ≡ record { sig = 0; up = true } ∷ record { sig = 2; up = false } ∷ []
-unfolding netlist_of
-two_events = refl
 
 -- ---- the end of a replay
 -- the signal of a lost excitation is shown, and else the event's

@@ -20,14 +20,14 @@ use Rattle.si_insert.specs.Lineage.{AllGiven, History}
 use Rattle.si_sg.proofs.WholeLaw.{read_back}
 use Rattle.si_sg.specs.CanonicalText.{sg_text}
 use Rattle.si_sg.specs.GivenGraph.{IsGivenBy}
-use Rattle.si_stages.specs.Checks.{IsSound}
+use Rattle.si_readings.specs.Checks.{IsSound}
 use Rattle.si_stages.specs.Exercise.{IsExercise, as_it_is, exercise, exercise_text}
-use Rattle.si_stages.specs.Laws.{AtMostOne, HasResult}
+use Rattle.si_readings.specs.Laws.{AtMostOne, HasResult}
 use Rattle.si_stages.specs.Synthesis.{IsSynthesis}
-use Rattle.si_stages.proofs.CheckLemmas.{coded_unique}
+use Rattle.si_readings.proofs.CheckLemmas.{coded_unique}
 use Rattle.si_stages.proofs.GivenLineages.{IsGivenLineage, given_lineage, given_signals}
 use Rattle.si_stages.proofs.ResolutionLemmas.{IsResolution}
-use Rattle.si_stages.proofs.StageLemmas.{shows_one, shows_some}
+use Rattle.si_readings.proofs.StageLemmas.{shows_one, shows_some}
 use Rattle.si_stages.proofs.Synthesis.{is_synthesis}
 
 -- the netlist that is counted

@@ -9,15 +9,15 @@ use Rattle.si_fold.proofs.FoldLemmas.{folded_is_coded}
 use Rattle.si_insert.specs.Lineage.{History}
 use Rattle.si_sg.proofs.UniqueLemmas.{given_unique}
 use Rattle.si_sg.specs.GivenGraph.{IsGivenBy}
-use Rattle.si_stages.specs.Checks.{IsSound}
+use Rattle.si_readings.specs.Checks.{IsSound}
 use Rattle.si_stages.specs.Fold.{IsFoldText}
 use Rattle.si_stages.specs.FoldLaws.{GivesFolded, ImplementsGiven, FoldTextsReadBack}
 use Rattle.si_stages.specs.FoldLaws.{FoldTextsAreMapped, FoldTextsAreSynthesised}
-use Rattle.si_stages.proofs.CheckLemmas.{coded_unique}
+use Rattle.si_readings.proofs.CheckLemmas.{coded_unique}
 use Rattle.si_stages.specs.Written.{IsWritten}
 use Rattle.si_stages.proofs.FoldTexts.{reads_back}
-use Rattle.si_stages.proofs.ReadingLemmas.{mapping_readings_are}
-use Rattle.si_stages.proofs.StageLemmas.{passed}
+use Rattle.si_readings.proofs.ReadingLemmas.{mapping_readings_are}
+use Rattle.si_readings.proofs.StageLemmas.{passed}
 
 gives_folded : (text output : List ℕ) (given : Sg) → IsGivenBy text given → (coded : CodedGraph)
     → IsSound given.graph coded → IsFoldText given.model given.states coded output → GivesFolded text output

@@ -34,7 +34,7 @@ use Rattle.si_sg.proofs.GivenNames.{given_named}
 use Rattle.si_sg.proofs.GivenStates.{given_states}
 use Rattle.si_sg.proofs.WholeLaw.{read_back}
 use Rattle.si_words.specs.Ends.{after_last}
-use Rattle.si_stages.specs.Checks.{IsSound}
+use Rattle.si_readings.specs.Checks.{IsSound}
 use Rattle.si_stages.specs.Fold.{IsFoldedGraph}
 
 -- ---- a given graph is within the limits on what is read

@@ -10,12 +10,12 @@ use Rattle.si_genlib.proofs.WrittenLaw.{text_reads_back}
 use Rattle.si_refusals.specs.Refusal.{TextRefusal}
 use Rattle.si_refusals.specs.Stages.{Stage, Then, Refuses, Passes, gives}
 use Rattle.si_stages.specs.Genlib.{IsItsLibrary, genlib}
-use Rattle.si_stages.specs.Laws.{AtMostOne, HasResult}
+use Rattle.si_readings.specs.Laws.{AtMostOne, HasResult}
 use Rattle.si_stages.specs.Meaning.{mapping}
-use Rattle.si_stages.specs.Readings.{MappingReadings, TellsFault, library_in, mapping_readings}
-use Rattle.si_stages.specs.declared.library_format.LibraryFormat.TheVariants.{Own, Genlib}
-use Rattle.si_stages.proofs.ReadingLemmas.{mapping_readings_are}
-use Rattle.si_stages.proofs.StageLemmas.{then_one, then_some, spelled_one, spelled_some, gives_one, gives_some}
+use Rattle.si_readings.specs.Readings.{MappingReadings, TellsFault, library_in, mapping_readings}
+use Rattle.si_readings.specs.declared.library_format.LibraryFormat.TheVariants.{Own, Genlib}
+use Rattle.si_readings.proofs.ReadingLemmas.{mapping_readings_are}
+use Rattle.si_readings.proofs.StageLemmas.{then_one, then_some, spelled_one, spelled_some, gives_one, gives_some}
 
 pub genlib_one : (file text : List ℕ) → AtMostOne (genlib file text)
 genlib_one file text = then_one _ _ (spelled_one file _ _) (λ cells spelt. gives_one (library_text cells))

@@ -1,14 +1,9 @@
-pub mod HandedOn
-pub mod Breaches
-pub mod StageLemmas
 pub mod FoldLemmas
 pub mod FoldTexts
 pub mod ReportLemmas
 pub mod LiteralCounts
-pub mod CheckLemmas
 pub mod ReplayLemmas
-pub mod SomeLemmas
-pub mod ReadingLemmas
+pub mod ReplayEnds
 pub mod ResolvingLemmas
 pub mod ResolutionLemmas
 pub mod GivenLineages

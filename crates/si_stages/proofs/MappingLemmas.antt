@@ -32,12 +32,12 @@ use Rattle.si_refusals.specs.Ending.{Ending, Answered, MayStop}
 use Rattle.si_refusals.specs.Ending as ending
 use Rattle.si_refusals.specs.Refusal.{TextRefused}
 use Rattle.si_sg.specs.GivenGraph.{IsGivenBy}
-use Rattle.si_stages.specs.Laws.{AtMostOne, HasResult}
+use Rattle.si_readings.specs.Laws.{AtMostOne, HasResult}
 use Rattle.si_stages.specs.Mapping.{EndsInCells, EndsUnfit, IsMapping, TellsStuck}
 use Rattle.si_stages.specs.Mapping.{cells_text, shows_unfit, unfit_refusal}
-use Rattle.si_stages.specs.Readings.{fault_in, library_from}
-use Rattle.si_stages.specs.declared.library_format.LibraryFormat.{LibraryFormat}
-use Rattle.si_stages.specs.declared.library_format.LibraryFormat.TheVariants.{Own, Genlib}
+use Rattle.si_readings.specs.Readings.{fault_in, library_from}
+use Rattle.si_readings.specs.declared.library_format.LibraryFormat.{LibraryFormat}
+use Rattle.si_readings.specs.declared.library_format.LibraryFormat.TheVariants.{Own, Genlib}
 use Rattle.si_stages.proofs.GivenLineages.{IsGivenLineage, given_lineage}
 use Rattle.si_stages.proofs.ResolutionLemmas.{IsResolution}
 use Rattle.si_stages.proofs.ResolvingLemmas.{AreNamed, fresh_named, named_after, none_needed, same_history}

@@ -17,27 +17,28 @@ use Rattle.si_refusals.specs.Refusal.{TextRefusal}
 use Rattle.si_refusals.specs.Stages.{Stage, Then, Passes}
 use Rattle.si_sg.specs.GivenGraph.{IsGivenBy}
 use Rattle.si_system.specs.ScheduleText.{signal_names, schedule_fault, schedule_of}
-use Rattle.si_stages.specs.Checks.{IsSound}
-use Rattle.si_stages.specs.Laws.{AtMostOne, HasResult, EndsOrDeparts}
+use Rattle.si_readings.specs.Checks.{IsSound}
+use Rattle.si_readings.specs.Laws.{AtMostOne, HasResult}
+use Rattle.si_stages.specs.Laws.{EndsOrDeparts}
 use Rattle.si_stages.specs.Laws.{FreeGraphsAreMapped, FreeGraphsAreSynthesised}
 use Rattle.si_stages.specs.Mapping.{EndsInCells}
 use Rattle.si_stages.specs.Meaning.{report, synth, mapping, replay}
-use Rattle.si_stages.specs.Readings.{MappingReadings, ReplayReadings, library_from, mapping_readings}
+use Rattle.si_readings.specs.Readings.{MappingReadings, ReplayReadings, library_from, mapping_readings}
 use Rattle.si_stages.specs.Resolving.{resolution}
-use Rattle.si_stages.specs.declared.library_format.LibraryFormat.{LibraryFormat}
+use Rattle.si_readings.specs.declared.library_format.LibraryFormat.{LibraryFormat}
 use Rattle.si_stages.specs.declared.report_kind.Report.{Report}
-use Rattle.si_stages.proofs.CheckLemmas.{graph_one, proper_one, match_lists_one, replay_end_one}
+use Rattle.si_readings.proofs.CheckLemmas.{graph_one, proper_one, match_lists_one}
 use Rattle.si_stages.proofs.GivenLineages.{given_lineage}
 use Rattle.si_stages.proofs.MappingLemmas.{cells_text_one, cells_text_some, is_library, is_mapping}
-use Rattle.si_stages.proofs.ReadingLemmas.{mapping_readings_are, mapping_readings_one, mapping_readings_some}
-use Rattle.si_stages.proofs.ReadingLemmas.{replay_readings_given, replay_readings_one, replay_readings_some}
-use Rattle.si_stages.proofs.ReplayLemmas.{given_named_states}
+use Rattle.si_readings.proofs.ReadingLemmas.{mapping_readings_are, mapping_readings_one, mapping_readings_some}
+use Rattle.si_readings.proofs.ReadingLemmas.{replay_readings_given, replay_readings_one, replay_readings_some}
+use Rattle.si_readings.proofs.GivenNames.{given_named_states}
 use Rattle.si_stages.proofs.ReportLemmas.{told_one, told_some}
 use Rattle.si_stages.proofs.ResolutionLemmas.{IsResolution, resolution_is, resolution_of}
 use Rattle.si_stages.proofs.ResolutionLemmas.{resolution_one, resolution_some}
-use Rattle.si_stages.proofs.SomeLemmas.{graph_some, proper_some, match_lists_some}
-use Rattle.si_stages.proofs.SomeLemmas.{ends_or_departs, replay_end_some}
-use Rattle.si_stages.proofs.StageLemmas.{then_one, then_some}
+use Rattle.si_readings.proofs.SomeLemmas.{graph_some, proper_some, match_lists_some}
+use Rattle.si_stages.proofs.ReplayEnds.{ends_or_departs, replay_end_one, replay_end_some}
+use Rattle.si_readings.proofs.StageLemmas.{then_one, then_some}
 use Rattle.si_stages.proofs.Synthesis.{is_synthesis, synthesis_one, synthesis_some}
 
 -- ---- to one answer at most

@@ -1,21 +1,15 @@
 -- Where the schedule of a replay ends.
 use Rattle.std.proofs.Common.{◌≡◌, ℕ, ◌<◌, List, [], ◌∷◌, length, Option, Some, sym, ap, subst, ◌∙◌, arith}
-use Rattle.std.proofs.lemmas.List.{length-map}
 use Rattle.si_base.specs.declared.ids.Event.{Event}
 use Rattle.si_base.specs.declared.graph.SigKind.{SigKind}
 use Rattle.si_base.specs.declared.graph.SigKind.TheVariants.{Input, Output, Internal, Inserted}
 use Rattle.si_base.specs.Graph.{StateGraph, IsGraph}
-use Rattle.si_base.specs.Codes.{CodedGraph}
 use Rattle.si_base.specs.Netlist.{Netlist}
-use Rattle.si_base.specs.GivenGraph.{Sg}
-use Rattle.si_sg.specs.GivenGraph.{IsGivenBy}
 use Rattle.si_base.specs.System.{State, May, Fires, start}
 use Rattle.si_base.proofs.Circuit.{step_within}
-use Rattle.si_graph.proofs.CutLemmas.{cut_connected}
 use Rattle.si_system.specs.Outcome.{Passes as PassesAll, IsOutcome}
 use Rattle.si_system.specs.declared.replay.Outcome.{Outcome}
 use Rattle.si_system.specs.declared.replay.Outcome.TheVariants as outcome
-use Rattle.si_stages.specs.Checks.{IsNamed, match_lists}
 use Rattle.si_refusals.specs.Ending.{Ending, NoMemory, Answered, MayStop}
 use Rattle.si_refusals.specs.Refusal.{TextRefused}
 use Rattle.si_stages.specs.Outcomes.{HasName, TellsEnd, TellsDeparture}
@@ -54,25 +48,7 @@ pub ends_inside : (g : StateGraph) (n : Netlist) (es : List Event) (values state
 ends_inside g n es values state is out =
     passes_inside g n (start g n) es out.0 is (starts_inside g n is) out.1 state out.3
 
--- there is a name for each state of the given graph
-pub as_many_names : (text : List ℕ) (given : Sg) → IsGivenBy text given → length given.states ≡ given.graph.states
-as_many_names text given is =
-    ap length is.is.given.states_are ∙ length-map is.is.given.kept _ ∙ sym is.is.given.cut.count
-
--- each state of the given graph is reachable, and has a name
-pub given_named_states : (text : List ℕ) (given : Sg) → IsGivenBy text given → IsNamed given.graph given.states
-given_named_states text given is = record {
-  is_graph = is.is.given.cut.graph;
-  connected = cut_connected is.is.whole is.is.given.kept given.graph is.is.given.cut;
-  names = as_many_names text given is;
-}
-
 -- ---- what an outcome tells
-
--- whichever form of the graph was looked at
-pub match_over : (file : List ℕ) (k p : CodedGraph) (net : Netlist) (e : Ending) → k ≡ p
-    → MayStop (match_lists file k net) e → MayStop (match_lists file p net) e
-match_over file k p net e same may = subst (λ (c : CodedGraph). MayStop (match_lists file c net) e) same may
 
 pub has_name : (graph : StateGraph) (states : List (List ℕ)) (net : Netlist) (events : List Event) (o : Outcome)
     → IsGraph graph → length states ≡ graph.states → IsOutcome graph net (start graph net) events o

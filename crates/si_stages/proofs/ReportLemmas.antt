@@ -4,12 +4,12 @@ use Rattle.si_base.specs.Codes.{CodedGraph, IsCoded}
 use Rattle.si_listings.proofs.CoverLemmas.{one_cover_text, some_cover_text}
 use Rattle.si_listings.proofs.ListingLemmas.{one_region_text, one_conflict_text}
 use Rattle.si_listings.proofs.ListingsExist.{some_region_text, some_conflict_text}
-use Rattle.si_stages.specs.Laws.{AtMostOne, HasResult}
+use Rattle.si_readings.specs.Laws.{AtMostOne, HasResult}
 use Rattle.si_stages.specs.Reports.{summary, told}
 use Rattle.si_stages.specs.declared.report_kind.Report.{Report}
 use Rattle.si_stages.specs.declared.report_kind.Report.TheVariants.{Summary, Regions, Conflicts, Covers, Fold}
 use Rattle.si_stages.proofs.FoldLemmas.{one_fold_text, some_fold_text}
-use Rattle.si_stages.proofs.StageLemmas.{gives_one, gives_some, shows_one, shows_some}
+use Rattle.si_readings.proofs.StageLemmas.{gives_one, gives_some, shows_one, shows_some}
 
 pub told_one : (what : Report) (model : List ℕ) (states : List (List ℕ)) (coded : CodedGraph) → IsCoded coded
     → AtMostOne (told what model states coded)

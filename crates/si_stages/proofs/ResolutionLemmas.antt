@@ -8,13 +8,13 @@ use Rattle.si_insert.specs.Lineage.{History, as_given}
 use Rattle.si_refusals.specs.Stages.{Passes, Refuses}
 use Rattle.si_resolve.specs.Trace.{ResolvesTo}
 use Rattle.si_sg.specs.GivenGraph.{IsGivenBy}
-use Rattle.si_stages.specs.Checks.{IsSound}
-use Rattle.si_stages.specs.Laws.{AtMostOne, HasResult}
+use Rattle.si_readings.specs.Checks.{IsSound}
+use Rattle.si_readings.specs.Laws.{AtMostOne, HasResult}
 use Rattle.si_stages.specs.Resolving.{EndsWithoutConflict, resolution}
-use Rattle.si_stages.proofs.CheckLemmas.{proper_one}
+use Rattle.si_readings.proofs.CheckLemmas.{proper_one}
 use Rattle.si_stages.proofs.ResolvingLemmas.{lineage_one, lineage_some}
-use Rattle.si_stages.proofs.SomeLemmas.{proper_some}
-use Rattle.si_stages.proofs.StageLemmas.{no_refusal, then_one, then_some}
+use Rattle.si_readings.proofs.SomeLemmas.{proper_some}
+use Rattle.si_readings.proofs.StageLemmas.{no_refusal, then_one, then_some}
 
 pub resolution_one : (graph : StateGraph) (states : List (List ℕ)) → AtMostOne (resolution graph states)
 resolution_one graph states =

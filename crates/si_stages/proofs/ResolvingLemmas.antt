@@ -22,7 +22,7 @@ use Rattle.si_insert.proofs.FreshNames.{stays_signal_name}
 use Rattle.si_resolve.specs.Trace.{IsResolving, ResolvesTo, EndsUnresolved}
 use Rattle.si_resolve.proofs.EndsExist.{resolving_ends}
 use Rattle.si_resolve.proofs.Traces.{resolved_is_unique, unresolved_is_unique, ends_exclude, traces_are_lineages}
-use Rattle.si_stages.specs.Laws.{AtMostOne, HasResult}
+use Rattle.si_readings.specs.Laws.{AtMostOne, HasResult}
 use Rattle.si_stages.specs.Resolving.{conflict_refusal, lineage_of}
 
 -- ---- one result

@@ -12,12 +12,12 @@ use Rattle.si_circuit.proofs.RightLemmas.{chosen_are_prime, chosen_give}
 use Rattle.si_insert.specs.Lineage.{History, as_given}
 use Rattle.si_insert.proofs.Kept.{keeps}
 use Rattle.si_sg.specs.GivenGraph.{IsGivenBy}
-use Rattle.si_stages.specs.Laws.{AtMostOne, HasResult}
+use Rattle.si_readings.specs.Laws.{AtMostOne, HasResult}
 use Rattle.si_stages.specs.Synthesis.{IsSynthesis, synthesis}
 use Rattle.si_stages.proofs.GivenLineages.{given_lineage}
 use Rattle.si_stages.proofs.ResolutionLemmas.{IsResolution}
 use Rattle.si_stages.proofs.ResolvingLemmas.{none_needed}
-use Rattle.si_stages.proofs.StageLemmas.{shows_one, shows_some}
+use Rattle.si_readings.proofs.StageLemmas.{shows_one, shows_some}
 use Rattle.si_stages.proofs.WrittenLemmas.{is_written, no_insertion}
 
 pub is_synthesis : (style : Style) (text : List ℕ) (sg : Sg) (l : History) (output : List ℕ) → IsGivenBy text sg

@@ -6,10 +6,10 @@ use Rattle.si_netlist_reader.specs.NetlistValue.{netlist_of}
 use Rattle.si_netlist_reader.proofs.ReadLaw.{read_is_netlist}
 use Rattle.si_refusals.specs.Refusal.{TextRefusal}
 use Rattle.si_refusals.specs.Stages.{Then, Refuses, Passes, gives}
-use Rattle.si_stages.specs.Laws.{AtMostOne, HasResult}
-use Rattle.si_stages.specs.Readings.{TellsFault, netlist_in}
+use Rattle.si_readings.specs.Laws.{AtMostOne, HasResult}
+use Rattle.si_readings.specs.Readings.{TellsFault, netlist_in}
 use Rattle.si_stages.specs.Verilog.{IsItsModule, verilog}
-use Rattle.si_stages.proofs.StageLemmas.{then_one, then_some, spelled_one, spelled_some, gives_one, gives_some}
+use Rattle.si_readings.proofs.StageLemmas.{then_one, then_some, spelled_one, spelled_some, gives_one, gives_some}
 use Rattle.si_verilog.specs.Meaning.{MeansNetlist}
 use Rattle.si_verilog.specs.ModuleText.{verilog_text}
 use Rattle.si_verilog.proofs.ModuleLemmas.{text_means}

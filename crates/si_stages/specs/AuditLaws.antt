@@ -2,7 +2,7 @@
 use Rattle.std.specs.Prelude.{ℕ, List, Ok}
 use Rattle.si_circuit.specs.declared.style.Style.{Style}
 use Rattle.si_stages.specs.Meaning.{audit, mapping, synth}
-use Rattle.si_stages.specs.declared.library_format.LibraryFormat.{LibraryFormat}
+use Rattle.si_readings.specs.declared.library_format.LibraryFormat.{LibraryFormat}
 
 -- the netlist of the one text is certified for the graph of the other: their audit comes to an
 -- output, whatever the names of their files

@@ -25,7 +25,7 @@ use Rattle.si_refusals.specs.declared.rejection.NamedRejection.TheVariants.{Dela
 use Rattle.si_refusals.specs.declared.rejection.NamedRejection.TheVariants.{TooLarge, Start, Gate}
 use Rattle.si_sg.specs.CanonicalText.{event_word}
 use Rattle.si_sg.specs.GivenGraph.{IsGivenBy}
-use Rattle.si_stages.specs.Checks.{IsSound}
+use Rattle.si_readings.specs.Checks.{IsSound}
 
 -- how many signals are inserted, how many states the last graph has, and how many gates there are
 abbrev pub audit_text : History → Netlist → List ℕ

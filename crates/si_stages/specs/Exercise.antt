@@ -12,7 +12,7 @@ use Rattle.si_handshakes.specs.Handshakes.{IsHandshakes}
 use Rattle.si_insert.specs.Lineage.{History, as_given}
 use Rattle.si_refusals.specs.Refusal.{TextRefusal}
 use Rattle.si_refusals.specs.Stages.{Stage, shows}
-use Rattle.si_stages.specs.Checks.{IsSound}
+use Rattle.si_readings.specs.Checks.{IsSound}
 use Rattle.si_stages.specs.Reports.{count_line}
 
 -- the number of literals of the cubes of a gate's sums

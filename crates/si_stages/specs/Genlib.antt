@@ -6,8 +6,8 @@ use Rattle.si_genlib.specs.GenlibText as gates
 use Rattle.si_genlib.specs.Written.{library_text}
 use Rattle.si_refusals.specs.Refusal.{TextRefusal}
 use Rattle.si_refusals.specs.Stages.{Stage, ◌>>=◌, gives}
-use Rattle.si_stages.specs.Readings.{library_in}
-use Rattle.si_stages.specs.declared.library_format.LibraryFormat.TheVariants.{Genlib}
+use Rattle.si_readings.specs.Readings.{library_in}
+use Rattle.si_readings.specs.declared.library_format.LibraryFormat.TheVariants.{Genlib}
 
 abbrev pub genlib : (file text : List ℕ) → Stage TextRefusal (List ℕ)
 genlib file text = do

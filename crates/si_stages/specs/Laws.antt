@@ -1,5 +1,5 @@
--- What laws say of a stage, and of the commands over texts.
-use Rattle.std.specs.Prelude.{◌≡◌, ℕ, ◌⊎◌, List, Result, Ok, Err, None}
+-- What laws say of the commands over texts.
+use Rattle.std.specs.Prelude.{◌≡◌, ℕ, ◌⊎◌, List, Ok, Err, None}
 use Rattle.si_base.specs.Codes.{CodedGraph}
 use Rattle.si_base.specs.GivenGraph.{Sg}
 use Rattle.si_base.specs.Proper.{HasNoConflict}
@@ -9,18 +9,10 @@ use Rattle.si_sg.specs.GivenGraph.{IsGivenBy}
 use Rattle.si_system.specs.declared.verdict.Verdict.{Verdict}
 use Rattle.si_refusals.specs.Refusal.{TextRefusal, Differs}
 use Rattle.si_refusals.specs.Stages.{Stage}
-use Rattle.si_stages.specs.Checks.{IsSound}
+use Rattle.si_readings.specs.Checks.{IsSound}
 use Rattle.si_stages.specs.Meaning.{synth, mapping}
-use Rattle.si_stages.specs.Readings.{fault_in, library_from}
-use Rattle.si_stages.specs.declared.library_format.LibraryFormat.{LibraryFormat}
-
--- it has one result at most
-abbrev pub AtMostOne : {R A : Type 0} → Stage R A → Type 0
-AtMostOne {R} {A} stage = (a b : Result A R) → stage a → stage b → a ≡ b
-
--- it has a result
-abbrev pub HasResult : {R A : Type 0} → Stage R A → Type 0
-HasResult {R} {A} stage = (a : Result A R) × stage a
+use Rattle.si_readings.specs.Readings.{fault_in, library_from}
+use Rattle.si_readings.specs.declared.library_format.LibraryFormat.{LibraryFormat}
 
 -- the stage gives an output, or shows the first event of a replay whose verdict isn't `Done`
 abbrev pub EndsOrDeparts : Stage TextRefusal (List ℕ) → Type 0

@@ -1,5 +1,3 @@
-pub mod Readings
-pub mod Checks
 pub mod Resolving
 pub mod Written
 pub mod Synthesis

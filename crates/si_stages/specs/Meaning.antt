@@ -4,15 +4,15 @@ use Rattle.si_circuit.specs.declared.style.Style.{Style}
 use Rattle.si_refusals.specs.Refusal.{TextRefusal}
 use Rattle.si_refusals.specs.Stages.{Stage, ◌>>=◌}
 use Rattle.si_stages.specs.Audited.{audited}
-use Rattle.si_stages.specs.Checks.{proper, match_lists}
+use Rattle.si_readings.specs.Checks.{proper, match_lists}
 use Rattle.si_stages.specs.Mapping.{cells_text}
-use Rattle.si_stages.specs.Readings.{graph_in, mapping_readings}
-use Rattle.si_stages.specs.Readings.{audit_readings, replay_readings}
+use Rattle.si_readings.specs.Readings.{graph_in, mapping_readings}
+use Rattle.si_readings.specs.Readings.{audit_readings, replay_readings}
 use Rattle.si_stages.specs.Replayed.{replay_end}
 use Rattle.si_stages.specs.Reports.{told}
 use Rattle.si_stages.specs.Resolving.{resolution}
 use Rattle.si_stages.specs.Synthesis.{synthesis}
-use Rattle.si_stages.specs.declared.library_format.LibraryFormat.{LibraryFormat}
+use Rattle.si_readings.specs.declared.library_format.LibraryFormat.{LibraryFormat}
 use Rattle.si_stages.specs.declared.report_kind.Report.{Report}
 
 abbrev pub report : Report → (file text : List ℕ) → Stage TextRefusal (List ℕ)

@@ -7,7 +7,7 @@ use Rattle.si_insert.specs.Lineage.{History, as_given}
 use Rattle.si_resolve.specs.Trace.{ResolvesTo, EndsUnresolved}
 use Rattle.si_refusals.specs.Refusal.{TextRefusal, Unresolved}
 use Rattle.si_refusals.specs.Stages.{Stage, ◌>>=◌}
-use Rattle.si_stages.specs.Checks.{proper}
+use Rattle.si_readings.specs.Checks.{proper}
 
 -- the lineage of the graph whose insertions resolve its conflicts: each is the best candidate of
 -- the graph before it, and at their end no conflict is left

@@ -4,7 +4,7 @@ use Rattle.si_netlist_reader.specs.NetlistFault.{netlist_fault}
 use Rattle.si_netlist_reader.specs.NetlistValue.{netlist_of}
 use Rattle.si_refusals.specs.Refusal.{TextRefusal}
 use Rattle.si_refusals.specs.Stages.{Stage, ◌>>=◌, gives}
-use Rattle.si_stages.specs.Readings.{netlist_in}
+use Rattle.si_readings.specs.Readings.{netlist_in}
 use Rattle.si_verilog.specs.Meaning.{MeansNetlist}
 use Rattle.si_verilog.specs.ModuleText.{verilog_text}
 

@@ -9,8 +9,6 @@ ghost use Rattle.si_stages.specs.Audited as stage;
 ghost use Rattle.si_stages.specs.Audited.{IsAudit, IsCertified, IsNamedSo, TellsRejection};
 ghost use Rattle.si_stages.specs.Meaning as meaning;
 
-use crate::checks::{match_lists, proper_of};
-use crate::readings::{AuditReadings, audit_readings};
 use si_audit::audit::audit;
 use si_audit::fault::AuditFault;
 use si_base::graph::Signal;
@@ -21,6 +19,8 @@ use si_checks::proper::Proper;
 use si_circuit::circuit::Circuit;
 use si_insert::accept::Rejected;
 use si_netlist::netlist::Netlist;
+use si_readings::checks::{match_lists, proper_of};
+use si_readings::readings::{AuditReadings, audit_readings};
 use si_refusals::breach::{event_word, name_of_signal};
 use si_refusals::refusals::Refusal;
 use si_refusals::rejection::NamedRejection;

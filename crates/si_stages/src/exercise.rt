@@ -6,7 +6,7 @@ ghost use Rattle.si_base.specs.Proper.{HasNoConflict, IsProper};
 ghost use Rattle.si_handshakes.specs.Handshakes.{max_handshakes};
 ghost use Rattle.si_insert.specs.Lineage.{AllGiven};
 ghost use Rattle.si_refusals.specs.Ending.{MayStop, ending_of};
-ghost use Rattle.si_stages.specs.Checks.{IsSound};
+ghost use Rattle.si_readings.specs.Checks.{IsSound};
 ghost use Rattle.si_stages.specs.Exercise as stage;
 ghost use Rattle.si_stages.specs.Exercise.{IsExercise, as_it_is, exercise_text};
 

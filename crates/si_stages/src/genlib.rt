@@ -7,13 +7,13 @@ ghost use Rattle.si_refusals.specs.Refusal.{TextRefusal};
 ghost use Rattle.si_stages.specs.Genlib as stage;
 ghost use Rattle.si_stages.specs.Genlib.{IsItsLibrary};
 ghost use Rattle.si_stages.specs.Meaning.{mapping};
-ghost use Rattle.si_stages.specs.Readings.{TellsFault};
-ghost use Rattle.si_stages.specs.declared.library_format.LibraryFormat.TheVariants as library_format;
+ghost use Rattle.si_readings.specs.Readings.{TellsFault};
+ghost use Rattle.si_readings.specs.declared.library_format.LibraryFormat.TheVariants as library_format;
 
-use crate::library_format::LibraryFormat;
-use crate::readings::library_in;
 use si_base::text::Text;
 use si_genlib::write::write_library;
+use si_readings::library_format::LibraryFormat;
+use si_readings::readings::library_in;
 use si_refusals::refusals::Refusal;
 use std::alloc::Global;
 

@@ -3,15 +3,12 @@
 
 pub mod audit_laws;
 pub mod audited;
-pub mod checks;
 pub mod exercise;
 mod fold;
 pub mod fold_laws;
 pub mod genlib;
-pub mod library_format;
 mod literals;
 pub mod mapping;
-pub mod readings;
 pub mod replayed;
 pub mod report;
 pub mod report_kind;

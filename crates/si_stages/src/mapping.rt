@@ -9,8 +9,6 @@ ghost use Rattle.si_refusals.specs.Ending as ending;
 ghost use Rattle.si_stages.specs.Mapping.{IsCellsText, TellsStuck, shows_unfit};
 ghost use Rattle.si_stages.specs.Meaning as meaning;
 
-use crate::library_format::LibraryFormat;
-use crate::readings::{MappingReadings, mapping_readings};
 use crate::resolving::resolution;
 use si_base::ids::NoMemory;
 use si_base::names::Names;
@@ -21,6 +19,8 @@ use si_insert::resolved::Resolved;
 use si_map::map::{MapStuck, Unmapped, map_cells};
 use si_netlist::netlist::Netlist;
 use si_netlist::write::write_netlist;
+use si_readings::library_format::LibraryFormat;
+use si_readings::readings::{MappingReadings, mapping_readings};
 use si_refusals::breach::name_of_signal;
 use si_refusals::refusals::Refusal;
 use si_sg::read::Sg;

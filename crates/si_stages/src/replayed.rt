@@ -10,14 +10,14 @@ ghost use Rattle.si_stages.specs.Outcomes.{Departs, HasName, TellsEnd, TellsDepa
 ghost use Rattle.si_stages.specs.Replayed as stage;
 ghost use Rattle.si_stages.specs.Replayed.{replay_text, shown_signal as signal_at_fault};
 
-use crate::checks::{match_lists, proper_of};
-use crate::readings::{ReplayReadings, replay_readings};
 use si_base::ids::{Code, Event, NoMemory, Sig};
 use si_base::names::Names;
 use si_base::text::Text;
 use si_graph::coded::Coded;
 use si_netlist::netlist::Netlist;
 use si_netlist::write::add_values_line;
+use si_readings::checks::{match_lists, proper_of};
+use si_readings::readings::{ReplayReadings, replay_readings};
 use si_refusals::breach::name_of_signal;
 use si_refusals::refusals::Refusal;
 use si_sg::read::Sg;

@@ -8,9 +8,7 @@ ghost use Rattle.si_stages.specs.Meaning as stage;
 ghost use Rattle.si_stages.specs.Reports as reports;
 ghost use Rattle.si_stages.specs.Reports.{count_line, summary};
 
-use crate::checks::proper_of;
 use crate::fold::fold_text;
-use crate::readings::graph_in;
 use crate::report_kind::Report;
 use si_base::ids::NoMemory;
 use si_base::names::Names;
@@ -21,6 +19,8 @@ use si_listings::conflict_listing::list_conflicts;
 use si_listings::cover_listing::list_covers;
 use si_listings::region_listing::list_regions;
 use si_netlist::write::add_values_line;
+use si_readings::checks::proper_of;
+use si_readings::readings::graph_in;
 use si_refusals::refusals::Refusal;
 use si_sg::read::Sg;
 use si_words::writing::add_line;

@@ -4,12 +4,12 @@ ghost use Rattle.std.specs.Prelude.{IfOk, IfErr, Ok};
 ghost use Rattle.si_stages.specs.Meaning as stage;
 ghost use Rattle.si_refusals.specs.Ending.{MayStop, ending_of};
 
-use crate::readings::graph_in;
 use crate::resolving::resolution;
 use si_base::text::Text;
 use si_circuit::circuit::Circuit;
 use si_circuit::style::Style;
 use si_netlist::write::write_netlist;
+use si_readings::readings::graph_in;
 use si_refusals::refusals::Refusal;
 use si_sg::read::Sg;
 use std::alloc::Global;

@@ -4,12 +4,12 @@ ghost use Rattle.std.specs.Prelude.{ℕ, ◌↔◌, List, IfOk, IfErr, Ok, Err};
 ghost use Rattle.si_netlist_reader.specs.NetlistFault.{netlist_fault};
 ghost use Rattle.si_refusals.specs.Ending.{MayStop, ending_of};
 ghost use Rattle.si_refusals.specs.Refusal.{TextRefusal};
-ghost use Rattle.si_stages.specs.Readings.{TellsFault};
+ghost use Rattle.si_readings.specs.Readings.{TellsFault};
 ghost use Rattle.si_stages.specs.Verilog as stage;
 ghost use Rattle.si_stages.specs.Verilog.{IsItsModule};
 
-use crate::readings::netlist_in;
 use si_base::text::Text;
+use si_readings::readings::netlist_in;
 use si_refusals::refusals::Refusal;
 use si_verilog::write::write_verilog;
 use std::alloc::Global;

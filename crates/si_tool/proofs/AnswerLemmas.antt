@@ -9,14 +9,14 @@ use Rattle.si_tool.specs.Meaning.{meaning, ComesTo}
 use Rattle.si_refusals.specs.Refusal.{TextRefusal, ReadFault, Answer, Output, FileRefused, TextRefused}
 use Rattle.si_tool.specs.declared.command.Task.{Task}
 use Rattle.si_tool.specs.declared.command.Task.TheVariants.{About, Tell, Synth, Map, FromGenlib, Verilog, Replay, Audit, Exercise}
-use Rattle.si_stages.specs.Laws.{AtMostOne, HasResult}
-use Rattle.si_stages.specs.declared.library_format.LibraryFormat.TheVariants.{Own, Genlib}
+use Rattle.si_readings.specs.Laws.{AtMostOne, HasResult}
+use Rattle.si_readings.specs.declared.library_format.LibraryFormat.TheVariants.{Own, Genlib}
 use Rattle.si_stages.proofs.AuditLemmas.{audit_one, audit_some}
 use Rattle.si_stages.proofs.ExerciseLemmas.{exercise_one, exercise_some}
 use Rattle.si_stages.proofs.GenlibLemmas.{genlib_one, genlib_some}
 use Rattle.si_stages.proofs.MeaningLemmas.{report_one, synth_one, mapping_one, replay_one}
 use Rattle.si_stages.proofs.MeaningLemmas.{report_some, synth_some, mapping_some, replay_some}
-use Rattle.si_stages.proofs.StageLemmas.{gives_one, gives_some}
+use Rattle.si_readings.proofs.StageLemmas.{gives_one, gives_some}
 use Rattle.si_stages.proofs.VerilogLemmas.{verilog_one, verilog_some}
 use Rattle.si_tool.proofs.LoadLemmas.{all_one, all_some, all_or_fault, as_many}
 use Rattle.si_tool.proofs.TaskLemmas.{few_handshakes}

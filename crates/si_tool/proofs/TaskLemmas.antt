@@ -12,8 +12,8 @@ use Rattle.si_tool.specs.declared.command.HandshakeCount.TheVariants.{One, Two, 
 use Rattle.si_tool.specs.declared.command.Task.{Task}
 use Rattle.si_tool.specs.declared.command.Task.TheVariants.{About, Tell, Synth, Map, FromGenlib, Verilog, Replay, Audit, Exercise}
 use Rattle.si_tool.specs.declared.command.TheConstants.{TASKS}
-use Rattle.si_stages.specs.declared.library_format.LibraryFormat.{LibraryFormat}
-use Rattle.si_stages.specs.declared.library_format.LibraryFormat.TheVariants.{Own, Genlib}
+use Rattle.si_readings.specs.declared.library_format.LibraryFormat.{LibraryFormat}
+use Rattle.si_readings.specs.declared.library_format.LibraryFormat.TheVariants.{Own, Genlib}
 use Rattle.si_stages.specs.declared.report_kind.Report.TheVariants.{Summary, Regions, Conflicts, Covers, Fold}
 
 -- what a read past the end of the table gives

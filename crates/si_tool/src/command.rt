@@ -10,8 +10,8 @@ ghost use Rattle.si_handshakes.specs.Handshakes.{max_handshakes};
 use crate::about::{HelpWord, Topic};
 use crate::form::{Slot, files_in};
 use si_circuit::style::Style;
+use si_readings::library_format::LibraryFormat;
 use si_refusals::refusals::Refusal;
-use si_stages::library_format::LibraryFormat;
 use si_stages::report_kind::Report;
 use std::alloc::{AllocError, Global};
 

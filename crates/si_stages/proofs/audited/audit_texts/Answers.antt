@@ -5,10 +5,10 @@ use Rattle.si_refusals.specs.Ending.{MayStop}
 use Rattle.si_refusals.specs.Stages.{Passes}
 use Rattle.si_stages.specs.Audited.{IsAudit, audited}
 use Rattle.si_stages.specs.Meaning.{audit}
-use Rattle.si_stages.specs.Readings.{audit_readings_now}
-use Rattle.si_stages.proofs.HandedOn.{err_map, ok_map, stops}
-use Rattle.si_stages.proofs.ReplayLemmas.{match_over}
-use Rattle.si_stages.proofs.StageLemmas.{stop_first, stop_next}
+use Rattle.si_readings.specs.Readings.{audit_readings_now}
+use Rattle.si_readings.proofs.HandedOn.{err_map, ok_map, stops}
+use Rattle.si_readings.proofs.CheckLemmas.{match_over}
+use Rattle.si_readings.proofs.StageLemmas.{stop_first, stop_next}
 use Rattle.si_stages.proofs.audited.audit_texts.Goals as goal
 
 -- ---- where a stage refuses

@@ -1,12 +1,12 @@
 use Rattle.si_refusals.specs.Stages.{Passes}
 use Rattle.si_stages.specs.Meaning.{mapping}
-use Rattle.si_stages.specs.Readings.{mapping_readings_now}
+use Rattle.si_readings.specs.Readings.{mapping_readings_now}
 use Rattle.si_stages.proofs.GivenLineages.{given_lineage, given_signals}
-use Rattle.si_stages.proofs.HandedOn.{stops}
+use Rattle.si_readings.proofs.HandedOn.{stops}
 use Rattle.si_stages.proofs.MappingLemmas.{cells_stop, is_library, is_mapping}
-use Rattle.si_stages.proofs.ReadingLemmas.{mapping_readings_are}
+use Rattle.si_readings.proofs.ReadingLemmas.{mapping_readings_are}
 use Rattle.si_stages.proofs.ResolutionLemmas.{resolution_is}
-use Rattle.si_stages.proofs.StageLemmas.{stop_first, stop_next}
+use Rattle.si_readings.proofs.StageLemmas.{stop_first, stop_next}
 use Rattle.si_stages.proofs.mapping.map_texts.Goals as goal
 
 -- ---- where a stage refuses

@@ -3,7 +3,7 @@ use Rattle.si_refusals.specs.Ending.{MayStop}
 use Rattle.si_stages.specs.Outcomes.{TellsEnd, TellsDeparture}
 use Rattle.si_stages.specs.Replayed.{replay_end}
 use Rattle.si_system.proofs.UniqueOutcome.{for_not_different}
-use Rattle.si_stages.proofs.HandedOn.{err_map, ok_map}
+use Rattle.si_readings.proofs.HandedOn.{err_map, ok_map}
 use Rattle.si_stages.proofs.ReplayLemmas.{has_name, told_end, told_departure}
 use Rattle.si_stages.proofs.replayed.replay_end.Goals as goal
 

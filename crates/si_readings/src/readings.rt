@@ -2,12 +2,12 @@
 
 ghost use Rattle.std.specs.Prelude.{◌<◌, All, IfOk, IfErr, length, Ok};
 ghost use Rattle.si_sg.specs.GivenGraph.{sg_now};
-ghost use Rattle.si_stages.specs.Checks.{IsNamed};
+ghost use Rattle.si_readings.specs.Checks.{IsNamed};
 ghost use Rattle.si_base.specs.TextFaults.{Gives};
 ghost use Rattle.si_refusals.specs.Ending.{MayStop, ending_of};
-ghost use Rattle.si_stages.specs.Readings as stage;
-ghost use Rattle.si_stages.specs.Readings.{audit_readings_now, mapping_readings_now};
-ghost use Rattle.si_stages.specs.Readings.{replay_readings_now};
+ghost use Rattle.si_readings.specs.Readings as stage;
+ghost use Rattle.si_readings.specs.Readings.{audit_readings_now, mapping_readings_now};
+ghost use Rattle.si_readings.specs.Readings.{replay_readings_now};
 
 use crate::library_format::LibraryFormat;
 use si_base::fault::TextFault;

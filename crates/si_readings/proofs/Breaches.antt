@@ -13,7 +13,7 @@ use Rattle.si_refusals.specs.declared.breach.NamedBreach.{NamedBreach}
 use Rattle.si_refusals.specs.declared.breach.NamedBreach.TheVariants.{Nondeterministic, Inconsistent}
 use Rattle.si_refusals.specs.declared.breach.NamedBreach.TheVariants.{Noncommutative, Nonpersistent}
 use Rattle.si_sg.specs.CanonicalText.{state_at, event_word}
-use Rattle.si_stages.specs.Checks.{breach_name, ShowsFirstBreach}
+use Rattle.si_readings.specs.Checks.{breach_name, ShowsFirstBreach}
 
 module _ (g : StateGraph) (states : List (List ℕ)) where
   abbrev shown : ProperOrBreach g → Option NamedBreach

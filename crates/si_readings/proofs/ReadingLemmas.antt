@@ -4,14 +4,14 @@ use Rattle.si_netlist_reader.specs.NetlistFault.{netlist_fault}
 use Rattle.si_netlist_reader.specs.NetlistValue.{netlist_of}
 use Rattle.si_refusals.specs.Stages.{Passes, Refuses}
 use Rattle.si_sg.specs.GivenGraph.{IsGivenBy}
-use Rattle.si_stages.specs.Laws.{AtMostOne, HasResult}
-use Rattle.si_stages.specs.Readings.{AuditReadings, MappingReadings, ReplayReadings}
-use Rattle.si_stages.specs.Readings.{audit_readings, fault_in, library_from, mapping_readings, replay_readings}
-use Rattle.si_stages.specs.declared.library_format.LibraryFormat.{LibraryFormat}
-use Rattle.si_stages.proofs.CheckLemmas.{graph_one}
-use Rattle.si_stages.proofs.SomeLemmas.{graph_some}
-use Rattle.si_stages.proofs.StageLemmas.{gives_one, gives_some, spelled_one, spelled_some, then_one, then_some}
-use Rattle.si_stages.proofs.StageLemmas.{no_refusal, one_value}
+use Rattle.si_readings.specs.Laws.{AtMostOne, HasResult}
+use Rattle.si_readings.specs.Readings.{AuditReadings, MappingReadings, ReplayReadings}
+use Rattle.si_readings.specs.Readings.{audit_readings, fault_in, library_from, mapping_readings, replay_readings}
+use Rattle.si_readings.specs.declared.library_format.LibraryFormat.{LibraryFormat}
+use Rattle.si_readings.proofs.CheckLemmas.{graph_one}
+use Rattle.si_readings.proofs.SomeLemmas.{graph_some}
+use Rattle.si_readings.proofs.StageLemmas.{gives_one, gives_some, spelled_one, spelled_some, then_one, then_some}
+use Rattle.si_readings.proofs.StageLemmas.{no_refusal, one_value}
 
 -- ---- a graph, and a library
 pub mapping_readings_one : (format : LibraryFormat) (g a n b : List ℕ) → AtMostOne (mapping_readings format g a n b)

@@ -1,7 +1,7 @@
 use Rattle.si_base.specs.Proper.{Fork, Loss}
-use Rattle.si_stages.proofs.Breaches.{fork_shown, loss_shown}
-use Rattle.si_stages.proofs.CheckLemmas.{coded_consistent}
-use Rattle.si_stages.proofs.checks.breach_with_codes.Goals as goal
+use Rattle.si_readings.proofs.Breaches.{fork_shown, loss_shown}
+use Rattle.si_readings.proofs.CheckLemmas.{coded_consistent}
+use Rattle.si_readings.proofs.checks.breach_with_codes.Goals as goal
 
 pub returns-in_ok-state_name-in-Noncommutative-3 : goal.returns-in_ok-state_name-in-Noncommutative-3
 returns-in_ok-state_name-in-Noncommutative-3 c =

@@ -3,8 +3,8 @@
 ghost use Rattle.std.specs.Prelude.{◌≡◌, IfOk, IfErr, length, Ok};
 ghost use Rattle.si_checks.specs.Faults.{ShowsImproper};
 ghost use Rattle.si_graph.specs.Faults.{ShowsUncoded};
-ghost use Rattle.si_stages.specs.Checks as stage;
-ghost use Rattle.si_stages.specs.Checks.{IsNamed, ShowsFirstBreach};
+ghost use Rattle.si_readings.specs.Checks as stage;
+ghost use Rattle.si_readings.specs.Checks.{IsNamed, ShowsFirstBreach};
 ghost use Rattle.si_refusals.specs.Ending.{MayStop, ending_of};
 
 use si_base::ids::NoMemory;

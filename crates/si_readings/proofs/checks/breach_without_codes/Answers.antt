@@ -1,6 +1,6 @@
 use Rattle.si_base.specs.Proper.{Split}
-use Rattle.si_stages.proofs.Breaches.{split_shown, values_shown}
-use Rattle.si_stages.proofs.checks.breach_without_codes.Goals as goal
+use Rattle.si_readings.proofs.Breaches.{split_shown, values_shown}
+use Rattle.si_readings.proofs.checks.breach_without_codes.Goals as goal
 
 pub returns-in_ok-state_name-in-Nondeterministic-3 : goal.returns-in_ok-state_name-in-Nondeterministic-3
 returns-in_ok-state_name-in-Nondeterministic-3 c =

@@ -1,5 +1,5 @@
 use Rattle.std.proofs.Common.{refl}
-use Rattle.si_stages.proofs.readings.schedule_in.Goals as goal
+use Rattle.si_readings.proofs.readings.schedule_in.Goals as goal
 
 pub returns-in-Err-At-clause-err : goal.returns-in-Err-At-clause-err
 returns-in-Err-At-clause-err c =

@@ -1,21 +1,18 @@
 -- Each stage has a result.
 use Rattle.std.proofs.Common.{◌≡◌, ℕ, zero, suc, ◌+◌, ◌<◌, ◌⊎◌, Bool, true, false, List, [], ◌∷◌, length, Ok, Err}
-use Rattle.std.proofs.Common.{Option, Some, None, slice_get, get_or, bytes_eq, refl, sym, ap, ap₂, subst, ◌∙◌, arith}
+use Rattle.std.proofs.Common.{Option, Some, None, slice_get, bytes_eq, refl, sym, ap, ap₂, subst, ◌∙◌, arith}
 use Rattle.std.proofs.Common.{inl, inr}
 use Rattle.std.proofs.lemmas.Bool.{cases_Bool, cases_eq, cases_lt, cases_order, true≢false}
-use Rattle.std.proofs.lemmas.Option.{slice_get-get_or}
 use Rattle.std.proofs.lemmas.Slice.Eq.{bytes_eq-Decides}
 use Rattle.si_base.specs.declared.fault.TextKind.{TextKind}
 use Rattle.si_base.specs.declared.graph.SigKind.{SigKind}
 use Rattle.si_base.specs.declared.graph.SigKind.TheVariants.{Input, Output, Internal, Inserted}
 use Rattle.si_base.specs.declared.graph.Signal.{Signal}
-use Rattle.si_base.specs.declared.ids.Event.{Event}
 use Rattle.si_base.specs.Bits.{bit}
 use Rattle.si_base.specs.Codes.{CodedGraph, code}
 use Rattle.si_base.specs.GivenGraph.{Sg}
-use Rattle.si_base.specs.Graph.{StateGraph, kind_place}
+use Rattle.si_base.specs.Graph.{kind_place}
 use Rattle.si_base.specs.Netlist.{Netlist}
-use Rattle.si_base.specs.NetlistText.{name_of}
 use Rattle.si_base.specs.System.{IsFor, start}
 use Rattle.si_checks.proofs.BreachesDecided.{proper_or_breach}
 use Rattle.si_checks.proofs.CodesExist.{some_codes}
@@ -23,18 +20,13 @@ use Rattle.si_checks.specs.Laws.{ProperOrBreach, AllHold, HasSplit, HasNoValues,
 use Rattle.si_sg.proofs.GivenExists.{some_given}
 use Rattle.si_sg.specs.GivenGraph.{IsGivenBy}
 use Rattle.si_sg.specs.GraphText.{graph_fault}
-use Rattle.si_system.proofs.OutcomeExists.{some_outcome}
 use Rattle.si_system.specs.Lists.{given, IsSameAt, ShowsDifference}
-use Rattle.si_system.specs.Outcome.{IsOutcome}
-use Rattle.si_system.specs.declared.replay.Outcome.{Outcome}
-use Rattle.si_system.specs.declared.replay.Outcome.TheVariants as outcome
-use Rattle.si_stages.specs.Checks.{IsNamed, breach_name, proper, match_lists}
-use Rattle.si_stages.specs.Laws.{HasResult, EndsOrDeparts}
-use Rattle.si_stages.specs.Readings.{graph_in}
+use Rattle.si_readings.specs.Checks.{IsNamed, breach_name, proper, match_lists}
+use Rattle.si_readings.specs.Laws.{HasResult}
+use Rattle.si_readings.specs.Readings.{graph_in}
 use Rattle.si_refusals.specs.declared.breach.NamedBreach.{NamedBreach}
-use Rattle.si_refusals.specs.Refusal.{BadText, ListsDiffer, Improper, Differs}
-use Rattle.si_stages.specs.Replayed.{IsReplay, IsDeparture, replay_end, replay_text, shown_signal}
-use Rattle.si_stages.proofs.ReplayLemmas.{given_named_states, has_name}
+use Rattle.si_refusals.specs.Refusal.{BadText, ListsDiffer, Improper}
+use Rattle.si_readings.proofs.GivenNames.{given_named_states}
 
 -- ---- the netlist is for the graph, or there is a first place at which it isn't
 
@@ -141,35 +133,6 @@ match_lists_some file coded net =
       | inl same ↦ (Ok tt, for_all_same coded net k (omega arith) same)
       | inr differs ↦ (Err (ListsDiffer file differs.0), (differs.0, differs.1, refl))
     ]
-
-pub ends_or_departs : (graph : StateGraph) (states : List (List ℕ)) (net : Netlist) (events : List Event)
-    → IsNamed graph states → EndsOrDeparts (replay_end graph states net events)
-ends_or_departs graph states net events is =
-    let some = some_outcome graph net (start graph net) events refl in
-    go some.0 some.1
-  where
-    go : (o : Outcome) → IsOutcome graph net (start graph net) events o
-        → EndsOrDeparts (replay_end graph states net events)
-    go (outcome.Done values state) out =
-        let within : state < length states =
-        has_name graph states net events (outcome.Done values state) is.is_graph is.names out in
-        let name : List ℕ = get_or states state [] in
-        let named = slice_get-get_or states state [] within in
-        let ends : IsReplay graph states net events (replay_text (length events) net.signals values name) =
-        record { values = values; state = state; outcome_is = out; name = name; named = named; output_is = refl } in
-        inl (replay_text (length events) net.signals values name, ends)
-    go (outcome.Differs step event verdict) out =
-        let signal = name_of net.signals (shown_signal event verdict) in
-        let departs : IsDeparture graph net events (Differs step signal verdict) =
-        record { step = step; event = event; verdict = verdict; outcome_is = out; refusal_is = refl } in
-        inr (step, signal, verdict, departs)
-
-pub replay_end_some : (graph : StateGraph) (states : List (List ℕ)) (net : Netlist) (events : List Event)
-    → IsNamed graph states → HasResult (replay_end graph states net events)
-replay_end_some graph states net events is = elim (ends_or_departs graph states net events is) [
-  | inl ends ↦ (Ok ends.0, ends.1)
-  | inr departs ↦ (Err (Differs departs.0 departs.1 departs.2), departs.3)
-]
 
 pub proper_some : (text : List ℕ) (sg : Sg) → IsGivenBy text sg → HasResult (proper sg.graph sg.states)
 proper_some text sg given = go (proper_or_breach sg.graph is.is_graph is.connected)

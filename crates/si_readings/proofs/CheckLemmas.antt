@@ -1,26 +1,21 @@
 -- Each stage has one result at most.
-use Rattle.std.proofs.Common.{◌≡◌, ℕ, List, [], length, Ok, Err, slice_get, refl, sym, ap, ap₂, ◌∙◌, arith}
+use Rattle.std.proofs.Common.{◌≡◌, ℕ, List, Ok, Err, refl, sym, ap, ap₂, subst, ◌∙◌, arith}
 use Rattle.std.proofs.lemmas.List.{same_lists, get_or_default}
-use Rattle.si_base.specs.declared.ids.Event.{Event}
 use Rattle.si_base.specs.Bits.{bit}
 use Rattle.si_base.specs.Codes.{CodedGraph, IsCoded, IsConsistent, code}
 use Rattle.si_base.specs.Graph.{StateGraph}
 use Rattle.si_base.specs.Netlist.{Netlist}
-use Rattle.si_base.specs.NetlistText.{name_of}
 use Rattle.si_base.proofs.UniqueCodes.{code_unique}
-use Rattle.si_base.specs.System.{start}
 use Rattle.si_sg.proofs.UniqueLemmas.{given_unique}
-use Rattle.si_system.proofs.UniqueOutcome.{one_outcome, one_difference, for_not_different}
-use Rattle.si_system.specs.declared.replay.Outcome.{Outcome}
-use Rattle.si_system.specs.declared.replay.Outcome.TheVariants as outcome
+use Rattle.si_system.proofs.UniqueOutcome.{one_difference, for_not_different}
 use Rattle.si_sg.specs.GraphText.{graph_fault}
-use Rattle.si_stages.specs.Checks.{proper, match_lists}
-use Rattle.si_stages.proofs.Breaches.{breach_improper, one_shown}
-use Rattle.si_stages.proofs.StageLemmas.{one_fault}
-use Rattle.si_stages.specs.Laws.{AtMostOne}
-use Rattle.si_stages.specs.Readings.{graph_in}
-use Rattle.si_refusals.specs.Refusal.{TextRefusal, ListsDiffer, Improper, Unresolved, Differs}
-use Rattle.si_stages.specs.Replayed.{replay_end, replay_text, shown_signal}
+use Rattle.si_readings.specs.Checks.{proper, match_lists}
+use Rattle.si_readings.proofs.Breaches.{breach_improper, one_shown}
+use Rattle.si_readings.proofs.StageLemmas.{one_fault}
+use Rattle.si_readings.specs.Laws.{AtMostOne}
+use Rattle.si_readings.specs.Readings.{graph_in}
+use Rattle.si_refusals.specs.Ending.{Ending, MayStop}
+use Rattle.si_refusals.specs.Refusal.{ListsDiffer, Improper}
 
 pub graph_one : (file text : List ℕ) → AtMostOne (graph_in file text)
 graph_one file text (Ok a) (Ok b) one other = ap Ok (given_unique text a b one other)
@@ -64,33 +59,7 @@ match_lists_one file coded netlist (Err r) (Err q) one other =
     ap Err (one.2 ∙ ap (λ (k : ℕ). ListsDiffer file k) (one_difference coded netlist one.0 other.0 one.1 other.1)
     ∙ sym other.2)
 
-pub replay_end_one : (graph : StateGraph) (states : List (List ℕ)) (netlist : Netlist) (events : List Event)
-    → AtMostOne (replay_end graph states netlist events)
-replay_end_one graph states netlist events (Ok a) (Ok b) one other =
-    let same = one_outcome graph netlist (start graph netlist) events (outcome.Done one.values one.state)
-    (outcome.Done other.values other.state) one.outcome_is other.outcome_is in
-    let values : one.values ≡ other.values = cc in
-    let state : one.state ≡ other.state = cc in
-    let named = sym one.named ∙ ap (λ (k : ℕ). slice_get states k) state ∙ other.named in
-    let names : one.name ≡ other.name = cc in
-    ap Ok (one.output_is ∙ ap₂ (λ (v : ℕ) (n : List ℕ). replay_text (length events) netlist.signals v n) values names
-    ∙ sym other.output_is)
-replay_end_one graph states netlist events (Ok a) (Err r) one other =
-    let same = one_outcome graph netlist (start graph netlist) events (outcome.Done one.values one.state)
-    (outcome.Differs other.step other.event other.verdict) one.outcome_is other.outcome_is in
-    cc
-replay_end_one graph states netlist events (Err r) (Ok b) one other =
-    let same = one_outcome graph netlist (start graph netlist) events
-    (outcome.Differs one.step one.event one.verdict)
-    (outcome.Done other.values other.state) one.outcome_is other.outcome_is in
-    cc
-replay_end_one graph states netlist events (Err r) (Err q) one other =
-    let same = one_outcome graph netlist (start graph netlist) events
-    (outcome.Differs one.step one.event one.verdict)
-    (outcome.Differs other.step other.event other.verdict) one.outcome_is other.outcome_is in
-    ap Err (one.refusal_is ∙ ap go same ∙ sym other.refusal_is)
-  where
-    go : Outcome → TextRefusal
-    go (outcome.Done values state) = Unresolved [] [] []
-    go (outcome.Differs step event verdict) =
-        Differs step (name_of netlist.signals (shown_signal event verdict)) verdict
+-- whichever form of the graph was looked at
+pub match_over : (file : List ℕ) (k p : CodedGraph) (net : Netlist) (e : Ending) → k ≡ p
+    → MayStop (match_lists file k net) e → MayStop (match_lists file p net) e
+match_over file k p net e same may = subst (λ (c : CodedGraph). MayStop (match_lists file c net) e) same may

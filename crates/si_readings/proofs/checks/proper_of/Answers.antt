@@ -1,8 +1,8 @@
 use Rattle.std.proofs.Common.{ap, refl, subst, ◌∙◌}
 use Rattle.si_base.specs.Codes.{CodedGraph}
 use Rattle.si_base.specs.Graph.{StateGraph}
-use Rattle.si_stages.specs.Checks.{ShowsFirstBreach}
-use Rattle.si_stages.proofs.checks.proper_of.Goals as goal
+use Rattle.si_readings.specs.Checks.{ShowsFirstBreach}
+use Rattle.si_readings.proofs.checks.proper_of.Goals as goal
 
 pub returns-in-Err-clause-err : goal.returns-in-Err-clause-err
 returns-in-Err-clause-err c =

@@ -3,8 +3,8 @@ use Rattle.std.proofs.Common.{◌≡◌, ℕ, List, [], ◌∷◌, Option, Some,
 use Rattle.std.specs.List.{AllByRecursion}
 use Rattle.si_base.specs.declared.fault.TextKind.{TextKind}
 use Rattle.si_refusals.specs.Ending.{Ending, NoMemory, Answered, MayStop}
-use Rattle.si_stages.specs.Laws.{AtMostOne, HasResult}
-use Rattle.si_stages.specs.Readings.{TellsFault, spelled}
+use Rattle.si_readings.specs.Laws.{AtMostOne, HasResult}
+use Rattle.si_readings.specs.Readings.{TellsFault, spelled}
 use Rattle.si_refusals.specs.Refusal.{TextRefusal, TextRefused, BadText}
 use Rattle.si_refusals.specs.Stages.{Stage, Then, Refuses, Passes, gives, shows, each}
 
