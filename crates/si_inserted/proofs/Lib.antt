@@ -1,0 +1,5 @@
+pub mod InternalLemmas
+pub mod InternalGates
+pub mod NameLemmas
+pub mod CurrentTexts
+mod Examples
