@@ -1,6 +1,6 @@
 -- What is written for a graph passes the audit for that graph: its lineage certifies it.
-use Rattle.std.proofs.Common.{◌≡◌, ℕ, List, None, sym, ap, subst, ◌∙◌}
-use Rattle.si_audit.specs.Audit.{Certifies}
+use Rattle.std.proofs.Common.{◌≡◌, ℕ, List, None, Ok, refl, sym, ap, subst, ◌∙◌}
+use Rattle.si_audit.specs.Audit.{Certifies, TakesAll, begun}
 use Rattle.si_audit.proofs.BuiltLineages.{built_are_certified}
 use Rattle.si_base.specs.Behaviour.{Implements}
 use Rattle.si_base.specs.Codes.{CodedGraph}
@@ -13,10 +13,16 @@ use Rattle.si_circuit.specs.Cells.{cell_gate}
 use Rattle.si_circuit.specs.Gates.{gate_of}
 use Rattle.si_circuit.specs.Spelling.{insertions_of}
 use Rattle.si_insert.specs.Lineage.{History, IsLineage}
+use Rattle.si_inserted.specs.Current.{current_sg}
 use Rattle.si_netlist_reader.specs.NetlistFault.{netlist_fault}
 use Rattle.si_netlist_reader.specs.NetlistValue.{netlist_of}
 use Rattle.si_netlist_reader.proofs.WriteLaw.{written_reads}
+use Rattle.si_readings.specs.Readings.{AuditReadings}
+use Rattle.si_refusals.specs.Stages.{Passes}
+use Rattle.si_sg.specs.CanonicalText.{sg_text}
 use Rattle.si_sg.specs.GivenGraph.{IsGivenBy}
+use Rattle.si_stages.specs.Inserted.{insert}
+use Rattle.si_stages.specs.InsertedLaws.{MappedAreInserted, SynthesisedAreInserted}
 use Rattle.si_stages.specs.AuditLaws.{MappedPass, PassesAudit, SynthesisedPass}
 use Rattle.si_stages.specs.Audited.{IsCertified, audit_text}
 use Rattle.si_readings.specs.Checks.{IsSound}
@@ -29,7 +35,7 @@ use Rattle.si_stages.proofs.ResolutionLemmas.{resolution_is}
 use Rattle.si_readings.proofs.StageLemmas.{passed}
 use Rattle.si_stages.proofs.WrittenLemmas.{has_insertions}
 
-reads_back : (n : Netlist) → IsNetlist n → (netlist_fault (netlist_text n) ≡ None) × (netlist_of (netlist_text n) ≡ n)
+pub reads_back : (n : Netlist) → IsNetlist n → (netlist_fault (netlist_text n) ≡ None) × (netlist_of (netlist_text n) ≡ n)
 unfolding netlist_text
 reads_back n is = (let read = written_reads Version2 n is is.few in (read.1, read.2))
 
@@ -56,6 +62,18 @@ module _ (text output : List ℕ) (sg : Sg) (l : History) (is : IsGivenBy text s
         implements = subst (λ (n : Netlist). Implements n sg.graph) back w.implements;
         output_is = ap (λ (n : Netlist). audit_text l n) back;
       }
+
+  -- its insertions make the text of the lineage's current graph
+  inserts_again : (g n : List ℕ) → insert g text n output (Ok (sg_text (current_sg sg.model sg.states l)))
+  inserts_again g n =
+      let circuit : Netlist = netlist_of output in
+      let back : w.netlist ≡ circuit = sym read in
+      let certifies = built_are_certified sg.states l w.netlist line w.circuit.built inserts in
+      let fits = subst (λ (m : Netlist). IsFor l.given m) back w.is_for in
+      let all = subst (λ (m : Netlist). TakesAll sg.states (begun l.given) m.inserts l) back certifies.taken in
+      let readings : AuditReadings = record { given = sg; netlist = circuit } in
+      let reads = Passes sg is (Passes circuit (is_certified.no_fault, refl) refl) in
+      Passes readings reads (Passes l.given sound (Passes tt fits (Passes l all refl)))
 
   written_passes : PassesAudit text output
   written_passes = (audit_text l w.netlist, λ g n. certified_output g text n output (audit_text l w.netlist) is_certified)
@@ -87,3 +105,37 @@ mapped_pass format file text library cells output made =
     let inserts = ap (λ (n : Netlist). n.inserts) s.gates_are
     ∙ has_insertions (cell_gate l.current.coded read.0.library) sg l in
     written_passes text output sg l given sound line.line s.written inserts
+
+-- ---- and its insertions can be taken
+pub synthesised_inserted : SynthesisedAreInserted
+synthesised_inserted style file text output made =
+    let given = passed _ _ output made in
+    let resolved = passed _ _ output given.2 in
+    let sg = given.0 in
+    let l = resolved.0 in
+    let is = resolution_is sg.graph sg.states l resolved.1 in
+    let line = given_lineage text sg l given.1 is in
+    let s = resolved.2 in
+    let inserts = ap (λ (n : Netlist). n.inserts) s.gates_are ∙ has_insertions (gate_of style l.current.coded) sg l in (
+      sg_text (current_sg sg.model sg.states l),
+      Passes sg given.1 (Passes l resolved.1 refl),
+      inserts_again text output sg l given.1 is.sound line.line s.written inserts,
+    )
+
+pub mapped_inserted : MappedAreInserted
+mapped_inserted format file text library cells output made =
+    let read = passed _ _ output made in
+    let given = (mapping_readings_are format file text library cells read.0 read.1).given in
+    let resolved = passed _ _ output read.2 in
+    let sg = read.0.given in
+    let is = resolution_is sg.graph sg.states resolved.0 resolved.1 in
+    let first = given_lineage text sg resolved.0 given is in
+    let s = resolved.2 in
+    let l = s.lineage in
+    let line = mapped_lineage read.0.library sg resolved.0 l s.maps.trace first s.maps.goes s.maps.maps.goes in
+    let sound = subst (λ (c : CodedGraph). IsSound sg.graph c) (sym s.maps.goes.given_stays) is.sound in
+    let inserts = ap (λ (n : Netlist). n.inserts) s.gates_are
+    ∙ has_insertions (cell_gate l.current.coded read.0.library) sg l in (
+      sg_text (current_sg sg.model sg.states l),
+      inserts_again text output sg l given sound line.line s.written inserts,
+    )

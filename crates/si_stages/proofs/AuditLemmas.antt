@@ -44,7 +44,7 @@ use Rattle.si_readings.proofs.SomeLemmas.{match_lists_some, proper_some}
 use Rattle.si_readings.proofs.StageLemmas.{passed, then_one, then_some}
 
 -- ---- a fault that is told has one name
-not_memory : (signals : List Signal) (f : AuditFault) (r : NamedRejection) → IsNamedSo signals f r
+pub not_memory : (signals : List Signal) (f : AuditFault) (r : NamedRejection) → IsNamedSo signals f r
     → f ≢ fault.NoMemory
 not_memory signals fault.NoMemory r named = absurd named
 not_memory signals (fault.States k) r named = λ (e : fault.States k ≡ fault.NoMemory). cc
@@ -53,7 +53,7 @@ not_memory signals (fault.Refused k s w) r named = λ (e : fault.Refused k s w �
 not_memory signals (fault.Start z) r named = λ (e : fault.Start z ≡ fault.NoMemory). cc
 not_memory signals (fault.Gate z s) r named = λ (e : fault.Gate z s ≡ fault.NoMemory). cc
 
-one_name : (signals : List Signal) (f : AuditFault) (r q : NamedRejection) → IsNamedSo signals f r
+pub one_name : (signals : List Signal) (f : AuditFault) (r q : NamedRejection) → IsNamedSo signals f r
     → IsNamedSo signals f q → r ≡ q
 one_name signals fault.NoMemory r q one other = absurd one
 one_name signals (fault.States k) r q one other = one ∙ sym other
@@ -65,7 +65,7 @@ one_name signals (fault.Refused k s why.NoCodeBit) r q one other = absurd one
 one_name signals (fault.Start z) r q one other = one ∙ sym other
 one_name signals (fault.Gate z s) r q one other = one ∙ sym other
 
-some_name : (signals : List Signal) (f : AuditFault) → f ≢ fault.NoMemory → TellsOf signals f
+pub some_name : (signals : List Signal) (f : AuditFault) → f ≢ fault.NoMemory → TellsOf signals f
     → (r : NamedRejection) × IsNamedSo signals f r
 some_name signals fault.NoMemory other told = absurd (other refl)
 some_name signals (fault.States k) other told = (named.States k, refl)
@@ -149,7 +149,7 @@ can_be_audited a b given coded is none sound fits = record {
   fits = fits;
 }
 
-readings_can : (a b : List ℕ) (readings : AuditReadings) (coded : CodedGraph) → AreAuditReadings a b readings
+pub readings_can : (a b : List ℕ) (readings : AuditReadings) (coded : CodedGraph) → AreAuditReadings a b readings
     → IsSound readings.given.graph coded → IsFor coded readings.netlist
     → CanBeAudited readings.given.states coded readings.netlist
 readings_can a b readings coded are sound fits =

@@ -30,7 +30,7 @@ given_spelled text sg is = let forms = given_named text sg is in
     record { model_name = forms.model; names = forms.names }
 
 -- its states have names
-given_state_names : (text : List ℕ) (sg : Sg) → IsGivenBy text sg → AreStateNames sg.graph sg.states
+pub given_state_names : (text : List ℕ) (sg : Sg) → IsGivenBy text sg → AreStateNames sg.graph sg.states
 given_state_names text sg is =
     let f : ℕ → List ℕ = λ s. slice_index_or (section_of text).states s [] in
     let kept = is.is.given.kept in

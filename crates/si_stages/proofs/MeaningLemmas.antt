@@ -97,10 +97,10 @@ replay_some g a n b s c = then_some _ _ (replay_readings_some g a n b s c)
     (given_named_states a readings.given given))))
 
 -- ---- a graph without conflicts is its own lineage
-abbrev own_lineage : CodedGraph → History
+abbrev pub own_lineage : CodedGraph → History
 own_lineage coded = record { given = coded; trace = []; current = as_given coded }
 
-own_resolution : (given : Sg) (coded : CodedGraph) → IsSound given.graph coded → HasNoConflict coded
+pub own_resolution : (given : Sg) (coded : CodedGraph) → IsSound given.graph coded → HasNoConflict coded
     → IsResolution given.graph (own_lineage coded)
 own_resolution given coded sound free = record { sound = sound; resolves = record { goes = refl; done = free } }
 

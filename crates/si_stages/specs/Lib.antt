@@ -14,3 +14,5 @@ pub mod FoldLaws
 pub mod Exercise
 pub mod Verilog
 pub mod Genlib
+pub mod Inserted
+pub mod InsertedLaws

@@ -101,7 +101,7 @@ fn audit_text(alloc: Global, circuit: &Circuit) -> Result<Text, NoMemory>
 }
 
 /// The refusal for a fault that is told of these signals.
-fn rejection(alloc: Global, signals: &[Signal], fault: AuditFault) -> Refusal<'static>
+pub(crate) fn rejection(alloc: Global, signals: &[Signal], fault: AuditFault) -> Refusal<'static>
     requires { TellsOf signals.now fault }
     ensures { TellsRejection signals.now fault (ending_of result) }
 {

@@ -7,6 +7,8 @@ pub mod exercise;
 mod fold;
 pub mod fold_laws;
 pub mod genlib;
+pub mod inserted;
+pub mod inserted_laws;
 mod literals;
 pub mod mapping;
 pub mod replayed;

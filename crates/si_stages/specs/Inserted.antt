@@ -1,0 +1,54 @@
+-- What `resolve` and `insert` mean over the texts of their files: the graph after the insertions
+-- that resolve its conflicts, or after those of a netlist, as a text.
+use Rattle.std.specs.Prelude.{◌≡◌, ℕ, List, Ok, Err}
+use Rattle.si_audit.specs.Audit.{TakesAll, begun}
+use Rattle.si_audit.specs.Faults.{ShowsRejection}
+use Rattle.si_audit.specs.declared.fault.AuditFault.{AuditFault}
+use Rattle.si_base.specs.Codes.{CodedGraph}
+use Rattle.si_base.specs.GivenGraph.{Sg}
+use Rattle.si_base.specs.Netlist.{Netlist}
+use Rattle.si_insert.specs.Lineage.{History}
+use Rattle.si_inserted.specs.Current.{current_sg}
+use Rattle.si_readings.specs.Checks.{match_lists, proper}
+use Rattle.si_readings.specs.Readings.{audit_readings, graph_in}
+use Rattle.si_refusals.specs.Refusal.{TextRefusal, Rejected}
+use Rattle.si_refusals.specs.Stages.{Stage, ◌>>=◌, gives}
+use Rattle.si_refusals.specs.declared.rejection.NamedRejection.{NamedRejection}
+use Rattle.si_sg.specs.CanonicalText.{sg_text}
+use Rattle.si_stages.specs.Audited.{IsNamedSo}
+use Rattle.si_stages.specs.Resolving.{resolution}
+
+-- the text of the current graph of a lineage of the given graph, and no refusal
+abbrev pub current_text : Sg → History → Stage TextRefusal (List ℕ)
+current_text given l = gives (sg_text (current_sg given.model given.states l))
+
+abbrev pub resolve : (file text : List ℕ) → Stage TextRefusal (List ℕ)
+resolve file text = do
+  given ← graph_in file text
+  lineage ← resolution given.graph given.states
+  current_text given lineage
+
+-- the refusal shows the first insertion of the netlist that isn't taken, and the first reason
+-- against it
+pub record IsInsertRejection (states : List (List ℕ)) (coded : CodedGraph) (n : Netlist)
+    (refusal : TextRefusal) : Type 0 where
+  pub fault : AuditFault
+  pub shows : ShowsRejection states coded n fault
+  pub reason : NamedRejection
+  pub named : IsNamedSo n.signals fault reason
+  pub refusal_is : refusal ≡ Rejected reason
+
+-- the lineage of the graph, whose states have these names, that takes all insertions of the
+-- netlist: else the first reason against one
+abbrev pub taken : (states : List (List ℕ)) → CodedGraph → Netlist → Stage TextRefusal History
+taken states coded n (Ok l) = TakesAll states (begun coded) n.inserts l
+taken states coded n (Err refusal) = IsInsertRejection states coded n refusal
+
+-- the gates of the netlist aren't looked at
+abbrev pub insert : (graph graph_text netlist netlist_text : List ℕ) → Stage TextRefusal (List ℕ)
+insert graph graph_text netlist netlist_text = do
+  readings ← audit_readings graph graph_text netlist netlist_text
+  coded ← proper readings.given.graph readings.given.states
+  _ ← match_lists netlist coded readings.netlist
+  lineage ← taken readings.given.states coded readings.netlist
+  current_text readings.given lineage

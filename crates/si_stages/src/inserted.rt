@@ -1,0 +1,98 @@
+//! From the text of a graph to the text of the graph after insertions.
+
+ghost use Rattle.std.specs.Prelude.{◌≡◌, IfOk, IfErr, Ok, length};
+ghost use Rattle.si_base.specs.System.{IsFor};
+ghost use Rattle.si_refusals.specs.Ending.{MayStop, ending_of};
+ghost use Rattle.si_stages.specs.Inserted as stage;
+
+use crate::audited::rejection;
+use crate::resolving::resolution;
+use si_audit::walk::lineage_of;
+use si_base::names::Names;
+use si_base::text::Text;
+use si_checks::proper::Proper;
+use si_insert::lineage::Lineage;
+use si_inserted::text::current_text;
+use si_netlist::netlist::Netlist;
+use si_readings::checks::{match_lists, proper_of};
+use si_readings::readings::{AuditReadings, audit_readings, graph_in};
+use si_refusals::refusals::Refusal;
+use si_sg::read::Sg;
+use std::alloc::Global;
+
+/// The text of the graph that the text spells, after the insertions that resolve its conflicts: its
+/// inserted signals are internal ones.
+///
+/// # Errors
+///
+/// Those of `synth`: `BadText` exactly where the text has a fault, with the first, else `Improper`
+/// exactly where the graph isn't proper, with its first breach, else `Unresolved` exactly where
+/// resolving leaves a conflict, with the first that is left and the insertions. `NoMemory` only
+/// where memory runs out.
+pub fn resolve<'w>(alloc: Global, file: &'w str, text: &[u8]) -> Result<Text, Refusal<'w>>
+    ensures ok { IfOk result (λ output. stage.resolve file.now text.now (Ok output)) }
+    ensures err { IfErr result (λ r. MayStop (stage.resolve file.now text.now) (ending_of r)) }
+{
+    let Sg {
+        model,
+        graph,
+        states,
+    } = graph_in(alloc, file, text)?;
+    let resolved = resolution(alloc, graph, &states)?;
+    let output = current_text(alloc, resolved.lineage(), &model, &states)?;
+    Ok(output)
+}
+
+/// The text of the graph that the one text spells, after the insertions of the netlist that the
+/// other spells, one after another. The gates of the netlist aren't looked at, and conflicts may be
+/// left. A refusal shows the names of the texts' files.
+///
+/// # Errors
+///
+/// `BadText` with the first fault of the texts in their order, else `Improper` with the first
+/// breach, else `ListsDiffer` with the first place, else `Rejected` exactly where an insertion isn't
+/// taken, with the first, and the first reason against it. `NoMemory` only where memory runs out.
+pub fn insert<'w>(
+    alloc: Global,
+    graph_file: &'w str,
+    graph: &[u8],
+    netlist_file: &'w str,
+    netlist: &[u8],
+) -> Result<Text, Refusal<'w>>
+    ensures ok { IfOk result (λ output. stage.insert graph_file.now graph.now
+        netlist_file.now netlist.now (Ok output)) }
+    ensures err { IfErr result (λ r. MayStop (stage.insert graph_file.now graph.now
+        netlist_file.now netlist.now) (ending_of r)) }
+{
+    let readings = audit_readings(alloc, graph_file, graph, netlist_file, netlist)?;
+    let AuditReadings { given, netlist } = readings;
+    let Sg {
+        model,
+        graph,
+        states,
+    } = given;
+    let proper = proper_of(alloc, graph, &states)?;
+    match_lists(netlist_file, proper.coded(), &netlist)?;
+    let lineage = taken(alloc, proper, &states, &netlist)?;
+    let output = current_text(alloc, &lineage, &model, &states)?;
+    Ok(output)
+}
+
+/// The lineage of the graph with the insertions of the netlist, or the first reason against one.
+fn taken(
+    alloc: Global,
+    graph: Proper,
+    states: &Names,
+    netlist: &Netlist,
+) -> Result<Lineage, Refusal<'static>>
+    requires names { length states.now ≡ graph.graph.states }
+    requires fits { IsFor graph netlist.now }
+    ensures ok { IfOk result (λ l. stage.taken states.now graph netlist.now (Ok l)) }
+    ensures err { IfErr result (λ r.
+        MayStop (stage.taken states.now graph netlist.now) (ending_of r)) }
+{
+    match lineage_of(alloc, graph, states, netlist) {
+        Ok(lineage) => Ok(lineage),
+        Err(fault) => Err(rejection(alloc, netlist.signals(), fault)),
+    }
+}
