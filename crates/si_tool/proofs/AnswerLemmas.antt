@@ -9,11 +9,13 @@ use Rattle.si_tool.specs.Meaning.{meaning, ComesTo}
 use Rattle.si_refusals.specs.Refusal.{TextRefusal, ReadFault, Answer, Output, FileRefused, TextRefused}
 use Rattle.si_tool.specs.declared.command.Task.{Task}
 use Rattle.si_tool.specs.declared.command.Task.TheVariants.{About, Tell, Synth, Map, FromGenlib, Verilog, Replay, Audit, Exercise}
+use Rattle.si_tool.specs.declared.command.Task.TheVariants.{Resolve, Insert}
 use Rattle.si_readings.specs.Laws.{AtMostOne, HasResult}
 use Rattle.si_readings.specs.declared.library_format.LibraryFormat.TheVariants.{Own, Genlib}
 use Rattle.si_stages.proofs.AuditLemmas.{audit_one, audit_some}
 use Rattle.si_stages.proofs.ExerciseLemmas.{exercise_one, exercise_some}
 use Rattle.si_stages.proofs.GenlibLemmas.{genlib_one, genlib_some}
+use Rattle.si_stages.proofs.InsertedTexts.{insert_one, insert_some, resolve_one, resolve_some}
 use Rattle.si_stages.proofs.MeaningLemmas.{report_one, synth_one, mapping_one, replay_one}
 use Rattle.si_stages.proofs.MeaningLemmas.{report_some, synth_some, mapping_some, replay_some}
 use Rattle.si_readings.proofs.StageLemmas.{gives_one, gives_some}
@@ -31,6 +33,8 @@ meaning_one FromGenlib (file ∷ []) (text ∷ []) = genlib_one file text
 meaning_one Verilog (file ∷ []) (text ∷ []) = verilog_one file text
 meaning_one Replay (g ∷ n ∷ s ∷ []) (a ∷ b ∷ c ∷ []) = replay_one g a n b s c
 meaning_one Audit (g ∷ n ∷ []) (a ∷ b ∷ []) = audit_one g a n b
+meaning_one Resolve (file ∷ []) (text ∷ []) = resolve_one file text
+meaning_one Insert (g ∷ n ∷ []) (a ∷ b ∷ []) = insert_one g a n b
 meaning_one (Exercise count) [] [] = exercise_one (number_of count)
 meaning_one task files texts = λ a b one other. absurd one
 
@@ -46,6 +50,8 @@ meaning_some FromGenlib (file ∷ []) (text ∷ []) many each = genlib_some file
 meaning_some Verilog (file ∷ []) (text ∷ []) many each = verilog_some file text
 meaning_some Replay (g ∷ n ∷ s ∷ []) (a ∷ b ∷ c ∷ []) many each = replay_some g a n b s c
 meaning_some Audit (g ∷ n ∷ []) (a ∷ b ∷ []) many each = audit_some g a n b
+meaning_some Resolve (file ∷ []) (text ∷ []) many each = resolve_some file text
+meaning_some Insert (g ∷ n ∷ []) (a ∷ b ∷ []) many each = insert_some g a n b
 meaning_some (Exercise count) [] [] many each = exercise_some (number_of count) (few_handshakes count)
 meaning_some task files texts many each = absurd (omega (arith, many, each))
 

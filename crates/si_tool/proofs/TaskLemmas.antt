@@ -11,6 +11,7 @@ use Rattle.si_tool.specs.declared.command.HandshakeCount.{HandshakeCount}
 use Rattle.si_tool.specs.declared.command.HandshakeCount.TheVariants.{One, Two, Three, Four, Five, Six, Seven, Eight}
 use Rattle.si_tool.specs.declared.command.Task.{Task}
 use Rattle.si_tool.specs.declared.command.Task.TheVariants.{About, Tell, Synth, Map, FromGenlib, Verilog, Replay, Audit, Exercise}
+use Rattle.si_tool.specs.declared.command.Task.TheVariants.{Resolve, Insert}
 use Rattle.si_tool.specs.declared.command.TheConstants.{TASKS}
 use Rattle.si_readings.specs.declared.library_format.LibraryFormat.{LibraryFormat}
 use Rattle.si_readings.specs.declared.library_format.LibraryFormat.TheVariants.{Own, Genlib}
@@ -22,7 +23,7 @@ first_task = About (Help Long)
 
 -- ---- the table has each task
 abbrev pub IsListed : Task → Type 0
-IsListed task = (place : ℕ) × (place < 25) × (get_or TASKS place first_task ≡ task)
+IsListed task = (place : ℕ) × (place < 27) × (get_or TASKS place first_task ≡ task)
 
 pub each_listed : (task : Task) → IsListed task
 each_listed (About (Help Long)) = (0, omega arith, refl)
@@ -42,14 +43,16 @@ each_listed FromGenlib = (13, omega arith, refl)
 each_listed Verilog = (14, omega arith, refl)
 each_listed Replay = (15, omega arith, refl)
 each_listed Audit = (16, omega arith, refl)
-each_listed (Exercise One) = (17, omega arith, refl)
-each_listed (Exercise Two) = (18, omega arith, refl)
-each_listed (Exercise Three) = (19, omega arith, refl)
-each_listed (Exercise Four) = (20, omega arith, refl)
-each_listed (Exercise Five) = (21, omega arith, refl)
-each_listed (Exercise Six) = (22, omega arith, refl)
-each_listed (Exercise Seven) = (23, omega arith, refl)
-each_listed (Exercise Eight) = (24, omega arith, refl)
+each_listed Resolve = (17, omega arith, refl)
+each_listed Insert = (18, omega arith, refl)
+each_listed (Exercise One) = (19, omega arith, refl)
+each_listed (Exercise Two) = (20, omega arith, refl)
+each_listed (Exercise Three) = (21, omega arith, refl)
+each_listed (Exercise Four) = (22, omega arith, refl)
+each_listed (Exercise Five) = (23, omega arith, refl)
+each_listed (Exercise Six) = (24, omega arith, refl)
+each_listed (Exercise Seven) = (25, omega arith, refl)
+each_listed (Exercise Eight) = (26, omega arith, refl)
 
 -- ---- words ask for none of the tasks up to a place
 abbrev pub AsksNoneBefore : List (String Global) → (place : ℕ) → Type 0
@@ -67,7 +70,7 @@ asks_one_less words place before here k below files asks = elim (cases_lt k plac
       )
 ]
 
-pub asks_nothing : (words : List (String Global)) (place : ℕ) → 25 ≤ place → AsksNoneBefore words place
+pub asks_nothing : (words : List (String Global)) (place : ℕ) → 27 ≤ place → AsksNoneBefore words place
     → AsksNothing words
 asks_nothing words place end none request asks =
     let listed = each_listed request.task in

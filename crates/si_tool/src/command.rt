@@ -83,12 +83,16 @@ pub enum Task {
     Replay,
     /// Whether a netlist is certified for a graph.
     Audit,
+    /// The graph after the insertions that resolve its conflicts.
+    Resolve,
+    /// The graph after the insertions of a netlist.
+    Insert,
     /// The sizes of so many handshakes.
     Exercise(HandshakeCount),
 }
 
 /// Each task. No two of them have a form in common.
-const TASKS: [Task; 25] = [
+const TASKS: [Task; 27] = [
     Task::About(Topic::Help(HelpWord::Long)),
     Task::About(Topic::Help(HelpWord::Short)),
     Task::About(Topic::Help(HelpWord::Plain)),
@@ -106,6 +110,8 @@ const TASKS: [Task; 25] = [
     Task::Verilog,
     Task::Replay,
     Task::Audit,
+    Task::Resolve,
+    Task::Insert,
     Task::Exercise(HandshakeCount::One),
     Task::Exercise(HandshakeCount::Two),
     Task::Exercise(HandshakeCount::Three),
@@ -176,6 +182,8 @@ fn files_for<'w>(
             files_in(alloc, words, &form)
         }
         Task::Audit => files_in(alloc, words, &[Slot::Word("audit"), Slot::File, Slot::File]),
+        Task::Resolve => files_in(alloc, words, &[Slot::Word("resolve"), Slot::File]),
+        Task::Insert => files_in(alloc, words, &[Slot::Word("insert"), Slot::File, Slot::File]),
         Task::Exercise(count) => {
             files_in(
                 alloc,

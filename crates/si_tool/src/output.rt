@@ -18,6 +18,7 @@ use si_refusals::refusals::Refusal;
 use si_stages::audited::audit_texts;
 use si_stages::exercise::exercise;
 use si_stages::genlib::genlib;
+use si_stages::inserted::{insert, resolve};
 use si_stages::mapping::map_texts;
 use si_stages::replayed::replay_texts;
 use si_stages::report::report;
@@ -74,6 +75,8 @@ fn output_of_texts<'w>(
             )
         }
         Task::Audit => audit_texts(alloc, files[0], &texts[0], files[1], &texts[1]),
+        Task::Resolve => resolve(alloc, files[0], &texts[0]),
+        Task::Insert => insert(alloc, files[0], &texts[0], files[1], &texts[1]),
         Task::Exercise(count) => Ok(exercise(alloc, count.number())?),
     }
 }

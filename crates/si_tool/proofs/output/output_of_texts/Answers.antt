@@ -136,3 +136,41 @@ returns-in-Audit-clause-err c =
     c.index-texts-0-in-Audit.is c.index-texts-1-in-Audit.is c.deref-in-Audit.ensures.value
     c.deref-in-Audit-2.ensures.value in
     rw (c.in-Audit.is, names, texts) c.audit_texts.ensures.err
+
+pub returns-in-Resolve-clause-ok : goal.returns-in-Resolve-clause-ok
+returns-in-Resolve-clause-ok c =
+    let many : length c.args.files.now ≡ 1 = rw c.in-Resolve.is at c.requires.files in
+    let names = one_name c.args.files.now many in
+    let texts = one_text c.args.texts.now c.index-texts-0-in-Resolve.result
+    c.deref-in-Resolve.result.now (c.requires.texts ∙ many)
+    c.index-texts-0-in-Resolve.is c.deref-in-Resolve.ensures.value in
+    rw (c.in-Resolve.is, names, texts) c.resolve.ensures.ok
+
+pub returns-in-Resolve-clause-err : goal.returns-in-Resolve-clause-err
+returns-in-Resolve-clause-err c =
+    let many : length c.args.files.now ≡ 1 = rw c.in-Resolve.is at c.requires.files in
+    let names = one_name c.args.files.now many in
+    let texts = one_text c.args.texts.now c.index-texts-0-in-Resolve.result
+    c.deref-in-Resolve.result.now (c.requires.texts ∙ many)
+    c.index-texts-0-in-Resolve.is c.deref-in-Resolve.ensures.value in
+    rw (c.in-Resolve.is, names, texts) c.resolve.ensures.err
+
+pub returns-in-Insert-clause-ok : goal.returns-in-Insert-clause-ok
+returns-in-Insert-clause-ok c =
+    let many : length c.args.files.now ≡ 2 = rw c.in-Insert.is at c.requires.files in
+    let names = two_names c.args.files.now many in
+    let texts = two_texts c.args.texts.now c.index-texts-0-in-Insert.result c.index-texts-1-in-Insert.result
+    c.deref-in-Insert.result.now c.deref-in-Insert-2.result.now (c.requires.texts ∙ many)
+    c.index-texts-0-in-Insert.is c.index-texts-1-in-Insert.is c.deref-in-Insert.ensures.value
+    c.deref-in-Insert-2.ensures.value in
+    rw (c.in-Insert.is, names, texts) c.insert.ensures.ok
+
+pub returns-in-Insert-clause-err : goal.returns-in-Insert-clause-err
+returns-in-Insert-clause-err c =
+    let many : length c.args.files.now ≡ 2 = rw c.in-Insert.is at c.requires.files in
+    let names = two_names c.args.files.now many in
+    let texts = two_texts c.args.texts.now c.index-texts-0-in-Insert.result c.index-texts-1-in-Insert.result
+    c.deref-in-Insert.result.now c.deref-in-Insert-2.result.now (c.requires.texts ∙ many)
+    c.index-texts-0-in-Insert.is c.index-texts-1-in-Insert.is c.deref-in-Insert.ensures.value
+    c.deref-in-Insert-2.ensures.value in
+    rw (c.in-Insert.is, names, texts) c.insert.ensures.err
