@@ -10,6 +10,8 @@ mod genlib_tests;
 #[cfg(test)]
 mod hostile_tests;
 #[cfg(test)]
+mod inserted_tests;
+#[cfg(test)]
 mod replay_tests;
 #[cfg(test)]
 mod tests;
