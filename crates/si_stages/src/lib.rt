@@ -9,6 +9,7 @@ pub mod fold_laws;
 pub mod genlib;
 mod literals;
 pub mod mapping;
+pub mod replay_kind;
 pub mod replayed;
 pub mod report;
 pub mod report_kind;

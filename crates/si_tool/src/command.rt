@@ -12,6 +12,7 @@ use crate::form::{Slot, files_in};
 use si_circuit::style::Style;
 use si_readings::library_format::LibraryFormat;
 use si_refusals::refusals::Refusal;
+use si_stages::replay_kind::ReplayReport;
 use si_stages::report_kind::Report;
 use std::alloc::{AllocError, Global};
 
@@ -79,8 +80,8 @@ pub enum Task {
     FromGenlib,
     /// A netlist as a module of Verilog.
     Verilog,
-    /// The end of a schedule over a netlist beside a graph.
-    Replay,
+    /// What is told of a schedule over a netlist beside a graph.
+    Replay(ReplayReport),
     /// Whether a netlist is certified for a graph.
     Audit,
     /// The sizes of so many handshakes.
@@ -88,7 +89,7 @@ pub enum Task {
 }
 
 /// Each task. No two of them have a form in common.
-const TASKS: [Task; 25] = [
+const TASKS: [Task; 26] = [
     Task::About(Topic::Help(HelpWord::Long)),
     Task::About(Topic::Help(HelpWord::Short)),
     Task::About(Topic::Help(HelpWord::Plain)),
@@ -104,8 +105,9 @@ const TASKS: [Task; 25] = [
     Task::Map(LibraryFormat::Genlib),
     Task::FromGenlib,
     Task::Verilog,
-    Task::Replay,
+    Task::Replay(ReplayReport::End),
     Task::Audit,
+    Task::Replay(ReplayReport::Wave),
     Task::Exercise(HandshakeCount::One),
     Task::Exercise(HandshakeCount::Two),
     Task::Exercise(HandshakeCount::Three),
@@ -171,8 +173,9 @@ fn files_for<'w>(
         }
         Task::FromGenlib => files_in(alloc, words, &[Slot::Word("genlib"), Slot::File]),
         Task::Verilog => files_in(alloc, words, &[Slot::Word("verilog"), Slot::File]),
-        Task::Replay => {
-            let form = [Slot::Word("replay"), Slot::File, Slot::File, Slot::File];
+        Task::Replay(report) => {
+            let word = Slot::Word(replay_word(report));
+            let form = [word, Slot::File, Slot::File, Slot::File];
             files_in(alloc, words, &form)
         }
         Task::Audit => files_in(alloc, words, &[Slot::Word("audit"), Slot::File, Slot::File]),
@@ -196,6 +199,16 @@ fn report_word(report: Report) -> &'static str
         Report::Conflicts => "conflicts",
         Report::Covers => "covers",
         Report::Fold => "fold",
+    }
+}
+
+/// The word for what is told of a schedule.
+fn replay_word(report: ReplayReport) -> &'static str
+    ensures { result.now ≡ command.replay_word report }
+{
+    match report {
+        ReplayReport::End => "replay",
+        ReplayReport::Wave => "wave",
     }
 }
 
