@@ -32,7 +32,7 @@ use Rattle.si_readings.proofs.CheckLemmas.{graph_one, proper_one, match_lists_on
 use Rattle.si_stages.proofs.GivenLineages.{given_lineage}
 use Rattle.si_stages.proofs.MappingLemmas.{cells_text_one, cells_text_some, is_library, is_mapping}
 use Rattle.si_readings.proofs.ReadingLemmas.{mapping_readings_are, mapping_readings_one, mapping_readings_some}
-use Rattle.si_readings.proofs.ReadingLemmas.{replay_readings_given, replay_readings_one, replay_readings_some}
+use Rattle.si_readings.proofs.ReadingLemmas.{replay_readings_are, replay_readings_one, replay_readings_some}
 use Rattle.si_readings.proofs.GivenNames.{given_named_states}
 use Rattle.si_stages.proofs.ReportLemmas.{told_one, told_some}
 use Rattle.si_stages.proofs.ResolutionLemmas.{IsResolution, resolution_is, resolution_of}
@@ -91,7 +91,7 @@ mapping_some format g a n b = then_some _ _ (mapping_readings_some format g a n 
 
 pub replay_some : (what : ReplayReport) (g a n b s c : List ℕ) → HasResult (replay what g a n b s c)
 replay_some what g a n b s c = then_some _ _ (replay_readings_some g a n b s c)
-    (λ readings read. let given = replay_readings_given g a n b s c readings read in
+    (λ readings read. let given = (replay_readings_are g a n b s c readings read).given in
     then_some _ _ (proper_some a readings.given given)
     (λ coded sound. then_some _ _ (match_lists_some n coded readings.netlist)
     (λ _ same. replay_end_some what readings.given.graph readings.given.states readings.netlist readings.events

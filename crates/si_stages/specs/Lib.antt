@@ -13,4 +13,5 @@ pub mod AuditLaws
 pub mod FoldLaws
 pub mod Exercise
 pub mod Verilog
+pub mod WaveLaws
 pub mod Genlib

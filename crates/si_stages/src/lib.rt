@@ -16,3 +16,4 @@ pub mod report_kind;
 pub mod resolving;
 pub mod synth;
 pub mod verilog;
+pub mod wave_laws;

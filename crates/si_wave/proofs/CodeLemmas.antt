@@ -58,3 +58,10 @@ codes_visible k few = elim (cases_Bool (nat_lt k visible_bytes)) [
   | inl is ↦ rw (short k is, between k (ltb-true k visible_bytes is)) refl
   | inr is ↦ rw (long k is, between (k - visible_bytes) (omega (arith, ltb-false k visible_bytes is))) refl
 ]
+
+-- each has a byte
+pub code_some : (k : ℕ) → nat_lt 0 (length (wire_code k)) ≡ true
+code_some k = elim (cases_Bool (nat_lt k visible_bytes)) [
+  | inl is ↦ rw (short k is) refl
+  | inr is ↦ rw (long k is) refl
+]
