@@ -1,9 +1,11 @@
 -- All texts of a command, read in their order: one result, and what each text gives.
-use Rattle.std.proofs.Common.{◌≡◌, ℕ, List, None, Ok, refl, sym, subst}
+use Rattle.std.proofs.Common.{◌≡◌, ℕ, List, None, Ok, refl, sym, ap, subst, ◌∙◌}
+use Rattle.si_base.specs.Netlist.{Netlist}
 use Rattle.si_netlist_reader.specs.NetlistFault.{netlist_fault}
 use Rattle.si_netlist_reader.specs.NetlistValue.{netlist_of}
 use Rattle.si_refusals.specs.Stages.{Passes, Refuses}
 use Rattle.si_sg.specs.GivenGraph.{IsGivenBy}
+use Rattle.si_system.specs.ScheduleText.{schedule_fault, schedule_of, signal_names}
 use Rattle.si_readings.specs.Laws.{AtMostOne, HasResult}
 use Rattle.si_readings.specs.Readings.{AuditReadings, MappingReadings, ReplayReadings}
 use Rattle.si_readings.specs.Readings.{audit_readings, fault_in, library_from, mapping_readings, replay_readings}
@@ -74,15 +76,29 @@ pub replay_readings_some : (g a n b s c : List ℕ) → HasResult (replay_readin
 replay_readings_some g a n b s c = then_some _ _ (graph_some g a) (λ given is. then_some _ _ (spelled_some n _ _)
     (λ net spelt. then_some _ _ (spelled_some s _ _) (λ events read. gives_some _)))
 
-pub replay_readings_given : (g a n b s c : List ℕ) (readings : ReplayReadings)
-    → replay_readings g a n b s c (Ok readings) → IsGivenBy a readings.given
-replay_readings_given g a n b s c readings (Refuses r h same) =
+pub record AreReplayReadings (a b c : List ℕ) (readings : ReplayReadings) : Type 0 where
+  pub given : IsGivenBy a readings.given
+  pub no_fault : netlist_fault b ≡ None
+  pub netlist : readings.netlist ≡ netlist_of b
+  pub sound : schedule_fault (signal_names (netlist_of b).signals) c ≡ None
+  pub events : readings.events ≡ schedule_of (signal_names (netlist_of b).signals) c
+
+pub replay_readings_are : (g a n b s c : List ℕ) (readings : ReplayReadings)
+    → replay_readings g a n b s c (Ok readings) → AreReplayReadings a b c readings
+replay_readings_are g a n b s c readings (Refuses r h same) =
     absurd (no_refusal (Ok readings) readings r refl same)
-replay_readings_given g a n b s c readings (Passes given is (Refuses r h same)) =
+replay_readings_are g a n b s c readings (Passes given is (Refuses r h same)) =
     absurd (no_refusal (Ok readings) readings r refl same)
-replay_readings_given g a n b s c readings (Passes given is (Passes net spelt (Refuses r h same))) =
+replay_readings_are g a n b s c readings (Passes given is (Passes net spelt (Refuses r h same))) =
     absurd (no_refusal (Ok readings) readings r refl same)
-replay_readings_given g a n b s c readings (Passes given is (Passes net spelt (Passes events read same))) =
+replay_readings_are g a n b s c readings (Passes given is (Passes net spelt (Passes events read same))) =
     let all : ReplayReadings = record { given = given; netlist = net; events = events } in
     let readings_are = one_value (Ok readings) readings all refl same in
-    subst (λ (r : ReplayReadings). IsGivenBy a r.given) (sym readings_are) is
+    let found : AreReplayReadings a b c all = record {
+      given = is;
+      no_fault = spelt.0;
+      netlist = spelt.1;
+      sound = subst (λ (m : Netlist). schedule_fault (signal_names m.signals) c ≡ None) spelt.1 read.0;
+      events = read.1 ∙ ap (λ (m : Netlist). schedule_of (signal_names m.signals) c) spelt.1;
+    } in
+    subst (AreReplayReadings a b c) (sym readings_are) found

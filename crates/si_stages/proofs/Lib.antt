@@ -14,6 +14,7 @@ pub mod AuditLemmas
 pub mod MeaningLemmas
 pub mod FoldLaws
 pub mod AuditLaws
+pub mod WaveLaws
 pub mod ExerciseLemmas
 pub mod VerilogLemmas
 pub mod GenlibLemmas

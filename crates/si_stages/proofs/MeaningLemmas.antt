@@ -26,12 +26,13 @@ use Rattle.si_stages.specs.Meaning.{report, synth, mapping, replay}
 use Rattle.si_readings.specs.Readings.{MappingReadings, ReplayReadings, library_from, mapping_readings}
 use Rattle.si_stages.specs.Resolving.{resolution}
 use Rattle.si_readings.specs.declared.library_format.LibraryFormat.{LibraryFormat}
+use Rattle.si_stages.specs.declared.replay_kind.ReplayReport.{ReplayReport}
 use Rattle.si_stages.specs.declared.report_kind.Report.{Report}
 use Rattle.si_readings.proofs.CheckLemmas.{graph_one, proper_one, match_lists_one}
 use Rattle.si_stages.proofs.GivenLineages.{given_lineage}
 use Rattle.si_stages.proofs.MappingLemmas.{cells_text_one, cells_text_some, is_library, is_mapping}
 use Rattle.si_readings.proofs.ReadingLemmas.{mapping_readings_are, mapping_readings_one, mapping_readings_some}
-use Rattle.si_readings.proofs.ReadingLemmas.{replay_readings_given, replay_readings_one, replay_readings_some}
+use Rattle.si_readings.proofs.ReadingLemmas.{replay_readings_are, replay_readings_one, replay_readings_some}
 use Rattle.si_readings.proofs.GivenNames.{given_named_states}
 use Rattle.si_stages.proofs.ReportLemmas.{told_one, told_some}
 use Rattle.si_stages.proofs.ResolutionLemmas.{IsResolution, resolution_is, resolution_of}
@@ -64,11 +65,11 @@ mapping_one format g a n b = then_one _ _ (mapping_readings_one format g a n b)
         let is = resolution_is readings.given.graph readings.given.states l resolves in
         (keeps l.given l.trace l.current (given_lineage a readings.given l given is).line).coded
 
-pub replay_one : (g a n b s c : List ℕ) → AtMostOne (replay g a n b s c)
-replay_one g a n b s c = then_one _ _ (replay_readings_one g a n b s c)
+pub replay_one : (what : ReplayReport) (g a n b s c : List ℕ) → AtMostOne (replay what g a n b s c)
+replay_one what g a n b s c = then_one _ _ (replay_readings_one g a n b s c)
     (λ readings read. then_one _ _ (proper_one readings.given.graph readings.given.states)
     (λ coded sound. then_one _ _ (match_lists_one n coded readings.netlist)
-    (λ _ same. replay_end_one readings.given.graph readings.given.states readings.netlist readings.events)))
+    (λ _ same. replay_end_one what readings.given.graph readings.given.states readings.netlist readings.events)))
 
 -- ---- and to some answer
 pub report_some : (what : Report) (file text : List ℕ) → HasResult (report what file text)
@@ -88,12 +89,12 @@ mapping_some format g a n b = then_some _ _ (mapping_readings_some format g a n 
     let is = resolution_is readings.given.graph readings.given.states l resolves in
     cells_text_some readings.library a readings.given l good are.given is))
 
-pub replay_some : (g a n b s c : List ℕ) → HasResult (replay g a n b s c)
-replay_some g a n b s c = then_some _ _ (replay_readings_some g a n b s c)
-    (λ readings read. let given = replay_readings_given g a n b s c readings read in
+pub replay_some : (what : ReplayReport) (g a n b s c : List ℕ) → HasResult (replay what g a n b s c)
+replay_some what g a n b s c = then_some _ _ (replay_readings_some g a n b s c)
+    (λ readings read. let given = (replay_readings_are g a n b s c readings read).given in
     then_some _ _ (proper_some a readings.given given)
     (λ coded sound. then_some _ _ (match_lists_some n coded readings.netlist)
-    (λ _ same. replay_end_some readings.given.graph readings.given.states readings.netlist readings.events
+    (λ _ same. replay_end_some what readings.given.graph readings.given.states readings.netlist readings.events
     (given_named_states a readings.given given))))
 
 -- ---- a graph without conflicts is its own lineage
@@ -133,14 +134,14 @@ then_ends : {A : Type 0} (first : Stage TextRefusal A) (next : A → Stage TextR
 then_ends first next x is (inl ends) = inl (ends.0, Passes x is ends.1)
 then_ends first next x is (inr departs) = inr (departs.0, departs.1, departs.2, Passes x is departs.3)
 
-pub replay_ends : (g n s a b c : List ℕ) (given : Sg) (coded : CodedGraph) → IsGivenBy a given → netlist_fault b
+pub replay_ends : (what : ReplayReport) (g n s a b c : List ℕ) (given : Sg) (coded : CodedGraph) → IsGivenBy a given → netlist_fault b
     ≡ None
     → schedule_fault (signal_names (netlist_of b).signals) c ≡ None → IsSound given.graph coded
-    → IsFor coded (netlist_of b) → EndsOrDeparts (replay g a n b s c)
-replay_ends g n s a b c given coded is netlist schedule sound fits =
+    → IsFor coded (netlist_of b) → EndsOrDeparts (replay what g a n b s c)
+replay_ends what g n s a b c given coded is netlist schedule sound fits =
     let net = netlist_of b in
     let events = schedule_of (signal_names net.signals) c in
     let readings : ReplayReadings = record { given = given; netlist = net; events = events } in
     let read = Passes given is (Passes net (netlist, refl) (Passes events (schedule, refl) refl)) in
     then_ends _ _ readings read (then_ends _ _ coded sound (then_ends _ _ tt fits
-    (ends_or_departs given.graph given.states net events (given_named_states a given is))))
+    (ends_or_departs what given.graph given.states net events (given_named_states a given is))))

@@ -13,7 +13,8 @@ use Rattle.si_system.specs.declared.replay.Outcome.TheVariants as outcome
 use Rattle.si_refusals.specs.Ending.{Ending, NoMemory, Answered, MayStop}
 use Rattle.si_refusals.specs.Refusal.{TextRefused}
 use Rattle.si_stages.specs.Outcomes.{HasName, TellsEnd, TellsDeparture}
-use Rattle.si_stages.specs.Replayed.{IsReplay, replay_end, replay_text}
+use Rattle.si_stages.specs.Replayed.{IsReplay, replay_end}
+use Rattle.si_stages.specs.declared.replay_kind.ReplayReport.{ReplayReport}
 
 may_within : (kind : SigKind) (g : StateGraph) (n : Netlist) (values s : ℕ) (e : Event) (t : ℕ) → IsGraph g
     → s < g.states → May kind g n values s e (Some t) → t < g.states
@@ -58,25 +59,25 @@ has_name graph states net events (outcome.Done values state) is many out =
     omega arith
 has_name graph states net events (outcome.Differs step event verdict) is many out = tt
 
-pub told_end : (graph : StateGraph) (states : List (List ℕ)) (net : Netlist) (events : List Event) (count : ℕ)
-    (o : Outcome) (text : List ℕ) → count ≡ length events → IsOutcome graph net (start graph net) events o
-    → TellsEnd net.signals count states o text → IsReplay graph states net events text
-told_end graph states net events count (outcome.Done values state) text counted out tells = record {
+pub told_end : (what : ReplayReport) (graph : StateGraph) (states : List (List ℕ)) (net : Netlist)
+    (events : List Event) (o : Outcome) (text : List ℕ) → IsOutcome graph net (start graph net) events o
+    → TellsEnd what net events states o text → IsReplay what graph states net events text
+told_end what graph states net events (outcome.Done values state) text out tells = record {
   values = values;
   state = state;
   outcome_is = out;
   name = tells.0;
   named = tells.1;
-  output_is = tells.2 ∙ ap (λ (n : ℕ). replay_text n net.signals values tells.0) counted;
+  output_is = tells.2;
 }
-told_end graph states net events count (outcome.Differs step event verdict) text counted out tells = absurd tells
+told_end what graph states net events (outcome.Differs step event verdict) text out tells = absurd tells
 
-pub told_departure : (graph : StateGraph) (states : List (List ℕ)) (net : Netlist) (events : List Event) (o : Outcome)
-    (e : Ending) → IsOutcome graph net (start graph net) events o → TellsDeparture net.signals o e
-    → MayStop (replay_end graph states net events) e
-told_departure graph states net events (outcome.Done values state) NoMemory out tells = tt
-told_departure graph states net events (outcome.Done values state) e out tells = absurd tells
-told_departure graph states net events (outcome.Differs step event verdict) NoMemory out tells = tt
-told_departure graph states net events (outcome.Differs step event verdict) (Answered (TextRefused r)) out tells =
+pub told_departure : (what : ReplayReport) (graph : StateGraph) (states : List (List ℕ)) (net : Netlist)
+    (events : List Event) (o : Outcome) (e : Ending) → IsOutcome graph net (start graph net) events o → TellsDeparture net.signals o e
+    → MayStop (replay_end what graph states net events) e
+told_departure what graph states net events (outcome.Done values state) NoMemory out tells = tt
+told_departure what graph states net events (outcome.Done values state) e out tells = absurd tells
+told_departure what graph states net events (outcome.Differs step event verdict) NoMemory out tells = tt
+told_departure what graph states net events (outcome.Differs step event verdict) (Answered (TextRefused r)) out tells =
     record { step = step; event = event; verdict = verdict; outcome_is = out; refusal_is = tells }
-told_departure graph states net events (outcome.Differs step event verdict) e out tells = absurd tells
+told_departure what graph states net events (outcome.Differs step event verdict) e out tells = absurd tells

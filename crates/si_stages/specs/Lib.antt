@@ -13,6 +13,7 @@ pub mod AuditLaws
 pub mod FoldLaws
 pub mod Exercise
 pub mod Verilog
+pub mod WaveLaws
 pub mod Genlib
 pub mod Inserted
 pub mod InsertedLaws

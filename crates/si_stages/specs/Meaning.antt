@@ -13,6 +13,7 @@ use Rattle.si_stages.specs.Reports.{told}
 use Rattle.si_stages.specs.Resolving.{resolution}
 use Rattle.si_stages.specs.Synthesis.{synthesis}
 use Rattle.si_readings.specs.declared.library_format.LibraryFormat.{LibraryFormat}
+use Rattle.si_stages.specs.declared.replay_kind.ReplayReport.{ReplayReport}
 use Rattle.si_stages.specs.declared.report_kind.Report.{Report}
 
 abbrev pub report : Report → (file text : List ℕ) → Stage TextRefusal (List ℕ)
@@ -35,13 +36,14 @@ mapping format graph graph_text library library_text = do
   lineage ← resolution readings.given.graph readings.given.states
   cells_text readings.library readings.given lineage
 
-abbrev pub replay : (graph graph_text netlist netlist_text schedule schedule_text : List ℕ)
+abbrev pub replay : ReplayReport
+    → (graph graph_text netlist netlist_text schedule schedule_text : List ℕ)
     → Stage TextRefusal (List ℕ)
-replay graph graph_text netlist netlist_text schedule schedule_text = do
+replay what graph graph_text netlist netlist_text schedule schedule_text = do
   readings ← replay_readings graph graph_text netlist netlist_text schedule schedule_text
   coded ← proper readings.given.graph readings.given.states
   _ ← match_lists netlist coded readings.netlist
-  replay_end readings.given.graph readings.given.states readings.netlist readings.events
+  replay_end what readings.given.graph readings.given.states readings.netlist readings.events
 
 abbrev pub audit : (graph graph_text netlist netlist_text : List ℕ) → Stage TextRefusal (List ℕ)
 audit graph graph_text netlist netlist_text = do

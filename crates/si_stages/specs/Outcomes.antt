@@ -1,13 +1,16 @@
 -- What is told of an outcome of a replay.
 use Rattle.std.specs.Prelude.{◌≡◌, ℕ, ◌<◌, List, length, Some, slice_get}
+use Rattle.si_base.specs.Netlist.{Netlist}
 use Rattle.si_base.specs.NetlistText.{name_of}
 use Rattle.si_base.specs.declared.graph.Signal.{Signal}
+use Rattle.si_base.specs.declared.ids.Event.{Event}
 use Rattle.si_system.specs.declared.replay.Outcome.{Outcome}
 use Rattle.si_system.specs.declared.replay.Outcome.TheVariants as outcome
 use Rattle.si_system.specs.declared.verdict.Verdict.{Verdict}
 use Rattle.si_refusals.specs.Ending.{Ending, NoMemory, Answered}
 use Rattle.si_refusals.specs.Refusal.{TextRefused, Differs}
-use Rattle.si_stages.specs.Replayed.{replay_text, shown_signal}
+use Rattle.si_stages.specs.Replayed.{output_of, shown_signal}
+use Rattle.si_stages.specs.declared.replay_kind.ReplayReport.{ReplayReport}
 
 -- the replay departs from the graph at this event, with the signal shown and the verdict, or memory
 -- ran out
@@ -21,11 +24,12 @@ abbrev pub HasName : List (List ℕ) → Outcome → Type 0
 HasName states (outcome.Done values state) = state < length states
 HasName states (outcome.Differs step event verdict) = Unit {0}
 
--- the text tells the end of a schedule of so many events
-abbrev pub TellsEnd : List Signal → ℕ → List (List ℕ) → Outcome → List ℕ → Type 0
-TellsEnd signals events states (outcome.Done values state) text = (name : List ℕ)
-    × (slice_get states state ≡ Some name) × (text ≡ replay_text events signals values name)
-TellsEnd signals events states (outcome.Differs step event verdict) text = ⊥
+-- the text tells of a schedule that goes to its end
+abbrev pub TellsEnd : ReplayReport → Netlist → List Event → List (List ℕ) → Outcome → List ℕ
+    → Type 0
+TellsEnd what netlist events states (outcome.Done values state) text = (name : List ℕ)
+    × (slice_get states state ≡ Some name) × (text ≡ output_of what netlist events values name)
+TellsEnd what netlist events states (outcome.Differs step event verdict) text = ⊥
 
 -- the call stops with the event that departs from the graph
 abbrev pub TellsDeparture : List Signal → Outcome → Ending → Type 0

@@ -1,4 +1,4 @@
--- Where a schedule ends, over a netlist beside a graph.
+-- What is told of a schedule that is replayed, over a netlist beside a graph.
 use Rattle.std.specs.Prelude.{◌≡◌, ℕ, List, [], ◌∷◌, length, codes, decimal}
 use Rattle.std.specs.Prelude.{Some, slice_get, Ok, Err}
 use Rattle.si_base.specs.declared.ids.Event.{Event}
@@ -14,6 +14,9 @@ use Rattle.si_system.specs.declared.verdict.Verdict.{Verdict}
 use Rattle.si_system.specs.declared.verdict.Verdict.TheVariants.{Done, Blocked, Astray, Lost}
 use Rattle.si_refusals.specs.Refusal.{TextRefusal, Differs}
 use Rattle.si_refusals.specs.Stages.{Stage}
+use Rattle.si_stages.specs.declared.replay_kind.ReplayReport.{ReplayReport}
+use Rattle.si_stages.specs.declared.replay_kind.ReplayReport.TheVariants.{End, Wave}
+use Rattle.si_wave.specs.Wave.{wave_text}
 
 -- the signal that a refusal shows: the one whose excitation was lost, or else the event's
 abbrev pub shown_signal : Event → Verdict → ℕ
@@ -28,15 +31,24 @@ replay_text events signals values state = text_of ((codes "done" ∷ decimal eve
     ∷ (codes "values" ∷ word_if_any (bits_from 0 signals values))
     ∷ (codes "state" ∷ state ∷ []) ∷ [])
 
--- the output says where the schedule ends, over a graph whose states have these names
-pub record IsReplay (graph : StateGraph) (states : List (List ℕ)) (netlist : Netlist)
-    (events : List Event) (output : List ℕ) : Type 0 where
+-- of events that end with these values at the state of this name: the end; or the values from event
+-- to event
+abbrev pub output_of : ReplayReport → Netlist → List Event → (values : ℕ) → (state : List ℕ)
+    → List ℕ
+output_of End netlist events values state =
+    replay_text (length events) netlist.signals values state
+output_of Wave netlist events values state = wave_text netlist events
+
+-- the schedule goes to its end, over a graph whose states have these names, and the output tells of
+-- it
+pub record IsReplay (what : ReplayReport) (graph : StateGraph) (states : List (List ℕ))
+    (netlist : Netlist) (events : List Event) (output : List ℕ) : Type 0 where
   pub values : ℕ
   pub state : ℕ
   pub outcome_is : IsOutcome graph netlist (start graph netlist) events (outcome.Done values state)
   pub name : List ℕ
   pub named : slice_get states state ≡ Some name
-  pub output_is : output ≡ replay_text (length events) netlist.signals values name
+  pub output_is : output ≡ output_of what netlist events values name
 
 -- the refusal shows the first event, counted from 1, whose verdict isn't `Done`
 pub record IsDeparture (graph : StateGraph) (netlist : Netlist) (events : List Event)
@@ -49,8 +61,9 @@ pub record IsDeparture (graph : StateGraph) (netlist : Netlist) (events : List E
   pub refusal_is : refusal
       ≡ Differs step (name_of netlist.signals (shown_signal event verdict)) verdict
 
--- where the schedule ends: else the first event that departs from the graph
-abbrev pub replay_end : StateGraph → (states : List (List ℕ)) → Netlist → List Event
-    → Stage TextRefusal (List ℕ)
-replay_end graph states netlist events (Ok output) = IsReplay graph states netlist events output
-replay_end graph states netlist events (Err refusal) = IsDeparture graph netlist events refusal
+-- what is told of the schedule: else the first event that departs from the graph
+abbrev pub replay_end : ReplayReport → StateGraph → (states : List (List ℕ)) → Netlist
+    → List Event → Stage TextRefusal (List ℕ)
+replay_end what graph states netlist events (Ok output) =
+    IsReplay what graph states netlist events output
+replay_end what graph states netlist events (Err refusal) = IsDeparture graph netlist events refusal

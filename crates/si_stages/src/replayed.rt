@@ -1,4 +1,4 @@
-//! From the texts of a graph, a netlist and a schedule to the end of the replay.
+//! From the texts of a graph, a netlist and a schedule to what is told of the replay.
 
 ghost use Rattle.std.specs.Prelude.{◌≡◌, ◌<◌, ◌≤◌, All, IfOk, IfErr, length, Ok};
 ghost use Rattle.si_base.specs.Limits.{max_signals};
@@ -8,8 +8,10 @@ ghost use Rattle.si_stages.specs.Meaning as meaning;
 ghost use Rattle.si_refusals.specs.Ending.{MayStop, ending_of};
 ghost use Rattle.si_stages.specs.Outcomes.{Departs, HasName, TellsEnd, TellsDeparture};
 ghost use Rattle.si_stages.specs.Replayed as stage;
-ghost use Rattle.si_stages.specs.Replayed.{replay_text, shown_signal as signal_at_fault};
+ghost use Rattle.si_stages.specs.Replayed.{output_of, replay_text};
+ghost use Rattle.si_stages.specs.Replayed.{shown_signal as signal_at_fault};
 
+use crate::replay_kind::ReplayReport;
 use si_base::ids::{Code, Event, NoMemory, Sig};
 use si_base::names::Names;
 use si_base::text::Text;
@@ -23,11 +25,12 @@ use si_refusals::refusals::Refusal;
 use si_sg::read::Sg;
 use si_system::replay::{Outcome, replay};
 use si_system::verdict::Verdict;
+use si_wave::write::write_wave;
 use si_words::writing::add_line;
 use std::alloc::Global;
 
-/// The text that tells where the schedule ends, over the netlist beside the graph. A refusal shows
-/// the names of the texts' files.
+/// What is told of the schedule, over the netlist beside the graph: where it ends, or its values from
+/// event to event. A refusal shows the names of the texts' files.
 ///
 /// # Errors
 ///
@@ -36,6 +39,7 @@ use std::alloc::Global;
 /// verdict isn't `Done`. `NoMemory` only where memory runs out.
 pub fn replay_texts<'w>(
     alloc: Global,
+    what: ReplayReport,
     graph_file: &'w str,
     graph: &[u8],
     netlist_file: &'w str,
@@ -43,9 +47,9 @@ pub fn replay_texts<'w>(
     schedule_file: &'w str,
     schedule: &[u8],
 ) -> Result<Text, Refusal<'w>>
-    ensures ok { IfOk result (λ output. meaning.replay graph_file.now graph.now
+    ensures ok { IfOk result (λ output. meaning.replay what graph_file.now graph.now
         netlist_file.now netlist.now schedule_file.now schedule.now (Ok output)) }
-    ensures err { IfErr result (λ r. MayStop (meaning.replay graph_file.now graph.now
+    ensures err { IfErr result (λ r. MayStop (meaning.replay what graph_file.now graph.now
         netlist_file.now netlist.now schedule_file.now schedule.now) (ending_of r)) }
 {
     let readings = replay_readings(
@@ -66,13 +70,14 @@ pub fn replay_texts<'w>(
     let proper = proper_of(alloc, graph, &states)?;
     let coded = proper.coded();
     match_lists(netlist_file, coded, &netlist)?;
-    replay_end(alloc, coded, &netlist, &events, &states)
+    replay_end(alloc, what, coded, &netlist, &events, &states)
 }
 
-/// Where the schedule ends, over the netlist beside the graph for which it is, or the first event
-/// that departs from the graph.
+/// What is told of the schedule, over the netlist beside the graph for which it is, or the first
+/// event that departs from the graph.
 fn replay_end(
     alloc: Global,
+    what: ReplayReport,
     graph: &Coded,
     netlist: &Netlist,
     events: &Vec<Event>,
@@ -82,37 +87,38 @@ fn replay_end(
     requires few { length netlist.now.signals ≤ max_signals }
     requires within { All (λ e. e.sig < length netlist.now.signals) events.now.items }
     requires names { length states.now ≡ graph.now.graph.states }
-    ensures ok { IfOk result (λ text. stage.replay_end graph.now.graph states.now
+    ensures ok { IfOk result (λ text. stage.replay_end what graph.now.graph states.now
         netlist.now events.now.items (Ok text)) }
-    ensures err { IfErr result (λ r. MayStop (stage.replay_end graph.now.graph states.now
+    ensures err { IfErr result (λ r. MayStop (stage.replay_end what graph.now.graph states.now
         netlist.now events.now.items) (ending_of r)) }
 {
     // What holds of each coded graph comes with its graph.
     let _graph = graph.graph();
     match replay(graph, netlist, events) {
-        Ok(outcome) => outcome_text(alloc, &outcome, netlist, events.len(), states),
+        Ok(outcome) => outcome_text(alloc, what, &outcome, netlist, events, states),
         Err(_) => unreachable!(),
     }
 }
 
-/// What is told of an outcome after so many events: the end of the schedule, or the event that
-/// departs from the graph.
+/// What is told of the outcome of these events, or the event that departs from the graph.
 fn outcome_text(
     alloc: Global,
+    what: ReplayReport,
     outcome: &Outcome,
     netlist: &Netlist,
-    events: usize,
+    events: &Vec<Event>,
     states: &Names,
 ) -> Result<Text, Refusal<'static>>
     requires few { length netlist.now.signals ≤ max_signals }
     requires state { HasName states.now outcome.now }
-    ensures ok { IfOk result (TellsEnd netlist.now.signals events states.now outcome.now) }
+    ensures ok { IfOk result
+        (TellsEnd what netlist.now events.now.items states.now outcome.now) }
     ensures err { IfErr result (λ r. TellsDeparture netlist.now.signals outcome.now (ending_of r)) }
 {
     match outcome {
         Outcome::Done { values, state } => {
             let name = states.get(state.0);
-            Ok(end_text(alloc, events, netlist, *values, name)?)
+            Ok(output(alloc, what, netlist, events.as_slice(), *values, name)?)
         }
         Outcome::Differs {
             step,
@@ -153,6 +159,25 @@ fn shown_signal(event: &Event, verdict: &Verdict) -> Sig
         Verdict::Blocked => event.sig,
         Verdict::Astray { sig } => *sig,
         Verdict::Lost { sig } => *sig,
+    }
+}
+
+/// What is told of events that end with these values at the state of this name.
+fn output(
+    alloc: Global,
+    what: ReplayReport,
+    netlist: &Netlist,
+    events: &[Event],
+    values: Code,
+    state: &[u8],
+) -> Result<Text, NoMemory>
+    requires { length netlist.now.signals ≤ max_signals }
+    ensures { IfOk result
+        (λ text. text ≡ output_of what netlist.now events.now values state.now) }
+{
+    match what {
+        ReplayReport::End => end_text(alloc, events.len(), netlist, values, state),
+        ReplayReport::Wave => write_wave(alloc, netlist, events),
     }
 }
 

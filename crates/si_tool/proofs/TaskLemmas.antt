@@ -15,6 +15,7 @@ use Rattle.si_tool.specs.declared.command.Task.TheVariants.{Resolve, Insert}
 use Rattle.si_tool.specs.declared.command.TheConstants.{TASKS}
 use Rattle.si_readings.specs.declared.library_format.LibraryFormat.{LibraryFormat}
 use Rattle.si_readings.specs.declared.library_format.LibraryFormat.TheVariants.{Own, Genlib}
+use Rattle.si_stages.specs.declared.replay_kind.ReplayReport.TheVariants.{End, Wave}
 use Rattle.si_stages.specs.declared.report_kind.Report.TheVariants.{Summary, Regions, Conflicts, Covers, Fold}
 
 -- what a read past the end of the table gives
@@ -23,7 +24,7 @@ first_task = About (Help Long)
 
 -- ---- the table has each task
 abbrev pub IsListed : Task → Type 0
-IsListed task = (place : ℕ) × (place < 27) × (get_or TASKS place first_task ≡ task)
+IsListed task = (place : ℕ) × (place < 28) × (get_or TASKS place first_task ≡ task)
 
 pub each_listed : (task : Task) → IsListed task
 each_listed (About (Help Long)) = (0, omega arith, refl)
@@ -41,18 +42,19 @@ each_listed (Map Own) = (11, omega arith, refl)
 each_listed (Map Genlib) = (12, omega arith, refl)
 each_listed FromGenlib = (13, omega arith, refl)
 each_listed Verilog = (14, omega arith, refl)
-each_listed Replay = (15, omega arith, refl)
+each_listed (Replay End) = (15, omega arith, refl)
 each_listed Audit = (16, omega arith, refl)
 each_listed Resolve = (17, omega arith, refl)
 each_listed Insert = (18, omega arith, refl)
-each_listed (Exercise One) = (19, omega arith, refl)
-each_listed (Exercise Two) = (20, omega arith, refl)
-each_listed (Exercise Three) = (21, omega arith, refl)
-each_listed (Exercise Four) = (22, omega arith, refl)
-each_listed (Exercise Five) = (23, omega arith, refl)
-each_listed (Exercise Six) = (24, omega arith, refl)
-each_listed (Exercise Seven) = (25, omega arith, refl)
-each_listed (Exercise Eight) = (26, omega arith, refl)
+each_listed (Replay Wave) = (19, omega arith, refl)
+each_listed (Exercise One) = (20, omega arith, refl)
+each_listed (Exercise Two) = (21, omega arith, refl)
+each_listed (Exercise Three) = (22, omega arith, refl)
+each_listed (Exercise Four) = (23, omega arith, refl)
+each_listed (Exercise Five) = (24, omega arith, refl)
+each_listed (Exercise Six) = (25, omega arith, refl)
+each_listed (Exercise Seven) = (26, omega arith, refl)
+each_listed (Exercise Eight) = (27, omega arith, refl)
 
 -- ---- words ask for none of the tasks up to a place
 abbrev pub AsksNoneBefore : List (String Global) → (place : ℕ) → Type 0
@@ -70,7 +72,7 @@ asks_one_less words place before here k below files asks = elim (cases_lt k plac
       )
 ]
 
-pub asks_nothing : (words : List (String Global)) (place : ℕ) → 27 ≤ place → AsksNoneBefore words place
+pub asks_nothing : (words : List (String Global)) (place : ℕ) → 28 ≤ place → AsksNoneBefore words place
     → AsksNothing words
 asks_nothing words place end none request asks =
     let listed = each_listed request.task in

@@ -25,8 +25,8 @@ meaning (Synth style) (file ∷ []) (text ∷ []) = synth style file text
 meaning (Map format) (g ∷ l ∷ []) (graph ∷ library ∷ []) = mapping format g graph l library
 meaning FromGenlib (file ∷ []) (text ∷ []) = genlib file text
 meaning Verilog (file ∷ []) (text ∷ []) = verilog file text
-meaning Replay (g ∷ n ∷ s ∷ []) (graph ∷ netlist ∷ schedule ∷ []) =
-    replay g graph n netlist s schedule
+meaning (Replay what) (g ∷ n ∷ s ∷ []) (graph ∷ netlist ∷ schedule ∷ []) =
+    replay what g graph n netlist s schedule
 meaning Audit (g ∷ n ∷ []) (graph ∷ netlist ∷ []) = audit g graph n netlist
 meaning Resolve (file ∷ []) (text ∷ []) = resolve file text
 meaning Insert (g ∷ n ∷ []) (graph ∷ netlist ∷ []) = insert g graph n netlist

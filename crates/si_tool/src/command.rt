@@ -12,6 +12,7 @@ use crate::form::{Slot, files_in};
 use si_circuit::style::Style;
 use si_readings::library_format::LibraryFormat;
 use si_refusals::refusals::Refusal;
+use si_stages::replay_kind::ReplayReport;
 use si_stages::report_kind::Report;
 use std::alloc::{AllocError, Global};
 
@@ -79,8 +80,8 @@ pub enum Task {
     FromGenlib,
     /// A netlist as a module of Verilog.
     Verilog,
-    /// The end of a schedule over a netlist beside a graph.
-    Replay,
+    /// What is told of a schedule over a netlist beside a graph.
+    Replay(ReplayReport),
     /// Whether a netlist is certified for a graph.
     Audit,
     /// The graph after the insertions that resolve its conflicts.
@@ -92,7 +93,7 @@ pub enum Task {
 }
 
 /// Each task. No two of them have a form in common.
-const TASKS: [Task; 27] = [
+const TASKS: [Task; 28] = [
     Task::About(Topic::Help(HelpWord::Long)),
     Task::About(Topic::Help(HelpWord::Short)),
     Task::About(Topic::Help(HelpWord::Plain)),
@@ -108,10 +109,11 @@ const TASKS: [Task; 27] = [
     Task::Map(LibraryFormat::Genlib),
     Task::FromGenlib,
     Task::Verilog,
-    Task::Replay,
+    Task::Replay(ReplayReport::End),
     Task::Audit,
     Task::Resolve,
     Task::Insert,
+    Task::Replay(ReplayReport::Wave),
     Task::Exercise(HandshakeCount::One),
     Task::Exercise(HandshakeCount::Two),
     Task::Exercise(HandshakeCount::Three),
@@ -177,8 +179,9 @@ fn files_for<'w>(
         }
         Task::FromGenlib => files_in(alloc, words, &[Slot::Word("genlib"), Slot::File]),
         Task::Verilog => files_in(alloc, words, &[Slot::Word("verilog"), Slot::File]),
-        Task::Replay => {
-            let form = [Slot::Word("replay"), Slot::File, Slot::File, Slot::File];
+        Task::Replay(report) => {
+            let word = Slot::Word(replay_word(report));
+            let form = [word, Slot::File, Slot::File, Slot::File];
             files_in(alloc, words, &form)
         }
         Task::Audit => files_in(alloc, words, &[Slot::Word("audit"), Slot::File, Slot::File]),
@@ -204,6 +207,16 @@ fn report_word(report: Report) -> &'static str
         Report::Conflicts => "conflicts",
         Report::Covers => "covers",
         Report::Fold => "fold",
+    }
+}
+
+/// The word for what is told of a schedule.
+fn replay_word(report: ReplayReport) -> &'static str
+    ensures { result.now ≡ command.replay_word report }
+{
+    match report {
+        ReplayReport::End => "replay",
+        ReplayReport::Wave => "wave",
     }
 }
 

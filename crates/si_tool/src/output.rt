@@ -68,10 +68,10 @@ fn output_of_texts<'w>(
         Task::Verilog => verilog(alloc, files[0], &texts[0]),
         Task::FromGenlib => genlib(alloc, files[0], &texts[0]),
         Task::Map(format) => map_texts(alloc, format, files[0], &texts[0], files[1], &texts[1]),
-        Task::Replay => {
+        Task::Replay(what) => {
             let (graph, netlist, schedule) = (files[0], files[1], files[2]);
             replay_texts(
-                alloc, graph, &texts[0], netlist, &texts[1], schedule, &texts[2],
+                alloc, what, graph, &texts[0], netlist, &texts[1], schedule, &texts[2],
             )
         }
         Task::Audit => audit_texts(alloc, files[0], &texts[0], files[1], &texts[1]),

@@ -1,4 +1,4 @@
-use Rattle.std.proofs.Common.{Ok, ◌∙◌}
+use Rattle.std.proofs.Common.{Ok}
 use Rattle.si_refusals.specs.Ending.{MayStop}
 use Rattle.si_stages.specs.Outcomes.{TellsEnd, TellsDeparture}
 use Rattle.si_stages.specs.Replayed.{replay_end}
@@ -19,24 +19,24 @@ outcome_text-requires-clause-state c =
 
 pub returns-clause-ok : goal.returns-clause-ok
 returns-clause-ok c =
+    let what = c.args.what in
     let graph = c.args.graph.now.graph in
     let states = c.args.states.now in
     let net = c.args.netlist.now in
     let events = c.args.events.now.items in
-    let count = c.len.ensures ∙ c.args.events.now.ok.0 in
-    ok_map c.outcome_text.result (TellsEnd net.signals c.len.result states c.in-Ok.outcome)
-    (λ text. replay_end graph states net events (Ok text))
-    (λ text tells. told_end graph states net events c.len.result c.in-Ok.outcome text count
-    c.in-Ok.ensures.outcome tells)
+    ok_map c.outcome_text.result (TellsEnd what net events states c.in-Ok.outcome)
+    (λ text. replay_end what graph states net events (Ok text))
+    (λ text tells. told_end what graph states net events c.in-Ok.outcome text c.in-Ok.ensures.outcome tells)
     c.outcome_text.ensures.ok
 
 pub returns-clause-err : goal.returns-clause-err
 returns-clause-err c =
+    let what = c.args.what in
     let graph = c.args.graph.now.graph in
     let states = c.args.states.now in
     let net = c.args.netlist.now in
     let events = c.args.events.now.items in
     err_map c.outcome_text.result (TellsDeparture net.signals c.in-Ok.outcome)
-    (MayStop (replay_end graph states net events))
-    (λ e tells. told_departure graph states net events c.in-Ok.outcome e c.in-Ok.ensures.outcome tells)
+    (MayStop (replay_end what graph states net events))
+    (λ e tells. told_departure what graph states net events c.in-Ok.outcome e c.in-Ok.ensures.outcome tells)
     c.outcome_text.ensures.err

@@ -1,0 +1,5 @@
+use Rattle.si_wave.proofs.ShownLemmas.{shows_runs}
+use Rattle.si_wave.proofs.laws.waves_show_runs.Goals as goal
+
+pub returns : goal.returns
+returns c = shows_runs
