@@ -18,7 +18,7 @@ use Rattle.si_sg.specs.CanonicalText.{state_at, event_word}
 use Rattle.si_words.specs.Writing.{spaced}
 use Rattle.si_words.proofs.WritingLemmas.{whole_line}
 use Rattle.si_pictures.specs.CodeWord.{first, is_excited, marked_digit, code_word, enabled_of, enabled_events}
-use Rattle.si_pictures.specs.StatesText.{state_line, states_text}
+use Rattle.si_pictures.specs.StatesText.{state_line}
 
 -- ---- the parts of texts
 abbrev pub digit_at : CodedGraph → ℕ → ℕ → List ℕ

@@ -1,3 +1,4 @@
+mod Examples
 pub mod PartLemmas
 pub mod CodeLemmas
 pub mod MarkLemmas

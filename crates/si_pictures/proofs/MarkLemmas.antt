@@ -5,7 +5,6 @@ use Rattle.std.proofs.Common.{Option, Some, None, unwrap_or, refl, sym, ap, subs
 use Rattle.std.proofs.lemmas.Bool.{cases_Bool, cases_eq, cases_order, true≢false}
 use Rattle.std.proofs.lemmas.List.{get_or_push, get_or_append_left}
 use Rattle.si_base.specs.Codes.{CodedGraph, IsCoded, code}
-use Rattle.si_base.specs.Proper.{IsConflict}
 use Rattle.si_conflicts.specs.declared.keys.Key.{Key}
 use Rattle.si_conflicts.specs.Keys.{AreKeys, key_at}
 use Rattle.si_conflicts.proofs.KeyLemmas.{apart_conflict, same_no_conflict}
@@ -113,11 +112,11 @@ module _ (keys : List Key) (chosen : List ℕ) (k r n : ℕ) (old : List Bool) (
   mixed_more apart q within = elim (cases_eq q r) [
     | inl same ↦ (
       λ marked. (
-          k,
-          omega arith,
-          subst (DiffersFrom keys chosen k) (sym same)
-              (record { within = inside; chosen_is = sym at; differs = apart }),
-        ),
+        k,
+        omega arith,
+        subst (DiffersFrom keys chosen k) (sym same)
+            (record { within = inside; chosen_is = sym at; differs = apart }),
+      ),
       λ is. ap (λ i. get_or (set old r true) i false) same
           ∙ get_or-set_same old r true false (omega (arith, below, count)),
     )
@@ -143,10 +142,16 @@ module _ (c : CodedGraph) (keys : List Key) (coded : IsCoded c) (are : AreKeys c
       → (key_at keys s).excited ≢ (key_at keys t).excited → IsInConflict c s
   apart_in_conflict s t below also codes apart = elim (cases_order s t) [
     | inl same ↦ absurd (apart (ap (λ i. (key_at keys i).excited) same))
-    | inr (inl less) ↦ (t, inl (apart_conflict c coded.values s t (key_at keys s) (key_at keys t) (are.each s below)
-        (are.each t also) less also codes apart))
-    | inr (inr more) ↦ (t, inr (apart_conflict c coded.values t s (key_at keys t) (key_at keys s) (are.each t also)
-        (are.each s below) more below (sym codes) (λ same. apart (sym same))))
+    | inr (inl less) ↦ (
+      t,
+      inl (apart_conflict c coded.values s t (key_at keys s) (key_at keys t) (are.each s below)
+          (are.each t also) less also codes apart),
+    )
+    | inr (inr more) ↦ (
+      t,
+      inr (apart_conflict c coded.values t s (key_at keys t) (key_at keys s) (are.each t also)
+          (are.each s below) more below (sym codes) (λ same. apart (sym same))),
+    )
   ]
 
   -- what a conflict of s with t says of both
@@ -194,11 +199,14 @@ module _ (c : CodedGraph) (keys : List Key) (coded : IsCoded c) (are : AreKeys c
         let within : s < length chosen = omega (arith, size, below) in
         let also : t < length chosen = (let l = apart.within in omega (arith, size, l)) in
         elim (cases_eq (key_at keys s).excited (key_at keys (chosen_at s)).excited) [
-          | inl same ↦ (t, record {
-            within = also;
-            chosen_is = sym (reps.same s t below apart.within apart.codes);
-            differs = λ e. apart.differ (same ∙ sym e);
-          })
+          | inl same ↦ (
+            t,
+            record {
+              within = also;
+              chosen_is = sym (reps.same s t below apart.within apart.codes);
+              differs = λ e. apart.differ (same ∙ sym e);
+            },
+          )
           | inr other ↦ (s, record { within = within; chosen_is = refl; differs = other })
         ]
 

@@ -1,7 +1,7 @@
 -- Tokens are those of one graph at most.
-use Rattle.std.proofs.Common.{◌≡◌, ℕ, List, [], ◌∷◌, ◌++◌, flat_map, refl, sym, ap, ap₂, ◌∙◌, append_assoc, codes}
+use Rattle.std.proofs.Common.{◌≡◌, ℕ, List, [], ◌∷◌, ◌++◌, flat_map, refl, sym, ap, ap₂, ◌∙◌, append_assoc}
 use Rattle.std.proofs.Common.{◌⊎◌, arith, drop, get_or, inl, inr}
-use Rattle.si_pictures.specs.Tokens.{Token, Id, Keyword, Quoted, Arrow, Mark, Unread, tokens_of}
+use Rattle.si_pictures.specs.Tokens.{Token, Id, Keyword, Quoted, Arrow, Mark, Unread}
 use Rattle.si_pictures.specs.Grammar.{Attribute, Statement, Setting, Node, Link}
 use Rattle.si_pictures.specs.Grammar.{attribute_tokens, later_tokens, list_tokens, statement_tokens, graph_tokens, IsReadAs}
 

@@ -1,7 +1,7 @@
 -- The text of a picture: there is one, and it is read as the picture.
-use Rattle.std.proofs.Common.{◌≡◌, ℕ, ◌+◌, ◌^◌, ◌<◌, ◌≤◌, ◌==◌, ◌↔◌, not, Bool, true, false, List, [], ◌∷◌, ◌++◌, map, length, codes, decimal}
-use Rattle.std.proofs.Common.{Contains, if◌then◌else◌, refl, sym, ap, subst, ◌∙◌, arith, lit<, inl, inr, ◌⊎◌}
-use Rattle.std.specs.List.{list_all, range_with_len}
+use Rattle.std.proofs.Common.{◌≡◌, ℕ, ◌^◌, ◌<◌, ◌≤◌, ◌==◌, ◌↔◌, not, Bool, true, false, List, [], ◌∷◌, ◌++◌, map, length, codes, decimal}
+use Rattle.std.proofs.Common.{Contains, if◌then◌else◌, refl, sym, ap, subst, ◌∙◌, arith, inl, inr}
+use Rattle.std.specs.List.{list_all}
 use Rattle.std.specs.Str.Parse.{AllDigits}
 use Rattle.std.proofs.lemmas.Bool.{and_from, le-leb}
 use Rattle.std.proofs.lemmas.Fmt.{decimal_is_IsNumeral, decimal_nonempty}
@@ -16,7 +16,7 @@ use Rattle.si_conflicts.specs.Conflicts.{AreConflicts}
 use Rattle.si_conflicts.proofs.Counted.{one_list}
 use Rattle.si_conflicts.proofs.ConflictsExist.{some_conflicts}
 use Rattle.si_pictures.specs.CodeWord.{first}
-use Rattle.si_pictures.specs.Grammar.{Attribute, Statement, Setting, Node, Link, IsReadAs}
+use Rattle.si_pictures.specs.Grammar.{Attribute, Statement, Setting, IsReadAs}
 use Rattle.si_pictures.specs.InConflict.{is_among}
 use Rattle.si_pictures.specs.Picture.{labelled, two_borders, in_red, dashed, state_label, state_node, drives, arc_link}
 use Rattle.si_pictures.specs.Picture.{picture, IsDotText}

@@ -1,6 +1,6 @@
 -- The parts of the text of a picture, as they are added.
-use Rattle.std.proofs.Common.{◌≡◌, ℕ, ◌+◌, ◌<◌, ◌||◌, ◌==◌, not, Bool, true, false, List, [], ◌∷◌, ◌++◌, get_or, map, flat_map}
-use Rattle.std.proofs.Common.{if◌then◌else◌, codes, decimal, refl, sym, ap, ap₂, ◌∙◌, append_assoc, IsTrue, ◌↔◌, ◌⊎◌, inl, inr}
+use Rattle.std.proofs.Common.{◌≡◌, ℕ, ◌||◌, ◌==◌, not, Bool, true, false, List, [], ◌∷◌, ◌++◌, get_or, map, flat_map}
+use Rattle.std.proofs.Common.{if◌then◌else◌, codes, decimal, refl, sym, ap, ◌∙◌, append_assoc, IsTrue, ◌↔◌, inl, inr}
 use Rattle.std.proofs.Common.{Contains, subst, eqb-true, eq-eqb}
 use Rattle.std.specs.List.{list_any}
 use Rattle.std.proofs.lemmas.Bool.{cases_Bool, true≢false, or_cases, or_left, or_right}
@@ -8,20 +8,19 @@ use Rattle.std.proofs.lemmas.Grind.{flat_map-append}
 use Rattle.std.proofs.lemmas.List.{append-nil}
 use Rattle.si_base.specs.declared.graph.Edge.{Edge}
 use Rattle.si_base.specs.declared.graph.Signal.{Signal}
-use Rattle.si_base.specs.declared.ids.Event.{Event}
 use Rattle.si_base.specs.Codes.{CodedGraph}
 use Rattle.si_base.specs.Proper.{IsConflict}
 use Rattle.si_graph.proofs.MemberLemmas.{Contains-here, Contains-there, Contains-cons_cases, Contains-nil}
 use Rattle.si_conflicts.specs.Conflicts.{AreConflicts}
 use Rattle.si_conflicts.proofs.ConflictsExist.{some_conflicts}
-use Rattle.si_pictures.specs.CodeWord.{first, code_word}
+use Rattle.si_pictures.specs.CodeWord.{first}
 use Rattle.si_pictures.specs.InConflict.{IsInConflict, is_among, AreMarks}
 use Rattle.si_pictures.proofs.PartLemmas.{same_parts}
-use Rattle.si_pictures.specs.Grammar.{Attribute, Statement, Setting, Node, Link}
+use Rattle.si_pictures.specs.Grammar.{Attribute, Statement, Setting}
 use Rattle.si_pictures.specs.Picture.{labelled, two_borders, in_red, dashed, drives, state_label, state_node, arc_link}
 use Rattle.si_pictures.specs.Picture.{picture, IsDotText}
 use Rattle.si_pictures.specs.Writing.{escaped, attribute_text, later_text, statement_text, dot_text}
-use Rattle.si_sg.specs.CanonicalText.{state_at, event_word}
+use Rattle.si_sg.specs.CanonicalText.{event_word}
 
 abbrev pub node_of : CodedGraph → List (List ℕ) → List Bool → ℕ → Statement
 node_of c states marks s = state_node c states s (get_or marks s false)

@@ -1,14 +1,14 @@
 -- How written statements are read: token by token, whatever stands behind them.
-use Rattle.std.proofs.Common.{◌≡◌, ℕ, ◌+◌, ◌<◌, ◌==◌, Bool, true, false, List, [], ◌∷◌, ◌++◌, length, flat_map, inl, inr, refl, sym, ap}
+use Rattle.std.proofs.Common.{◌≡◌, ℕ, ◌<◌, ◌==◌, true, false, List, [], ◌∷◌, ◌++◌, length, flat_map, inl, inr, refl, sym, ap}
 use Rattle.std.proofs.Common.{◌∙◌, subst, append_assoc, codes, eqb-true, arith, lit<, leb-true, nat_le, ◌⊎◌, ◌≤◌}
 use Rattle.std.specs.List.{list_all}
 use Rattle.std.proofs.lemmas.Bool.{cases_Bool, and_parts, or_right, or_from, false_from_ne_true}
 use Rattle.std.proofs.lemmas.List.{append-nil}
-use Rattle.si_pictures.specs.Tokens.{Token, Id, Keyword, Quoted, Arrow, Mark, Place, Between, Bare, Label}
+use Rattle.si_pictures.specs.Tokens.{Token, Id, Mark, Between, Bare, Label}
 use Rattle.si_pictures.specs.Tokens.{is_digit, is_bare_byte, is_mark, bare_token, tokens_from}
-use Rattle.si_pictures.specs.Grammar.{Attribute, Statement, Setting, Node, Link}
-use Rattle.si_pictures.specs.Grammar.{attribute_tokens, list_tokens, statement_tokens, graph_tokens}
-use Rattle.si_pictures.specs.Writing.{escaped, attribute_text, list_text, statement_text, dot_text}
+use Rattle.si_pictures.specs.Grammar.{Attribute}
+use Rattle.si_pictures.specs.Grammar.{attribute_tokens}
+use Rattle.si_pictures.specs.Writing.{escaped, attribute_text}
 
 -- ---- strings
 

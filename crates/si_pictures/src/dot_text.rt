@@ -26,12 +26,7 @@ use std::alloc::Global;
 /// Each state is a node with its name and its code, the start has two borders, and the states of
 /// conflicts are red; each arc is an edge with its event, dashed where that is of an input. It
 /// fails only where memory runs out.
-pub fn draw(
-    alloc: Global,
-    graph: &Coded,
-    model: &[u8],
-    states: &Names,
-) -> Result<Text, NoMemory>
+pub fn draw(alloc: Global, graph: &Coded, model: &[u8], states: &Names) -> Result<Text, NoMemory>
     requires { length states.now ≡ graph.now.graph.states }
     ensures { IfOk result (IsDotText model.now states.now graph.now) }
 {

@@ -3,7 +3,7 @@
 
 mod code_word;
 pub mod conflict_states;
-mod dot_writing;
 pub mod dot_text;
+mod dot_writing;
 pub mod laws;
 pub mod states_text;

@@ -15,6 +15,7 @@ use Rattle.si_tool.specs.declared.command.TheConstants.{TASKS}
 use Rattle.si_readings.specs.declared.library_format.LibraryFormat.{LibraryFormat}
 use Rattle.si_readings.specs.declared.library_format.LibraryFormat.TheVariants.{Own, Genlib}
 use Rattle.si_stages.specs.declared.report_kind.Report.TheVariants.{Summary, Regions, Conflicts, Covers, Fold}
+use Rattle.si_stages.specs.declared.report_kind.Report.TheVariants.{States, Dot}
 
 -- what a read past the end of the table gives
 abbrev pub first_task : Task
@@ -22,7 +23,7 @@ first_task = About (Help Long)
 
 -- ---- the table has each task
 abbrev pub IsListed : Task → Type 0
-IsListed task = (place : ℕ) × (place < 25) × (get_or TASKS place first_task ≡ task)
+IsListed task = (place : ℕ) × (place < 27) × (get_or TASKS place first_task ≡ task)
 
 pub each_listed : (task : Task) → IsListed task
 each_listed (About (Help Long)) = (0, omega arith, refl)
@@ -34,6 +35,8 @@ each_listed (Tell Regions) = (5, omega arith, refl)
 each_listed (Tell Conflicts) = (6, omega arith, refl)
 each_listed (Tell Covers) = (7, omega arith, refl)
 each_listed (Tell Fold) = (8, omega arith, refl)
+each_listed (Tell States) = (25, omega arith, refl)
+each_listed (Tell Dot) = (26, omega arith, refl)
 each_listed (Synth Complex) = (9, omega arith, refl)
 each_listed (Synth GeneralisedC) = (10, omega arith, refl)
 each_listed (Map Own) = (11, omega arith, refl)
@@ -67,7 +70,7 @@ asks_one_less words place before here k below files asks = elim (cases_lt k plac
       )
 ]
 
-pub asks_nothing : (words : List (String Global)) (place : ℕ) → 25 ≤ place → AsksNoneBefore words place
+pub asks_nothing : (words : List (String Global)) (place : ℕ) → 27 ≤ place → AsksNoneBefore words place
     → AsksNothing words
 asks_nothing words place end none request asks =
     let listed = each_listed request.task in

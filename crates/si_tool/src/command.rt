@@ -88,7 +88,7 @@ pub enum Task {
 }
 
 /// Each task. No two of them have a form in common.
-const TASKS: [Task; 25] = [
+const TASKS: [Task; 27] = [
     Task::About(Topic::Help(HelpWord::Long)),
     Task::About(Topic::Help(HelpWord::Short)),
     Task::About(Topic::Help(HelpWord::Plain)),
@@ -114,6 +114,8 @@ const TASKS: [Task; 25] = [
     Task::Exercise(HandshakeCount::Six),
     Task::Exercise(HandshakeCount::Seven),
     Task::Exercise(HandshakeCount::Eight),
+    Task::Tell(Report::States),
+    Task::Tell(Report::Dot),
 ];
 
 /// A command: its task, and the names of its files in the order of the words.
@@ -196,6 +198,8 @@ fn report_word(report: Report) -> &'static str
         Report::Conflicts => "conflicts",
         Report::Covers => "covers",
         Report::Fold => "fold",
+        Report::States => "states",
+        Report::Dot => "dot",
     }
 }
 

@@ -1,5 +1,4 @@
-use Rattle.std.proofs.Common.{◌≡◌, ◌<◌, ◌≤◌, ◌∙◌, ◌++◌, List, ℕ, ap, ap₂, arith, length}
-use Rattle.si_base.specs.declared.graph.Signal.{Signal}
+use Rattle.std.proofs.Common.{◌≡◌, ◌<◌, ◌≤◌, ◌∙◌, ◌++◌, List, ℕ, ap, ap₂, length}
 use Rattle.si_base.specs.Bits.{bit}
 use Rattle.si_base.specs.Graph.{StateGraph}
 use Rattle.si_pictures.specs.CodeWord.{marked_digit, code_word}

@@ -1,4 +1,4 @@
-use Rattle.std.proofs.Common.{◌≡◌, ◌∙◌, not, ap, ap₂}
+use Rattle.std.proofs.Common.{◌∙◌, not, ap, ap₂}
 use mathlib.Core.Bool.{beq}
 use Rattle.si_base.specs.Bits.{bit}
 use Rattle.si_pictures.proofs.CodeLemmas.{next_differs}

@@ -1,7 +1,6 @@
-use Rattle.std.proofs.Common.{◌≡◌, ◌<◌, ◌∙◌, ℕ, Option, ap, arith, sym, Some}
+use Rattle.std.proofs.Common.{◌<◌, ◌∙◌, ℕ, Option, ap, arith, sym}
 use Rattle.std.specs.BTreeMap.{get}
 use Rattle.std.specs.Ordering.{nat_cmp}
-use Rattle.si_base.specs.Codes.{code}
 use Rattle.si_base.specs.Graph.{StateGraph}
 use Rattle.si_checks.proofs.ConflictLemmas.{other_key}
 use Rattle.si_pictures.proofs.MarkLemmas.{by_code_more}

@@ -1,4 +1,4 @@
-use Rattle.std.proofs.Common.{◌≡◌, ◌≤◌, ◌∙◌, ◌++◌, ℕ, List, length, ap, sym}
+use Rattle.std.proofs.Common.{◌≤◌, ◌∙◌, ◌++◌, ℕ, List, length, ap, sym}
 use Rattle.si_pictures.specs.Picture.{arc_link}
 use Rattle.si_pictures.specs.Writing.{statement_text}
 use Rattle.si_pictures.proofs.PictureLemmas.{link_at}

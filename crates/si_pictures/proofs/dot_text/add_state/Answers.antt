@@ -1,4 +1,4 @@
-use Rattle.std.proofs.Common.{◌≡◌, ◌==◌, ◌∙◌, ap}
+use Rattle.std.proofs.Common.{◌==◌, ◌∙◌, ap}
 use Rattle.si_base.specs.Graph.{StateGraph}
 use Rattle.si_words.proofs.WritingLemmas.{left_as}
 use Rattle.si_pictures.proofs.PictureLemmas.{node_by_calls}

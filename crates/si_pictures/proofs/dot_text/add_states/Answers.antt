@@ -1,7 +1,6 @@
-use Rattle.std.proofs.Common.{◌≡◌, ◌<◌, ◌≤◌, ◌∙◌, ◌++◌, ℕ, List, ap, arith, sym, false, get_or}
+use Rattle.std.proofs.Common.{◌<◌, ◌≤◌, ◌∙◌, ◌++◌, ℕ, List, ap, arith, sym}
 use Rattle.si_base.specs.Graph.{StateGraph}
 use Rattle.si_pictures.specs.CodeWord.{first}
-use Rattle.si_pictures.specs.Picture.{state_node}
 use Rattle.si_pictures.specs.Writing.{statement_text}
 use Rattle.si_pictures.proofs.PictureLemmas.{node_at, node_of}
 use Rattle.si_pictures.proofs.PartLemmas.{part_more, parts_done, mapped_parts}

@@ -1,4 +1,3 @@
-use Rattle.std.proofs.Common.{◌≡◌, ◌++◌, flat_map, OnOk, if◌then◌else◌, ◌∷◌, [], List, ℕ}
 use Rattle.si_words.proofs.WritingLemmas.{left_as}
 use Rattle.si_pictures.proofs.PictureLemmas.{later_by_calls}
 use Rattle.si_pictures.proofs.dot_writing.add_attribute_if.Goals as goal

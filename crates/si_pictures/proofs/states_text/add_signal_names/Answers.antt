@@ -1,4 +1,4 @@
-use Rattle.std.proofs.Common.{◌≡◌, ◌∙◌, ◌++◌, ◌∷◌, List, ℕ, ap, sym, arith}
+use Rattle.std.proofs.Common.{◌∙◌, ◌++◌, ◌∷◌, List, ℕ, ap, sym}
 use Rattle.si_base.specs.declared.graph.Signal.{Signal}
 use Rattle.si_pictures.proofs.CodeLemmas.{spaced_name}
 use Rattle.si_pictures.proofs.PartLemmas.{item_more, items_done, mapped_parts}

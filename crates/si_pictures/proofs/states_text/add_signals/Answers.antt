@@ -1,4 +1,4 @@
-use Rattle.std.proofs.Common.{◌≡◌, codes, map}
+use Rattle.std.proofs.Common.{codes, map}
 use Rattle.si_words.proofs.WritingLemmas.{left_as}
 use Rattle.si_base.specs.declared.graph.Signal.{Signal}
 use Rattle.si_pictures.proofs.CodeLemmas.{line_by_calls}

@@ -1,4 +1,4 @@
-use Rattle.std.proofs.Common.{◌≡◌, ◌<◌, ◌≤◌, ◌∙◌, ap, arith}
+use Rattle.std.proofs.Common.{◌<◌, ◌≤◌, ◌∙◌, ap, arith}
 use Rattle.si_base.specs.Graph.{StateGraph}
 use Rattle.si_pictures.specs.StatesText.{states_text}
 use Rattle.si_pictures.proofs.CodeLemmas.{line_at, signals_line}
