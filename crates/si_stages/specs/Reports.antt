@@ -6,12 +6,15 @@ use Rattle.si_base.specs.Words.{text_of}
 use Rattle.si_listings.specs.ConflictText.{IsConflictText}
 use Rattle.si_listings.specs.CoverText.{IsCoverText}
 use Rattle.si_listings.specs.RegionText.{IsRegionText}
+use Rattle.si_pictures.specs.Picture.{IsDotText}
+use Rattle.si_pictures.specs.StatesText.{states_text}
 use Rattle.si_refusals.specs.Refusal.{TextRefusal}
 use Rattle.si_refusals.specs.Stages.{Stage, gives, shows}
 use Rattle.si_stages.specs.declared.report_kind.Report.{Report}
 use Rattle.si_stages.specs.Fold.{IsFoldText}
 use Rattle.si_stages.specs.declared.report_kind.Report.TheVariants.{Summary, Regions}
 use Rattle.si_stages.specs.declared.report_kind.Report.TheVariants.{Conflicts, Covers, Fold}
+use Rattle.si_stages.specs.declared.report_kind.Report.TheVariants.{States, Dot}
 
 -- a line of a word and a number
 abbrev pub count_line : List ℕ → ℕ → List (List ℕ)
@@ -28,7 +31,8 @@ summary coded = text_of ((codes "proper" ∷ [])
     ∷ [])
 
 -- of a graph with this model and these names of its states: its summary; the text of its regions;
--- the text of its conflicts; the text of its covers; the text of its folded graph
+-- the text of its conflicts; the text of its covers; the text of its folded graph; the text of its
+-- states; the text of its picture
 abbrev pub told : Report → (model : List ℕ) → (states : List (List ℕ)) → CodedGraph
     → Stage TextRefusal (List ℕ)
 told Summary model states coded = gives (summary coded)
@@ -36,3 +40,5 @@ told Regions model states coded = shows (IsRegionText coded states)
 told Conflicts model states coded = shows (IsConflictText coded states)
 told Covers model states coded = shows (IsCoverText coded states)
 told Fold model states coded = shows (IsFoldText model states coded)
+told States model states coded = gives (states_text coded states)
+told Dot model states coded = shows (IsDotText model states coded)

@@ -19,6 +19,8 @@ use si_listings::conflict_listing::list_conflicts;
 use si_listings::cover_listing::list_covers;
 use si_listings::region_listing::list_regions;
 use si_netlist::write::add_values_line;
+use si_pictures::dot_text::draw;
+use si_pictures::states_text::list_states;
 use si_readings::checks::proper_of;
 use si_readings::readings::graph_in;
 use si_refusals::refusals::Refusal;
@@ -71,6 +73,8 @@ fn told(
         Report::Conflicts => list_conflicts(alloc, graph.coded(), states),
         Report::Covers => list_covers(alloc, graph, states),
         Report::Fold => fold_text(alloc, graph, model, states),
+        Report::States => list_states(alloc, graph.coded(), states),
+        Report::Dot => draw(alloc, graph.coded(), model.bytes(), states),
     }
 }
 

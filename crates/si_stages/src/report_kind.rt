@@ -14,4 +14,8 @@ pub enum Report {
     /// Its folded graph, as a canonical text: one state for each class of states that no walk tells
     /// apart.
     Fold,
+    /// Its states, with their codes and the events that they enable.
+    States,
+    /// Its picture, for Graphviz.
+    Dot,
 }

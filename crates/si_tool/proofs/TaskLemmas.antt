@@ -17,6 +17,7 @@ use Rattle.si_readings.specs.declared.library_format.LibraryFormat.{LibraryForma
 use Rattle.si_readings.specs.declared.library_format.LibraryFormat.TheVariants.{Own, Genlib}
 use Rattle.si_stages.specs.declared.replay_kind.ReplayReport.TheVariants.{End, Wave}
 use Rattle.si_stages.specs.declared.report_kind.Report.TheVariants.{Summary, Regions, Conflicts, Covers, Fold}
+use Rattle.si_stages.specs.declared.report_kind.Report.TheVariants.{States, Dot}
 
 -- what a read past the end of the table gives
 abbrev pub first_task : Task
@@ -24,7 +25,7 @@ first_task = About (Help Long)
 
 -- ---- the table has each task
 abbrev pub IsListed : Task → Type 0
-IsListed task = (place : ℕ) × (place < 28) × (get_or TASKS place first_task ≡ task)
+IsListed task = (place : ℕ) × (place < 30) × (get_or TASKS place first_task ≡ task)
 
 pub each_listed : (task : Task) → IsListed task
 each_listed (About (Help Long)) = (0, omega arith, refl)
@@ -55,6 +56,8 @@ each_listed (Exercise Five) = (24, omega arith, refl)
 each_listed (Exercise Six) = (25, omega arith, refl)
 each_listed (Exercise Seven) = (26, omega arith, refl)
 each_listed (Exercise Eight) = (27, omega arith, refl)
+each_listed (Tell States) = (28, omega arith, refl)
+each_listed (Tell Dot) = (29, omega arith, refl)
 
 -- ---- words ask for none of the tasks up to a place
 abbrev pub AsksNoneBefore : List (String Global) → (place : ℕ) → Type 0
@@ -72,7 +75,7 @@ asks_one_less words place before here k below files asks = elim (cases_lt k plac
       )
 ]
 
-pub asks_nothing : (words : List (String Global)) (place : ℕ) → 28 ≤ place → AsksNoneBefore words place
+pub asks_nothing : (words : List (String Global)) (place : ℕ) → 30 ≤ place → AsksNoneBefore words place
     → AsksNothing words
 asks_nothing words place end none request asks =
     let listed = each_listed request.task in

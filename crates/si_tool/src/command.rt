@@ -93,7 +93,7 @@ pub enum Task {
 }
 
 /// Each task. No two of them have a form in common.
-const TASKS: [Task; 28] = [
+const TASKS: [Task; 30] = [
     Task::About(Topic::Help(HelpWord::Long)),
     Task::About(Topic::Help(HelpWord::Short)),
     Task::About(Topic::Help(HelpWord::Plain)),
@@ -122,6 +122,8 @@ const TASKS: [Task; 28] = [
     Task::Exercise(HandshakeCount::Six),
     Task::Exercise(HandshakeCount::Seven),
     Task::Exercise(HandshakeCount::Eight),
+    Task::Tell(Report::States),
+    Task::Tell(Report::Dot),
 ];
 
 /// A command: its task, and the names of its files in the order of the words.
@@ -207,6 +209,8 @@ fn report_word(report: Report) -> &'static str
         Report::Conflicts => "conflicts",
         Report::Covers => "covers",
         Report::Fold => "fold",
+        Report::States => "states",
+        Report::Dot => "dot",
     }
 }
 

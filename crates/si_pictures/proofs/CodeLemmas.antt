@@ -1,0 +1,141 @@
+-- Digits and events of a state, as they are added.
+use Rattle.std.proofs.Common.{◌≡◌, ℕ, ◌<◌, ◌||◌, ◌&&◌, ◌⊎◌, not, Bool, true, false, List, [], ◌∷◌, ◌++◌, flat_map, map, length, refl}
+use Rattle.std.proofs.Common.{sym, ap, ◌∙◌, codes, append_assoc, inl, inr}
+use mathlib.Core.Bool.{beq}
+use Rattle.std.proofs.lemmas.Bool.{cases_Bool, true≢false}
+use Rattle.std.proofs.lemmas.List.{append-nil}
+use Rattle.si_base.specs.declared.graph.Signal.{Signal}
+use Rattle.si_base.specs.declared.ids.Event.{Event}
+use Rattle.si_base.specs.Bits.{bit}
+use Rattle.si_base.specs.Codes.{CodedGraph, IsCoded, code, next_value}
+use Rattle.si_base.specs.Graph.{enables, rise, fall}
+use Rattle.si_base.specs.Words.{line}
+use Rattle.si_base.proofs.StepFacts.{old_value}
+use Rattle.si_base.proofs.Steps.{step_from_enables}
+use Rattle.si_base.specs.Bytes.{sign}
+use Rattle.si_base.specs.NetlistText.{name_of}
+use Rattle.si_sg.specs.CanonicalText.{state_at, event_word}
+use Rattle.si_words.specs.Writing.{spaced}
+use Rattle.si_words.proofs.WritingLemmas.{whole_line}
+use Rattle.si_pictures.specs.CodeWord.{first, is_excited, marked_digit, code_word, enabled_of, enabled_events}
+use Rattle.si_pictures.specs.StatesText.{state_line}
+
+-- ---- the parts of texts
+abbrev pub digit_at : CodedGraph → ℕ → ℕ → List ℕ
+digit_at c s z = marked_digit (bit (code c s) z) (is_excited c.graph s z)
+
+abbrev pub spaced_name : Signal → List ℕ
+spaced_name x = 32 ∷ x.name
+
+abbrev pub events_at : CodedGraph → ℕ → ℕ → List ℕ
+events_at c s z = spaced (map (event_word c.graph.signals) (enabled_of c.graph s z))
+
+abbrev pub line_at : CodedGraph → List (List ℕ) → ℕ → List ℕ
+line_at c states s = line (state_line c states s)
+
+abbrev pub signals_line : CodedGraph → List ℕ
+signals_line c = line (codes "signals" ∷ map (λ x. x.name) c.graph.signals)
+
+pub line_by_calls : (text word : List ℕ) (words : List (List ℕ)) (first second : List ℕ) → first ≡ text ++ word
+    → second ≡ first ++ spaced words → second ++ 10 ∷ [] ≡ text ++ line (word ∷ words)
+line_by_calls text word words first second e1 e2 = rw (e2, e1) (whole_line text word words)
+
+-- ---- an excited signal
+module _ (c : CodedGraph) (s z : ℕ) (coded : IsCoded c) (within : z < length c.graph.signals) where
+  abbrev value : Bool
+  value = bit (code c s) z
+
+  abbrev rises : Bool
+  rises = enables c.graph s (rise z)
+
+  abbrev falls : Bool
+  falls = enables c.graph s (fall z)
+
+  value_at : (up : Bool) → enables c.graph s (record { sig = z; up = up }) ≡ true → value ≡ not up
+  value_at up on =
+      let step = step_from_enables c.graph s (record { sig = z; up = up }) on in
+      old_value c.graph z (λ t. bit (code c t) z) s step.0 up (coded.values z within) step.1
+
+  -- z rests, is about to rise, or is about to fall
+  kinds : ((rises ≡ false) × (falls ≡ false)) ⊎ (((rises ≡ true) × (falls ≡ false) × (value ≡ false))
+      ⊎ ((rises ≡ false) × (falls ≡ true) × (value ≡ true)))
+  kinds = elim (cases_Bool rises) [
+    | inl up ↦ elim (cases_Bool falls) [
+      | inl down ↦ absurd (true≢false (sym (value_at false down) ∙ value_at true up))
+      | inr none ↦ inr (inl (up, none, value_at true up))
+    ]
+    | inr none ↦ elim (cases_Bool falls) [
+      | inl down ↦ inr (inr (none, down, value_at false down))
+      | inr also ↦ inl (none, also)
+    ]
+  ]
+
+  -- the next value differs from the value just where z is excited
+  pub next_differs : not (beq (next_value c s z) value) ≡ is_excited c.graph s z
+  next_differs = elim kinds [
+    | inl is ↦ rw (is.0, is.1) (kept value)
+    | inr (inl up) ↦ rw (up.0, up.2) refl
+    | inr (inr down) ↦ rw (down.0, down.1, down.2) refl
+  ]
+    where
+      kept : (v : Bool) → not (beq (false || (v && not false)) v) ≡ false
+      kept true = refl
+      kept false = refl
+
+  pub rests : is_excited c.graph s z ≡ false → events_at c s z ≡ []
+  rests none = elim kinds [
+    | inl is ↦ rw (is.0, is.1) refl
+    | inr (inl up) ↦ absurd (true≢false (sym (rw up.0 refl) ∙ none))
+    | inr (inr down) ↦ absurd (true≢false (sym (rw (down.0, down.1) refl) ∙ none))
+  ]
+
+  pub switches : is_excited c.graph s z ≡ true
+      → events_at c s z ≡ 32 ∷ event_word c.graph.signals (record { sig = z; up = not value })
+  switches some = elim kinds [
+    | inl is ↦ absurd (true≢false (sym some ∙ rw (is.0, is.1) refl))
+    | inr (inl up) ↦ rw (up.0, up.1, up.2) (append-nil (32 ∷ event_word c.graph.signals (rise z)))
+    | inr (inr down) ↦ rw (down.0, down.1, down.2) (append-nil (32 ∷ event_word c.graph.signals (fall z)))
+  ]
+
+pub event_by_calls : (c : CodedGraph) (s z : ℕ) → IsCoded c → z < length c.graph.signals
+    → is_excited c.graph s z ≡ true → (text name mark first : List ℕ) → name ≡ name_of c.graph.signals z
+    → mark ≡ sign (not (bit (code c s) z)) ∷ [] → first ≡ text ++ 32 ∷ name
+    → first ++ mark ≡ text ++ spaced (map (event_word c.graph.signals) (enabled_of c.graph s z))
+event_by_calls c s z coded within excited text name mark first e1 e2 e3 =
+    rw (e3, e1, e2) (append_assoc text (32 ∷ name_of c.graph.signals z) (sign (not (bit (code c s) z)) ∷ [])
+    ∙ ap (λ (t : List ℕ). text ++ t) (sym (switches c s z coded within excited)))
+
+-- ---- a state
+state_parts : (t name code events : List ℕ) → ((((t ++ name) ++ 32 ∷ []) ++ code) ++ events) ++ 10 ∷ []
+    ≡ ((t ++ name) ++ ((32 ∷ code) ++ events)) ++ 10 ∷ []
+state_parts t name code events = simp append_assoc
+
+pub state_by_calls : (c : CodedGraph) (states : List (List ℕ)) (s : ℕ) (text name first second third fourth : List ℕ)
+    → name ≡ state_at states s → first ≡ text ++ name → second ≡ first ++ 32 ∷ [] → third ≡ second ++ code_word c s
+    → fourth ≡ third ++ spaced (map (event_word c.graph.signals) (enabled_events c.graph s))
+    → fourth ++ 10 ∷ [] ≡ text ++ line (state_line c states s)
+state_by_calls c states s text name first second third fourth e0 e1 e2 e3 e4 =
+    let events = map (event_word c.graph.signals) (enabled_events c.graph s) in
+    rw (e4, e3, e2, e1, e0) (state_parts text (state_at states s) (code_word c s) (spaced events)
+    ∙ whole_line text (state_at states s) (code_word c s ∷ events))
+
+-- ---- all events of a state
+pub all_events : (c : CodedGraph) (s : ℕ) → flat_map (events_at c s) (first (length c.graph.signals))
+    ≡ spaced (map (event_word c.graph.signals) (enabled_events c.graph s))
+all_events c s = from (first (length c.graph.signals))
+  where
+    word : Event → List ℕ
+    word e = event_word c.graph.signals e
+
+    from : (zs : List ℕ) → flat_map (events_at c s) zs
+        ≡ spaced (map (event_word c.graph.signals) (flat_map (enabled_of c.graph s) zs))
+    from [] = refl
+    from (z ∷ zs) = ap (λ (t : List ℕ). events_at c s z ++ t) (from zs)
+        ∙ sym (spaced_both (enabled_of c.graph s z) (flat_map (enabled_of c.graph s) zs))
+      where
+        spaced_both : (xs ys : List Event) → spaced (map (event_word c.graph.signals) (xs ++ ys))
+            ≡ spaced (map (event_word c.graph.signals) xs) ++ spaced (map (event_word c.graph.signals) ys)
+        spaced_both [] ys = refl
+        spaced_both (x ∷ xs) ys = ap (λ (t : List ℕ). 32 ∷ event_word c.graph.signals x ++ t) (spaced_both xs ys)
+            ∙ sym (append_assoc (32 ∷ event_word c.graph.signals x) (spaced (map (event_word c.graph.signals) xs))
+            (spaced (map (event_word c.graph.signals) ys)))

@@ -1,0 +1,9 @@
+//! Pictures of a state graph: its states with their codes as a table, and the graph for Graphviz.
+#![tactic(auto)]
+
+mod code_word;
+pub mod conflict_states;
+pub mod dot_text;
+mod dot_writing;
+pub mod laws;
+pub mod states_text;
