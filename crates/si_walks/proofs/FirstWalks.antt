@@ -171,8 +171,7 @@ module _ (g : StateGraph) (arcs : Arcs) (t : ℕ) where
           let b = is.holds.begins in
           let step = step_of s a b.0 is.holds.there in
           let rest = shorter a.to b.1.1
-          (λ fs walk. (let long = least (a.event ∷ fs) (a.to, b.1.0, step, walk) in omega arith)) in
-          (
+          (λ fs walk. (let long = least (a.event ∷ fs) (a.to, b.1.0, step, walk) in omega arith)) in (
             a.event ∷ rest.0,
             ap suc rest.1,
             first_step g arcs s t n a.event a.to rest.0 one b.1.0 step rest.1 rest.2

@@ -6,3 +6,4 @@ pub mod FirstWalks
 pub mod WalkSteps
 pub mod SourceLemmas
 pub mod Joined
+pub mod Examples

@@ -55,8 +55,7 @@ module _ (c : CodedGraph) (p q : ℕ) (first second : List (Option ℕ)) (is_gra
   far_of x is =
       let within = begins_within c.graph OfInputs x.state x.first p is_graph p_within is.to_first in
       let one = distance_of c.graph OfInputs p first is_graph to_p x.state x.first within is.to_first in
-      let other = distance_of c.graph OfInputs q second is_graph to_q x.state x.second within is.to_second in
-      (
+      let other = distance_of c.graph OfInputs q second is_graph to_q x.state x.second within is.to_second in (
         one.0 + other.0,
         within,
         ap₂ together one.1 other.1,
@@ -236,8 +235,7 @@ module _ (g : StateGraph) (arcs : Arcs) (t : ℕ) (is : IsGraph g) (within : t <
   pub some_distances : (ds : List (Option ℕ)) × AreDistances g arcs t ds
   some_distances =
       let far : ℕ → Option ℕ = λ s. (some_distance s).0 in
-      let ds : List (Option ℕ) = map far (range_with_len 0 g.states) in
-      (
+      let ds : List (Option ℕ) = map far (range_with_len 0 g.states) in (
         ds,
         record {
           size = length-map-range_with_len far 0 g.states;

@@ -36,12 +36,12 @@ module _ (g : StateGraph) (arcs : Arcs) (t : ℕ) (ds : List (Option ℕ)) (is_g
   -- a state from which a walk leads has a distance, and the walk is as long at least
   pub distance_of : (s : ℕ) (es : List Event) → s < g.states → WalkAlong g arcs s es t
       → (n : ℕ) × (at ds s ≡ Some n) × (n ≤ length es) × HasLength g arcs s t n
-          × ((fs : List Event) → WalkAlong g arcs s fs t → n ≤ length fs)
+      × ((fs : List Event) → WalkAlong g arcs s fs t → n ≤ length fs)
   distance_of s es within walk = by (at ds s) refl (are.each s within)
     where
       by : (d : Option ℕ) → at ds s ≡ d → IsDistance g arcs s t d
           → (n : ℕ) × (at ds s ≡ Some n) × (n ≤ length es) × HasLength g arcs s t n
-              × ((fs : List Event) → WalkAlong g arcs s fs t → n ≤ length fs)
+          × ((fs : List Event) → WalkAlong g arcs s fs t → n ≤ length fs)
       by None here none = absurd (none (es, walk))
       by (Some n) here is = (n, here, is.1 es walk, is.0, is.1)
 

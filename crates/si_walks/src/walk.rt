@@ -59,12 +59,7 @@ pub(crate) fn walk_by(
 
 /// The first arc of that kind out of a state that brings one nearer by one; `None` where there is
 /// none.
-fn first_nearer(
-    graph: &Graph,
-    arcs: &Arcs,
-    distances: &[Option<u32>],
-    s: StateId,
-) -> Option<Edge>
+fn first_nearer(graph: &Graph, arcs: &Arcs, distances: &[Option<u32>], s: StateId) -> Option<Edge>
     requires deterministic { IsDeterministic graph.now }
     requires state { s < graph.now.states }
     requires distances { length distances.now ≡ graph.now.states }

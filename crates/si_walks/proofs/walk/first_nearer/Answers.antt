@@ -58,12 +58,12 @@ loop-arc-preserved c =
     one_more g s out c.arcs_out-out.ensures (λ b. IsNearer g arcs ds s b) (λ x. x.event)
     (λ x is. (x.to, step_of g s x is.from is.there)) n a c.loop-arc-test.true c.arc-item.is c.loop-arc.invariant
     (λ b near same. (
-        let too = nearer_too g arcs ds s b a.event a.to c.requires.deterministic near step same in
-        elim c.else-takes.branch [
-          | else-takes-via-then-takes+else-brings_nearer w ↦
-              true≢false (sym (w.brings_nearer.ensures.1 too.1) ∙ w.if-brings_nearer.false)
-          | else-takes-via-else-takes w ↦ true≢false (sym (c.takes.ensures.1 too.0) ∙ w.if-takes.false)
-        ]))
+    let too = nearer_too g arcs ds s b a.event a.to c.requires.deterministic near step same in
+    elim c.else-takes.branch [
+      | else-takes-via-then-takes+else-brings_nearer w ↦
+          true≢false (sym (w.brings_nearer.ensures.1 too.1) ∙ w.if-brings_nearer.false)
+      | else-takes-via-else-takes w ↦ true≢false (sym (c.takes.ensures.1 too.0) ∙ w.if-takes.false)
+    ]))
 
 pub returns : goal.returns
 returns c =
