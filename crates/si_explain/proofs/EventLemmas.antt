@@ -1,5 +1,7 @@
 -- The lines of events.
-use Rattle.std.proofs.Common.{◌≡◌, ℕ, suc, ◌+◌, ◌<◌, ◌≤◌, ◌==◌, ◌++◌, List, [], ◌∷◌, map, filter, take, drop, length, get_or, Contains, refl, sym, ap, ap₂, ◌∙◌, add-one, append_assoc, codes, subst, eq-eqb, eqb-true}
+use Rattle.std.proofs.Common.{◌≡◌, ℕ, suc, ◌+◌, ◌<◌, ◌≤◌, ◌==◌, ◌++◌, List, [], ◌∷◌, map, filter, take, drop, length}
+use Rattle.std.proofs.Common.{get_or, Contains, refl, sym, ap, ap₂, ◌∙◌, add-one, append_assoc, codes, subst, eq-eqb}
+use Rattle.std.proofs.Common.{eqb-true}
 use Rattle.std.specs.List.{All}
 use Rattle.std.proofs.Math.Seq.{drop-cons}
 use Rattle.std.proofs.lemmas.List.{take_more, take_all, map-append, get_or_default}
@@ -106,8 +108,8 @@ grouped : (text word name events : List ℕ) → (((text ++ word) ++ 32 ∷ name
     ≡ ((text ++ word) ++ ((32 ∷ name) ++ events)) ++ 10 ∷ []
 grouped text word name events = simp append_assoc
 
-pub events_line_by_calls : (text word : List ℕ) (signals : List Signal) (states : List (List ℕ)) (s : ℕ) (es : List Event)
-    (name first second third : List ℕ) → name ≡ state_at states s → first ≡ text ++ word → second ≡ first ++ 32 ∷ name
+pub events_line_by_calls : (text word : List ℕ) (signals : List Signal) (states : List (List ℕ)) (s : ℕ)
+    (es : List Event) (name first second third : List ℕ) → name ≡ state_at states s → first ≡ text ++ word → second ≡ first ++ 32 ∷ name
     → third ≡ second ++ spaced (events_words signals es)
     → third ++ 10 ∷ [] ≡ text ++ line (events_line word signals states s es)
 events_line_by_calls text word signals states s es name first second third e0 e1 e2 e3 =

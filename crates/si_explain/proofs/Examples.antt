@@ -1,5 +1,5 @@
 -- The explained conflict of a train of pulses, as a text.
-use Rattle.std.proofs.Common.{◌≡◌, ℕ, List, [], ◌∷◌, Some, refl, codes, lit<}
+use Rattle.std.proofs.Common.{◌≡◌, ℕ, List, [], ◌∷◌, ◌++◌, Some, refl, codes, lit<}
 use Rattle.std.proofs.lemmas.Fmt.{decimal_digit}
 use Rattle.si_base.specs.Graph.{rise, fall}
 use Rattle.si_walks.proofs.Examples.{coded_train}
@@ -18,7 +18,9 @@ explained = record {
 }
 
 told : explain_text coded_train names 1 (explained ∷ [])
-    ≡ codes "conflicts 1\nconflict s0 s2\ncode 00\nenables s0 a+\nenables s2 z+\nwalk s0\nwalk s2 a+ a-\ninputs s0 s0\ninputs s0 s2 a+ a-\nunresolvable s0 s2 # inputs alone lead to both states, so no inserted signals tell them apart\n"
+    ≡ codes "conflicts 1\nconflict s0 s2\ncode 00\nenables s0 a+\nenables s2 z+\nwalk s0\nwalk s2 a+ a-\n"
+    ++ codes "inputs s0 s0\ninputs s0 s2 a+ a-\n"
+    ++ codes "unresolvable s0 s2 # inputs alone lead to both states, so no inserted signals tell them apart\n"
 unfolding explain_text
 told = rw (decimal_digit 1 (lit< tt)) refl
 

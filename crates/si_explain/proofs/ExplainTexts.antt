@@ -1,5 +1,6 @@
 -- A graph with names for its states has one text that explains its conflicts.
-use Rattle.std.proofs.Common.{◌≡◌, ℕ, ◌<◌, ◌∙◌, List, [], ◌∷◌, map, Contains, Option, Some, None, refl, sym, ap₂, subst, arith, inl, inr}
+use Rattle.std.proofs.Common.{◌≡◌, ℕ, ◌<◌, ◌∙◌, List, [], ◌∷◌, map, Contains, Option, Some, None, refl, sym, ap₂, subst}
+use Rattle.std.proofs.Common.{arith, inl, inr}
 use Rattle.si_base.specs.Codes.{CodedGraph, IsCoded}
 use Rattle.si_base.specs.Proper.{IsConflict}
 use Rattle.si_conflicts.specs.Conflicts.{AreFirstConflicts}

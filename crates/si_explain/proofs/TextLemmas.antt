@@ -1,5 +1,6 @@
 -- The lines of conflicts, one call after another.
-use Rattle.std.proofs.Common.{◌≡◌, ℕ, ◌+◌, ◌<◌, ◌≤◌, ◌∙◌, ◌++◌, List, [], ◌∷◌, take, flat_map, length, get_or, Contains, Some, None, refl, sym, ap, subst, arith, append_assoc, codes, decimal, inl, inr}
+use Rattle.std.proofs.Common.{◌≡◌, ℕ, ◌+◌, ◌<◌, ◌≤◌, ◌∙◌, ◌++◌, List, [], ◌∷◌, take, flat_map, length, get_or, Contains}
+use Rattle.std.proofs.Common.{Some, None, refl, sym, ap, subst, arith, append_assoc, codes, decimal, inl, inr}
 use Rattle.std.proofs.lemmas.Grind.{flat_map-append}
 use Rattle.std.proofs.lemmas.List.{append-nil, map-append, take_more, take_all, get_or-map, length-map}
 use Rattle.std.proofs.lemmas.List.Elements.{Contains-push_cases}
@@ -12,7 +13,8 @@ use Rattle.si_conflicts.specs.Conflicts.{HasConflicts, AreFirstConflicts, pairs_
 use Rattle.si_graph.proofs.MemberLemmas.{Contains-nil}
 use Rattle.si_sg.specs.CanonicalText.{state_at}
 use Rattle.si_walks.specs.Joined.{Source}
-use Rattle.si_explain.specs.ExplainText.{max_explained, enabled_events, Explained, IsExplained, events_line, inputs_line}
+use Rattle.si_explain.specs.ExplainText.{max_explained, enabled_events, Explained, IsExplained, events_line}
+use Rattle.si_explain.specs.ExplainText.{inputs_line}
 use Rattle.si_explain.specs.ExplainText.{meaning, source_lines, explained_lines, count_line, explain_text}
 use Rattle.si_explain.specs.ExplainText.{IsExplainText, Explains, ExplainsAll}
 

@@ -1,5 +1,6 @@
 -- The text that explains the first conflicts of a graph.
-use Rattle.std.specs.Prelude.{◌≡◌, ℕ, ◌==◌, List, [], ◌∷◌, ◌++◌, map, filter, flat_map, Contains, codes, decimal, Option, Some, None}
+use Rattle.std.specs.Prelude.{◌≡◌, ℕ, ◌==◌, List, [], ◌∷◌, ◌++◌, map, filter, flat_map, Contains}
+use Rattle.std.specs.Prelude.{codes, decimal, Option, Some, None}
 use Rattle.si_base.specs.declared.ids.Event.{Event}
 use Rattle.si_base.specs.declared.graph.Signal.{Signal}
 use Rattle.si_base.specs.Graph.{StateGraph}
@@ -81,7 +82,8 @@ count_line count = codes "conflicts" ∷ decimal count ∷ []
 -- how many conflicts there are, and the lines of these
 unfoldable pub explain_text : CodedGraph → List (List ℕ) → ℕ → List Explained → List ℕ
 explain_text c states count explained =
-    text_of (count_line count ∷ []) ++ flat_map (λ x. text_of (explained_lines c states x)) explained
+    text_of (count_line count ∷ [])
+    ++ flat_map (λ x. text_of (explained_lines c states x)) explained
 
 -- the text of the number of all conflicts of c, and of the first of them, explained, with these
 -- names of its states

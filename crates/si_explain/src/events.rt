@@ -3,7 +3,8 @@
 ghost use Rattle.std.specs.Prelude.{◌≡◌, ◌<◌, ◌++◌, ◌∷◌, IfOk, OnOk, All, length};
 ghost use Rattle.si_base.specs.Words.{line};
 ghost use Rattle.si_words.specs.Writing.{spaced};
-ghost use Rattle.si_explain.specs.ExplainText.{enabled_events, events_words, events_line, inputs_line};
+ghost use Rattle.si_explain.specs.ExplainText.{enabled_events, events_words, events_line};
+ghost use Rattle.si_explain.specs.ExplainText.{inputs_line};
 
 use si_base::graph::Signal;
 use si_base::ids::{Event, NoMemory, StateId};

@@ -1,6 +1,7 @@
 -- The first walks from a state to another: which arc begins one, that there is one at most, and
 -- one where any walk leads there.
-use Rattle.std.proofs.Common.{◌≡◌, ℕ, zero, suc, ◌+◌, ◌<◌, ◌≤◌, ◌⊎◌, sym, refl, ap, ap₂, subst, arith, List, [], ◌∷◌, length, map, Contains, inl, inr, Option, Some, None}
+use Rattle.std.proofs.Common.{◌≡◌, ℕ, zero, suc, ◌+◌, ◌<◌, ◌≤◌, ◌⊎◌, sym, refl, ap, ap₂, subst, arith, List, [], ◌∷◌}
+use Rattle.std.proofs.Common.{length, map, Contains, inl, inr, Option, Some, None}
 use Rattle.std.proofs.lemmas.Bool.{cases_order, cases_lt, cases_eq}
 use Rattle.si_base.specs.declared.ids.Event.{Event}
 use Rattle.si_base.specs.declared.graph.Edge.{Edge}
@@ -41,7 +42,8 @@ pub one_first_walk : (g : StateGraph) (arcs : Arcs) (s t : ℕ) (es fs : List Ev
     → IsFirstWalk g arcs s t fs → es ≡ fs
 one_first_walk g arcs s t es fs is also = elim (cases_order (length es) (length fs)) [
   | inl same ↦ (
-      let places = firsts_at_one_place walk_place (λ xs. WalkAlong g arcs s xs t) es fs (same_size es fs same) is also in
+      let sizes = same_size es fs same in
+      let places = firsts_at_one_place walk_place (λ xs. WalkAlong g arcs s xs t) es fs sizes is also in
       let rest : map event_place es ≡ map event_place fs = cc in same_events es fs rest)
   | inr (inl less) ↦ absurd (also.none_before es is.holds (inl less))
   | inr (inr more) ↦ absurd (is.none_before fs also.holds (inl more))
@@ -155,7 +157,8 @@ module _ (g : StateGraph) (arcs : Arcs) (t : ℕ) where
           ([], refl, subst (λ (x : ℕ). IsFirstWalk g arcs x t []) (sym walk) (first_stay g arcs t))
       stay (e ∷ es) size walk = absurd (omega arith)
   first_of_length one (suc n) s has least =
-      let found = first_arc n (mutual_length n) s in by (λ u has_rest long. first_of_length one n u has_rest long) found.0 found.1
+      let found = first_arc n (mutual_length n) s in
+      by (λ u has_rest long. first_of_length one n u has_rest long) found.0 found.1
     where
       by : ((u : ℕ) → HasLength g arcs u t n → IsAtLeast g arcs u t n
           → (es : List Event) × (length es ≡ n) × IsFirstWalk g arcs u t es)

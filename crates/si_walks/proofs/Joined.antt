@@ -1,7 +1,8 @@
 -- A conflict whose states input events join stays in each lineage: its two states have copies of one
 -- code, and the inserted events that make an event possible at the one either make it possible at
 -- the other, where its origin doesn't enable it, or one of them is a conflict.
-use Rattle.std.proofs.Common.{◌≡◌, ◌≢◌, ℕ, ◌<◌, ◌≤◌, ◌⊎◌, true, List, [], ◌∷◌, refl, sym, ap, subst, ◌∙◌, arith, length, inl, inr}
+use Rattle.std.proofs.Common.{◌≡◌, ◌≢◌, ℕ, ◌<◌, ◌≤◌, ◌⊎◌, true, List, [], ◌∷◌, refl, sym, ap, subst, ◌∙◌, arith, length}
+use Rattle.std.proofs.Common.{inl, inr}
 use Rattle.std.proofs.lemmas.Bool.{true≢false, cases_Bool, cases_lt, cases_order}
 use Rattle.std.proofs.lemmas.Option.{slice_get_within, slice_get_cases}
 use Rattle.si_base.specs.declared.ids.Event.{Event}

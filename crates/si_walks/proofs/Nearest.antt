@@ -1,5 +1,6 @@
 -- Of the states from which two targets can be reached the first, one state after another.
-use Rattle.std.proofs.Common.{◌≡◌, ℕ, zero, suc, ◌+◌, ◌<◌, ◌⊎◌, ◌∙◌, sym, refl, ap, subst, arith, List, inl, inr, Option, Some, None}
+use Rattle.std.proofs.Common.{◌≡◌, ℕ, zero, suc, ◌+◌, ◌<◌, ◌⊎◌, ◌∙◌, sym, refl, ap, subst, arith, List, inl, inr}
+use Rattle.std.proofs.Common.{Option, Some, None}
 use Rattle.std.proofs.lemmas.Bool.{cases_order, cases_lt}
 use Rattle.si_walks.specs.Sources.{from, IsNearestOrNone, IsFewer}
 
@@ -62,7 +63,8 @@ module _ (first second : List (Option ℕ)) where
           m,
           ap (from first second) (sym same) ∙ is,
           λ n has.
-              (let tied : n ≡ so_far.arcs = same_Some n so_far.arcs (from first second b) has so_far.has in omega arith),
+              (let tied : n ≡ so_far.arcs = same_Some n so_far.arcs (from first second b) has so_far.has in
+              omega arith),
         ))
       ]
       | inr (inl less) ↦ so_far.least j m less is

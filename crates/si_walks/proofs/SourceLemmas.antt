@@ -1,5 +1,7 @@
 -- The first of the states from which inputs alone lead to both states of a pair.
-use Rattle.std.proofs.Common.{◌≡◌, ℕ, zero, suc, ◌+◌, ◌<◌, ◌≤◌, ◌⊎◌, ◌∙◌, sym, refl, ap, ap₂, subst, arith, Bool, true, false, not, cond, List, [], ◌∷◌, length, map, set, Contains, inl, inr, Option, Some, None, length-set, slice_index_or}
+use Rattle.std.proofs.Common.{◌≡◌, ℕ, zero, suc, ◌+◌, ◌<◌, ◌≤◌, ◌⊎◌, ◌∙◌, sym, refl, ap, ap₂, subst, arith, Bool, true}
+use Rattle.std.proofs.Common.{false, not, cond, List, [], ◌∷◌, length, map, set, Contains, inl, inr, Option, Some, None}
+use Rattle.std.proofs.Common.{length-set, slice_index_or}
 use Rattle.std.proofs.Math.ListN.{replicate}
 use Rattle.std.proofs.lemmas.Bool.{cases_Bool, true≢false}
 use Rattle.std.proofs.lemmas.List.{length-replicate}

@@ -1,5 +1,6 @@
 -- Which events walks take.
-use Rattle.std.proofs.Common.{◌≡◌, ℕ, ◌<◌, Bool, true, false, not, ◌↔◌, IsTrue, ◌∙◌, sym, refl, ap, subst, arith, List, [], length, get_or, inl, inr, Some, slice_get}
+use Rattle.std.proofs.Common.{◌≡◌, ℕ, ◌<◌, Bool, true, false, not, ◌↔◌, IsTrue, ◌∙◌, sym, refl, ap, subst, arith, List}
+use Rattle.std.proofs.Common.{[], length, get_or, inl, inr, Some, slice_get}
 use Rattle.std.proofs.lemmas.Bool.{cases_lt, true≢false}
 use Rattle.std.proofs.lemmas.Option.{slice_get-get_or, slice_get_within, same_Some}
 use Rattle.si_base.specs.declared.ids.Event.{Event}

@@ -1,5 +1,6 @@
 -- A first walk that is made arc by arc, each of which brings nearer by one.
-use Rattle.std.proofs.Common.{◌≡◌, ℕ, ◌+◌, ◌<◌, ◌≤◌, ◌∙◌, sym, refl, ap, subst, arith, List, [], ◌∷◌, ◌++◌, length, Contains, inl, inr, Option, Some, None, unwrap_or, append_assoc}
+use Rattle.std.proofs.Common.{◌≡◌, ℕ, ◌+◌, ◌<◌, ◌≤◌, ◌∙◌, sym, refl, ap, subst, arith, List, [], ◌∷◌, ◌++◌, length}
+use Rattle.std.proofs.Common.{Contains, inl, inr, Option, Some, None, unwrap_or, append_assoc}
 use Rattle.std.proofs.lemmas.Bool.{cases_lt}
 use Rattle.std.proofs.lemmas.List.{append-nil}
 use Rattle.si_base.specs.declared.ids.Event.{Event}

@@ -2,7 +2,8 @@
 
 ghost use Rattle.std.specs.Prelude.{ℕ};
 ghost use Rattle.si_walks.specs.Joined.{IsJoinedConflict};
-ghost use Rattle.si_walks.specs.Laws.{JoinedConflictStays, KeptJoinedConflictStays, JoinedIsNeverResolved, WalkJoinsConflict};
+ghost use Rattle.si_walks.specs.Laws.{JoinedConflictStays, KeptJoinedConflictStays};
+ghost use Rattle.si_walks.specs.Laws.{JoinedIsNeverResolved, WalkJoinsConflict};
 
 use si_insert::resolved::Resolved;
 
