@@ -21,3 +21,4 @@ pub mod GenlibLemmas
 pub mod VerilogExamples
 pub mod Examples
 pub mod InsertedTexts
+pub mod Unresolved

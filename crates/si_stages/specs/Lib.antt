@@ -17,3 +17,4 @@ pub mod WaveLaws
 pub mod Genlib
 pub mod Inserted
 pub mod InsertedLaws
+pub mod UnresolvedLaws

@@ -3,6 +3,7 @@ use Rattle.std.specs.Prelude.{ℕ, List, [], ◌∷◌, length, codes, decimal}
 use Rattle.si_base.specs.Codes.{CodedGraph, code}
 use Rattle.si_base.specs.NetlistText.{bits_from, word_if_any}
 use Rattle.si_base.specs.Words.{text_of}
+use Rattle.si_explain.specs.ExplainText.{IsExplainText}
 use Rattle.si_listings.specs.ConflictText.{IsConflictText}
 use Rattle.si_listings.specs.CoverText.{IsCoverText}
 use Rattle.si_listings.specs.RegionText.{IsRegionText}
@@ -14,7 +15,7 @@ use Rattle.si_stages.specs.declared.report_kind.Report.{Report}
 use Rattle.si_stages.specs.Fold.{IsFoldText}
 use Rattle.si_stages.specs.declared.report_kind.Report.TheVariants.{Summary, Regions}
 use Rattle.si_stages.specs.declared.report_kind.Report.TheVariants.{Conflicts, Covers, Fold}
-use Rattle.si_stages.specs.declared.report_kind.Report.TheVariants.{States, Dot}
+use Rattle.si_stages.specs.declared.report_kind.Report.TheVariants.{States, Dot, Explain}
 
 -- a line of a word and a number
 abbrev pub count_line : List ℕ → ℕ → List (List ℕ)
@@ -32,7 +33,7 @@ summary coded = text_of ((codes "proper" ∷ [])
 
 -- of a graph with this model and these names of its states: its summary; the text of its regions;
 -- the text of its conflicts; the text of its covers; the text of its folded graph; the text of its
--- states; the text of its picture
+-- states; the text that explains its conflicts; the text of its picture
 abbrev pub told : Report → (model : List ℕ) → (states : List (List ℕ)) → CodedGraph
     → Stage TextRefusal (List ℕ)
 told Summary model states coded = gives (summary coded)
@@ -42,3 +43,4 @@ told Covers model states coded = shows (IsCoverText coded states)
 told Fold model states coded = shows (IsFoldText model states coded)
 told States model states coded = gives (states_text coded states)
 told Dot model states coded = shows (IsDotText model states coded)
+told Explain model states coded = shows (IsExplainText coded states)

@@ -17,5 +17,6 @@ pub mod report;
 pub mod report_kind;
 pub mod resolving;
 pub mod synth;
+pub mod unresolved_laws;
 pub mod verilog;
 pub mod wave_laws;

@@ -14,6 +14,7 @@ use si_base::ids::NoMemory;
 use si_base::names::Names;
 use si_base::text::{Name, Text};
 use si_checks::proper::Proper;
+use si_explain::explain::explain;
 use si_graph::coded::Coded;
 use si_listings::conflict_listing::list_conflicts;
 use si_listings::cover_listing::list_covers;
@@ -75,6 +76,7 @@ fn told(
         Report::Fold => fold_text(alloc, graph, model, states),
         Report::States => list_states(alloc, graph.coded(), states),
         Report::Dot => draw(alloc, graph.coded(), model.bytes(), states),
+        Report::Explain => explain(alloc, graph.coded(), states),
     }
 }
 

@@ -18,4 +18,7 @@ pub enum Report {
     States,
     /// Its picture, for Graphviz.
     Dot,
+    /// How many conflicts it has, and the first of them explained: codes, enabled events, walks, and
+    /// whether inputs alone lead to both states.
+    Explain,
 }

@@ -18,6 +18,7 @@ use Rattle.si_readings.specs.declared.library_format.LibraryFormat.TheVariants.{
 use Rattle.si_stages.specs.declared.replay_kind.ReplayReport.TheVariants.{End, Wave}
 use Rattle.si_stages.specs.declared.report_kind.Report.TheVariants.{Summary, Regions, Conflicts, Covers, Fold}
 use Rattle.si_stages.specs.declared.report_kind.Report.TheVariants.{States, Dot}
+use Rattle.si_stages.specs.declared.report_kind.Report.TheVariants.{Summary, Regions, Conflicts, Covers, Fold, Explain}
 
 -- what a read past the end of the table gives
 abbrev pub first_task : Task
@@ -25,7 +26,7 @@ first_task = About (Help Long)
 
 -- ---- the table has each task
 abbrev pub IsListed : Task → Type 0
-IsListed task = (place : ℕ) × (place < 30) × (get_or TASKS place first_task ≡ task)
+IsListed task = (place : ℕ) × (place < 31) × (get_or TASKS place first_task ≡ task)
 
 pub each_listed : (task : Task) → IsListed task
 each_listed (About (Help Long)) = (0, omega arith, refl)
@@ -37,27 +38,28 @@ each_listed (Tell Regions) = (5, omega arith, refl)
 each_listed (Tell Conflicts) = (6, omega arith, refl)
 each_listed (Tell Covers) = (7, omega arith, refl)
 each_listed (Tell Fold) = (8, omega arith, refl)
-each_listed (Synth Complex) = (9, omega arith, refl)
-each_listed (Synth GeneralisedC) = (10, omega arith, refl)
-each_listed (Map Own) = (11, omega arith, refl)
-each_listed (Map Genlib) = (12, omega arith, refl)
-each_listed FromGenlib = (13, omega arith, refl)
-each_listed Verilog = (14, omega arith, refl)
-each_listed (Replay End) = (15, omega arith, refl)
-each_listed Audit = (16, omega arith, refl)
-each_listed Resolve = (17, omega arith, refl)
-each_listed Insert = (18, omega arith, refl)
-each_listed (Replay Wave) = (19, omega arith, refl)
-each_listed (Exercise One) = (20, omega arith, refl)
-each_listed (Exercise Two) = (21, omega arith, refl)
-each_listed (Exercise Three) = (22, omega arith, refl)
-each_listed (Exercise Four) = (23, omega arith, refl)
-each_listed (Exercise Five) = (24, omega arith, refl)
-each_listed (Exercise Six) = (25, omega arith, refl)
-each_listed (Exercise Seven) = (26, omega arith, refl)
-each_listed (Exercise Eight) = (27, omega arith, refl)
-each_listed (Tell States) = (28, omega arith, refl)
-each_listed (Tell Dot) = (29, omega arith, refl)
+each_listed (Tell Explain) = (9, omega arith, refl)
+each_listed (Synth Complex) = (10, omega arith, refl)
+each_listed (Synth GeneralisedC) = (11, omega arith, refl)
+each_listed (Map Own) = (12, omega arith, refl)
+each_listed (Map Genlib) = (13, omega arith, refl)
+each_listed FromGenlib = (14, omega arith, refl)
+each_listed Verilog = (15, omega arith, refl)
+each_listed (Replay End) = (16, omega arith, refl)
+each_listed Audit = (17, omega arith, refl)
+each_listed Resolve = (18, omega arith, refl)
+each_listed Insert = (19, omega arith, refl)
+each_listed (Replay Wave) = (20, omega arith, refl)
+each_listed (Exercise One) = (21, omega arith, refl)
+each_listed (Exercise Two) = (22, omega arith, refl)
+each_listed (Exercise Three) = (23, omega arith, refl)
+each_listed (Exercise Four) = (24, omega arith, refl)
+each_listed (Exercise Five) = (25, omega arith, refl)
+each_listed (Exercise Six) = (26, omega arith, refl)
+each_listed (Exercise Seven) = (27, omega arith, refl)
+each_listed (Exercise Eight) = (28, omega arith, refl)
+each_listed (Tell States) = (29, omega arith, refl)
+each_listed (Tell Dot) = (30, omega arith, refl)
 
 -- ---- words ask for none of the tasks up to a place
 abbrev pub AsksNoneBefore : List (String Global) → (place : ℕ) → Type 0
@@ -75,7 +77,7 @@ asks_one_less words place before here k below files asks = elim (cases_lt k plac
       )
 ]
 
-pub asks_nothing : (words : List (String Global)) (place : ℕ) → 30 ≤ place → AsksNoneBefore words place
+pub asks_nothing : (words : List (String Global)) (place : ℕ) → 31 ≤ place → AsksNoneBefore words place
     → AsksNothing words
 asks_nothing words place end none request asks =
     let listed = each_listed request.task in

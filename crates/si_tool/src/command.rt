@@ -93,7 +93,7 @@ pub enum Task {
 }
 
 /// Each task. No two of them have a form in common.
-const TASKS: [Task; 30] = [
+const TASKS: [Task; 31] = [
     Task::About(Topic::Help(HelpWord::Long)),
     Task::About(Topic::Help(HelpWord::Short)),
     Task::About(Topic::Help(HelpWord::Plain)),
@@ -103,6 +103,7 @@ const TASKS: [Task; 30] = [
     Task::Tell(Report::Conflicts),
     Task::Tell(Report::Covers),
     Task::Tell(Report::Fold),
+    Task::Tell(Report::Explain),
     Task::Synth(Style::Complex),
     Task::Synth(Style::GeneralisedC),
     Task::Map(LibraryFormat::Own),
@@ -221,6 +222,7 @@ fn replay_word(report: ReplayReport) -> &'static str
     match report {
         ReplayReport::End => "replay",
         ReplayReport::Wave => "wave",
+        Report::Explain => "explain",
     }
 }
 

@@ -1,0 +1,139 @@
+-- A graph with names for its states has one text that explains its conflicts.
+use Rattle.std.proofs.Common.{◌≡◌, ℕ, ◌<◌, ◌∙◌, List, [], ◌∷◌, map, Contains, Option, Some, None, refl, sym, ap₂, subst}
+use Rattle.std.proofs.Common.{arith, inl, inr}
+use Rattle.si_base.specs.Codes.{CodedGraph, IsCoded}
+use Rattle.si_base.specs.Proper.{IsConflict}
+use Rattle.si_conflicts.specs.Conflicts.{AreFirstConflicts}
+use Rattle.si_conflicts.proofs.ConflictsExist.{some_count, some_first}
+use Rattle.si_conflicts.proofs.Counted.{one_count, first_unique}
+use Rattle.si_graph.proofs.MemberLemmas.{Contains-cons_cases, Contains-here, Contains-there, Contains-nil}
+use Rattle.si_walks.specs.declared.arcs.Arcs.TheVariants.{All}
+use Rattle.si_walks.specs.Joined.{Source, IsSourceOrNone, IsJoinedConflict}
+use Rattle.si_walks.proofs.FirstWalks.{along_all, one_first_walk, some_first_walk}
+use Rattle.si_walks.proofs.SourceLemmas.{one_source_or_none, some_source_or_none}
+use Rattle.si_explain.specs.ExplainText.{max_explained, Explained, IsExplained, explain_text, IsExplainText}
+use Rattle.si_explain.specs.Laws.{SourcesShowJoined, NoSourceShowsNone}
+
+abbrev pair_of : Explained → ℕ × ℕ
+pair_of x = x.pair
+
+one_explained : (c : CodedGraph) (x y : Explained) → IsExplained c x → IsExplained c y → x.pair ≡ y.pair → x ≡ y
+one_explained c x y is also pair =
+    let G = c.graph in
+    let moved : IsExplained c (record {
+      pair = y.pair;
+      to_first = x.to_first;
+      to_second = x.to_second;
+      source = x.source;
+    }) = subst (λ (p : ℕ × ℕ). IsExplained c (record {
+      pair = p;
+      to_first = x.to_first;
+      to_second = x.to_second;
+      source = x.source;
+    })) pair is in
+    let first : x.to_first ≡ y.to_first =
+    one_first_walk G All G.start y.pair.0 x.to_first y.to_first moved.to_first also.to_first in
+    let second : x.to_second ≡ y.to_second =
+    one_first_walk G All G.start y.pair.1 x.to_second y.to_second moved.to_second also.to_second in
+    let source : x.source ≡ y.source = one_source_or_none c y.pair x.source y.source moved.source also.source in
+    λ i. record { pair = pair i; to_first = first i; to_second = second i; source = source i }
+
+abbrev AllExplained : CodedGraph → List Explained → Type 0
+AllExplained c xs = (x : Explained) → Contains xs x → IsExplained c x
+
+same_explained : (c : CodedGraph) (xs ys : List Explained) → AllExplained c xs → AllExplained c ys
+    → map pair_of xs ≡ map pair_of ys → xs ≡ ys
+same_explained c [] [] are also same = refl
+same_explained c [] (y ∷ ys) are also same = cc
+same_explained c (x ∷ xs) [] are also same = cc
+same_explained c (x ∷ xs) (y ∷ ys) are also same =
+    let pair : x.pair ≡ y.pair = cc in
+    let rest : map pair_of xs ≡ map pair_of ys = cc in
+    let heads : x ≡ y = one_explained c x y (are x (Contains-here x xs)) (also y (Contains-here y ys)) pair in
+    ap₂ (λ (z : Explained) (zs : List Explained). z ∷ zs) heads
+    (same_explained c xs ys (λ z there. are z (Contains-there x xs z there))
+    (λ z there. also z (Contains-there y ys z there)) rest)
+
+pub one_explain_text : (c : CodedGraph) (states : List (List ℕ)) (x y : List ℕ) → IsExplainText c states x
+    → IsExplainText c states y → x ≡ y
+one_explain_text c states x y a b =
+    let pairs : map pair_of a.explained ≡ map pair_of b.explained =
+    first_unique c max_explained (map pair_of a.explained) (map pair_of b.explained) a.first b.first in
+    a.text_is ∙ ap₂ (explain_text c states) (one_count c a.count b.count a.counted b.counted)
+    (same_explained c a.explained b.explained a.each b.each pairs) ∙ sym b.text_is
+
+-- ---- some text
+some_explained : (c : CodedGraph) (pair : ℕ × ℕ) → IsCoded c → IsConflict c pair
+    → (x : Explained) × (x.pair ≡ pair) × IsExplained c x
+some_explained c pair coded conflict =
+    let G = c.graph in
+    let p = pair.0 in
+    let q = pair.1 in
+    let p_within : p < G.states = omega (arith, conflict.order, conflict.within) in
+    let to_p = coded.connected p p_within in
+    let to_q = coded.connected q conflict.within in
+    let first = some_first_walk G All p coded.deterministic G.start (to_p.0, along_all G G.start to_p.0 p to_p.1) in
+    let second = some_first_walk G All q coded.deterministic G.start (to_q.0, along_all G G.start to_q.0 q to_q.1) in
+    let source = some_source_or_none c p q coded p_within conflict.within in (
+      record { pair = pair; to_first = first.0; to_second = second.0; source = source.0 },
+      refl,
+      record { to_first = first.1; to_second = second.1; source = source.1 },
+    )
+
+abbrev With : CodedGraph → List (ℕ × ℕ) → Type 0
+With c pairs = (xs : List Explained) × (map pair_of xs ≡ pairs) × AllExplained c xs
+
+explain_each : (c : CodedGraph) (pairs : List (ℕ × ℕ)) → IsCoded c
+    → ((pair : ℕ × ℕ) → Contains pairs pair → IsConflict c pair) → With c pairs
+explain_each c [] coded are = ([], refl, λ x there. absurd (Contains-nil x there))
+explain_each c (pair ∷ pairs) coded are =
+    let here = some_explained c pair coded (are pair (Contains-here pair pairs)) in
+    let rest = explain_each c pairs coded (λ other there. are other (Contains-there pair pairs other there)) in (
+      here.0 ∷ rest.0,
+      ap₂ (λ (z : ℕ × ℕ) (zs : List (ℕ × ℕ)). z ∷ zs) here.1 rest.1,
+      λ x there. elim (Contains-cons_cases here.0 rest.0 x there) [
+        | inl same ↦ subst (IsExplained c) same here.2
+        | inr later ↦ rest.2 x later
+      ],
+    )
+
+pub some_explain_text : (c : CodedGraph) (states : List (List ℕ)) → IsCoded c
+    → (text : List ℕ) × IsExplainText c states text
+some_explain_text c states coded =
+    let count = some_count c in
+    let pairs = some_first c max_explained in
+    let all = explain_each c pairs.0 coded pairs.1.each in (
+      explain_text c states count.0 all.0,
+      record {
+        count = count.0;
+        counted = count.1;
+        explained = all.0;
+        first = subst (λ (l : List (ℕ × ℕ)). AreFirstConflicts c max_explained l) (sym all.1) pairs.1;
+        each = all.2;
+        text_is = refl;
+      },
+    )
+
+-- ---- what a source shows
+shows_joined : (c : CodedGraph) (pair : ℕ × ℕ) (source : Option Source) (x : Source) → IsConflict c pair
+    → IsSourceOrNone c pair source → source ≡ Some x → IsJoinedConflict c pair
+shows_joined c pair None x conflict is same = cc
+shows_joined c pair (Some y) x conflict is same = record {
+  conflict = conflict;
+  source = y.state;
+  to_first = (y.first, is.is_first.holds.to_first);
+  to_second = (y.second, is.is_first.holds.to_second);
+}
+
+pub sources_show_joined : SourcesShowJoined
+sources_show_joined c x source conflict is same = shows_joined c x.pair x.source source conflict is.source same
+
+shows_none : (c : CodedGraph) (pair : ℕ × ℕ) (source : Option Source) → IsSourceOrNone c pair source
+    → source ≡ None → IsJoinedConflict c pair → ⊥
+shows_none c pair None is same joined = is
+    (record { state = joined.source; first = joined.to_first.0; second = joined.to_second.0 })
+    (record { to_first = joined.to_first.1; to_second = joined.to_second.1 })
+shows_none c pair (Some x) is same joined = absurd (let both : Some x ≡ None = same in cc)
+
+pub no_source_shows_none : NoSourceShowsNone
+no_source_shows_none c x is same joined = shows_none c x.pair x.source is.source same joined

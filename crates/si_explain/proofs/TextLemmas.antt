@@ -1,0 +1,146 @@
+-- The lines of conflicts, one call after another.
+use Rattle.std.proofs.Common.{◌≡◌, ℕ, ◌+◌, ◌<◌, ◌≤◌, ◌∙◌, ◌++◌, List, [], ◌∷◌, take, flat_map, length, get_or, Contains}
+use Rattle.std.proofs.Common.{Some, None, refl, sym, ap, subst, arith, append_assoc, codes, decimal, inl, inr}
+use Rattle.std.proofs.lemmas.Grind.{flat_map-append}
+use Rattle.std.proofs.lemmas.List.{append-nil, map-append, take_more, take_all, get_or-map, length-map}
+use Rattle.std.proofs.lemmas.List.Elements.{Contains-push_cases}
+use Rattle.si_base.specs.declared.graph.Signal.{Signal}
+use Rattle.si_base.specs.Codes.{CodedGraph, code}
+use Rattle.si_base.specs.NetlistText.{bits_from, word_if_any}
+use Rattle.si_base.specs.Words.{line, text_of}
+use Rattle.si_conflicts.specs.declared.conflicts.Pair.{Pair}
+use Rattle.si_conflicts.specs.Conflicts.{HasConflicts, AreFirstConflicts, pairs_of}
+use Rattle.si_graph.proofs.MemberLemmas.{Contains-nil}
+use Rattle.si_sg.specs.CanonicalText.{state_at}
+use Rattle.si_walks.specs.Joined.{Source}
+use Rattle.si_explain.specs.ExplainText.{max_explained, enabled_events, Explained, IsExplained, events_line}
+use Rattle.si_explain.specs.ExplainText.{inputs_line}
+use Rattle.si_explain.specs.ExplainText.{meaning, source_lines, explained_lines, count_line, explain_text}
+use Rattle.si_explain.specs.ExplainText.{IsExplainText, Explains, ExplainsAll}
+
+-- ---- the lines of a source
+three : (text a b c : List ℕ) → ((text ++ a) ++ b) ++ c ≡ text ++ (a ++ (b ++ (c ++ [])))
+three text a b c = simp (append_assoc, append-nil)
+
+pub no_source_lines : (text : List ℕ) (signals : List Signal) (states : List (List ℕ)) (pair : ℕ × ℕ)
+    → text ≡ text ++ text_of (source_lines signals states pair None)
+no_source_lines text signals states pair = sym (append-nil text)
+
+pub source_by_calls : (text : List ℕ) (signals : List Signal) (states : List (List ℕ)) (p q : ℕ) (x : Source)
+    (one other first second third : List ℕ) → one ≡ state_at states p → other ≡ state_at states q
+    → first ≡ text ++ line (inputs_line signals states x.state p x.first)
+    → second ≡ first ++ line (inputs_line signals states x.state q x.second)
+    → third ≡ second ++ line (codes "unresolvable" ∷ one ∷ other ∷ meaning ∷ [])
+    → third ≡ text ++ text_of (source_lines signals states (p, q) (Some x))
+source_by_calls text signals states p q x one other first second third d0 d1 e1 e2 e3 =
+    rw (e3, e2, e1, d0, d1) (three text (line (inputs_line signals states x.state p x.first))
+    (line (inputs_line signals states x.state q x.second))
+    (line (codes "unresolvable" ∷ state_at states p ∷ state_at states q ∷ meaning ∷ [])))
+
+-- ---- the lines of a conflict
+seven : (text a b c d e f rest : List ℕ) → ((((((text ++ a) ++ b) ++ c) ++ d) ++ e) ++ f) ++ rest
+    ≡ text ++ (a ++ (b ++ (c ++ (d ++ (e ++ (f ++ rest))))))
+seven text a b c d e f rest = simp append_assoc
+
+pub conflict_by_calls : (c : CodedGraph) (states : List (List ℕ)) (x : Explained)
+    (text one other first second third fourth fifth sixth last : List ℕ) → one ≡ state_at states x.pair.0
+    → other ≡ state_at states x.pair.1 → first ≡ text ++ line (codes "conflict" ∷ one ∷ other ∷ [])
+    → second ≡ first ++ line (codes "code" ∷ word_if_any (bits_from 0 c.graph.signals (code c x.pair.0)))
+    → third ≡ second ++ line (events_line (codes "enables") c.graph.signals states x.pair.0
+    (enabled_events c.graph x.pair.0))
+    → fourth ≡ third ++ line (events_line (codes "enables") c.graph.signals states x.pair.1
+    (enabled_events c.graph x.pair.1))
+    → fifth ≡ fourth ++ line (events_line (codes "walk") c.graph.signals states x.pair.0 x.to_first)
+    → sixth ≡ fifth ++ line (events_line (codes "walk") c.graph.signals states x.pair.1 x.to_second)
+    → last ≡ sixth ++ text_of (source_lines c.graph.signals states x.pair x.source)
+    → last ≡ text ++ text_of (explained_lines c states x)
+conflict_by_calls c states x text one other first second third fourth fifth sixth last d0 d1 e1 e2 e3 e4 e5 e6 e7 =
+    let signals = c.graph.signals in
+    rw (e7, e6, e5, e4, e3, e2, e1, d0, d1) (seven text
+    (line (codes "conflict" ∷ state_at states x.pair.0 ∷ state_at states x.pair.1 ∷ []))
+    (line (codes "code" ∷ word_if_any (bits_from 0 signals (code c x.pair.0))))
+    (line (events_line (codes "enables") signals states x.pair.0 (enabled_events c.graph x.pair.0)))
+    (line (events_line (codes "enables") signals states x.pair.1 (enabled_events c.graph x.pair.1)))
+    (line (events_line (codes "walk") signals states x.pair.0 x.to_first))
+    (line (events_line (codes "walk") signals states x.pair.1 x.to_second))
+    (text_of (source_lines signals states x.pair x.source)))
+
+-- ---- one conflict after another
+abbrev pair_of : Explained → ℕ × ℕ
+pair_of x = x.pair
+
+abbrev lines_of : CodedGraph → List (List ℕ) → Explained → List ℕ
+lines_of c states x = text_of (explained_lines c states x)
+
+pub none_explained : (c : CodedGraph) (states : List (List ℕ)) (pairs : List Pair) (text : List ℕ)
+    → ExplainsAll c states (pairs_of (take 0 pairs)) text text
+none_explained c states pairs text = record {
+  explained = [];
+  pairs_are = refl;
+  each = λ x there. absurd (Contains-nil x there);
+  added = sym (append-nil text);
+}
+
+pub one_more_explained : (c : CodedGraph) (states : List (List ℕ)) (pairs : List Pair) (n : ℕ) (pair : Pair)
+    (old text new : List ℕ) → n < length pairs → pair ≡ get_or pairs n pair
+    → ExplainsAll c states (pairs_of (take n pairs)) old text → Explains c states (pair.p, pair.q) text new
+    → ExplainsAll c states (pairs_of (take (n + 1) pairs)) old new
+one_more_explained c states pairs n pair old text new within at so_far one =
+    let As : Pair → ℕ × ℕ = λ y. (y.p, y.q) in
+    let taken : take n pairs ++ pair ∷ [] ≡ take (n + 1) pairs =
+    ap (λ (y : Pair). take n pairs ++ y ∷ []) at ∙ sym (take_more pairs n pair within) in
+    let x = one.explained in
+    record {
+      explained = so_far.explained ++ x ∷ [];
+      pairs_are = map-append pair_of so_far.explained (x ∷ [])
+          ∙ ap (λ (l : List (ℕ × ℕ)). l ++ x.pair ∷ []) so_far.pairs_are
+          ∙ ap (λ (y : ℕ × ℕ). pairs_of (take n pairs) ++ y ∷ []) one.pair_is
+          ∙ sym (map-append As (take n pairs) (pair ∷ [])) ∙ ap pairs_of taken;
+      each = λ y there. elim (Contains-push_cases so_far.explained x y there) [
+        | inl earlier ↦ so_far.each y earlier
+        | inr same ↦ subst (IsExplained c) same one.is
+      ];
+      added = one.added ∙ ap (λ (t : List ℕ). t ++ lines_of c states x) so_far.added
+          ∙ append_assoc old (flat_map (lines_of c states) so_far.explained) (lines_of c states x)
+          ∙ ap (λ (t : List ℕ). old ++ (flat_map (lines_of c states) so_far.explained ++ t))
+          (sym (append-nil (lines_of c states x)))
+          ∙ ap (λ (t : List ℕ). old ++ t) (sym (flat_map-append (lines_of c states) so_far.explained (x ∷ [])));
+    }
+
+-- the states of the pairs are states of the graph
+pub pair_within : (c : CodedGraph) (limit : ℕ) (pairs : List Pair) (n : ℕ) (pair : Pair)
+    → AreFirstConflicts c limit (pairs_of pairs) → n < length pairs → pair ≡ get_or pairs n pair
+    → (pair.p < c.graph.states) × (pair.q < c.graph.states)
+pair_within c limit pairs n pair are within at =
+    let As : Pair → ℕ × ℕ = λ y. (y.p, y.q) in
+    let there : Contains (pairs_of pairs) (pair.p, pair.q) = (
+      n,
+      omega (arith, within, length-map pairs As),
+      get_or-map As pairs n pair (pair.p, pair.q) within ∙ ap As (sym at),
+    ) in
+    let is = are.each (pair.p, pair.q) there in
+    (omega (arith, is.order, is.within), is.within)
+
+pub all_explained : (c : CodedGraph) (states : List (List ℕ)) (pairs : List Pair) (n : ℕ) (old new : List ℕ)
+    → length pairs ≤ n → ExplainsAll c states (pairs_of (take n pairs)) old new
+    → ExplainsAll c states (pairs_of pairs) old new
+all_explained c states pairs n old new all is =
+    subst (λ (l : List Pair). ExplainsAll c states (pairs_of l) old new) (take_all n pairs all) is
+
+pub text_by_calls : (c : CodedGraph) (states : List (List ℕ)) (count : ℕ) (pairs : List (ℕ × ℕ))
+    (number empty first all : List ℕ) → HasConflicts c count → AreFirstConflicts c max_explained pairs
+    → number ≡ decimal count → empty ≡ codes "" → first ≡ empty ++ line (codes "conflicts" ∷ number ∷ [])
+    → ExplainsAll c states pairs first all → IsExplainText c states all
+unfolding explain_text
+text_by_calls c states count pairs number empty first all counted are e1 e2 e3 explains =
+    let head : first ≡ text_of (count_line count ∷ []) =
+    e3 ∙ rw (e2, e1) (sym (append-nil (line (count_line count)))) in
+    record {
+      count = count;
+      counted = counted;
+      explained = explains.explained;
+      first = subst (AreFirstConflicts c max_explained) (sym explains.pairs_are) are;
+      each = explains.each;
+      text_is =
+          explains.added ∙ ap (λ (t : List ℕ). t ++ flat_map (lines_of c states) explains.explained) head;
+    }

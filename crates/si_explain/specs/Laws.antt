@@ -1,0 +1,41 @@
+-- The laws of the text that explains conflicts, one word each.
+use Rattle.std.specs.Prelude.{◌≡◌, List, ℕ, Some, None}
+use Rattle.si_base.specs.Codes.{CodedGraph, IsCoded}
+use Rattle.si_base.specs.Proper.{IsConflict}
+use Rattle.si_insert.specs.declared.lineage.TraceStep.{TraceStep}
+use Rattle.si_insert.specs.Lineage.{Current, IsLineage}
+use Rattle.si_resolve.specs.Trace.{ResolvesTo, EndsUnresolved}
+use Rattle.si_walks.specs.Joined.{Source, IsJoinedConflict}
+use Rattle.si_explain.specs.ExplainText.{Explained, IsExplained, IsExplainText}
+
+-- a graph with names for its states has one such text at most
+abbrev pub ExplainTextsAreUnique : Type 0
+ExplainTextsAreUnique = (c : CodedGraph) (states : List (List ℕ)) (x y : List ℕ)
+    → IsExplainText c states x → IsExplainText c states y → x ≡ y
+
+-- and has one
+abbrev pub ExplainTextsExist : Type 0
+ExplainTextsExist = (c : CodedGraph) (states : List (List ℕ)) → IsCoded c
+    → (text : List ℕ) × IsExplainText c states text
+
+-- a conflict that is explained with a source is one that input events join
+abbrev pub SourcesShowJoined : Type 0
+SourcesShowJoined = (c : CodedGraph) (x : Explained) (source : Source)
+    → IsConflict c x.pair → IsExplained c x → x.source ≡ Some source → IsJoinedConflict c x.pair
+
+-- and one that is explained without isn't
+abbrev pub NoSourceShowsNone : Type 0
+NoSourceShowsNone = (c : CodedGraph) (x : Explained)
+    → IsExplained c x → x.source ≡ None → IsJoinedConflict c x.pair → ⊥
+
+-- no resolving trace of a lineage of a graph with such a conflict ends resolved
+abbrev pub JoinedNeverResolve : Type 0
+JoinedNeverResolve = (given : CodedGraph) (before trace : List TraceStep) (v w : Current)
+    (pair : ℕ × ℕ)
+    → IsLineage given before v → IsJoinedConflict given pair → ResolvesTo v trace w → ⊥
+
+-- one ends unresolved
+abbrev pub JoinedEndUnresolved : Type 0
+JoinedEndUnresolved = (given : CodedGraph) (before : List TraceStep) (v : Current) (pair : ℕ × ℕ)
+    → IsLineage given before v → IsJoinedConflict given pair
+    → (trace : List TraceStep) × (w : Current) × (last : ℕ × ℕ) × EndsUnresolved v trace w last

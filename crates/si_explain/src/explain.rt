@@ -1,0 +1,155 @@
+//! The text that explains the first conflicts of a graph.
+
+ghost use Rattle.std.specs.Prelude.{◌≡◌, ℕ, ◌<◌, ◌++◌, IfOk, OnOk, length};
+ghost use Rattle.std.specs.Prelude.{option_map, codes};
+ghost use Rattle.si_base.specs.Words.{line, text_of};
+ghost use Rattle.si_conflicts.specs.Conflicts.{AreFirstConflicts, pairs_of};
+ghost use Rattle.si_explain.specs.ExplainText.{max_explained, Explains, ExplainsAll, IsExplainText};
+ghost use Rattle.si_explain.specs.ExplainText.{source_lines, events_line, enabled_events};
+ghost use Rattle.si_walks.specs.Joined.{IsSourceOrNone, source_of};
+
+use crate::events::{add_events_line, add_inputs_line, enabled_events};
+use si_base::ids::{NoMemory, StateId};
+use si_base::names::Names;
+use si_base::text::Text;
+use si_conflicts::conflicts::{Pair, conflicts, count};
+use si_graph::coded::Coded;
+use si_netlist::write::add_values_line;
+use si_sg::write::name_at;
+use si_walks::arcs::Arcs;
+use si_walks::walk::shortest_walk;
+use si_walks::witness::{Witness, find_witness};
+use si_words::writing::add_line;
+use std::alloc::Global;
+
+/// How many conflicts are explained at most.
+const MAX_EXPLAINED: u32 = 10;
+
+/// What walks by inputs to both states of a conflict mean.
+const MEANING: &[u8] =
+    b"# inputs alone lead to both states, so no inserted signals tell them apart";
+
+/// The text of the number of conflicts of a graph with a name for each state, and of the first of
+/// them: their code, what their states enable, the first walks to these from the start, and, where
+/// inputs alone lead to both from some state, the first such state with the first walks. It fails
+/// only where memory runs out.
+pub fn explain(alloc: Global, graph: &Coded, states: &Names) -> Result<Text, NoMemory>
+    requires { length states.now ≡ graph.now.graph.states }
+    ensures { IfOk result (IsExplainText graph.now states.now) }
+{
+    let count = count(alloc, graph)?;
+    let pairs = conflicts(alloc, graph, MAX_EXPLAINED)?;
+    let Ok(number) = count.to_string(alloc) else {
+        return Err(NoMemory);
+    };
+    let mut text = Text::copy_of(alloc, b"")?;
+    add_line(&mut text, b"conflicts", &[number.as_bytes()])?;
+    add_conflicts(alloc, &mut text, graph, states, pairs.as_slice())?;
+    Ok(text)
+}
+
+/// Adds the lines of the pairs, one after another.
+fn add_conflicts(
+    alloc: Global,
+    text: &mut Text,
+    graph: &Coded,
+    states: &Names,
+    pairs: &[Pair],
+) -> Result<(), NoMemory>
+    requires states { length states.now ≡ graph.now.graph.states }
+    requires pairs { AreFirstConflicts graph.now max_explained (pairs_of pairs.now) }
+    ensures { OnOk result
+        (ExplainsAll graph.now states.now (pairs_of pairs.now) text.old text.new) }
+{
+    for pair in pairs {
+        add_conflict(alloc, text, graph, states, pair.p, pair.q)?;
+    }
+    Ok(())
+}
+
+/// Adds the lines of two states of one code.
+fn add_conflict(
+    alloc: Global,
+    text: &mut Text,
+    coded: &Coded,
+    states: &Names,
+    p: StateId,
+    q: StateId,
+) -> Result<(), NoMemory>
+    requires states { length states.now ≡ coded.now.graph.states }
+    requires p { p < coded.now.graph.states }
+    requires q { q < coded.now.graph.states }
+    ensures { OnOk result (Explains coded.now states.now (p, q) text.old text.new) }
+{
+    let graph = coded.graph();
+    let signals = graph.signals();
+    let to_p = shortest_walk(alloc, coded, &Arcs::All, graph.start(), p)?;
+    let to_q = shortest_walk(alloc, coded, &Arcs::All, graph.start(), q)?;
+    let source = find_witness(alloc, coded, p, q)?;
+    add_line(text, b"conflict", &[name_at(states, p), name_at(states, q)])?;
+    add_values_line(text, b"code", signals, coded.code(p))?;
+    add_enabled(alloc, text, coded, states, p)?;
+    add_enabled(alloc, text, coded, states, q)?;
+    add_events_line(text, b"walk", signals, states, p, to_p.as_slice())?;
+    add_events_line(text, b"walk", signals, states, q, to_q.as_slice())?;
+    add_source(text, coded, states, p, q, &source)?;
+    Ok(())
+}
+
+/// Adds the line of the events that a state enables.
+fn add_enabled(
+    alloc: Global,
+    text: &mut Text,
+    coded: &Coded,
+    states: &Names,
+    s: StateId,
+) -> Result<(), NoMemory>
+    requires states { length states.now ≡ coded.now.graph.states }
+    requires state { s < coded.now.graph.states }
+    ensures { let g = coded.now.graph in OnOk result (text.new ≡ text.old
+        ++ line (events_line (codes "enables") g.signals states.now s (enabled_events g s))) }
+{
+    let graph = coded.graph();
+    let events = enabled_events(alloc, graph, s)?;
+    add_events_line(
+        text,
+        b"enables",
+        graph.signals(),
+        states,
+        s,
+        events.as_slice(),
+    )?;
+    Ok(())
+}
+
+/// Adds the lines of a state from which inputs alone lead to both states of the pair, if there is
+/// one.
+fn add_source(
+    text: &mut Text,
+    coded: &Coded,
+    states: &Names,
+    p: StateId,
+    q: StateId,
+    source: &Option<Witness>,
+) -> Result<(), NoMemory>
+    requires states { length states.now ≡ coded.now.graph.states }
+    requires p { p < coded.now.graph.states }
+    requires q { q < coded.now.graph.states }
+    requires source { IsSourceOrNone coded.now (p, q) (option_map source_of source.now) }
+    ensures { OnOk result (text.new ≡ text.old ++ text_of (source_lines coded.now.graph.signals
+        states.now (p, q) (option_map source_of source.now))) }
+{
+    let signals = coded.graph().signals();
+    let Some(found) = source else {
+        return Ok(());
+    };
+    let s = found.source;
+    add_inputs_line(text, signals, states, s, p, found.first.as_slice())?;
+    add_inputs_line(text, signals, states, s, q, found.second.as_slice())?;
+    add_line(
+        text,
+        b"unresolvable",
+        &[name_at(states, p), name_at(states, q), MEANING],
+    )?;
+    Ok(())
+}

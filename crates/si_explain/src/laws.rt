@@ -1,0 +1,23 @@
+//! The laws of the text, as contracts of functions that do nothing.
+
+ghost use Rattle.si_explain.specs.Laws.{ExplainTextsAreUnique, ExplainTextsExist};
+ghost use Rattle.si_explain.specs.Laws.{SourcesShowJoined, NoSourceShowsNone};
+ghost use Rattle.si_explain.specs.Laws.{JoinedNeverResolve, JoinedEndUnresolved};
+
+/// A coded graph with names for its states has one text.
+pub fn explain_texts()
+    ensures unique { ExplainTextsAreUnique }
+    ensures exist { ExplainTextsExist }
+{}
+
+/// A source is shown exactly where input events join the conflict.
+pub fn shown_sources()
+    ensures joined { SourcesShowJoined }
+    ensures none { NoSourceShowsNone }
+{}
+
+/// Resolving a graph with a conflict that input events join ends unresolved.
+pub fn joined_stay_unresolved()
+    ensures never { JoinedNeverResolve }
+    ensures ends { JoinedEndUnresolved }
+{}

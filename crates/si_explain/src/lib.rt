@@ -1,0 +1,7 @@
+//! Why a graph has conflicts: the codes of the first ones, what their states enable, walks to them,
+//! and whether inputs alone lead to both states of one, so that no insertion resolves it.
+#![tactic(auto)]
+
+mod events;
+pub mod explain;
+pub mod laws;

@@ -1,0 +1,5 @@
+pub mod Walks
+pub mod Distances
+pub mod Sources
+pub mod Joined
+pub mod Laws

@@ -1,0 +1,25 @@
+//! The laws of conflicts whose states input events join. Each contract is the law.
+
+ghost use Rattle.std.specs.Prelude.{ℕ};
+ghost use Rattle.si_walks.specs.Joined.{IsJoinedConflict};
+ghost use Rattle.si_walks.specs.Laws.{JoinedConflictStays, KeptJoinedConflictStays};
+ghost use Rattle.si_walks.specs.Laws.{JoinedIsNeverResolved, WalkJoinsConflict};
+
+use si_insert::resolved::Resolved;
+
+/// A conflict whose states input events join stays, whatever is inserted: the environment gets from
+/// the one state to the other, or to both from a third, before the circuit can tell them apart.
+pub fn joined_conflicts()
+    ensures walk { WalkJoinsConflict }
+    ensures stays { JoinedConflictStays }
+    ensures kept { KeptJoinedConflictStays }
+    ensures never_resolved { JoinedIsNeverResolved }
+{}
+
+/// The given graph of a resolved lineage has no such conflict.
+pub fn resolved_has_none(resolved: &Resolved)
+    ensures { (pair : ℕ × ℕ) → IsJoinedConflict resolved.now.given pair → ⊥ }
+{
+    let lineage = resolved.lineage();
+    let _trace = lineage.trace();
+}
