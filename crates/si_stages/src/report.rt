@@ -75,8 +75,8 @@ fn told(
         Report::Covers => list_covers(alloc, graph, states),
         Report::Fold => fold_text(alloc, graph, model, states),
         Report::States => list_states(alloc, graph.coded(), states),
-        Report::Dot => draw(alloc, graph.coded(), model.bytes(), states),
         Report::Explain => explain(alloc, graph.coded(), states),
+        Report::Dot => draw(alloc, graph.coded(), model.bytes(), states),
     }
 }
 

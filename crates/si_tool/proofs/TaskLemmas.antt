@@ -17,8 +17,7 @@ use Rattle.si_readings.specs.declared.library_format.LibraryFormat.{LibraryForma
 use Rattle.si_readings.specs.declared.library_format.LibraryFormat.TheVariants.{Own, Genlib}
 use Rattle.si_stages.specs.declared.replay_kind.ReplayReport.TheVariants.{End, Wave}
 use Rattle.si_stages.specs.declared.report_kind.Report.TheVariants.{Summary, Regions, Conflicts, Covers, Fold}
-use Rattle.si_stages.specs.declared.report_kind.Report.TheVariants.{States, Dot}
-use Rattle.si_stages.specs.declared.report_kind.Report.TheVariants.{Summary, Regions, Conflicts, Covers, Fold, Explain}
+use Rattle.si_stages.specs.declared.report_kind.Report.TheVariants.{States, Explain, Dot}
 
 -- what a read past the end of the table gives
 abbrev pub first_task : Task
@@ -38,28 +37,28 @@ each_listed (Tell Regions) = (5, omega arith, refl)
 each_listed (Tell Conflicts) = (6, omega arith, refl)
 each_listed (Tell Covers) = (7, omega arith, refl)
 each_listed (Tell Fold) = (8, omega arith, refl)
-each_listed (Tell Explain) = (9, omega arith, refl)
-each_listed (Synth Complex) = (10, omega arith, refl)
-each_listed (Synth GeneralisedC) = (11, omega arith, refl)
-each_listed (Map Own) = (12, omega arith, refl)
-each_listed (Map Genlib) = (13, omega arith, refl)
-each_listed FromGenlib = (14, omega arith, refl)
-each_listed Verilog = (15, omega arith, refl)
-each_listed (Replay End) = (16, omega arith, refl)
-each_listed Audit = (17, omega arith, refl)
-each_listed Resolve = (18, omega arith, refl)
-each_listed Insert = (19, omega arith, refl)
-each_listed (Replay Wave) = (20, omega arith, refl)
-each_listed (Exercise One) = (21, omega arith, refl)
-each_listed (Exercise Two) = (22, omega arith, refl)
-each_listed (Exercise Three) = (23, omega arith, refl)
-each_listed (Exercise Four) = (24, omega arith, refl)
-each_listed (Exercise Five) = (25, omega arith, refl)
-each_listed (Exercise Six) = (26, omega arith, refl)
-each_listed (Exercise Seven) = (27, omega arith, refl)
-each_listed (Exercise Eight) = (28, omega arith, refl)
-each_listed (Tell States) = (29, omega arith, refl)
-each_listed (Tell Dot) = (30, omega arith, refl)
+each_listed (Tell States) = (9, omega arith, refl)
+each_listed (Tell Explain) = (10, omega arith, refl)
+each_listed (Tell Dot) = (11, omega arith, refl)
+each_listed (Synth Complex) = (12, omega arith, refl)
+each_listed (Synth GeneralisedC) = (13, omega arith, refl)
+each_listed (Map Own) = (14, omega arith, refl)
+each_listed (Map Genlib) = (15, omega arith, refl)
+each_listed Resolve = (16, omega arith, refl)
+each_listed Insert = (17, omega arith, refl)
+each_listed FromGenlib = (18, omega arith, refl)
+each_listed Verilog = (19, omega arith, refl)
+each_listed (Replay End) = (20, omega arith, refl)
+each_listed (Replay Wave) = (21, omega arith, refl)
+each_listed Audit = (22, omega arith, refl)
+each_listed (Exercise One) = (23, omega arith, refl)
+each_listed (Exercise Two) = (24, omega arith, refl)
+each_listed (Exercise Three) = (25, omega arith, refl)
+each_listed (Exercise Four) = (26, omega arith, refl)
+each_listed (Exercise Five) = (27, omega arith, refl)
+each_listed (Exercise Six) = (28, omega arith, refl)
+each_listed (Exercise Seven) = (29, omega arith, refl)
+each_listed (Exercise Eight) = (30, omega arith, refl)
 
 -- ---- words ask for none of the tasks up to a place
 abbrev pub AsksNoneBefore : List (String Global) → (place : ℕ) → Type 0

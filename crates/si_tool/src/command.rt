@@ -103,18 +103,20 @@ const TASKS: [Task; 31] = [
     Task::Tell(Report::Conflicts),
     Task::Tell(Report::Covers),
     Task::Tell(Report::Fold),
+    Task::Tell(Report::States),
     Task::Tell(Report::Explain),
+    Task::Tell(Report::Dot),
     Task::Synth(Style::Complex),
     Task::Synth(Style::GeneralisedC),
     Task::Map(LibraryFormat::Own),
     Task::Map(LibraryFormat::Genlib),
+    Task::Resolve,
+    Task::Insert,
     Task::FromGenlib,
     Task::Verilog,
     Task::Replay(ReplayReport::End),
-    Task::Audit,
-    Task::Resolve,
-    Task::Insert,
     Task::Replay(ReplayReport::Wave),
+    Task::Audit,
     Task::Exercise(HandshakeCount::One),
     Task::Exercise(HandshakeCount::Two),
     Task::Exercise(HandshakeCount::Three),
@@ -123,8 +125,6 @@ const TASKS: [Task; 31] = [
     Task::Exercise(HandshakeCount::Six),
     Task::Exercise(HandshakeCount::Seven),
     Task::Exercise(HandshakeCount::Eight),
-    Task::Tell(Report::States),
-    Task::Tell(Report::Dot),
 ];
 
 /// A command: its task, and the names of its files in the order of the words.
@@ -211,6 +211,7 @@ fn report_word(report: Report) -> &'static str
         Report::Covers => "covers",
         Report::Fold => "fold",
         Report::States => "states",
+        Report::Explain => "explain",
         Report::Dot => "dot",
     }
 }
@@ -222,7 +223,6 @@ fn replay_word(report: ReplayReport) -> &'static str
     match report {
         ReplayReport::End => "replay",
         ReplayReport::Wave => "wave",
-        Report::Explain => "explain",
     }
 }
 
