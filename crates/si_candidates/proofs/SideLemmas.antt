@@ -1,6 +1,7 @@
 -- Sides of blocks along a tree of arcs, and the classes that they tell.
 use Rattle.std.proofs.Common.{◌≡◌, ◌≢◌, ℕ, zero, suc, ◌+◌, ◌<◌, ◌≤◌, ◌&&◌, ◌↔◌, ◌∙◌, not, Bool, true, false}
-use Rattle.std.proofs.Common.{List, length, get_or, set, replicate, refl, sym, ap, ap₂, subst, arith, inl, inr, get_or-set_same, get_or-set_other, length-set}
+use Rattle.std.proofs.Common.{List, length, get_or, set, replicate, refl, sym, ap, ap₂, subst, arith, inl, inr}
+use Rattle.std.proofs.Common.{get_or-set_same, get_or-set_other, length-set}
 use Rattle.std.proofs.lemmas.Bool.{cases_eq, cases_Bool, true≢false}
 use Rattle.std.proofs.lemmas.List.{get_or_default, ext_get_or, length-replicate}
 use Rattle.si_base.specs.declared.ids.Event.{Event}
@@ -222,7 +223,8 @@ module _ (g : StateGraph) (graph : IsGraph g) (plus minus : List Bool) (others :
   rises s within = by_test is_rising Rising (flag plus s) (class_of others s) only_rising refl (from.rising s within)
 
   falls : (s : ℕ) → s < g.states → flag minus s ≡ is_falling (class_of others s)
-  falls s within = by_test is_falling Falling (flag minus s) (class_of others s) only_falling refl (from.falling s within)
+  falls s within =
+      by_test is_falling Falling (flag minus s) (class_of others s) only_falling refl (from.falling s within)
 
   abbrev value : ℕ → Bool
   value s = entry (class_of others s)
@@ -253,10 +255,10 @@ module _ (g : StateGraph) (graph : IsGraph g) (plus minus : List Bool) (others :
         let grows = is.each k l there in
         let before : IsMet g.start tree n l.from = met_later g tree k n l.from (omega (arith, early)) grows.from_met in
         subst (λ (s : ℕ). value s ≡ differ (value g.start) (turned s)) leads (
-          one_step l.from grows.along.0 l.to grows.along.1
-          ∙ ap (λ b. differ b (differ (leaves plus l.from l.to) (leaves minus l.from l.to))) (value_met n l.from before)
-          ∙ differ_parts (value g.start) (flag plus_sides l.from) (flag minus_sides l.from) _ _
-          ∙ ap₂ (λ a b. differ (value g.start) (differ a b)) (sym (one.along k l there)) (sym (two.along k l there)))
+        one_step l.from grows.along.0 l.to grows.along.1
+        ∙ ap (λ b. differ b (differ (leaves plus l.from l.to) (leaves minus l.from l.to))) (value_met n l.from before)
+        ∙ differ_parts (value g.start) (flag plus_sides l.from) (flag minus_sides l.from) _ _
+        ∙ ap₂ (λ a b. differ (value g.start) (differ a b)) (sym (one.along k l there)) (sym (two.along k l there)))
 
     value_told : (r : ℕ) → r < g.states → IsIn plus r → (s : ℕ) → s < g.states
         → value s ≡ differ (turned r) (turned s)

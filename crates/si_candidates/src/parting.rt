@@ -106,6 +106,13 @@ impl Parting {
         let rising = first_of(plus.set());
         let turn = is_between(plus_sides, minus_sides, rising);
         let classes = self.raising.classes.as_mut_slice();
-        tell(classes, plus.set(), minus.set(), plus_sides, minus_sides, turn);
+        tell(
+            classes,
+            plus.set(),
+            minus.set(),
+            plus_sides,
+            minus_sides,
+            turn,
+        );
     }
 }

@@ -1,5 +1,5 @@
-//! On which side of a block each state lies, along a tree of arcs, and the classes that the sides of
-//! two blocks tell.
+//! On which side of a block each state lies, along a tree of arcs, and the classes that the sides
+//! of two blocks tell.
 
 ghost use Rattle.std.specs.Prelude.{◌≡◌, ℕ, ◌<◌, Bool, IfOk, length};
 ghost use Rattle.si_base.specs.Sets.{IsIn};
@@ -75,7 +75,7 @@ pub(crate) fn first_of(set: &StateSet) -> StateId
 }
 
 /// Finds the class of each state by two blocks and their sides, where the new signal has the value
-/// 0 on the way to the states that lie between the blocks just as `turn` says.
+/// 0 on the way to those states that lie on different sides of the two exactly if `turn` is set.
 pub(crate) fn tell(
     classes: &mut [Class],
     plus: &StateSet,

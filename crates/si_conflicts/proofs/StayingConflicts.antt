@@ -1,6 +1,7 @@
 -- Conflicts whose states an insertion doesn't part stay, so that as many are left at least.
 use Rattle.std.proofs.Common.{◌≡◌, ◌≢◌, ◌⊎◌, ℕ, zero, suc, ◌+◌, ◌<◌, ◌≤◌, ◌==◌, ◌&&◌, ◌∙◌, Bool, true, false, not, cond}
-use Rattle.std.proofs.Common.{List, [], ◌∷◌, ◌++◌, length, map, filter, slice_index, Contains, refl, sym, ap, ap₂, subst, arith, inl, inr, ltb, lt-ltb, le-ltb, eqb-true}
+use Rattle.std.proofs.Common.{List, [], ◌∷◌, ◌++◌, length, map, filter, slice_index, Contains, refl, sym, ap, ap₂}
+use Rattle.std.proofs.Common.{subst, arith, inl, inr, ltb, lt-ltb, le-ltb, eqb-true}
 use Rattle.std.proofs.lemmas.Bool.{cases_Bool, cases_lt, true≢false}
 use Rattle.std.proofs.lemmas.List.{length-append}
 use Rattle.std.proofs.lemmas.List.Sorted.{Contains-permutation}
@@ -180,7 +181,8 @@ in_range_from i (suc n) a from below = elim (cases_lt i a) [
   | inr same ↦ inl (omega (arith, from, same))
 ]
 
-from_map : (ms : List Member) (s : ℕ) → In s (map (λ (m : Member). m.state) ms) → (m : Member) × In m ms × (m.state ≡ s)
+from_map : (ms : List Member) (s : ℕ) → In s (map (λ (m : Member). m.state) ms)
+    → (m : Member) × In m ms × (m.state ≡ s)
 from_map [] s there = absurd there
 from_map (m ∷ ms) s (inl same) = (m, inl refl, sym same)
 from_map (m ∷ ms) s (inr later) = (let found = from_map ms s later in (found.0, inr found.1, found.2))
