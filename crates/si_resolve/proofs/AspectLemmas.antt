@@ -1,17 +1,13 @@
 -- Conflicts whose states two blocks don't part stay, whatever classes the blocks have.
 use Rattle.std.proofs.Common.{◌≡◌, ◌⊎◌, ℕ, ◌+◌, ◌<◌, ◌≤◌, ◌∙◌, Bool, true, false, not, cond, List, [], ◌∷◌, ◌++◌}
-use Rattle.std.proofs.Common.{length, map, take, filter, get_or, All, Contains, refl, sym, ap, ap₂, subst, arith, inl, inr}
+use Rattle.std.proofs.Common.{length, map, take, filter, get_or, All, Contains, refl, sym, ap, ap₂, subst, arith, inl}
+use Rattle.std.proofs.Common.{inr}
 use Rattle.std.proofs.lemmas.Bool.{cases_Bool, true≢false}
 use Rattle.std.proofs.lemmas.List.{take_more, take_all, length-take-le}
-use Rattle.si_base.specs.Graph.{StateGraph}
-use Rattle.si_base.specs.Codes.{CodedGraph, IsCoded}
-use Rattle.si_base.specs.Proper.{IsConflict}
-use Rattle.si_base.specs.Sets.{IsIn}
 use Rattle.si_base.proofs.Sorted.{In}
-use Rattle.si_base.proofs.Unique.{contains_from_in}
 use Rattle.si_insert.specs.declared.partition.Class.{Class}
 use Rattle.si_insert.specs.declared.partition.Class.TheVariants.{Low, Rising, High, Falling}
-use Rattle.si_insert.specs.Partition.{class_of, IsLawful}
+use Rattle.si_insert.specs.Partition.{class_of}
 use Rattle.si_candidates.specs.Sides.{between, class_by, differ, flag}
 use Rattle.si_candidates.proofs.SideLemmas.{differ_group, differ_swap}
 use Rattle.si_conflicts.specs.Left.{are_parted, stays}
@@ -156,17 +152,21 @@ module _ (states : ℕ) (plus minus plus_sides minus_sides : List Bool) (turn : 
   one_more : (pair : ℕ × ℕ) (pairs : List (ℕ × ℕ)) (n : ℕ) → pair.0 < states → pair.1 < states
       → n ≤ length (filter (stays classes) pairs)
       → stays_by (by_plus pair) (by_minus pair) + n ≤ length (filter (stays classes) (pair ∷ pairs))
-  one_more pair pairs n p_in q_in few = elim (cases_Bool (are_parted (class_of classes pair.0) (class_of classes pair.1))) [
-    | inl parted ↦ (
-        let apart = ap {B = ℕ} (λ b. cond b 0 1) (classes_part pair.0 pair.1 p_in q_in parted) in
-        let list = ap (λ b. length (cond (not b) (pair ∷ filter (stays classes) pairs) (filter (stays classes) pairs))) parted in
-        omega (arith, few, apart, list))
-    | inr together ↦ (
-        let at_most = some_stay (part (by_plus pair) (by_minus pair)) in
-        let list = ap (λ b. length (cond (not b) (pair ∷ filter (stays classes) pairs) (filter (stays classes) pairs))) together in
-        omega (arith, few, at_most, list))
-  ]
+  one_more pair pairs n p_in q_in few =
+      elim (cases_Bool (are_parted (class_of classes pair.0) (class_of classes pair.1))) [
+        | inl parted ↦ (
+            let apart = ap {B = ℕ} (λ b. cond b 0 1) (classes_part pair.0 pair.1 p_in q_in parted) in
+            let list = ap with_pair parted in
+            omega (arith, few, apart, list))
+        | inr together ↦ (
+            let at_most = some_stay (part (by_plus pair) (by_minus pair)) in
+            let list = ap with_pair together in
+            omega (arith, few, at_most, list))
+      ]
     where
+      with_pair : Bool → ℕ
+      with_pair b = length (cond (not b) (pair ∷ filter (stays classes) pairs) (filter (stays classes) pairs))
+
       some_stay : (b : Bool) → cond b 0 1 ≤ 1
       some_stay true = omega arith
       some_stay false = omega arith

@@ -1,5 +1,6 @@
 -- What becomes of a search with each candidate.
-use Rattle.std.proofs.Common.{◌≡◌, ℕ, ◌+◌, ◌<◌, ◌≤◌, ◌↔◌, Bool, true, false, List, length, slice_index_or, Option, Some, None, IfNone, IfSome, IsTrue, refl, sym, ap, ap₂, subst, ◌∙◌, arith, inl, inr}
+use Rattle.std.proofs.Common.{◌≡◌, ℕ, ◌+◌, ◌<◌, ◌≤◌, ◌↔◌, Bool, true, false, List, length, slice_index_or, Option}
+use Rattle.std.proofs.Common.{Some, None, IfNone, IfSome, IsTrue, refl, sym, ap, ap₂, subst, ◌∙◌, arith, inl, inr}
 use Rattle.std.proofs.lemmas.Bool.{true≢false}
 use Rattle.std.proofs.lemmas.List.{length-map}
 use Rattle.si_base.specs.Graph.{StateGraph, IsGraph}
@@ -30,7 +31,8 @@ use Rattle.si_resolve.specs.declared.aspects.Aspect.{Aspect}
 use Rattle.si_resolve.specs.declared.block_list.BlockList.{BlockList}
 use Rattle.si_resolve.specs.Aspects.{HaveAspects, aspect_of, column_at, unparted}
 use Rattle.si_resolve.specs.Usable.{IsUsable, AreSearched, AreUsable, AreSided, HaveSides}
-use Rattle.si_resolve.specs.Progress.{found_of, best_of, IsSearching, IsFound, bar_of, MayBeAccepted, LeavesBelow, LeavesNoneBelow, NoneIsBelow, HasSameRoom}
+use Rattle.si_resolve.specs.Progress.{found_of, best_of, IsSearching, IsFound, bar_of, MayBeAccepted, LeavesBelow}
+use Rattle.si_resolve.specs.Progress.{LeavesNoneBelow, NoneIsBelow, HasSameRoom}
 use Rattle.si_candidates.proofs.Separable.{accepted_by_blocks}
 use Rattle.si_candidates.proofs.CopyCount.{copies_by_blocks}
 use Rattle.si_resolve.proofs.AspectLemmas.{unparted_stay}
@@ -259,57 +261,57 @@ same_lengths blocks usable sides pairs columns i j have i_in j_in one other =
 module _ (c : CodedGraph) (list : BlockList) (searched : AreSearched c list) (i j : ℕ)
     (i_in : i < length list.blocks.items) (j_in : j < length list.blocks.items)
     (one : IsUsable c.graph (block_at list.blocks.items i)) (other : IsUsable c.graph (block_at list.blocks.items j))
-    where
-  abbrev plus : List Bool
-  plus = block_at list.blocks.items i
+  where
+    abbrev one_block : List Bool
+    one_block = block_at list.blocks.items i
 
-  abbrev minus : List Bool
-  minus = block_at list.blocks.items j
+    abbrev other_block : List Bool
+    other_block = block_at list.blocks.items j
 
-  abbrev plus_sides : List Bool
-  plus_sides = block_at list.sides.items i
+    abbrev one_sides : List Bool
+    one_sides = block_at list.sides.items i
 
-  abbrev minus_sides : List Bool
-  minus_sides = block_at list.sides.items j
+    abbrev other_sides : List Bool
+    other_sides = block_at list.sides.items j
 
-  pub one_flag : slice_index_or list.usable.items i false ≡ true
-  one_flag = (searched.usable.each i i_in).1 one
+    pub one_flag : slice_index_or list.usable.items i false ≡ true
+    one_flag = (searched.usable.each i i_in).1 one
 
-  pub other_flag : slice_index_or list.usable.items j false ≡ true
-  other_flag = (searched.usable.each j j_in).1 other
+    pub other_flag : slice_index_or list.usable.items j false ≡ true
+    other_flag = (searched.usable.each j j_in).1 other
 
-  pairs_within : (pair : ℕ × ℕ) → In pair searched.pairs → (pair.0 < c.graph.states) × (pair.1 < c.graph.states)
-  pairs_within pair there =
-      let is = searched.pairs_are.each pair (contains_from_in searched.pairs pair there) in
-      (omega (arith, is.order, is.within), is.within)
+    pairs_within : (pair : ℕ × ℕ) → In pair searched.pairs → (pair.0 < c.graph.states) × (pair.1 < c.graph.states)
+    pairs_within pair there =
+        let is = searched.pairs_are.each pair (contains_from_in searched.pairs pair there) in
+        (omega (arith, is.order, is.within), is.within)
 
-  unparted_are_left : (chains : Chains) → AreChains c chains → (classes : List Class) (n : ℕ)
-      → AreClasses c.graph plus minus classes → LeavesConflicts c classes n
-      → unparted (column_at list.columns.items i) (column_at list.columns.items j) ≤ n
-  unparted_are_left chains chains_are classes n are leaves =
-      let coded = searched.coded in
-      let size_i = size_at c list.blocks.items i searched.are i_in in
-      let size_j = size_at c list.blocks.items j searched.are j_in in
-      let lawful = lawful_classes c.graph plus minus classes coded.graph_is size_i size_j
-      (one.state, one.there) (other.state, other.there) are in
-      let r_in : one.state < c.graph.states = omega (arith, in_below plus one.state one.there, size_i) in
-      let each = class_is c.graph coded.graph_is plus minus classes
-      (record { lawful = lawful; rising = are.rising; falling = are.falling })
-      searched.sides.tree searched.sides.is_tree plus_sides minus_sides
-      (searched.sides.each i i_in one_flag) (searched.sides.each j j_in other_flag) one.state r_in one.there in
-      let stay = unparted_stay c.graph.states plus minus plus_sides minus_sides
-      (between plus_sides minus_sides one.state) classes each searched.pairs pairs_within in
-      let left = stay_left c coded classes chains chains_are searched.pairs searched.pairs_are.each
-      searched.pairs_are.in_order lawful n leaves in
-      let same = ap₂ unparted (searched.aspects.each i i_in one_flag) (searched.aspects.each j j_in other_flag) in
-      omega (arith, same, stay, left)
+    unparted_are_left : (chains : Chains) → AreChains c chains → (classes : List Class) (n : ℕ)
+        → AreClasses c.graph one_block other_block classes → LeavesConflicts c classes n
+        → unparted (column_at list.columns.items i) (column_at list.columns.items j) ≤ n
+    unparted_are_left chains chains_are classes n are leaves =
+        let coded = searched.coded in
+        let size_i = size_at c list.blocks.items i searched.are i_in in
+        let size_j = size_at c list.blocks.items j searched.are j_in in
+        let lawful = lawful_classes c.graph one_block other_block classes coded.graph_is size_i size_j
+        (one.state, one.there) (other.state, other.there) are in
+        let r_in : one.state < c.graph.states = omega (arith, in_below one_block one.state one.there, size_i) in
+        let each = class_is c.graph coded.graph_is one_block other_block classes
+        (record { lawful = lawful; rising = are.rising; falling = are.falling })
+        searched.sides.tree searched.sides.is_tree one_sides other_sides
+        (searched.sides.each i i_in one_flag) (searched.sides.each j j_in other_flag) one.state r_in one.there in
+        let stay = unparted_stay c.graph.states one_block other_block one_sides other_sides
+        (between one_sides other_sides one.state) classes each searched.pairs pairs_within in
+        let left = stay_left c coded classes chains chains_are searched.pairs searched.pairs_are.each
+        searched.pairs_are.in_order lawful n leaves in
+        let same = ap₂ unparted (searched.aspects.each i i_in one_flag) (searched.aspects.each j j_in other_flag) in
+        omega (arith, same, stay, left)
 
-  pub none_by_aspects : (chains : Chains) → AreChains c chains → (low : ℕ)
-      → low ≤ unparted (column_at list.columns.items i) (column_at list.columns.items j)
-      → NoneIsBelow c list.blocks.items i j low
-  none_by_aspects chains chains_are low enough =
-      none_by_left c list.blocks.items i j low (λ classes n are leaves.
-      (let left = unparted_are_left chains chains_are classes n are leaves in omega (arith, enough, left)))
+    pub none_by_aspects : (chains : Chains) → AreChains c chains → (low : ℕ)
+        → low ≤ unparted (column_at list.columns.items i) (column_at list.columns.items j)
+        → NoneIsBelow c list.blocks.items i j low
+    none_by_aspects chains chains_are low enough =
+        none_by_left c list.blocks.items i j low (λ classes n are leaves.
+        (let left = unparted_are_left chains chains_are classes n are leaves in omega (arith, enough, left)))
 
 -- what a test of the list tells
 pub not_usable : (g : StateGraph) (blocks : List (List Bool)) (usable : List Bool) (k : ℕ) → AreUsable g blocks usable
@@ -334,11 +336,11 @@ pub sided_at : (g : StateGraph) (blocks : List (List Bool)) (usable : List Bool)
     → minus_sides ≡ block_at sides j → AreSided g plus minus plus_sides minus_sides
 sided_at g blocks usable sides i j plus minus plus_sides minus_sides have are i_in j_in one other plus_is minus_is
     plus_sides_are minus_sides_are = record {
-  tree = have.tree;
-  is_tree = have.is_tree;
-  plus_are = at i plus plus_sides i_in one plus_is plus_sides_are;
-  minus_are = at j minus minus_sides j_in other minus_is minus_sides_are;
-}
+      tree = have.tree;
+      is_tree = have.is_tree;
+      plus_are = at i plus plus_sides i_in one plus_is plus_sides_are;
+      minus_are = at j minus minus_sides j_in other minus_is minus_sides_are;
+    }
   where
     at : (k : ℕ) (block lie : List Bool) → k < length blocks → IsUsable g (block_at blocks k)
         → block ≡ block_at blocks k → lie ≡ block_at sides k → AreSides g have.tree block lie

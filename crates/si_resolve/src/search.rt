@@ -8,7 +8,8 @@ ghost use Rattle.si_conflicts.specs.Chains.{AreChains};
 ghost use Rattle.si_conflicts.specs.Conflicts.{HasConflicts};
 ghost use Rattle.si_resolve.specs.Best.{NoneImproves};
 ghost use Rattle.si_resolve.specs.Usable.{IsUsable, AreSearched, AreSided};
-ghost use Rattle.si_resolve.specs.Progress.{IsSearching, IsFound, MayBeAccepted, LeavesBelow, LeavesNoneBelow, NoneIsBelow, HasSameRoom, bar_of};
+ghost use Rattle.si_resolve.specs.Progress.{IsSearching, IsFound, MayBeAccepted, LeavesBelow};
+ghost use Rattle.si_resolve.specs.Progress.{LeavesNoneBelow, NoneIsBelow, HasSameRoom, bar_of};
 
 use crate::block_list::BlockList;
 use si_base::ids::NoMemory;
@@ -240,7 +241,8 @@ impl Search {
         ensures same { HasSameRoom self.old self.new }
     {
         let bar = self.bar();
-        self.parting.tell(graph, plus, minus, plus_sides, minus_sides);
+        self.parting
+            .tell(graph, plus, minus, plus_sides, minus_sides);
         let classes = self.parting.classes();
         self.chains.may_leave_below(graph, classes, bar)
     }

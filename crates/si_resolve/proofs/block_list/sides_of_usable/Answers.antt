@@ -17,7 +17,8 @@ loop-k-preserved c =
     let inside : k < length blocks = omega (arith, c.loop-k-test.true) in
     let at_k : c.index-blocks-k.result ≡ block_at blocks k =
     c.index-blocks-k.is ∙ get_or_default blocks k c.index-blocks-k.result [] inside in
-    let Holds : ℕ → List Bool → Type 0 = λ j x. slice_index_or usable j false ≡ true → AreSides g tree (block_at blocks j) x in
+    let Holds : ℕ → List Bool → Type 0 =
+    λ j x. slice_index_or usable j false ≡ true → AreSides g tree (block_at blocks j) x in
     let last : Holds k new =
     λ on. subst (λ (b : List Bool). AreSides g tree b new) at_k (c.in_ok-sides_if.ensures on) in
     rw c.in_ok-push.ensures.items (record {

@@ -27,7 +27,7 @@ returns c = λ refused.
     let list = c.args.list.now in
     let more = ltb-false c.unparted.result c.bar.result refused in
     let enough : bar_of c.args.self.now
-        ≤ unparted (column_at list.columns.items c.args.i) (column_at list.columns.items c.args.j) =
+    ≤ unparted (column_at list.columns.items c.args.i) (column_at list.columns.items c.args.j) =
     omega (arith, more, c.unparted.ensures, c.bar.ensures) in
     none_by_aspects c.args.graph.now list r.list c.args.i c.args.j r.i_within r.j_within r.first r.later
     c.args.self.now.chains r.chains (bar_of c.args.self.now) enough
