@@ -21,5 +21,5 @@ pub mod AddingLemmas
 pub mod ClassesExist
 pub mod AcceptanceDecided
 pub mod TreeLemmas
-mod SpreadLemmas
-mod SpreadExamples
+pub mod SideLemmas
+mod SideExamples

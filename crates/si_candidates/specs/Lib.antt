@@ -5,4 +5,5 @@ pub mod Parts
 pub mod Blocking
 pub mod Laws
 pub mod Raising
-pub mod Spreading
+pub mod Tree
+pub mod Sides

@@ -10,5 +10,5 @@ pub mod laws;
 pub mod part_laws;
 pub mod parting;
 mod raising;
-mod spreading;
+pub mod sides;
 pub mod tree;

@@ -12,6 +12,7 @@ pub mod CopyKeys
 pub mod Meeting
 pub mod CopyCount
 pub mod LeftCount
+pub mod StayingConflicts
 pub mod TallyLemmas
 pub mod StayLemmas
 pub mod RingLemmas

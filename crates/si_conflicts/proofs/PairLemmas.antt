@@ -37,12 +37,12 @@ in_append (x ∷ xs) ys a (inr later) = elim (in_append xs ys a later) [
   | inr right ↦ inr right
 ]
 
-in_left : (xs ys : List (ℕ × ℕ)) (a : ℕ × ℕ) → In a xs → In a (xs ++ ys)
+pub in_left : (xs ys : List (ℕ × ℕ)) (a : ℕ × ℕ) → In a xs → In a (xs ++ ys)
 in_left [] ys a there = absurd there
 in_left (x ∷ xs) ys a (inl same) = inl same
 in_left (x ∷ xs) ys a (inr later) = inr (in_left xs ys a later)
 
-in_right : (xs ys : List (ℕ × ℕ)) (a : ℕ × ℕ) → In a ys → In a (xs ++ ys)
+pub in_right : (xs ys : List (ℕ × ℕ)) (a : ℕ × ℕ) → In a ys → In a (xs ++ ys)
 in_right [] ys a there = there
 in_right (x ∷ xs) ys a there = inr (in_right xs ys a there)
 

@@ -1,16 +1,24 @@
 -- Blocks that a search may pass over, and graphs that it needn't be made for.
-use Rattle.std.proofs.Common.{◌≡◌, ℕ, ◌≤◌, ◌↔◌, Bool, false, List, length, IsTrue, sym, arith, ap}
-use Rattle.std.proofs.lemmas.Bool.{true≢false}
+use Rattle.std.proofs.Common.{◌≡◌, ℕ, ◌+◌, ◌<◌, ◌≤◌, ◌↔◌, ◌∙◌, Bool, true, false, List, [], ◌∷◌, ◌++◌, length, get_or}
+use Rattle.std.proofs.Common.{slice_index_or, Contains, IsTrue, sym, arith, ap, subst, inl, inr}
+use Rattle.std.proofs.lemmas.Bool.{cases_eq, true≢false}
+use Rattle.std.proofs.lemmas.List.{get_or-map, get_or_append_left, get_or_push, length-map}
+use Rattle.std.proofs.lemmas.List.Elements.{Contains-get_or}
 use Rattle.si_base.specs.declared.graph.Signal.{Signal}
 use Rattle.si_base.specs.Graph.{StateGraph}
 use Rattle.si_base.specs.Limits.{max_signals}
 use Rattle.si_base.specs.Codes.{CodedGraph}
 use Rattle.si_base.specs.Sets.{IsIn, HasNoneFrom}
+use Rattle.si_base.specs.Proper.{IsConflict}
 use Rattle.si_candidates.specs.Blocking.{MaySwitch}
-use Rattle.si_conflicts.specs.Conflicts.{HasConflicts}
+use Rattle.si_candidates.specs.Blocks.{AreBlocks, block_at}
+use Rattle.si_conflicts.specs.declared.conflicts.Pair.{Pair}
+use Rattle.si_conflicts.specs.Conflicts.{AreFirstConflicts, HasConflicts, pairs_of}
 use Rattle.si_conflicts.proofs.Counted.{one_count}
 use Rattle.si_resolve.specs.Best.{NoneImproves}
-use Rattle.si_resolve.specs.Usable.{IsUsable}
+use Rattle.si_resolve.specs.Aspects.{AreWithin}
+use Rattle.si_resolve.specs.Usable.{HaveSides, IsUsable}
+use Rattle.si_resolve.proofs.BlockSizes.{size_at}
 
 pub usable_by : (g : StateGraph) (block : List Bool) (s : ℕ) (may : Bool) → IsIn block s
     → (IsTrue may ↔ MaySwitch g (IsIn block)) → IsTrue may ↔ IsUsable g block
@@ -35,3 +43,56 @@ none_without_room c signals same full x blocks m are choice counted =
     let few = choice.accepted.few_signals in
     let size = ap (length {A = Signal}) same in
     absurd (omega (arith, few, full, size))
+
+abbrev pair_of : Pair → ℕ × ℕ
+pair_of x = (x.p, x.q)
+
+-- the states of the first conflicts are within a set of the graph's states
+pub pairs_inside : (c : CodedGraph) (limit : ℕ) (pairs : List Pair) (set sides : List Bool)
+    → AreFirstConflicts c limit (pairs_of pairs) → length set ≡ c.graph.states → length sides ≡ c.graph.states
+    → AreWithin set sides pairs
+pairs_inside c limit pairs set sides are set_size sides_size = record {
+  size = sides_size ∙ sym set_size;
+  first = λ k d inside. (let is = conflict k d inside in omega (arith, is.order, is.within, set_size));
+  later = λ k d inside. (let is = conflict k d inside in omega (arith, is.within, set_size));
+}
+  where
+    conflict : (k : ℕ) (d : Pair) → k < length pairs → IsConflict c ((get_or pairs k d).p, (get_or pairs k d).q)
+    conflict k d inside =
+        are.each ((get_or pairs k d).p, (get_or pairs k d).q)
+        (subst (λ (x : ℕ × ℕ). Contains (pairs_of pairs) x)
+        (get_or-map pair_of pairs k d (0, 0) inside)
+        (Contains-get_or (pairs_of pairs) k (0, 0)
+        (omega (arith, inside, length-map pairs pair_of))))
+
+-- and so within each usable block and its sides
+module _ (c : CodedGraph) (blocks : List (List Bool)) (usable : List Bool) (sides : List (List Bool)) (limit : ℕ)
+    (pairs : List Pair) (blocks_are : AreBlocks c blocks) (have : HaveSides c.graph blocks usable sides)
+    (are : AreFirstConflicts c limit (pairs_of pairs)) where
+  abbrev AreInside : List (List Bool) → List Bool → List (List Bool) → List Pair → Type 0
+  AreInside bs us ss ps = (k : ℕ) → k < length bs → slice_index_or us k false ≡ true
+      → AreWithin (block_at bs k) (block_at ss k) ps
+
+  all_inside : AreInside blocks usable sides pairs
+  all_inside k inside on = pairs_inside c limit pairs (block_at blocks k) (block_at sides k) are
+      (size_at c blocks k blocks_are inside) (have.each k inside on).size
+
+  pub given_inside : (bs : List (List Bool)) (us : List Bool) (ss : List (List Bool)) (ps : List Pair) → bs ≡ blocks
+      → us ≡ usable → ss ≡ sides → ps ≡ pairs → AreInside bs us ss ps
+  given_inside bs us ss ps blocks_same usable_same sides_same pairs_same =
+      subst (λ (x : List (List Bool)). AreInside x us ss ps) (sym blocks_same)
+      (subst (λ (x : List Bool). AreInside blocks x ss ps) (sym usable_same)
+      (subst (λ (x : List (List Bool)). AreInside blocks usable x ps) (sym sides_same)
+      (subst (λ (x : List Pair). AreInside blocks usable sides x) (sym pairs_same) all_inside)))
+
+-- what holds at each place of a list holds so after a push
+pub each_more : {A : Type 0} (d : A) (P : ℕ → A → Type 0) (items : List A) (x : A) (n : ℕ) → length items ≡ n
+    → ((k : ℕ) → k < n → P k (get_or items k d)) → P n x
+    → (k : ℕ) → k < n + 1 → P k (get_or (items ++ x ∷ []) k d)
+each_more d P items x n size each last k below = elim (cases_eq k n) [
+  | inl same ↦ subst (λ j. P j (get_or (items ++ x ∷ []) j d)) (sym same)
+      (subst (P n) (sym (get_or_push items x d n size)) last)
+  | inr other ↦ (
+      let early : k < n = omega (arith, below, other) in
+      subst (P k) (sym (get_or_append_left items (x ∷ []) d k (omega (arith, early, size)))) (each k early))
+]

@@ -1,6 +1,9 @@
--- Worked examples: the order of choices, and the number that the next candidate has to get below.
-use Rattle.std.proofs.Common.{◌≡◌, ℕ, [], Some, None, refl, inl, inr, lit<}
+-- Worked examples: the order of choices, the number that the next candidate has to get below, and how
+-- blocks lie to conflicts.
+use Rattle.std.proofs.Common.{◌≡◌, ℕ, Bool, true, false, List, [], ◌∷◌, Some, None, refl, inl, inr, lit<}
 use Rattle.si_base.specs.Order.{Before}
+use Rattle.si_resolve.specs.declared.aspects.Aspect.TheVariants.{Together, Apart, Touched}
+use Rattle.si_resolve.specs.Aspects.{aspect_of, part, unparted}
 use Rattle.si_resolve.specs.Best.{Choice, choice_place}
 use Rattle.si_resolve.specs.Search.{bar}
 
@@ -25,3 +28,35 @@ at_first = refl
 
 later : bar 5 (Some (choice 3 4 2)) ≡ 2
 later = refl
+
+-- s0 leads to s1, that to s2, and that to s3; the block of s1 is left on the way to s2
+abbrev second : List Bool
+second = false ∷ true ∷ false ∷ false ∷ []
+
+abbrev sides_of_second : List Bool
+sides_of_second = false ∷ false ∷ true ∷ true ∷ []
+
+-- the block of s3 is left nowhere
+abbrev fourth : List Bool
+fourth = false ∷ false ∷ false ∷ true ∷ []
+
+abbrev sides_of_fourth : List Bool
+sides_of_fourth = false ∷ false ∷ false ∷ false ∷ []
+
+-- a signal that rises at s1 and falls at s3 parts s0 from s2
+apart : aspect_of second sides_of_second (0, 2) ≡ Apart
+apart = refl
+
+together : aspect_of fourth sides_of_fourth (0, 2) ≡ Together
+together = refl
+
+parted : part Apart Together ≡ true
+parted = refl
+
+-- it has both values at s1, which no other state is parted from
+touched : aspect_of second sides_of_second (1, 2) ≡ Touched
+touched = refl
+
+-- of two conflicts it leaves one at least
+one_stays : unparted (Apart ∷ Touched ∷ []) (Together ∷ Together ∷ []) ≡ 1
+one_stays = refl

@@ -6,6 +6,7 @@ pub mod BestExists
 pub mod EndsExist
 pub mod BlockSizes
 pub mod BlockListLemmas
+pub mod AspectLemmas
 pub mod SearchLemmas
 pub mod BestLemmas
 pub mod ResolveLemmas

@@ -1,31 +1,41 @@
 -- What becomes of a search with each candidate.
-use Rattle.std.proofs.Common.{◌≡◌, ℕ, ◌+◌, ◌<◌, ◌≤◌, ◌↔◌, Bool, false, List, length, slice_index_or, Option, Some, None, IfNone, IfSome, IsTrue, refl, sym, ap, ap₂, subst, ◌∙◌, arith, inl, inr}
+use Rattle.std.proofs.Common.{◌≡◌, ℕ, ◌+◌, ◌<◌, ◌≤◌, ◌↔◌, Bool, true, false, List, length, slice_index_or, Option}
+use Rattle.std.proofs.Common.{Some, None, IfNone, IfSome, IsTrue, refl, sym, ap, ap₂, subst, ◌∙◌, arith, inl, inr}
 use Rattle.std.proofs.lemmas.Bool.{true≢false}
+use Rattle.std.proofs.lemmas.List.{length-map}
 use Rattle.si_base.specs.Graph.{StateGraph, IsGraph}
 use Rattle.si_base.specs.Limits.{max_signals}
 use Rattle.si_base.specs.Codes.{CodedGraph, IsCoded}
 use Rattle.si_base.specs.Proper.{IsProper}
 use Rattle.si_base.specs.Sets.{IsIn}
+use Rattle.si_base.proofs.Sorted.{In}
+use Rattle.si_base.proofs.Unique.{contains_from_in}
 use Rattle.si_graph.proofs.MarkLemmas.{in_below}
 use Rattle.si_insert.specs.declared.partition.Class.{Class}
-use Rattle.si_insert.specs.declared.partition.Class.TheVariants.{Low, Rising, High, Falling}
-use Rattle.si_insert.specs.Partition.{class_of, IsLawful}
-use Rattle.si_candidates.specs.Spreading.{IsPartitionFrom}
+use Rattle.si_insert.specs.Partition.{IsLawful}
+use Rattle.si_candidates.specs.Sides.{AreSides, IsPartitionFor, between}
+use Rattle.si_candidates.proofs.SideLemmas.{class_is}
 use Rattle.si_candidates.specs.Blocks.{AreBlocks, block_at}
 use Rattle.si_candidates.specs.Parts.{AreClasses, IsTorn}
 use Rattle.si_candidates.proofs.PartLaws.{classes_lawful, classes_unique, torn_have_none}
-use Rattle.si_conflicts.specs.Chains.{AreChains}
+use Rattle.si_conflicts.specs.Chains.{AreChains, Chains}
 use Rattle.si_conflicts.specs.Conflicts.{HasConflicts}
 use Rattle.si_conflicts.specs.Left.{LeavesConflicts}
+use Rattle.si_conflicts.proofs.StayingConflicts.{stay_left}
 use Rattle.si_insert.specs.RowSearch.{bar as bar_in}
 use Rattle.si_resolve.specs.declared.search.Found.{Found}
 use Rattle.si_resolve.specs.declared.search.Search.{Search}
 use Rattle.si_resolve.specs.Best.{Choice, IsChoice, NoneImproves}
 use Rattle.si_resolve.specs.Search.{IsBestSoFar, IsEarlier, bar}
-use Rattle.si_resolve.specs.Usable.{IsUsable, AreUsable}
-use Rattle.si_resolve.specs.Progress.{found_of, best_of, IsSearching, IsFound, bar_of, MayBeAccepted, LeavesBelow, LeavesNoneBelow, LeavesNoneFrom, NoneIsBelow, HasSameRoom}
+use Rattle.si_resolve.specs.declared.aspects.Aspect.{Aspect}
+use Rattle.si_resolve.specs.declared.block_list.BlockList.{BlockList}
+use Rattle.si_resolve.specs.Aspects.{HaveAspects, aspect_of, column_at, unparted}
+use Rattle.si_resolve.specs.Usable.{IsUsable, AreSearched, AreUsable, AreSided, HaveSides}
+use Rattle.si_resolve.specs.Progress.{found_of, best_of, IsSearching, IsFound, bar_of, MayBeAccepted, LeavesBelow}
+use Rattle.si_resolve.specs.Progress.{LeavesNoneBelow, NoneIsBelow, HasSameRoom}
 use Rattle.si_candidates.proofs.Separable.{accepted_by_blocks}
 use Rattle.si_candidates.proofs.CopyCount.{copies_by_blocks}
+use Rattle.si_resolve.proofs.AspectLemmas.{unparted_stay}
 use Rattle.si_resolve.proofs.BlockSizes.{size_at}
 use Rattle.si_resolve.proofs.SearchSteps.{search_start, search_skip, search_take, search_row, search_finds, search_finds_none, block_refuses}
 
@@ -54,45 +64,18 @@ one_leaves_none c plus minus classes low is plus_size minus_size r f are high ot
     r.1 (omega (arith, r_in)) f.1 (omega (arith, f_in)) also are in
     high n (subst (λ xs. LeavesConflicts c xs n) same leaves)
 
--- the classes that spread from that class at the start are those of the blocks, if there are any
-module _ (c : CodedGraph) (plus minus : List Bool) (first : Class) (is : IsCoded c)
-    (plus_size : length plus ≡ c.graph.states) (minus_size : length minus ≡ c.graph.states)
-    (r : (s : ℕ) × IsIn plus s) (f : (s : ℕ) × IsIn minus s) where
-  partition_from : (classes : List Class) → AreClasses c.graph plus minus classes
-      → class_of classes c.graph.start ≡ first → IsPartitionFrom c.graph plus minus first classes
-  partition_from classes are at_start = record {
-    lawful = lawful_classes c.graph plus minus classes is.graph_is plus_size minus_size r f are;
-    rising = are.rising;
-    falling = are.falling;
-    start = at_start;
-  }
-
-  pub none_spread : (low : ℕ)
-      → ((others : List Class) → IsPartitionFrom c.graph plus minus first others → ⊥)
-      → LeavesNoneFrom c plus minus first low
-  none_spread low none classes n are at_start leaves = absurd (none classes (partition_from classes are at_start))
-
-  pub one_spread : (low : ℕ) (spread : List Class)
-      → ((others : List Class) → IsPartitionFrom c.graph plus minus first others → others ≡ spread)
-      → (IsLawful c.graph spread → (n : ℕ) → LeavesConflicts c spread n → low ≤ n)
-      → LeavesNoneFrom c plus minus first low
-  one_spread low spread only enough classes n are at_start leaves =
-      let from = partition_from classes are at_start in
-      let same : classes ≡ spread = only classes from in
-      enough (subst (IsLawful c.graph) same from.lawful) n (subst (λ xs. LeavesConflicts c xs n) same leaves)
-
--- a start has one of the four classes
-pub by_start : (c : CodedGraph) (plus minus : List Bool) (low : ℕ) → LeavesNoneFrom c plus minus Low low
-    → LeavesNoneFrom c plus minus Rising low → LeavesNoneFrom c plus minus High low
-    → LeavesNoneFrom c plus minus Falling low → LeavesNoneBelow c plus minus low
-by_start c plus minus low at_low at_rising at_high at_falling classes n are leaves =
-    by (class_of classes c.graph.start) refl
-  where
-    by : (first : Class) → class_of classes c.graph.start ≡ first → low ≤ n
-    by Low same = at_low classes n are same leaves
-    by Rising same = at_rising classes n are same leaves
-    by High same = at_high classes n are same leaves
-    by Falling same = at_falling classes n are same leaves
+-- the classes that sides tell are those of the blocks, if there are any
+pub told_leave_none : (c : CodedGraph) (plus minus : List Bool) (low : ℕ) (told : List Class) → IsCoded c
+    → length plus ≡ c.graph.states → length minus ≡ c.graph.states
+    → ((s : ℕ) × IsIn plus s) → ((s : ℕ) × IsIn minus s)
+    → ((others : List Class) → IsPartitionFor c.graph plus minus others → others ≡ told)
+    → (IsLawful c.graph told → (n : ℕ) → LeavesConflicts c told n → low ≤ n)
+    → LeavesNoneBelow c plus minus low
+told_leave_none c plus minus low told is plus_size minus_size r f only enough classes n are leaves =
+    let lawful = lawful_classes c.graph plus minus classes is.graph_is plus_size minus_size r f are in
+    let same : classes ≡ told =
+    only classes (record { lawful = lawful; rising = are.rising; falling = are.falling }) in
+    enough (subst (IsLawful c.graph) same lawful) n (subst (λ xs. LeavesConflicts c xs n) same leaves)
 
 pub if_none : {A : Type 0} {P Q : Type 0} (o : Option A) → (P → Q) → IfNone o P → IfNone o Q
 if_none None f is = f is
@@ -198,19 +181,6 @@ keep c blocks j i s t x is so same choice at_j at_i fewer =
       found = refl;
     }
 
--- one class of the start after another, each with the search that the one before left
-pub four_starts : (c : CodedGraph) (plus minus : List Bool) (s one two three : Search) → HasSameRoom s one
-    → HasSameRoom one two → HasSameRoom two three → LeavesNoneFrom c plus minus Low (bar_of s)
-    → LeavesNoneFrom c plus minus Rising (bar_of one) → LeavesNoneFrom c plus minus High (bar_of two)
-    → LeavesNoneFrom c plus minus Falling (bar_of three) → LeavesNoneBelow c plus minus (bar_of s)
-four_starts c plus minus s one two three same next last at_low at_rising at_high at_falling =
-    let second = same_rooms s one two same next in
-    let third = same_rooms s two three second last in
-    by_start c plus minus (bar_of s) at_low
-    (subst (λ (low : ℕ). LeavesNoneFrom c plus minus Rising low) (same_bar s one same) at_rising)
-    (subst (λ (low : ℕ). LeavesNoneFrom c plus minus High low) (same_bar s two second) at_high)
-    (subst (λ (low : ℕ). LeavesNoneFrom c plus minus Falling low) (same_bar s three third) at_falling)
-
 -- a row that no accepted candidate is in, and the end of each row
 pub skip_row : (c : CodedGraph) (blocks : List (List Bool)) (j : ℕ) (s : Search) → IsSearching c blocks j 0 s
     → ((y : Choice) → IsChoice c blocks y → y.j ≡ j → ⊥) → IsSearching c blocks (j + 1) 0 s
@@ -277,6 +247,72 @@ none_by_left c blocks i j low none y choice at_j at_i =
     y i j at_j at_i choice.are)
     choice.leaves
 
+-- conflicts that the blocks don't part stay
+pub same_lengths : (blocks : List (List Bool)) (usable : List Bool) (sides : List (List Bool)) (pairs : List (ℕ × ℕ))
+    (columns : List (List Aspect)) (i j : ℕ) → HaveAspects blocks usable sides pairs columns → i < length blocks
+    → j < length blocks → slice_index_or usable i false ≡ true → slice_index_or usable j false ≡ true
+    → length (column_at columns j) ≡ length (column_at columns i)
+same_lengths blocks usable sides pairs columns i j have i_in j_in one other =
+    ap (length {A = Aspect}) (have.each j j_in other)
+    ∙ length-map pairs (aspect_of (block_at blocks j) (block_at sides j))
+    ∙ sym (ap (length {A = Aspect}) (have.each i i_in one)
+    ∙ length-map pairs (aspect_of (block_at blocks i) (block_at sides i)))
+
+module _ (c : CodedGraph) (list : BlockList) (searched : AreSearched c list) (i j : ℕ)
+    (i_in : i < length list.blocks.items) (j_in : j < length list.blocks.items)
+    (one : IsUsable c.graph (block_at list.blocks.items i)) (other : IsUsable c.graph (block_at list.blocks.items j))
+  where
+    abbrev one_block : List Bool
+    one_block = block_at list.blocks.items i
+
+    abbrev other_block : List Bool
+    other_block = block_at list.blocks.items j
+
+    abbrev one_sides : List Bool
+    one_sides = block_at list.sides.items i
+
+    abbrev other_sides : List Bool
+    other_sides = block_at list.sides.items j
+
+    pub one_flag : slice_index_or list.usable.items i false ≡ true
+    one_flag = (searched.usable.each i i_in).1 one
+
+    pub other_flag : slice_index_or list.usable.items j false ≡ true
+    other_flag = (searched.usable.each j j_in).1 other
+
+    pairs_within : (pair : ℕ × ℕ) → In pair searched.pairs → (pair.0 < c.graph.states) × (pair.1 < c.graph.states)
+    pairs_within pair there =
+        let is = searched.pairs_are.each pair (contains_from_in searched.pairs pair there) in
+        (omega (arith, is.order, is.within), is.within)
+
+    unparted_are_left : (chains : Chains) → AreChains c chains → (classes : List Class) (n : ℕ)
+        → AreClasses c.graph one_block other_block classes → LeavesConflicts c classes n
+        → unparted (column_at list.columns.items i) (column_at list.columns.items j) ≤ n
+    unparted_are_left chains chains_are classes n are leaves =
+        let coded = searched.coded in
+        let size_i = size_at c list.blocks.items i searched.are i_in in
+        let size_j = size_at c list.blocks.items j searched.are j_in in
+        let lawful = lawful_classes c.graph one_block other_block classes coded.graph_is size_i size_j
+        (one.state, one.there) (other.state, other.there) are in
+        let r_in : one.state < c.graph.states = omega (arith, in_below one_block one.state one.there, size_i) in
+        let each = class_is c.graph coded.graph_is one_block other_block classes
+        (record { lawful = lawful; rising = are.rising; falling = are.falling })
+        searched.sides.tree searched.sides.is_tree one_sides other_sides
+        (searched.sides.each i i_in one_flag) (searched.sides.each j j_in other_flag) one.state r_in one.there in
+        let stay = unparted_stay c.graph.states one_block other_block one_sides other_sides
+        (between one_sides other_sides one.state) classes each searched.pairs pairs_within in
+        let left = stay_left c coded classes chains chains_are searched.pairs searched.pairs_are.each
+        searched.pairs_are.in_order lawful n leaves in
+        let same = ap₂ unparted (searched.aspects.each i i_in one_flag) (searched.aspects.each j j_in other_flag) in
+        omega (arith, same, stay, left)
+
+    pub none_by_aspects : (chains : Chains) → AreChains c chains → (low : ℕ)
+        → low ≤ unparted (column_at list.columns.items i) (column_at list.columns.items j)
+        → NoneIsBelow c list.blocks.items i j low
+    none_by_aspects chains chains_are low enough =
+        none_by_left c list.blocks.items i j low (λ classes n are leaves.
+        (let left = unparted_are_left chains chains_are classes n are leaves in omega (arith, enough, left)))
+
 -- what a test of the list tells
 pub not_usable : (g : StateGraph) (blocks : List (List Bool)) (usable : List Bool) (k : ℕ) → AreUsable g blocks usable
     → k < length blocks → slice_index_or usable k false ≡ false → IsUsable g (block_at blocks k) → ⊥
@@ -292,6 +328,26 @@ some_is P o x same is = subst (λ z. IfSome z P) same is
 
 pub none_is : {A P : Type 0} (o : Option A) → o ≡ None → IfNone o P → P
 none_is {A} {P} o same is = subst (λ z. IfNone z P) same is
+
+pub sided_at : (g : StateGraph) (blocks : List (List Bool)) (usable : List Bool) (sides : List (List Bool)) (i j : ℕ)
+    (plus minus plus_sides minus_sides : List Bool) → HaveSides g blocks usable sides → AreUsable g blocks usable
+    → i < length blocks → j < length blocks → IsUsable g (block_at blocks i) → IsUsable g (block_at blocks j)
+    → plus ≡ block_at blocks i → minus ≡ block_at blocks j → plus_sides ≡ block_at sides i
+    → minus_sides ≡ block_at sides j → AreSided g plus minus plus_sides minus_sides
+sided_at g blocks usable sides i j plus minus plus_sides minus_sides have are i_in j_in one other plus_is minus_is
+    plus_sides_are minus_sides_are = record {
+      tree = have.tree;
+      is_tree = have.is_tree;
+      plus_are = at i plus plus_sides i_in one plus_is plus_sides_are;
+      minus_are = at j minus minus_sides j_in other minus_is minus_sides_are;
+    }
+  where
+    at : (k : ℕ) (block lie : List Bool) → k < length blocks → IsUsable g (block_at blocks k)
+        → block ≡ block_at blocks k → lie ≡ block_at sides k → AreSides g have.tree block lie
+    at k block lie within may block_is lie_is =
+        subst (λ (x : List Bool). AreSides g have.tree x lie) (sym block_is)
+        (subst (AreSides g have.tree (block_at blocks k)) (sym lie_is)
+        (have.each k within ((are.each k within).1 may)))
 
 pub at_blocks : (P : List Bool → List Bool → Type 0) (plus x minus y : List Bool) → plus ≡ x → minus ≡ y
     → P plus minus → P x y

@@ -1,5 +1,6 @@
 pub mod Best
 pub mod Search
+pub mod Aspects
 pub mod Usable
 pub mod Progress
 pub mod Trace

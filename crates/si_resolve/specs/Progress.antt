@@ -4,7 +4,6 @@ use Rattle.si_base.specs.Codes.{CodedGraph}
 use Rattle.si_base.specs.Graph.{StateGraph}
 use Rattle.si_base.specs.Limits.{max_states}
 use Rattle.si_insert.specs.declared.partition.Class.{Class}
-use Rattle.si_insert.specs.Partition.{class_of}
 use Rattle.si_insert.specs.RowSearch.{bar}
 use Rattle.si_candidates.specs.Blocks.{AreDisjoint}
 use Rattle.si_candidates.specs.Parts.{AreClasses}
@@ -61,12 +60,6 @@ pub record LeavesBelow (c : CodedGraph) (plus minus : List Bool) (bar n : ℕ) :
 abbrev pub LeavesNoneBelow : CodedGraph → List Bool → List Bool → ℕ → Type 0
 LeavesNoneBelow c plus minus bar = (classes : List Class) (n : ℕ)
     → AreClasses c.graph plus minus classes → LeavesConflicts c classes n → bar ≤ n
-
--- nor do those of them with that class at the start
-abbrev pub LeavesNoneFrom : CodedGraph → List Bool → List Bool → Class → ℕ → Type 0
-LeavesNoneFrom c plus minus first bar = (classes : List Class) (n : ℕ)
-    → AreClasses c.graph plus minus classes → class_of classes c.graph.start ≡ first
-    → LeavesConflicts c classes n → bar ≤ n
 
 -- an accepted candidate at these places leaves no fewer
 abbrev pub NoneIsBelow : CodedGraph → List (List Bool) → ℕ → ℕ → ℕ → Type 0

@@ -8,7 +8,11 @@ use Rattle.si_base.specs.Proper.{IsProper}
 use Rattle.si_base.specs.Sets.{IsIn}
 use Rattle.si_candidates.specs.Blocks.{AreBlocks, block_at}
 use Rattle.si_candidates.specs.Blocking.{MaySwitch}
-use Rattle.si_candidates.specs.Spreading.{IsTree}
+use Rattle.si_candidates.specs.declared.tree.Link.{Link}
+use Rattle.si_candidates.specs.Sides.{AreSides}
+use Rattle.si_candidates.specs.Tree.{IsTree}
+use Rattle.si_conflicts.specs.Conflicts.{AreFirstConflicts}
+use Rattle.si_resolve.specs.Aspects.{HaveAspects, max_compared}
 use Rattle.si_resolve.specs.declared.block_list.BlockList.{BlockList}
 
 -- the block has a state, and a new signal may switch in it
@@ -24,12 +28,32 @@ pub record AreUsable (g : StateGraph) (blocks : List (List Bool)) (usable : List
   pub each : (k : ℕ) → k < length blocks
       → (slice_index_or usable k false ≡ true) ↔ IsUsable g (block_at blocks k)
 
--- c is a proper graph with room for one more signal, and the list has its blocks and a tree of its
--- arcs
+-- for each usable block the sides of the states, along one tree of arcs
+pub record HaveSides (g : StateGraph) (blocks : List (List Bool)) (usable : List Bool)
+    (sides : List (List Bool)) : Type 0 where
+  pub tree : List Link
+  pub is_tree : IsTree g tree
+  pub count : length sides ≡ length blocks
+  pub each : (k : ℕ) → k < length blocks → slice_index_or usable k false ≡ true
+      → AreSides g tree (block_at blocks k) (block_at sides k)
+
+-- these are the sides of two blocks, along one tree of arcs
+pub record AreSided (g : StateGraph) (plus minus plus_sides minus_sides : List Bool) : Type 0 where
+  pub tree : List Link
+  pub is_tree : IsTree g tree
+  pub plus_are : AreSides g tree plus plus_sides
+  pub minus_are : AreSides g tree minus minus_sides
+
+-- c is a proper graph with room for one more signal, and the list has its blocks, their sides, and
+-- how they lie to the first conflicts
 pub record AreSearched (c : CodedGraph) (list : BlockList) : Type 0 where
   pub coded : IsCoded c
   pub proper : IsProper c.graph
   pub few_signals : length c.graph.signals < max_signals
   pub are : AreBlocks c list.blocks.items
   pub usable : AreUsable c.graph list.blocks.items list.usable.items
-  pub tree : IsTree c.graph list.tree.items
+  pub sides : HaveSides c.graph list.blocks.items list.usable.items list.sides.items
+  pub pairs : List (ℕ × ℕ)
+  pub pairs_are : AreFirstConflicts c max_compared pairs
+  pub aspects : HaveAspects list.blocks.items list.usable.items list.sides.items pairs
+      list.columns.items

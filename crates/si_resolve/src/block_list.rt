@@ -1,30 +1,44 @@
 //! The blocks of a graph, and in which of them a new signal may switch.
 
-ghost use Rattle.std.specs.Prelude.{◌≡◌, ℕ, ◌<◌, ◌↔◌, false, IfOk, IsTrue, All, length};
+ghost use Rattle.std.specs.Prelude.{◌≡◌, ℕ, ◌<◌, ◌↔◌, true, false, IfOk, IsTrue, All, length, map};
+ghost use Rattle.std.specs.List.{slice_index_or};
 ghost use Rattle.si_base.specs.Limits.{max_signals};
-ghost use Rattle.si_candidates.specs.Blocks.{AreBlocks};
-ghost use Rattle.si_resolve.specs.Usable.{IsUsable, AreUsable, AreSearched};
+ghost use Rattle.si_candidates.specs.Blocks.{AreBlocks, block_at};
+ghost use Rattle.si_candidates.specs.Sides.{AreSides};
+ghost use Rattle.si_candidates.specs.Tree.{IsTree};
+ghost use Rattle.si_conflicts.specs.Conflicts.{pairs_of};
+ghost use Rattle.si_resolve.specs.Aspects.{AreWithin, HaveAspects, aspect_of};
+ghost use Rattle.si_resolve.specs.Usable.{IsUsable, AreUsable, AreSearched, HaveSides};
 
+use crate::aspects::Column;
 use si_base::ids::{NoMemory, StateId};
+use si_base::sets::StateSet;
 use si_candidates::block::Block;
 use si_candidates::blocks::blocks;
+use si_candidates::sides::sides;
 use si_candidates::tree::{Link, tree};
 use si_checks::proper::Proper;
+use si_conflicts::conflicts::{Pair, conflicts};
 use si_regions::regions::regions;
 use std::alloc::Global;
 
 /// The blocks of a graph, and for each whether it has a state and a new signal may switch in it: no
-/// other block is in an accepted candidate. Beside them the arcs along which classes spread.
+/// other block is in an accepted candidate. Beside each that is so usable the sides of the states,
+/// and how it lies to the first conflicts.
 #[derive(Drop)]
 pub(crate) struct BlockList {
     pub(crate) blocks: Vec<Block>,
     pub(crate) usable: Vec<bool>,
-    pub(crate) tree: Vec<Link>,
+    pub(crate) sides: Vec<StateSet>,
+    pub(crate) columns: Vec<Column>,
 }
 
+/// How many conflicts are compared with each candidate before anything else is done for it.
+const MAX_COMPARED: u32 = 32_768;
+
 impl BlockList {
-    ghost use Rattle.std.specs.List.{slice_index_or};
-    ghost use Rattle.si_candidates.specs.Blocks.{block_at};
+    ghost use Rattle.si_resolve.specs.Aspects as of_aspects;
+    ghost use Rattle.si_resolve.specs.Aspects.{column_at};
 
     /// The block at that place.
     pub(crate) fn block(&self, k: usize) -> &Block
@@ -32,6 +46,26 @@ impl BlockList {
         ensures { result.now ≡ block_at self.now.blocks.items k }
     {
         &self.blocks[k]
+    }
+
+    /// The sides of the block at that place, if it is usable.
+    pub(crate) fn sides(&self, k: usize) -> &StateSet
+        requires { k < length self.now.sides.items }
+        ensures { result.now ≡ block_at self.now.sides.items k }
+    {
+        &self.sides[k]
+    }
+
+    /// How many of the first conflicts the two blocks don't part, if both are usable.
+    pub(crate) fn unparted(&self, i: usize, j: usize) -> usize
+        requires i { i < length self.now.columns.items }
+        requires j { j < length self.now.columns.items }
+        requires count { length (column_at self.now.columns.items j)
+            ≡ length (column_at self.now.columns.items i) }
+        ensures { result ≡ of_aspects.unparted (column_at self.now.columns.items i)
+            (column_at self.now.columns.items j) }
+    {
+        self.columns[i].unparted(&self.columns[j])
     }
 
     /// Whether the block at that place has a state and a new signal may switch in it.
@@ -53,10 +87,14 @@ pub(crate) fn block_list(alloc: Global, graph: &Proper) -> Result<BlockList, NoM
     let blocks = all_blocks(alloc, graph)?;
     let usable = usable_ones(alloc, graph, &blocks)?;
     let tree = tree(alloc, graph)?;
+    let sides = sides_of_usable(alloc, graph, &tree, &blocks, &usable)?;
+    let pairs = conflicts(alloc, graph.coded(), MAX_COMPARED)?;
+    let columns = columns_of_usable(alloc, &blocks, &usable, &sides, &pairs)?;
     Ok(BlockList {
         blocks,
         usable,
-        tree,
+        sides,
+        columns,
     })
 }
 
@@ -94,4 +132,85 @@ fn is_usable(graph: &Proper, block: &Block) -> bool
         Some(_) => block.may_switch(graph),
         None => false,
     }
+}
+
+/// For each usable block the sides of the states.
+fn sides_of_usable(
+    alloc: Global,
+    graph: &Proper,
+    tree: &[Link],
+    blocks: &[Block],
+    usable: &[bool],
+) -> Result<Vec<StateSet>, NoMemory>
+    requires tree { IsTree graph.now.graph tree.now }
+    requires sizes { All (λ block. length block ≡ graph.now.graph.states) blocks.now }
+    requires count { length usable.now ≡ length blocks.now }
+    ensures { IfOk result (λ list. HaveSides graph.now.graph blocks.now usable.now list.items) }
+{
+    let mut list = Vec::new(alloc);
+    for k in 0..blocks.len() {
+        list.push(sides_if(alloc, graph, tree, &blocks[k], usable[k])?)?;
+    }
+    Ok(list)
+}
+
+/// The sides of the block, if it is usable.
+fn sides_if(
+    alloc: Global,
+    graph: &Proper,
+    tree: &[Link],
+    block: &Block,
+    usable: bool,
+) -> Result<StateSet, NoMemory>
+    requires tree { IsTree graph.now.graph tree.now }
+    requires size { length block.now ≡ graph.now.graph.states }
+    ensures { IfOk result
+        (λ set. IsTrue usable → AreSides graph.now.graph tree.now block.now set) }
+{
+    if !usable {
+        return Ok(StateSet::new(alloc, 0)?);
+    }
+    let set = sides(alloc, graph, tree, block.set())?;
+    Ok(set)
+}
+
+/// For each usable block how it lies to these conflicts.
+fn columns_of_usable(
+    alloc: Global,
+    blocks: &[Block],
+    usable: &[bool],
+    sides: &[StateSet],
+    pairs: &[Pair],
+) -> Result<Vec<Column>, NoMemory>
+    requires usable_count { length usable.now ≡ length blocks.now }
+    requires sides_count { length sides.now ≡ length blocks.now }
+    requires sizes { (k : ℕ) → k < length blocks.now → slice_index_or usable.now k false ≡ true
+        → AreWithin (block_at blocks.now k) (block_at sides.now k) pairs.now }
+    ensures { IfOk result (λ list. HaveAspects blocks.now usable.now sides.now
+        (pairs_of pairs.now) list.items) }
+{
+    let mut list = Vec::new(alloc);
+    for k in 0..blocks.len() {
+        list.push(column_if(alloc, &blocks[k], &sides[k], pairs, usable[k])?)?;
+    }
+    Ok(list)
+}
+
+/// How the block lies to these conflicts, if it is usable.
+fn column_if(
+    alloc: Global,
+    block: &Block,
+    sides: &StateSet,
+    pairs: &[Pair],
+    usable: bool,
+) -> Result<Column, NoMemory>
+    requires { IsTrue usable → AreWithin block.now sides.now pairs.now }
+    ensures { IfOk result (λ column. IsTrue usable
+        → column ≡ map (aspect_of block.now sides.now) (pairs_of pairs.now)) }
+{
+    if !usable {
+        return Ok(Column::none(alloc));
+    }
+    let column = Column::of(alloc, block.set(), sides, pairs)?;
+    Ok(column)
 }

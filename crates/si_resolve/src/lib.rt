@@ -1,6 +1,7 @@
 //! Resolving of conflicts by the insertion of signals.
 #![tactic(auto)]
 
+mod aspects;
 pub mod best;
 mod block_list;
 pub mod ends;

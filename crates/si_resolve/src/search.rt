@@ -4,22 +4,21 @@ ghost use Rattle.std.specs.Prelude.{◌≡◌, ℕ, ◌+◌, ◌<◌, ◌≤◌,
 ghost use Rattle.si_base.specs.Codes.{IsCoded};
 ghost use Rattle.si_base.specs.Sets.{IsIn};
 ghost use Rattle.si_candidates.specs.Blocks.{AreDisjoint, block_at};
-ghost use Rattle.si_candidates.specs.Spreading.{IsTree};
 ghost use Rattle.si_conflicts.specs.Chains.{AreChains};
 ghost use Rattle.si_conflicts.specs.Conflicts.{HasConflicts};
 ghost use Rattle.si_resolve.specs.Best.{NoneImproves};
-ghost use Rattle.si_resolve.specs.Usable.{IsUsable, AreSearched};
-ghost use Rattle.si_resolve.specs.Progress.{IsSearching, IsFound, MayBeAccepted, LeavesBelow, LeavesNoneBelow, LeavesNoneFrom, NoneIsBelow, HasSameRoom, bar_of};
+ghost use Rattle.si_resolve.specs.Usable.{IsUsable, AreSearched, AreSided};
+ghost use Rattle.si_resolve.specs.Progress.{IsSearching, IsFound, MayBeAccepted, LeavesBelow};
+ghost use Rattle.si_resolve.specs.Progress.{LeavesNoneBelow, NoneIsBelow, HasSameRoom, bar_of};
 
 use crate::block_list::BlockList;
 use si_base::ids::NoMemory;
 use si_base::limits::MAX_STATES;
+use si_base::sets::StateSet;
 use si_candidates::block::Block;
 use si_candidates::parting::Parting;
-use si_candidates::tree::Link;
 use si_checks::proper::Proper;
 use si_conflicts::chains::CodeChains;
-use si_insert::partition::Class;
 use std::alloc::Global;
 
 /// The places of the two blocks of an accepted candidate, that where the new signal rises first,
@@ -121,7 +120,17 @@ impl Search {
         if !self.may_be_better(graph, list, i, j) {
             return Ok(());
         }
-        let left = self.left_below(alloc, graph, &list.tree, list.block(i), list.block(j))?;
+        if !self.may_part(graph, list, i, j) {
+            return Ok(());
+        }
+        let left = self.left_below(
+            alloc,
+            graph,
+            list.block(i),
+            list.block(j),
+            list.sides(i),
+            list.sides(j),
+        )?;
         if let Some(conflicts) = left {
             self.best = Some(Found { i, j, conflicts });
         }
@@ -144,6 +153,22 @@ impl Search {
         self.bar() > 0 && list.is_usable(i) && may_be_accepted(graph, list.block(i), list.block(j))
     }
 
+    /// Whether the first conflicts that the two blocks don't part are fewer than the best so far
+    /// leaves: these stay, whatever classes the candidate has.
+    fn may_part(&self, graph: &Proper, list: &BlockList, i: usize, j: usize) -> bool
+        requires list { AreSearched graph.now list.now }
+        requires chains { AreChains graph.now self.now.chains }
+        requires i_within { i < length list.now.blocks.items }
+        requires j_within { j < length list.now.blocks.items }
+        requires first { IsUsable graph.now.graph (block_at list.now.blocks.items i) }
+        requires later { IsUsable graph.now.graph (block_at list.now.blocks.items j) }
+        ensures { result ≡ false
+            → NoneIsBelow graph.now list.now.blocks.items i j (bar_of self.now) }
+    {
+        let _ = graph;
+        (list.unparted(i, j) as u64) < self.bar()
+    }
+
     /// The number of conflicts that the next candidate has to get below.
     fn bar(&self) -> u64
         ensures { result ≡ bar_of self.now }
@@ -159,16 +184,18 @@ impl Search {
         &mut self,
         alloc: Global,
         graph: &Proper,
-        tree: &[Link],
         plus: &Block,
         minus: &Block,
+        plus_sides: &StateSet,
+        minus_sides: &StateSet,
     ) -> Result<Option<u64>, NoMemory>
         requires coded { IsCoded graph.now }
-        requires tree { IsTree graph.now.graph tree.now }
         requires chains { AreChains graph.now self.old.chains }
         requires room { length self.old.parting ≡ graph.now.graph.states }
         requires plus_size { length plus.now ≡ graph.now.graph.states }
         requires minus_size { length minus.now ≡ graph.now.graph.states }
+        requires sided { AreSided graph.now.graph plus.now minus.now
+            plus_sides.now minus_sides.now }
         requires some_plus { (s : ℕ) × IsIn plus.now s }
         requires some_minus { (s : ℕ) × IsIn minus.now s }
         requires disjoint { AreDisjoint plus.now minus.now }
@@ -179,7 +206,7 @@ impl Search {
         ensures same { HasSameRoom self.old self.new }
     {
         let bar = self.bar();
-        if !self.may_leave_fewer(graph, tree, plus, minus) {
+        if !self.may_leave_fewer(graph, plus, minus, plus_sides, minus_sides) {
             return Ok(None);
         }
         if !self.parting.part(graph, plus, minus)? {
@@ -191,57 +218,31 @@ impl Search {
     }
 
     /// Whether the candidate may leave fewer conflicts than the best so far, by the only classes
-    /// that it can have for each class of the start: nothing is searched for that.
+    /// that it can have: the sides of its blocks tell them, and nothing is searched for that.
     fn may_leave_fewer(
         &mut self,
         graph: &Proper,
-        tree: &[Link],
         plus: &Block,
         minus: &Block,
+        plus_sides: &StateSet,
+        minus_sides: &StateSet,
     ) -> bool
         requires coded { IsCoded graph.now }
-        requires tree { IsTree graph.now.graph tree.now }
         requires chains { AreChains graph.now self.old.chains }
         requires room { length self.old.parting ≡ graph.now.graph.states }
         requires plus_size { length plus.now ≡ graph.now.graph.states }
         requires minus_size { length minus.now ≡ graph.now.graph.states }
+        requires sided { AreSided graph.now.graph plus.now minus.now
+            plus_sides.now minus_sides.now }
         requires some_plus { (s : ℕ) × IsIn plus.now s }
         requires some_minus { (s : ℕ) × IsIn minus.now s }
         ensures none { result ≡ false
             → LeavesNoneBelow graph.now plus.now minus.now (bar_of self.old) }
         ensures same { HasSameRoom self.old self.new }
     {
-        self.may_leave_fewer_from(graph, tree, plus, minus, Class::Low)
-            || self.may_leave_fewer_from(graph, tree, plus, minus, Class::Rising)
-            || self.may_leave_fewer_from(graph, tree, plus, minus, Class::High)
-            || self.may_leave_fewer_from(graph, tree, plus, minus, Class::Falling)
-    }
-
-    /// The same for the classes with that class at the start.
-    fn may_leave_fewer_from(
-        &mut self,
-        graph: &Proper,
-        tree: &[Link],
-        plus: &Block,
-        minus: &Block,
-        first: Class,
-    ) -> bool
-        requires coded { IsCoded graph.now }
-        requires tree { IsTree graph.now.graph tree.now }
-        requires chains { AreChains graph.now self.old.chains }
-        requires room { length self.old.parting ≡ graph.now.graph.states }
-        requires plus_size { length plus.now ≡ graph.now.graph.states }
-        requires minus_size { length minus.now ≡ graph.now.graph.states }
-        requires some_plus { (s : ℕ) × IsIn plus.now s }
-        requires some_minus { (s : ℕ) × IsIn minus.now s }
-        ensures none { result ≡ false
-            → LeavesNoneFrom graph.now plus.now minus.now first (bar_of self.old) }
-        ensures same { HasSameRoom self.old self.new }
-    {
         let bar = self.bar();
-        if !self.parting.spread(graph, tree, plus, minus, first) {
-            return false;
-        }
+        self.parting
+            .tell(graph, plus, minus, plus_sides, minus_sides);
         let classes = self.parting.classes();
         self.chains.may_leave_below(graph, classes, bar)
     }

@@ -1,5 +1,5 @@
 use Rattle.std.proofs.Common.{◌<◌, ◌∙◌, length, arith}
-use Rattle.si_resolve.proofs.BestLemmas.{AreBlocksOf, best_is, never_refused, never_torn, order_of}
+use Rattle.si_resolve.proofs.BestLemmas.{AreBlocksOf, best_is, choice_classes, never_refused, never_torn, order_of}
 use Rattle.si_resolve.proofs.SearchLemmas.{block_size}
 use Rattle.si_resolve.proofs.best.accepted_of.Goals as goal
 
@@ -19,6 +19,20 @@ classes-requires-clause-minus_size c =
     let f = c.args.found.now in
     let order = order_of d blocks f c.requires.found in
     block_size d blocks f.j _ c.requires.list.are order.1 (c.set-minus.ensures ∙ c.block-2.ensures)
+
+pub classes-requires-clause-some_minus : goal.classes-requires-clause-some_minus
+classes-requires-clause-some_minus c =
+    let d = c.args.graph.now in
+    let blocks = c.args.list.now.blocks.items in
+    let f = c.args.found.now in
+    let of : AreBlocksOf d blocks f c.set-plus.result.now c.set-minus.result.now = record {
+      found = c.requires.found;
+      plus_is = c.set-plus.ensures ∙ c.block.ensures;
+      minus_is = c.set-minus.ensures ∙ c.block-2.ensures;
+    } in
+    let falls = c.requires.found.is_choice.accepted.lawful.falls in
+    let classes = choice_classes d blocks f c.set-plus.result.now c.set-minus.result.now of in
+    (falls.0, (classes.falling falls.0 falls.1).0 falls.2)
 
 pub unreachable-requires : goal.unreachable-requires
 unreachable-requires c =

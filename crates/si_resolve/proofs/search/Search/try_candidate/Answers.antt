@@ -1,13 +1,25 @@
 use Rattle.std.proofs.Common.{◌<◌, length, refl, arith}
 use Rattle.si_candidates.specs.Blocks.{block_at}
 use Rattle.si_resolve.specs.Progress.{LeavesBelow, LeavesNoneBelow, bar_of}
-use Rattle.si_resolve.proofs.SearchLemmas.{at_blocks, block_size, candidate_choice, keep, none_by_left, none_is, same_room, skip, some_is}
+use Rattle.si_resolve.proofs.SearchLemmas.{at_blocks, block_size, candidate_choice, keep, none_by_left, none_is}
+use Rattle.si_resolve.proofs.SearchLemmas.{same_room, sided_at, skip, some_is}
 use Rattle.si_resolve.proofs.search.Search.try_candidate.Goals as goal
 
 pub returns-then-not-may_be_better-clause-after : goal.returns-then-not-may_be_better-clause-after
 returns-then-not-may_be_better-clause-after c =
     skip c.args.graph.now c.args.list.now.blocks.items c.args.j c.args.i c.args.self.now c.args.self.now
     c.requires.before (same_room c.args.self.now) (c.may_be_better.ensures.otherwise c.if-not-may_be_better.true)
+
+pub may_part-requires-clause-i_within : goal.may_part-requires-clause-i_within
+may_part-requires-clause-i_within c = omega (arith, c.requires.order, c.requires.within)
+
+pub may_part-requires-clause-first : goal.may_part-requires-clause-first
+may_part-requires-clause-first c = c.may_be_better.ensures.first c.if-not-may_be_better.false
+
+pub returns-then-not-may_part-clause-after : goal.returns-then-not-may_part-clause-after
+returns-then-not-may_part-clause-after c =
+    skip c.args.graph.now c.args.list.now.blocks.items c.args.j c.args.i c.args.self.now c.args.self.now
+    c.requires.before (same_room c.args.self.now) (c.may_part.ensures c.if-not-may_part.true)
 
 pub left_below-requires-clause-plus_size : goal.left_below-requires-clause-plus_size
 left_below-requires-clause-plus_size c =
@@ -19,6 +31,26 @@ pub left_below-requires-clause-minus_size : goal.left_below-requires-clause-minu
 left_below-requires-clause-minus_size c =
     let r = c.requires in
     block_size c.args.graph.now c.args.list.now.blocks.items c.args.j _ r.list.are r.within c.block-2.ensures
+
+pub left_below-requires-clause-sided : goal.left_below-requires-clause-sided
+left_below-requires-clause-sided c =
+    let r = c.requires in
+    let list = c.args.list.now in
+    let i_in : c.args.i < length list.blocks.items = omega (arith, r.order, r.within) in
+    sided_at c.args.graph.now.graph list.blocks.items list.usable.items list.sides.items c.args.i c.args.j
+    _ _ _ _ r.list.sides r.list.usable i_in r.within
+    (c.may_be_better.ensures.first c.if-not-may_be_better.false) r.usable
+    c.block.ensures c.block-2.ensures c.sides.ensures c.sides-2.ensures
+
+pub sides-requires : goal.sides-requires
+sides-requires c =
+    let r = c.requires in
+    omega (arith, r.order, r.within, r.list.sides.count)
+
+pub sides-requires-2 : goal.sides-requires-2
+sides-requires-2 c =
+    let r = c.requires in
+    omega (arith, r.within, r.list.sides.count)
 
 pub returns-in-Some-clause-after : goal.returns-in-Some-clause-after
 returns-in-Some-clause-after c =

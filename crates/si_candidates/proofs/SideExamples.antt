@@ -1,0 +1,55 @@
+-- Worked examples: a tree of arcs, the sides of a block along it, and the classes that sides tell.
+use Rattle.std.proofs.Common.{◌≡◌, ℕ, zero, suc, Bool, true, false, List, [], ◌∷◌, refl, sym, ap, arith, inl, inr}
+use Rattle.si_insert.specs.declared.partition.Class.TheVariants.{Low, Rising, High, Falling}
+use Rattle.si_candidates.specs.declared.tree.Link.{Link}
+use Rattle.si_candidates.specs.Tree.{IsMet}
+use Rattle.si_candidates.specs.Sides.{between, class_by, differ, flag, leaves}
+
+-- from s0, the start, to s1, from there to s2, and on to s3
+abbrev three_links : List Link
+three_links = record { from = 0; to = 1 } ∷ record { from = 1; to = 2 } ∷ record { from = 2; to = 3 } ∷ []
+
+start_met : IsMet 0 three_links 0 0
+start_met = inl refl
+
+last_met : IsMet 0 three_links 3 3
+last_met = inr (2, record { from = 2; to = 3 }, omega arith, (omega arith, refl), refl)
+
+-- s1 alone: s2 and s3 lie on the other side than the start, since the link to s2 leaves it
+abbrev second : List Bool
+second = false ∷ true ∷ false ∷ false ∷ []
+
+abbrev sides_of_second : List Bool
+sides_of_second = false ∷ false ∷ true ∷ true ∷ []
+
+into_it : flag sides_of_second 1 ≡ differ (flag sides_of_second 0) (leaves second 0 1)
+into_it = refl
+
+out_of_it : flag sides_of_second 2 ≡ differ (flag sides_of_second 1) (leaves second 1 2)
+out_of_it = refl
+
+past_it : flag sides_of_second 3 ≡ differ (flag sides_of_second 2) (leaves second 2 3)
+past_it = refl
+
+-- s3 alone: it is left nowhere
+abbrev fourth : List Bool
+fourth = false ∷ false ∷ false ∷ true ∷ []
+
+abbrev sides_of_fourth : List Bool
+sides_of_fourth = false ∷ false ∷ false ∷ false ∷ []
+
+-- a signal that rises at s1 and falls at s3 is High between them, and Low at the start
+abbrev turned : ℕ → Bool
+turned s = differ (between sides_of_second sides_of_fourth 1) (between sides_of_second sides_of_fourth s)
+
+low_at_start : class_by (flag second 0) (flag fourth 0) (turned 0) ≡ Low
+low_at_start = refl
+
+rises_there : class_by (flag second 1) (flag fourth 1) (turned 1) ≡ Rising
+rises_there = refl
+
+high_between : class_by (flag second 2) (flag fourth 2) (turned 2) ≡ High
+high_between = refl
+
+falls_there : class_by (flag second 3) (flag fourth 3) (turned 3) ≡ Falling
+falls_there = refl

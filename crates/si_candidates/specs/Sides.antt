@@ -1,0 +1,50 @@
+-- On which side of a block each state lies, and how the sides of two blocks tell the classes.
+use Rattle.std.specs.Prelude.{◌≡◌, ℕ, ◌<◌, ◌&&◌, ◌↔◌, not, Bool, true, false, List, length}
+use Rattle.std.specs.List.{slice_index_or}
+use Rattle.si_base.specs.Graph.{StateGraph}
+use Rattle.si_base.specs.Sets.{IsIn}
+use Rattle.si_insert.specs.declared.partition.Class.{Class}
+use Rattle.si_insert.specs.declared.partition.Class.TheVariants.{Low, Rising, High, Falling}
+use Rattle.si_insert.specs.Partition.{class_of, IsLawful}
+use Rattle.si_candidates.specs.declared.tree.Link.{Link}
+use Rattle.si_candidates.specs.Tree.{IsLinkAt}
+
+-- one of the two, and not both
+abbrev pub differ : Bool → Bool → Bool
+differ true b = not b
+differ false b = b
+
+-- s is in the set
+abbrev pub flag : List Bool → ℕ → Bool
+flag set s = slice_index_or set s false
+
+-- s is in the set and t isn't
+abbrev pub leaves : List Bool → ℕ → ℕ → Bool
+leaves set s t = flag set s && not (flag set t)
+
+-- on which side of the set each state lies: along the tree, from the start on, the side changes
+-- where a link leaves the set
+pub record AreSides (g : StateGraph) (tree : List Link) (set sides : List Bool) : Type 0 where
+  pub size : length sides ≡ g.states
+  pub start : flag sides g.start ≡ false
+  pub along : (k : ℕ) (l : Link) → IsLinkAt tree k l
+      → flag sides l.to ≡ differ (flag sides l.from) (leaves set l.from l.to)
+
+-- the state lies on different sides of two sets
+abbrev pub between : List Bool → List Bool → ℕ → Bool
+between plus_sides minus_sides s = differ (flag plus_sides s) (flag minus_sides s)
+
+-- the class of a state by whether the new signal rises there, or falls there, and by its value on
+-- the way there
+abbrev pub class_by : Bool → Bool → Bool → Class
+class_by true falls value = Rising
+class_by false true value = Falling
+class_by false false true = High
+class_by false false false = Low
+
+-- a lawful partition whose Rising states are the one set and whose Falling states the other
+pub record IsPartitionFor (g : StateGraph) (plus minus : List Bool) (classes : List Class)
+    : Type 0 where
+  pub lawful : IsLawful g classes
+  pub rising : (s : ℕ) → s < g.states → (class_of classes s ≡ Rising) ↔ IsIn plus s
+  pub falling : (s : ℕ) → s < g.states → (class_of classes s ≡ Falling) ↔ IsIn minus s
