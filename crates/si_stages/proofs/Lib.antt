@@ -19,3 +19,4 @@ pub mod VerilogLemmas
 pub mod GenlibLemmas
 pub mod VerilogExamples
 pub mod Examples
+pub mod Unresolved

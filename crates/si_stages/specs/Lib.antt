@@ -14,3 +14,4 @@ pub mod FoldLaws
 pub mod Exercise
 pub mod Verilog
 pub mod Genlib
+pub mod UnresolvedLaws

@@ -14,4 +14,5 @@ pub mod report;
 pub mod report_kind;
 pub mod resolving;
 pub mod synth;
+pub mod unresolved_laws;
 pub mod verilog;
