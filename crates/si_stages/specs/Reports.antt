@@ -3,6 +3,7 @@ use Rattle.std.specs.Prelude.{ℕ, List, [], ◌∷◌, length, codes, decimal}
 use Rattle.si_base.specs.Codes.{CodedGraph, code}
 use Rattle.si_base.specs.NetlistText.{bits_from, word_if_any}
 use Rattle.si_base.specs.Words.{text_of}
+use Rattle.si_explain.specs.ExplainText.{IsExplainText}
 use Rattle.si_listings.specs.ConflictText.{IsConflictText}
 use Rattle.si_listings.specs.CoverText.{IsCoverText}
 use Rattle.si_listings.specs.RegionText.{IsRegionText}
@@ -11,7 +12,7 @@ use Rattle.si_refusals.specs.Stages.{Stage, gives, shows}
 use Rattle.si_stages.specs.declared.report_kind.Report.{Report}
 use Rattle.si_stages.specs.Fold.{IsFoldText}
 use Rattle.si_stages.specs.declared.report_kind.Report.TheVariants.{Summary, Regions}
-use Rattle.si_stages.specs.declared.report_kind.Report.TheVariants.{Conflicts, Covers, Fold}
+use Rattle.si_stages.specs.declared.report_kind.Report.TheVariants.{Conflicts, Covers, Fold, Explain}
 
 -- a line of a word and a number
 abbrev pub count_line : List ℕ → ℕ → List (List ℕ)
@@ -28,7 +29,8 @@ summary coded = text_of ((codes "proper" ∷ [])
     ∷ [])
 
 -- of a graph with this model and these names of its states: its summary; the text of its regions;
--- the text of its conflicts; the text of its covers; the text of its folded graph
+-- the text of its conflicts; the text of its covers; the text of its folded graph; the
+-- text that explains its conflicts
 abbrev pub told : Report → (model : List ℕ) → (states : List (List ℕ)) → CodedGraph
     → Stage TextRefusal (List ℕ)
 told Summary model states coded = gives (summary coded)
@@ -36,3 +38,4 @@ told Regions model states coded = shows (IsRegionText coded states)
 told Conflicts model states coded = shows (IsConflictText coded states)
 told Covers model states coded = shows (IsCoverText coded states)
 told Fold model states coded = shows (IsFoldText model states coded)
+told Explain model states coded = shows (IsExplainText coded states)

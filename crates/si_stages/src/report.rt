@@ -14,6 +14,7 @@ use si_base::ids::NoMemory;
 use si_base::names::Names;
 use si_base::text::{Name, Text};
 use si_checks::proper::Proper;
+use si_explain::explain::explain;
 use si_graph::coded::Coded;
 use si_listings::conflict_listing::list_conflicts;
 use si_listings::cover_listing::list_covers;
@@ -71,6 +72,7 @@ fn told(
         Report::Conflicts => list_conflicts(alloc, graph.coded(), states),
         Report::Covers => list_covers(alloc, graph, states),
         Report::Fold => fold_text(alloc, graph, model, states),
+        Report::Explain => explain(alloc, graph.coded(), states),
     }
 }
 

@@ -14,4 +14,7 @@ pub enum Report {
     /// Its folded graph, as a canonical text: one state for each class of states that no walk tells
     /// apart.
     Fold,
+    /// How many conflicts it has, and the first of them explained: codes, enabled events, walks, and
+    /// whether inputs alone lead to both states.
+    Explain,
 }

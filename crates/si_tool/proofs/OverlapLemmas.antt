@@ -157,7 +157,7 @@ apart (task ∷ tasks) (suc i) (suc j) none before below =
 abbrev AsksAt : List (String Global) → ℕ → List (List ℕ) → Type 0
 AsksAt words place files = HasForm (form_of (get_or TASKS place first_task)) (words_of words) files
 
-not_two : (words : List (String Global)) (i j : ℕ) (files others : List (List ℕ)) → i < j → j < 25
+not_two : (words : List (String Global)) (i j : ℕ) (files others : List (List ℕ)) → i < j → j < 26
     → AsksAt words i files → AsksAt words j others → ⊥
 not_two words i j files others before below one two =
     let overlap = both_overlap (form_of (get_or TASKS i first_task)) (form_of (get_or TASKS j first_task))
@@ -165,7 +165,7 @@ not_two words i j files others before below one two =
     let none = apart TASKS i j tasks_apart before below in
     cc
 
-same_place : (words : List (String Global)) (i j : ℕ) (files others : List (List ℕ)) → i < 25 → j < 25
+same_place : (words : List (String Global)) (i j : ℕ) (files others : List (List ℕ)) → i < 26 → j < 26
     → AsksAt words i files → AsksAt words j others → i ≡ j
 same_place words i j files others first second one two = elim (cases_lt i j) [
   | inl before ↦ absurd (not_two words i j files others before second one two)

@@ -14,7 +14,7 @@ use Rattle.si_tool.specs.declared.command.Task.TheVariants.{About, Tell, Synth, 
 use Rattle.si_tool.specs.declared.command.TheConstants.{TASKS}
 use Rattle.si_readings.specs.declared.library_format.LibraryFormat.{LibraryFormat}
 use Rattle.si_readings.specs.declared.library_format.LibraryFormat.TheVariants.{Own, Genlib}
-use Rattle.si_stages.specs.declared.report_kind.Report.TheVariants.{Summary, Regions, Conflicts, Covers, Fold}
+use Rattle.si_stages.specs.declared.report_kind.Report.TheVariants.{Summary, Regions, Conflicts, Covers, Fold, Explain}
 
 -- what a read past the end of the table gives
 abbrev pub first_task : Task
@@ -22,7 +22,7 @@ first_task = About (Help Long)
 
 -- ---- the table has each task
 abbrev pub IsListed : Task → Type 0
-IsListed task = (place : ℕ) × (place < 25) × (get_or TASKS place first_task ≡ task)
+IsListed task = (place : ℕ) × (place < 26) × (get_or TASKS place first_task ≡ task)
 
 pub each_listed : (task : Task) → IsListed task
 each_listed (About (Help Long)) = (0, omega arith, refl)
@@ -34,22 +34,23 @@ each_listed (Tell Regions) = (5, omega arith, refl)
 each_listed (Tell Conflicts) = (6, omega arith, refl)
 each_listed (Tell Covers) = (7, omega arith, refl)
 each_listed (Tell Fold) = (8, omega arith, refl)
-each_listed (Synth Complex) = (9, omega arith, refl)
-each_listed (Synth GeneralisedC) = (10, omega arith, refl)
-each_listed (Map Own) = (11, omega arith, refl)
-each_listed (Map Genlib) = (12, omega arith, refl)
-each_listed FromGenlib = (13, omega arith, refl)
-each_listed Verilog = (14, omega arith, refl)
-each_listed Replay = (15, omega arith, refl)
-each_listed Audit = (16, omega arith, refl)
-each_listed (Exercise One) = (17, omega arith, refl)
-each_listed (Exercise Two) = (18, omega arith, refl)
-each_listed (Exercise Three) = (19, omega arith, refl)
-each_listed (Exercise Four) = (20, omega arith, refl)
-each_listed (Exercise Five) = (21, omega arith, refl)
-each_listed (Exercise Six) = (22, omega arith, refl)
-each_listed (Exercise Seven) = (23, omega arith, refl)
-each_listed (Exercise Eight) = (24, omega arith, refl)
+each_listed (Tell Explain) = (9, omega arith, refl)
+each_listed (Synth Complex) = (10, omega arith, refl)
+each_listed (Synth GeneralisedC) = (11, omega arith, refl)
+each_listed (Map Own) = (12, omega arith, refl)
+each_listed (Map Genlib) = (13, omega arith, refl)
+each_listed FromGenlib = (14, omega arith, refl)
+each_listed Verilog = (15, omega arith, refl)
+each_listed Replay = (16, omega arith, refl)
+each_listed Audit = (17, omega arith, refl)
+each_listed (Exercise One) = (18, omega arith, refl)
+each_listed (Exercise Two) = (19, omega arith, refl)
+each_listed (Exercise Three) = (20, omega arith, refl)
+each_listed (Exercise Four) = (21, omega arith, refl)
+each_listed (Exercise Five) = (22, omega arith, refl)
+each_listed (Exercise Six) = (23, omega arith, refl)
+each_listed (Exercise Seven) = (24, omega arith, refl)
+each_listed (Exercise Eight) = (25, omega arith, refl)
 
 -- ---- words ask for none of the tasks up to a place
 abbrev pub AsksNoneBefore : List (String Global) → (place : ℕ) → Type 0
@@ -67,7 +68,7 @@ asks_one_less words place before here k below files asks = elim (cases_lt k plac
       )
 ]
 
-pub asks_nothing : (words : List (String Global)) (place : ℕ) → 25 ≤ place → AsksNoneBefore words place
+pub asks_nothing : (words : List (String Global)) (place : ℕ) → 26 ≤ place → AsksNoneBefore words place
     → AsksNothing words
 asks_nothing words place end none request asks =
     let listed = each_listed request.task in

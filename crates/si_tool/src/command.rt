@@ -88,7 +88,7 @@ pub enum Task {
 }
 
 /// Each task. No two of them have a form in common.
-const TASKS: [Task; 25] = [
+const TASKS: [Task; 26] = [
     Task::About(Topic::Help(HelpWord::Long)),
     Task::About(Topic::Help(HelpWord::Short)),
     Task::About(Topic::Help(HelpWord::Plain)),
@@ -98,6 +98,7 @@ const TASKS: [Task; 25] = [
     Task::Tell(Report::Conflicts),
     Task::Tell(Report::Covers),
     Task::Tell(Report::Fold),
+    Task::Tell(Report::Explain),
     Task::Synth(Style::Complex),
     Task::Synth(Style::GeneralisedC),
     Task::Map(LibraryFormat::Own),
@@ -196,6 +197,7 @@ fn report_word(report: Report) -> &'static str
         Report::Conflicts => "conflicts",
         Report::Covers => "covers",
         Report::Fold => "fold",
+        Report::Explain => "explain",
     }
 }
 
