@@ -14,6 +14,8 @@ pub mod WorkLemmas
 pub mod TurnLemmas
 pub mod SameForced
 pub mod AnswerLemmas
+pub mod FunctionLemmas
+pub mod SameFunction
 pub mod FillLemmas
 pub mod OutsideLemmas
 pub mod InstanceLemmas
