@@ -157,9 +157,11 @@ module _ (literals given : List Literal) (signals shown : List ℕ) (same : give
   pub reads_all : All (λ l. Contains shown l.sig) literals
   reads_all k d within = subst (λ (xs : List ℕ). Contains xs (get_or literals k d).sig) (sym is)
       (Contains-permutation (map (λ l. l.sig) given) signals _ moved
-      (subst (λ (ls : List Literal). Contains (map (λ l. l.sig) ls) (get_or literals k d).sig) (sym same)
-      (k, omega (arith, within, length-map literals (λ (l : Literal). l.sig)),
-      get_or-map (λ (l : Literal). l.sig) literals k d (get_or literals k d).sig within)))
+      (subst (λ (ls : List Literal). Contains (map (λ l. l.sig) ls) (get_or literals k d).sig) (sym same) (
+        k,
+        omega (arith, within, length-map literals (λ (l : Literal). l.sig)),
+        get_or-map (λ (l : Literal). l.sig) literals k d (get_or literals k d).sig within,
+      )))
 
   pub within_all : All (λ l. l.sig < code_width) literals → All (λ s. s < code_width) shown
   within_all all = subst (λ (xs : List ℕ). All (λ s. s < code_width) xs) (sym is)
