@@ -16,9 +16,10 @@ use Rattle.si_base.specs.Bits.{bit, IsSet}
 use Rattle.si_base.specs.Limits.{code_width}
 use Rattle.si_base.specs.Netlist.{literal_value, sum_value}
 use Rattle.si_base.specs.declared.ids.Literal.{Literal}
-use Rattle.si_cell.specs.Library.{Library, Instance, cell_at, code_of, pin_values, instance_value}
+use Rattle.si_cell.specs.Library.{Library, Instance, IsInstance, cell_at, code_of, instance_value}
 use Rattle.si_cell.proofs.ExpandedLemmas.{bit_of}
-use Rattle.si_divisor.specs.Functions.{values_at}
+use Rattle.si_divisor.specs.declared.function.Function.{Function}
+use Rattle.si_divisor.specs.Functions.{IsFunction, values_at}
 
 -- ---- the values at a code
 pub bit_of_signal : (signals : List ℕ) (code : ℕ) (q : Bool) (i d : ℕ) → i < length signals
@@ -168,3 +169,9 @@ module _ (literals given : List Literal) (signals shown : List ℕ) (same : give
       (All-permutation (λ s. s < code_width) (map (λ l. l.sig) given) signals moved
       (subst (λ (ls : List Literal). All (λ s. s < code_width) (map (λ l. l.sig) ls)) (sym same)
       (All-map (λ s. s < code_width) (λ (l : Literal). l.sig) literals all)))
+
+-- ---- the values of an instance's function
+pub signals_within : (library : Library) (i : Instance) (f : Function) → IsInstance library i → IsFunction library i f
+    → All (λ s. s < code_width) f.signals.items
+signals_within library i f instance is = within_all i.literals i.literals f.signals.items f.signals.items refl is.same
+    refl instance.signals

@@ -5,6 +5,7 @@ pub mod RegionCubes
 pub mod CubesExist
 pub mod ChoiceLemmas
 mod DivisorExamples
+mod FunctionExamples
 pub mod Sets
 pub mod ClassCases
 pub mod RuleLemmas

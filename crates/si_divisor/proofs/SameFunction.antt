@@ -1,5 +1,5 @@
 -- Instances that compute one function.
-use Rattle.std.proofs.Common.{◌≡◌, ℕ, ◌<◌, ◌&&◌, not, Bool, true, false, List, refl, sym, ap, ap₂, ◌∙◌, eqb-true, eq-eqb}
+use Rattle.std.proofs.Common.{◌≡◌, ℕ, ◌&&◌, not, Bool, true, refl, sym, ap, ◌∙◌, eqb-true}
 use Rattle.std.proofs.lemmas.Bool.{and_parts}
 use Rattle.std.proofs.lemmas.Map.Text.{is_eq-slice_cmp}
 use Rattle.std.proofs.lemmas.Slice.Eq.{bytes_eq-Decides}
@@ -9,14 +9,11 @@ use Rattle.std.specs.Ordering.{nat_cmp, is_eq, ordering_then}
 use Rattle.std.specs.declared.cmp.Ordering.{Ordering}
 use Rattle.std.specs.declared.cmp.Ordering.TheVariants.{Less, Equal, Greater}
 use mathlib.Core.Bool.{beq}
-use Rattle.si_base.specs.Codes.{CodedGraph, code}
-use Rattle.si_base.specs.Graph.{IsGraph}
+use Rattle.si_base.specs.Codes.{code}
 use Rattle.si_cell.specs.Library.{Library, Instance, instance_value}
-use Rattle.si_insert.specs.declared.partition.Class.{Class}
 use Rattle.si_divisor.specs.declared.function.Function.{Function}
 use Rattle.si_divisor.specs.Functions.{IsFunction, function_cmp}
 use Rattle.si_divisor.specs.Laws.{FunctionsDecide}
-use Rattle.si_divisor.specs.PartitionFor.{IsPartitionFor}
 use Rattle.si_divisor.specs.Targets.{forced_by}
 use Rattle.si_divisor.proofs.SameForced.{ForceAlike, partitions_alike}
 

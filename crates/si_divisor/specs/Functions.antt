@@ -26,6 +26,10 @@ pub record IsFunction (library : Library) (i : Instance) (f : Function) : Type 0
   pub in_order : IsNonDecreasing f.signals.items
   pub table : IsTable library i f.signals.items f.table
 
+-- its value at a code, where the own output has the value q
+abbrev pub function_value : Function → ℕ → Bool → Bool
+function_value f code q = bit f.table (values_at f.signals.items code q)
+
 -- the order of functions: by their signals, the first first, then by their tables
 abbrev pub function_cmp : Function → Function → Ordering
 function_cmp f g =

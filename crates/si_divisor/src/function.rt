@@ -6,7 +6,7 @@ ghost use Rattle.si_base.specs.Bits.{bit};
 ghost use Rattle.si_base.specs.Limits.{code_width};
 ghost use Rattle.si_cell.specs.Library.{IsInstance, instance_value};
 ghost use Rattle.si_cell.specs.Limits.{max_pins};
-ghost use Rattle.si_divisor.specs.Functions.{IsFunction, IsTable, values_at};
+ghost use Rattle.si_divisor.specs.Functions.{IsFunction, IsTable, function_value, values_at};
 
 use arrayvec::ArrayVec;
 use si_base::ids::{Code, Sig};
@@ -23,6 +23,34 @@ pub struct Function {
     /// The truth table: bit i is the value where these signals, and the own output behind them,
     /// have the values of the bits of i, the first signal that of the lowest.
     pub table: u32,
+}
+
+impl Function {
+    /// Its value at the code, where the own output has the value `q`.
+    pub(crate) fn value(&self, code: Code, q: bool) -> bool
+        requires { All (λ s. s < code_width) self.now.signals.items }
+        ensures { result ≡ function_value self.now code q }
+    {
+        has_bit(
+            self.table,
+            values_of(self.signals.as_slice(), code, q) as usize,
+        )
+    }
+}
+
+/// The values of the signals at the code, and of the own output behind them.
+fn values_of(signals: &[u8], code: Code, q: bool) -> u32
+    requires few { length signals.now ≤ max_pins }
+    requires within { All (λ s. s < code_width) signals.now }
+    ensures is { result ≡ values_at signals.now code q }
+    ensures few { result < 32 }
+{
+    let mut values = u32::from(q);
+    for i in 0..signals.len() {
+        let signal = Sig(signals[signals.len() - 1 - i]);
+        values = u32::from(code.get(signal)) + 2 * values;
+    }
+    values
 }
 
 /// The function that the instance computes.

@@ -1,4 +1,4 @@
-use Rattle.std.proofs.Common.{◌≡◌, ℕ, ◌+◌, ◌*◌, ◌<◌, ◌^◌, ◌∙◌, ap, arith, length, subst}
+use Rattle.std.proofs.Common.{◌≡◌, ℕ, ◌+◌, ◌*◌, ◌<◌, ◌^◌, ◌∙◌, ap, arith, subst}
 use Rattle.si_divisor.proofs.FunctionLemmas.{HasValues, small_more, values_more, whole_table}
 use Rattle.si_divisor.proofs.function.table_of.Goals as goal
 

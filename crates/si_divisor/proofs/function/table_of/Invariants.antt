@@ -1,4 +1,4 @@
-use Rattle.std.proofs.Common.{◌≡◌, ◌<◌, ◌^◌}
+use Rattle.std.proofs.Common.{◌<◌, ◌^◌}
 use Rattle.si_divisor.proofs.FunctionLemmas.{HasValues}
 use Rattle.si_divisor.proofs.function.table_of.Given as goal
 
