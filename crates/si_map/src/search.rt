@@ -32,8 +32,8 @@ use std::collections::BTreeSet;
 /// With what the names of signals begin that are inserted for the gates of others.
 pub(crate) const STEM: &[u8] = b"map";
 
-/// The most accepted partitions that are kept so as not to be tried again.
-const MAX_TRIED: usize = 256;
+/// The most classes of accepted partitions that are kept so as not to be tried again.
+const MAX_TRIED_CLASSES: usize = 1 << 24;
 
 /// The weight that the next divisor has to get below, the partition of the best divisor so far,
 /// and what all divisors have in common: the rings of equal codes and the new signal's name. Many
@@ -198,11 +198,12 @@ impl Search {
         Ok(())
     }
 
-    /// Keeps the partition among those that were tried, as long as these are few.
+    /// Keeps the partition among those that were tried, as long as these have few classes.
     fn keep_tried(&mut self, accepted: Accepted) -> Result<(), NoMemory>
         ensures { OnOk result (IsGrown self.old accepted self.new) }
     {
-        if self.tried.len() < MAX_TRIED {
+        let classes = accepted.partition().classes().len();
+        if self.tried.len() < MAX_TRIED_CLASSES / (classes + 1) {
             self.tried.push(accepted)?;
         }
         Ok(())
