@@ -5,6 +5,7 @@ pub mod RegionCubes
 pub mod CubesExist
 pub mod ChoiceLemmas
 mod DivisorExamples
+mod FunctionExamples
 pub mod Sets
 pub mod ClassCases
 pub mod RuleLemmas
@@ -14,6 +15,8 @@ pub mod WorkLemmas
 pub mod TurnLemmas
 pub mod SameForced
 pub mod AnswerLemmas
+pub mod FunctionLemmas
+pub mod SameFunction
 pub mod FillLemmas
 pub mod OutsideLemmas
 pub mod InstanceLemmas

@@ -16,6 +16,8 @@ use Rattle.si_cell.specs.Library.{Library, Instance, IsLibrary, IsInstance, inst
 use Rattle.si_match.specs.Fit.{IsOver, Fits}
 use Rattle.si_divisor.specs.declared.fault.NoPartition.{NoPartition}
 use Rattle.si_divisor.specs.declared.fault.NoPartition.TheVariants.{NoMemory}
+use Rattle.si_divisor.specs.declared.function.Function.{Function}
+use Rattle.si_divisor.specs.Functions.{IsFunction}
 use Rattle.si_divisor.specs.Targets.{forced_by, target}
 use Rattle.si_divisor.specs.Switching.{Switches}
 use Rattle.si_divisor.specs.PartitionFor.{IsPartitionFor, ShowsNone}
@@ -138,3 +140,11 @@ NewSignalFits =
     → IsPartitionFor c.graph (forced_by (instance_value library i) c) classes
     → IsInsertedGraph c.graph classes new copies h
     → Fits (coded c copies h) library (length c.graph.signals) i
+
+-- instances that compute one function have one partition, or none
+abbrev pub FunctionsDecide : Type 0
+FunctionsDecide =
+    (library : Library) (c : CodedGraph) (i k : Instance) (f : Function) (classes : List Class)
+    → IsGraph c.graph → IsFunction library i f → IsFunction library k f
+    → IsPartitionFor c.graph (forced_by (instance_value library i) c) classes
+    → IsPartitionFor c.graph (forced_by (instance_value library k) c) classes

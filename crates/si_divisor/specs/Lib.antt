@@ -5,5 +5,6 @@ pub mod DivisorLaws
 pub mod Targets
 pub mod Switching
 pub mod PartitionFor
+pub mod Functions
 pub mod WorkList
 pub mod Laws

@@ -1,6 +1,6 @@
 //! The laws of the partition for an instance, as contracts of functions that do nothing.
 
-ghost use Rattle.si_divisor.specs.Laws.{RulesAreAcceptance, PartitionsAreLawful, PartitionsAreAccepted, PartitionsAreLeast, PartitionsAreUnique, ReasonsAreUnique, ReasonsExclude, PartitionsExist, InstancesAreUnate, InstancesFit, NewSignalFits};
+ghost use Rattle.si_divisor.specs.Laws.{RulesAreAcceptance, PartitionsAreLawful, PartitionsAreAccepted, PartitionsAreLeast, PartitionsAreUnique, ReasonsAreUnique, ReasonsExclude, PartitionsExist, InstancesAreUnate, InstancesFit, NewSignalFits, FunctionsDecide};
 
 /// The rules are what acceptance asks, so a partition is accepted unless it is too large, and no
 /// accepted one with the same targets switches at fewer states.
@@ -24,4 +24,9 @@ pub fn instances_are_gates()
     ensures unate { InstancesAreUnate }
     ensures values { InstancesFit }
     ensures fits { NewSignalFits }
+{}
+
+/// Whether an instance has a partition, and which, is decided by the function that it computes.
+pub fn functions_decide()
+    ensures { FunctionsDecide }
 {}

@@ -7,6 +7,7 @@ pub mod divisor_laws;
 pub mod divisors;
 pub mod fault;
 mod forced;
+pub mod function;
 pub mod laws;
 pub mod partition_for;
 pub mod pins;

@@ -1,14 +1,22 @@
 -- What becomes of a search with each divisor.
-use Rattle.std.proofs.Common.{◌≡◌, ℕ, ◌+◌, ◌<◌, ◌≤◌, ◌⊎◌, List, [], ◌∷◌, ◌++◌, get_or, All, Option, Some, None, IfSome, IfNone, MatchOption, is_some, not, Bool, true, false, refl, sym, ap, subst, ◌∙◌, arith, inl, inr}
-use Rattle.std.proofs.lemmas.Bool.{true≢false}
+use Rattle.std.proofs.Common.{◌≡◌, ℕ, ◌+◌, ◌<◌, ◌≤◌, ◌⊎◌, List, [], ◌∷◌, ◌++◌, get_or, All, Option, Some, None}
+use Rattle.std.proofs.Common.{IfSome, IfNone, MatchOption, is_some, not, Bool, true, false, cond, refl, sym, ap, subst}
+use Rattle.std.proofs.Common.{◌∙◌, arith, inl, inr}
+use Rattle.std.proofs.lemmas.Bool.{true≢false, cases_Bool}
+use Rattle.std.specs.BTreeMap.{is_at}
+use Rattle.std.specs.BTreeSet.{BTreeSet, Updates, contains}
+use Rattle.std.specs.List.{list_any}
 use Rattle.std.proofs.lemmas.List.Elements.{All-push}
 use Rattle.si_base.specs.Codes.{CodedGraph, IsCoded}
 use Rattle.si_base.specs.Proper.{HasNoConflict}
 use Rattle.si_cell.specs.Library.{Library, Instance, instance_value}
 use Rattle.si_conflicts.specs.Chains.{AreChains}
 use Rattle.si_conflicts.specs.Left.{LeavesConflicts}
+use Rattle.si_divisor.specs.declared.function.Function.{Function}
+use Rattle.si_divisor.specs.Functions.{IsFunction, function_cmp}
 use Rattle.si_divisor.specs.PartitionFor.{IsPartitionFor}
 use Rattle.si_divisor.specs.Targets.{forced_by}
+use Rattle.si_divisor.proofs.SameFunction.{functions_decide, same_function}
 use Rattle.si_divisor.proofs.UniqueAnswers.{one_partition}
 use Rattle.si_insert.specs.declared.partition.Class.{Class}
 use Rattle.si_insert.specs.Partition.{IsLawful}
@@ -20,7 +28,8 @@ use Rattle.si_insert.specs.Made.{copies_of}
 use Rattle.si_match.specs.Weight.{weight_of}
 use Rattle.si_map.specs.declared.search.Search.{Search}
 use Rattle.si_map.specs.Best.{Choice, IsDivisorAt, LeavesWeight, Serves}
-use Rattle.si_map.specs.Progress.{IsReady, IsSearching, HasTried, IsPassed, IsKept, IsTried, IsKnown, IsGrown, LeavesBelow, LeavesNoneBelow}
+use Rattle.si_map.specs.Progress.{IsReady, IsSearching, HasTried, IsPassed, IsKept, IsTried, IsKnown, IsGrown, IsSpent, AreSpent, LeavesBelow}
+use Rattle.si_map.specs.Progress.{LeavesNoneBelow}
 use Rattle.si_map.proofs.DivisorFacts.{one_divisor}
 use Rattle.si_map.proofs.NoneLeft.{none_left}
 use Rattle.si_map.proofs.SearchSteps.{bar_low, search_skip, search_take}
@@ -216,7 +225,7 @@ module _ (c : CodedGraph) (library : Library) (divisor : Instance) where
   IsPartition classes = IsPartitionFor c.graph (forced_by (instance_value library divisor) c) classes
 
   -- a choice at the divisor's place has the partition for it
-  partition_here : (z k : ℕ) (y : Choice) → IsDivisorAt c library z k divisor → Serves c library y → y.signal ≡ z
+  pub partition_here : (z k : ℕ) (y : Choice) → IsDivisorAt c library z k divisor → Serves c library y → y.signal ≡ z
       → y.place ≡ k → IsPartition y.classes
   partition_here z k y here serves at_signal at_place =
       let P : ℕ → Type 0 = λ a. IsDivisorAt c library a y.place serves.divisor in
@@ -230,10 +239,10 @@ module _ (c : CodedGraph) (library : Library) (divisor : Instance) where
   zero_tried s zero z k unfit here so = skip c library z k s so s so.ready refl refl
       (λ y serves at_signal at_place. omega (arith, zero))
 
-  pub none_tried : (s : Search) → ((classes : List Class) → IsPartition classes → ⊥) → HasTried c library divisor s s
-  none_tried s none z k unfit here so = skip c library z k s so s so.ready refl refl
-      (λ y serves at_signal at_place. absurd (none y.classes
-      (partition_here z k y here serves at_signal at_place)))
+  pub spent_tried : (s : Search) → IsSpent c library s.bar divisor → HasTried c library divisor s s
+  spent_tried s spent z k unfit here so = skip c library z k s so s so.ready refl refl
+      (λ y serves at_signal at_place. spent y.classes (partition_here z k y here serves at_signal at_place)
+      serves.accepted y.weight serves.free serves.leaves)
 
   passed : (classes : List Class) (s t : Search) → IsPartition classes → IsPassed c library classes s t
       → HasTried c library divisor s t
@@ -270,11 +279,12 @@ module _ (c : CodedGraph) (library : Library) (divisor : Instance) where
   tried classes s t are (inl is) = passed classes s t are is
   tried classes s t are (inr is) = taken classes s t are is
 
-  pub none_found : (s : Search) (o : Option (List Class)) → o ≡ None
+  pub none_spent : (low : ℕ) (o : Option (List Class)) → o ≡ None
       → MatchOption o ((classes : List Class) → IsPartition classes → ⊥)
-      (λ p. IsPartition p × IsLawful c.graph p) → HasTried c library divisor s s
-  none_found s o is told = none_tried s (subst (λ p. MatchOption p ((classes : List Class) → IsPartition classes → ⊥)
-      (λ p. IsPartition p × IsLawful c.graph p)) is told)
+      (λ p. IsPartition p × IsLawful c.graph p) → IsSpent c library low divisor
+  none_spent low o is told classes are accepted =
+      absurd (subst (λ p. MatchOption p ((classes : List Class) → IsPartition classes → ⊥)
+      (λ p. IsPartition p × IsLawful c.graph p)) is told classes are)
 
   pub found_tried : (classes : List Class) (s t : Search) (o : Option (List Class)) → o ≡ Some classes
       → MatchOption o ((classes : List Class) → IsPartition classes → ⊥)
@@ -284,3 +294,51 @@ module _ (c : CodedGraph) (library : Library) (divisor : Instance) where
       subst (λ p. MatchOption p ((classes : List Class) → IsPartition classes → ⊥)
       (λ p. IsPartition p × IsLawful c.graph p)) is told in
       tried classes s t found.0
+
+  pub found_spent : (classes : List Class) (s t : Search) (o : Option (List Class)) → o ≡ Some classes
+      → MatchOption o ((classes : List Class) → IsPartition classes → ⊥)
+      (λ p. IsPartition p × IsLawful c.graph p) → IsTried c library classes s t → IsSpent c library t.bar divisor
+  found_spent classes s t o is told done others are accepted =
+      by_end done (one_partition c.graph (forced_by (instance_value library divisor) c) others classes are found.0)
+    where
+      found : IsPartition classes × IsLawful c.graph classes
+      found = subst (λ p. MatchOption p ((classes : List Class) → IsPartition classes → ⊥)
+          (λ p. IsPartition p × IsLawful c.graph p)) is told
+
+      by_end : IsTried c library classes s t → others ≡ classes → LeavesNoneBelow c library others t.bar
+      by_end (inl is) same = subst (λ (low : ℕ). LeavesNoneBelow c library others low) (sym is.bar)
+          (subst (λ (xs : List Class). LeavesNoneBelow c library xs s.bar) (sym same)
+          (is.none (subst (IsAccepted c.graph) same accepted)))
+      by_end (inr is) same = λ n free leaves. (
+          let one = weight_is_one c library classes t.bar n is.left.leaves
+          (subst (λ (xs : List Class). LeavesWeight c library xs n) same leaves) in
+          omega (arith, one))
+
+pub lowers : (c : CodedGraph) (library : Library) (classes : List Class) (s t : Search)
+    → IsTried c library classes s t → t.bar ≤ s.bar
+lowers c library classes s t (inl is) = omega (arith, is.bar)
+lowers c library classes s t (inr is) = omega (arith, is.left.below)
+
+-- ---- the functions of divisors
+pub spent_below : (c : CodedGraph) (library : Library) (high low : ℕ) (i : Instance) → low ≤ high
+    → IsSpent c library high i → IsSpent c library low i
+spent_below c library high low i less spent classes are accepted n free leaves =
+    let more = spent classes are accepted n free leaves in omega (arith, less, more)
+
+pub none_yet : (c : CodedGraph) (library : Library) (bar : ℕ) (functions : BTreeSet Function) → functions.keys ≡ []
+    → AreSpent c library bar functions
+none_yet c library bar functions none f i there =
+    absurd (true≢false (sym there ∙ ap (λ (ks : List Function). list_any (is_at (function_cmp f)) ks) none))
+
+pub more_spent : (c : CodedGraph) (library : Library) (high low : ℕ) (divisor : Instance) (f : Function)
+    (old new : BTreeSet Function) → IsCoded c → low ≤ high → AreSpent c library high old
+    → IsFunction library divisor f → IsSpent c library low divisor → Updates function_cmp old new f true
+    → AreSpent c library low new
+more_spent c library high low divisor f old new coded less before is spent added g i there other =
+    elim (cases_Bool (is_at (function_cmp f) g)) [
+      | inl level ↦ (let same : f ≡ g = same_function f g level in
+          λ classes are accepted. spent classes (functions_decide library c i divisor f classes coded.graph_is
+          (subst (IsFunction library i) (sym same) other) is are) accepted)
+      | inr apart ↦ spent_below c library high low i less
+          (before g i (sym (added.0 g ∙ ap (λ b. cond b true (contains function_cmp old g)) apart) ∙ there) other)
+    ]

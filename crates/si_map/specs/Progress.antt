@@ -1,10 +1,15 @@
 -- What a search for the best divisor keeps.
-use Rattle.std.specs.Prelude.{◌≡◌, ℕ, ◌+◌, ◌<◌, ◌≤◌, ◌⊎◌, List, [], ◌∷◌, ◌++◌, All, Contains, Option, Some, None, IfSome}
+use Rattle.std.specs.Prelude.{◌≡◌, ℕ, ◌+◌, ◌<◌, ◌≤◌, ◌⊎◌, List, [], ◌∷◌, ◌++◌, All, Contains, IsTrue, Option, Some, None, IfSome}
+use Rattle.std.specs.BTreeSet.{BTreeSet, contains}
 use Rattle.si_base.specs.Codes.{CodedGraph, IsCoded}
 use Rattle.si_base.specs.Proper.{IsProper}
-use Rattle.si_cell.specs.Library.{Library, Instance}
+use Rattle.si_cell.specs.Library.{Library, Instance, instance_value}
 use Rattle.si_conflicts.specs.Chains.{AreChains}
 use Rattle.si_conflicts.specs.Left.{LeavesConflicts}
+use Rattle.si_divisor.specs.declared.function.Function.{Function}
+use Rattle.si_divisor.specs.Functions.{IsFunction, function_cmp}
+use Rattle.si_divisor.specs.PartitionFor.{IsPartitionFor}
+use Rattle.si_divisor.specs.Targets.{forced_by}
 use Rattle.si_insert.specs.declared.partition.Class.{Class}
 use Rattle.si_insert.specs.Accepted.{IsAccepted}
 use Rattle.si_insert.specs.Fresh.{IsTaken}
@@ -26,6 +31,19 @@ pub record LeavesBelow (c : CodedGraph) (library : Library) (classes : List Clas
 abbrev pub LeavesNoneBelow : CodedGraph → Library → List Class → ℕ → Type 0
 LeavesNoneBelow c library classes bar =
     (n : ℕ) → LeavesConflicts c classes 0 → LeavesWeight c library classes n → bar ≤ n
+
+-- ---- one function
+
+-- no partition for the instance that is accepted leaves a weight below the bar
+abbrev pub IsSpent : CodedGraph → Library → ℕ → Instance → Type 0
+IsSpent c library bar i = (classes : List Class)
+    → IsPartitionFor c.graph (forced_by (instance_value library i) c) classes
+    → IsAccepted c.graph classes → LeavesNoneBelow c library classes bar
+
+-- nor does one for an instance that computes one of the functions
+abbrev pub AreSpent : CodedGraph → Library → ℕ → BTreeSet Function → Type 0
+AreSpent c library bar functions = (f : Function) (i : Instance)
+    → IsTrue (contains function_cmp functions f) → IsFunction library i f → IsSpent c library bar i
 
 -- ---- the search
 

@@ -1,6 +1,6 @@
 //! The search for the best divisor, signal after signal and divisor after divisor.
 
-ghost use Rattle.std.specs.Prelude.{◌≡◌, ◌↔◌, ◌+◌, IsTrue, IfOk, IfSome, IfNone, OnOk, MatchOption};
+ghost use Rattle.std.specs.Prelude.{◌≡◌, ◌≤◌, ◌↔◌, ◌+◌, IsTrue, IfOk, IfSome, IfNone, OnOk, MatchOption};
 ghost use Rattle.si_base.specs.Graph.{IsNonInput};
 ghost use Rattle.si_cell.specs.Library.{Library as LibraryValue, IsInstance};
 ghost use Rattle.si_checks.specs.Lent.{lent_graph};
@@ -8,7 +8,7 @@ ghost use Rattle.si_insert.specs.Accepted.{IsAccepted};
 ghost use Rattle.si_insert.specs.Partition.{IsLawful};
 ghost use Rattle.si_match.specs.Weight.{weight_of};
 ghost use Rattle.si_map.specs.Best.{Choice, IsBest, NoneServes};
-ghost use Rattle.si_map.specs.Progress.{IsReady, IsSearching, HasTried, IsTried, IsKnown, IsGrown, LeavesBelow, LeavesNoneBelow};
+ghost use Rattle.si_map.specs.Progress.{IsReady, IsSearching, HasTried, IsTried, IsKnown, IsGrown, IsSpent, AreSpent, LeavesBelow, LeavesNoneBelow};
 
 use si_base::ids::{NoMemory, Sig};
 use si_base::text::Name;
@@ -18,6 +18,7 @@ use si_checks::distinct::Distinct;
 use si_checks::proper::Proper;
 use si_conflicts::chains::CodeChains;
 use si_divisor::divisors::divisors;
+use si_divisor::function::{Function, function_of};
 use si_divisor::partition_for::partition_if;
 use si_insert::accept::{Accepted, accept};
 use si_insert::apply::apply;
@@ -26,17 +27,18 @@ use si_insert::partition::Partition;
 use si_match::fit::fit;
 use si_match::weight::weight_below;
 use std::alloc::Global;
+use std::collections::BTreeSet;
 
 /// With what the names of signals begin that are inserted for the gates of others.
 pub(crate) const STEM: &[u8] = b"map";
 
-/// The most accepted partitions that are kept so as not to be tried again.
-const MAX_TRIED: usize = 256;
+/// The most classes of accepted partitions that are kept so as not to be tried again.
+const MAX_TRIED_CLASSES: usize = 1 << 24;
 
 /// The weight that the next divisor has to get below, the partition of the best divisor so far,
 /// and what all divisors have in common: the rings of equal codes and the new signal's name. Many
-/// divisors have one partition, as where pins of a symmetric cell change places; some accepted ones
-/// that leave a conflict or no weight below the bar are kept.
+/// functions have one partition, as where codes at which they differ are no state's; some accepted
+/// ones that leave a conflict or no weight below the bar are kept.
 #[derive(Drop)]
 struct Search {
     bar: u64,
@@ -59,13 +61,14 @@ pub(crate) fn find_best(
         (λ a. (x : Choice) × IsBest (lent_graph graph.entry) library.now x × (x.classes ≡ a))) }
 {
     let mut search = Search::new(alloc, graph.proper(), weight)?;
+    let mut functions = BTreeSet::new(alloc);
     let known = graph.proper().coded().graph();
     for i in 0..known.signals().len() {
         let z = Sig(i as u8);
         if !known.is_driven(z) {
             continue;
         }
-        search.try_signal(alloc, graph, library, z)?;
+        search.try_signal(alloc, graph, library, z, &mut functions)?;
     }
     Ok(search.best)
 }
@@ -85,30 +88,64 @@ impl Search {
         })
     }
 
-    /// Looks at all divisors of the signal, if no cell fits it.
+    /// Looks at all divisors of the signal, if no cell fits it. The functions are those of the
+    /// divisors that were looked at.
     fn try_signal(
         &mut self,
         alloc: Global,
         graph: Distinct<'_>,
         library: &Library,
         z: Sig,
+        functions: &mut BTreeSet<Function>,
     ) -> Result<(), NoMemory>
         requires driven { IsNonInput (lent_graph graph).graph.signals z }
         requires before { IsSearching (lent_graph graph) library.now z 0 self.old }
-        ensures { OnOk result
+        requires spent { AreSpent (lent_graph graph) library.now self.old.bar functions.old }
+        ensures after { OnOk result
             (IsSearching (lent_graph graph.entry) library.now (z + 1) 0 self.new) }
+        ensures spent { OnOk result
+            (AreSpent (lent_graph graph.entry) library.now self.new.bar functions.new) }
     {
         if fit(graph, library, z).is_some() {
             return Ok(());
         }
         let divisors = divisors(alloc, graph, library, z)?;
         for k in 0..divisors.len() {
-            self.try_divisor(alloc, graph.proper(), library, &divisors[k])?;
+            self.try_once(alloc, graph.proper(), library, &divisors[k], functions)?;
         }
         Ok(())
     }
 
-    /// Looks at one divisor. Below the weight 0 there is none.
+    /// Looks at one divisor, unless one was looked at that computes the same function. Below the
+    /// weight 0 there is none.
+    fn try_once(
+        &mut self,
+        alloc: Global,
+        graph: &Proper,
+        library: &Library,
+        divisor: &Instance,
+        functions: &mut BTreeSet<Function>,
+    ) -> Result<(), NoMemory>
+        requires instance { IsInstance library.now divisor.now }
+        requires ready { IsReady graph.now library.now self.old }
+        requires spent { AreSpent graph.now library.now self.old.bar functions.old }
+        ensures tried { OnOk result
+            (HasTried graph.now library.now divisor.now self.old self.new) }
+        ensures spent { OnOk result (AreSpent graph.now library.now self.new.bar functions.new) }
+    {
+        if self.bar == 0 {
+            return Ok(());
+        }
+        let function = function_of(library, divisor);
+        if functions.contains(&function) {
+            return Ok(());
+        }
+        self.try_divisor(alloc, graph, library, divisor)?;
+        functions.insert(function)?;
+        Ok(())
+    }
+
+    /// Looks at one divisor.
     fn try_divisor(
         &mut self,
         alloc: Global,
@@ -118,12 +155,11 @@ impl Search {
     ) -> Result<(), NoMemory>
         requires instance { IsInstance library.now divisor.now }
         requires ready { IsReady graph.now library.now self.old }
-        ensures { OnOk result
+        ensures tried { OnOk result
             (HasTried graph.now library.now divisor.now self.old self.new) }
+        ensures lower { OnOk result (self.new.bar ≤ self.old.bar) }
+        ensures spent { OnOk result (IsSpent graph.now library.now self.new.bar divisor.now) }
     {
-        if self.bar == 0 {
-            return Ok(());
-        }
         let Some(partition) = partition_if(alloc, graph, library, divisor)? else {
             return Ok(());
         };
@@ -162,11 +198,12 @@ impl Search {
         Ok(())
     }
 
-    /// Keeps the partition among those that were tried, as long as these are few.
+    /// Keeps the partition among those that were tried, as long as these have few classes.
     fn keep_tried(&mut self, accepted: Accepted) -> Result<(), NoMemory>
         ensures { OnOk result (IsGrown self.old accepted self.new) }
     {
-        if self.tried.len() < MAX_TRIED {
+        let classes = accepted.partition().classes().len();
+        if self.tried.len() < MAX_TRIED_CLASSES / (classes + 1) {
             self.tried.push(accepted)?;
         }
         Ok(())

@@ -10,8 +10,12 @@ pub loop-i-preserved-then-not-is_driven : goal.loop-i-preserved-then-not-is_driv
 loop-i-preserved-then-not-is_driven c =
     let known = c.graph-known.ensures.same ∙ ap (λ (d : CodedGraph). d.graph)
     (c.coded.ensures.same ∙ c.proper-2.ensures.same) in
-    pass_input_by (lent_graph c.args.graph) c.args.library.now c.loop-i.i c.loop-i.search c.graph-known.result.now
-    c.is_driven.result known c.is_driven.ensures c.if-not-is_driven.true c.loop-i.invariant
+    record {
+      searching = pass_input_by (lent_graph c.args.graph) c.args.library.now c.loop-i.i c.loop-i.search
+          c.graph-known.result.now c.is_driven.result known c.is_driven.ensures c.if-not-is_driven.true
+          c.loop-i.invariant.searching;
+      spent = c.loop-i.invariant.spent;
+    }
 
 pub returns : goal.returns
 returns c =
@@ -22,4 +26,4 @@ returns c =
     let all : c.loop-i.i ≡ length d.graph.signals =
     omega (arith, c.loop-i-test.false, c.loop-i.auto.i-end, count) in
     found d c.args.library.now c.loop-i.search
-    (subst (λ k. IsSearching d c.args.library.now k 0 c.loop-i.search) all c.loop-i.invariant)
+    (subst (λ k. IsSearching d c.args.library.now k 0 c.loop-i.search) all c.loop-i.invariant.searching)

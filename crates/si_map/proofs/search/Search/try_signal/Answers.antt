@@ -1,19 +1,19 @@
 use Rattle.std.proofs.Common.{◌≡◌, ◌<◌, ◌∙◌, length, sym, ap, subst, arith, Option, is_some}
 use Rattle.si_cell.specs.Library.{Instance}
 use Rattle.si_checks.specs.Lent.{lent_graph}
-use Rattle.si_map.specs.Progress.{IsSearching}
+use Rattle.si_map.specs.Progress.{AreSpent, IsSearching}
 use Rattle.si_map.proofs.SearchSignals.{unfit_by, next_divisor, end_signal, pass_fitted}
 use Rattle.si_map.proofs.DivisorFacts.{is_instance}
 use Rattle.si_map.proofs.search.Search.try_signal.Goals as goal
 
-pub returns-then-is_some : goal.returns-then-is_some
-returns-then-is_some c =
+pub returns-then-is_some-clause-after : goal.returns-then-is_some-clause-after
+returns-then-is_some-clause-after c =
     pass_fitted (lent_graph c.args.graph) c.args.library.now c.args.z c.args.self.now
     (ap (λ (o : Option Instance). is_some o) (sym c.fit.ensures) ∙ (sym c.is_some.ensures ∙ c.if-is_some.true))
     c.requires.before
 
-pub try_divisor-requires-clause-instance : goal.try_divisor-requires-clause-instance
-try_divisor-requires-clause-instance c =
+pub try_once-requires-clause-instance : goal.try_once-requires-clause-instance
+try_once-requires-clause-instance c =
     let within : c.loop-k.k < length c.in_ok-divisors.divisors.items =
     omega (arith, c.loop-k-test.true, c.len-k-end.ensures) in
     is_instance (lent_graph c.args.graph) c.args.library.now c.args.z c.loop-k.k c.index.result.now
@@ -26,14 +26,23 @@ loop-k-preserved c =
     omega (arith, c.loop-k-test.true, c.len-k-end.ensures) in
     let unfit = unfit_by d c.args.library.now c.args.z c.requires.driven c.fit.result c.fit.ensures
     (sym c.is_some.ensures ∙ c.if-is_some.false) in
-    next_divisor d c.args.library.now c.proper.result.now c.args.z c.loop-k.k c.index.result.now
-    c.in_ok-divisors.divisors.items c.loop-k.self c.try_divisor.new.self c.proper.ensures.same unfit
-    c.in_ok-divisors.ensures within c.index.ensures c.in_ok-try_divisor.ensures c.loop-k.invariant
+    record {
+      searching = next_divisor d c.args.library.now c.proper.result.now c.args.z c.loop-k.k c.index.result.now
+          c.in_ok-divisors.divisors.items c.loop-k.self c.try_once.new.self c.proper.ensures.same unfit
+          c.in_ok-divisors.ensures within c.index.ensures c.in_ok-try_once.ensures.tried c.loop-k.invariant.searching;
+      spent = subst (λ e. AreSpent e c.args.library.now c.try_once.new.self.bar c.try_once.new.functions)
+          c.proper.ensures.same c.in_ok-try_once.ensures.spent;
+    }
 
-pub returns : goal.returns
-returns c =
+pub returns-clause-after : goal.returns-clause-after
+returns-clause-after c =
     let d = lent_graph c.args.graph in
     let all : c.loop-k.k ≡ length c.in_ok-divisors.divisors.items =
     omega (arith, c.loop-k-test.false, c.loop-k.auto.k-end, c.len-k-end.ensures) in
     end_signal d c.args.library.now c.args.z c.in_ok-divisors.divisors.items c.loop-k.self c.in_ok-divisors.ensures
-    (subst (λ k. IsSearching d c.args.library.now c.args.z k c.loop-k.self) all c.loop-k.invariant)
+    (subst (λ k. IsSearching d c.args.library.now c.args.z k c.loop-k.self) all c.loop-k.invariant.searching)
+
+pub try_once-requires-clause-spent : goal.try_once-requires-clause-spent
+try_once-requires-clause-spent c =
+    subst (λ e. AreSpent e c.args.library.now c.loop-k.self.bar c.loop-k.functions) (sym c.proper.ensures.same)
+    c.loop-k.invariant.spent
