@@ -19,27 +19,29 @@ use si_checks::distinct::Distinct;
 /// literal order, the first pin first. `None` exactly where none fits.
 ///
 /// Each gate of `z` has to read its trigger signals. The search ends below literals at the first
-/// pins that leave too few pins for them, or where a state beside an arc of a trigger refutes every
-/// instance with these literals.
+/// pins that leave too few pins for them, or where a state beside an arc of a trigger, or one that refuted an
+/// earlier instance, refutes every instance with these literals.
 pub fn fit(graph: Distinct<'_>, library: &Library, z: Sig) -> Option<Instance>
     requires { IsNonInput (lent_graph graph).graph.signals z }
     ensures { result ≡ first_fit (lent_graph graph.entry) library.now z }
 {
     let coded = graph.proper().coded();
     let choices = 2 * coded.graph().signals().len();
-    let Triggers { signals, witnesses } = triggers_of(coded, z);
+    let Triggers {
+        signals,
+        mut witnesses,
+    } = triggers_of(coded, z);
     for k in 0..library.cells().len() {
         let k = k as u8;
         let cell = library.cell(k);
         let mut literals = ArrayVec::new();
         let pins = cell.pins.len();
-        let states = witnesses.as_slice();
         if complete(
             coded,
             choices,
             z,
             cell,
-            states,
+            &mut witnesses,
             signals,
             &mut literals,
             pins,

@@ -10,7 +10,7 @@ use si_base::ids::{Code, Sig};
 use si_graph::coded::Coded;
 
 /// The most states that are kept.
-const MAX_WITNESSES: usize = 32;
+pub(crate) const MAX_WITNESSES: usize = 32;
 
 /// The triggers of a signal (the book's trigger signals), and, as far as there is room, for each of
 /// them and each direction the ends of an arc across which the next value changes.

@@ -6,7 +6,10 @@ use Rattle.si_match.proofs.SearchLemmas.{all_cells, found_cell, none_cell, no_ce
 use Rattle.si_match.proofs.fit.fit.Goals as goal
 
 pub loop-k-init : goal.loop-k-init
-loop-k-init c = all_cells c.coded-coded.result.now c.args.z c.args.library.now
+loop-k-init c = record {
+  told = all_cells c.coded-coded.result.now c.args.z c.args.library.now;
+  within = c.triggers_of-signals.ensures.witnesses;
+}
 
 pub complete-requires-clause-signal : goal.complete-requires-clause-signal
 complete-requires-clause-signal c =
@@ -18,6 +21,9 @@ complete-requires-clause-signal c =
 pub complete-requires-clause-width : goal.complete-requires-clause-width
 complete-requires-clause-width c = c.graph.ensures.coded.graph_is.few_signals
 
+pub complete-requires-clause-witnesses : goal.complete-requires-clause-witnesses
+complete-requires-clause-witnesses c = c.loop-k.invariant.within
+
 pub returns-then-complete : goal.returns-then-complete
 returns-then-complete c =
     let within : c.loop-k.k < length c.args.library.now.cells = search rules in
@@ -26,21 +32,23 @@ returns-then-complete c =
     c.cell-cell.result.now
     c.new-literals.result.items c.len-pins.result (c.coded-coded.ensures.same
     ∙ c.proper.ensures.same) within c.cell-cell.ensures.cell
-    c.new-literals.ensures count c.loop-k.invariant c.complete.new.literals.items
+    c.new-literals.ensures count c.loop-k.invariant.told c.complete.new.literals.items
     (c.complete.ensures.found c.if-complete.true)
 
 pub loop-k-preserved : goal.loop-k-preserved
 loop-k-preserved c =
     let within : c.loop-k.k < length c.args.library.now.cells = search rules in
     let count : c.len-pins.result ≡ length c.cell-cell.result.now.pins = search rules in
-    none_cell c.coded-coded.result.now (lent_graph c.args.graph) c.args.z c.args.library.now c.loop-k.k
-    c.cell-cell.result.now
-    c.new-literals.result.items c.len-pins.result (c.coded-coded.ensures.same
-    ∙ c.proper.ensures.same) within c.cell-cell.ensures.cell
-    c.new-literals.ensures count c.loop-k.invariant (c.complete.ensures.none c.if-complete.false)
+    record {
+      told = none_cell c.coded-coded.result.now (lent_graph c.args.graph) c.args.z c.args.library.now c.loop-k.k
+          c.cell-cell.result.now c.new-literals.result.items c.len-pins.result
+          (c.coded-coded.ensures.same ∙ c.proper.ensures.same) within c.cell-cell.ensures.cell c.new-literals.ensures
+          count c.loop-k.invariant.told (c.complete.ensures.none c.if-complete.false);
+      within = c.complete.ensures.witnesses;
+    }
 
 pub returns : goal.returns
 returns c =
     let past : length c.args.library.now.cells ≤ c.loop-k.k = search rules in
     no_cell_left c.coded-coded.result.now (lent_graph c.args.graph) c.args.z c.args.library.now c.loop-k.k
-    (c.coded-coded.ensures.same ∙ c.proper.ensures.same) past c.loop-k.invariant
+    (c.coded-coded.ensures.same ∙ c.proper.ensures.same) past c.loop-k.invariant.told
