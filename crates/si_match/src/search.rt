@@ -32,7 +32,7 @@ fn literal_at(place: usize) -> PinLiteral
 /// Completes the literals at the first pins of the cell by `more` of the `choices` literals of the
 /// graph's signals to the first instance that fits `z`, in literal order, the first of these pins
 /// first. Answers whether there is one; if there is none, the literals are as before. The search
-/// ends where more triggers of `z` are missing at the pins than can come, or where one of the
+/// ends where more signals that the cell needs are missing at the pins than can come, or where one of the
 /// witnesses refutes all completions. States that refute an instance join the witnesses, as far as
 /// there is room.
 pub(crate) fn complete(
@@ -49,11 +49,11 @@ pub(crate) fn complete(
     requires signal { z < length coded.now.graph.signals }
     requires width { length coded.now.graph.signals ≤ code_width }
     requires witnesses { All (λ s. s < coded.now.graph.states) witnesses.old.items }
-    requires missing { AreMissing coded.now z literals.old.items missing }
+    requires missing { AreMissing coded.now z cell.now literals.old.items missing }
     requires choices { choices ≡ 2 * length coded.now.graph.signals }
     requires pins { length literals.old.items + more ≡ length cell.now.pins }
     requires few { length cell.now.pins ≤ max_pins }
-    requires signals { All (λ l. l.sig < code_width) literals.old.items }
+    requires signals { All (λ l. l.sig < length coded.now.graph.signals) literals.old.items }
     ensures found { result ≡ true
         → option_map (λ rest. literals.old.items ++ rest)
         (first_completion coded.now z cell.now literals.old.items more) ≡ Some literals.new.items }

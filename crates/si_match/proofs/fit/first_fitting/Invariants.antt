@@ -1,7 +1,7 @@
 use Rattle.std.proofs.Common.{◌≡◌, ◌<◌, All}
 use Rattle.si_match.specs.Fit.{first_fit}
 use Rattle.si_match.proofs.SearchLemmas.{from_cell}
-use Rattle.si_match.proofs.fit.fit.Given as goal
+use Rattle.si_match.proofs.fit.first_fitting.Given as goal
 
 abbrev pub invariant-loop-k : goal.invariant-loop-k
 invariant-loop-k l = record {
