@@ -95,8 +95,11 @@ module _ (c : CodedGraph) (classes : List Class) (new : Signal) (copies : List C
     -- an instance that fitted it fits it still
     pub fits_still : (f : Instance) → IsOver c library f → Fits c library z f → IsOver d library f × Fits d library z f
     fits_still f over fits = (
-      record { instance = over.instance; signals = λ k l inside. (let small = over.signals k l inside in
-          omega (arith, small, count)) },
+      record {
+        instance = over.instance;
+        signals = λ k l inside. (let small = over.signals k l inside in
+            omega (arith, small, count));
+      },
       λ k within. (
           let (x, at, there) = copy_at c.graph classes new copies h k inserted within in
           let unread : IsUnread n f.literals = λ j l inside same. (let small = over.signals j l inside in

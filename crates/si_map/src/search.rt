@@ -23,11 +23,11 @@ use si_checks::proper::Proper;
 use si_conflicts::chains::CodeChains;
 use si_divisor::divisors::divisors;
 use si_divisor::partition_for::partition_if;
+use si_graph::graph::Graph;
 use si_insert::accept::{Accepted, accept};
 use si_insert::apply::apply;
 use si_insert::fresh::fresh_name;
 use si_insert::partition::{Class, Partition};
-use si_graph::graph::Graph;
 use si_match::fit::fit;
 use si_match::known::KnownFits;
 use si_match::weight::weight_below;
@@ -80,12 +80,7 @@ pub(crate) fn find_best(
 
 impl Search {
     /// The search before all divisors.
-    fn new(
-        alloc: Global,
-        graph: &Proper,
-        weight: u64,
-        fitted: Code,
-    ) -> Result<Search, NoMemory>
+    fn new(alloc: Global, graph: &Proper, weight: u64, fitted: Code) -> Result<Search, NoMemory>
         ensures { IfOk result (λ s. (library : LibraryValue) → weight ≡ weight_of graph.now library
             → AreFitted graph.now library fitted → IsSearching graph.now library 0 0 s) }
     {
