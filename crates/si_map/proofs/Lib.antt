@@ -3,6 +3,9 @@ mod TraceExamples
 pub mod EndLemmas
 pub mod WeightLeft
 pub mod NoneLeft
+pub mod WaitingLemmas
+pub mod KeptFits
+pub mod FittedLemmas
 pub mod DivisorFacts
 pub mod OneBest
 pub mod SearchSteps

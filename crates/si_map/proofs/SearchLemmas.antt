@@ -28,8 +28,8 @@ use Rattle.si_insert.specs.Made.{copies_of}
 use Rattle.si_match.specs.Weight.{weight_of}
 use Rattle.si_map.specs.declared.search.Search.{Search}
 use Rattle.si_map.specs.Best.{Choice, IsDivisorAt, LeavesWeight, Serves}
-use Rattle.si_map.specs.Progress.{IsReady, IsSearching, HasTried, IsPassed, IsKept, IsTried, IsKnown, IsGrown, IsSpent, AreSpent, LeavesBelow}
-use Rattle.si_map.specs.Progress.{LeavesNoneBelow}
+use Rattle.si_map.specs.Progress.{AreFitted, IsReady, IsSearching, HasTried, IsPassed, IsKept, IsTried, IsKnown}
+use Rattle.si_map.specs.Progress.{IsGrown, IsSpent, AreSpent, LeavesBelow, LeavesNoneBelow}
 use Rattle.si_map.proofs.DivisorFacts.{one_divisor}
 use Rattle.si_map.proofs.NoneLeft.{none_left}
 use Rattle.si_map.proofs.SearchSteps.{bar_low, search_skip, search_take}
@@ -162,6 +162,7 @@ module _ (c : CodedGraph) (library : Library) (s : Search) (ready : IsReady c li
       proper = ready.proper;
       chains = subst (AreChains c) (sym is.chains) ready.chains;
       new = subst (λ name. IsTaken c.graph.signals name → ⊥) (sym is.name) ready.new;
+      fitted = subst (AreFitted c library) (sym is.fitted) ready.fitted;
       best_known = subst (λ o. IfSome o (λ p. LeavesNoneBelow c library p t.bar)) (sym is.best)
           (subst (λ low. IfSome s.best (λ p. LeavesNoneBelow c library p low)) (sym is.bar) ready.best_known);
       tried_known = subst (λ low. All (λ p. LeavesNoneBelow c library p low) t.tried.items) (sym is.bar)
@@ -188,7 +189,7 @@ module _ (c : CodedGraph) (library : Library) (s : Search) (ready : IsReady c li
   -- the search with a partition as the best so far
   abbrev with_best : List Class → ℕ → Search → Search
   with_best given n m =
-      record { bar = n; best = Some given; tried = m.tried; chains = m.chains; name = m.name }
+      record { bar = n; best = Some given; tried = m.tried; chains = m.chains; name = m.name; fitted = m.fitted }
 
   taken_best : (n : ℕ) → IsAccepted c.graph classes → LeavesBelow c library classes s.bar n
       → IsTried c library classes s (with_best classes n s)
@@ -198,6 +199,7 @@ module _ (c : CodedGraph) (library : Library) (s : Search) (ready : IsReady c li
       proper = ready.proper;
       chains = ready.chains;
       new = ready.new;
+      fitted = ready.fitted;
       best_known = λ m free leaves. (let same = weight_is_one c library classes n m left.leaves leaves in
           omega (arith, same));
       tried_known = λ k d within. lower c library (get_or s.tried.items k d) n s.bar left.below

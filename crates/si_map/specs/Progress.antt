@@ -1,7 +1,10 @@
 -- What a search for the best divisor keeps.
-use Rattle.std.specs.Prelude.{◌≡◌, ℕ, ◌+◌, ◌<◌, ◌≤◌, ◌⊎◌, List, [], ◌∷◌, ◌++◌, All, Contains, IsTrue, Option, Some, None, IfSome}
+use Rattle.std.specs.Prelude.{◌≡◌, ℕ, ◌+◌, ◌<◌, ◌≤◌, ◌⊎◌, List, [], ◌∷◌, ◌++◌, All, Contains}
+use Rattle.std.specs.Prelude.{IsTrue, Option, Some, None, IfSome, is_some}
 use Rattle.std.specs.BTreeSet.{BTreeSet, contains}
+use Rattle.si_base.specs.Bits.{bit}
 use Rattle.si_base.specs.Codes.{CodedGraph, IsCoded}
+use Rattle.si_base.specs.Graph.{IsNonInput}
 use Rattle.si_base.specs.Proper.{IsProper}
 use Rattle.si_cell.specs.Library.{Library, Instance, instance_value}
 use Rattle.si_conflicts.specs.Chains.{AreChains}
@@ -13,6 +16,7 @@ use Rattle.si_divisor.specs.Targets.{forced_by}
 use Rattle.si_insert.specs.declared.partition.Class.{Class}
 use Rattle.si_insert.specs.Accepted.{IsAccepted}
 use Rattle.si_insert.specs.Fresh.{IsTaken}
+use Rattle.si_match.specs.Fit.{first_fit}
 use Rattle.si_match.specs.Weight.{weight_of}
 use Rattle.si_map.specs.Best.{Choice, IsUnfit, IsDivisorAt, LeavesWeight}
 use Rattle.si_map.specs.Search.{IsBestSoFar, bar}
@@ -47,13 +51,19 @@ AreSpent c library bar functions = (f : Function) (i : Instance)
 
 -- ---- the search
 
+-- the set has those signals that the circuit drives and that some cell fits, and others at will
+abbrev pub AreFitted : CodedGraph → Library → ℕ → Type 0
+AreFitted c library fitted = (z : ℕ) → IsNonInput c.graph.signals z
+    → bit fitted z ≡ is_some (first_fit c library z)
+
 -- what a search has for all divisors: c is a proper graph, the chains are those of its codes, no
--- signal has the name, and what was tried leaves none below the bar
+-- signal has the name, the signals that fit are known, and what was tried leaves none below the bar
 pub record IsReady (c : CodedGraph) (library : Library) (search : Search) : Type 0 where
   pub coded : IsCoded c
   pub proper : IsProper c.graph
   pub chains : AreChains c search.chains
   pub new : IsTaken c.graph.signals search.name → ⊥
+  pub fitted : AreFitted c library search.fitted
   pub best_known : IfSome search.best (λ p. LeavesNoneBelow c library p search.bar)
   pub tried_known : All (λ p. LeavesNoneBelow c library p search.bar) search.tried.items
 
@@ -87,6 +97,7 @@ pub record IsGrown (s : Search) (classes : List Class) (t : Search) : Type 0 whe
   pub best : t.best ≡ s.best
   pub chains : t.chains ≡ s.chains
   pub name : t.name ≡ s.name
+  pub fitted : t.fitted ≡ s.fitted
   pub tried : (t.tried.items ≡ s.tried.items) ⊎ (t.tried.items ≡ s.tried.items ++ classes ∷ [])
 
 -- ---- what becomes of a search with a partition

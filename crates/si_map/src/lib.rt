@@ -6,3 +6,4 @@ pub mod ends;
 pub mod laws;
 pub mod map;
 mod search;
+mod waiting;

@@ -1,16 +1,23 @@
 //! The search for the best divisor, signal after signal and divisor after divisor.
 
-ghost use Rattle.std.specs.Prelude.{◌≡◌, ◌≤◌, ◌↔◌, ◌+◌, IsTrue, IfOk, IfSome, IfNone, OnOk, MatchOption};
+ghost use Rattle.std.specs.Prelude.{◌≡◌, ◌≢◌, ℕ, ◌<◌, ◌≤◌, ◌↔◌, ◌+◌, false, length, IsTrue};
+ghost use Rattle.std.specs.Prelude.{IfOk, IfSome, IfNone, OnOk, MatchOption};
+ghost use Rattle.si_base.specs.Bits.{bit};
+ghost use Rattle.si_base.specs.Limits.{max_signals};
 ghost use Rattle.si_base.specs.Graph.{IsNonInput};
 ghost use Rattle.si_cell.specs.Library.{Library as LibraryValue, IsInstance};
 ghost use Rattle.si_checks.specs.Lent.{lent_graph};
 ghost use Rattle.si_insert.specs.Accepted.{IsAccepted};
 ghost use Rattle.si_insert.specs.Partition.{IsLawful};
 ghost use Rattle.si_match.specs.Weight.{weight_of};
+ghost use Rattle.si_map.specs.Waiting.{NeverWaits};
 ghost use Rattle.si_map.specs.Best.{Choice, IsBest, NoneServes};
-ghost use Rattle.si_map.specs.Progress.{IsReady, IsSearching, HasTried, IsTried, IsKnown, IsGrown, IsSpent, AreSpent, LeavesBelow, LeavesNoneBelow};
+ghost use Rattle.si_map.specs.Progress.{AreFitted, IsReady, IsSearching, HasTried, IsTried};
+ghost use Rattle.si_map.specs.Progress.{IsKnown, IsGrown, IsSpent, AreSpent, LeavesBelow};
+ghost use Rattle.si_map.specs.Progress.{LeavesNoneBelow};
 
-use si_base::ids::{NoMemory, Sig};
+use crate::waiting::waiting_signals;
+use si_base::ids::{Code, NoMemory, Sig};
 use si_base::text::Name;
 use si_cell::cell::Instance;
 use si_cell::library::Library;
@@ -20,11 +27,13 @@ use si_conflicts::chains::CodeChains;
 use si_divisor::divisors::divisors;
 use si_divisor::function::{Function, function_of};
 use si_divisor::partition_for::partition_if;
+use si_graph::graph::Graph;
 use si_insert::accept::{Accepted, accept};
 use si_insert::apply::apply;
 use si_insert::fresh::fresh_name;
-use si_insert::partition::Partition;
+use si_insert::partition::{Class, Partition};
 use si_match::fit::fit;
+use si_match::known::KnownFits;
 use si_match::weight::weight_below;
 use std::alloc::Global;
 use std::collections::BTreeSet;
@@ -46,6 +55,7 @@ struct Search {
     tried: Vec<Accepted>,
     chains: CodeChains,
     name: Name,
+    fitted: Code,
 }
 
 /// The partition for the best divisor of a graph of that weight, if a divisor serves.
@@ -60,7 +70,8 @@ pub(crate) fn find_best(
         (NoneServes (lent_graph graph.entry) library.now)
         (λ a. (x : Choice) × IsBest (lent_graph graph.entry) library.now x × (x.classes ≡ a))) }
 {
-    let mut search = Search::new(alloc, graph.proper(), weight)?;
+    let fitted = fitted_signals(graph, library);
+    let mut search = Search::new(alloc, graph.proper(), weight, fitted)?;
     let mut functions = BTreeSet::new(alloc);
     let known = graph.proper().coded().graph();
     for i in 0..known.signals().len() {
@@ -75,9 +86,9 @@ pub(crate) fn find_best(
 
 impl Search {
     /// The search before all divisors.
-    fn new(alloc: Global, graph: &Proper, weight: u64) -> Result<Search, NoMemory>
+    fn new(alloc: Global, graph: &Proper, weight: u64, fitted: Code) -> Result<Search, NoMemory>
         ensures { IfOk result (λ s. (library : LibraryValue) → weight ≡ weight_of graph.now library
-            → IsSearching graph.now library 0 0 s) }
+            → AreFitted graph.now library fitted → IsSearching graph.now library 0 0 s) }
     {
         Ok(Search {
             bar: weight,
@@ -85,6 +96,7 @@ impl Search {
             tried: Vec::new(alloc),
             chains: CodeChains::new(alloc, graph)?,
             name: fresh_name(alloc, graph.coded().graph(), STEM)?,
+            fitted,
         })
     }
 
@@ -245,8 +257,44 @@ impl Search {
         }
         let inserted = apply(alloc, graph, accepted, &self.name)?;
         let distinct = Distinct::known(&inserted);
-        let weight = weight_below(alloc, distinct, library, self.bar)?;
+        let known = known_fits(graph.coded().graph(), classes, self.fitted);
+        let weight = weight_below(alloc, distinct, library, &known, self.bar)?;
         Ok(weight)
+    }
+}
+
+/// The signals that the circuit drives and that some cell fits.
+fn fitted_signals(graph: Distinct<'_>, library: &Library) -> Code
+    ensures { AreFitted (lent_graph graph.entry) library.now result }
+{
+    let known = graph.proper().coded().graph();
+    let mut fitted = Code(0);
+    for i in 0..known.signals().len() {
+        let z = Sig(i as u8);
+        if !known.is_driven(z) {
+            continue;
+        }
+        fitted = fitted.set(z, fit(graph, library, z).is_some());
+    }
+    fitted
+}
+
+/// What is known of the fits after an insertion, where these signals fitted before: of those that
+/// wait for the new signal, and of that itself, nothing. The others fit as before, and where they
+/// didn't, only an instance that reads the new signal may fit now.
+fn known_fits(graph: &Graph, classes: &[Class], fitted: Code) -> KnownFits
+    requires count { length classes.now ≡ graph.now.states }
+    requires room { length graph.now.signals < max_signals }
+    ensures unknown { (z : ℕ) → bit result.unknown z ≡ false
+        → NeverWaits graph.now classes.now z × (z ≢ length graph.now.signals) }
+    ensures fitted { result.fitted ≡ fitted }
+    ensures read { result.read ≡ length graph.now.signals }
+{
+    let new = Sig(graph.signals().len() as u8);
+    KnownFits {
+        unknown: waiting_signals(graph, classes).set(new, true),
+        fitted,
+        read: new,
     }
 }
 

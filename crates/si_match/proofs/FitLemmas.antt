@@ -196,7 +196,7 @@ instance_over c library i width here =
 
 -- ---- what the test tells
 module _ (c : CodedGraph) (library : Library) (z : ℕ) (i : Instance) (coded : IsCoded c) where
-  tells : fits c z (cell_at library i.cell) i.literals ≡ true → Fits c library z i
+  pub tells : fits c z (cell_at library i.cell) i.literals ≡ true → Fits c library z i
   tells all s within =
       let inside : s < length c.codes = omega (arith, within, coded.count) in
       let here = AllPass-from_list_all (suits c z (cell_at library i.cell) i.literals) (states_of c) all s

@@ -6,3 +6,4 @@ pub mod CodeLemmas
 pub mod WeightLemmas
 pub mod FitLemmas
 pub mod SupportLemmas
+pub mod KnownLemmas

@@ -1,5 +1,5 @@
 -- The first of many instances.
-use Rattle.std.proofs.Common.{◌≡◌, ℕ, zero, suc, ◌+◌, ◌-◌, ◌*◌, ◌/◌, ◌%◌, ◌<◌, ◌≤◌, ◌==◌, Bool, true, false, List, [], ◌∷◌, ◌++◌, length, map, take, drop, get_or, if◌then◌else◌, option_map, Option, Some, None, All, refl, sym, ap, ◌∙◌, arith, inl, inr, append_assoc, add-one}
+use Rattle.std.proofs.Common.{◌≡◌, ℕ, zero, suc, ◌+◌, ◌-◌, ◌*◌, ◌/◌, ◌%◌, ◌<◌, ◌≤◌, ◌==◌, Bool, true, false, List, [], ◌∷◌, ◌++◌, length, map, take, drop, get_or, if◌then◌else◌, option_map, Option, Some, None, All, refl, sym, ap, subst, ◌∙◌, arith, inl, inr, append_assoc, add-one}
 use Rattle.std.specs.Prelude.{flat_map}
 use Rattle.std.specs.List.{enumerate_from}
 use Rattle.std.proofs.Math.Seq.{drop-cons}
@@ -9,6 +9,7 @@ use Rattle.std.proofs.lemmas.List.Concat.{flat_map-cons}
 use Rattle.std.proofs.lemmas.List.Elements.{All-nil, All-cons, All-append, All-map}
 use Rattle.std.proofs.lemmas.List.FromFn.{length-enumerate_from, get_or-enumerate_from}
 use Rattle.si_base.specs.Codes.{CodedGraph}
+use Rattle.si_base.specs.Limits.{code_width}
 use Rattle.si_base.specs.declared.ids.Literal.{Literal}
 use Rattle.si_cell.specs.Library.{Cell, Library, Instance, cell_at, no_cell}
 use Rattle.si_cell.specs.Literals.{both_from}
@@ -70,6 +71,13 @@ literal_of_place n place d within =
     let e : 0 + place / 2 ≡ place / 2 = omega arith in
     literal_from n 0 place d within ∙ ap (λ (k : ℕ). record { sig = k; plain = place % 2 == 0 }) e
 
+-- literals of the graph's signals are literals of code bits
+pub within_width : (n : ℕ) (literals slice : List Literal) → slice ≡ literals → n ≤ code_width
+    → All (λ (l : Literal). l.sig < n) literals → All (λ (l : Literal). l.sig < code_width) slice
+within_width n literals slice same width inside =
+    subst (λ (ls : List Literal). All (λ (l : Literal). l.sig < code_width) ls) (sym same)
+    (λ k d within. (let small = inside k d within in omega (arith, small, width)))
+
 -- ---- completions
 module _ (c : CodedGraph) (z : ℕ) (cell : Cell) where
   abbrev all_literals : List Literal
@@ -96,10 +104,34 @@ module _ (c : CodedGraph) (z : ℕ) (cell : Cell) where
           (All-map (λ (xs : List Literal). length xs ≡ suc more) (λ xs. l ∷ xs) (lists_of more literals)
           (λ k d inside. ap suc (shorter k d inside))) (by_literal ls shorter))
 
+  -- each of these literals is of a signal of the graph
+  abbrev Inside : List Literal → Type 0
+  Inside ls = All (λ (l : Literal). l.sig < length c.graph.signals) ls
+
+  all_inside : Inside all_literals
+  all_inside k d within =
+      let place : k < 2 * length c.graph.signals = rw literals_count at within in
+      let same = ap (λ (l : Literal). l.sig) (literal_of_place (length c.graph.signals) k d place) in
+      omega (arith, place, same)
+
+  insides : (more : ℕ) → All Inside (lists_of more all_literals)
+  insides zero = All-cons Inside [] [] (All-nil (λ (l : Literal). l.sig < length c.graph.signals)) (All-nil Inside)
+  insides (suc more) = by_literal all_literals all_inside (insides more)
+    where
+      by_literal : (ls : List Literal) → Inside ls → All Inside (lists_of more all_literals)
+          → All Inside (flat_map (with_next more) ls)
+      by_literal [] small shorter = All-nil Inside
+      by_literal (l ∷ ls) small shorter = rw flat_map-cons (All-append Inside _ _
+          (All-map Inside (λ xs. l ∷ xs) (lists_of more all_literals)
+          (λ k d inside. All-cons (λ (m : Literal). m.sig < length c.graph.signals) l _ (small 0 l (omega arith))
+          (shorter k d inside)))
+          (by_literal ls (λ k d inside. small (suc k) d (omega (arith, inside))) shorter))
+
   pub refuted : (literals : List Literal) (more : ℕ) → IsRefuted c z cell literals more
       → first_completion c z cell literals more ≡ None
   refuted literals more none = first_none (λ rest. fits c z cell (literals ++ rest)) (lists_of more all_literals)
-      (λ k d inside. none (get_or (lists_of more all_literals) k d) (lengths more all_literals k d inside))
+      (λ k d inside. none (get_or (lists_of more all_literals) k d) (lengths more all_literals k d inside)
+      (insides more k d inside))
 
   -- the completions by the literals from a place on
   abbrev pub from_place : List Literal → ℕ → ℕ → Option (List Literal)

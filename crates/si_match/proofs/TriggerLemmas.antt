@@ -4,7 +4,7 @@ use Rattle.std.proofs.Common.{refl, sym, ap, ap₂, subst, ◌∙◌, arith, inl
 use Rattle.std.specs.List.{list_all, AllByRecursion}
 use Rattle.std.proofs.lemmas.Bool.{cases_Bool, true≢false}
 use Rattle.std.proofs.lemmas.Bool.Decides.{eqb_tells}
-use Rattle.std.proofs.lemmas.List.{append-nil}
+use Rattle.std.proofs.lemmas.List.{append-nil, length_push}
 use Rattle.std.proofs.lemmas.Nat.Bits.{bit_at-zero}
 use Rattle.std.proofs.lemmas.List.Elements.{recursion_from_All, All-nil, All-push}
 use Rattle.si_base.proofs.BitFacts.{flip-same, flip-other}
@@ -18,13 +18,13 @@ use Rattle.si_base.specs.declared.ids.Literal.{Literal}
 use Rattle.si_cell.specs.Library.{Cell, code_of, pin_values}
 use Rattle.si_match.specs.Fit.{suits, fits, states_of}
 use Rattle.si_match.specs.Search.{IsRefuted, first_completion}
-use Rattle.si_match.specs.Triggers.{IsTrigger, IsUnread, AreMissing}
+use Rattle.si_match.specs.Triggers.{IsTrigger, IsUnread, IsNeeded, AreMissing, AreTriggers}
 use Rattle.si_match.specs.Weight.{size_from}
 use Rattle.si_match.proofs.SearchLemmas.{refuted}
 use Rattle.si_match.proofs.StateLemmas.{one_fails}
 
 -- ---- a trigger that isn't read
-same_values : (k m i : ℕ) → ((j : ℕ) → j ≢ i → bit m j ≡ bit k j) → (literals : List Literal)
+pub same_values : (k m i : ℕ) → ((j : ℕ) → j ≢ i → bit m j ≡ bit k j) → (literals : List Literal)
     → AllByRecursion (λ (l : Literal). l.sig ≢ i) literals
     → map (literal_value m) literals ≡ map (literal_value k) literals
 same_values k m i agree [] unread = refl
@@ -73,6 +73,16 @@ module _ (c : CodedGraph) (z : ℕ) (cell : Cell) (is : IsCoded c) where
 
       at_to : fits c z cell literals ≡ true → value t.to ≡ next_value c t.to z
       at_to = at t.to to_within
+
+-- no cell fits without its triggers
+pub trigger_needed : (c : CodedGraph) (z : ℕ) (cell : Cell) (i : ℕ) → IsCoded c → IsTrigger c z i
+    → IsNeeded c z cell i
+trigger_needed c z cell i is trigger literals count inside unread = unread_unfit c z cell is i literals trigger unread
+
+pub all_needed : (c : CodedGraph) (z : ℕ) (cell : Cell) (signals : ℕ) → IsCoded c → AreTriggers c z signals
+    → AreMissing c z cell [] signals
+all_needed c z cell signals is are i set =
+    (trigger_needed c z cell i is (are i set), All-nil (λ (l : Literal). l.sig ≢ i))
 
 -- ---- sizes of sets
 size_same : (n i k m : ℕ) → ((j : ℕ) → i ≤ j → bit m j ≡ bit k j) → size_from n i m ≡ size_from n i k
@@ -125,46 +135,54 @@ without_others k j i other = elim (cases_Bool (bit k j)) [
 ]
 
 -- with one more literal the signal of that isn't missing
-pub missing_next : (c : CodedGraph) (z : ℕ) (literals : List Literal) (l : Literal) (missing next : ℕ)
+pub missing_next : (c : CodedGraph) (z : ℕ) (cell : Cell) (literals : List Literal) (l : Literal) (missing next : ℕ)
     → bit next l.sig ≡ false → ((i : ℕ) → i ≢ l.sig → bit next i ≡ bit missing i)
-    → AreMissing c z literals missing → AreMissing c z (literals ++ l ∷ []) next
-missing_next c z literals l missing next clear others are i set =
+    → AreMissing c z cell literals missing → AreMissing c z cell (literals ++ l ∷ []) next
+missing_next c z cell literals l missing next clear others are i set =
     let Unread : Literal → Type 0 = λ m. m.sig ≢ i in
     let other : i ≢ l.sig = λ e. true≢false (sym set ∙ ap (bit next) e ∙ clear) in
     let before = are i (sym (others i other) ∙ set) in
     (before.0, All-push Unread literals l before.1 (λ e. other (sym e)))
 
-pub missing_refutes : (c : CodedGraph) (z : ℕ) (cell : Cell) → IsCoded c → (n more : ℕ) (literals : List Literal)
-    (missing : ℕ) → AreMissing c z literals missing → more < size_from n 0 missing
+pub missing_refutes : (c : CodedGraph) (z : ℕ) (cell : Cell) → (n more : ℕ) (literals : List Literal)
+    (missing : ℕ) → AreMissing c z cell literals missing → length literals + more ≡ length cell.pins
+    → All (λ l. l.sig < length c.graph.signals) literals → more < size_from n 0 missing
     → IsRefuted c z cell literals more
-missing_refutes c z cell is n zero literals missing are many [] count =
+missing_refutes c z cell n zero literals missing are pins inside many [] count rest_inside =
     let some = some_bit n 0 missing many in
-    let trigger = are some.0 some.1 in
-    ap (fits c z cell) (append-nil literals) ∙ unread_unfit c z cell is some.0 literals trigger.0 trigger.1
-missing_refutes c z cell is n zero literals missing are many (l ∷ rest) count = absurd (omega (arith, count))
-missing_refutes c z cell is n (suc more) literals missing are many [] count = absurd (omega (arith, count))
-missing_refutes c z cell is n (suc more) literals missing are many (l ∷ rest) count =
+    let needed = are some.0 some.1 in
+    ap (fits c z cell) (append-nil literals) ∙ needed.0 literals (omega (arith, pins)) inside needed.1
+missing_refutes c z cell n zero literals missing are pins inside many (l ∷ rest) count rest_inside =
+    absurd (omega (arith, count))
+missing_refutes c z cell n (suc more) literals missing are pins inside many [] count rest_inside =
+    absurd (omega (arith, count))
+missing_refutes c z cell n (suc more) literals missing are pins inside many (l ∷ rest) count rest_inside =
+    let Small : Literal → Type 0 = λ m. m.sig < length c.graph.signals in
     let next = without missing l.sig in
     let others : (i : ℕ) → i ≢ l.sig → bit next i ≡ bit missing i = without_others missing l.sig in
     let drop = size_drop n 0 missing next l.sig others in
-    let after = missing_next c z literals l missing next (without_there missing l.sig) others are in
+    let after = missing_next c z cell literals l missing next (without_there missing l.sig) others are in
+    let more_pins : length (literals ++ l ∷ []) + more ≡ length cell.pins = rw length_push (omega (arith, pins)) in
+    let more_inside = All-push Small literals l inside (rest_inside 0 l (omega arith)) in
     ap (fits c z cell) (sym (append_assoc literals (l ∷ []) rest))
-    ∙ missing_refutes c z cell is n more (literals ++ l ∷ []) next after (omega (arith, many, drop)) rest
-    (omega (arith, count))
+    ∙ missing_refutes c z cell n more (literals ++ l ∷ []) next after more_pins more_inside
+    (omega (arith, many, drop)) rest (omega (arith, count))
+    (λ k d within. rest_inside (suc k) d (omega (arith, within)))
 
-pub missing_now : (c : CodedGraph) (z : ℕ) (cell : Cell) (literals : List Literal) (more missing size : ℕ) → IsCoded c
-    → AreMissing c z literals missing → size ≡ size_from (length c.graph.signals) 0 missing → more < size
-    → first_completion c z cell literals more ≡ None
-missing_now c z cell literals more missing size is are size_is many =
-    refuted c z cell literals more (missing_refutes c z cell is (length c.graph.signals) more literals missing are
-    (omega (arith, many, size_is)))
+pub missing_now : (c : CodedGraph) (z : ℕ) (cell : Cell) (literals : List Literal) (more missing size : ℕ)
+    → AreMissing c z cell literals missing → length literals + more ≡ length cell.pins
+    → All (λ l. l.sig < length c.graph.signals) literals → size ≡ size_from (length c.graph.signals) 0 missing
+    → more < size → first_completion c z cell literals more ≡ None
+missing_now c z cell literals more missing size are pins inside size_is many =
+    refuted c z cell literals more (missing_refutes c z cell (length c.graph.signals) more literals missing are pins
+    inside (omega (arith, many, size_is)))
 
 -- ---- the triggers that are found
 bit_zero : (i : ℕ) → bit 0 i ≡ false
 bit_zero i = rw bit_at-zero refl
 
-pub none_missing : (c : CodedGraph) (z : ℕ) → AreMissing c z [] 0
-none_missing c z i set = absurd (true≢false (sym set ∙ bit_zero i))
+pub no_trigger : (c : CodedGraph) (z : ℕ) → AreTriggers c z 0
+no_trigger c z i set = absurd (true≢false (sym set ∙ bit_zero i))
 
 pub arc_trigger : (c : CodedGraph) (z : ℕ) (a : Edge) → Contains c.graph.edges a → a.event.sig ≢ z
     → next_value c a.to z ≢ next_value c a.from z → IsTrigger c z a.event.sig
@@ -179,8 +197,8 @@ arc_trigger c z a there other changes = record {
 }
 
 pub one_more_trigger : (c : CodedGraph) (z i k next : ℕ) → IsTrigger c z i → IsSet k i true next
-    → AreMissing c z [] k → AreMissing c z [] next
+    → AreTriggers c z k → AreTriggers c z next
 one_more_trigger c z i k next trigger set are j there = elim (eqb_tells j i) [
-  | inl same ↦ (subst (IsTrigger c z) (sym same.1) trigger, All-nil (λ (l : Literal). l.sig ≢ j))
+  | inl same ↦ subst (IsTrigger c z) (sym same.1) trigger
   | inr other ↦ are j (sym (set.others j other.1) ∙ there)
 ]

@@ -4,3 +4,4 @@ pub mod Triggers
 pub mod Codes
 pub mod Support
 pub mod Weight
+pub mod Known

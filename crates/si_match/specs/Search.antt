@@ -1,5 +1,5 @@
 -- The search for literals, pin after pin.
-use Rattle.std.specs.Prelude.{◌≡◌, ℕ, ◌<◌, ◌≤◌, ◌++◌, false, List, Option, length}
+use Rattle.std.specs.Prelude.{◌≡◌, ℕ, ◌<◌, ◌≤◌, ◌++◌, false, List, Option, length, All}
 use Rattle.si_base.specs.Bits.{bit}
 use Rattle.si_base.specs.Codes.{CodedGraph}
 use Rattle.si_base.specs.declared.ids.Literal.{Literal}
@@ -17,10 +17,11 @@ abbrev pub IsRefutedAt : CodedGraph → ℕ → Cell → List Literal → ℕ �
 IsRefutedAt c z cell literals more s =
     (rest : List Literal) → length rest ≡ more → suits c z cell (literals ++ rest) s ≡ false
 
--- no completion by so many more fits z
+-- no completion by so many more literals of the graph's signals fits z
 abbrev pub IsRefuted : CodedGraph → ℕ → Cell → List Literal → ℕ → Type 0
 IsRefuted c z cell literals more =
-    (rest : List Literal) → length rest ≡ more → fits c z cell (literals ++ rest) ≡ false
+    (rest : List Literal) → length rest ≡ more → All (λ l. l.sig < length c.graph.signals) rest
+    → fits c z cell (literals ++ rest) ≡ false
 
 -- the codes have the same value for each signal, but for those from the first of these on, up to
 -- the second

@@ -3,6 +3,7 @@
 
 mod codes;
 pub mod fit;
+pub mod known;
 pub mod laws;
 mod refute;
 mod search;

@@ -1,8 +1,8 @@
 //! The trigger signals of a signal, and states that refute most gates for it.
 
-ghost use Rattle.std.specs.Prelude.{◌≢◌, ℕ, ◌<◌, ◌↔◌, All, IsTrue, length, []};
-ghost use Rattle.si_base.specs.Codes.{next_value};
-ghost use Rattle.si_match.specs.Triggers.{AreMissing};
+ghost use Rattle.std.specs.Prelude.{◌≢◌, ℕ, ◌<◌, ◌↔◌, All, IsTrue, length};
+ghost use Rattle.si_base.specs.Codes.{IsCoded, next_value};
+ghost use Rattle.si_match.specs.Triggers.{AreTriggers};
 
 use arrayvec::ArrayVec;
 use si_base::graph::Edge;
@@ -10,7 +10,7 @@ use si_base::ids::{Code, Sig};
 use si_graph::coded::Coded;
 
 /// The most states that are kept.
-const MAX_WITNESSES: usize = 32;
+pub(crate) const MAX_WITNESSES: usize = 32;
 
 /// The triggers of a signal (the book's trigger signals), and, as far as there is room, for each of
 /// them and each direction the ends of an arc across which the next value changes.
@@ -44,7 +44,8 @@ fn add_ends(states: &mut ArrayVec<u32, MAX_WITNESSES>, a: &Edge)
 /// The triggers of `z`, and states beside their arcs.
 pub(crate) fn triggers_of(coded: &Coded, z: Sig) -> Triggers
     requires { z < length coded.now.graph.signals }
-    ensures triggers { AreMissing coded.now z [] result.signals }
+    ensures coded { IsCoded coded.now }
+    ensures triggers { AreTriggers coded.now z result.signals }
     ensures witnesses { All (λ s. s < coded.now.graph.states) result.witnesses.items }
 {
     let mut signals = Code(0);

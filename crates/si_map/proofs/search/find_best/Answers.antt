@@ -1,10 +1,20 @@
 use Rattle.std.proofs.Common.{◌≡◌, ◌∙◌, length, ap, subst, arith}
 use Rattle.si_base.specs.Graph.{StateGraph}
 use Rattle.si_base.specs.Codes.{CodedGraph}
+use Rattle.si_cell.specs.Library.{Library}
+use Rattle.si_match.specs.Weight.{weight_of}
 use Rattle.si_checks.specs.Lent.{lent_graph}
-use Rattle.si_map.specs.Progress.{IsSearching}
+use Rattle.si_map.specs.Progress.{AreFitted, IsSearching}
 use Rattle.si_map.proofs.SearchSignals.{found, pass_input_by}
 use Rattle.si_map.proofs.search.find_best.Goals as goal
+
+pub loop-i-init : goal.loop-i-init
+loop-i-init c =
+    let Starts : CodedGraph → Type 0 =
+    λ d. (library : Library) → c.args.weight ≡ weight_of d library → AreFitted d library c.fitted_signals-fitted.result
+    → IsSearching d library 0 0 c.in_ok-search.search in
+    let starts : Starts (lent_graph c.args.graph) = subst Starts c.proper.ensures.same c.in_ok-search.ensures in
+    starts c.args.library.now c.requires c.fitted_signals-fitted.ensures
 
 pub loop-i-preserved-then-not-is_driven : goal.loop-i-preserved-then-not-is_driven
 loop-i-preserved-then-not-is_driven c =

@@ -1,17 +1,21 @@
-use Rattle.std.proofs.Common.{◌≡◌, ℕ, ◌++◌, ◌-◌, ◌/◌, ◌∙◌, ap, arith, length, rules, refl, subst, sym, List, [], ◌∷◌}
+use Rattle.std.proofs.Common.{◌≡◌, ℕ, ◌<◌, ◌==◌, ◌+◌, ◌++◌, ◌-◌, ◌/◌, ◌%◌, ◌∙◌, ap, arith, false, length, rules, refl, subst, sym, List, [], ◌∷◌}
+use Rattle.std.proofs.lemmas.List.{length_push}
+use Rattle.std.proofs.lemmas.List.Elements.{All-push}
+use Rattle.si_base.specs.Bits.{bit}
 use Rattle.si_base.specs.declared.ids.Literal.{Literal}
 use Rattle.si_match.specs.Triggers.{AreMissing}
 use Rattle.si_match.specs.Weight.{size_from}
 use Rattle.si_match.proofs.TriggerLemmas.{missing_next, missing_now}
-use Rattle.si_match.proofs.SearchLemmas.{refuted_now, starts, found_now, none_now, done_now, popped}
+use Rattle.si_match.proofs.SearchLemmas.{within_width, refuted_now, starts, found_now, none_now, done_now, popped}
 use Rattle.si_match.proofs.search.+complete.Goals as goal
 
-pub returns-then-size-more-clause-none : goal.returns-then-size-more-clause-none
-returns-then-size-more-clause-none t c = λ _. (
+pub returns-then-most-more-clause-none : goal.returns-then-most-more-clause-none
+returns-then-most-more-clause-none t c = λ _. (
     let half : c.args.choices / 2 ≡ length c.args.coded.now.graph.signals = omega (arith, c.requires.choices) in
-    let Size : ℕ → Type 0 = λ n. c.size.result ≡ size_from n 0 c.args.missing in
+    let Size : ℕ → Type 0 = λ n. c.size-most.result ≡ size_from n 0 c.args.missing in
     missing_now c.args.coded.now c.args.z c.args.cell.now c.args.literals.now.items c.args.more c.args.missing
-    c.size.result c.requires.coded c.requires.missing (subst Size half c.size.ensures.size) c.if-size-more.true)
+    c.size-most.result c.requires.missing c.requires.pins c.requires.signals (subst Size half c.size-most.ensures.size)
+    c.if-most-more.true)
 
 pub returns-then-is_refuted-clause-none : goal.returns-then-is_refuted-clause-none
 returns-then-is_refuted-clause-none t c = λ _. (
@@ -19,11 +23,46 @@ returns-then-is_refuted-clause-none t c = λ _. (
     c.as_slice.ensures.value
     c.requires.pins (c.is_refuted.ensures c.if-is_refuted.true))
 
+pub is_refuted-requires-clause-signals : goal.is_refuted-requires-clause-signals
+is_refuted-requires-clause-signals t c = within_width (length c.args.coded.now.graph.signals)
+    c.args.literals.now.items c.as_slice.result.now c.as_slice.ensures.value c.requires.width c.requires.signals
+
+pub fits-requires-clause-signals : goal.fits-requires-clause-signals
+fits-requires-clause-signals t c = within_width (length c.args.coded.now.graph.signals) c.args.literals.now.items
+    c.as_slice-then-more-eq0.result.now c.as_slice-then-more-eq0.ensures.value c.requires.width c.requires.signals
+
 pub loop-place-init : goal.loop-place-init
 loop-place-init t c = record {
   told = starts c.args.coded.now c.args.z c.args.cell.now c.args.literals.now.items c.args.more c.if-more-eq0.false;
   kept = search rules;
+  within = c.requires.witnesses;
 }
+
+pub loop-place-preserved-then-not-get : goal.loop-place-preserved-then-not-get
+loop-place-preserved-then-not-get t c =
+    let coded = c.args.coded.now in
+    let literals = c.args.literals.now.items in
+    let l : Literal = record { sig = c.loop-place.place / 2; plain = c.loop-place.place % 2 == 0 } in
+    let half : c.args.choices / 2 ≡ length coded.graph.signals = omega (arith, c.requires.choices) in
+    let Size : ℕ → Type 0 = λ n. c.size-most.result ≡ size_from n 0 c.args.missing in
+    let clear : bit c.args.missing l.sig ≡ false = sym c.get.ensures ∙ c.if-not-get.true in
+    let still = missing_next coded c.args.z c.args.cell.now literals l c.args.missing c.args.missing clear (λ i other. refl)
+    c.requires.missing in
+    let fewer : c.args.more - 1 < c.size-most.result = omega (arith, c.if-only_missing.true, c.if-more-eq0.false) in
+    let pins : length (literals ++ l ∷ []) + (c.args.more - 1) ≡ length c.args.cell.now.pins =
+    rw length_push (omega (arith, c.requires.pins, c.if-more-eq0.false)) in
+    let place : c.loop-place.place / 2 < length coded.graph.signals =
+    omega (arith, c.loop-place-test.true, c.requires.choices) in
+    let signals = All-push (λ (m : Literal). m.sig < length coded.graph.signals) literals l c.requires.signals place in
+    let none = missing_now coded c.args.z c.args.cell.now (literals ++ l ∷ []) (c.args.more - 1) c.args.missing
+    c.size-most.result still pins signals (subst Size half c.size-most.ensures.size) fewer in
+    record {
+      told = none_now coded c.args.z c.args.cell.now literals (c.args.more - 1) c.loop-place.place
+          (length coded.graph.signals) l (literals ++ l ∷ []) refl
+          (omega (arith, c.loop-place-test.true, c.requires.choices)) refl refl _ c.loop-place.invariant.told none;
+      kept = c.loop-place.invariant.kept;
+      within = c.loop-place.invariant.within;
+    }
 
 pub returns-then-complete-clause-found : goal.returns-then-complete-clause-found
 returns-then-complete-clause-found t c =
@@ -47,6 +86,7 @@ loop-place-preserved t c =
           _ c.loop-place.invariant.told (c.complete.ensures.none c.if-complete.false);
       kept = popped c.args.literals.now.items c.complete.new.literals.items c.pop.new.self.items c.literal_at.result
           (c.complete.ensures.kept c.if-complete.false ∙ pushed) c.pop.ensures.rest;
+      within = c.complete.ensures.witnesses;
     }
 
 pub returns-clause-none : goal.returns-clause-none

@@ -1,4 +1,4 @@
-use Rattle.std.proofs.Common.{◌≡◌, ◌-◌}
+use Rattle.std.proofs.Common.{◌≡◌, ◌<◌, ◌-◌, All}
 use Rattle.si_match.specs.Search.{first_completion}
 use Rattle.si_match.proofs.SearchLemmas.{from_place}
 use Rattle.si_match.proofs.search.+complete.Given as goal
@@ -11,4 +11,5 @@ invariant-loop-place l = record {
   told : from_place l.coded l.z l.cell l.fn.literals.items (l.more - 1) l.place
       ≡ first_completion l.coded l.z l.cell l.fn.literals.items l.more;
   kept : l.literals.items ≡ l.fn.literals.items;
+  within : All (λ s. s < l.coded.graph.states) l.witnesses.items;
 }

@@ -3,8 +3,8 @@ use Rattle.si_match.specs.Fit.{suits}
 use Rattle.si_match.proofs.StateLemmas.{one_more, one_fails, all_states}
 use Rattle.si_match.proofs.state.fits.Goals as goal
 
-pub returns-then-not-suits : goal.returns-then-not-suits
-returns-then-not-suits c =
+pub returns-in-loop-s-clause-fits : goal.returns-in-loop-s-clause-fits
+returns-in-loop-s-clause-fits c =
     let within : c.loop-s.s < length c.args.coded.now.codes = omega (
       arith,
       c.loop-s-test.true,
@@ -15,7 +15,7 @@ returns-then-not-suits c =
     ) in
     sym (one_fails c.args.coded.now (suits c.args.coded.now c.args.z c.args.cell.now c.args.literals.now) c.loop-s.s
     within
-    (sym c.suits.ensures ∙ c.if-not-suits.true))
+    (sym c.suits.ensures ∙ c.if-suits.false))
 
 pub loop-s-preserved : goal.loop-s-preserved
 loop-s-preserved c =
@@ -27,12 +27,14 @@ loop-s-preserved c =
       ap
           (λ g. g.states) c.graph.ensures.same,
     ) in
-    one_more c.args.coded.now (suits c.args.coded.now c.args.z c.args.cell.now c.args.literals.now) c.loop-s.s within
-    c.loop-s.invariant
-    (sym c.suits.ensures ∙ c.if-not-suits.false)
+    record {
+      told = one_more c.args.coded.now (suits c.args.coded.now c.args.z c.args.cell.now c.args.literals.now) c.loop-s.s
+          within c.loop-s.invariant.told (sym c.suits.ensures ∙ c.if-suits.true);
+      within = c.loop-s.invariant.within;
+    }
 
-pub returns : goal.returns
-returns c =
+pub returns-clause-fits : goal.returns-clause-fits
+returns-clause-fits c =
     let past : length c.args.coded.now.codes ≤ c.loop-s.s = omega (
       arith,
       c.loop-s-test.false,
@@ -42,4 +44,4 @@ returns c =
           (λ g. g.states) c.graph.ensures.same,
     ) in
     sym (all_states c.args.coded.now (suits c.args.coded.now c.args.z c.args.cell.now c.args.literals.now) c.loop-s.s
-    past c.loop-s.invariant)
+    past c.loop-s.invariant.told)

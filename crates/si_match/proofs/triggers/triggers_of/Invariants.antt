@@ -1,9 +1,9 @@
-use Rattle.std.proofs.Common.{◌≤◌, ◌<◌, [], length, All}
-use Rattle.si_match.specs.Triggers.{AreMissing}
+use Rattle.std.proofs.Common.{◌≤◌, ◌<◌, length, All}
+use Rattle.si_match.specs.Triggers.{AreTriggers}
 use Rattle.si_match.proofs.triggers.triggers_of.Given as goal
 
 abbrev pub invariant-loop-a : goal.invariant-loop-a
 invariant-loop-a l = record {
-  triggers : AreMissing l.coded l.z [] l.signals;
+  triggers : AreTriggers l.coded l.z l.signals;
   within : All (λ s. s < l.coded.graph.states) l.witnesses.items;
 }

@@ -11,8 +11,8 @@ loop-k-init c = record {
   few = omega arith;
 }
 
-pub weight_of_signal-requires : goal.weight_of_signal-requires
-weight_of_signal-requires c =
+pub weight_if_known-requires-clause-driven : goal.weight_if_known-requires-clause-driven
+weight_if_known-requires-clause-driven c =
     let same : c.signals-signals.result.now ≡ (lent_graph c.args.graph).graph.signals = search rules in
     is_non_input (lent_graph c.args.graph).graph.signals c.signals-signals.result.now c.loop-k.k
     c.index-signals-k.result c.is_driven.result same

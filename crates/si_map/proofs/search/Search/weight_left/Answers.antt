@@ -1,4 +1,6 @@
-use Rattle.std.proofs.Common.{◌∙◌}
+use Rattle.std.proofs.Common.{◌∙◌, ap}
+use Rattle.si_base.specs.Codes.{CodedGraph}
+use Rattle.si_map.proofs.KeptFits.{kept_known}
 use Rattle.si_map.proofs.SearchLemmas.{below_left, conflict_left, free_left, inserted_free, none_below_left}
 use Rattle.si_map.proofs.search.Search.weight_left.Goals as goal
 
@@ -30,3 +32,13 @@ returns-clause-none c =
     none_below_left c.args.graph.now c.args.library.now c.args.accepted.now c.args.self.now.name
     c.in_ok-inserted.inserted _ c.in_ok-inserted.ensures c.known-distinct.ensures c.in_ok-weight.weight
     c.args.self.now.bar c.in_ok-weight.ensures.none
+
+pub weight_below-requires-clause-known : goal.weight_below-requires-clause-known
+weight_below-requires-clause-known c =
+    let given = c.classes-classes.ensures ∙ c.partition.ensures in
+    let graph = c.graph.ensures.same ∙ ap (λ (d : CodedGraph). d.graph) c.coded.ensures.same in
+    kept_known c.args.graph.now c.args.library.now c.args.accepted.now c.args.self.now.name c.in_ok-inserted.inserted
+    c.requires.ready.coded c.requires.accepted.lawful c.in_ok-inserted.ensures c.args.self.now.fitted
+    c.requires.ready.fitted _ c.known-distinct.ensures c.graph.result.now c.classes-classes.result.now graph given
+    c.known_fits-known.result c.known_fits-known.ensures.unknown c.known_fits-known.ensures.fitted
+    c.known_fits-known.ensures.read

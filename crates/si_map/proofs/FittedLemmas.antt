@@ -1,0 +1,45 @@
+-- Signal after signal, those that fit.
+use Rattle.std.proofs.Common.{◌≡◌, ◌↔◌, ℕ, ◌+◌, ◌<◌, ◌≤◌, IsTrue, Bool, true, false, length, is_some, refl, sym, ap, subst, ◌∙◌, arith, inl, inr}
+use Rattle.std.proofs.lemmas.Bool.{true≢false}
+use Rattle.std.proofs.lemmas.Bool.Decides.{eqb_tells}
+use Rattle.std.proofs.lemmas.Option.{slice_get_within}
+use Rattle.si_base.specs.Bits.{bit, IsSet}
+use Rattle.si_base.specs.Codes.{CodedGraph}
+use Rattle.si_base.specs.Graph.{StateGraph, IsNonInput}
+use Rattle.si_cell.specs.Library.{Library}
+use Rattle.si_match.specs.Fit.{first_fit}
+use Rattle.si_map.specs.Progress.{AreFitted}
+
+module _ (c : CodedGraph) (library : Library) where
+  -- the set has those of the first signals, so many, that fit
+  abbrev pub AreFittedBefore : ℕ → ℕ → Type 0
+  AreFittedBefore count fitted = (z : ℕ) → z < count → IsNonInput c.graph.signals z
+      → bit fitted z ≡ is_some (first_fit c library z)
+
+  pub none_before : (fitted : ℕ) → AreFittedBefore 0 fitted
+  none_before fitted z below driven = absurd (omega (arith, below))
+
+  pub input_passed : (i fitted : ℕ) (g : StateGraph) (driven : Bool) → g ≡ c.graph
+      → (IsTrue driven ↔ IsNonInput g.signals i) → driven ≡ false → AreFittedBefore i fitted
+      → AreFittedBefore (i + 1) fitted
+  input_passed i fitted g driven same told is before z below non_input = elim (eqb_tells z i) [
+    | inl at ↦ (
+        let here : IsNonInput g.signals i = subst (λ (h : StateGraph). IsNonInput h.signals i) (sym same)
+        (subst (IsNonInput c.graph.signals) at.1 non_input) in
+        absurd (true≢false (sym (told.1 here) ∙ is)))
+    | inr other ↦ (let not_last = other.1 in before z (grind (arith, below, not_last)) non_input)
+  ]
+
+  pub signal_added : (i fitted next : ℕ) (fits : Bool) → IsSet fitted i fits next
+      → fits ≡ is_some (first_fit c library i) → AreFittedBefore i fitted → AreFittedBefore (i + 1) next
+  signal_added i fitted next fits set is before z below non_input = elim (eqb_tells z i) [
+    | inl at ↦ ap (bit next) at.1 ∙ set.there ∙ is ∙ ap (λ y. is_some (first_fit c library y)) (sym at.1)
+    | inr other ↦ (
+        let not_last = other.1 in
+        set.others z not_last ∙ before z (grind (arith, below, not_last)) non_input)
+  ]
+
+  pub all_fitted : (i fitted : ℕ) → length c.graph.signals ≤ i → AreFittedBefore i fitted → AreFitted c library fitted
+  all_fitted i fitted past before z (x, at, driven) =
+      let within = slice_get_within c.graph.signals z x at in
+      before z (omega (arith, within, past)) (x, at, driven)

@@ -1,0 +1,6 @@
+use Rattle.si_checks.specs.Lent.{lent_graph}
+use Rattle.si_map.proofs.FittedLemmas.{AreFittedBefore}
+use Rattle.si_map.proofs.search.fitted_signals.Given as goal
+
+abbrev pub invariant-loop-i : goal.invariant-loop-i
+invariant-loop-i l = AreFittedBefore (lent_graph l.fn.graph) l.library l.i l.fitted

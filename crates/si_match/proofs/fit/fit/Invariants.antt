@@ -1,7 +1,0 @@
-use Rattle.std.proofs.Common.{◌≡◌}
-use Rattle.si_match.specs.Fit.{first_fit}
-use Rattle.si_match.proofs.SearchLemmas.{from_cell}
-use Rattle.si_match.proofs.fit.fit.Given as goal
-
-abbrev pub invariant-loop-k : goal.invariant-loop-k
-invariant-loop-k l = from_cell l.coded l.z l.library l.k ≡ first_fit l.coded l.library l.z
