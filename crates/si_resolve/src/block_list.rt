@@ -2,12 +2,14 @@
 
 ghost use Rattle.std.specs.Prelude.{◌≡◌, ℕ, ◌<◌, ◌↔◌, false, IfOk, IsTrue, All, length};
 ghost use Rattle.si_base.specs.Limits.{max_signals};
+ghost use Rattle.si_base.specs.Sets.{IsIn};
 ghost use Rattle.si_candidates.specs.Blocks.{AreBlocks};
-ghost use Rattle.si_resolve.specs.Usable.{IsUsable, AreUsable, AreSearched};
+ghost use Rattle.si_resolve.specs.Usable.{AreUsable, AreSearched};
 
 use si_base::ids::{NoMemory, StateId};
 use si_candidates::block::Block;
 use si_candidates::blocks::blocks;
+use si_candidates::may_switch::which_may_switch;
 use si_candidates::tree::{Link, tree};
 use si_checks::proper::Proper;
 use si_regions::regions::regions;
@@ -78,20 +80,24 @@ fn usable_ones(alloc: Global, graph: &Proper, blocks: &[Block]) -> Result<Vec<bo
     requires { All (λ block. length block ≡ graph.now.graph.states) blocks.now }
     ensures { IfOk result (λ usable. AreUsable graph.now.graph blocks.now usable.items) }
 {
+    let may_switch = which_may_switch(alloc, graph, blocks)?;
     let mut usable = Vec::new(alloc);
-    for block in blocks {
-        usable.push(is_usable(graph, block))?;
+    for k in 0..blocks.len() {
+        usable.push(is_usable(&blocks[k], may_switch[k]))?;
     }
     Ok(usable)
 }
 
-/// Whether the block has a state and a new signal may switch in it.
-fn is_usable(graph: &Proper, block: &Block) -> bool
-    requires { length block.now ≡ graph.now.graph.states }
-    ensures { IsTrue result ↔ IsUsable graph.now.graph block.now }
+/// Whether the block has a state, and the flag says that a new signal may switch in it.
+fn is_usable(block: &Block, may_switch: bool) -> bool
+    ensures { IsTrue result ↔ (IsTrue may_switch × ((s : ℕ) × IsIn block.now s)) }
 {
-    match block.set().first_from(StateId(0)) {
-        Some(_) => block.may_switch(graph),
-        None => false,
-    }
+    may_switch && has_state(block)
+}
+
+/// Whether the block has a state.
+fn has_state(block: &Block) -> bool
+    ensures { IsTrue result ↔ ((s : ℕ) × IsIn block.now s) }
+{
+    block.set().first_from(StateId(0)).is_some()
 }
