@@ -6,6 +6,7 @@ pub mod CopyCount
 mod BlockStates
 mod BlockWalks
 mod Switching
+mod WordTests
 mod RaisingLemmas
 mod RaisingLoops
 mod Flooding

@@ -1,11 +1,11 @@
--- When two sets are the same, and what they weigh.
-use Rattle.std.proofs.Common.{◌≡◌, ℕ, suc, ◌+◌, ◌<◌, Bool, true, false, if◌then◌else◌, List, [], ◌∷◌, ◌++◌, length, get_or, take, refl, sym, ap, ap₂, ◌∙◌, arith}
+-- When two sets are the same.
+use Rattle.std.proofs.Common.{◌≡◌, ℕ, suc, ◌<◌, Bool, true, false, List, [], ◌∷◌, length, get_or}
+use Rattle.std.proofs.Common.{refl, sym, ap, ap₂, subst, ◌∙◌, arith}
+use Rattle.std.proofs.Common.{IsTrue, ◌↔◌}
 use mathlib.Core.Bool.{beq}
 use Rattle.std.proofs.lemmas.Bool.{true≢false, and_parts}
-use Rattle.std.proofs.lemmas.List.{take_more, length-take-le}
-use Rattle.si_base.specs.Sets.{IsIn}
+use Rattle.si_base.specs.Sets.{IsIn, IsSubset}
 use Rattle.si_base.proofs.Steps.{beq-refl, beq-true}
-use Rattle.si_candidates.specs.Adding.{weight_from}
 use Rattle.si_candidates.specs.Blocks.{same_set}
 
 -- ---- the test
@@ -52,17 +52,15 @@ same_states (x ∷ xs) (y ∷ ys) size to back =
     ap₂ (λ a b. a ∷ b) (bool_same x y (to 0) (back 0))
     (same_states xs ys (omega arith) (λ s. to (suc s)) (λ s. back (suc s)))
 
--- ---- the weight
-weight_push : (a : ℕ) (xs : List Bool) (y : Bool)
-    → weight_from a (xs ++ y ∷ []) ≡ weight_from a xs + (if y then a + length xs else 0)
-weight_push a [] true = omega arith
-weight_push a [] false = omega arith
-weight_push a (x ∷ xs) true = let rest = weight_push (a + 1) xs true in omega arith
-weight_push a (x ∷ xs) false = let rest = weight_push (a + 1) xs false in omega arith
+-- ---- sets within one another
+pub not_same : (xs ys : List Bool) → (IsSubset xs ys → ⊥) → false ≡ same_set xs ys
+not_same xs ys out = sym (same_set-not (λ (set : List Bool). set) xs ys
+    (λ same. out (subst (λ set. IsSubset xs set) same (λ s here. here))))
 
-pub weight_more : (xs : List Bool) (s : ℕ) (y : Bool) → s < length xs → get_or xs s false ≡ y
-    → weight_from 0 (take (s + 1) xs) ≡ weight_from 0 (take s xs) + (if y then s else 0)
-weight_more xs s y within at =
-    let size : 0 + length (take s xs) ≡ s = omega (arith, length-take-le s xs (omega arith)) in
-    ap (weight_from 0) (take_more xs s false within ∙ ap (λ b. take s xs ++ b ∷ []) at)
-    ∙ weight_push 0 (take s xs) y ∙ ap (λ n. weight_from 0 (take s xs) + (if y then n else 0)) size
+pub same_if_back : (xs ys : List Bool) (back : Bool) → length xs ≡ length ys → IsSubset xs ys
+    → IsTrue back ↔ IsSubset ys xs → back ≡ same_set xs ys
+same_if_back xs ys true size within is =
+    let same = same_states xs ys size within (is.0 refl) in
+    sym (same_set-all xs ys size (λ t inside. ap (λ set. get_or set t false) same))
+same_if_back xs ys false size within is = sym (same_set-not (λ (set : List Bool). set) xs ys
+    (λ same. true≢false (sym (is.1 (subst (λ set. IsSubset set xs) same (λ s here. here))))))

@@ -1,5 +1,6 @@
 -- Whether a new signal may switch in a set of states, arc by arc.
-use Rattle.std.proofs.Common.{◌≡◌, ◌≢◌, ℕ, ◌+◌, ◌<◌, ◌⊎◌, Bool, true, false, List, length, get_or, slice_get, All, Contains, Option, Some, refl, sym, ap, subst, ◌∙◌, arith, inl, inr}
+use Rattle.std.proofs.Common.{◌≡◌, ◌≢◌, ℕ, ◌+◌, ◌<◌, ◌⊎◌, Bool, true, false, List, length, get_or, slice_get}
+use Rattle.std.proofs.Common.{Contains, Option, Some, refl, sym, ap, subst, ◌∙◌, arith, inl, inr}
 use Rattle.std.proofs.lemmas.Bool.{cases_Bool, cases_order, true≢false}
 use Rattle.std.proofs.lemmas.List.{get_or_default}
 use Rattle.std.proofs.lemmas.Option.{slice_get_cases}
@@ -12,12 +13,11 @@ use Rattle.si_base.specs.Graph.{StateGraph, Step, IsGraph, IsNonInput, is_driven
 use Rattle.si_base.specs.Codes.{IsDeterministic}
 use Rattle.si_base.specs.Sets.{IsIn}
 use Rattle.si_base.proofs.StepFacts.{step_within}
-use Rattle.si_graph.specs.Arcs.{AreOut, edge_at, no_edge, IsFirstPlace, IsInto}
+use Rattle.si_graph.specs.Arcs.{edge_at, no_edge, IsFirstPlace, IsInto}
 use Rattle.si_graph.proofs.ClosureLemmas.{place_in_walk, none_between}
 use Rattle.si_base.proofs.Steps.{same_event-refl}
 use Rattle.si_insert.specs.Accepted.{IsInput}
-use Rattle.si_candidates.specs.Blocking.{MaySwitch, MayPass, MayLeave, KeepsExit}
-use Rattle.si_candidates.proofs.BlockStates.{at_each}
+use Rattle.si_candidates.specs.Blocking.{MaySwitch, MayPass, KeepsExit}
 
 -- ---- kinds of signals
 input_drives : (x : Signal) → x.kind ≡ Input → is_driven x.kind ≡ true → ⊥
@@ -113,15 +113,7 @@ passes_switch g set passes = record {
       (λ same. d.apart (sym same)) t d.first;
 }
 
--- ---- the tests of one arc
-pub stays_passes : (g : StateGraph) (set : List Bool) (a : Edge) (has : Bool) → has ≡ get_or set a.to false
-    → has ≡ true → MayPass g (IsIn set) a
-stays_passes g set a has is stays out = absurd (out (sym is ∙ stays))
-
-pub leaves_passes : (g : StateGraph) (set : List Bool) (a : Edge) (has : Bool) → has ≡ get_or set a.to false
-    → has ≡ false → MayPass g (IsIn set) a → MayLeave g (IsIn set) a
-leaves_passes g set a has is leaves pass = pass (λ there. true≢false (sym there ∙ sym is ∙ leaves))
-
+-- ---- one arc
 -- the event leads from the source of the other arc to one target
 pub keeps_at : (g : StateGraph) (P : ℕ → Type 0) (exit before : Edge) (t : ℕ) → IsDeterministic g
     → Step g before.from exit.event t → P before.from → (P t → ⊥) → KeepsExit g P exit before
@@ -132,33 +124,3 @@ pub apart_events : (e f : Event) → false ≡ same_event e f → e ≢ f
 apart_events e f not_same same =
     let P : Event → Type 0 = λ x. false ≡ same_event e x in
     true≢false (sym (same_event-refl e) ∙ sym (subst P (sym same) not_same))
-
--- the arc at a place of the walk into s
-pub arc_there : (g : StateGraph) (s k : ℕ) (a : Edge) → (k < length g.edges) × IsInto g.edges s k
-    → a ≡ edge_at g.edges k → Contains g.edges a × (a.to ≡ s)
-arc_there g s k a stands is = (
-  (k, stands.0, get_or_default g.edges k a no_edge stands.0 ∙ sym is),
-  ap (λ (x : Edge). x.to) is ∙ stands.1,
-)
-
--- ---- the arcs out of a state
-abbrev pub PassFrom : StateGraph → List Bool → ℕ → Type 0
-PassFrom g set s = (a : Edge) → Contains g.edges a → a.from ≡ s → MayPass g (IsIn set) a
-
-pub all_pass : (g : StateGraph) (set : List Bool) (s : ℕ) (arcs : List Edge) → AreOut g s arcs
-    → All (MayPass g (IsIn set)) arcs → PassFrom g set s
-all_pass g set s arcs out pass a there from =
-    at_each (MayPass g (IsIn set)) arcs a pass ((out.exactly a).1 (there, from))
-
-pub out_there : (g : StateGraph) (s : ℕ) (arcs : List Edge) → AreOut g s arcs → (n : ℕ) (a : Edge) → n < length arcs
-    → a ≡ get_or arcs n a → Contains g.edges a × (a.from ≡ s)
-out_there g s arcs out n a inside at = (out.exactly a).0 (n, inside, sym at)
-
--- the arcs out of all states of the set
-pub all_from : (g : StateGraph) (set : List Bool) → ((s : ℕ) → IsIn set s → PassFrom g set s) → MaySwitch g (IsIn set)
-all_from g set pass = passes_switch g set (λ a there from. pass a.from from a there refl)
-
-pub from_each : (g : StateGraph) (set : List Bool) → IsGraph g → MaySwitch g (IsIn set) → (s : ℕ) → IsIn set s
-    → PassFrom g set s
-from_each g set is may s here a arc_in from =
-    switch_passes g set a is may arc_in (subst (λ (x : ℕ). IsIn set x) (sym from) here)

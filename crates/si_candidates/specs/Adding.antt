@@ -1,15 +1,10 @@
 -- How the list of blocks grows.
-use Rattle.std.specs.Prelude.{◌≡◌, ℕ, ◌+◌, Bool, List, [], ◌∷◌, ◌++◌, length, nat_lt, if◌then◌else◌}
+use Rattle.std.specs.Prelude.{◌≡◌, Bool, List, [], ◌∷◌, ◌++◌, length, nat_lt, if◌then◌else◌}
 use Rattle.std.specs.List.{list_any}
 use Rattle.si_base.specs.declared.ids.Event.{Event}
 use Rattle.si_base.specs.Graph.{StateGraph}
 use Rattle.si_regions.specs.declared.regions.Region.{Region}
 use Rattle.si_candidates.specs.Blocks.{same_set, max_blocks, AreIntervalsFrom, AreIntervals}
-
--- the sum of the states of a set whose first flag is that of the state a
-abbrev pub weight_from : ℕ → List Bool → ℕ
-weight_from a [] = 0
-weight_from a (x ∷ xs) = (if x then a else 0) + weight_from (a + 1) xs
 
 -- the list with one more set, unless that stands already or enough sets stand
 abbrev pub with_block : List (List Bool) → List Bool → List (List Bool)

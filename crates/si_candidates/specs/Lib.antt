@@ -3,6 +3,7 @@ pub mod Blocks
 pub mod Adding
 pub mod Parts
 pub mod Blocking
+pub mod ManySets
 pub mod Laws
 pub mod Raising
 pub mod Tree

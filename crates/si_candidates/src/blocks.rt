@@ -6,9 +6,10 @@ ghost use Rattle.si_base.specs.Graph.{IsGraph};
 ghost use Rattle.si_base.specs.Limits.{max_signals};
 ghost use Rattle.si_closures.specs.WordSearch.{column};
 ghost use Rattle.si_regions.specs.Regions.{AreRegions};
-ghost use Rattle.si_candidates.specs.Adding.{weight_from, with_block, with_blocks, AddsIntervalsFrom, AddsIntervals};
+ghost use Rattle.si_candidates.specs.Adding.{with_block, with_blocks, AddsIntervalsFrom, AddsIntervals};
 ghost use Rattle.si_candidates.specs.Blocks.{AreBlocks, driven_events, marked, same_set};
 
+use crate::block::Block;
 use crate::intervals::intervals;
 use si_base::graph::Signal;
 use si_base::ids::{Event, NoMemory, Sig, StateId};
@@ -17,7 +18,6 @@ use si_checks::proper::Proper;
 use si_closures::words::{SETS, set_at};
 use si_regions::regions::Region;
 use std::alloc::Global;
-use std::marker::Model;
 
 /// The most blocks of a graph.
 const MAX_BLOCKS: usize = 1024;
@@ -34,7 +34,7 @@ pub fn blocks(
     requires { AreRegions graph.now regions.now.items }
     ensures { IfOk result (λ blocks. AreBlocks graph.now blocks.items) }
 {
-    let mut found: Vec<Weighed> = Vec::new(alloc);
+    let mut found: Vec<Block> = Vec::new(alloc);
     add_excited(alloc, graph, regions.as_slice(), &mut found)?;
     add_switched(alloc, graph, regions.as_slice(), &mut found)?;
     add_intervals(alloc, graph, regions.as_slice(), &mut found)?;
@@ -47,7 +47,7 @@ fn add_excited(
     alloc: Global,
     graph: &Proper,
     regions: &[Region],
-    found: &mut Vec<Weighed>,
+    found: &mut Vec<Block>,
 ) -> Result<(), NoMemory>
     requires { AreRegions graph.now regions.now }
     ensures { OnOk result (found.new.items ≡ with_blocks found.old.items
@@ -65,7 +65,7 @@ fn add_switched(
     alloc: Global,
     graph: &Proper,
     regions: &[Region],
-    found: &mut Vec<Weighed>,
+    found: &mut Vec<Block>,
 ) -> Result<(), NoMemory>
     requires { AreRegions graph.now regions.now }
     ensures { OnOk result (found.new.items ≡ with_blocks found.old.items
@@ -83,7 +83,7 @@ fn add_intervals(
     alloc: Global,
     graph: &Proper,
     regions: &[Region],
-    found: &mut Vec<Weighed>,
+    found: &mut Vec<Block>,
 ) -> Result<(), NoMemory>
     requires { AreRegions graph.now regions.now }
     ensures { OnOk result (AddsIntervals graph.now.graph
@@ -103,7 +103,7 @@ fn add_intervals_from(
     graph: &Proper,
     from: &[StateId],
     stops: &[Event],
-    found: &mut Vec<Weighed>,
+    found: &mut Vec<Block>,
 ) -> Result<(), NoMemory>
     requires graph { IsGraph graph.now.graph }
     requires from { All (λ s. s < graph.now.graph.states) from.now }
@@ -126,7 +126,7 @@ fn add_intervals_at_once(
     graph: &Proper,
     from: &StateSet,
     stops: &[Event],
-    found: &mut Vec<Weighed>,
+    found: &mut Vec<Block>,
 ) -> Result<(), NoMemory>
     requires graph { IsGraph graph.now.graph }
     requires from { length from.now ≡ graph.now.graph.states }
@@ -152,7 +152,7 @@ fn add_column(
     words: &[u128],
     states: u32,
     k: u32,
-    found: &mut Vec<Weighed>,
+    found: &mut Vec<Block>,
 ) -> Result<(), NoMemory>
     requires size { length words.now ≡ states }
     requires few { k < 128 }
@@ -171,7 +171,7 @@ fn add_states(
     alloc: Global,
     size: u32,
     states: &[StateId],
-    found: &mut Vec<Weighed>,
+    found: &mut Vec<Block>,
 ) -> Result<(), NoMemory>
     requires { All (λ s. s < size) states.now }
     ensures { OnOk result
@@ -186,13 +186,13 @@ fn add_states(
 }
 
 /// Puts a set last, unless it stands already or enough sets stand.
-fn add_block(set: StateSet, found: &mut Vec<Weighed>) -> Result<(), NoMemory>
+fn add_block(set: StateSet, found: &mut Vec<Block>) -> Result<(), NoMemory>
     ensures { OnOk result (found.new.items ≡ with_block found.old.items set) }
 {
     if found.len() >= MAX_BLOCKS {
         return Ok(());
     }
-    let block = Weighed::of(set);
+    let block = Block::from_set(set);
     if is_among(found.as_slice(), &block) {
         return Ok(());
     }
@@ -201,7 +201,7 @@ fn add_block(set: StateSet, found: &mut Vec<Weighed>) -> Result<(), NoMemory>
 }
 
 /// Whether the set is among these.
-fn is_among(sets: &[Weighed], set: &Weighed) -> bool
+fn is_among(sets: &[Block], set: &Block) -> bool
     ensures { result ≡ list_any (same_set set.now) sets.now }
 {
     for x in sets {
@@ -213,7 +213,7 @@ fn is_among(sets: &[Weighed], set: &Weighed) -> bool
 }
 
 /// The sets alone.
-fn sets_of(alloc: Global, found: Vec<Weighed>) -> Result<Vec<StateSet>, NoMemory>
+fn sets_of(alloc: Global, found: Vec<Block>) -> Result<Vec<StateSet>, NoMemory>
     ensures { IfOk result (λ sets. sets.items ≡ found.items) }
 {
     let mut sets: Vec<StateSet> = Vec::new(alloc);
@@ -221,80 +221,6 @@ fn sets_of(alloc: Global, found: Vec<Weighed>) -> Result<Vec<StateSet>, NoMemory
         sets.push(block.into_set())?;
     }
     Ok(sets)
-}
-
-/// A set with the sum of its states: sets of other sums differ, and needn't be compared.
-#[derive(Drop)]
-struct Weighed {
-    set: StateSet,
-    weight: u64,
-}
-
-impl Model for Weighed {
-    ghost use Rattle.std.specs.Prelude.{◌≡◌, List, Bool};
-    ghost use Rattle.si_candidates.specs.Adding.{weight_from};
-
-    ghost Value = { List Bool };
-
-    ghost view = { λ w. w.set };
-
-    ghost invariant = { λ w. w.weight ≡ weight_from 0 w.set };
-}
-
-impl Weighed {
-    /// The set, weighed.
-    fn of(set: StateSet) -> Weighed
-        ensures { result ≡ set }
-    {
-        let weight = weight(&set);
-        Weighed { set, weight }
-    }
-
-    /// Whether the sets have the same states.
-    fn is_same(&self, other: &Weighed) -> bool
-        ensures { result ≡ same_set self.now other.now }
-    {
-        if self.weight != other.weight {
-            return false;
-        }
-        same_states(&self.set, &other.set)
-    }
-
-    /// The set alone.
-    fn into_set(self) -> StateSet
-        ensures { result ≡ self }
-    {
-        let Weighed { set, weight: _ } = self;
-        set
-    }
-}
-
-/// The sum of the states of a set.
-fn weight(set: &StateSet) -> u64
-    ensures { result ≡ weight_from 0 set.now }
-{
-    let mut sum: u64 = 0;
-    for s in 0..set.size() {
-        if set.has(StateId(s)) {
-            sum += s as u64;
-        }
-    }
-    sum
-}
-
-/// Whether two sets have one size and the same states.
-fn same_states(x: &StateSet, y: &StateSet) -> bool
-    ensures { result ≡ same_set x.now y.now }
-{
-    if x.size() != y.size() {
-        return false;
-    }
-    for s in 0..x.size() {
-        if x.has(StateId(s)) != y.has(StateId(s)) {
-            return false;
-        }
-    }
-    true
 }
 
 /// The set of these states, among so many.

@@ -7,6 +7,7 @@ pub mod classes;
 pub mod interval;
 pub mod intervals;
 pub mod laws;
+pub mod may_switch;
 pub mod part_laws;
 pub mod parting;
 mod raising;

@@ -9,6 +9,7 @@ ghost use Rattle.si_candidates.specs.Tree.{IsTree};
 ghost use Rattle.si_conflicts.specs.Conflicts.{pairs_of};
 ghost use Rattle.si_resolve.specs.Aspects.{AreWithin, HaveAspects, aspect_of};
 ghost use Rattle.si_resolve.specs.Usable.{IsUsable, AreUsable, AreSearched, HaveSides};
+ghost use Rattle.si_base.specs.Sets.{IsIn};
 
 use crate::aspects::Column;
 use si_base::ids::{NoMemory, StateId};
@@ -16,6 +17,7 @@ use si_base::sets::StateSet;
 use si_candidates::block::Block;
 use si_candidates::blocks::blocks;
 use si_candidates::sides::sides;
+use si_candidates::may_switch::which_may_switch;
 use si_candidates::tree::{Link, tree};
 use si_checks::proper::Proper;
 use si_conflicts::conflicts::{Pair, conflicts};
@@ -116,22 +118,26 @@ fn usable_ones(alloc: Global, graph: &Proper, blocks: &[Block]) -> Result<Vec<bo
     requires { All (λ block. length block ≡ graph.now.graph.states) blocks.now }
     ensures { IfOk result (λ usable. AreUsable graph.now.graph blocks.now usable.items) }
 {
+    let may_switch = which_may_switch(alloc, graph, blocks)?;
     let mut usable = Vec::new(alloc);
-    for block in blocks {
-        usable.push(is_usable(graph, block))?;
+    for k in 0..blocks.len() {
+        usable.push(is_usable(&blocks[k], may_switch[k]))?;
     }
     Ok(usable)
 }
 
-/// Whether the block has a state and a new signal may switch in it.
-fn is_usable(graph: &Proper, block: &Block) -> bool
-    requires { length block.now ≡ graph.now.graph.states }
-    ensures { IsTrue result ↔ IsUsable graph.now.graph block.now }
+/// Whether the block has a state, and the flag says that a new signal may switch in it.
+fn is_usable(block: &Block, may_switch: bool) -> bool
+    ensures { IsTrue result ↔ (IsTrue may_switch × ((s : ℕ) × IsIn block.now s)) }
 {
-    match block.set().first_from(StateId(0)) {
-        Some(_) => block.may_switch(graph),
-        None => false,
-    }
+    may_switch && has_state(block)
+}
+
+/// Whether the block has a state.
+fn has_state(block: &Block) -> bool
+    ensures { IsTrue result ↔ ((s : ℕ) × IsIn block.now s) }
+{
+    block.set().first_from(StateId(0)).is_some()
 }
 
 /// For each usable block the sides of the states.

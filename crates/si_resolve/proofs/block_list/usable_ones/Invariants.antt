@@ -3,9 +3,9 @@ use Rattle.si_candidates.specs.Blocks.{block_at}
 use Rattle.si_resolve.specs.Usable.{IsUsable}
 use Rattle.si_resolve.proofs.block_list.usable_ones.Given as goal
 
-abbrev pub invariant-loop-block : goal.invariant-loop-block
-invariant-loop-block l = record {
-  count : length l.usable.items ≡ l.block-index;
-  each : (k : ℕ) → k < l.block-index
+abbrev pub invariant-loop-k : goal.invariant-loop-k
+invariant-loop-k l = record {
+  count : length l.usable.items ≡ l.k;
+  each : (k : ℕ) → k < l.k
       → (slice_index_or l.usable.items k false ≡ true) ↔ IsUsable l.graph.graph (block_at l.blocks k);
 }

@@ -1,0 +1,159 @@
+//! Where a new signal may switch: 128 blocks in one pass over the arcs.
+
+ghost use Rattle.std.specs.Prelude.{◌≡◌, ℕ, ◌+◌, ◌<◌, ◌≤◌, ◌↔◌, ◌⊎◌, true, IfOk, OnOk, All, Contains, length, replicate};
+ghost use Rattle.si_base.specs.Bits.{bit};
+ghost use Rattle.si_base.specs.Codes.{IsDeterministic};
+ghost use Rattle.si_base.specs.Graph.{IsGraph};
+ghost use Rattle.si_base.specs.Sets.{IsIn};
+ghost use Rattle.si_closures.specs.WordSearch.{column, HasBit};
+ghost use Rattle.si_candidates.specs.Blocking.{MaySwitch, MayPass, MayLeave, KeepsExit};
+ghost use Rattle.si_candidates.specs.ManySets.{AreAllTold, AreToldBelow, ArePacked, Tells, TellsOf};
+
+use crate::block::Block;
+use si_base::graph::Edge;
+use si_base::ids::{NoMemory, StateId};
+use si_base::sets::StateSet;
+use si_checks::proper::Proper;
+use si_closures::words::{SETS, has_bit};
+use si_graph::graph::Graph;
+use std::alloc::Global;
+
+/// For each block whether a new signal may switch in it: no input leads out of it, and what leads
+/// out of it and was enabled before led out of it then too. It fails only where memory runs out.
+///
+/// It takes a pass over the arcs for each 128 blocks.
+pub fn which_may_switch(
+    alloc: Global,
+    graph: &Proper,
+    blocks: &[Block],
+) -> Result<Vec<bool>, NoMemory>
+    requires { All (λ b. length b ≡ graph.now.graph.states) blocks.now }
+    ensures { IfOk result (λ may. AreAllTold graph.now.graph blocks.now may.items) }
+{
+    let mut may: Vec<bool> = Vec::new(alloc);
+    while may.len() < blocks.len() {
+        add_answers(alloc, graph, blocks, &mut may)?;
+    }
+    Ok(may)
+}
+
+/// Puts last whether a new signal may switch in the next blocks, of which there are 128 at most.
+fn add_answers(
+    alloc: Global,
+    graph: &Proper,
+    blocks: &[Block],
+    may: &mut Vec<bool>,
+) -> Result<(), NoMemory>
+    requires sizes { All (λ b. length b ≡ graph.now.graph.states) blocks.now }
+    requires before { AreToldBelow graph.now.graph blocks.now may.old.items }
+    requires more { length may.old.items < length blocks.now }
+    ensures grows { OnOk result (length may.old.items < length may.new.items) }
+    ensures within { OnOk result (length may.new.items ≤ length blocks.now) }
+    ensures after { OnOk result (AreToldBelow graph.now.graph blocks.now may.new.items) }
+{
+    let g = graph.coded().graph();
+    let first = may.len();
+    let words = packed(alloc, g.states(), blocks, first)?;
+    let sets = which_sets_may_switch(g, &words);
+    let count = (blocks.len() - first).min(SETS);
+    for k in 0..count {
+        may.push(has_bit(sets, k as u32))?;
+    }
+    Ok(())
+}
+
+/// The words of the blocks from that place on, of which there are 128 at most: bit k of a state's
+/// word says whether the block that stands k places on has the state.
+fn packed(alloc: Global, states: u32, blocks: &[Block], first: usize) -> Result<Vec<u128>, NoMemory>
+    requires sizes { All (λ b. length b ≡ states) blocks.now }
+    requires within { first < length blocks.now }
+    ensures { IfOk result (λ words. ArePacked states blocks.now first 128 words.items) }
+{
+    let mut words = vec![in alloc; 0; states as usize]?;
+    let count = (blocks.len() - first).min(SETS);
+    for k in 0..count {
+        put_set(words.as_mut_slice(), k as u32, blocks[first + k].set());
+    }
+    Ok(words)
+}
+
+/// Gives each state of the set the bit.
+fn put_set(words: &mut [u128], k: u32, set: &StateSet)
+    requires few { k < 128 }
+    requires size { length words.old ≡ length set.now }
+    ensures size { length words.new ≡ length words.old }
+    ensures each { (j s : ℕ) → HasBit words.new j s
+        ↔ (HasBit words.old j s ⊎ ((j ≡ k) × IsIn set.now s)) }
+{
+    for s in 0..set.size() {
+        if set.has(StateId(s)) {
+            words[s as usize] |= 1 << k;
+        }
+    }
+}
+
+/// Those of the 128 sets in which a new signal may switch.
+fn which_sets_may_switch(graph: &Graph, words: &[u128]) -> u128
+    requires deterministic { IsDeterministic graph.now }
+    requires size { length words.now ≡ graph.now.states }
+    ensures { Tells words.now (λ set. MaySwitch graph.now (IsIn set)) result }
+{
+    let mut may = u128::MAX;
+    for arc in graph.arcs() {
+        may = those_that_pass(graph, words, may, arc);
+    }
+    may
+}
+
+/// Those of the given sets out of which the arc doesn't lead, or may lead.
+fn those_that_pass(graph: &Graph, words: &[u128], given: u128, arc: &Edge) -> u128
+    requires graph { IsGraph graph.now }
+    requires deterministic { IsDeterministic graph.now }
+    requires size { length words.now ≡ graph.now.states }
+    requires there { Contains graph.now.edges arc.now }
+    ensures { TellsOf given words.now
+        (λ set. IsIn set arc.now.from → MayPass graph.now (IsIn set) arc.now) result }
+{
+    let stays = given & (!words[arc.from.0 as usize] | words[arc.to.0 as usize]);
+    if stays == given {
+        return given;
+    }
+    stays | given & those_to_leave(graph, words, arc)
+}
+
+/// The sets out of which the arc may lead.
+fn those_to_leave(graph: &Graph, words: &[u128], arc: &Edge) -> u128
+    requires graph { IsGraph graph.now }
+    requires deterministic { IsDeterministic graph.now }
+    requires size { length words.now ≡ graph.now.states }
+    requires sig { arc.now.event.sig < length graph.now.signals }
+    ensures { Tells words.now (λ set. MayLeave graph.now (IsIn set) arc.now) result }
+{
+    if !graph.is_driven(arc.event.sig) {
+        return 0;
+    }
+    let mut kept = u128::MAX;
+    let mut at = graph.first_in(arc.from);
+    while let Some(k) = at {
+        kept &= those_that_keep(graph, words, arc, &graph.edge(k));
+        at = graph.next_in(k);
+    }
+    kept
+}
+
+/// The sets that the event of the exit left before `before` too, if it was enabled then.
+fn those_that_keep(graph: &Graph, words: &[u128], exit: &Edge, before: &Edge) -> u128
+    requires graph { IsGraph graph.now }
+    requires deterministic { IsDeterministic graph.now }
+    requires size { length words.now ≡ graph.now.states }
+    requires from { before.now.from < graph.now.states }
+    ensures { Tells words.now (λ set. KeepsExit graph.now (IsIn set) exit.now before.now) result }
+{
+    if before.event == exit.event {
+        return u128::MAX;
+    }
+    match graph.succ(before.from, exit.event) {
+        None => u128::MAX,
+        Some(t) => words[before.from.0 as usize] & !words[t.0 as usize],
+    }
+}
