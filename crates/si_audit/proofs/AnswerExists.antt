@@ -31,7 +31,7 @@ use Rattle.si_audit.proofs.OneAnswer.{front_form}
 use Rattle.si_audit.proofs.OneAudit.{have_states, spelled_all, spelled_first}
 use Rattle.si_audit.proofs.ReasonExists.{accepted_or_reason}
 use Rattle.si_audit.proofs.SetsExist.{sets_or_none}
-use Rattle.si_audit.proofs.Stopping.{last_shows, stops_show}
+use Rattle.si_audit.proofs.Stopping.{last_shows, rejection_shows, stops_show}
 use Rattle.si_audit.proofs.Walking.{free_at, given_stays, last_signals, one_more}
 
 -- ---- one insertion
@@ -235,7 +235,7 @@ module _ (states : List (List ℕ)) (c : CodedGraph) (n : Netlist) (can : CanBeA
         | inr (fault, other, stops) ↦ inr (
           fault,
           other,
-          stops_show states c n l i (length before + 1) fault
+          rejection_shows states c n fault (stops_show states c n l i (length before + 1) fault
               (λ f also. record {
                 before = before;
                 insertion = i;
@@ -245,7 +245,7 @@ module _ (states : List (List ℕ)) (c : CodedGraph) (n : Netlist) (can : CanBeA
                 taken = taken;
                 stops = also;
               })
-              stops,
+              stops),
         )
       ]
 
