@@ -31,7 +31,7 @@ same_gates : (one other : ℕ → Gate) → ((z : ℕ) → one z ≡ other z) �
 same_gates one other same i [] = refl
 same_gates one other same i (x ∷ xs) =
     let here : (if is_driven (given_signal x).kind then one i ∷ [] else [])
-        ≡ (if is_driven x.kind then other i ∷ [] else []) =
+    ≡ (if is_driven x.kind then other i ∷ [] else []) =
     ap₂ (λ (driven : Bool) (gate : Gate). if driven then gate ∷ [] else []) (same_drive x.kind) (same i) in
     ap₂ (λ (gates rest : List Gate). gates ++ rest) here (same_gates one other same (i + 1) xs)
 
