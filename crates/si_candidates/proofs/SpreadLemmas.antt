@@ -1,5 +1,7 @@
 -- Classes spread along a tree of arcs: a lawful partition has no others.
-use Rattle.std.proofs.Common.{◌≡◌, ◌≢◌, ℕ, ◌+◌, ◌<◌, ◌≤◌, ◌↔◌, ◌∙◌, Bool, true, false, List, length, get_or, set, Option, Some, None, refl, sym, ap, ap₂, subst, arith, inl, inr, get_or-set_same, get_or-set_other, length-set}
+use Rattle.std.proofs.Common.{◌≡◌, ◌≢◌, ℕ, ◌+◌, ◌<◌, ◌≤◌, ◌↔◌, ◌∙◌, Bool, true, false, List, length, get_or, set}
+use Rattle.std.proofs.Common.{Option, Some, None, refl, sym, ap, ap₂, subst, arith, inl, inr, get_or-set_same}
+use Rattle.std.proofs.Common.{get_or-set_other, length-set}
 use Rattle.std.proofs.lemmas.Bool.{cases_eq, cases_Bool, true≢false}
 use Rattle.std.proofs.lemmas.List.{get_or_default, ext_get_or}
 use Rattle.si_base.specs.Graph.{StateGraph, IsGraph}

@@ -1,5 +1,6 @@
 -- Where the arcs out of a state stand among arcs in order.
-use Rattle.std.proofs.Common.{◌≡◌, ℕ, ◌<◌, ◌≤◌, ◌+◌, ◌-◌, true, false, sym, ap, ◌∙◌, List, length, get_or, take, drop, arith, inl, inr, ltb, Contains, length-take, length-drop}
+use Rattle.std.proofs.Common.{◌≡◌, ℕ, ◌<◌, ◌≤◌, ◌+◌, ◌-◌, true, false, sym, ap, ◌∙◌, List, length, get_or, take, drop}
+use Rattle.std.proofs.Common.{arith, inl, inr, ltb, Contains, length-take, length-drop}
 use Rattle.std.specs.List.Sorted.{IsStrictlySortedBy, IsPartitionPoint}
 use Rattle.std.proofs.lemmas.Bool.{cases_lt, ltb-true, ltb-false}
 use Rattle.std.proofs.lemmas.List.{get_or-drop, get_or-take}

@@ -1,5 +1,7 @@
 -- What becomes of a search with each divisor.
-use Rattle.std.proofs.Common.{◌≡◌, ℕ, ◌+◌, ◌<◌, ◌≤◌, ◌⊎◌, List, [], ◌∷◌, ◌++◌, get_or, All, Option, Some, None, IfSome, IfNone, MatchOption, is_some, not, Bool, true, false, refl, sym, ap, subst, ◌∙◌, arith, inl, inr}
+use Rattle.std.proofs.Common.{◌≡◌, ℕ, ◌+◌, ◌<◌, ◌≤◌, ◌⊎◌, List, [], ◌∷◌, ◌++◌, get_or, All, Option, Some, None, IfSome}
+use Rattle.std.proofs.Common.{IfNone, MatchOption, is_some, not, Bool, true, false, refl, sym, ap, subst, ◌∙◌, arith}
+use Rattle.std.proofs.Common.{inl, inr}
 use Rattle.std.proofs.lemmas.Bool.{true≢false}
 use Rattle.std.proofs.lemmas.List.Elements.{All-push}
 use Rattle.si_base.specs.Codes.{CodedGraph, IsCoded}
@@ -20,7 +22,8 @@ use Rattle.si_insert.specs.Made.{copies_of}
 use Rattle.si_match.specs.Weight.{weight_of}
 use Rattle.si_map.specs.declared.search.Search.{Search}
 use Rattle.si_map.specs.Best.{Choice, IsDivisorAt, LeavesWeight, Serves}
-use Rattle.si_map.specs.Progress.{IsReady, IsSearching, HasTried, IsPassed, IsKept, IsTried, IsKnown, IsGrown, LeavesBelow, LeavesNoneBelow}
+use Rattle.si_map.specs.Progress.{IsReady, IsSearching, HasTried, IsPassed, IsKept, IsTried, IsKnown, IsGrown}
+use Rattle.si_map.specs.Progress.{LeavesBelow, LeavesNoneBelow}
 use Rattle.si_map.proofs.DivisorFacts.{one_divisor}
 use Rattle.si_map.proofs.NoneLeft.{none_left}
 use Rattle.si_map.proofs.SearchSteps.{bar_low, search_skip, search_take}

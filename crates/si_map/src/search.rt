@@ -8,7 +8,8 @@ ghost use Rattle.si_insert.specs.Accepted.{IsAccepted};
 ghost use Rattle.si_insert.specs.Partition.{IsLawful};
 ghost use Rattle.si_match.specs.Weight.{weight_of};
 ghost use Rattle.si_map.specs.Best.{Choice, IsBest, NoneServes};
-ghost use Rattle.si_map.specs.Progress.{IsReady, IsSearching, HasTried, IsTried, IsKnown, IsGrown, LeavesBelow, LeavesNoneBelow};
+ghost use Rattle.si_map.specs.Progress.{IsReady, IsSearching, HasTried, IsTried, IsKnown, IsGrown};
+ghost use Rattle.si_map.specs.Progress.{LeavesBelow, LeavesNoneBelow};
 
 use si_base::ids::{NoMemory, Sig};
 use si_base::text::Name;

@@ -1,6 +1,9 @@
 -- The words of a gate have no fault, spell that gate, and have bytes of words only.
-use Rattle.std.proofs.Common.{if◌then◌else◌, suc, ◌≡◌, ℕ, ◌+◌, ◌<◌, ◌≤◌, ◌==◌, Bool, true, false, List, [], ◌∷◌, ◌++◌, length, map, drop, All, refl, sym, ap, ap₂, ◌∙◌, inl, inr, arith, codes, bytes_eq, nat_le, nat_lt, Option, Some, None, eqb-true}
-use Rattle.std.proofs.lemmas.Bool.{true≢false, and_parts, and_from, or_cases, lt-ltb, leb-true, le-leb, false_from_ne_true}
+use Rattle.std.proofs.Common.{if◌then◌else◌, suc, ◌≡◌, ℕ, ◌+◌, ◌<◌, ◌≤◌, ◌==◌, Bool, true, false, List, [], ◌∷◌, ◌++◌}
+use Rattle.std.proofs.Common.{length, map, drop, All, refl, sym, ap, ap₂, ◌∙◌, inl, inr, arith, codes, bytes_eq, nat_le}
+use Rattle.std.proofs.Common.{nat_lt, Option, Some, None, eqb-true}
+use Rattle.std.proofs.lemmas.Bool.{true≢false, and_parts, and_from, or_cases, lt-ltb, leb-true, le-leb}
+use Rattle.std.proofs.lemmas.Bool.{false_from_ne_true}
 use Rattle.std.proofs.lemmas.List.{length-map, length-append, take_at}
 use Rattle.std.proofs.lemmas.List.Elements.{recursion_from_All}
 use Rattle.std.proofs.lemmas.List.Folds.{list_all-append}
@@ -20,7 +23,10 @@ use Rattle.si_netlist_reader.specs.NetlistValue.{gate_of, gc_of, cell_of}
 use Rattle.si_netlist_reader.proofs.LawTextLemmas.{IsDark}
 use Rattle.si_netlist_reader.proofs.LawSumLemmas.{names_in, none_after}
 use Rattle.si_netlist_reader.proofs.LawLineLemmas.{AreNames}
-use Rattle.si_netlist_reader.proofs.LawWrittenSumLemmas.{AreDark, dark_append, There, Unlike, literals_unlike, words_are_literals, literals_spelled, literal_place, good_name, CubeFits, cubes_fit, sum_good, sum_is, sum_spelled, sum_unlike, good_join}
+use Rattle.si_netlist_reader.proofs.LawWrittenSumLemmas.{AreDark, dark_append, There, Unlike, literals_unlike}
+use Rattle.si_netlist_reader.proofs.LawWrittenSumLemmas.{words_are_literals, literals_spelled, literal_place, good_name}
+use Rattle.si_netlist_reader.proofs.LawWrittenSumLemmas.{CubeFits, cubes_fit, sum_good, sum_is, sum_spelled, sum_unlike}
+use Rattle.si_netlist_reader.proofs.LawWrittenSumLemmas.{good_join}
 
 -- ---- bytes of names
 narrow : (low high b : ℕ) → nat_le 33 low ≡ true → nat_le high 126 ≡ true → is_between low high b ≡ true

@@ -1,5 +1,6 @@
 -- What becomes of a search with each candidate.
-use Rattle.std.proofs.Common.{◌≡◌, ℕ, ◌+◌, ◌<◌, ◌≤◌, ◌↔◌, Bool, false, List, length, slice_index_or, Option, Some, None, IfNone, IfSome, IsTrue, refl, sym, ap, ap₂, subst, ◌∙◌, arith, inl, inr}
+use Rattle.std.proofs.Common.{◌≡◌, ℕ, ◌+◌, ◌<◌, ◌≤◌, ◌↔◌, Bool, false, List, length, slice_index_or, Option, Some, None}
+use Rattle.std.proofs.Common.{IfNone, IfSome, IsTrue, refl, sym, ap, ap₂, subst, ◌∙◌, arith, inl, inr}
 use Rattle.std.proofs.lemmas.Bool.{true≢false}
 use Rattle.si_base.specs.Graph.{StateGraph, IsGraph}
 use Rattle.si_base.specs.Limits.{max_signals}
@@ -23,11 +24,13 @@ use Rattle.si_resolve.specs.declared.search.Search.{Search}
 use Rattle.si_resolve.specs.Best.{Choice, IsChoice, NoneImproves}
 use Rattle.si_resolve.specs.Search.{IsBestSoFar, IsEarlier, bar}
 use Rattle.si_resolve.specs.Usable.{IsUsable, AreUsable}
-use Rattle.si_resolve.specs.Progress.{found_of, best_of, IsSearching, IsFound, bar_of, MayBeAccepted, LeavesBelow, LeavesNoneBelow, LeavesNoneFrom, NoneIsBelow, HasSameRoom}
+use Rattle.si_resolve.specs.Progress.{found_of, best_of, IsSearching, IsFound, bar_of, MayBeAccepted, LeavesBelow}
+use Rattle.si_resolve.specs.Progress.{LeavesNoneBelow, LeavesNoneFrom, NoneIsBelow, HasSameRoom}
 use Rattle.si_candidates.proofs.Separable.{accepted_by_blocks}
 use Rattle.si_candidates.proofs.CopyCount.{copies_by_blocks}
 use Rattle.si_resolve.proofs.BlockSizes.{size_at}
-use Rattle.si_resolve.proofs.SearchSteps.{search_start, search_skip, search_take, search_row, search_finds, search_finds_none, block_refuses}
+use Rattle.si_resolve.proofs.SearchSteps.{search_start, search_skip, search_take, search_row, search_finds}
+use Rattle.si_resolve.proofs.SearchSteps.{search_finds_none, block_refuses}
 
 -- ---- a candidate alone
 pub lawful_classes : (g : StateGraph) (plus minus : List Bool) (classes : List Class) → IsGraph g

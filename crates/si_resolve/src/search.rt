@@ -1,6 +1,7 @@
 //! The search for the best candidate, candidate after candidate.
 
-ghost use Rattle.std.specs.Prelude.{◌≡◌, ℕ, ◌+◌, ◌<◌, ◌≤◌, ◌↔◌, Bool, false, List, IfOk, IfSome, IfNone, OnOk, IsTrue, length, count_by};
+ghost use Rattle.std.specs.Prelude.{◌≡◌, ℕ, ◌+◌, ◌<◌, ◌≤◌, ◌↔◌, Bool, false, List, IfOk, IfSome};
+ghost use Rattle.std.specs.Prelude.{IfNone, OnOk, IsTrue, length, count_by};
 ghost use Rattle.si_base.specs.Codes.{IsCoded};
 ghost use Rattle.si_base.specs.Sets.{IsIn};
 ghost use Rattle.si_candidates.specs.Blocks.{AreDisjoint, block_at};
@@ -9,7 +10,9 @@ ghost use Rattle.si_conflicts.specs.Chains.{AreChains};
 ghost use Rattle.si_conflicts.specs.Conflicts.{HasConflicts};
 ghost use Rattle.si_resolve.specs.Best.{NoneImproves};
 ghost use Rattle.si_resolve.specs.Usable.{IsUsable, AreSearched};
-ghost use Rattle.si_resolve.specs.Progress.{IsSearching, IsFound, MayBeAccepted, LeavesBelow, LeavesNoneBelow, LeavesNoneFrom, NoneIsBelow, HasSameRoom, bar_of};
+ghost use Rattle.si_resolve.specs.Progress.{IsSearching, IsFound, MayBeAccepted, LeavesBelow};
+ghost use Rattle.si_resolve.specs.Progress.{LeavesNoneBelow, LeavesNoneFrom, NoneIsBelow};
+ghost use Rattle.si_resolve.specs.Progress.{HasSameRoom, bar_of};
 
 use crate::block_list::BlockList;
 use si_base::ids::NoMemory;

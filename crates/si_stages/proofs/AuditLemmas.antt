@@ -38,7 +38,8 @@ use Rattle.si_stages.specs.Laws.{AtMostOne, HasResult}
 use Rattle.si_stages.specs.Meaning.{audit}
 use Rattle.si_stages.specs.Readings.{AuditReadings}
 use Rattle.si_stages.proofs.CheckLemmas.{proper_one, match_lists_one}
-use Rattle.si_stages.proofs.ReadingLemmas.{AreAuditReadings, audit_readings_are, audit_readings_one, audit_readings_some}
+use Rattle.si_stages.proofs.ReadingLemmas.{AreAuditReadings, audit_readings_are, audit_readings_one}
+use Rattle.si_stages.proofs.ReadingLemmas.{audit_readings_some}
 use Rattle.si_stages.proofs.ReplayLemmas.{as_many_names}
 use Rattle.si_stages.proofs.SomeLemmas.{match_lists_some, proper_some}
 use Rattle.si_stages.proofs.StageLemmas.{passed, then_one, then_some}

@@ -3,7 +3,8 @@ use Rattle.si_cell.specs.Library.{instance_value}
 use Rattle.si_divisor.specs.Targets.{forced_by}
 use Rattle.si_divisor.proofs.FillLemmas.{filled_added, filled_passed}
 use Rattle.si_divisor.proofs.forced.forced_states.Goals as goal
-use Rattle.si_divisor.proofs.forced.forced_states.Goals.{then-is_forced, else-is_forced, then-is_forced-2, else-is_forced-2}
+use Rattle.si_divisor.proofs.forced.forced_states.Goals.{then-is_forced, else-is_forced, then-is_forced-2}
+use Rattle.si_divisor.proofs.forced.forced_states.Goals.{else-is_forced-2}
 
 pub loop-s-preserved : goal.loop-s-preserved
 loop-s-preserved c =

@@ -4,7 +4,9 @@ use Rattle.si_resolve.specs.declared.search.Search.{Search}
 use Rattle.si_resolve.specs.Progress.{HasSameRoom}
 use Rattle.si_resolve.proofs.SearchLemmas.{four_starts}
 use Rattle.si_resolve.proofs.search.Search.may_leave_fewer.Goals as goal
-use Rattle.si_resolve.proofs.search.Search.may_leave_fewer.Goals.{then-may_leave_fewer_from, else-may_leave_fewer_from, then-may_leave_fewer_from-2, else-may_leave_fewer_from-2}
+use Rattle.si_resolve.proofs.search.Search.may_leave_fewer.Goals.{then-may_leave_fewer_from, else-may_leave_fewer_from}
+use Rattle.si_resolve.proofs.search.Search.may_leave_fewer.Goals.{then-may_leave_fewer_from-2}
+use Rattle.si_resolve.proofs.search.Search.may_leave_fewer.Goals.{else-may_leave_fewer_from-2}
 
 pub returns-else-may_leave_fewer_from-3-clause-none : goal.returns-else-may_leave_fewer_from-3-clause-none
 returns-else-may_leave_fewer_from-3-clause-none c = λ refused.

@@ -1,7 +1,8 @@
 use Rattle.std.proofs.Common.{◌<◌, length, refl, arith}
 use Rattle.si_candidates.specs.Blocks.{block_at}
 use Rattle.si_resolve.specs.Progress.{LeavesBelow, LeavesNoneBelow, bar_of}
-use Rattle.si_resolve.proofs.SearchLemmas.{at_blocks, block_size, candidate_choice, keep, none_by_left, none_is, same_room, skip, some_is}
+use Rattle.si_resolve.proofs.SearchLemmas.{at_blocks, block_size, candidate_choice, keep, none_by_left, none_is}
+use Rattle.si_resolve.proofs.SearchLemmas.{same_room, skip, some_is}
 use Rattle.si_resolve.proofs.search.Search.try_candidate.Goals as goal
 
 pub returns-then-not-may_be_better-clause-after : goal.returns-then-not-may_be_better-clause-after
