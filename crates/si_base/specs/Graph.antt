@@ -1,4 +1,4 @@
--- State graphs: steps, walks, reachable states, and the cut to these.
+-- (field) State graphs: steps, walks, reachable states, and the cut to these.
 use Rattle.std.specs.Prelude.{◌≡◌, ℕ, ◌+◌, ◌*◌, ◌<◌, ◌≤◌, ◌^◌, ◌==◌, ◌&&◌, ◌↔◌, Bool, true, false}
 use Rattle.std.specs.Prelude.{List, [], ◌∷◌, length, Contains, All, AllPairs, slice_index}
 use Rattle.std.specs.Prelude.{slice_get, Some, unwrap_or, option_map, if◌then◌else◌, IsTrue}

@@ -1,4 +1,4 @@
--- The faults of texts: how they are named, and what a reader's answer says of them.
+-- (text) The faults of texts: how they are named, and what a reader's answer says of them.
 use Rattle.std.specs.Prelude.{◌≡◌, ℕ, List, codes, Option, Some, None, Result, Ok, Err}
 use Rattle.si_base.specs.declared.fault.TextKind.{TextKind}
 use Rattle.si_base.specs.declared.fault.TextKind.TheVariants.{BadByte, UnknownDirective, BadName}

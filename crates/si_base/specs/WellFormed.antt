@@ -1,4 +1,4 @@
--- What is a netlist: the conditions under which its text reads back.
+-- (text) What is a netlist: the conditions under which its text reads back.
 use Rattle.std.specs.Prelude.{◌≡◌, ◌≢◌, ℕ, ◌<◌, ◌≤◌, ◌^◌, List, [], ◌∷◌, length, map, filter, codes}
 use Rattle.std.specs.Prelude.{IsTrue, All, AllPairs}
 use Rattle.std.specs.List.{list_all}

@@ -1,5 +1,5 @@
--- The blocks of a graph, and the candidates for the insertion of a signal: pairs of disjoint
--- blocks.
+-- (field) The blocks of a graph, and the candidates for the insertion of a signal: pairs of
+-- disjoint blocks.
 use Rattle.std.specs.Prelude.{◌≡◌, ℕ, ◌+◌, ◌<◌, ◌==◌, ◌&&◌, not, Bool, true, false, List, [], ◌∷◌}
 use Rattle.std.specs.Prelude.{◌++◌, length, map, take, filter, if◌then◌else◌}
 use mathlib.Core.Bool.{beq}

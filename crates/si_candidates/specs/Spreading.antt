@@ -1,5 +1,5 @@
--- How the classes of a lawful partition follow from that of the start, state after state along a tree
--- of arcs.
+-- (loop) How the classes of a lawful partition follow from that of the start, state after state
+-- along a tree of arcs.
 use Rattle.std.specs.Prelude.{◌≡◌, ℕ, ◌<◌, ◌↔◌, ◌⊎◌, Bool, true, false, List, length, Option, Some}
 use Rattle.std.specs.Prelude.{None}
 use Rattle.std.specs.List.{slice_index_or}

@@ -1,4 +1,4 @@
--- The line of a cell: its fault, and the cell that it spells.
+-- (text) The line of a cell: its fault, and the cell that it spells.
 use Rattle.std.specs.Prelude.{ℕ, ◌&&◌, ◌||◌, not, Bool, List, [], ◌∷◌, ◌++◌, length, map, nat_le}
 use Rattle.std.specs.Prelude.{bytes_eq, codes, if◌then◌else◌, Option, Some, None, option_map}
 use Rattle.std.specs.Prelude.{unwrap_or}

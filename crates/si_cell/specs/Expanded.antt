@@ -1,4 +1,4 @@
--- The sum of an instance over the signals of its literals.
+-- (field) The sum of an instance over the signals of its literals.
 use Rattle.std.specs.Prelude.{ℕ, not, true, List, [], ◌∷◌, ◌++◌, map, filter, if◌then◌else◌}
 use Rattle.std.specs.Prelude.{slice_index_or}
 use Rattle.si_base.specs.declared.ids.Literal.{Literal}

@@ -1,4 +1,4 @@
--- Libraries of cells, and the values of their instances.
+-- (field) Libraries of cells, and the values of their instances.
 use Rattle.std.specs.Prelude.{◌≡◌, ◌≢◌, ℕ, ◌<◌, ◌≤◌, ◌+◌, ◌*◌, Bool, List, [], ◌∷◌, ◌++◌, length}
 use Rattle.std.specs.Prelude.{map, codes, if◌then◌else◌, slice_index_or, IsTrue, All, AllPairs}
 use Rattle.std.specs.List.{range_with_len}

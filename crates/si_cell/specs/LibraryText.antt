@@ -1,4 +1,4 @@
--- The text of a library: its first fault, and the library that a text without one spells.
+-- (text) The text of a library: its first fault, and the library that a text without one spells.
 use Rattle.std.specs.Prelude.{ℕ, not, Bool, false, List, [], ◌∷◌, ◌++◌, map, bytes_eq, codes}
 use Rattle.std.specs.Prelude.{if◌then◌else◌, Option, Some, None}
 use Rattle.si_base.specs.declared.fault.TextKind.{TextKind}

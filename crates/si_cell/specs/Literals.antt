@@ -1,4 +1,4 @@
--- Literals in literal order: signal order, with plain before complemented.
+-- (field) Literals in literal order: signal order, with plain before complemented.
 use Rattle.std.specs.Prelude.{ℕ, ◌+◌, ◌==◌, ◌&&◌, not, Bool, true, false, ◌<◌, AllPairs, List, []}
 use Rattle.std.specs.Prelude.{◌∷◌, zero, suc, filter}
 use Rattle.std.specs.List.{list_any}

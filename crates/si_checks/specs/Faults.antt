@@ -1,4 +1,4 @@
--- What the faults of the checks show of a coded graph.
+-- (field) What the faults of the checks show of a coded graph.
 use Rattle.si_base.specs.Graph.{StateGraph}
 use Rattle.si_base.specs.Order.{IsFirst}
 use Rattle.si_base.specs.Codes.{CodedGraph}

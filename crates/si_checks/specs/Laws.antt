@@ -1,4 +1,4 @@
--- What holds of each graph: it is proper, or has a first breach, and that is one.
+-- (law) What holds of each graph: it is proper, or has a first breach, and that is one.
 use Rattle.std.specs.Prelude.{◌≡◌, ℕ}
 use Rattle.si_base.specs.Graph.{StateGraph}
 use Rattle.si_base.specs.Order.{IsFirst}

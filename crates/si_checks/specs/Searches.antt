@@ -1,4 +1,4 @@
--- What the parts of a search for the first breach answer.
+-- (loop) What the parts of a search for the first breach answer.
 use Rattle.std.specs.Prelude.{◌≡◌, ◌≢◌, ℕ, ◌<◌, ◌≤◌, true, false, List, Option, Some, None}
 use Rattle.si_base.specs.declared.ids.Event.{Event}
 use Rattle.si_base.specs.Order.{IsFirst}

@@ -141,7 +141,8 @@ module _ (stops : List Event) (n : ℕ) (x : Event) (inside : n < length stops) 
 
     apart_or_there : (k p : ℕ) → ((k ≢ n) ⊎ (p ≢ event_place x)) ⊎ ((k ≡ n) × (p ≡ event_place x))
     apart_or_there k p = elim (cases_eq k n) [
-      | inl equal ↦ elim (cases_eq p (event_place x)) [ inl same ↦ inr (equal, same) | inr elsewhere ↦ inl (inr elsewhere) ]
+      | inl equal ↦ elim (cases_eq p (event_place x))
+          [ inl same ↦ inr (equal, same) | inr elsewhere ↦ inl (inr elsewhere) ]
       | inr other ↦ inl (inl other)
     ]
 

@@ -1,4 +1,4 @@
--- What tells copies of states of one code apart, at a value of the new signal.
+-- (loop) What tells copies of states of one code apart, at a value of the new signal.
 use Rattle.std.specs.Prelude.{◌≡◌, ℕ, ◌+◌, ◌<◌, ◌≤◌, ◌==◌, ◌&&◌, ◌⊎◌, ◌↔◌, Bool, true, false, List}
 use Rattle.std.specs.Prelude.{[], ◌∷◌, length, map, filter, count_by, All, if◌then◌else◌}
 use Rattle.std.specs.List.{sum_by}

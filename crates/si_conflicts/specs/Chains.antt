@@ -1,4 +1,4 @@
--- States of equal code as rings.
+-- (loop) States of equal code as rings.
 use Rattle.std.specs.Prelude.{◌≡◌, ℕ, ◌+◌, ◌<◌, ◌==◌, ◌⊎◌, not, Bool, List, length, map, filter}
 use Rattle.std.specs.Prelude.{All, Some, None, slice_index}
 use Rattle.std.specs.List.{range_with_len}

@@ -1,4 +1,4 @@
--- What tells whether two states are a conflict, and how many pairs of states are one.
+-- (loop) What tells whether two states are a conflict, and how many pairs of states are one.
 use Rattle.std.specs.Prelude.{◌≡◌, ℕ, ◌+◌, ◌<◌, ◌==◌, ◌&&◌, ◌↔◌, not, true, Bool, List, [], ◌∷◌}
 use Rattle.std.specs.Prelude.{length, count_by, slice_index_or}
 use Rattle.std.specs.declared.cmp.Ordering.{Ordering}

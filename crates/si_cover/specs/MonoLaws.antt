@@ -1,4 +1,4 @@
--- The laws of monotonous cubes, one word each.
+-- (law) The laws of monotonous cubes, one word each.
 use Rattle.std.specs.Prelude.{◌≡◌, ℕ, ◌<◌, ◌++◌, ◌↔◌, ◌⊎◌, List, length, filter, Contains}
 use Rattle.si_base.specs.declared.ids.Event.{Event}
 use Rattle.si_base.specs.declared.ids.Literal.{Literal}

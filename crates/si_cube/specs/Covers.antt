@@ -1,4 +1,4 @@
--- Covers, prime and irredundant ones.
+-- (field) Covers, prime and irredundant ones.
 use Rattle.std.specs.Prelude.{◌≡◌, ◌≢◌, ℕ, ◌<◌, ◌==◌, not, false, List, [], length, Contains}
 use Rattle.std.specs.Prelude.{filter, slice_index_or, IsTrue}
 use Rattle.si_base.specs.declared.ids.Literal.{Literal}

@@ -1,4 +1,4 @@
--- The laws of pin literals and divisors, one word each.
+-- (law) The laws of pin literals and divisors, one word each.
 use Rattle.std.specs.Prelude.{◌≡◌, ◌≢◌, ◌↔◌, ℕ, ◌<◌, ◌≤◌, List, length, All, AllPairs, Contains}
 use Rattle.std.specs.Prelude.{filter}
 use Rattle.si_base.specs.Codes.{CodedGraph, IsCoded}

@@ -1,4 +1,4 @@
--- Pin literals of a signal, and its divisors.
+-- (field) Pin literals of a signal, and its divisors.
 use Rattle.std.specs.Prelude.{◌≡◌, ◌⊎◌, ◌↔◌, ℕ, ◌<◌, ◌==◌, ◌&&◌, not, Bool, true, List, [], ◌∷◌}
 use Rattle.std.specs.Prelude.{length, filter, take, nat_le, IsTrue, Contains}
 use Rattle.std.specs.List.{list_all}

@@ -1,4 +1,4 @@
--- The partition for an instance, and the first reason why there is none.
+-- (field) The partition for an instance, and the first reason why there is none.
 use Rattle.std.specs.Prelude.{◌≡◌, ℕ, ◌<◌, ◌⊎◌, Bool, true, false, List, [], ◌∷◌, length}
 use Rattle.std.specs.Prelude.{slice_index_or, if◌then◌else◌}
 use Rattle.si_base.specs.Order.{IsFirst}

@@ -1,5 +1,5 @@
--- What an instance, as the gate of a new signal, makes of the states: those where it forces a
--- value, and the target of each state.
+-- (field) What an instance, as the gate of a new signal, makes of the states: those where it forces
+-- a value, and the target of each state.
 use Rattle.std.specs.Prelude.{◌≡◌, ℕ, ◌<◌, ◌&&◌, not, Bool, true, false, List, length}
 use Rattle.std.specs.Prelude.{slice_index_or, if◌then◌else◌}
 use mathlib.Core.Bool.{beq}

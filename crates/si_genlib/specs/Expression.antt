@@ -1,4 +1,4 @@
--- Expressions: their trees, and how they are read, token by token, from left to right.
+-- (text) Expressions: their trees, and how they are read, token by token, from left to right.
 use Rattle.std.specs.Prelude.{ℕ, ◌==◌, ◌&&◌, ◌||◌, not, Bool, true, false, List, [], ◌∷◌, length}
 use Rattle.std.specs.Prelude.{nat_le, bytes_eq, codes, if◌then◌else◌, Option, Some, None, Result}
 use Rattle.std.specs.Prelude.{Ok, Err}

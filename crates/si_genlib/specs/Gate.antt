@@ -1,4 +1,4 @@
--- Gates, and the cells that they become.
+-- (text) Gates, and the cells that they become.
 use Rattle.std.specs.Prelude.{ℕ, ◌+◌, ◌^◌, ◌&&◌, not, Bool, true, false, List, [], ◌∷◌, ◌++◌}
 use Rattle.std.specs.Prelude.{length, map, filter, take, ◌==◌, nat_le, bytes_eq, codes}
 use Rattle.std.specs.Prelude.{if◌then◌else◌, position, unwrap_or, zero, suc, Result, Ok, Err}

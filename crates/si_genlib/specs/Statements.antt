@@ -1,4 +1,4 @@
--- Statements of a genlib text.
+-- (text) Statements of a genlib text.
 use Rattle.std.specs.Prelude.{ℕ, ◌+◌, ◌==◌, ◌&&◌, ◌||◌, not, Bool, true, false, List, [], length}
 use Rattle.std.specs.Prelude.{take, drop, nat_le, bytes_eq, codes, if◌then◌else◌, zero, suc, Result}
 use Rattle.std.specs.Prelude.{Ok, Err}

@@ -22,7 +22,8 @@ start_from_cut edges s k up_to cut = record {
 }
 
 -- no arc leaves a state past the last
-pub start_past : (edges : List Edge) (states s : ℕ) → ((k : ℕ) (d : Edge) → k < length edges → (get_or edges k d).from < states)
+pub start_past : (edges : List Edge) (states s : ℕ)
+    → ((k : ℕ) (d : Edge) → k < length edges → (get_or edges k d).from < states)
     → states ≤ s → IsStart edges s (length edges)
 start_past edges states s within past = record {
   up_to = omega arith;

@@ -1,4 +1,4 @@
--- Arcs by their places in a graph's list, and the arcs out of a state.
+-- (loop) Arcs by their places in a graph's list, and the arcs out of a state.
 use Rattle.std.specs.Prelude.{◌≡◌, ℕ, ◌<◌, ◌≤◌, ◌↔◌, false, List, Contains, slice_index_or, Option}
 use Rattle.std.specs.Prelude.{Some, None}
 use Rattle.std.specs.List.Sorted.{IsStrictlySortedBy}

@@ -1,4 +1,4 @@
--- What a fault of `Coded::make` shows of the graph.
+-- (field) What a fault of `Coded::make` shows of the graph.
 use Rattle.si_base.specs.Graph.{StateGraph}
 use Rattle.si_base.specs.Order.{IsFirst}
 use Rattle.si_base.specs.Codes.{IsDeterministic}

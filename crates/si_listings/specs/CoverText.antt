@@ -1,4 +1,4 @@
--- The text of the covers and the monotonous cubes of a graph.
+-- (text) The text of the covers and the monotonous cubes of a graph.
 use Rattle.std.specs.Prelude.{◌≡◌, ℕ, ◌+◌, ◌==◌, ◌⊎◌, List, [], ◌∷◌, ◌++◌, map, Contains, codes}
 use Rattle.std.specs.Prelude.{decimal, if◌then◌else◌}
 use Rattle.si_base.specs.declared.graph.Signal.{Signal}

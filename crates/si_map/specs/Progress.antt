@@ -1,4 +1,4 @@
--- What a search for the best divisor keeps.
+-- (loop) What a search for the best divisor keeps.
 use Rattle.std.specs.Prelude.{◌≡◌, ℕ, ◌+◌, ◌<◌, ◌≤◌, ◌⊎◌, List, [], ◌∷◌, ◌++◌, All, Contains}
 use Rattle.std.specs.Prelude.{Option, Some, None, IfSome}
 use Rattle.si_base.specs.Codes.{CodedGraph, IsCoded}

@@ -1,4 +1,4 @@
--- The instances of a library over the signals of a graph, and the first that fits a signal.
+-- (field) The instances of a library over the signals of a graph, and the first that fits a signal.
 use Rattle.std.specs.Prelude.{◌≡◌, ℕ, ◌<◌, Bool, List, [], ◌∷◌, zero, suc, length, map, flat_map}
 use Rattle.std.specs.Prelude.{if◌then◌else◌, All, Option, Some, None}
 use Rattle.std.specs.List.{list_all, enumerate_from}

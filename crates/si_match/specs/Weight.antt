@@ -1,4 +1,4 @@
--- The weight of a graph for a library.
+-- (field) The weight of a graph for a library.
 use Rattle.std.specs.Prelude.{ℕ, ◌+◌, ◌&&◌, List, [], ◌∷◌, zero, suc, length, if◌then◌else◌}
 use Rattle.std.specs.Prelude.{is_none}
 use Rattle.si_base.specs.Bits.{bit}

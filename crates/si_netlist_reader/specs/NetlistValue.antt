@@ -1,4 +1,4 @@
--- The netlist that a text without fault spells.
+-- (text) The netlist that a text without fault spells.
 use Rattle.std.specs.Prelude.{ℕ, ◌+◌, ◌*◌, ◌==◌, List, [], ◌∷◌, ◌++◌, length, map, take, drop}
 use Rattle.std.specs.Prelude.{bytes_eq, codes, unwrap_or, Option, Some, None, if◌then◌else◌}
 use Rattle.si_base.specs.declared.ids.Literal.{Literal}

@@ -1,4 +1,4 @@
--- The laws of resolving, one word each.
+-- (law) The laws of resolving, one word each.
 use Rattle.std.specs.Prelude.{◌≡◌, ℕ, ◌+◌, ◌<◌, ◌≤◌, ◌⊎◌, Option, Bool, List, ◌++◌, length, Some}
 use Rattle.std.specs.Prelude.{None}
 use Rattle.si_base.specs.Codes.{CodedGraph, IsCoded}

@@ -1,4 +1,4 @@
--- What a search for the best candidate keeps.
+-- (loop) What a search for the best candidate keeps.
 use Rattle.std.specs.Prelude.{◌≡◌, ℕ, ◌+◌, ◌<◌, ◌≤◌, Bool, count_by, List, Option, Some, None}
 use Rattle.std.specs.Prelude.{length}
 use Rattle.si_base.specs.Codes.{CodedGraph}

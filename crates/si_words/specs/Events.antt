@@ -1,4 +1,4 @@
--- Event words: a signal name, then `+` or `-`, then nothing or `/` with one to nine digits.
+-- (text) Event words: a signal name, then `+` or `-`, then nothing or `/` with one to nine digits.
 use Rattle.std.specs.Prelude.{ℕ, ◌==◌, Bool, true, false, not, ◌&&◌, ◌||◌, List, [], ◌∷◌, length}
 use Rattle.std.specs.Prelude.{take, drop, position, bytes_eq, unwrap_or, Option}
 use Rattle.std.specs.List.{list_all, prefix_len}

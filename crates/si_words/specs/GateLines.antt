@@ -1,4 +1,4 @@
--- The fault of a gate line, by its words.
+-- (text) The fault of a gate line, by its words.
 use Rattle.std.specs.Prelude.{ℕ, Bool, true, false, not, ◌&&◌, ◌||◌, List, [], ◌∷◌, length}
 use Rattle.std.specs.Prelude.{if◌then◌else◌, nat_lt, nat_le, bytes_eq, codes, Option, Some, None}
 use Rattle.std.specs.Prelude.{position, is_none}

@@ -1,4 +1,4 @@
--- Lines of a text by their words, and the fault of lines against the forms that are due.
+-- (text) Lines of a text by their words, and the fault of lines against the forms that are due.
 use Rattle.std.specs.Prelude.{ℕ, ◌==◌, ◌+◌, Bool, not, ◌||◌, List, [], ◌∷◌, if◌then◌else◌, bytes_eq}
 use Rattle.std.specs.Prelude.{Option, Some}
 use Rattle.std.specs.List.{list_any, slice_split}

@@ -1,4 +1,4 @@
--- Names in the lists of signals.
+-- (text) Names in the lists of signals.
 use Rattle.std.specs.Prelude.{◌≡◌, ℕ, Bool, not, List, ◌++◌, length, take, nat_le, bytes_eq}
 use Rattle.std.specs.Prelude.{slice_get, Option, Some, None}
 use Rattle.std.specs.List.{list_any}
