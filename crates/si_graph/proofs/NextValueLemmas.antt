@@ -55,7 +55,7 @@ set_more arcs n code old new x from_old within at sets before = record {
         elim (cases_eq a.event.sig x.event.sig) [
           | inl same ↦ (
               let of_x : bit code x.event.sig ≡ not x.event.up =
-                  subst (FromOld code) (here x) (from_old n x (omega arith) within) in
+              subst (FromOld code) (here x) (from_old n x (omega arith) within) in
               let of_a : bit code a.event.sig ≡ not a.event.up = from_old k d (omega arith) (omega arith) in
               let one : not x.event.up ≡ not a.event.up = sym of_x ∙ ap (bit code) (sym same) ∙ of_a in
               ap (bit new) same ∙ sets.there ∙ same_not _ _ one)
