@@ -1,4 +1,4 @@
--- The values of signals and gates at all states of a graph, in columns of 64 to a word.
+-- (loop) The values of signals and gates at all states of a graph, in columns of 64 to a word.
 use Rattle.std.specs.Prelude.{◌≡◌, ◌≢◌, ℕ, ◌+◌, ◌/◌, ◌<◌, Bool, List, [], length, slice_index_or}
 use mathlib.Core.Bool.{beq}
 use Rattle.si_base.specs.Bits.{bit}

@@ -1,14 +1,12 @@
 //! Gates beside the next values of a graph.
 
-ghost use Rattle.std.specs.Prelude.{◌≡◌, ℕ, ◌<◌, IfOk, MatchOption, Some, length, slice_get};
+ghost use Rattle.std.specs.Prelude.{◌≡◌, ℕ, ◌<◌, IfOk, MatchOption, length};
 ghost use Rattle.si_base.specs.Codes.{code, next_value};
 ghost use Rattle.si_base.specs.Graph.{IsNonInput};
-ghost use Rattle.si_base.specs.Limits.{max_signals};
-ghost use Rattle.si_base.specs.Netlist.{gate_place, gate_value};
+ghost use Rattle.si_base.specs.Netlist.{gate_value};
 ghost use Rattle.si_base.specs.Order.{IsFirst};
 ghost use Rattle.si_base.specs.RightGates.{GivesNextValues};
 ghost use Rattle.si_base.specs.Sets.{flag};
-ghost use Rattle.si_netlist.specs.Parts.{gate_seen};
 ghost use Rattle.si_audit.specs.Columns.{Agree, AreColumnsOf, DifferFirstAt, words_for};
 ghost use Rattle.si_audit.specs.Faults.{IsWrong, spot_place};
 
@@ -16,7 +14,6 @@ use crate::column::Column;
 use crate::values::{columns_of, gate_column};
 use si_base::ids::{NoMemory, Sig, StateId};
 use si_graph::coded::Coded;
-use si_netlist::gate::Gate;
 use si_netlist::netlist::Netlist;
 use std::alloc::Global;
 
@@ -71,7 +68,7 @@ fn first_wrong_state(
         (λ s. next_value coded.now s z))) }
 {
     let states = coded.graph().states();
-    let values = gate_column(alloc, states, columns, gate_of(netlist, z), z)?;
+    let values = gate_column(alloc, states, columns, netlist.gate_of(z), z)?;
     Ok(first_other(coded, z, &values))
 }
 
@@ -90,16 +87,4 @@ fn first_other(coded: &Coded, z: Sig, values: &Column) -> Option<StateId>
         }
     }
     None
-}
-
-/// The gate of a signal. The signals without one, the inputs, stand in front.
-fn gate_of(netlist: &Netlist, z: Sig) -> &Gate
-    requires { IsNonInput netlist.now.signals z }
-    ensures gate { slice_get netlist.now.gates (gate_place netlist.now.signals z)
-        ≡ Some (gate_seen result.now) }
-    ensures within { z < max_signals }
-{
-    let gates = netlist.gates();
-    let inputs = netlist.signals().len() - gates.len();
-    &gates[z.0 as usize - inputs]
 }

@@ -1,4 +1,5 @@
-use Rattle.std.proofs.Common.{◌≡◌, ℕ, suc, ◌+◌, ◌<◌, ◌≤◌, max, Bool, true, false, not, ap, ◌∙◌, refl, arith, List, [], ◌∷◌, length, take, drop, get_or, eqb, inl, inr}
+use Rattle.std.proofs.Common.{◌≡◌, ℕ, suc, ◌+◌, ◌<◌, ◌≤◌, max, Bool, true, false, not, ap, ◌∙◌, refl, arith, List, []}
+use Rattle.std.proofs.Common.{◌∷◌, length, take, drop, get_or, eqb, inl, inr}
 use Rattle.std.specs.List.{prefix_len}
 use Rattle.std.proofs.lemmas.Bool.{cases_Bool, not-true, and_parts}
 use Rattle.std.proofs.lemmas.List.{drop_more, length-drop}

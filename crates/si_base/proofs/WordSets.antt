@@ -1,16 +1,23 @@
 -- Sets of states whose flags stand 64 to a word.
-use Rattle.std.proofs.Common.{◌≡◌, ℕ, zero, suc, mod-lt, ◌↔◌, IsTrue, ◌+◌, ◌*◌, ◌/◌, ◌%◌, ◌^◌, ◌<◌, ◌≤◌, ◌==◌, Bool, true, false, cond, ◌||◌, ◌&&◌, ◌⊎◌, ◌-◌, refl, sym, ap, ◌∙◌, arith, inl, inr, List, length, map, get_or, set, replicate, count_by, count_ones, bit_or, bit_and}
+use Rattle.std.proofs.Common.{◌≡◌, ℕ, zero, suc, mod-lt, ◌↔◌, IsTrue, ◌+◌, ◌*◌, ◌/◌, ◌%◌, ◌^◌, ◌<◌, ◌≤◌, ◌==◌, Bool}
+use Rattle.std.proofs.Common.{true, false, cond, ◌||◌, ◌&&◌, ◌⊎◌, ◌-◌, refl, sym, ap, ◌∙◌, arith, inl, inr, List}
+use Rattle.std.proofs.Common.{length, map, get_or, set, replicate, count_by, count_ones, bit_or, bit_and}
 use Rattle.std.specs.List.{range_with_len}
 use Rattle.std.specs.Int.{bit_at, w64}
 use Rattle.std.specs.Int.Count.{count_trailing_zeros}
 use Rattle.std.proofs.lemmas.Bool.{cases_eq, cases_lt, true≢false}
-use Rattle.std.proofs.lemmas.List.{get_or_past, get_or-set_same, get_or-set_other, get_or-replicate, length-set, length-replicate}
-use Rattle.std.proofs.lemmas.List.FromFn.{length-map-range_with_len, get_or-map-range_with_len, fill_by_all, sum_by-map-range_with_len_more}
+use Rattle.std.proofs.lemmas.List.{get_or_past, get_or-set_same, get_or-set_other, get_or-replicate, length-set}
+use Rattle.std.proofs.lemmas.List.{length-replicate}
+use Rattle.std.proofs.lemmas.List.FromFn.{length-map-range_with_len, get_or-map-range_with_len, fill_by_all}
+use Rattle.std.proofs.lemmas.List.FromFn.{sum_by-map-range_with_len_more}
 use Rattle.std.proofs.lemmas.List.Sums.{count_by-le-length}
 use Rattle.std.proofs.lemmas.Nat.{pow_pos, shr-shr, shr_le, mod-pow-add, ones_cat, or_lt, and_le_l}
-use Rattle.std.proofs.lemmas.Nat.Bits.{bit_at-lt, bit_at-zero, bit_at_or, bit_at_and, bit_at_above, bit_at-trailing_zeros, shr_and_one, bit_at_set_same, bit_at_set_other, bit_at_clear_same, bit_at_clear_other}
+use Rattle.std.proofs.lemmas.Nat.Bits.{bit_at-lt, bit_at-zero, bit_at_or, bit_at_and, bit_at_above}
+use Rattle.std.proofs.lemmas.Nat.Bits.{bit_at-trailing_zeros, shr_and_one, bit_at_set_same, bit_at_set_other}
+use Rattle.std.proofs.lemmas.Nat.Bits.{bit_at_clear_same, bit_at_clear_other}
 use Rattle.si_base.specs.Bits.{bit}
-use Rattle.si_base.specs.Sets.{flag, flags_of, HasNoFlagFrom, HasNoneFrom, IsFirstFlag, IsFirstFrom, AreWithin, AreApart, IsSubset, IsUnion, IsDisjoint}
+use Rattle.si_base.specs.Sets.{flag, flags_of, HasNoFlagFrom, HasNoneFrom, IsFirstFlag, IsFirstFrom, AreWithin}
+use Rattle.si_base.specs.Sets.{AreApart, IsSubset, IsUnion, IsDisjoint}
 use Rattle.si_base.proofs.BitFacts.{below_two, same_codes}
 
 -- ---- the list of the flags

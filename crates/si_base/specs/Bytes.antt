@@ -1,4 +1,4 @@
--- Bytes of texts, by their names.
+-- (text) Bytes of texts, by their names.
 use Rattle.std.specs.Prelude.{ℕ, Bool, if◌then◌else◌}
 
 abbrev pub tab : ℕ

@@ -1,4 +1,4 @@
--- Event order and the order of arcs, as comparisons.
+-- (field) Event order and the order of arcs, as comparisons.
 use Rattle.std.specs.declared.cmp.Ordering.{Ordering}
 use Rattle.std.specs.Ordering.{nat_cmp, on, flip_args, then_cmp, bool_cmp}
 use Rattle.si_base.specs.declared.ids.Event.{Event}

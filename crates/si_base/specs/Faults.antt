@@ -1,4 +1,4 @@
--- The first fault, in order.
+-- (text) The first fault, in order.
 use Rattle.std.specs.Prelude.{ℕ, ◌++◌, Bool, List, [], ◌∷◌, Option, Some, None, if◌then◌else◌}
 use Rattle.si_base.specs.declared.fault.TextKind.{TextKind}
 

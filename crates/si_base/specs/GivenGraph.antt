@@ -1,4 +1,4 @@
--- The graph that a text gives, whichever form the text has.
+-- (text) The graph that a text gives, whichever form the text has.
 use Rattle.std.specs.Prelude.{◌≡◌, ℕ, List, [], map, slice_index_or}
 use Rattle.si_base.specs.declared.graph.Signal.{Signal}
 use Rattle.si_base.specs.declared.graph.SigKind.{SigKind}

@@ -1,5 +1,7 @@
--- State graphs: steps, walks, reachable states, and the cut to these.
-use Rattle.std.specs.Prelude.{◌≡◌, ℕ, ◌+◌, ◌*◌, ◌<◌, ◌≤◌, ◌^◌, ◌==◌, ◌&&◌, ◌↔◌, Bool, true, false, List, [], ◌∷◌, length, Contains, All, AllPairs, slice_index, slice_get, Some, unwrap_or, option_map, if◌then◌else◌, IsTrue}
+-- (field) State graphs: steps, walks, reachable states, and the cut to these.
+use Rattle.std.specs.Prelude.{◌≡◌, ℕ, ◌+◌, ◌*◌, ◌<◌, ◌≤◌, ◌^◌, ◌==◌, ◌&&◌, ◌↔◌, Bool, true, false}
+use Rattle.std.specs.Prelude.{List, [], ◌∷◌, length, Contains, All, AllPairs, slice_index}
+use Rattle.std.specs.Prelude.{slice_get, Some, unwrap_or, option_map, if◌then◌else◌, IsTrue}
 use mathlib.Core.Bool.{beq}
 use Rattle.std.specs.List.{list_any}
 use Rattle.si_base.specs.declared.ids.Event.{Event}

@@ -1,4 +1,4 @@
--- The limits of the tool. The code has them under the same words, in `src/limits.rt`.
+-- (field) The limits of the tool. The code has them under the same words, in `src/limits.rt`.
 use Rattle.std.specs.Prelude.{ℕ}
 
 -- how many signals a code has bits for

@@ -1,4 +1,4 @@
--- Gates that give the next values of a coded graph.
+-- (field) Gates that give the next values of a coded graph.
 use Rattle.std.specs.Prelude.{◌≡◌, ℕ, ◌<◌, false, Some, slice_get}
 use Rattle.si_base.specs.declared.graph.Signal.{Signal}
 use Rattle.si_base.specs.Graph.{IsNonInput}

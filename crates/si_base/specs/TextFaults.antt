@@ -1,7 +1,16 @@
--- The faults of texts: how they are named, and what a reader's answer says of them.
+-- (text) The faults of texts: how they are named, and what a reader's answer says of them.
 use Rattle.std.specs.Prelude.{◌≡◌, ℕ, List, codes, Option, Some, None, Result, Ok, Err}
 use Rattle.si_base.specs.declared.fault.TextKind.{TextKind}
-use Rattle.si_base.specs.declared.fault.TextKind.TheVariants.{BadByte, UnknownDirective, BadName, Repeated, Dummy, Toggle, Undeclared, BadEvent, BadArcLine, BadLine, NoStateGraph, NoMarking, MarkingNotOne, UnknownState, NoEnd, TooManySignals, TooManyStates, TooManyArcs, TooManyCells, TooManyPins, BadGate, BadNumber, BadPin, Latch, BadWord, BadExpression, TooDeep, OwnFalling}
+use Rattle.si_base.specs.declared.fault.TextKind.TheVariants.{BadByte, UnknownDirective, BadName}
+use Rattle.si_base.specs.declared.fault.TextKind.TheVariants.{Repeated, Dummy, Toggle, Undeclared}
+use Rattle.si_base.specs.declared.fault.TextKind.TheVariants.{BadEvent, BadArcLine, BadLine}
+use Rattle.si_base.specs.declared.fault.TextKind.TheVariants.{NoStateGraph, NoMarking}
+use Rattle.si_base.specs.declared.fault.TextKind.TheVariants.{MarkingNotOne, UnknownState, NoEnd}
+use Rattle.si_base.specs.declared.fault.TextKind.TheVariants.{TooManySignals, TooManyStates}
+use Rattle.si_base.specs.declared.fault.TextKind.TheVariants.{TooManyArcs, TooManyCells}
+use Rattle.si_base.specs.declared.fault.TextKind.TheVariants.{TooManyPins, BadGate, BadNumber}
+use Rattle.si_base.specs.declared.fault.TextKind.TheVariants.{BadPin, Latch, BadWord, BadExpression}
+use Rattle.si_base.specs.declared.fault.TextKind.TheVariants.{TooDeep, OwnFalling}
 use Rattle.si_base.specs.declared.fault.LineFault.{LineFault}
 use Rattle.si_base.specs.declared.fault.LineFault.TheVariants.{NoMemory, Kind}
 use Rattle.si_base.specs.declared.fault.TextFault.{TextFault}

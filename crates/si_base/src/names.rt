@@ -1,6 +1,8 @@
 //! A list of distinct names, each with its place.
 
-ghost use Rattle.std.specs.Prelude.{◌≡◌, ◌≢◌, ℕ, ◌+◌, ◌<◌, ◌≤◌, ◌^◌, List, [], ◌∷◌, ◌++◌, length, IsTrue, IfOk, OnOk, OnErr, IsErrOf, ◌↔◌, Contains, slice_get, Some, None, IfSome, IsNone, AllPairs};
+ghost use Rattle.std.specs.Prelude.{◌≡◌, ◌≢◌, ℕ, ◌+◌, ◌<◌, ◌≤◌, ◌^◌, List, [], ◌∷◌, ◌++◌, length};
+ghost use Rattle.std.specs.Prelude.{IsTrue, IfOk, OnOk, OnErr, IsErrOf, ◌↔◌, Contains, slice_get};
+ghost use Rattle.std.specs.Prelude.{Some, None, IfSome, IsNone, AllPairs};
 
 use crate::ids::NoMemory;
 use crate::text_key::TextKey;

@@ -1,7 +1,10 @@
 //! Sets of states.
 
-ghost use Rattle.std.specs.Prelude.{◌≡◌, ℕ, ◌<◌, ◌≤◌, ◌*◌, ◌^◌, ◌↔◌, List, length, Bool, true, false, IfOk, IsTrue, replicate, count_by, slice_index, slice_index_or, slice_set, MatchOption, bit_or};
-ghost use Rattle.si_base.specs.Sets.{IsSubset, IsUnion, IsDisjoint, IsFirstFrom, HasNoneFrom, AreWithin, AreApart, HasNoFlagFrom, IsFirstFlag, flags_of};
+ghost use Rattle.std.specs.Prelude.{◌≡◌, ℕ, ◌<◌, ◌≤◌, ◌*◌, ◌^◌, ◌↔◌, List, length, Bool, true};
+ghost use Rattle.std.specs.Prelude.{false, IfOk, IsTrue, replicate, count_by, slice_index};
+ghost use Rattle.std.specs.Prelude.{slice_index_or, slice_set, MatchOption, bit_or};
+ghost use Rattle.si_base.specs.Sets.{IsSubset, IsUnion, IsDisjoint, IsFirstFrom, HasNoneFrom};
+ghost use Rattle.si_base.specs.Sets.{AreWithin, AreApart, HasNoFlagFrom, IsFirstFlag, flags_of};
 
 use crate::ids::{NoMemory, StateId};
 use std::alloc::Global;

@@ -1,7 +1,9 @@
 -- The list of blocks grows, by regions and by intervals.
-use Rattle.std.proofs.Common.{◌≡◌, ℕ, zero, suc, ◌+◌, ◌*◌, ◌<◌, ◌≤◌, ◌∙◌, Bool, List, [], ◌∷◌, ◌++◌, length, get_or, take, drop, All, Contains, inl, inr, sym, ap, ap₂, subst, arith}
+use Rattle.std.proofs.Common.{◌≡◌, ℕ, zero, suc, ◌+◌, ◌*◌, ◌<◌, ◌≤◌, ◌∙◌, Bool, List, [], ◌∷◌, ◌++◌, length, get_or}
+use Rattle.std.proofs.Common.{take, drop, All, Contains, inl, inr, sym, ap, ap₂, subst, arith}
 use Rattle.std.proofs.lemmas.Bool.{cases_Bool}
-use Rattle.std.proofs.lemmas.List.{take_more, take_all, take-append-drop, length-take, length-drop, get_or-take, get_or-drop, get_or_default}
+use Rattle.std.proofs.lemmas.List.{take_more, take_all, take-append-drop, length-take, length-drop, get_or-take}
+use Rattle.std.proofs.lemmas.List.{get_or-drop, get_or_default}
 use Rattle.si_base.specs.declared.ids.Event.{Event}
 use Rattle.si_base.specs.declared.graph.Signal.{Signal}
 use Rattle.si_base.specs.Graph.{StateGraph, IsGraph, rise, fall, is_driven}

@@ -1,5 +1,6 @@
 -- An interval and the blocks of a small graph: the input `a` switches twice, and the output `z` once in between.
-use Rattle.std.proofs.Common.{◌≡◌, ◌≢◌, ℕ, ◌||◌, Bool, true, false, not, List, [], ◌∷◌, map, get_or, refl, sym, ap, subst, lit<, inl, inr}
+use Rattle.std.proofs.Common.{◌≡◌, ◌≢◌, ℕ, ◌||◌, Bool, true, false, not, List, [], ◌∷◌, map, get_or, refl, sym, ap}
+use Rattle.std.proofs.Common.{subst, lit<, inl, inr}
 use Rattle.std.proofs.lemmas.Bool.{or_cases, true≢false}
 use Rattle.si_base.specs.declared.ids.Event.{Event}
 use Rattle.si_base.specs.declared.graph.Edge.{Edge}

@@ -1,5 +1,6 @@
 -- The High states spread from the blocks until no state is left, or until a part is torn.
-use Rattle.std.proofs.Common.{◌≡◌, ◌≢◌, ℕ, ◌+◌, ◌<◌, ◌≤◌, ◌↔◌, ◌⊎◌, Bool, true, false, List, [], ◌∷◌, ◌++◌, length, get_or, map, Contains, refl, sym, ap, subst, ◌∙◌, arith, inl, inr}
+use Rattle.std.proofs.Common.{◌≡◌, ◌≢◌, ℕ, ◌+◌, ◌<◌, ◌≤◌, ◌↔◌, ◌⊎◌, Bool, true, false, List, [], ◌∷◌, ◌++◌, length}
+use Rattle.std.proofs.Common.{get_or, map, Contains, refl, sym, ap, subst, ◌∙◌, arith, inl, inr}
 use Rattle.std.proofs.lemmas.Bool.{cases_Bool, true≢false}
 use Rattle.std.proofs.lemmas.List.Elements.{Contains-push, Contains-push_cases}
 use Rattle.si_base.specs.declared.ids.Event.{Event}
@@ -17,11 +18,14 @@ use Rattle.si_insert.specs.declared.partition.Class.{Class}
 use Rattle.si_insert.specs.declared.partition.Class.TheVariants.{Low, Rising, High, Falling}
 use Rattle.si_insert.specs.Partition.{class_of, may_lead, IsLawful}
 use Rattle.si_candidates.specs.Blocks.{AreDisjoint}
-use Rattle.si_candidates.specs.Parts.{IsOther, ComesFrom, GoesInto, IsDrawn, IsHigh, IsLow, AreClasses, IsTorn, IsFirstTorn}
-use Rattle.si_candidates.specs.Raising.{lowered, is_high, is_between, AreBegun, AreRaised, IsHighInBoth, Raises, IsEnteredBy, LeadsInto, MeetsRising, MeetsFalling}
+use Rattle.si_candidates.specs.Parts.{IsOther, ComesFrom, GoesInto, IsDrawn, IsHigh, IsLow, AreClasses, IsTorn}
+use Rattle.si_candidates.specs.Parts.{IsFirstTorn}
+use Rattle.si_candidates.specs.Raising.{lowered, is_high, is_between, AreBegun, AreRaised, IsHighInBoth, Raises}
+use Rattle.si_candidates.specs.Raising.{IsEnteredBy, LeadsInto, MeetsRising, MeetsFalling}
 use Rattle.si_candidates.proofs.PartLaws.{drawn_on, classes_lawful}
 use Rattle.si_candidates.proofs.LawfulParts.{lawful_are_classes, each_is_drawn}
-use Rattle.si_candidates.proofs.RaisingLemmas.{marks_as, raises_both, rising_stays, falling_stays, same_size, high_in, in_high, between_in, in_between}
+use Rattle.si_candidates.proofs.RaisingLemmas.{marks_as, raises_both, rising_stays, falling_stays, same_size, high_in}
+use Rattle.si_candidates.proofs.RaisingLemmas.{in_high, between_in, in_between}
 
 -- ---- the classes as they begin
 module _ (plus minus : List Bool) (low first second : List Class) (rising falling : List ℕ) where

@@ -1,5 +1,6 @@
 -- The classes of two blocks are a lawful partition, the only one.
-use Rattle.std.proofs.Common.{◌≡◌, ◌≢◌, ℕ, suc, ◌<◌, ◌⊎◌, Bool, true, List, [], ◌∷◌, length, refl, sym, ◌∙◌, arith, inl, inr}
+use Rattle.std.proofs.Common.{◌≡◌, ◌≢◌, ℕ, suc, ◌<◌, ◌⊎◌, Bool, true, List, [], ◌∷◌, length, refl, sym, ◌∙◌, arith, inl}
+use Rattle.std.proofs.Common.{inr}
 use Rattle.si_base.specs.declared.ids.Event.{Event}
 use Rattle.si_base.specs.Graph.{StateGraph, Step, IsGraph}
 use Rattle.si_base.specs.Codes.{IsConnected}

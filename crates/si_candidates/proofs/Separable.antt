@@ -13,7 +13,8 @@ use Rattle.si_insert.specs.Partition.{class_of, IsLawful}
 use Rattle.si_insert.specs.Insertion.{waits, has_copy}
 use Rattle.si_insert.specs.Accepted.{IsAccepted, copy_count, Delay}
 use Rattle.si_insert.specs.Tests.{InputWaits, WaitsAfter}
-use Rattle.si_insert.proofs.WaitingClass.{waiting, is_or_not, waits_at, waits_if, goes_elsewhere, goes_within, goes_into}
+use Rattle.si_insert.proofs.WaitingClass.{waiting, is_or_not, waits_at, waits_if, goes_elsewhere, goes_within}
+use Rattle.si_insert.proofs.WaitingClass.{goes_into}
 use Rattle.si_insert.proofs.Accepting.{accepts_at_tests}
 use Rattle.si_candidates.specs.Parts.{AreClasses}
 use Rattle.si_insert.specs.Diamond.{Diamond}

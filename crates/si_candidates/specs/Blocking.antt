@@ -1,4 +1,4 @@
--- What a block alone says of acceptance.
+-- (field) What a block alone says of acceptance.
 use Rattle.std.specs.Prelude.{◌≡◌, ◌≢◌, ℕ, Contains}
 use Rattle.si_base.specs.declared.ids.Event.{Event}
 use Rattle.si_base.specs.declared.graph.Edge.{Edge}

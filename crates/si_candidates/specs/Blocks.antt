@@ -1,6 +1,7 @@
--- The blocks of a graph, and the candidates for the insertion of a signal: pairs of disjoint
--- blocks.
-use Rattle.std.specs.Prelude.{◌≡◌, ℕ, ◌+◌, ◌<◌, ◌==◌, ◌&&◌, not, Bool, true, false, List, [], ◌∷◌, ◌++◌, length, map, take, filter, if◌then◌else◌}
+-- (field) The blocks of a graph, and the candidates for the insertion of a signal: pairs of
+-- disjoint blocks.
+use Rattle.std.specs.Prelude.{◌≡◌, ℕ, ◌+◌, ◌<◌, ◌==◌, ◌&&◌, not, Bool, true, false, List, [], ◌∷◌}
+use Rattle.std.specs.Prelude.{◌++◌, length, map, take, filter, if◌then◌else◌}
 use mathlib.Core.Bool.{beq}
 use Rattle.std.specs.List.{list_any, range_with_len, slice_index_or}
 use Rattle.si_base.specs.declared.ids.Event.{Event}

@@ -1,4 +1,4 @@
--- Intervals: what can happen from some states on before an event.
+-- (field) Intervals: what can happen from some states on before an event.
 use Rattle.std.specs.Prelude.{◌≡◌, ◌≢◌, ℕ, Bool, List, [], ◌∷◌, length}
 use Rattle.si_base.specs.declared.ids.Event.{Event}
 use Rattle.si_base.specs.Graph.{StateGraph, Step}

@@ -1,4 +1,4 @@
--- The laws of candidates, one word each.
+-- (law) The laws of candidates, one word each.
 use Rattle.std.specs.Prelude.{◌≡◌, ℕ, ◌+◌, ◌<◌, ◌≤◌, ◌↔◌, ◌⊎◌, Bool, List, length, count_by}
 use Rattle.si_base.specs.declared.ids.Event.{Event}
 use Rattle.si_base.specs.Graph.{StateGraph, IsGraph}

@@ -1,5 +1,5 @@
--- The classes of a candidate: a block where the new signal rises, one where it falls, and the parts
--- between them.
+-- (field) The classes of a candidate: a block where the new signal rises, one where it falls, and
+-- the parts between them.
 use Rattle.std.specs.Prelude.{◌≡◌, ℕ, ◌<◌, ◌↔◌, ◌⊎◌, Bool, List, [], ◌∷◌, length}
 use Rattle.si_base.specs.declared.ids.Event.{Event}
 use Rattle.si_base.specs.Order.{IsFirst}

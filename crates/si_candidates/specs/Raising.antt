@@ -1,4 +1,4 @@
--- How the parts of a candidate become High: from the blocks on, state after state.
+-- (loop) How the parts of a candidate become High: from the blocks on, state after state.
 use Rattle.std.specs.Prelude.{◌≡◌, ℕ, ◌↔◌, Bool, true, false, List, length, map, Contains}
 use Rattle.si_base.specs.Graph.{StateGraph}
 use Rattle.si_base.specs.Sets.{IsIn}

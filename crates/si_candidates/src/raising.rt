@@ -1,13 +1,15 @@
 //! How the parts of a candidate become High: from the blocks on, state after state.
 
-ghost use Rattle.std.specs.Prelude.{◌≡◌, ℕ, ◌<◌, ◌⊎◌, ◌↔◌, true, false, [], IfOk, OnOk, IsTrue, All, Contains, length};
+ghost use Rattle.std.specs.Prelude.{◌≡◌, ℕ, ◌<◌, ◌⊎◌, ◌↔◌, true, false, [], IfOk, OnOk, IsTrue};
+ghost use Rattle.std.specs.Prelude.{All, Contains, length};
 ghost use Rattle.si_base.specs.Sets.{IsIn};
 ghost use Rattle.si_graph.specs.Closure.{Leads};
 ghost use Rattle.si_regions.specs.Connected.{Adjoins};
 ghost use Rattle.si_insert.specs.Partition.{class_of};
 ghost use Rattle.si_candidates.specs.Blocks.{AreDisjoint};
 ghost use Rattle.si_candidates.specs.Parts.{AreClasses, IsTorn};
-ghost use Rattle.si_candidates.specs.Raising.{AreListsBegun, AreRaised, IsEnteredBy, LeadsInto, MeetsRising, MeetsFalling, Raises};
+ghost use Rattle.si_candidates.specs.Raising.{AreListsBegun, AreRaised, IsEnteredBy, LeadsInto};
+ghost use Rattle.si_candidates.specs.Raising.{MeetsRising, MeetsFalling, Raises};
 
 use crate::block::Block;
 use si_base::ids::{NoMemory, StateId};

@@ -1,5 +1,7 @@
 -- Pins, sums and cells of lines without fault.
-use Rattle.std.proofs.Common.{◌≡◌, ◌≢◌, ℕ, ◌+◌, ◌<◌, ◌≤◌, ◌==◌, ◌||◌, not, Bool, true, false, List, [], ◌∷◌, ◌++◌, length, map, get_or, filter, bytes_eq, codes, Option, Some, None, refl, sym, ap, ◌∙◌, arith, inl, inr, append_assoc, unwrap_or, subst, AllPairs, All, IsTrue, nat_le}
+use Rattle.std.proofs.Common.{◌≡◌, ◌≢◌, ℕ, ◌+◌, ◌<◌, ◌≤◌, ◌==◌, ◌||◌, not, Bool, true, false, List, [], ◌∷◌, ◌++◌}
+use Rattle.std.proofs.Common.{length, map, get_or, filter, bytes_eq, codes, Option, Some, None, refl, sym, ap, ◌∙◌}
+use Rattle.std.proofs.Common.{arith, inl, inr, append_assoc, unwrap_or, subst, AllPairs, All, IsTrue, nat_le}
 use Rattle.std.specs.List.{list_any, list_all, slice_split, onto_first}
 use Rattle.std.proofs.lemmas.Bool.{true≢false, cases_Bool, false_from_ne_true}
 use Rattle.std.proofs.lemmas.Bool.Decides.{eqb_tells, leb_tells}
@@ -19,7 +21,8 @@ use Rattle.si_words.specs.Names.{stands_in}
 use Rattle.si_words.specs.Sums.{is_one, is_sum, literal_name, parts_at}
 use Rattle.si_base.specs.Lines.{has_bad_byte}
 use Rattle.si_cell.specs.LibraryText.{is_end, names_of, cell_words_fault, cell_line_fault, words, with_line}
-use Rattle.si_cell.specs.CellWords.{CellWords, cell_of, is_cell_sum, cell_words, cell_fault, cell_name_fault, pin_fault, literal_fault, cube_fault, sum_fault, literal_of, cube_of, sum_of, declared}
+use Rattle.si_cell.specs.CellWords.{CellWords, cell_of, is_cell_sum, cell_words, cell_fault, cell_name_fault, pin_fault}
+use Rattle.si_cell.specs.CellWords.{literal_fault, cube_fault, sum_fault, literal_of, cube_of, sum_of, declared}
 use Rattle.si_cell.specs.Library.{Cell, IsCell, AreCells, IsPinName, own}
 use Rattle.si_cell.specs.Limits.{max_cells, max_pins}
 use Rattle.si_cell.specs.Literals.{has_literal, same_literal, in_literal_order, both_from, IsRising}
@@ -28,7 +31,8 @@ use Rattle.si_base.proofs.Steps.{beq-true}
 use Rattle.si_base.specs.Bits.{bit, flip, IsSet}
 use mathlib.Core.Bool.{beq}
 use Rattle.si_cell.proofs.OrderLemmas.{rising_of, makes_in_order}
-use Rattle.si_cell.proofs.CubeLemmas.{InCube, in_none, in_more, repeated, undeclared, is_declared, found, same_is, some_of, passes_at, names_same, same_name, and_first, and_second}
+use Rattle.si_cell.proofs.CubeLemmas.{InCube, in_none, in_more, repeated, undeclared, is_declared, found, same_is}
+use Rattle.si_cell.proofs.CubeLemmas.{some_of, passes_at, names_same, same_name, and_first, and_second}
 
 pub not_true : (b : Bool) → not b ≡ false → b ≡ true
 not_true true e = refl

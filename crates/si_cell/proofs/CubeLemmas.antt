@@ -1,5 +1,7 @@
 -- The cube of a cell's line, read one word after the other.
-use Rattle.std.proofs.Common.{◌≡◌, ℕ, zero, suc, filter, ◌+◌, ◌<◌, ◌≤◌, ◌&&◌, ◌||◌, Bool, true, false, List, [], ◌∷◌, ◌++◌, length, map, take, drop, get_or, position, bytes_eq, codes, Bor, Option, Some, None, refl, sym, ap, ◌∙◌, arith, inl, inr, unwrap_or}
+use Rattle.std.proofs.Common.{◌≡◌, ℕ, zero, suc, filter, ◌+◌, ◌<◌, ◌≤◌, ◌&&◌, ◌||◌, Bool, true, false, List, [], ◌∷◌}
+use Rattle.std.proofs.Common.{◌++◌, length, map, take, drop, get_or, position, bytes_eq, codes, Bor, Option, Some, None}
+use Rattle.std.proofs.Common.{refl, sym, ap, ◌∙◌, arith, inl, inr, unwrap_or}
 use Rattle.std.specs.List.{list_any, list_all, position_or_len}
 use Rattle.std.proofs.lemmas.Bool.{true≢false, cases_Bool, cases_lt, false_from_ne_true}
 use Rattle.std.proofs.lemmas.Bool.Decides.{eqb_tells}

@@ -1,5 +1,7 @@
 -- An instance's sum has its value.
-use Rattle.std.proofs.Common.{◌≡◌, ℕ, zero, suc, ◌⊎◌, ◌+◌, ◌*◌, ◌/◌, ◌%◌, ◌<◌, ◌≤◌, ◌==◌, ◌&&◌, ◌||◌, not, Bool, true, false, List, [], ◌∷◌, ◌++◌, length, map, filter, get_or, if◌then◌else◌, All, refl, sym, ap, ◌∙◌, arith, inl, inr}
+use Rattle.std.proofs.Common.{◌≡◌, ℕ, zero, suc, ◌⊎◌, ◌+◌, ◌*◌, ◌/◌, ◌%◌, ◌<◌, ◌≤◌, ◌==◌, ◌&&◌, ◌||◌, not, Bool, true}
+use Rattle.std.proofs.Common.{false, List, [], ◌∷◌, ◌++◌, length, map, filter, get_or, if◌then◌else◌, All, refl, sym}
+use Rattle.std.proofs.Common.{ap, ◌∙◌, arith, inl, inr}
 use Rattle.std.specs.List.{list_all}
 use Rattle.std.proofs.lemmas.Bool.{true≢false, cases_Bool, false_from_ne_true}
 use Rattle.std.proofs.lemmas.List.{length_push, map_push, get_or-map}
@@ -13,7 +15,8 @@ use Rattle.si_base.specs.Limits.{code_width}
 use Rattle.si_base.specs.Netlist.{Sum, literal_value, sum_value}
 use Rattle.si_base.specs.declared.ids.Literal.{Literal}
 use Rattle.si_cell.specs.Expanded.{placed, placed_sum, plain, sources, expanded}
-use Rattle.si_cell.specs.Library.{Library, Instance, IsLibrary, IsInstance, cell_at, no_cell, code_of, pin_values, instance_value}
+use Rattle.si_cell.specs.Library.{Library, Instance, IsLibrary, IsInstance, cell_at, no_cell, code_of, pin_values}
+use Rattle.si_cell.specs.Library.{instance_value}
 use Rattle.si_cell.specs.Literals.{same_literal, has_literal, complement, both_from, clashes, in_literal_order}
 use Rattle.si_cell.proofs.CubeLemmas.{found, same_is, same_self, and_first, and_second}
 

@@ -1,5 +1,7 @@
 -- What holds of each expanded sum, and of each library that a text spells.
-use Rattle.std.proofs.Common.{◌≡◌, ℕ, zero, suc, ◌+◌, ◌<◌, ◌≤◌, not, Bool, true, false, List, [], ◌∷◌, ◌++◌, length, map, filter, if◌then◌else◌, bytes_eq, codes, Option, Some, None, All, refl, sym, ◌∙◌, arith, inl, inr}
+use Rattle.std.proofs.Common.{◌≡◌, ℕ, zero, suc, ◌+◌, ◌<◌, ◌≤◌, not, Bool, true, false, List, [], ◌∷◌, ◌++◌, length}
+use Rattle.std.proofs.Common.{map, filter, if◌then◌else◌, bytes_eq, codes, Option, Some, None, All, refl, sym, ◌∙◌}
+use Rattle.std.proofs.Common.{arith, inl, inr}
 use Rattle.std.proofs.lemmas.Bool.{true≢false, cases_Bool}
 use Rattle.std.proofs.lemmas.List.{append-nil, length-map}
 use Rattle.std.proofs.lemmas.List.Elements.{All-nil, All-cons, All-push, filter_passes}
@@ -18,8 +20,11 @@ use Rattle.si_words.specs.Sums.{is_empty}
 use Rattle.si_cell.specs.CellWords.{CellWords, cell_words, cell_fault, cell_name_fault, pin_fault, cell_of, is_cell_sum}
 use Rattle.si_cell.specs.Expanded.{placed, placed_sum, plain, sources, expanded}
 use Rattle.si_cell.specs.Library.{Library, Instance, Cell, IsCell, AreCells, IsLibrary, IsInstance, cell_at}
-use Rattle.si_cell.specs.LibraryText.{words, name_words_fault, name_fault, name_in, name_line_fault, is_end, names_of, cell_words_fault, cell_line_fault, with_line, spelled, cell_lines_fault, cells_in, lines_fault, library_in, library_fault, library_of}
-use Rattle.si_cell.specs.Literals.{same_literal, has_literal, complement, both_from, clashes, in_literal_order, IsRising}
+use Rattle.si_cell.specs.LibraryText.{words, name_words_fault, name_fault, name_in, name_line_fault, is_end, names_of}
+use Rattle.si_cell.specs.LibraryText.{cell_words_fault, cell_line_fault, with_line, spelled, cell_lines_fault, cells_in}
+use Rattle.si_cell.specs.LibraryText.{lines_fault, library_in, library_fault, library_of}
+use Rattle.si_cell.specs.Literals.{same_literal, has_literal, complement, both_from, clashes, in_literal_order}
+use Rattle.si_cell.specs.Literals.{IsRising}
 use Rattle.si_cell.proofs.CubeLemmas.{found, same_is}
 use Rattle.si_cell.proofs.CellLemmas.{not_true, good_pins, good_name, is_cell, more_cells, plain_words}
 use Rattle.si_cell.proofs.ExpandedLemmas.{all_small, placed_small, sum_inside}

@@ -1,9 +1,12 @@
--- The line of a cell: its fault, and the cell that it spells.
-use Rattle.std.specs.Prelude.{ℕ, ◌&&◌, ◌||◌, not, Bool, List, [], ◌∷◌, ◌++◌, length, map, nat_le, bytes_eq, codes, if◌then◌else◌, Option, Some, None, option_map, unwrap_or}
+-- (text) The line of a cell: its fault, and the cell that it spells.
+use Rattle.std.specs.Prelude.{ℕ, ◌&&◌, ◌||◌, not, Bool, List, [], ◌∷◌, ◌++◌, length, map, nat_le}
+use Rattle.std.specs.Prelude.{bytes_eq, codes, if◌then◌else◌, Option, Some, None, option_map}
+use Rattle.std.specs.Prelude.{unwrap_or}
 use Rattle.std.specs.List.{list_any}
 use Rattle.si_base.specs.declared.ids.Literal.{Literal}
 use Rattle.si_base.specs.declared.fault.TextKind.{TextKind}
-use Rattle.si_base.specs.declared.fault.TextKind.TheVariants.{BadLine, BadName, Repeated, Undeclared, TooManyCells, TooManyPins}
+use Rattle.si_base.specs.declared.fault.TextKind.TheVariants.{BadLine, BadName, Repeated}
+use Rattle.si_base.specs.declared.fault.TextKind.TheVariants.{Undeclared, TooManyCells, TooManyPins}
 use Rattle.si_base.specs.Faults.{when, ◌otherwise◌, first_after, first_in}
 use Rattle.si_base.specs.Netlist.{Sum}
 use Rattle.si_base.specs.Words.{is_signal_name}

@@ -1,5 +1,6 @@
--- The sum of an instance over the signals of its literals.
-use Rattle.std.specs.Prelude.{ℕ, not, true, List, [], ◌∷◌, ◌++◌, map, filter, if◌then◌else◌, slice_index_or}
+-- (field) The sum of an instance over the signals of its literals.
+use Rattle.std.specs.Prelude.{ℕ, not, true, List, [], ◌∷◌, ◌++◌, map, filter, if◌then◌else◌}
+use Rattle.std.specs.Prelude.{slice_index_or}
 use Rattle.si_base.specs.declared.ids.Literal.{Literal}
 use Rattle.si_base.specs.Netlist.{Sum}
 use Rattle.si_cell.specs.Library.{Library, Instance, cell_at}

@@ -1,5 +1,6 @@
--- Libraries of cells, and the values of their instances.
-use Rattle.std.specs.Prelude.{◌≡◌, ◌≢◌, ℕ, ◌<◌, ◌≤◌, ◌+◌, ◌*◌, Bool, List, [], ◌∷◌, ◌++◌, length, map, codes, if◌then◌else◌, slice_index_or, IsTrue, All, AllPairs}
+-- (field) Libraries of cells, and the values of their instances.
+use Rattle.std.specs.Prelude.{◌≡◌, ◌≢◌, ℕ, ◌<◌, ◌≤◌, ◌+◌, ◌*◌, Bool, List, [], ◌∷◌, ◌++◌, length}
+use Rattle.std.specs.Prelude.{map, codes, if◌then◌else◌, slice_index_or, IsTrue, All, AllPairs}
 use Rattle.std.specs.List.{range_with_len}
 use Rattle.si_base.specs.declared.ids.Literal.{Literal}
 use Rattle.si_base.specs.Limits.{code_width}

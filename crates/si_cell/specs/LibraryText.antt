@@ -1,5 +1,6 @@
--- The text of a library: its first fault, and the library that a text without one spells.
-use Rattle.std.specs.Prelude.{ℕ, not, Bool, false, List, [], ◌∷◌, ◌++◌, map, bytes_eq, codes, if◌then◌else◌, Option, Some, None}
+-- (text) The text of a library: its first fault, and the library that a text without one spells.
+use Rattle.std.specs.Prelude.{ℕ, not, Bool, false, List, [], ◌∷◌, ◌++◌, map, bytes_eq, codes}
+use Rattle.std.specs.Prelude.{if◌then◌else◌, Option, Some, None}
 use Rattle.si_base.specs.declared.fault.TextKind.{TextKind}
 use Rattle.si_base.specs.declared.fault.TextKind.TheVariants.{BadByte, BadLine, BadName, NoEnd}
 use Rattle.si_base.specs.Faults.{when, ◌otherwise◌, at_line}

@@ -1,4 +1,4 @@
--- The limits of libraries. The code has them under the same words, in `src/limits.rt`.
+-- (field) The limits of libraries. The code has them under the same words, in `src/limits.rt`.
 use Rattle.std.specs.Prelude.{ℕ, ◌+◌, ◌^◌}
 
 -- the most cells of a library

@@ -1,5 +1,6 @@
--- Literals in literal order: signal order, with plain before complemented.
-use Rattle.std.specs.Prelude.{ℕ, ◌+◌, ◌==◌, ◌&&◌, not, Bool, true, false, ◌<◌, AllPairs, List, [], ◌∷◌, zero, suc, filter}
+-- (field) Literals in literal order: signal order, with plain before complemented.
+use Rattle.std.specs.Prelude.{ℕ, ◌+◌, ◌==◌, ◌&&◌, not, Bool, true, false, ◌<◌, AllPairs, List, []}
+use Rattle.std.specs.Prelude.{◌∷◌, zero, suc, filter}
 use Rattle.std.specs.List.{list_any}
 use mathlib.Core.Bool.{beq}
 use Rattle.si_base.specs.declared.ids.Literal.{Literal}

@@ -1,4 +1,4 @@
--- What readers hold and answer, as the definitions see it.
+-- (loop) What readers hold and answer, as the definitions see it.
 use Rattle.std.specs.Prelude.{◌≡◌, ℕ, List, [], IsTrue}
 use Rattle.si_base.specs.Lines.{Line}
 use Rattle.si_base.specs.Words.{is_signal_name}

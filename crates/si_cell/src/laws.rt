@@ -6,7 +6,8 @@ ghost use Rattle.si_base.specs.Limits.{code_width};
 ghost use Rattle.si_base.specs.Netlist.{sum_value};
 ghost use Rattle.si_base.specs.WellFormed.{IsSum};
 ghost use Rattle.si_cell.specs.Expanded.{expanded};
-ghost use Rattle.si_cell.specs.Library.{Library as LibraryValue, Instance as InstanceValue, IsLibrary, IsInstance, instance_value};
+ghost use Rattle.si_cell.specs.Library.{Library as LibraryValue, Instance as InstanceValue};
+ghost use Rattle.si_cell.specs.Library.{IsLibrary, IsInstance, instance_value};
 ghost use Rattle.si_cell.specs.LibraryText.{library_fault, library_of};
 
 /// A text without fault spells a library.

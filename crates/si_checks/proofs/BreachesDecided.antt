@@ -1,11 +1,13 @@
 -- A connected graph is proper, or has a first breach.
-use Rattle.std.proofs.Common.{◌≡◌, ◌≢◌, ℕ, ◌<◌, false, List, Contains, Option, Some, None, refl, sym, ap₂, subst, ◌∙◌, inl, inr}
+use Rattle.std.proofs.Common.{◌≡◌, ◌≢◌, ℕ, ◌<◌, false, List, Contains, Option, Some, None, refl, sym, ap₂, subst, ◌∙◌}
+use Rattle.std.proofs.Common.{inl, inr}
 use Rattle.std.proofs.lemmas.Bool.{cases_eq, cases_order, true≢false, false_from_ne_true}
 use Rattle.si_base.specs.declared.ids.Event.{Event}
 use Rattle.si_base.specs.declared.graph.Edge.{Edge}
 use Rattle.si_base.specs.Graph.{StateGraph, Step, IsGraph, IsNonInput, arc, enables, event_place}
 use Rattle.si_base.specs.Codes.{IsConnected, IsConsistent, IsDeterministic}
-use Rattle.si_base.specs.Proper.{IsCommutative, Split, Splits, split_place, Fork, Forks, fork_place, Loss, Loses, loss_place}
+use Rattle.si_base.specs.Proper.{IsCommutative, Split, Splits, split_place, Fork, Forks, fork_place, Loss, Loses}
+use Rattle.si_base.specs.Proper.{loss_place}
 use Rattle.si_base.proofs.Steps.{enables-step, step_from_enables}
 use Rattle.si_checks.specs.Laws.{ProperOrBreach, AllHold, HasSplit, HasNoValues, HasFork, HasLoss}
 use Rattle.si_checks.specs.Searches.{IsFirstOrNone}

@@ -1,5 +1,7 @@
 -- Graphs that are proper by their codes.
-use Rattle.std.proofs.Common.{◌≡◌, ◌≢◌, ℕ, ◌+◌, ◌<◌, ◌≤◌, ◌⊎◌, ◌&&◌, ◌||◌, ◌^◌, ◌↔◌, Bool, true, false, not, List, length, Contains, All, IsTrue, bit_xor, bit_or, refl, sym, ap, subst, ◌∙◌, arith, inl, inr}
+use Rattle.std.proofs.Common.{◌≡◌, ◌≢◌, ℕ, ◌+◌, ◌<◌, ◌≤◌, ◌⊎◌, ◌&&◌, ◌||◌, ◌^◌, ◌↔◌, Bool, true, false, not, List}
+use Rattle.std.proofs.Common.{length, Contains, All, IsTrue, bit_xor, bit_or, refl, sym, ap, subst, ◌∙◌, arith, inl}
+use Rattle.std.proofs.Common.{inr}
 use Rattle.std.proofs.lemmas.Bool.{cases_eq, cases_lt, cases_Bool, true≢false}
 use Rattle.std.proofs.lemmas.List.Elements.{All-contains}
 use Rattle.si_base.specs.declared.ids.Event.{Event}

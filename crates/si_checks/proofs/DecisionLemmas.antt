@@ -1,5 +1,6 @@
 -- What can be decided of finite lists, and the first of finitely many candidates.
-use Rattle.std.proofs.Common.{◌≡◌, ℕ, zero, suc, ◌<◌, ◌⊎◌, Bool, true, false, List, [], ◌∷◌, ◌++◌, map, length, get_or, Contains, Option, Some, slice_get, refl, sym, ap, subst, ◌∙◌, arith, inl, inr}
+use Rattle.std.proofs.Common.{◌≡◌, ℕ, zero, suc, ◌<◌, ◌⊎◌, Bool, true, false, List, [], ◌∷◌, ◌++◌, map, length, get_or}
+use Rattle.std.proofs.Common.{Contains, Option, Some, slice_get, refl, sym, ap, subst, ◌∙◌, arith, inl, inr}
 use Rattle.std.proofs.lemmas.Bool.{cases_Bool, cases_lt, cases_order, true≢false}
 use Rattle.std.proofs.lemmas.List.Elements.{Contains-append_left, Contains-append_right, Contains-append_cases}
 use Rattle.std.proofs.lemmas.Option.{slice_get-get_or, slice_get_within, same_Some}
@@ -10,7 +11,8 @@ use Rattle.si_base.specs.Graph.{IsNonInput, is_driven, same_event}
 use Rattle.si_base.proofs.Steps.{same_event-true, same_event-refl}
 use Rattle.si_checks.specs.Searches.{IsFirstOrNone}
 use Rattle.si_checks.proofs.FirstLemmas.{first_or_none}
-use Rattle.si_graph.proofs.MemberLemmas.{Contains-cons_cases, Contains-here, Contains-there, Contains-nil, Contains-map, Contains-from_map}
+use Rattle.si_graph.proofs.MemberLemmas.{Contains-cons_cases, Contains-here, Contains-there, Contains-nil, Contains-map}
+use Rattle.si_graph.proofs.MemberLemmas.{Contains-from_map}
 
 -- P holds or it doesn't
 abbrev pub Decided : Type 0 → Type 0

@@ -1,5 +1,6 @@
 -- The first of finitely many, in the order of places.
-use Rattle.std.proofs.Common.{◌≡◌, ℕ, ◌⊎◌, List, [], ◌∷◌, length, Contains, Option, Some, None, refl, sym, ap₂, subst, ◌∙◌, arith, inl, inr}
+use Rattle.std.proofs.Common.{◌≡◌, ℕ, ◌⊎◌, List, [], ◌∷◌, length, Contains, Option, Some, None, refl, sym, ap₂, subst}
+use Rattle.std.proofs.Common.{◌∙◌, arith, inl, inr}
 use Rattle.std.proofs.lemmas.Bool.{cases_order}
 use Rattle.si_base.specs.Order.{Before, IsFirst}
 use Rattle.si_checks.specs.Searches.{IsFirstOrNone}

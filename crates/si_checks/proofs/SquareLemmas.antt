@@ -1,5 +1,6 @@
 -- Pairs of arcs that close to squares, and what a state whose arcs do so can't have.
-use Rattle.std.proofs.Common.{◌≡◌, ℕ, ◌+◌, ◌<◌, ◌≤◌, ◌↔◌, Bool, true, false, not, List, length, get_or, drop, All, IsTrue, refl, sym, ap, subst, ◌∙◌, arith, inl, inr, get_or-drop, length-drop, ◌-◌}
+use Rattle.std.proofs.Common.{◌≡◌, ℕ, ◌+◌, ◌<◌, ◌≤◌, ◌↔◌, Bool, true, false, not, List, length, get_or, drop, All}
+use Rattle.std.proofs.Common.{IsTrue, refl, sym, ap, subst, ◌∙◌, arith, inl, inr, get_or-drop, length-drop, ◌-◌}
 use Rattle.std.proofs.lemmas.Bool.{cases_eq, cases_order, true≢false}
 use Rattle.std.proofs.lemmas.List.{get_or_default}
 use Rattle.si_base.specs.declared.ids.Event.{Event}

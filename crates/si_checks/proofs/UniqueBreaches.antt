@@ -5,7 +5,8 @@ use Rattle.si_base.specs.declared.ids.Event.{Event}
 use Rattle.si_base.specs.Order.{IsFirst}
 use Rattle.si_base.specs.Graph.{StateGraph, Step, event_place}
 use Rattle.si_base.specs.Codes.{CodedGraph, IsConsistent, IsDeterministic}
-use Rattle.si_base.specs.Proper.{IsCommutative, IsPersistent, IsConflict, pair_place, Split, Splits, split_place, Fork, Forks, fork_place, Loss, Loses, loss_place, IsFirstWithoutValues}
+use Rattle.si_base.specs.Proper.{IsCommutative, IsPersistent, IsConflict, pair_place, Split, Splits, split_place, Fork}
+use Rattle.si_base.specs.Proper.{Forks, fork_place, Loss, Loses, loss_place, IsFirstWithoutValues}
 use Rattle.si_graph.proofs.OrderLemmas.{event_from_place}
 use Rattle.si_checks.proofs.FirstLemmas.{firsts_at_one_place}
 

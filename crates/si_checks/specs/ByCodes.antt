@@ -1,4 +1,4 @@
--- Graphs that are proper by their codes.
+-- (loop) Graphs that are proper by their codes.
 use Rattle.std.specs.Prelude.{◌≡◌, ◌≢◌, ℕ, ◌<◌, ◌↔◌, false, Bool, List, length, IsTrue}
 use Rattle.si_base.specs.declared.graph.Edge.{Edge}
 use Rattle.si_base.specs.declared.graph.Signal.{Signal}

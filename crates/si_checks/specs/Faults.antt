@@ -1,14 +1,17 @@
--- What the faults of the checks show of a coded graph.
+-- (field) What the faults of the checks show of a coded graph.
 use Rattle.si_base.specs.Graph.{StateGraph}
 use Rattle.si_base.specs.Order.{IsFirst}
 use Rattle.si_base.specs.Codes.{CodedGraph}
-use Rattle.si_base.specs.Proper.{Forks, fork_place, Loses, loss_place, IsCommutative, IsConflict, pair_place}
+use Rattle.si_base.specs.Proper.{Forks, fork_place, Loses, loss_place, IsCommutative, IsConflict}
+use Rattle.si_base.specs.Proper.{pair_place}
 use Rattle.si_checks.specs.declared.breaches.Breach.{Breach}
 use Rattle.si_checks.specs.declared.breaches.Breach.TheVariants.{Fork as AsFork, Loss as AsLoss}
 use Rattle.si_checks.specs.declared.proper.Improper.{Improper}
-use Rattle.si_checks.specs.declared.proper.Improper.TheVariants.{NoMemory as NoProper, Noncommutative, Nonpersistent}
+use Rattle.si_checks.specs.declared.proper.Improper.TheVariants.{NoMemory as NoProper}
+use Rattle.si_checks.specs.declared.proper.Improper.TheVariants.{Noncommutative, Nonpersistent}
 use Rattle.si_checks.specs.declared.distinct.NotDistinct.{NotDistinct}
-use Rattle.si_checks.specs.declared.distinct.NotDistinct.TheVariants.{NoMemory as NoDistinct, Conflict}
+use Rattle.si_checks.specs.declared.distinct.NotDistinct.TheVariants.{NoMemory as NoDistinct}
+use Rattle.si_checks.specs.declared.distinct.NotDistinct.TheVariants.{Conflict}
 
 -- what is told of a breach
 abbrev pub told_breach : Breach → Improper

@@ -1,9 +1,10 @@
--- What holds of each graph: it is proper, or has a first breach, and that is one.
+-- (law) What holds of each graph: it is proper, or has a first breach, and that is one.
 use Rattle.std.specs.Prelude.{◌≡◌, ℕ}
 use Rattle.si_base.specs.Graph.{StateGraph}
 use Rattle.si_base.specs.Order.{IsFirst}
 use Rattle.si_base.specs.Codes.{IsConsistent, IsDeterministic}
-use Rattle.si_base.specs.Proper.{IsProper, IsCommutative, Split, Splits, split_place, Fork, Forks, fork_place, Loss, Loses, loss_place, IsFirstWithoutValues}
+use Rattle.si_base.specs.Proper.{IsProper, IsCommutative, Split, Splits, split_place, Fork, Forks}
+use Rattle.si_base.specs.Proper.{fork_place, Loss, Loses, loss_place, IsFirstWithoutValues}
 
 -- a graph is proper, or the first of the four properties that it lacks has a first breach
 pub data ProperOrBreach (g : StateGraph) : Type 0 where

@@ -1,4 +1,4 @@
--- What a loan shows of the graph that is lent.
+-- (loop) What a loan shows of the graph that is lent.
 use Rattle.si_base.specs.Codes.{CodedGraph}
 use Rattle.si_checks.specs.declared.distinct.Distinct.{Distinct}
 

@@ -1,9 +1,10 @@
--- What the parts of a search for the first breach answer.
+-- (loop) What the parts of a search for the first breach answer.
 use Rattle.std.specs.Prelude.{◌≡◌, ◌≢◌, ℕ, ◌<◌, ◌≤◌, true, false, List, Option, Some, None}
 use Rattle.si_base.specs.declared.ids.Event.{Event}
 use Rattle.si_base.specs.Order.{IsFirst}
 use Rattle.si_base.specs.Graph.{StateGraph, Step, enables, IsNonInput}
-use Rattle.si_base.specs.Proper.{Fork, Forks, fork_place, Loss, Loses, loss_place, IsCommutative, IsPersistent}
+use Rattle.si_base.specs.Proper.{Fork, Forks, fork_place, Loss, Loses, loss_place, IsCommutative}
+use Rattle.si_base.specs.Proper.{IsPersistent}
 use Rattle.si_checks.specs.declared.breaches.Breach.{Breach}
 use Rattle.si_checks.specs.declared.breaches.Breach.TheVariants.{Fork as AsFork, Loss as AsLoss}
 

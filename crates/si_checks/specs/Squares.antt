@@ -1,4 +1,4 @@
--- Pairs of arcs that close to squares.
+-- (loop) Pairs of arcs that close to squares.
 use Rattle.std.specs.Prelude.{◌≡◌, ℕ, ◌<◌, IsTrue, Contains}
 use Rattle.si_base.specs.declared.graph.Edge.{Edge}
 use Rattle.si_base.specs.Graph.{StateGraph, Step, enables, IsNonInput, event_place}

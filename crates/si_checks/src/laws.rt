@@ -1,7 +1,8 @@
 //! Laws of the checks. Each function does nothing: its contract is the law.
 
 ghost use Rattle.std.specs.Prelude.{◌≡◌, ◌⊎◌, ℕ};
-ghost use Rattle.si_base.specs.Codes.{CodedGraph, IsCoded, IsConnected, IsConsistent, IsDeterministic};
+ghost use Rattle.si_base.specs.Codes.{CodedGraph, IsCoded, IsConnected, IsConsistent};
+ghost use Rattle.si_base.specs.Codes.{IsDeterministic};
 ghost use Rattle.si_base.specs.Graph.{IsGraph, StateGraph};
 ghost use Rattle.si_base.specs.Order.{IsFirst};
 ghost use Rattle.si_base.specs.Proper.{HasNoConflict, IsConflict, pair_place};

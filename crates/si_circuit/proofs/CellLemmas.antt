@@ -1,5 +1,6 @@
 -- Gates of fitting instances give the next values, and are gates of the format.
-use Rattle.std.proofs.Common.{◌≡◌, ℕ, ◌+◌, ◌<◌, ◌≤◌, List, length, Some, None, Option, sym, ap, ◌∙◌, subst, arith, refl, inl, inr}
+use Rattle.std.proofs.Common.{◌≡◌, ℕ, ◌+◌, ◌<◌, ◌≤◌, List, length, Some, None, Option, sym, ap, ◌∙◌, subst, arith, refl}
+use Rattle.std.proofs.Common.{inl, inr}
 use Rattle.std.specs.Option.{IsSome}
 use Rattle.std.proofs.lemmas.Bool.{false≢true}
 use Rattle.std.proofs.lemmas.Bool.Decides.{eqb_tells}
@@ -15,7 +16,8 @@ use Rattle.si_cell.proofs.ExpandedLemmas.{expanded_value}
 use Rattle.si_cell.proofs.LawLemmas.{expanded_is_sum}
 use Rattle.si_match.specs.Fit.{first_fit, IsOver, Fits}
 use Rattle.si_match.proofs.FitLemmas.{fit_fits}
-use Rattle.si_circuit.specs.Cells.{AllFit, IsFirstUnfit, ShowsUnfit, ShowsUnfitAt, cell_gate, gate_if_any, instance_gate}
+use Rattle.si_circuit.specs.Cells.{AllFit, IsFirstUnfit, ShowsUnfit, ShowsUnfitAt, cell_gate, gate_if_any}
+use Rattle.si_circuit.specs.Cells.{instance_gate}
 use Rattle.si_circuit.specs.declared.cells.CellsFault.{CellsFault}
 use Rattle.si_circuit.specs.declared.cells.CellsFault.TheVariants.{NoMemory, Unfit}
 use Rattle.si_circuit.specs.Gates.{netlist_of}

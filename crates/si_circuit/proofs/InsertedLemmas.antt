@@ -1,5 +1,7 @@
 -- The insertions of a lineage are those of its inserted signals, and have the form of a netlist's.
-use Rattle.std.proofs.Common.{◌≡◌, ◌≢◌, ℕ, zero, suc, ◌+◌, ◌<◌, ◌==◌, ◌&&◌, not, Bool, true, false, List, [], ◌∷◌, ◌++◌, length, map, filter, get_or, All, Contains, codes, append_assoc, zero-add, refl, sym, ap, subst, ◌∙◌, arith}
+use Rattle.std.proofs.Common.{◌≡◌, ◌≢◌, ℕ, zero, suc, ◌+◌, ◌<◌, ◌==◌, ◌&&◌, not, Bool, true, false, List, [], ◌∷◌, ◌++◌}
+use Rattle.std.proofs.Common.{length, map, filter, get_or, All, Contains, codes, append_assoc, zero-add, refl, sym, ap}
+use Rattle.std.proofs.Common.{subst, ◌∙◌, arith}
 use Rattle.std.proofs.lemmas.Bool.{and_parts, and_from, true≢false}
 use Rattle.std.proofs.lemmas.List.{append-nil, length-append, length-map, map-append}
 use Rattle.std.proofs.lemmas.List.FromFn.{get_or-range_with_len, length-range_with_len}
@@ -26,7 +28,8 @@ use Rattle.si_insert.specs.Lineage.{Current, History, Grows, IsLineage, AllGiven
 use Rattle.si_circuit.specs.declared.spelling.Descent.{Descent}
 use Rattle.si_circuit.specs.Circuits.{AreStateNames}
 use Rattle.si_circuit.specs.Spelled.{AreInserted}
-use Rattle.si_circuit.specs.Spelling.{digit, mark, state_word, descent, switching_words, insertion_of, insertions_from, insertions_of, descents_after, given_descents}
+use Rattle.si_circuit.specs.Spelling.{digit, mark, state_word, descent, switching_words, insertion_of, insertions_from}
+use Rattle.si_circuit.specs.Spelling.{insertions_of, descents_after, given_descents}
 use Rattle.si_circuit.proofs.DescentLemmas.{At, at_start, at_next, step_fits}
 use Rattle.si_circuit.proofs.GateLemmas.{nothing_inserted}
 

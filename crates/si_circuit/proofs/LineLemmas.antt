@@ -1,5 +1,6 @@
 -- What the writers of insertions have still to add, a step at a time.
-use Rattle.std.proofs.Common.{◌≡◌, ℕ, ◌+◌, ◌<◌, List, ◌∷◌, ◌++◌, suc, length, get_or, drop, drop-cons, add-one, append_assoc, codes, refl, sym, ap, ◌∙◌}
+use Rattle.std.proofs.Common.{◌≡◌, ℕ, ◌+◌, ◌<◌, List, ◌∷◌, ◌++◌, suc, length, get_or, drop, drop-cons, add-one}
+use Rattle.std.proofs.Common.{append_assoc, codes, refl, sym, ap, ◌∙◌}
 use Rattle.std.proofs.lemmas.Grind.{flat_map-append}
 use Rattle.si_base.specs.Netlist.{Insertion}
 use Rattle.si_words.specs.Writing.{spaced}

@@ -1,5 +1,6 @@
 -- Gates that are covers give the next values, and the chosen gates are such.
-use Rattle.std.proofs.Common.{◌≡◌, ℕ, zero, suc, ◌+◌, ◌<◌, not, Bool, true, false, List, [], ◌∷◌, ◌++◌, length, refl, sym, ap, ◌∙◌, arith, inl, inr, slice_get, Some, Option, one-add, zero-add, if◌then◌else◌}
+use Rattle.std.proofs.Common.{◌≡◌, ℕ, zero, suc, ◌+◌, ◌<◌, not, Bool, true, false, List, [], ◌∷◌, ◌++◌, length, refl}
+use Rattle.std.proofs.Common.{sym, ap, ◌∙◌, arith, inl, inr, slice_get, Some, Option, one-add, zero-add, if◌then◌else◌}
 use Rattle.std.proofs.lemmas.Bool.{cases_Bool, or_left, or_right, and_from}
 use Rattle.si_base.specs.declared.graph.Signal.{Signal}
 use Rattle.si_base.specs.Behaviour.{Implements}
@@ -7,7 +8,8 @@ use Rattle.si_base.specs.Bits.{bit}
 use Rattle.si_base.specs.Graph.{enables, rise, fall, is_driven, IsNonInput}
 use Rattle.si_base.specs.Codes.{CodedGraph, IsCoded, code, next_value}
 use Rattle.si_base.specs.Proper.{HasNoConflict, IsProper}
-use Rattle.si_base.specs.Netlist.{Sum, Gate, SumGate, Gc, Cell, Insertion, Netlist, gate_place, sum_value, value_of, value_if_there}
+use Rattle.si_base.specs.Netlist.{Sum, Gate, SumGate, Gc, Cell, Insertion, Netlist, gate_place, sum_value, value_of}
+use Rattle.si_base.specs.Netlist.{value_if_there}
 use Rattle.si_base.specs.RightGates.{GivesNextValues, HasNoneInserted, IsRight}
 use Rattle.si_insert.proofs.Chain.{right_implement}
 use Rattle.si_cover.specs.declared.kind.SumKind.{SumKind}

@@ -1,4 +1,4 @@
--- Gates that are cells of a library: for each signal the first instance that fits it.
+-- (field) Gates that are cells of a library: for each signal the first instance that fits it.
 use Rattle.std.specs.Prelude.{◌≡◌, ℕ, ◌<◌, List, [], Option, Some, None}
 use Rattle.std.specs.Option.{IsSome}
 use Rattle.si_base.specs.Codes.{CodedGraph}

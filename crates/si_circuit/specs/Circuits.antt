@@ -1,4 +1,4 @@
--- Circuits: a lineage without conflicts, and a netlist for it.
+-- (field) Circuits: a lineage without conflicts, and a netlist for it.
 use Rattle.std.specs.Prelude.{◌≡◌, ℕ, List, length, map, All}
 use Rattle.si_base.specs.Behaviour.{Implements}
 use Rattle.si_base.specs.Graph.{StateGraph}

@@ -1,4 +1,4 @@
--- Netlists whose gates are covers.
+-- (field) Netlists whose gates are covers.
 use Rattle.std.specs.Prelude.{◌≡◌, ℕ, slice_get, Some}
 use Rattle.si_base.specs.Graph.{IsNonInput}
 use Rattle.si_base.specs.Codes.{CodedGraph}

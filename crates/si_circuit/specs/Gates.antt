@@ -1,4 +1,4 @@
--- The gates that are chosen for a graph, and their netlist. Source: the book (Cortadella,
+-- (field) The gates that are chosen for a graph, and their netlist. Source: the book (Cortadella,
 -- Kishinevsky, Kondratyev, Lavagno, Yakovlev, Logic Synthesis for Asynchronous Controllers and
 -- Interfaces), on complex gates and generalised C-elements.
 use Rattle.std.specs.Prelude.{ℕ, ◌+◌, List, [], ◌∷◌, ◌++◌, if◌then◌else◌}

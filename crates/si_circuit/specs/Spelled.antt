@@ -1,4 +1,5 @@
--- Names with the forms that texts give them, and insertions of the signals that are inserted.
+-- (text) Names with the forms that texts give them, and insertions of the signals that are
+-- inserted.
 use Rattle.std.specs.Prelude.{◌≡◌, ℕ, List, map, All, IsTrue}
 use Rattle.si_base.specs.declared.graph.Signal.{Signal}
 use Rattle.si_base.specs.declared.graph.SigKind.TheVariants.{Inserted}

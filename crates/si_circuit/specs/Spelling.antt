@@ -1,6 +1,7 @@
--- How insertions are spelled: each by its name, and the words of the states at which the signal
--- rises and falls.
-use Rattle.std.specs.Prelude.{◌≡◌, ℕ, zero, suc, ◌+◌, ◌/◌, ◌^◌, ◌<◌, Bool, true, false, List, [], ◌∷◌, ◌++◌, length, map, filter, if◌then◌else◌}
+-- (text) How insertions are spelled: each by its name, and the words of the states at which the
+-- signal rises and falls.
+use Rattle.std.specs.Prelude.{◌≡◌, ℕ, zero, suc, ◌+◌, ◌/◌, ◌^◌, ◌<◌, Bool, true, false, List, []}
+use Rattle.std.specs.Prelude.{◌∷◌, ◌++◌, length, map, filter, if◌then◌else◌}
 use Rattle.std.specs.List.{range_with_len, slice_index_or}
 use Rattle.si_base.specs.Bits.{bit, flip}
 use Rattle.si_base.specs.Bytes.{at_sign, digit_zero, digit_one}

@@ -137,8 +137,9 @@ impl Circuit {
     }
 
     /// The circuit of a netlist that stands already: it has the signals and the start of the
-    /// lineage's current graph, its gates give that graph's next values, and its insertions have the
-    /// names of the trace, in order. So it implements the lineage's given graph, whoever wrote it.
+    /// lineage's current graph, its gates give that graph's next values, and its insertions have
+    /// the names of the trace, in order. So it implements the lineage's given graph, whoever wrote
+    /// it.
     pub fn of_netlist(resolved: Resolved, netlist: Netlist) -> Circuit
         requires built { IsBuilt resolved.current netlist }
         requires inserted { map (λ i. i.name) netlist.inserts ≡ map (λ p. p.name) resolved.trace }

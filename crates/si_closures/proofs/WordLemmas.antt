@@ -1,7 +1,11 @@
 -- Words for states or events: what their bits say, one set beside another.
-use Rattle.std.proofs.Common.{◌≡◌, ◌≢◌, ℕ, ◌+◌, ◌-◌, ◌*◌, ◌%◌, ◌^◌, ◌<◌, ◌≤◌, ◌==◌, Bool, true, false, if◌then◌else◌, ◌∙◌, sym, refl, ap, ap₂, subst, arith, List, [], ◌∷◌, ◌++◌, length, map, take, get_or, set, replicate, inl, inr, ◌⊎◌, ◌↔◌, get_or-set_same, get_or-set_other, length-set, bit_and}
+use Rattle.std.proofs.Common.{◌≡◌, ◌≢◌, ℕ, ◌+◌, ◌-◌, ◌*◌, ◌%◌, ◌^◌, ◌<◌, ◌≤◌, ◌==◌, Bool, true, false, if◌then◌else◌}
+use Rattle.std.proofs.Common.{◌∙◌, sym, refl, ap, ap₂, subst, arith, List, [], ◌∷◌, ◌++◌, length, map, take, get_or}
+use Rattle.std.proofs.Common.{set, replicate, inl, inr, ◌⊎◌, ◌↔◌, get_or-set_same, get_or-set_other, length-set}
+use Rattle.std.proofs.Common.{bit_and}
 use Rattle.std.proofs.lemmas.Bool.{cases_eq, cases_lt, cases_Bool, true≢false}
-use Rattle.std.proofs.lemmas.List.{get_or_default, get_or_past, ext_get_or, length-replicate, get_or-replicate, take_more, map-append, length-map}
+use Rattle.std.proofs.lemmas.List.{get_or_default, get_or_past, ext_get_or, length-replicate, get_or-replicate}
+use Rattle.std.proofs.lemmas.List.{take_more, map-append, length-map}
 use Rattle.std.proofs.lemmas.Nat.Bits.{bit_at_ones, bit_at_clear_same, bit_at_clear_other}
 use Rattle.std.specs.Int.{w128}
 use Rattle.si_base.specs.declared.ids.Event.{Event}
@@ -137,7 +141,8 @@ module _ (stops : List Event) (n : ℕ) (x : Event) (inside : n < length stops) 
 
     apart_or_there : (k p : ℕ) → ((k ≢ n) ⊎ (p ≢ event_place x)) ⊎ ((k ≡ n) × (p ≡ event_place x))
     apart_or_there k p = elim (cases_eq k n) [
-      | inl equal ↦ elim (cases_eq p (event_place x)) [ inl same ↦ inr (equal, same) | inr elsewhere ↦ inl (inr elsewhere) ]
+      | inl equal ↦ elim (cases_eq p (event_place x))
+          [ inl same ↦ inr (equal, same) | inr elsewhere ↦ inl (inr elsewhere) ]
       | inr other ↦ inl (inl other)
     ]
 

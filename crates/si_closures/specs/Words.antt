@@ -1,4 +1,4 @@
--- Words for states or events, bit k of which is that of the set k.
+-- (loop) Words for states or events, bit k of which is that of the set k.
 use Rattle.std.specs.Prelude.{◌≡◌, ℕ, ◌<◌, List, length, slice_index_or}
 use Rattle.si_base.specs.declared.ids.Event.{Event}
 use Rattle.si_closures.specs.WordSearch.{HasBit}

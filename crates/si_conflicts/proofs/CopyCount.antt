@@ -1,5 +1,7 @@
 -- As many pairs of copies clash as the members of chains tell.
-use Rattle.std.proofs.Common.{◌≡◌, ◌≢◌, ℕ, zero, suc, ◌+◌, ◌<◌, ◌≤◌, ◌==◌, ◌&&◌, Bool, true, false, not, cond, List, [], ◌∷◌, length, map, filter, get_or, refl, sym, ap, ap₂, subst, ◌∙◌, arith, inl, inr, eqb-true, ne_eqb}
+use Rattle.std.proofs.Common.{◌≡◌, ◌≢◌, ℕ, zero, suc, ◌+◌, ◌<◌, ◌≤◌, ◌==◌, ◌&&◌, Bool, true, false, not, cond, List, []}
+use Rattle.std.proofs.Common.{◌∷◌, length, map, filter, get_or, refl, sym, ap, ap₂, subst, ◌∙◌, arith, inl, inr}
+use Rattle.std.proofs.Common.{eqb-true, ne_eqb}
 use Rattle.std.proofs.lemmas.Bool.{cases_Bool, cases_eq, cases_order, true≢false}
 use Rattle.std.proofs.lemmas.List.Sorted.{sum_by-IsPermutation}
 use Rattle.std.proofs.lemmas.List.Sums.{sum_by-cons}
@@ -19,12 +21,15 @@ use Rattle.si_conflicts.specs.declared.tally.Role.{Role}
 use Rattle.si_conflicts.specs.declared.tally.Role.TheVariants.{Absent}
 use Rattle.si_conflicts.specs.Keys.{IsKey, clashes, clash_count}
 use Rattle.si_conflicts.specs.Chains.{AreRings, AreMembers, IsNextInRing, has_equal, with_equals}
-use Rattle.si_conflicts.specs.Apart.{AreStaying, role_at, is_switching, are_apart, tallied, told_apart, pair_sum, switching_keys, switching_count}
+use Rattle.si_conflicts.specs.Apart.{AreStaying, role_at, is_switching, are_apart, tallied, told_apart, pair_sum}
+use Rattle.si_conflicts.specs.Apart.{switching_keys, switching_count}
 use Rattle.si_conflicts.proofs.CountLemmas.{clash_back}
 use Rattle.si_conflicts.proofs.CopyKeys.{copy_key, there_or_absent}
 use Rattle.si_conflicts.proofs.Numbers.{driven_within, one_key}
-use Rattle.si_conflicts.proofs.Meeting.{staying_key, meets, clashes_itself, meets_itself, meets_back, meets_other, meets_absent, meets_parts, copy_clash, copies_equal, copies_apart}
-use Rattle.si_conflicts.proofs.PairSums.{all_in, same_sum, sum_none, sum_two, sum_map, sum_kept, pair_same, pair_two, pair_map, pair_filter, twice, clash_pairs}
+use Rattle.si_conflicts.proofs.Meeting.{staying_key, meets, clashes_itself, meets_itself, meets_back, meets_other}
+use Rattle.si_conflicts.proofs.Meeting.{meets_absent, meets_parts, copy_clash, copies_equal, copies_apart}
+use Rattle.si_conflicts.proofs.PairSums.{all_in, same_sum, sum_none, sum_two, sum_map, sum_kept, pair_same, pair_two}
+use Rattle.si_conflicts.proofs.PairSums.{pair_map, pair_filter, twice, clash_pairs}
 
 abbrev one_if : Bool → ℕ
 one_if b = cond b 1 0

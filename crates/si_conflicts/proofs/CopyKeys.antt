@@ -1,5 +1,6 @@
 -- The keys of the states of an inserted graph, told by the graph alone.
-use Rattle.std.proofs.Common.{◌≡◌, ◌≢◌, ℕ, ◌↔◌, ◌⊎◌, Bool, true, false, not, List, length, map, slice_get, Some, refl, sym, ap, subst, ◌∙◌, arith, inl, inr}
+use Rattle.std.proofs.Common.{◌≡◌, ◌≢◌, ℕ, ◌↔◌, ◌⊎◌, Bool, true, false, not, List, length, map, slice_get, Some, refl}
+use Rattle.std.proofs.Common.{sym, ap, subst, ◌∙◌, arith, inl, inr}
 use Rattle.std.proofs.lemmas.Bool.{cases_eq, cases_Bool, true≢false}
 use Rattle.std.proofs.lemmas.List.{length-map}
 use Rattle.std.proofs.lemmas.Option.{get_or_from_slice_get, slice_get-map}
@@ -15,7 +16,8 @@ use Rattle.si_base.proofs.Steps.{enables-step, step_from_enables}
 use Rattle.si_insert.specs.declared.partition.Class.{Class}
 use Rattle.si_insert.specs.declared.partition.Class.TheVariants.{Low, Rising, High, Falling}
 use Rattle.si_insert.specs.Partition.{class_of, IsLawful}
-use Rattle.si_insert.specs.Insertion.{Copy, IsCopy, Moves, has_copy, waits, switching, IsInsertedGraph, copy_code, coded}
+use Rattle.si_insert.specs.Insertion.{Copy, IsCopy, Moves, has_copy, waits, switching, IsInsertedGraph, copy_code}
+use Rattle.si_insert.specs.Insertion.{coded}
 use Rattle.si_insert.proofs.Classes.{stays_within, same_goes}
 use Rattle.si_insert.proofs.Copies.{copy, copy_at}
 use Rattle.si_insert.proofs.NewCodes.{values}

@@ -1,12 +1,14 @@
 -- The conflicts of a coded graph are one list, and have one number.
-use Rattle.std.proofs.Common.{◌≡◌, ℕ, ◌<◌, ◌≤◌, ◌↔◌, List, [], ◌∷◌, length, Contains, refl, sym, ap, subst, ◌∙◌, arith, inl, inr}
+use Rattle.std.proofs.Common.{◌≡◌, ℕ, ◌<◌, ◌≤◌, ◌↔◌, List, [], ◌∷◌, length, Contains, refl, sym, ap, subst, ◌∙◌, arith}
+use Rattle.std.proofs.Common.{inl, inr}
 use Rattle.si_base.specs.Order.{Before, IsFirst}
 use Rattle.si_base.specs.Codes.{CodedGraph}
 use Rattle.si_base.specs.Proper.{IsConflict, HasNoConflict, pair_place}
 use Rattle.si_base.proofs.Sorted.{In}
 use Rattle.si_base.proofs.Unique.{contains_from_in}
 use Rattle.si_conflicts.specs.Conflicts.{AreConflicts, HasConflicts, AreFirstConflicts}
-use Rattle.si_base.proofs.InOrder.{InOrder, in_contains, same_in_order, before_apart, before_itself, order_head, order_tail}
+use Rattle.si_base.proofs.InOrder.{InOrder, in_contains, same_in_order, before_apart, before_itself, order_head}
+use Rattle.si_base.proofs.InOrder.{order_tail}
 use Rattle.si_base.proofs.Fewer.{Once, at_most}
 
 pub one_list : (c : CodedGraph) (xs ys : List (ℕ × ℕ)) → AreConflicts c xs → AreConflicts c ys → xs ≡ ys

@@ -1,5 +1,6 @@
 -- The number of conflicts that an insertion leaves.
-use Rattle.std.proofs.Common.{◌≡◌, ℕ, ◌+◌, List, [], Option, Some, None, IfSome, IfNone, ◌≤◌, ◌<◌, ◌↔◌, true, ltb, inl, inr, le-ltb, map, arith, refl, sym, ap, ap₂, subst, ◌∙◌}
+use Rattle.std.proofs.Common.{◌≡◌, ℕ, ◌+◌, List, [], Option, Some, None, IfSome, IfNone, ◌≤◌, ◌<◌, ◌↔◌, true, ltb, inl}
+use Rattle.std.proofs.Common.{inr, le-ltb, map, arith, refl, sym, ap, ap₂, subst, ◌∙◌}
 use Rattle.std.proofs.lemmas.Bool.{cases_lt, lt-ltb, true≢false}
 use Rattle.si_base.specs.declared.graph.Signal.{Signal}
 use Rattle.si_base.specs.Graph.{StateGraph}

@@ -1,5 +1,7 @@
 -- Tallies of copies, and the pass over members that counts with them.
-use Rattle.std.proofs.Common.{◌≡◌, ◌≢◌, ℕ, ◌+◌, ◌<◌, ◌≤◌, ◌==◌, ◌&&◌, Bool, true, false, not, cond, List, [], ◌∷◌, ◌++◌, length, map, take, get_or, All, count_by, refl, sym, ap, subst, ◌∙◌, arith, inl, inr, Less, ne_eqb, lt-ltb}
+use Rattle.std.proofs.Common.{◌≡◌, ◌≢◌, ℕ, ◌+◌, ◌<◌, ◌≤◌, ◌==◌, ◌&&◌, Bool, true, false, not, cond, List, [], ◌∷◌, ◌++◌}
+use Rattle.std.proofs.Common.{length, map, take, get_or, All, count_by, refl, sym, ap, subst, ◌∙◌, arith, inl, inr}
+use Rattle.std.proofs.Common.{Less, ne_eqb, lt-ltb}
 use Rattle.std.proofs.lemmas.Bool.{cases_eq, cases_order, true≢false}
 use Rattle.std.proofs.lemmas.List.{take_more, get_or_default, length-map, length-take-le, map-append}
 use Rattle.std.proofs.lemmas.List.Elements.{All-weaker, All-more, All-map}
@@ -17,7 +19,8 @@ use Rattle.si_conflicts.specs.declared.tally.Role.{Role}
 use Rattle.si_conflicts.specs.declared.tally.Role.TheVariants.{Absent, Plain, Switching}
 use Rattle.si_conflicts.specs.declared.tally.Tally.{Tally}
 use Rattle.si_conflicts.specs.Chains.{member_cmp}
-use Rattle.si_conflicts.specs.Apart.{role_at, is_plain, is_switching, Tallied, are_apart, tallied, told_apart, pair_sum, IsUpTo, AreUpTo, equal_keys, IsTally, HasTally}
+use Rattle.si_conflicts.specs.Apart.{role_at, is_plain, is_switching, Tallied, are_apart, tallied, told_apart, pair_sum}
+use Rattle.si_conflicts.specs.Apart.{IsUpTo, AreUpTo, equal_keys, IsTally, HasTally}
 use Rattle.si_conflicts.proofs.PairSums.{all_in, same_sum, sum_none, sum_two, sum_map, pair_push}
 
 abbrev one_if : Bool → ℕ

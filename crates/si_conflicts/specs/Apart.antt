@@ -1,5 +1,6 @@
--- What tells copies of states of one code apart, at a value of the new signal.
-use Rattle.std.specs.Prelude.{◌≡◌, ℕ, ◌+◌, ◌<◌, ◌≤◌, ◌==◌, ◌&&◌, ◌⊎◌, ◌↔◌, Bool, true, false, List, [], ◌∷◌, length, map, filter, count_by, All, if◌then◌else◌}
+-- (loop) What tells copies of states of one code apart, at a value of the new signal.
+use Rattle.std.specs.Prelude.{◌≡◌, ℕ, ◌+◌, ◌<◌, ◌≤◌, ◌==◌, ◌&&◌, ◌⊎◌, ◌↔◌, Bool, true, false, List}
+use Rattle.std.specs.Prelude.{[], ◌∷◌, length, map, filter, count_by, All, if◌then◌else◌}
 use Rattle.std.specs.List.{sum_by}
 use Rattle.si_base.specs.Bits.{bit}
 use Rattle.si_base.specs.Limits.{max_states}

@@ -1,5 +1,6 @@
--- States of equal code as rings.
-use Rattle.std.specs.Prelude.{◌≡◌, ℕ, ◌+◌, ◌<◌, ◌==◌, ◌⊎◌, not, Bool, List, length, map, filter, All, Some, None, slice_index}
+-- (loop) States of equal code as rings.
+use Rattle.std.specs.Prelude.{◌≡◌, ℕ, ◌+◌, ◌<◌, ◌==◌, ◌⊎◌, not, Bool, List, length, map, filter}
+use Rattle.std.specs.Prelude.{All, Some, None, slice_index}
 use Rattle.std.specs.List.{range_with_len}
 use Rattle.std.specs.List.Sorted.{IsPermutation, IsSorted}
 use Rattle.std.specs.declared.cmp.Ordering.{Ordering}

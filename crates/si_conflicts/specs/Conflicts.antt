@@ -1,4 +1,4 @@
--- All conflicts of a coded graph, and their number.
+-- (field) All conflicts of a coded graph, and their number.
 use Rattle.std.specs.Prelude.{◌≡◌, ℕ, ◌↔◌, ◌≤◌, ◌⊎◌, List, length, map, Contains, AllPairs}
 use Rattle.si_base.specs.Order.{Before}
 use Rattle.si_base.specs.Codes.{CodedGraph}

@@ -1,5 +1,6 @@
--- What tells whether two states are a conflict, and how many pairs of states are one.
-use Rattle.std.specs.Prelude.{◌≡◌, ℕ, ◌+◌, ◌<◌, ◌==◌, ◌&&◌, ◌↔◌, not, true, Bool, List, [], ◌∷◌, length, count_by, slice_index_or}
+-- (loop) What tells whether two states are a conflict, and how many pairs of states are one.
+use Rattle.std.specs.Prelude.{◌≡◌, ℕ, ◌+◌, ◌<◌, ◌==◌, ◌&&◌, ◌↔◌, not, true, Bool, List, [], ◌∷◌}
+use Rattle.std.specs.Prelude.{length, count_by, slice_index_or}
 use Rattle.std.specs.declared.cmp.Ordering.{Ordering}
 use Rattle.std.specs.Ordering.{nat_cmp, ordering_then}
 use Rattle.si_base.specs.Bits.{bit}

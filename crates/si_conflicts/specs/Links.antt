@@ -1,4 +1,4 @@
--- States of equal code, and states in conflict, linked.
+-- (loop) States of equal code, and states in conflict, linked.
 use Rattle.std.specs.Prelude.{◌≡◌, ℕ, ◌+◌, ◌<◌, List, length, Option, None, slice_index_or}
 use Rattle.si_base.specs.Codes.{CodedGraph, code}
 use Rattle.si_base.specs.Proper.{IsConflict}

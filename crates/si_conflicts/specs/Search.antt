@@ -1,4 +1,4 @@
--- How far the conflicts are found.
+-- (loop) How far the conflicts are found.
 use Rattle.std.specs.Prelude.{◌≡◌, ℕ, ◌↔◌, ◌<◌, ◌⊎◌, List, [], ◌∷◌, length, Contains, AllPairs}
 use Rattle.si_base.specs.Order.{Before}
 use Rattle.si_base.specs.Codes.{CodedGraph}

@@ -1,12 +1,14 @@
 //! States of equal code, and states in conflict, linked.
 
-ghost use Rattle.std.specs.Prelude.{◌≡◌, ◌≢◌, ℕ, ◌+◌, ◌<◌, IfOk, OnOk, IfSome, Some, None, length, slice_index_or};
+ghost use Rattle.std.specs.Prelude.{◌≡◌, ◌≢◌, ℕ, ◌+◌, ◌<◌, IfOk, OnOk, IfSome, Some, None, length};
+ghost use Rattle.std.specs.Prelude.{slice_index_or};
 ghost use Rattle.std.specs.BTreeMap.{get};
 ghost use Rattle.std.specs.Ordering.{nat_cmp};
 ghost use Rattle.si_base.specs.Codes.{code};
 ghost use Rattle.si_base.specs.Proper.{IsConflict};
 ghost use Rattle.si_conflicts.specs.Keys.{AreKeys};
-ghost use Rattle.si_conflicts.specs.Links.{AreNextEquals, AreNextClashes, IsFirstOfCode, IsFirstClash, HasNextClash};
+ghost use Rattle.si_conflicts.specs.Links.{AreNextEquals, AreNextClashes, IsFirstOfCode};
+ghost use Rattle.si_conflicts.specs.Links.{IsFirstClash, HasNextClash};
 
 use crate::keys::{Key, key_of};
 use si_base::ids::{Code, NoMemory, StateId};

@@ -2,7 +2,8 @@
 
 ghost use Rattle.std.specs.Prelude.{◌≡◌, ◌+◌, ◌<◌, ◌≤◌, ℕ, List, [], ◌∷◌, ◌++◌, count_by};
 ghost use Rattle.si_conflicts.specs.Apart as Apart;
-ghost use Rattle.si_conflicts.specs.Apart.{role_at, are_apart, Tallied, HasTally, IsTally, IsUpTo, AreUpTo};
+ghost use Rattle.si_conflicts.specs.Apart.{role_at, are_apart, Tallied, HasTally, IsTally, IsUpTo};
+ghost use Rattle.si_conflicts.specs.Apart.{AreUpTo};
 
 use crate::keys::Key;
 use si_insert::partition::Class;

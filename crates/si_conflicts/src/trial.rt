@@ -1,6 +1,7 @@
 //! The conflicts that an insertion would leave, counted without making it.
 
-ghost use Rattle.std.specs.Prelude.{◌≡◌, ◌+◌, ◌*◌, ◌<◌, ◌≤◌, ◌++◌, ℕ, ◌↔◌, Bool, All, IfOk, OnOk, IsTrue, length, take};
+ghost use Rattle.std.specs.Prelude.{◌≡◌, ◌+◌, ◌*◌, ◌<◌, ◌≤◌, ◌++◌, ℕ, ◌↔◌, Bool, All, IfOk, OnOk};
+ghost use Rattle.std.specs.Prelude.{IsTrue, length, take};
 ghost use Rattle.std.specs.List.Sorted.{IsSorted};
 ghost use Rattle.si_base.specs.Limits.{max_states};
 ghost use Rattle.si_base.specs.Graph.{IsNonInput};

@@ -1,5 +1,6 @@
 -- The demands on sums of a graph without conflicts can be met.
-use Rattle.std.proofs.Common.{◌≡◌, ℕ, zero, suc, ◌+◌, ◌<◌, ◌^◌, ◌&&◌, not, Bool, true, false, List, [], ◌∷◌, length, get_or, map, filter, All, Contains, refl, sym, subst, ◌∙◌, arith, inl, inr}
+use Rattle.std.proofs.Common.{◌≡◌, ℕ, zero, suc, ◌+◌, ◌<◌, ◌^◌, ◌&&◌, not, Bool, true, false, List, [], ◌∷◌, length}
+use Rattle.std.proofs.Common.{get_or, map, filter, All, Contains, refl, sym, subst, ◌∙◌, arith, inl, inr}
 use Rattle.std.specs.List.{enumerate_from}
 use Rattle.std.proofs.lemmas.Bool.{cases_Bool, true≢false, and_parts, or_cases, not-true}
 use Rattle.si_base.specs.Bits.{bit}

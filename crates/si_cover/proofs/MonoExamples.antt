@@ -1,5 +1,6 @@
 -- Monotonous cubes of the two-input C-element, and a component that has none.
-use Rattle.std.proofs.Common.{◌≡◌, ℕ, zero, suc, ◌<◌, ◌⊎◌, ◌==◌, ◌&&◌, ◌||◌, not, Bool, true, false, List, [], ◌∷◌, All, Contains, lit<, refl, sym, ap, ◌∙◌, arith, inl, inr, subst, eq-eqb, eqb-true, codes}
+use Rattle.std.proofs.Common.{◌≡◌, ℕ, zero, suc, ◌<◌, ◌⊎◌, ◌==◌, ◌&&◌, ◌||◌, not, Bool, true, false, List, [], ◌∷◌, All}
+use Rattle.std.proofs.Common.{Contains, lit<, refl, sym, ap, ◌∙◌, arith, inl, inr, subst, eq-eqb, eqb-true, codes}
 use Rattle.std.proofs.lemmas.Bool.{true≢false, and_parts, or_cases, cases_eq}
 use Rattle.std.proofs.lemmas.List.Elements.{All-cons}
 use mathlib.Core.Bool.{beq}

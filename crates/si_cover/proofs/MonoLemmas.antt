@@ -1,5 +1,6 @@
 -- Monotonous cubes: two meet in a third, and two least ones have the same literals.
-use Rattle.std.proofs.Common.{◌≡◌, ℕ, suc, ◌<◌, ◌++◌, ◌↔◌, not, Bool, true, false, List, [], ◌∷◌, length, All, Contains, refl, sym, ap, ap₂, ◌∙◌, arith, inl, inr}
+use Rattle.std.proofs.Common.{◌≡◌, ℕ, suc, ◌<◌, ◌++◌, ◌↔◌, not, Bool, true, false, List, [], ◌∷◌, length, All, Contains}
+use Rattle.std.proofs.Common.{refl, sym, ap, ap₂, ◌∙◌, arith, inl, inr}
 use Rattle.std.proofs.lemmas.Bool.{true≢false, and_parts, cases_order, cases_eq, cases_Bool}
 use Rattle.std.proofs.lemmas.List.Elements.{All-cons}
 use Rattle.std.proofs.lemmas.List.Folds.{list_all-append}

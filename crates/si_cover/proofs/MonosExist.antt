@@ -1,5 +1,6 @@
 -- Each component has a least monotonous cube, or a state that shows that it has none.
-use Rattle.std.proofs.Common.{◌≡◌, ◌⊎◌, ℕ, zero, suc, ◌+◌, ◌<◌, ◌≤◌, Bool, true, false, List, [], ◌∷◌, length, filter, All, Contains, refl, sym, ap, subst, ◌∙◌, arith, inl, inr}
+use Rattle.std.proofs.Common.{◌≡◌, ◌⊎◌, ℕ, zero, suc, ◌+◌, ◌<◌, ◌≤◌, Bool, true, false, List, [], ◌∷◌, length, filter}
+use Rattle.std.proofs.Common.{All, Contains, refl, sym, ap, subst, ◌∙◌, arith, inl, inr}
 use Rattle.std.specs.List.{list_all}
 use Rattle.std.proofs.lemmas.Bool.{cases_Bool, cases_eq, true≢false, and_parts}
 use Rattle.std.proofs.lemmas.List.Elements.{All-cons}
@@ -23,7 +24,8 @@ use Rattle.si_cover.specs.Growing.{IsGrowing, IsWider, Demands}
 use Rattle.si_cover.specs.Mono.{IsDrawn, Strays, IsLeastCube, IsLeastMono, InSignalOrder, ShowsNoMono, state_place}
 use Rattle.si_cube.proofs.NeededLemmas.{all_in}
 use Rattle.si_cover.proofs.MonoLemmas.{drawn_is_mono, strayed_is_none, has_literals}
-use Rattle.si_cover.proofs.GrowingLemmas.{growth_begins, growth_takes, growth_goes_on, growth_ends, none_demanded, turns_drop}
+use Rattle.si_cover.proofs.GrowingLemmas.{growth_begins, growth_takes, growth_goes_on, growth_ends, none_demanded}
+use Rattle.si_cover.proofs.GrowingLemmas.{turns_drop}
 
 -- ---- a wider cube
 own_kept : (p : Literal → Bool) (xs : List Literal) → list_all p (filter p xs) ≡ true

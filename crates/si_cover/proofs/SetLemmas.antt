@@ -1,5 +1,6 @@
 -- Sets of states, as calls lend them.
-use Rattle.std.proofs.Common.{◌≡◌, ℕ, ◌⊎◌, ◌<◌, ◌≤◌, ◌↔◌, Bool, true, List, length, get_or, Contains, Result, Ok, Err, IsTrue, refl, sym, subst, ◌∙◌, arith, inl, inr, nat_cmp}
+use Rattle.std.proofs.Common.{◌≡◌, ℕ, ◌⊎◌, ◌<◌, ◌≤◌, ◌↔◌, Bool, true, List, length, get_or, Contains, Result, Ok, Err}
+use Rattle.std.proofs.Common.{IsTrue, refl, sym, subst, ◌∙◌, arith, inl, inr, nat_cmp}
 use Rattle.std.proofs.lemmas.Bool.{true≢false}
 use Rattle.std.proofs.lemmas.List.{get_or_default}
 use Rattle.std.proofs.lemmas.List.Sorted.{searched}

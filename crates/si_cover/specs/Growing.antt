@@ -1,4 +1,5 @@
--- How a cube grows until it is the least one that covers the component and has the third property.
+-- (loop) How a cube grows until it is the least one that covers the component and has the third
+-- property.
 use Rattle.std.specs.Prelude.{◌≡◌, ℕ, List, Contains, filter}
 use Rattle.si_base.specs.declared.ids.Event.{Event}
 use Rattle.si_base.specs.declared.ids.Literal.{Literal}

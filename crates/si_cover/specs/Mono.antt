@@ -1,5 +1,5 @@
--- Monotonous cubes of a component of excited states, and of the states where its signal then rests.
--- Both sets are lists of states. Source: the book, on monotonous covers.
+-- (field) Monotonous cubes of a component of excited states, and of the states where its signal
+-- then rests. Both sets are lists of states. Source: the book, on monotonous covers.
 use Rattle.std.specs.Prelude.{ℕ, ◌<◌, List, [], ◌∷◌, length, All, AllPairs, Contains}
 use Rattle.si_base.specs.declared.ids.Event.{Event}
 use Rattle.si_base.specs.declared.ids.Literal.{Literal}

@@ -1,4 +1,4 @@
--- The laws of monotonous cubes, one word each.
+-- (law) The laws of monotonous cubes, one word each.
 use Rattle.std.specs.Prelude.{◌≡◌, ℕ, ◌<◌, ◌++◌, ◌↔◌, ◌⊎◌, List, length, filter, Contains}
 use Rattle.si_base.specs.declared.ids.Event.{Event}
 use Rattle.si_base.specs.declared.ids.Literal.{Literal}
@@ -8,7 +8,8 @@ use Rattle.si_base.specs.Netlist.{literal_value}
 use Rattle.si_cube.specs.Cubes.{Covers}
 use Rattle.si_cube.specs.Literals.{full_literals}
 use Rattle.si_cover.specs.Growing.{IsGrowing, IsWider}
-use Rattle.si_cover.specs.Mono.{IsDrawn, Strays, IsMono, IsLeastCube, IsLeastMono, InSignalOrder, ShowsNoMono}
+use Rattle.si_cover.specs.Mono.{IsDrawn, Strays, IsMono, IsLeastCube, IsLeastMono, InSignalOrder}
+use Rattle.si_cover.specs.Mono.{ShowsNoMono}
 
 -- the literals of two monotonous cubes make a third
 abbrev pub MonosMeet : Type 0

@@ -1,13 +1,15 @@
 //! Least monotonous cubes.
 
-ghost use Rattle.std.specs.Prelude.{ℕ, ◌<◌, ◌↔◌, Contains, IfOk, IfErr, IfSome, MatchOption, IsTrue};
+ghost use Rattle.std.specs.Prelude.{ℕ, ◌<◌, ◌↔◌, Contains, IfOk, IfErr, IfSome, MatchOption};
+ghost use Rattle.std.specs.Prelude.{IsTrue};
 ghost use Rattle.si_base.specs.Codes.{code};
 ghost use Rattle.si_base.specs.Order.{IsFirst};
 ghost use Rattle.si_checks.specs.Lent.{lent_graph};
 ghost use Rattle.si_cube.specs.Cubes.{Covers};
 ghost use Rattle.si_regions.specs.Regions.{IsRegion};
 ghost use Rattle.si_cover.specs.Growing.{IsGrowing, IsDemanded, Demands};
-ghost use Rattle.si_cover.specs.Mono.{IsDrawn, Strays, IsLeastCube, IsLeastMono, ShowsNoMono, state_place};
+ghost use Rattle.si_cover.specs.Mono.{IsDrawn, Strays, IsLeastCube, IsLeastMono, ShowsNoMono};
+ghost use Rattle.si_cover.specs.Mono.{state_place};
 
 use si_base::graph::Edge;
 use si_base::ids::StateId;

@@ -1,6 +1,9 @@
 //! The laws of monotonous cubes. Each function does nothing: its contract is the law.
 
-ghost use Rattle.si_cover.specs.MonoLaws.{MonosMeet, LeastMonosAgree, LeastMonosHaveSameLiterals, DrawnIsMono, StrayedIsNone, NoMonoIsUnique, MonoOrNone, GrowthBegins, GrowthTakes, GrowthGoesOn, GrowthEnds, TurnsDropLiterals};
+ghost use Rattle.si_cover.specs.MonoLaws.{MonosMeet, LeastMonosAgree, LeastMonosHaveSameLiterals};
+ghost use Rattle.si_cover.specs.MonoLaws.{DrawnIsMono, StrayedIsNone, NoMonoIsUnique, MonoOrNone};
+ghost use Rattle.si_cover.specs.MonoLaws.{GrowthBegins, GrowthTakes, GrowthGoesOn, GrowthEnds};
+ghost use Rattle.si_cover.specs.MonoLaws.{TurnsDropLiterals};
 
 /// Where a monotonous cube exists, there is a least one, by its literals just one, and it is the
 /// least of all cubes that have the other two properties.

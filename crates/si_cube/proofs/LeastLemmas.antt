@@ -1,5 +1,6 @@
 -- The literals of a cube that are true at a code make the least cube above both.
-use Rattle.std.proofs.Common.{◌≡◌, ℕ, ◌<◌, ◌^◌, bit_and, bit_xor, not, Bool, true, false, List, [], ◌∷◌, filter, refl, sym, ap, ◌∙◌, arith, subst}
+use Rattle.std.proofs.Common.{◌≡◌, ℕ, ◌<◌, ◌^◌, bit_and, bit_xor, not, Bool, true, false, List, [], ◌∷◌, filter, refl}
+use Rattle.std.proofs.Common.{sym, ap, ◌∙◌, arith, subst}
 use Rattle.std.specs.List.{list_all}
 use Rattle.std.specs.Int.{w128, bit_not}
 use Rattle.std.proofs.lemmas.Bool.{true≢false}
@@ -14,7 +15,8 @@ use Rattle.si_base.proofs.Steps.{beq-refl, beq-true}
 use Rattle.si_base.specs.Limits.{code_width}
 use Rattle.si_cube.specs.Literals.{literals_of}
 use Rattle.si_cube.specs.Cubes.{Covers, IsLeastAbove}
-use Rattle.si_cube.proofs.LiteralLemmas.{bit-and, bit-agree, and_parts, and_both, and_same, below_width, values_from_literals, literals_from_values, supercube_is}
+use Rattle.si_cube.proofs.LiteralLemmas.{bit-and, bit-agree, and_parts, and_both, and_same, below_width}
+use Rattle.si_cube.proofs.LiteralLemmas.{values_from_literals, literals_from_values, supercube_is}
 
 covers-filter_itself : (p : Literal → Bool) (cube : List Literal) → list_all p (filter p cube) ≡ true
 covers-filter_itself p cube = list_all-from_AllPass p (filter p cube) (filter_passes p cube)

@@ -1,5 +1,7 @@
 -- The numbers of cubes that cover a code tell which cubes are needed.
-use Rattle.std.proofs.Common.{◌≡◌, ℕ, zero, suc, ◌+◌, ◌-◌, ◌<◌, ◌≤◌, ◌||◌, not, nat_le, Bool, true, false, List, [], ◌∷◌, ◌++◌, length, get_or, drop, map, zip, count_by, refl, sym, ap, ap₂, ◌∙◌, arith, inl, inr, append_assoc, add-one, drop-cons, if◌then◌else◌, ◌&&◌, cond, zero-add}
+use Rattle.std.proofs.Common.{◌≡◌, ℕ, zero, suc, ◌+◌, ◌-◌, ◌<◌, ◌≤◌, ◌||◌, not, nat_le, Bool, true, false, List, []}
+use Rattle.std.proofs.Common.{◌∷◌, ◌++◌, length, get_or, drop, map, zip, count_by, refl, sym, ap, ap₂, ◌∙◌, arith, inl}
+use Rattle.std.proofs.Common.{inr, append_assoc, add-one, drop-cons, if◌then◌else◌, ◌&&◌, cond, zero-add}
 use Rattle.std.specs.List.{list_all}
 use Rattle.std.proofs.lemmas.Bool.{cases_Bool, cases_lt, le-leb, lt-leb}
 use Rattle.std.proofs.lemmas.List.Sums.{sum_by-append, sum_by-cons}

@@ -1,9 +1,12 @@
 -- The forbidden codes that matter when a signal's turn comes, in a list in ascending order.
-use Rattle.std.proofs.Common.{◌≡◌, ℕ, ◌+◌, ◌-◌, ◌/◌, ◌%◌, ◌^◌, ◌<◌, ◌≤◌, ◌==◌, ltb, leb, Bool, true, false, List, [], ◌∷◌, ◌++◌, length, get_or, length-take, length-drop, take, drop, All, Contains, suc, refl, sym, ap, subst, ◌∙◌, arith, inl, inr, not}
+use Rattle.std.proofs.Common.{◌≡◌, ℕ, ◌+◌, ◌-◌, ◌/◌, ◌%◌, ◌^◌, ◌<◌, ◌≤◌, ◌==◌, ltb, leb, Bool, true, false, List, []}
+use Rattle.std.proofs.Common.{◌∷◌, ◌++◌, length, get_or, length-take, length-drop, take, drop, All, Contains, suc, refl}
+use Rattle.std.proofs.Common.{sym, ap, subst, ◌∙◌, arith, inl, inr, not}
 use Rattle.std.specs.List.Sorted.{IsNonDecreasing, IsNonDecreasingBy, IsPartitionedBy, IsPartitionPoint}
 use Rattle.std.proofs.Math.Nat.{div-div-eq-div-mul, div-mul-le_self}
 use Rattle.std.proofs.lemmas.Nat.{le-div}
-use Rattle.std.proofs.lemmas.Bool.{cases_Bool, cases_eq, cases_lt, true≢false, false_from_ne_true, ltb-true, ltb-false, leb-true, leb-false}
+use Rattle.std.proofs.lemmas.Bool.{cases_Bool, cases_eq, cases_lt, true≢false, false_from_ne_true, ltb-true, ltb-false}
+use Rattle.std.proofs.lemmas.Bool.{leb-true, leb-false}
 use Rattle.std.proofs.lemmas.List.{get_or-take, get_or-drop}
 use Rattle.std.proofs.lemmas.Nat.{pow-add}
 use Rattle.std.proofs.lemmas.Nat.{pow_pos}
@@ -20,7 +23,8 @@ use Rattle.si_cube.specs.Order.{values_from, DifferLastAt, HaveSame}
 use Rattle.si_cube.specs.Covers.{without}
 use Rattle.si_cube.specs.Needed.{needed_from, needed}
 use Rattle.si_cube.specs.Rule.{covers, covers_any, is_needless_literal, is_needless_cube, grown, grown_cubes, chosen}
-use Rattle.si_cube.proofs.NeededLemmas.{in_from_Contains, Contains_from_in, any_in, any_from_in, all_in, all_from_in, in_append, in_left, in_right}
+use Rattle.si_cube.proofs.NeededLemmas.{in_from_Contains, Contains_from_in, any_in, any_from_in, all_in, all_from_in}
+use Rattle.si_cube.proofs.NeededLemmas.{in_append, in_left, in_right}
 use Rattle.si_cube.proofs.CubeFacts.{full_bits, full_tells, no_bit, covers_more}
 use Rattle.si_cube.proofs.GrowthLemmas.{IsGrowing, growth_start, growth_drop, growth_keep, growth_end, smaller_is}
 

@@ -1,7 +1,9 @@
 -- The chosen sum is a prime and irredundant cover.
-use Rattle.std.proofs.Common.{◌≡◌, ℕ, ◌<◌, ◌^◌, ◌||◌, not, Bool, true, false, List, [], ◌∷◌, ◌++◌, refl, sym, ap, subst, ◌∙◌, inl, inr, get_or, All}
+use Rattle.std.proofs.Common.{◌≡◌, ℕ, ◌<◌, ◌^◌, ◌||◌, not, Bool, true, false, List, [], ◌∷◌, ◌++◌, refl, sym, ap, subst}
+use Rattle.std.proofs.Common.{◌∙◌, inl, inr, get_or, All}
 use Rattle.std.specs.List.{list_all}
-use Rattle.std.proofs.lemmas.Bool.{cases_Bool, true≢false, false_from_ne_true, not-true, not-false, or_parts, or_cases, or_left, or_right}
+use Rattle.std.proofs.lemmas.Bool.{cases_Bool, true≢false, false_from_ne_true, not-true, not-false, or_parts, or_cases}
+use Rattle.std.proofs.lemmas.Bool.{or_left, or_right}
 use Rattle.std.proofs.lemmas.List.Elements.{All-contains}
 use Rattle.si_base.specs.declared.ids.Literal.{Literal}
 use Rattle.si_base.specs.Netlist.{Sum, sum_value}
@@ -10,7 +12,9 @@ use Rattle.si_cube.specs.Literals.{full_literals}
 use Rattle.si_cube.specs.Covers.{Demand}
 use Rattle.si_cube.specs.Covers.{IsMeetable, IsCover, IsPrime, IsIrredundant, IsPrimeCover, without}
 use Rattle.si_cube.specs.Rule.{covers, covers_any, is_needless_literal, grown, grown_cubes, is_needless_cube, chosen}
-use Rattle.si_cube.proofs.NeededLemmas.{Grows, AreNeeded, are_needed, needed_at, still_serves, in_from_needed, in_append, in_left, in_right, in_others, others, IsWithin, in_from_Contains, Contains_from_in, all_in, all_from_in, any_in, any_from_in}
+use Rattle.si_cube.proofs.NeededLemmas.{Grows, AreNeeded, are_needed, needed_at, still_serves, in_from_needed}
+use Rattle.si_cube.proofs.NeededLemmas.{in_append, in_left, in_right, in_others, others, IsWithin, in_from_Contains}
+use Rattle.si_cube.proofs.NeededLemmas.{Contains_from_in, all_in, all_from_in, any_in, any_from_in}
 use Rattle.si_cube.proofs.CubeFacts.{full_holds, full_tells, covers_more, covers_any_more, without_within}
 
 -- ---- the grown cube of a code

@@ -1,5 +1,6 @@
--- Covers, prime and irredundant ones.
-use Rattle.std.specs.Prelude.{◌≡◌, ◌≢◌, ℕ, ◌<◌, ◌==◌, not, false, List, [], length, Contains, filter, slice_index_or, IsTrue}
+-- (field) Covers, prime and irredundant ones.
+use Rattle.std.specs.Prelude.{◌≡◌, ◌≢◌, ℕ, ◌<◌, ◌==◌, not, false, List, [], length, Contains}
+use Rattle.std.specs.Prelude.{filter, slice_index_or, IsTrue}
 use Rattle.si_base.specs.declared.ids.Literal.{Literal}
 use Rattle.si_base.specs.Netlist.{Sum, sum_value}
 use Rattle.si_cube.specs.Cubes.{Covers}

@@ -1,4 +1,4 @@
--- Codes that a cube covers.
+-- (field) Codes that a cube covers.
 use Rattle.std.specs.Prelude.{ℕ, List, IsTrue}
 use Rattle.std.specs.List.{list_all}
 use Rattle.si_base.specs.declared.ids.Literal.{Literal}

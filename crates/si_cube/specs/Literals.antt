@@ -1,4 +1,4 @@
--- The literals of a cube that is kept as two codes.
+-- (field) The literals of a cube that is kept as two codes.
 use Rattle.std.specs.Prelude.{◌≡◌, ℕ, ◌+◌, true, List, [], ◌∷◌, zero, suc, if◌then◌else◌}
 use Rattle.si_base.specs.declared.ids.Literal.{Literal}
 use Rattle.si_base.specs.Limits.{code_width}

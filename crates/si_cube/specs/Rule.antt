@@ -1,4 +1,4 @@
--- The sum that is chosen among the covers.
+-- (field) The sum that is chosen among the covers.
 use Rattle.std.specs.Prelude.{ℕ, not, ◌||◌, Bool, List, [], ◌∷◌, ◌++◌, if◌then◌else◌}
 use Rattle.std.specs.List.{list_any, list_all}
 use Rattle.si_base.specs.declared.ids.Literal.{Literal}

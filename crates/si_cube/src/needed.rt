@@ -1,6 +1,7 @@
 //! The cubes that are needed.
 
-ghost use Rattle.std.specs.Prelude.{◌≡◌, ℕ, ◌-◌, ◌<◌, ◌≤◌, ◌||◌, not, nat_le, map, zip, count_by, length, slice_index, IfOk, IsTrue, if◌then◌else◌};
+ghost use Rattle.std.specs.Prelude.{◌≡◌, ℕ, ◌-◌, ◌<◌, ◌≤◌, ◌||◌, not, nat_le, map, zip, count_by};
+ghost use Rattle.std.specs.Prelude.{length, slice_index, IfOk, IsTrue, if◌then◌else◌};
 ghost use Rattle.std.specs.List.{list_all};
 ghost use Rattle.si_cube.specs.Needed as needed;
 ghost use Rattle.si_cube.specs.Rule as rule;

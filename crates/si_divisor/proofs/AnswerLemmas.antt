@@ -6,7 +6,8 @@ use Rattle.si_insert.specs.declared.partition.Class.{Class}
 use Rattle.si_insert.specs.Partition.{class_of, IsLawful}
 use Rattle.si_divisor.specs.Targets.{IsLeast, AreSettled, AreForced, IsUnforced, IsTorn, forced_by, forced_in, target}
 use Rattle.si_divisor.specs.Switching.{Switches}
-use Rattle.si_divisor.specs.PartitionFor.{Sets, AreSets, LeavesAt, HasSome, class_for, IsPartitionFor, HasNone, ShowsNone}
+use Rattle.si_divisor.specs.PartitionFor.{Sets, AreSets, LeavesAt, HasSome, class_for, IsPartitionFor, HasNone}
+use Rattle.si_divisor.specs.PartitionFor.{ShowsNone}
 use Rattle.si_divisor.specs.declared.fault.NoPartition.{NoPartition}
 use Rattle.si_divisor.proofs.PartitionLemmas.{lawful}
 use Rattle.si_divisor.proofs.SameForced.{ForceAlike, partitions_alike, reasons_alike}

@@ -1,5 +1,7 @@
 -- Divisors are instances over the graph's signals, by pins on distinct signals, and all of these.
-use Rattle.std.proofs.Common.{◌≡◌, ◌≢◌, ◌↔◌, ℕ, zero, suc, ◌<◌, ◌≤◌, ◌==◌, ◌&&◌, not, true, List, [], ◌∷◌, length, map, filter, take, get_or, All, AllPairs, Contains, nat_le, refl, sym, ap, subst, ◌∙◌, arith, inl, inr}
+use Rattle.std.proofs.Common.{◌≡◌, ◌≢◌, ◌↔◌, ℕ, zero, suc, ◌<◌, ◌≤◌, ◌==◌, ◌&&◌, not, true, List, [], ◌∷◌, length, map}
+use Rattle.std.proofs.Common.{filter, take, get_or, All, AllPairs, Contains, nat_le, refl, sym, ap, subst, ◌∙◌, arith}
+use Rattle.std.proofs.Common.{inl, inr}
 use Rattle.std.specs.List.{list_all}
 use Rattle.std.proofs.lemmas.Bool.{true≢false}
 use Rattle.std.proofs.lemmas.Bool.Decides.{eqb_tells, leb_tells}
@@ -17,7 +19,8 @@ use Rattle.si_cell.specs.Library.{Library, Instance}
 use Rattle.si_cell.specs.Literals.{has_literal}
 use Rattle.si_match.specs.Fit.{instances, lists_of}
 use Rattle.si_match.proofs.FitLemmas.{in_flat, from_flat, in_map, from_map, instance_in, instance_over}
-use Rattle.si_divisor.specs.Divisors.{AreDivisors, is_divisor, are_apart, has_few_pins, max_divisors, max_divisor_pins, divisors_of}
+use Rattle.si_divisor.specs.Divisors.{AreDivisors, is_divisor, are_apart, has_few_pins, max_divisors, max_divisor_pins}
+use Rattle.si_divisor.specs.Divisors.{divisors_of}
 use Rattle.si_divisor.specs.DivisorLaws.{AreChosen, IsDivisor}
 use Rattle.si_divisor.proofs.PinLemmas.{has_in, in_has}
 

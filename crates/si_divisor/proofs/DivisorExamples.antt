@@ -1,5 +1,6 @@
 -- The two-input C-element: its pin literals, and its divisors by a buffer; and divisors on distinct signals.
-use Rattle.std.proofs.Common.{◌≡◌, ℕ, zero, suc, ◌<◌, true, false, List, [], ◌∷◌, refl, sym, subst, codes, arith, inl, IsTrue}
+use Rattle.std.proofs.Common.{◌≡◌, ℕ, zero, suc, ◌<◌, true, false, List, [], ◌∷◌, refl, sym, subst, codes, arith, inl}
+use Rattle.std.proofs.Common.{IsTrue}
 use Rattle.si_base.specs.Bits.{bit}
 use Rattle.si_base.specs.Codes.{CodedGraph}
 use Rattle.si_base.specs.Graph.{arc, rise, fall}

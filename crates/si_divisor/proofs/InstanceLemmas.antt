@@ -1,5 +1,6 @@
 -- Values of instances: they don't fall as the output rises, and an inserted signal has the value of its instance.
-use Rattle.std.proofs.Common.{◌≡◌, ℕ, zero, suc, ◌<◌, ◌&&◌, ◌||◌, ◌++◌, Bool, true, false, not, List, [], ◌∷◌, length, map, All, IsTrue, get_or, slice_get, Some, refl, sym, ap, ◌∙◌, arith, inl, inr, ◌⊎◌}
+use Rattle.std.proofs.Common.{◌≡◌, ℕ, zero, suc, ◌<◌, ◌&&◌, ◌||◌, ◌++◌, Bool, true, false, not, List, [], ◌∷◌, length}
+use Rattle.std.proofs.Common.{map, All, IsTrue, get_or, slice_get, Some, refl, sym, ap, ◌∙◌, arith, inl, inr, ◌⊎◌}
 use Rattle.std.proofs.lemmas.Bool.{true≢false, cases_eq, and_parts}
 use mathlib.Core.Bool.{beq}
 use Rattle.std.specs.List.{list_any, list_all}
@@ -17,7 +18,8 @@ use Rattle.si_insert.specs.Partition.{class_of, IsLawful}
 use Rattle.si_insert.specs.Insertion.{Copy, IsCopy, IsSwitch, IsInsertedGraph, has_copy, copy_code, switching, coded}
 use Rattle.si_insert.proofs.Copies.{copy, copy_at, is_copy, new_switches}
 use Rattle.si_insert.proofs.Places.{leads, goes_on, code_at, old_bit, new_bit}
-use Rattle.si_cell.specs.Library.{Library, Instance, IsCell, IsLibrary, IsInstance, Cell, cell_at, no_cell, code_of, pin_values, instance_value}
+use Rattle.si_cell.specs.Library.{Library, Instance, IsCell, IsLibrary, IsInstance, Cell, cell_at, no_cell, code_of}
+use Rattle.si_cell.specs.Library.{pin_values, instance_value}
 use Rattle.si_cell.proofs.ExpandedLemmas.{bit_of}
 use Rattle.si_divisor.specs.Targets.{forced_by}
 use Rattle.si_divisor.specs.PartitionFor.{IsPartitionFor}

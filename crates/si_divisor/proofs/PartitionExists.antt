@@ -10,7 +10,8 @@ use Rattle.si_checks.proofs.DecisionLemmas.{Decided}
 use Rattle.si_insert.specs.declared.partition.Class.{Class}
 use Rattle.si_insert.specs.declared.partition.Class.TheVariants.{Low}
 use Rattle.si_divisor.specs.declared.fault.NoPartition.{NoPartition}
-use Rattle.si_divisor.specs.declared.fault.NoPartition.TheVariants.{NoMemory, Unforced, Contradiction, LeavesForced, Constant}
+use Rattle.si_divisor.specs.declared.fault.NoPartition.TheVariants.{NoMemory, Unforced, Contradiction, LeavesForced}
+use Rattle.si_divisor.specs.declared.fault.NoPartition.TheVariants.{Constant}
 use Rattle.si_divisor.specs.Targets.{AreSettled, IsUnforced, IsTorn, target}
 use Rattle.si_divisor.specs.PartitionFor.{Sets, AreSets, Leaves, HasSome, class_by, IsPartitionFor, state_place}
 use Rattle.si_divisor.specs.Laws.{IsReason, PartitionsExist}

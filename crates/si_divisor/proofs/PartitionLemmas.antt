@@ -1,5 +1,6 @@
 -- The partition for an instance is lawful, accepted, the least, and the only one.
-use Rattle.std.proofs.Common.{◌≡◌, ℕ, zero, suc, ◌<◌, ◌↔◌, Bool, true, false, List, [], ◌∷◌, length, slice_index_or, refl, sym, ap, ◌∙◌, arith, inl, inr}
+use Rattle.std.proofs.Common.{◌≡◌, ℕ, zero, suc, ◌<◌, ◌↔◌, Bool, true, false, List, [], ◌∷◌, length, slice_index_or}
+use Rattle.std.proofs.Common.{refl, sym, ap, ◌∙◌, arith, inl, inr}
 use Rattle.std.proofs.lemmas.Bool.{true≢false}
 use mathlib.Core.Bool.{beq}
 use Rattle.si_base.specs.Graph.{StateGraph, IsGraph}
@@ -13,7 +14,8 @@ use Rattle.si_insert.proofs.Accepting.{accepts_at_tests}
 use Rattle.si_divisor.specs.Targets.{forced_by, target}
 use Rattle.si_divisor.specs.Switching.{Switches}
 use Rattle.si_divisor.specs.PartitionFor.{class_for, IsPartitionFor}
-use Rattle.si_divisor.specs.Laws.{to_one, AreClassed, Passes, InstancesFit, PartitionsAreLawful, PartitionsAreAccepted, PartitionsAreLeast}
+use Rattle.si_divisor.specs.Laws.{to_one, AreClassed, Passes, InstancesFit, PartitionsAreLawful, PartitionsAreAccepted}
+use Rattle.si_divisor.specs.Laws.{PartitionsAreLeast}
 use Rattle.si_divisor.proofs.Sets.{least_within, in_or_not}
 use Rattle.si_divisor.proofs.RuleLemmas.{switches_at, rules_are_acceptance}
 

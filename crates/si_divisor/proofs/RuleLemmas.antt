@@ -15,7 +15,8 @@ use Rattle.si_insert.specs.Tests.{InputWaits, WaitsAfter}
 use Rattle.si_insert.specs.Diamond.{Diamond}
 use Rattle.si_divisor.specs.Switching.{Switches}
 use Rattle.si_divisor.specs.Laws.{to_one, AreClassed, Passes, MeetRules, RulesAreAcceptance}
-use Rattle.si_insert.proofs.WaitingClass.{waiting, is_or_not, waits_at, waits_if, goes_elsewhere, goes_within, goes_into}
+use Rattle.si_insert.proofs.WaitingClass.{waiting, is_or_not, waits_at, waits_if, goes_elsewhere, goes_within}
+use Rattle.si_insert.proofs.WaitingClass.{goes_into}
 use Rattle.si_divisor.proofs.ClassCases.{at_each, target_of_waiting, copy_has, crosses, comes}
 
 twice : (v : Bool) → not (not v) ≡ v

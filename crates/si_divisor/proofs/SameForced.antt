@@ -4,7 +4,8 @@ use Rattle.si_base.specs.Graph.{StateGraph, IsGraph}
 use Rattle.si_base.proofs.StepFacts.{step_within}
 use Rattle.si_insert.specs.declared.partition.Class.{Class}
 use Rattle.si_divisor.specs.declared.fault.NoPartition.{NoPartition}
-use Rattle.si_divisor.specs.declared.fault.NoPartition.TheVariants.{NoMemory, Unforced, Contradiction, LeavesForced, Constant}
+use Rattle.si_divisor.specs.declared.fault.NoPartition.TheVariants.{NoMemory, Unforced, Contradiction, LeavesForced}
+use Rattle.si_divisor.specs.declared.fault.NoPartition.TheVariants.{Constant}
 use Rattle.si_divisor.specs.Targets.{IsLeast, Settles, AreSettled, holds, target}
 use Rattle.si_divisor.specs.Switching.{Switches}
 use Rattle.si_divisor.specs.PartitionFor.{Sets, AreSets, Leaves, IsPartitionFor, ShowsNone}

@@ -1,5 +1,6 @@
 -- What the loops of the search for switching states keep.
-use Rattle.std.proofs.Common.{◌≡◌, ℕ, ◌⊎◌, ◌+◌, ◌<◌, ◌≤◌, Bool, true, false, List, [], ◌∷◌, ◌++◌, length, get_or, replicate, Contains, All, refl, sym, ap, subst, ◌∙◌, arith, inl, inr, Option}
+use Rattle.std.proofs.Common.{◌≡◌, ℕ, ◌⊎◌, ◌+◌, ◌<◌, ◌≤◌, Bool, true, false, List, [], ◌∷◌, ◌++◌, length, get_or}
+use Rattle.std.proofs.Common.{replicate, Contains, All, refl, sym, ap, subst, ◌∙◌, arith, inl, inr, Option}
 use Rattle.std.proofs.lemmas.Bool.{cases_eq, cases_order}
 use Rattle.std.proofs.lemmas.List.{length-replicate, get_or_default}
 use Rattle.std.proofs.lemmas.List.Elements.{Contains-push}
@@ -15,7 +16,10 @@ use Rattle.si_graph.proofs.ClosureLemmas.{closure_is_least, place_in_walk, none_
 use Rattle.si_graph.proofs.MarkLemmas.{marks_same, marks_both, in_none, in_below}
 use Rattle.si_insert.specs.Accepted.{IsInput}
 use Rattle.si_divisor.specs.Targets.{IsLeast, Settles, holds, target}
-use Rattle.si_divisor.specs.WorkList.{Works, SwitchRule, Crossed, Preceding, ByInput, Low, Both, Follows, BeforeIt, AfterIt, AtExit, WithFirst, WithOther, IsCrossed, IsBefore, IsAfterInput, Joins, Belongs, AllBelong, IsTargetBy, MayExit, ExitsDone, FollowsInto, Source, After, Beside}
+use Rattle.si_divisor.specs.WorkList.{Works, SwitchRule, Crossed, Preceding, ByInput, Low, Both, Follows, BeforeIt}
+use Rattle.si_divisor.specs.WorkList.{AfterIt, AtExit, WithFirst, WithOther, IsCrossed, IsBefore, IsAfterInput, Joins}
+use Rattle.si_divisor.specs.WorkList.{Belongs, AllBelong, IsTargetBy, MayExit, ExitsDone, FollowsInto, Source, After}
+use Rattle.si_divisor.specs.WorkList.{Beside}
 use Rattle.si_divisor.proofs.WorkLemmas.{each_on, works_begin, switch_on}
 
 -- ---- states that settle are those that are reached through holding states

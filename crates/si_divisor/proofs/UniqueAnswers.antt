@@ -5,10 +5,12 @@ use Rattle.si_base.specs.Order.{IsFirst}
 use Rattle.si_base.specs.Graph.{StateGraph}
 use Rattle.si_insert.specs.declared.partition.Class.{Class}
 use Rattle.si_divisor.specs.declared.fault.NoPartition.{NoPartition}
-use Rattle.si_divisor.specs.declared.fault.NoPartition.TheVariants.{NoMemory, Unforced, Contradiction, LeavesForced, Constant}
+use Rattle.si_divisor.specs.declared.fault.NoPartition.TheVariants.{NoMemory, Unforced, Contradiction, LeavesForced}
+use Rattle.si_divisor.specs.declared.fault.NoPartition.TheVariants.{Constant}
 use Rattle.si_divisor.specs.Targets.{IsLeast, Settles, AreSettled, IsUnforced, IsTorn, target}
 use Rattle.si_divisor.specs.Switching.{Switches}
-use Rattle.si_divisor.specs.PartitionFor.{Sets, AreSets, Leaves, HasSome, class_by, IsPartitionFor, state_place, ShowsNone}
+use Rattle.si_divisor.specs.PartitionFor.{Sets, AreSets, Leaves, HasSome, class_by, IsPartitionFor, state_place}
+use Rattle.si_divisor.specs.PartitionFor.{ShowsNone}
 use Rattle.si_divisor.specs.Laws.{PartitionsAreUnique, ReasonsAreUnique, ReasonsExclude}
 use Rattle.si_divisor.proofs.Sets.{one_least, same_classes}
 

@@ -1,12 +1,15 @@
 -- A list of work computes the least set that is closed under rules.
-use Rattle.std.proofs.Common.{◌≡◌, ℕ, ◌⊎◌, Bool, true, false, not, List, [], ◌∷◌, ◌++◌, length, Contains, refl, sym, subst, ◌∙◌, arith, inl, inr}
+use Rattle.std.proofs.Common.{◌≡◌, ℕ, ◌⊎◌, Bool, true, false, not, List, [], ◌∷◌, ◌++◌, length, Contains, refl, sym}
+use Rattle.std.proofs.Common.{subst, ◌∙◌, arith, inl, inr}
 use Rattle.std.proofs.lemmas.List.Elements.{Contains-push_cases, Contains-append_left}
 use Rattle.si_base.specs.Graph.{StateGraph}
 use Rattle.si_graph.specs.Reach.{IsIn}
 use Rattle.si_divisor.specs.Targets.{IsLeast}
 use Rattle.si_divisor.specs.Switching.{Switches}
 use Rattle.si_graph.specs.Reach.{Marks}
-use Rattle.si_divisor.specs.WorkList.{AllIn, SomeIn, Among, IsClosed, InEach, Works, BeginsWork, IsBefore, IsAfterInput, ExitsLow, ExitsBoth, SwitchRule, Crossed, Preceding, ByInput, Low, Both, Follows, BeforeIt, AfterIt, AtExit, WithFirst, WithOther}
+use Rattle.si_divisor.specs.WorkList.{AllIn, SomeIn, Among, IsClosed, InEach, Works, BeginsWork, IsBefore, IsAfterInput}
+use Rattle.si_divisor.specs.WorkList.{ExitsLow, ExitsBoth, SwitchRule, Crossed, Preceding, ByInput, Low, Both, Follows}
+use Rattle.si_divisor.specs.WorkList.{BeforeIt, AfterIt, AtExit, WithFirst, WithOther}
 
 -- ---- the loop, for any rules
 -- premises that are marked after a turn were marked before, or one of them is work

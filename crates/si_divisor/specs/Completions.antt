@@ -1,4 +1,4 @@
--- Divisors by their pins, one pin after another.
+-- (loop) Divisors by their pins, one pin after another.
 use Rattle.std.specs.Prelude.{ℕ, ◌++◌, List, [], length, map, filter, flat_map, if◌then◌else◌}
 use Rattle.std.specs.List.{enumerate_from}
 use Rattle.si_base.specs.declared.ids.Literal.{Literal}

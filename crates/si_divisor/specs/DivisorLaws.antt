@@ -1,12 +1,14 @@
--- The laws of pin literals and divisors, one word each.
-use Rattle.std.specs.Prelude.{◌≡◌, ◌≢◌, ◌↔◌, ℕ, ◌<◌, ◌≤◌, List, length, All, AllPairs, Contains, filter}
+-- (law) The laws of pin literals and divisors, one word each.
+use Rattle.std.specs.Prelude.{◌≡◌, ◌≢◌, ◌↔◌, ℕ, ◌<◌, ◌≤◌, List, length, All, AllPairs, Contains}
+use Rattle.std.specs.Prelude.{filter}
 use Rattle.si_base.specs.Codes.{CodedGraph, IsCoded}
 use Rattle.si_base.specs.Graph.{IsNonInput}
 use Rattle.si_base.specs.Proper.{IsProper, HasNoConflict}
 use Rattle.si_base.specs.declared.ids.Literal.{Literal}
 use Rattle.si_cell.specs.Library.{Library, Instance}
 use Rattle.si_match.specs.Fit.{IsOver, lists_of}
-use Rattle.si_divisor.specs.Divisors.{ArePins, AreDivisors, are_apart, max_divisors, max_divisor_pins}
+use Rattle.si_divisor.specs.Divisors.{ArePins, AreDivisors, are_apart, max_divisors}
+use Rattle.si_divisor.specs.Divisors.{max_divisor_pins}
 
 -- literals of the list, on distinct signals
 pub record AreChosen (from literals : List Literal) : Type 0 where

@@ -1,5 +1,6 @@
--- Pin literals of a signal, and its divisors.
-use Rattle.std.specs.Prelude.{◌≡◌, ◌⊎◌, ◌↔◌, ℕ, ◌<◌, ◌==◌, ◌&&◌, not, Bool, true, List, [], ◌∷◌, length, filter, take, nat_le, IsTrue, Contains}
+-- (field) Pin literals of a signal, and its divisors.
+use Rattle.std.specs.Prelude.{◌≡◌, ◌⊎◌, ◌↔◌, ℕ, ◌<◌, ◌==◌, ◌&&◌, not, Bool, true, List, [], ◌∷◌}
+use Rattle.std.specs.Prelude.{length, filter, take, nat_le, IsTrue, Contains}
 use Rattle.std.specs.List.{list_all}
 use Rattle.si_base.specs.Bits.{bit}
 use Rattle.si_base.specs.Codes.{CodedGraph}

@@ -1,4 +1,4 @@
--- The laws of the partition for an instance, one word each.
+-- (law) The laws of the partition for an instance, one word each.
 use Rattle.std.specs.Prelude.{◌≡◌, ℕ, ◌<◌, ◌≤◌, ◌↔◌, ◌⊎◌, Bool, true, false, List, length}
 use Rattle.si_base.specs.declared.graph.Signal.{Signal}
 use Rattle.si_base.specs.Limits.{max_signals, max_states}

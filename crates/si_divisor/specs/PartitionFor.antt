@@ -1,5 +1,6 @@
--- The partition for an instance, and the first reason why there is none.
-use Rattle.std.specs.Prelude.{◌≡◌, ℕ, ◌<◌, ◌⊎◌, Bool, true, false, List, [], ◌∷◌, length, slice_index_or, if◌then◌else◌}
+-- (field) The partition for an instance, and the first reason why there is none.
+use Rattle.std.specs.Prelude.{◌≡◌, ℕ, ◌<◌, ◌⊎◌, Bool, true, false, List, [], ◌∷◌, length}
+use Rattle.std.specs.Prelude.{slice_index_or, if◌then◌else◌}
 use Rattle.si_base.specs.Order.{IsFirst}
 use Rattle.si_base.specs.Graph.{StateGraph}
 use Rattle.si_graph.specs.Reach.{IsIn}
@@ -9,7 +10,9 @@ use Rattle.si_insert.specs.Partition.{class_of}
 use Rattle.si_divisor.specs.Targets.{IsLeast, AreSettled, IsUnforced, IsTorn, HaveTargets, target}
 use Rattle.si_divisor.specs.Switching.{Switches}
 use Rattle.si_divisor.specs.declared.fault.NoPartition.{NoPartition}
-use Rattle.si_divisor.specs.declared.fault.NoPartition.TheVariants.{NoMemory, Unforced, Contradiction, LeavesForced, Constant}
+use Rattle.si_divisor.specs.declared.fault.NoPartition.TheVariants.{NoMemory, Unforced}
+use Rattle.si_divisor.specs.declared.fault.NoPartition.TheVariants.{Contradiction, LeavesForced}
+use Rattle.si_divisor.specs.declared.fault.NoPartition.TheVariants.{Constant}
 
 -- the states that settle at 1 and at 0, and those where the new signal rises and falls
 pub record Sets : Type 0 where

@@ -1,4 +1,4 @@
--- Pin literals by the support of a signal and by cubes.
+-- (loop) Pin literals by the support of a signal and by cubes.
 use Rattle.std.specs.Prelude.{◌≡◌, ℕ, ◌||◌, Bool, List, filter, Contains}
 use Rattle.std.specs.List.{list_any}
 use Rattle.si_base.specs.Bits.{bit}

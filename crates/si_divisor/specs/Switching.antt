@@ -1,4 +1,4 @@
--- The states where the new signal switches to b.
+-- (field) The states where the new signal switches to b.
 use Rattle.std.specs.Prelude.{◌≡◌, ℕ, ◌⊎◌, not, Bool, List}
 use Rattle.si_base.specs.declared.ids.Event.{Event}
 use Rattle.si_base.specs.Graph.{StateGraph, Step}

@@ -1,6 +1,7 @@
--- What an instance, as the gate of a new signal, makes of the states: those where it forces a
--- value, and the target of each state.
-use Rattle.std.specs.Prelude.{◌≡◌, ℕ, ◌<◌, ◌&&◌, not, Bool, true, false, List, length, slice_index_or, if◌then◌else◌}
+-- (field) What an instance, as the gate of a new signal, makes of the states: those where it forces
+-- a value, and the target of each state.
+use Rattle.std.specs.Prelude.{◌≡◌, ℕ, ◌<◌, ◌&&◌, not, Bool, true, false, List, length}
+use Rattle.std.specs.Prelude.{slice_index_or, if◌then◌else◌}
 use mathlib.Core.Bool.{beq}
 use Rattle.si_base.specs.declared.ids.Event.{Event}
 use Rattle.si_base.specs.Graph.{StateGraph, Step}

@@ -1,6 +1,7 @@
--- Least sets by a list of work: rules with premises and a conclusion, and what the turns of the
--- loop keep.
-use Rattle.std.specs.Prelude.{◌≢◌, ◌≡◌, ℕ, ◌⊎◌, ◌↔◌, not, Bool, false, List, [], ◌∷◌, length, Contains, slice_index_or}
+-- (loop) Least sets by a list of work: rules with premises and a conclusion, and what the turns of
+-- the loop keep.
+use Rattle.std.specs.Prelude.{◌≢◌, ◌≡◌, ℕ, ◌⊎◌, ◌↔◌, not, Bool, false, List, [], ◌∷◌, length}
+use Rattle.std.specs.Prelude.{Contains, slice_index_or}
 use Rattle.si_base.specs.declared.ids.Event.{Event}
 use Rattle.si_base.specs.Graph.{StateGraph, Step, IsNonInput}
 use Rattle.si_base.specs.declared.graph.Edge.{Edge}

@@ -1,11 +1,13 @@
 //! The classes of the states, by the sets of states that settle and of those that switch.
 
-ghost use Rattle.std.specs.Prelude.{◌≡◌, ℕ, ◌<◌, ◌↔◌, IfOk, IfErr, MatchOption, IsTrue, length, slice_index_or, false};
+ghost use Rattle.std.specs.Prelude.{◌≡◌, ℕ, ◌<◌, ◌↔◌, IfOk, IfErr, MatchOption, IsTrue, length};
+ghost use Rattle.std.specs.Prelude.{slice_index_or, false};
 ghost use Rattle.si_base.specs.Order.{IsFirst};
 ghost use Rattle.si_base.specs.Graph.{IsGraph};
 ghost use Rattle.si_insert.specs.Partition.{class_of};
 ghost use Rattle.si_divisor.specs.Targets.{AreSettled, HaveTargets, forced_in};
-ghost use Rattle.si_divisor.specs.PartitionFor.{LeavesAt, HasSome, class_for, IsPartitionFor, HasNone, state_place, ShowsNone};
+ghost use Rattle.si_divisor.specs.PartitionFor.{LeavesAt, HasSome, class_for, IsPartitionFor};
+ghost use Rattle.si_divisor.specs.PartitionFor.{HasNone, state_place, ShowsNone};
 
 use crate::fault::NoPartition;
 use crate::settled::{Settled, first_torn, first_unforced, holding, settled_states};

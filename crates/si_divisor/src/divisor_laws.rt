@@ -1,6 +1,8 @@
 //! The laws of pin literals and divisors. Each function does nothing: its contract is the law.
 
-ghost use Rattle.si_divisor.specs.DivisorLaws.{PinsAreUnique, DivisorsAreUnique, PinsExist, DivisorsExist, ChoicesAreAll, DivisorsAreInstances, DivisorsAreAll, DivisorsAreFew};
+ghost use Rattle.si_divisor.specs.DivisorLaws.{PinsAreUnique, DivisorsAreUnique, PinsExist};
+ghost use Rattle.si_divisor.specs.DivisorLaws.{DivisorsExist, ChoicesAreAll, DivisorsAreInstances};
+ghost use Rattle.si_divisor.specs.DivisorLaws.{DivisorsAreAll, DivisorsAreFew};
 
 /// Pin literals and divisors are determined.
 pub fn divisors_are_unique()

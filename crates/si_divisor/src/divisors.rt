@@ -1,6 +1,7 @@
 //! The divisors of a signal.
 
-ghost use Rattle.std.specs.Prelude.{◌≡◌, ◌≤◌, ◌+◌, ◌++◌, ◌↔◌, true, IfOk, OnOk, IsTrue, All, length, take};
+ghost use Rattle.std.specs.Prelude.{◌≡◌, ◌≤◌, ◌+◌, ◌++◌, ◌↔◌, true, IfOk, OnOk, IsTrue, All};
+ghost use Rattle.std.specs.Prelude.{length, take};
 ghost use Rattle.si_base.specs.Graph.{IsNonInput};
 ghost use Rattle.si_cell.specs.Limits.{max_pins};
 ghost use Rattle.si_checks.specs.Lent.{lent_graph};

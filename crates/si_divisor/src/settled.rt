@@ -1,9 +1,11 @@
 //! The states that settle at a value.
 
-ghost use Rattle.std.specs.Prelude.{◌≡◌, ℕ, ◌<◌, ◌↔◌, IfOk, IsTrue, MatchOption, length, slice_index_or, false};
+ghost use Rattle.std.specs.Prelude.{◌≡◌, ℕ, ◌<◌, ◌↔◌, IfOk, IsTrue, MatchOption, length};
+ghost use Rattle.std.specs.Prelude.{slice_index_or, false};
 ghost use Rattle.si_base.specs.Order.{IsFirst};
 ghost use Rattle.si_base.specs.Graph.{IsGraph};
-ghost use Rattle.si_divisor.specs.Targets.{AreHeld, AreSettled, IsTorn, IsUnforced, forced_in, holds};
+ghost use Rattle.si_divisor.specs.Targets.{AreHeld, AreSettled, IsTorn, IsUnforced, forced_in};
+ghost use Rattle.si_divisor.specs.Targets.{holds};
 ghost use Rattle.si_divisor.specs.PartitionFor.{state_place};
 
 use si_base::ids::{NoMemory, StateId};

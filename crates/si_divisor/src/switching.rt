@@ -1,6 +1,7 @@
 //! The states where the new signal switches to a value.
 
-ghost use Rattle.std.specs.Prelude.{◌≡◌, ℕ, ◌<◌, ◌↔◌, ◌++◌, ◌∷◌, [], IfOk, OnOk, MatchOption, IsTrue, All, Contains, length, not};
+ghost use Rattle.std.specs.Prelude.{◌≡◌, ℕ, ◌<◌, ◌↔◌, ◌++◌, ◌∷◌, [], IfOk, OnOk, MatchOption};
+ghost use Rattle.std.specs.Prelude.{IsTrue, All, Contains, length, not};
 ghost use Rattle.si_base.specs.declared.graph.Edge.{Edge};
 ghost use Rattle.si_base.specs.Graph.{Step, IsGraph, IsNonInput};
 ghost use Rattle.si_base.specs.Sets.{IsSubset};
@@ -8,7 +9,9 @@ ghost use Rattle.si_graph.specs.Reach.{IsIn, Marks, MarksAll};
 ghost use Rattle.si_insert.specs.Accepted.{IsInput};
 ghost use Rattle.si_divisor.specs.Targets.{IsLeast, target};
 ghost use Rattle.si_divisor.specs.Switching.{Switches};
-ghost use Rattle.si_divisor.specs.WorkList.{Works, SwitchRule, Strays, Belongs, AllBelong, IsTargetBy, MayExit, ExitsDone, ExitsBothWays, FollowsInto, IsAfterInput, IsCrossed};
+ghost use Rattle.si_divisor.specs.WorkList.{Works, SwitchRule, Strays, Belongs, AllBelong};
+ghost use Rattle.si_divisor.specs.WorkList.{IsTargetBy, MayExit, ExitsDone, ExitsBothWays};
+ghost use Rattle.si_divisor.specs.WorkList.{FollowsInto, IsAfterInput, IsCrossed};
 
 use si_base::graph::{Edge, SigKind};
 use si_base::ids::{Event, NoMemory, Sig, StateId};

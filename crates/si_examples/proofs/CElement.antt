@@ -1,11 +1,15 @@
 -- The two-input C-element: the definitions at work.
-use Rattle.std.proofs.Common.{◌≡◌, ℕ, ◌==◌, ◌&&◌, ◌||◌, not, Bool, true, false, List, [], ◌∷◌, refl, Some, None, codes, nat_le, lit<, leb-true, sym, eqb-true, inl, inr}
+use Rattle.std.proofs.Common.{◌≡◌, ℕ, ◌==◌, ◌&&◌, ◌||◌, not, Bool, true, false, List, [], ◌∷◌, refl, Some, None, codes}
+use Rattle.std.proofs.Common.{nat_le, lit<, leb-true, sym, eqb-true, inl, inr}
 use Rattle.si_base.specs.declared.ids.Event.{Event}
 use Rattle.si_base.specs.declared.ids.Literal.{Literal}
 use Rattle.si_base.specs.declared.graph.Signal.{Signal}
 use Rattle.si_base.specs.declared.graph.SigKind.TheVariants.{Input, Output}
 use Rattle.si_base.specs.Bits.{bit, ones}
-use Rattle.si_base.specs.Bytes.{line_feed, space, first_visible, hash, apostrophe, plus, minus, dot, slash, digit_zero, digit_one, digit_nine, less_sign, greater_sign, at_sign, first_capital, last_capital, opening_bracket, closing_bracket, underscore, first_small, last_small, opening_brace, closing_brace, tilde}
+use Rattle.si_base.specs.Bytes.{line_feed, space, first_visible, hash, apostrophe, plus, minus, dot, slash, digit_zero}
+use Rattle.si_base.specs.Bytes.{digit_one, digit_nine, less_sign, greater_sign, at_sign, first_capital, last_capital}
+use Rattle.si_base.specs.Bytes.{opening_bracket, closing_bracket, underscore, first_small, last_small, opening_brace}
+use Rattle.si_base.specs.Bytes.{closing_brace, tilde}
 use Rattle.si_base.specs.Graph.{StateGraph, Step, IsReachable, arc, rise, fall, enables, same_event}
 use Rattle.si_base.specs.Codes.{CodedGraph, code, next_value, AreValues, parity}
 use Rattle.si_base.specs.Proper.{IsConflict}

@@ -1,5 +1,6 @@
 -- A gate of constant value 0 beside a graph in which its signal falls and rises: verdicts at work.
-use Rattle.std.proofs.Common.{◌≡◌, ℕ, zero, suc, List, [], ◌∷◌, Some, None, refl, true, codes, lit<, nat_le, leb-true, ◌==◌, ◌&&◌, ◌||◌, not}
+use Rattle.std.proofs.Common.{◌≡◌, ℕ, zero, suc, List, [], ◌∷◌, Some, None, refl, true, codes, lit<, nat_le, leb-true}
+use Rattle.std.proofs.Common.{◌==◌, ◌&&◌, ◌||◌, not}
 use Rattle.si_base.specs.declared.graph.Signal.{Signal}
 use Rattle.si_base.specs.declared.graph.SigKind.TheVariants.{Output}
 use Rattle.si_base.specs.declared.fault.TextKind.TheVariants.{BadEvent, Toggle, Undeclared}

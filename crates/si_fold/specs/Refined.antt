@@ -1,5 +1,5 @@
--- The coarsest classes of states that steps keep, and how far they are found: classes of states and
--- classes of arcs are split by each other.
+-- (loop) The coarsest classes of states that steps keep, and how far they are found: classes of
+-- states and classes of arcs are split by each other.
 use Rattle.std.specs.Prelude.{◌≡◌, ◌↔◌, ◌⊎◌, ℕ, ◌<◌, ◌≤◌, Bool, IsTrue, List, length, Contains}
 use Rattle.si_base.specs.declared.ids.Event.{Event}
 use Rattle.si_base.specs.Graph.{StateGraph, Step}

@@ -1,5 +1,7 @@
 -- The sum of a kept gate's cell has the gate's value for all values of the pins and the own output.
-use Rattle.std.proofs.Common.{◌≡◌, ℕ, ◌+◌, ◌-◌, ◌*◌, ◌<◌, ◌^◌, ◌==◌, ◌&&◌, not, Bool, true, false, if◌then◌else◌, List, [], ◌∷◌, ◌++◌, length, bytes_eq, nat_le, nat_lt, All, Result, Ok, Err, refl, sym, ap, subst, ◌∙◌, inl, inr, arith}
+use Rattle.std.proofs.Common.{◌≡◌, ℕ, ◌+◌, ◌-◌, ◌*◌, ◌<◌, ◌^◌, ◌==◌, ◌&&◌, not, Bool, true, false, if◌then◌else◌, List}
+use Rattle.std.proofs.Common.{[], ◌∷◌, ◌++◌, length, bytes_eq, nat_le, nat_lt, All, Result, Ok, Err, refl, sym, ap}
+use Rattle.std.proofs.Common.{subst, ◌∙◌, inl, inr, arith}
 use Rattle.std.specs.List.{list_all, prefix_len}
 use Rattle.std.proofs.lemmas.Bool.{cases_Bool, cases_lt, true≢false, lt-ltb}
 use Rattle.std.proofs.lemmas.List.Elements.{All-head, All-tail}
@@ -14,8 +16,10 @@ use Rattle.si_words.specs.Names.{stands_in}
 use Rattle.si_tokens.specs.declared.fault.Stop.{Stop}
 use Rattle.si_genlib.specs.declared.symbol.Symbol.{Symbol}
 use Rattle.si_tokens.specs.Unread.{◌>>=◌, Unread, Piece, tokens}
-use Rattle.si_genlib.specs.Expression.{Tree, trees, truth, value_of, State, Outcome, Goes, Ends, Stops, start, symbol, is_name, is_constant, step, led, read}
-use Rattle.si_genlib.specs.Gate.{Gate, Pins, no_pins, with_pin, with_token, pins_from, ends_expression, pin_count, width, place, gate_value, demand, sum_of, cell_of}
+use Rattle.si_genlib.specs.Expression.{Tree, trees, truth, value_of, State, Outcome, Goes, Ends, Stops, start, symbol}
+use Rattle.si_genlib.specs.Expression.{is_name, is_constant, step, led, read}
+use Rattle.si_genlib.specs.Gate.{Gate, Pins, no_pins, with_pin, with_token, pins_from, ends_expression, pin_count}
+use Rattle.si_genlib.specs.Gate.{width, place, gate_value, demand, sum_of, cell_of}
 use Rattle.si_genlib.specs.Statements.{name_at, decimal_at, out_at, equals_at, body_at, gate_at}
 use Rattle.si_genlib.proofs.ReadLemmas.{stands_push, first_there, same_bytes, name_not_end, goes_not_end}
 use Rattle.si_genlib.proofs.MachineLemmas.{result_of, value_read}

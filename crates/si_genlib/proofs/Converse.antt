@@ -1,9 +1,11 @@
 -- What is read of tokens has a syntax: each state keeps that of what was read so far.
-use Rattle.std.proofs.Common.{◌≡◌, ℕ, suc, ◌+◌, ◌≤◌, ◌⊎◌, List, [], ◌∷◌, ◌++◌, length, codes, Option, Some, None, refl, sym, ap, subst, ◌∙◌, arith, ⊎_elim, append_assoc, append-nil}
+use Rattle.std.proofs.Common.{◌≡◌, ℕ, suc, ◌+◌, ◌≤◌, ◌⊎◌, List, [], ◌∷◌, ◌++◌, length, codes, Option, Some, None, refl}
+use Rattle.std.proofs.Common.{sym, ap, subst, ◌∙◌, arith, ⊎_elim, append_assoc, append-nil}
 use Rattle.si_genlib.specs.declared.symbol.Operator.{Operator}
 use Rattle.si_genlib.specs.declared.symbol.Operator.TheVariants as operators
 use Rattle.si_genlib.specs.Expression.{Tree, Not, And, trees, after, complemented, still, leaf}
-use Rattle.si_genlib.specs.Grammar.{Syntax, Word, InParens, Complemented, Beside, Times, Plus, strength, IsExpression, written, tree_of, height, IsBeginning}
+use Rattle.si_genlib.specs.Grammar.{Syntax, Word, InParens, Complemented, Beside, Times, Plus, strength, IsExpression}
+use Rattle.si_genlib.specs.Grammar.{written, tree_of, height, IsBeginning}
 
 -- ---- what the parts of a state spell
 

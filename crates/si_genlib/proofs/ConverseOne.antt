@@ -1,7 +1,9 @@
 -- Tokens are written by one expression at most: read from right to left, each is taken apart in one way.
-use Rattle.std.proofs.Common.{◌≡◌, ℕ, suc, zero, ◌<◌, ◌≤◌, List, [], ◌∷◌, ◌++◌, codes, bytes_eq, if◌then◌else◌, refl, sym, ap, ◌∙◌, arith}
+use Rattle.std.proofs.Common.{◌≡◌, ℕ, suc, zero, ◌<◌, ◌≤◌, List, [], ◌∷◌, ◌++◌, codes, bytes_eq, if◌then◌else◌, refl}
+use Rattle.std.proofs.Common.{sym, ap, ◌∙◌, arith}
 use Rattle.si_genlib.specs.Expression.{is_name}
-use Rattle.si_genlib.specs.Grammar.{Syntax, Word, InParens, Primed, Complemented, Beside, Times, Plus, strength, IsExpression, written}
+use Rattle.si_genlib.specs.Grammar.{Syntax, Word, InParens, Primed, Complemented, Beside, Times, Plus, strength}
+use Rattle.si_genlib.specs.Grammar.{IsExpression, written}
 
 -- ---- the tokens from right to left, before what stands to the left
 

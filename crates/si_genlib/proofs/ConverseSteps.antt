@@ -1,5 +1,7 @@
 -- Each step keeps what a state tells of the tokens that led to it.
-use Rattle.std.proofs.Common.{◌≡◌, ℕ, suc, ◌<◌, ◌≤◌, ◌==◌, if◌then◌else◌, Bool, true, false, List, [], ◌∷◌, ◌++◌, length, nat_le, codes, Option, Some, None, IsTrue, refl, sym, ap, ◌∙◌, arith, inl, inr, subst, ◌⊎◌, append_assoc, append-nil, leb-false, eqb-true}
+use Rattle.std.proofs.Common.{◌≡◌, ℕ, suc, ◌<◌, ◌≤◌, ◌==◌, if◌then◌else◌, Bool, true, false, List, [], ◌∷◌, ◌++◌}
+use Rattle.std.proofs.Common.{length, nat_le, codes, Option, Some, None, IsTrue, refl, sym, ap, ◌∙◌, arith, inl, inr}
+use Rattle.std.proofs.Common.{subst, ◌⊎◌, append_assoc, append-nil, leb-false, eqb-true}
 use Rattle.std.proofs.lemmas.Bool.{cases_Bool}
 use Rattle.si_base.specs.declared.fault.TextKind.{TextKind}
 use Rattle.si_base.specs.declared.fault.TextKind.TheVariants.{BadExpression, TooDeep}
@@ -7,10 +9,14 @@ use Rattle.si_genlib.specs.declared.symbol.Symbol.{Symbol}
 use Rattle.si_genlib.specs.declared.symbol.Symbol.TheVariants as symbols
 use Rattle.si_genlib.specs.declared.symbol.Operator.{Operator}
 use Rattle.si_genlib.specs.declared.symbol.Operator.TheVariants as operators
-use Rattle.si_genlib.specs.Expression.{Tree, Not, trees, State, Outcome, Goes, Ends, Stops, start, complemented, still, term, all_terms, next_factor, opened, due, closed, ended, behind, step_at, step, leaf, mark, symbol, is_name}
+use Rattle.si_genlib.specs.Expression.{Tree, Not, trees, State, Outcome, Goes, Ends, Stops, start, complemented, still}
+use Rattle.si_genlib.specs.Expression.{term, all_terms, next_factor, opened, due, closed, ended, behind, step_at, step}
+use Rattle.si_genlib.specs.Expression.{leaf, mark, symbol, is_name}
 use Rattle.si_genlib.specs.Grammar.{Syntax, Word, InParens, Primed, written, IsBeginning, IsOpening}
 use Rattle.si_genlib.proofs.GrammarLemmas.{steps, led_on}
-use Rattle.si_genlib.proofs.Converse.{Reads, Stands, Before, Outside, parted, rejoined, EndsFactor, factor_ends, EndsTerm, term_ends, EndsTerms, terms_end, moved, in_parens, parens_read, weaker, completed, due_begins}
+use Rattle.si_genlib.proofs.Converse.{Reads, Stands, Before, Outside, parted, rejoined, EndsFactor, factor_ends}
+use Rattle.si_genlib.proofs.Converse.{EndsTerm, term_ends, EndsTerms, terms_end, moved, in_parens, parens_read, weaker}
+use Rattle.si_genlib.proofs.Converse.{completed, due_begins}
 
 -- ---- what a state tells of the tokens that led to it
 

@@ -1,5 +1,7 @@
 -- The codes at which a value is 1 and those at which it is 0, and the sum that is chosen for them.
-use Rattle.std.proofs.Common.{◌≡◌, ◌≢◌, ℕ, zero, suc, ◌+◌, ◌-◌, ◌*◌, ◌%◌, ◌<◌, ◌≤◌, ◌^◌, ◌==◌, not, Bool, true, false, List, [], ◌∷◌, ◌++◌, length, filter, get_or, All, Contains, refl, sym, ap, subst, ◌∙◌, inl, inr, arith}
+use Rattle.std.proofs.Common.{◌≡◌, ◌≢◌, ℕ, zero, suc, ◌+◌, ◌-◌, ◌*◌, ◌%◌, ◌<◌, ◌≤◌, ◌^◌, ◌==◌, not, Bool, true, false}
+use Rattle.std.proofs.Common.{List, [], ◌∷◌, ◌++◌, length, filter, get_or, All, Contains, refl, sym, ap, subst, ◌∙◌}
+use Rattle.std.proofs.Common.{inl, inr, arith}
 use Rattle.std.specs.List.Sorted.{IsNonDecreasing}
 use Rattle.std.proofs.lemmas.Bool.{cases_Bool, cases_lt, true≢false, not-true, eqb-true, eqb-false}
 use Rattle.std.proofs.lemmas.List.{append-nil, get_or_default}
@@ -17,7 +19,8 @@ use Rattle.si_base.proofs.Sorted.{In}
 use Rattle.si_cube.specs.Covers.{IsMeetable, IsPrimeCover, without}
 use Rattle.si_cube.specs.Rule.{covers}
 use Rattle.si_cube.proofs.CubeFacts.{no_bit}
-use Rattle.si_cube.proofs.NeededLemmas.{in_left, in_right, in_from_Contains, Contains_from_in, all_in, all_from_in, any_from_in}
+use Rattle.si_cube.proofs.NeededLemmas.{in_left, in_right, in_from_Contains, Contains_from_in, all_in, all_from_in}
+use Rattle.si_cube.proofs.NeededLemmas.{any_from_in}
 use Rattle.si_cube.proofs.RuleLemmas.{chosen_is_prime_cover}
 use Rattle.si_cube.proofs.SumLemmas.{chosen_is_sum}
 use Rattle.si_genlib.specs.Gate.{below, falls_at, falls, demand, sum_of}

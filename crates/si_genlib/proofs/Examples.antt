@@ -4,7 +4,8 @@ use Rattle.si_base.specs.declared.ids.Literal.{Literal}
 use Rattle.si_base.specs.declared.fault.TextKind.TheVariants as kinds
 use Rattle.si_cell.specs.Library.{Cell}
 use Rattle.si_genlib.specs.GenlibText.{genlib_fault, library_of, all_cells}
-use Rattle.si_genlib.specs.Statements.{name_at, decimal_at, out_at, equals_at, body_at, gate_at, phase_at, pin_at, gate_statement_at, pin_statement_at, statement_at}
+use Rattle.si_genlib.specs.Statements.{name_at, decimal_at, out_at, equals_at, body_at, gate_at, phase_at, pin_at}
+use Rattle.si_genlib.specs.Statements.{gate_statement_at, pin_statement_at, statement_at}
 use Rattle.si_tokens.specs.Unread.{word, word_at, tokens}
 use Rattle.si_genlib.specs.Expression.{step}
 use Rattle.si_genlib.specs.Gate.{gate_value, sum_of, cell_of, with_gate}

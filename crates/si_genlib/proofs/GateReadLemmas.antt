@@ -1,5 +1,6 @@
 -- Each gate that is read has a name, and few pins.
-use Rattle.std.proofs.Common.{◌≡◌, ℕ, zero, suc, ◌<◌, ◌==◌, ◌||◌, false, List, [], ◌∷◌, length, drop, nat_le, Result, Ok, Err, refl, inl, inr, arith}
+use Rattle.std.proofs.Common.{◌≡◌, ℕ, zero, suc, ◌<◌, ◌==◌, ◌||◌, false, List, [], ◌∷◌, length, drop, nat_le, Result}
+use Rattle.std.proofs.Common.{Ok, Err, refl, inl, inr, arith}
 use Rattle.std.proofs.lemmas.Bool.{cases_Bool, true≢false, or_parts, eqb-false, leb-false}
 use Rattle.std.proofs.lemmas.List.{length-take-le}
 use Rattle.si_base.specs.Lines.{begins}
@@ -7,7 +8,8 @@ use Rattle.si_words.specs.Sums.{is_empty}
 use Rattle.si_tokens.specs.declared.fault.Stop.{Stop}
 use Rattle.si_tokens.specs.Unread.{◌>>=◌, Unread, Piece, to_next, word_here, tokens}
 use Rattle.si_genlib.specs.Expression.{Tree, trees, start, read}
-use Rattle.si_genlib.specs.Statements.{quoted_len, quoted, name_of_word, name_at, decimal_at, out_at, equals_at, body_at, gate_at}
+use Rattle.si_genlib.specs.Statements.{quoted_len, quoted, name_of_word, name_at, decimal_at, out_at, equals_at}
+use Rattle.si_genlib.specs.Statements.{body_at, gate_at}
 use Rattle.si_genlib.proofs.GateCellLemmas.{IsReadGate, Holds}
 use Rattle.si_genlib.proofs.ReadLemmas.{pins_few}
 

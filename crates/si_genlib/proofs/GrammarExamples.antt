@@ -3,7 +3,8 @@ use Rattle.std.proofs.Common.{◌≡◌, ℕ, List, [], replicate, codes, refl}
 use Rattle.si_genlib.specs.Limits.{max_unfinished}
 use Rattle.si_tokens.specs.Unread.{Unread, Piece, tokens}
 use Rattle.si_genlib.specs.Expression.{Tree, Pin, Not, And, Or, step}
-use Rattle.si_genlib.specs.Grammar.{Syntax, Word, InParens, Primed, Complemented, Beside, Times, Plus, written, tree_of, height, IsBeginning, IsSentence, CannotGoOn, GoesTooDeep, bytes_of}
+use Rattle.si_genlib.specs.Grammar.{Syntax, Word, InParens, Primed, Complemented, Beside, Times, Plus, written, tree_of}
+use Rattle.si_genlib.specs.Grammar.{height, IsBeginning, IsSentence, CannotGoOn, GoesTooDeep, bytes_of}
 use Rattle.si_genlib.proofs.ViableLaws.{sentences, cuts, bad_expressions, deep_expressions}
 
 -- what is left of a line, and its tokens

@@ -1,12 +1,14 @@
 -- A gate that is kept or passed over, by its table.
-use Rattle.std.proofs.Common.{◌≡◌, ℕ, ◌+◌, ◌<◌, ◌≤◌, ◌^◌, not, if◌then◌else◌, Bool, true, false, List, [], ◌∷◌, ◌++◌, length, take, nat_le, Ok, Err, refl, sym, ap, subst, ◌∙◌, arith}
+use Rattle.std.proofs.Common.{◌≡◌, ℕ, ◌+◌, ◌<◌, ◌≤◌, ◌^◌, not, if◌then◌else◌, Bool, true, false, List, [], ◌∷◌, ◌++◌}
+use Rattle.std.proofs.Common.{length, take, nat_le, Ok, Err, refl, sym, ap, subst, ◌∙◌, arith}
 use Rattle.std.proofs.lemmas.Bool.{true≢false}
 use Rattle.std.proofs.lemmas.Nat.{pow-add}
 use Rattle.si_cell.specs.Library.{Cell}
 use Rattle.si_cell.specs.LibraryText.{names_of}
 use Rattle.si_base.specs.declared.fault.TextKind.TheVariants.{OwnFalling, TooManyCells}
 use Rattle.si_tokens.specs.declared.fault.Stop.TheVariants.{Fault}
-use Rattle.si_genlib.specs.Gate.{Gate, bits_of, pin_count, width, gate_value, falls, sum_of, cell_name, pin_names, cell_of, with_gate}
+use Rattle.si_genlib.specs.Gate.{Gate, bits_of, pin_count, width, gate_value, falls, sum_of, cell_name, pin_names}
+use Rattle.si_genlib.specs.Gate.{cell_of, with_gate}
 use Rattle.si_genlib.specs.Tables.{TabledGate, tabled, table_value}
 use Rattle.si_genlib.proofs.ValueLemmas.{value_is, filter_same, falls_same}
 

@@ -1,15 +1,20 @@
 -- What is read of the same tokens over other values.
-use Rattle.std.proofs.Common.{◌≡◌, ℕ, ◌==◌, Bool, true, false, not, List, [], ◌∷◌, length, map, nat_le, if◌then◌else◌, Option, Some, None, Result, Ok, Err, refl, sym, ap, ◌∙◌, inl, inr, option_map}
+use Rattle.std.proofs.Common.{◌≡◌, ℕ, ◌==◌, Bool, true, false, not, List, [], ◌∷◌, length, map, nat_le, if◌then◌else◌}
+use Rattle.std.proofs.Common.{Option, Some, None, Result, Ok, Err, refl, sym, ap, ◌∙◌, inl, inr, option_map}
 use Rattle.std.proofs.lemmas.Bool.{cases_Bool}
 use Rattle.std.proofs.lemmas.List.{length-map}
 use Rattle.si_base.specs.declared.fault.TextKind.TheVariants.{TooDeep}
 use Rattle.si_tokens.specs.declared.fault.Stop.{Stop}
 use Rattle.si_genlib.specs.declared.symbol.Symbol.{Symbol}
-use Rattle.si_genlib.specs.declared.symbol.Symbol.TheVariants.{Leaf, Complement, Prime, Times, Plus, Open, Close, End, Other}
+use Rattle.si_genlib.specs.declared.symbol.Symbol.TheVariants.{Leaf, Complement, Prime, Times, Plus, Open, Close, End}
+use Rattle.si_genlib.specs.declared.symbol.Symbol.TheVariants.{Other}
 use Rattle.si_genlib.specs.declared.symbol.Operator.{Operator}
 use Rattle.si_genlib.specs.declared.symbol.Operator.TheVariants as operators
 use Rattle.si_tokens.specs.Unread.{Unread, Piece}
-use Rattle.si_genlib.specs.Expression.{Operations, Tree, trees, value_of, State, Outcome, Goes, Ends, Stops, start, symbol, leaf, mark, is_name, is_constant, is_zero, after, opened, due, complemented, still, term, all_terms, next_factor, next_term, closed, ended, behind, step_at, step, led, read}
+use Rattle.si_genlib.specs.Expression.{Operations, Tree, trees, value_of, State, Outcome, Goes, Ends, Stops, start}
+use Rattle.si_genlib.specs.Expression.{symbol, leaf, mark, is_name, is_constant, is_zero, after, opened, due}
+use Rattle.si_genlib.specs.Expression.{complemented, still, term, all_terms, next_factor, next_term, closed, ended}
+use Rattle.si_genlib.specs.Expression.{behind, step_at, step, led, read}
 
 pub record Respects {X Y : Type 0} (o : Operations X) (p : Operations Y) (f : X → Y) : Type 0 where
   pub pin : (name : List ℕ) → f (o.pin name) ≡ p.pin name

@@ -1,5 +1,7 @@
 -- One token of an expression: its pins, and where it leads.
-use Rattle.std.proofs.Common.{◌≡◌, ◌⊎◌, ℕ, ◌+◌, ◌<◌, ◌≤◌, ◌==◌, ◌&&◌, ◌||◌, not, Bool, true, false, if◌then◌else◌, List, [], ◌∷◌, ◌++◌, length, nat_le, nat_lt, bytes_eq, Option, Some, None, Result, Ok, Err, refl, sym, ap, subst, ◌∙◌, arith, inl, inr}
+use Rattle.std.proofs.Common.{◌≡◌, ◌⊎◌, ℕ, ◌+◌, ◌<◌, ◌≤◌, ◌==◌, ◌&&◌, ◌||◌, not, Bool, true, false, if◌then◌else◌, List}
+use Rattle.std.proofs.Common.{[], ◌∷◌, ◌++◌, length, nat_le, nat_lt, bytes_eq, Option, Some, None, Result, Ok, Err}
+use Rattle.std.proofs.Common.{refl, sym, ap, subst, ◌∙◌, arith, inl, inr}
 use Rattle.std.specs.List.{prefix_len, list_any}
 use Rattle.std.proofs.lemmas.Bool.{cases_Bool, true≢false, eqb-true, leb-true, leb-false, lt-ltb, le-ltb}
 use Rattle.std.proofs.lemmas.List.{length_push, length-append}
@@ -11,11 +13,14 @@ use Rattle.si_base.specs.declared.fault.TextKind.{TextKind}
 use Rattle.si_tokens.specs.declared.fault.Stop.{Stop}
 use Rattle.si_tokens.specs.declared.fault.Stop.TheVariants.{Fault}
 use Rattle.si_genlib.specs.declared.symbol.Symbol.{Symbol}
-use Rattle.si_genlib.specs.declared.symbol.Symbol.TheVariants.{Leaf, Complement, Prime, Times, Plus, Open, Close, End, Other}
+use Rattle.si_genlib.specs.declared.symbol.Symbol.TheVariants.{Leaf, Complement, Prime, Times, Plus, Open, Close, End}
+use Rattle.si_genlib.specs.declared.symbol.Symbol.TheVariants.{Other}
 use Rattle.si_genlib.specs.declared.symbol.Operator.{Operator}
 use Rattle.si_genlib.specs.declared.symbol.Operator.TheVariants as operators
 use Rattle.si_tokens.specs.Unread.{Unread, Piece}
-use Rattle.si_genlib.specs.Expression.{Operations, State, Outcome, Goes, Ends, Stops, is_name, is_constant, mark, symbol, opened, due, closed, ended, still, all_terms, next_factor, step_at, step, led, read}
+use Rattle.si_genlib.specs.Expression.{Operations, State, Outcome, Goes, Ends, Stops, is_name, is_constant, mark}
+use Rattle.si_genlib.specs.Expression.{symbol, opened, due, closed, ended, still, all_terms, next_factor, step_at, step}
+use Rattle.si_genlib.specs.Expression.{led, read}
 use Rattle.si_genlib.specs.Gate.{no_pins, Pins, with_pin, with_token, ends_expression, pins_from}
 use Rattle.si_genlib.specs.Tables.{tables, slot, variable}
 

@@ -1,5 +1,6 @@
 -- Each part of a statement takes bytes, so that reading ends.
-use Rattle.std.proofs.Common.{◌≡◌, ℕ, zero, suc, ◌+◌, ◌<◌, ◌≤◌, ◌==◌, ◌||◌, ◌&&◌, Bool, true, false, List, [], ◌∷◌, length, take, drop, bytes_eq, codes, nat_le, Result, Ok, Err, refl, arith, inl, inr}
+use Rattle.std.proofs.Common.{◌≡◌, ℕ, zero, suc, ◌+◌, ◌<◌, ◌≤◌, ◌==◌, ◌||◌, ◌&&◌, Bool, true, false, List, [], ◌∷◌}
+use Rattle.std.proofs.Common.{length, take, drop, bytes_eq, codes, nat_le, Result, Ok, Err, refl, arith, inl, inr}
 use Rattle.std.specs.List.{prefix_len}
 use Rattle.std.proofs.lemmas.Bool.{cases_Bool, true≢false}
 use Rattle.std.proofs.lemmas.List.{length-drop}
@@ -8,11 +9,15 @@ use Rattle.si_words.specs.Sums.{is_empty}
 use Rattle.si_cell.specs.Library.{Cell}
 use Rattle.si_base.specs.declared.fault.TextKind.{TextKind}
 use Rattle.si_tokens.specs.declared.fault.Stop.{Stop}
-use Rattle.si_tokens.specs.Unread.{◌>>=◌, Unread, Piece, size, lines_size, after_blanks, to_next_from, to_next, word_len, word_here, word, if_there, word_at, first_of, tokens, token_at}
+use Rattle.si_tokens.specs.Unread.{◌>>=◌, Unread, Piece, size, lines_size, after_blanks, to_next_from, to_next}
+use Rattle.si_tokens.specs.Unread.{word_len, word_here, word, if_there, word_at, first_of, tokens, token_at}
 use Rattle.si_tokens.specs.Decimal.{is_decimal}
-use Rattle.si_genlib.specs.Expression.{Tree, trees, State, Outcome, Goes, Ends, Stops, start, read, led, step, symbol, is_name}
+use Rattle.si_genlib.specs.Expression.{Tree, trees, State, Outcome, Goes, Ends, Stops, start, read, led, step, symbol}
+use Rattle.si_genlib.specs.Expression.{is_name}
 use Rattle.si_genlib.specs.Gate.{Gate, with_gate}
-use Rattle.si_genlib.specs.Statements.{if_passes, quoted_len, quoted, name_here, name_at, decimal_at, out_at, equals_at, body_at, gate_at, is_phase, phase_at, decimals_at, pin_at, Progress, gate_statement_at, pin_statement_at, statement_at, cells_from}
+use Rattle.si_genlib.specs.Statements.{if_passes, quoted_len, quoted, name_here, name_at, decimal_at, out_at, equals_at}
+use Rattle.si_genlib.specs.Statements.{body_at, gate_at, is_phase, phase_at, decimals_at, pin_at, Progress}
+use Rattle.si_genlib.specs.Statements.{gate_statement_at, pin_statement_at, statement_at, cells_from}
 use Rattle.si_genlib.specs.GenlibText.{all_cells}
 use Rattle.si_tokens.proofs.SourceLemmas.{AllSmaller, all_smaller}
 

@@ -1,5 +1,6 @@
 -- Where no expression goes on, and where only expressions do that have too many unfinished operators.
-use Rattle.std.proofs.Common.{◌≡◌, ℕ, suc, zero, Bool, true, false, List, [], ◌∷◌, ◌++◌, length, nat_le, codes, Option, Some, None, refl, sym, ap, ◌∙◌, inl, inr, subst}
+use Rattle.std.proofs.Common.{◌≡◌, ℕ, suc, zero, Bool, true, false, List, [], ◌∷◌, ◌++◌, length, nat_le, codes, Option}
+use Rattle.std.proofs.Common.{Some, None, refl, sym, ap, ◌∙◌, inl, inr, subst}
 use Rattle.std.proofs.lemmas.Bool.{cases_Bool}
 use Rattle.si_base.specs.declared.fault.TextKind.{TextKind}
 use Rattle.si_base.specs.declared.fault.TextKind.TheVariants.{BadExpression}
@@ -7,8 +8,10 @@ use Rattle.si_genlib.specs.declared.symbol.Symbol.{Symbol}
 use Rattle.si_genlib.specs.declared.symbol.Symbol.TheVariants as symbols
 use Rattle.si_genlib.specs.declared.symbol.Operator.{Operator}
 use Rattle.si_genlib.specs.declared.symbol.Operator.TheVariants as operators
-use Rattle.si_genlib.specs.Expression.{Tree, trees, State, Outcome, Goes, Ends, Stops, start, still, next_factor, opened, due, closed, ended, all_terms, behind, step_at, step, symbol}
-use Rattle.si_genlib.specs.Grammar.{Syntax, Word, InParens, Primed, Complemented, Beside, Times, Plus, IsExpression, written, NoneBegins, sentence}
+use Rattle.si_genlib.specs.Expression.{Tree, trees, State, Outcome, Goes, Ends, Stops, start, still, next_factor}
+use Rattle.si_genlib.specs.Expression.{opened, due, closed, ended, all_terms, behind, step_at, step, symbol}
+use Rattle.si_genlib.specs.Grammar.{Syntax, Word, InParens, Primed, Complemented, Beside, Times, Plus, IsExpression}
+use Rattle.si_genlib.specs.Grammar.{written, NoneBegins, sentence}
 use Rattle.si_genlib.proofs.GrammarLemmas.{steps, led_on}
 
 -- ---- the outline of a state: whether an operand is due, and how many parentheses are open

@@ -1,12 +1,15 @@
 -- The meaning of what is read, both ways.
-use Rattle.std.proofs.Common.{◌≡◌, ℕ, ◌≤◌, ◌⊎◌, ◌↔◌, List, [], ◌∷◌, ◌++◌, codes, Ok, Err, refl, sym, ap, ◌∙◌, arith, inl, inr, subst, append_assoc, append-nil}
+use Rattle.std.proofs.Common.{◌≡◌, ℕ, ◌≤◌, ◌⊎◌, ◌↔◌, List, [], ◌∷◌, ◌++◌, codes, Ok, Err, refl, sym, ap, ◌∙◌, arith}
+use Rattle.std.proofs.Common.{inl, inr, subst, append_assoc, append-nil}
 use Rattle.si_base.specs.declared.fault.TextKind.{TextKind}
 use Rattle.si_base.specs.declared.fault.TextKind.TheVariants.{BadExpression, TooDeep}
 use Rattle.si_tokens.specs.declared.fault.Stop.TheVariants.{Cut, Fault}
 use Rattle.si_genlib.specs.Limits.{max_unfinished}
 use Rattle.si_tokens.specs.Unread.{Unread, Piece}
 use Rattle.si_genlib.specs.Expression.{Tree, trees, State, Outcome, Goes, Ends, Stops, start, step, symbol, led, read}
-use Rattle.si_genlib.specs.Grammar.{Syntax, IsExpression, written, tree_of, height, IsBeginning, BeginsWith, NoneBegins, OnlyDeeperBegin, sentence, Split, bytes_of, ahead, IsSentence, CannotGoOn, GoesTooDeep}
+use Rattle.si_genlib.specs.Grammar.{Syntax, IsExpression, written, tree_of, height, IsBeginning, BeginsWith, NoneBegins}
+use Rattle.si_genlib.specs.Grammar.{OnlyDeeperBegin, sentence, Split, bytes_of, ahead, IsSentence, CannotGoOn}
+use Rattle.si_genlib.specs.Grammar.{GoesTooDeep}
 use Rattle.si_genlib.proofs.GrammarLemmas.{steps, led_on, steps-append, each_read, tree_read}
 use Rattle.si_genlib.proofs.ConverseSteps.{IsWhole, same_state, reached_begins}
 use Rattle.si_genlib.proofs.ViableReads.{StopVerdict, Verdict, verdict, one_more, Means, FaultMeans, read_means}

@@ -1,5 +1,6 @@
 -- What is read of the tokens of a text, in the words of the grammar.
-use Rattle.std.proofs.Common.{◌≡◌, ℕ, suc, List, [], ◌∷◌, ◌++◌, Result, Ok, Err, refl, sym, ap, ◌∙◌, arith, inl, inr, subst, append_assoc, append-nil}
+use Rattle.std.proofs.Common.{◌≡◌, ℕ, suc, List, [], ◌∷◌, ◌++◌, Result, Ok, Err, refl, sym, ap, ◌∙◌, arith, inl, inr}
+use Rattle.std.proofs.Common.{subst, append_assoc, append-nil}
 use Rattle.std.proofs.lemmas.Bool.{cases_lt}
 use Rattle.std.proofs.lemmas.List.{map-append}
 use Rattle.si_base.specs.declared.fault.TextKind.{TextKind}
@@ -9,7 +10,8 @@ use Rattle.si_tokens.specs.declared.fault.Stop.TheVariants.{Cut, Fault}
 use Rattle.si_genlib.specs.Limits.{max_unfinished}
 use Rattle.si_tokens.specs.Unread.{Unread, Piece}
 use Rattle.si_genlib.specs.Expression.{Tree, trees, State, Outcome, Goes, Ends, Stops, start, step, symbol, led, read}
-use Rattle.si_genlib.specs.Grammar.{tree_of, height, IsBeginning, NoneBegins, OnlyDeeperBegin, IsOpening, Split, bytes_of, IsSentence, CannotGoOn, GoesTooDeep}
+use Rattle.si_genlib.specs.Grammar.{tree_of, height, IsBeginning, NoneBegins, OnlyDeeperBegin, IsOpening, Split}
+use Rattle.si_genlib.specs.Grammar.{bytes_of, IsSentence, CannotGoOn, GoesTooDeep}
 use Rattle.si_genlib.proofs.GrammarLemmas.{steps, led_on, steps-append, tree_read}
 use Rattle.si_genlib.proofs.ConverseSteps.{IsWhole, StepMeans, step_means, reached, reached_begins}
 use Rattle.si_genlib.proofs.Viable.{dead_behind}

@@ -1,6 +1,10 @@
 -- The line of a cell has no fault, and spells that cell.
-use Rattle.std.proofs.Common.{IsTrue, ◌||◌, option_map, if◌then◌else◌, ◌≡◌, ◌≢◌, ℕ, suc, ◌+◌, ◌<◌, ◌≤◌, Bool, true, false, List, [], ◌∷◌, ◌++◌, length, drop, get_or, All, AllPairs, refl, sym, ap, ap₂, subst, ◌∙◌, inl, inr, arith, append_assoc, codes, bytes_eq, nat_le, nat_lt, position, unwrap_or, Option, Some, None, eqb-true}
-use Rattle.std.proofs.lemmas.Bool.{true≢false, and_parts, and_from, or_cases, or_from, lt-ltb, lt-leb, leb-true, le-leb, false_from_ne_true}
+use Rattle.std.proofs.Common.{IsTrue, ◌||◌, option_map, if◌then◌else◌, ◌≡◌, ◌≢◌, ℕ, suc, ◌+◌, ◌<◌, ◌≤◌, Bool, true}
+use Rattle.std.proofs.Common.{false, List, [], ◌∷◌, ◌++◌, length, drop, get_or, All, AllPairs, refl, sym, ap, ap₂}
+use Rattle.std.proofs.Common.{subst, ◌∙◌, inl, inr, arith, append_assoc, codes, bytes_eq, nat_le, nat_lt, position}
+use Rattle.std.proofs.Common.{unwrap_or, Option, Some, None, eqb-true}
+use Rattle.std.proofs.lemmas.Bool.{true≢false, and_parts, and_from, or_cases, or_from, lt-ltb, lt-leb, leb-true, le-leb}
+use Rattle.std.proofs.lemmas.Bool.{false_from_ne_true}
 use Rattle.std.proofs.lemmas.List.{length_push, length-append, map-append, take_at, get_or_at, get_or_append_left}
 use Rattle.std.proofs.lemmas.List.Elements.{All-push, recursion_from_All}
 use Rattle.std.proofs.lemmas.List.Folds.{list_all-append, list_any_none}
@@ -19,13 +23,15 @@ use Rattle.si_base.specs.WellFormed.{IsCube}
 use Rattle.si_base.specs.Words.{is_between, is_letter, is_name_byte, is_word_byte, is_signal_name}
 use Rattle.si_words.specs.Names.{stands_in}
 use Rattle.si_words.specs.Sums.{cut_at, len_before}
-use Rattle.si_cell.specs.CellWords.{CellWords, around, cell_words, pin_fault, cell_fault, cell_of, declared, literal_of, sum_of, sum_fault}
+use Rattle.si_cell.specs.CellWords.{CellWords, around, cell_words, pin_fault, cell_fault, cell_of, declared, literal_of}
+use Rattle.si_cell.specs.CellWords.{sum_of, sum_fault}
 use Rattle.si_cell.specs.Library.{Cell, IsCell, IsPinName, own}
 use Rattle.si_cell.specs.Limits.{max_cells, max_pins}
 use Rattle.si_cell.proofs.CubeLemmas.{same_name, names_same}
 use Rattle.si_genlib.specs.Written.{cell_line, signals_in}
 use Rattle.si_genlib.proofs.WrittenLineLemmas.{IsWord, AreWords}
-use Rattle.si_genlib.proofs.WrittenSumLemmas.{AreNames, SumFits, names_in, place, good_name, literal_spelled, of_sum, sum_good, sum_is, sum_spelled}
+use Rattle.si_genlib.proofs.WrittenSumLemmas.{AreNames, SumFits, names_in, place, good_name, literal_spelled, of_sum}
+use Rattle.si_genlib.proofs.WrittenSumLemmas.{sum_good, sum_is, sum_spelled}
 
 -- ---- names are words
 

@@ -1,5 +1,6 @@
 -- The text of a library has no fault, and spells that library.
-use Rattle.std.proofs.Common.{◌≡◌, ℕ, ◌+◌, ◌<◌, ◌≤◌, List, [], ◌∷◌, ◌++◌, length, map, refl, sym, ap, subst, ◌∙◌, arith, append_assoc, bytes_eq, codes, false, None}
+use Rattle.std.proofs.Common.{◌≡◌, ℕ, ◌+◌, ◌<◌, ◌≤◌, List, [], ◌∷◌, ◌++◌, length, map, refl, sym, ap, subst, ◌∙◌, arith}
+use Rattle.std.proofs.Common.{append_assoc, bytes_eq, codes, false, None}
 use Rattle.std.proofs.lemmas.List.{append-nil, length-append, length-map}
 use Rattle.std.proofs.lemmas.List.Elements.{recursion_from_All}
 use Rattle.std.specs.List.{AllByRecursion, enumerate_from, join_with_byte}
@@ -11,9 +12,11 @@ use Rattle.si_words.specs.Names.{stands_in}
 use Rattle.si_cell.specs.CellWords.{cell_words}
 use Rattle.si_cell.specs.Library.{Cell, IsCell, AreCells, Library, IsLibrary}
 use Rattle.si_cell.specs.Limits.{max_cells}
-use Rattle.si_cell.specs.LibraryText.{names_of, cell_line_fault, spelled, cell_lines_fault, cells_in, lines_fault, library_in, library_fault, library_of}
+use Rattle.si_cell.specs.LibraryText.{names_of, cell_line_fault, spelled, cell_lines_fault, cells_in, lines_fault}
+use Rattle.si_cell.specs.LibraryText.{library_in, library_fault, library_of}
 use Rattle.si_genlib.specs.Written.{cell_line, library_lines, library_text}
-use Rattle.si_genlib.proofs.WrittenCellLemmas.{at_here, is_new, name_is_word, words_cut, line_good, line_spelled, line_words}
+use Rattle.si_genlib.proofs.WrittenCellLemmas.{at_here, is_new, name_is_word, words_cut, line_good, line_spelled}
+use Rattle.si_genlib.proofs.WrittenCellLemmas.{line_words}
 use Rattle.si_genlib.proofs.WrittenLineLemmas.{AreWords, lines_back, no_bad_byte, words_back}
 
 -- the lines with these words, from the n-th on

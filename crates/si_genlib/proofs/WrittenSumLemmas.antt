@@ -1,6 +1,9 @@
 -- The words of a cell's sum have no fault, and spell that sum.
-use Rattle.std.proofs.Common.{IsTrue, if◌then◌else◌, ◌≡◌, ◌≢◌, ℕ, ◌<◌, ◌≤◌, Bool, true, false, not, List, [], ◌∷◌, ◌++◌, length, map, get_or, All, AllPairs, refl, sym, ap, ap₂, subst, ◌∙◌, arith, append_assoc, codes, bytes_eq, Option, Some, None, unwrap_or, position}
-use Rattle.std.proofs.lemmas.Bool.{true≢false, and_parts, and_from, or_right, lt-ltb, false_from_ne_true, not_from_false}
+use Rattle.std.proofs.Common.{IsTrue, if◌then◌else◌, ◌≡◌, ◌≢◌, ℕ, ◌<◌, ◌≤◌, Bool, true, false, not, List, [], ◌∷◌, ◌++◌}
+use Rattle.std.proofs.Common.{length, map, get_or, All, AllPairs, refl, sym, ap, ap₂, subst, ◌∙◌, arith, append_assoc}
+use Rattle.std.proofs.Common.{codes, bytes_eq, Option, Some, None, unwrap_or, position}
+use Rattle.std.proofs.lemmas.Bool.{true≢false, and_parts, and_from, or_right, lt-ltb, false_from_ne_true}
+use Rattle.std.proofs.lemmas.Bool.{not_from_false}
 use Rattle.std.proofs.lemmas.List.{append-nil, length_push, length-append, map_push, get_or_at, get_or_append_left}
 use Rattle.std.proofs.lemmas.List.Elements.{All-from_recursion, All-get_or, All-nil, All-push}
 use Rattle.std.proofs.lemmas.List.Folds.{list_any_at, list_any_none}

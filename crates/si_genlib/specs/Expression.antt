@@ -1,5 +1,7 @@
--- Expressions: their trees, and how they are read, token by token, from left to right.
-use Rattle.std.specs.Prelude.{ℕ, ◌==◌, ◌&&◌, ◌||◌, not, Bool, true, false, List, [], ◌∷◌, length, nat_le, bytes_eq, codes, if◌then◌else◌, Option, Some, None, Result, Ok, Err}
+-- (text) Expressions: their trees, and how they are read, token by token, from left to right.
+use Rattle.std.specs.Prelude.{ℕ, ◌==◌, ◌&&◌, ◌||◌, not, Bool, true, false, List, [], ◌∷◌, length}
+use Rattle.std.specs.Prelude.{nat_le, bytes_eq, codes, if◌then◌else◌, Option, Some, None, Result}
+use Rattle.std.specs.Prelude.{Ok, Err}
 use Rattle.si_base.specs.Bytes.{apostrophe, plus}
 use Rattle.si_base.specs.Lines.{begins}
 use Rattle.si_base.specs.Words.{is_name_byte}
@@ -8,10 +10,12 @@ use Rattle.si_base.specs.declared.fault.TextKind.TheVariants.{BadExpression, Too
 use Rattle.si_tokens.specs.declared.fault.Stop.{Stop}
 use Rattle.si_tokens.specs.declared.fault.Stop.TheVariants.{Cut, Fault}
 use Rattle.si_genlib.specs.declared.symbol.Symbol.{Symbol}
-use Rattle.si_genlib.specs.declared.symbol.Symbol.TheVariants.{Leaf, Complement, Prime, Times, Plus, Open, Close, End, Other}
+use Rattle.si_genlib.specs.declared.symbol.Symbol.TheVariants.{Leaf, Complement, Prime, Times, Plus}
+use Rattle.si_genlib.specs.declared.symbol.Symbol.TheVariants.{Open, Close, End, Other}
 use Rattle.si_genlib.specs.declared.symbol.Operator.{Operator}
 use Rattle.si_genlib.specs.declared.symbol.Operator.TheVariants as operators
-use Rattle.si_genlib.specs.Marks.{exclamation_mark, opening_parenthesis, closing_parenthesis, asterisk, semicolon}
+use Rattle.si_genlib.specs.Marks.{exclamation_mark, opening_parenthesis, closing_parenthesis}
+use Rattle.si_genlib.specs.Marks.{asterisk, semicolon}
 use Rattle.si_genlib.specs.Limits.{max_unfinished}
 use Rattle.si_tokens.specs.Unread.{Unread, Piece}
 

@@ -1,5 +1,7 @@
--- Gates, and the cells that they become.
-use Rattle.std.specs.Prelude.{ℕ, ◌+◌, ◌^◌, ◌&&◌, not, Bool, true, false, List, [], ◌∷◌, ◌++◌, length, map, filter, take, ◌==◌, nat_le, bytes_eq, codes, if◌then◌else◌, position, unwrap_or, zero, suc, Result, Ok, Err}
+-- (text) Gates, and the cells that they become.
+use Rattle.std.specs.Prelude.{ℕ, ◌+◌, ◌^◌, ◌&&◌, not, Bool, true, false, List, [], ◌∷◌, ◌++◌}
+use Rattle.std.specs.Prelude.{length, map, filter, take, ◌==◌, nat_le, bytes_eq, codes}
+use Rattle.std.specs.Prelude.{if◌then◌else◌, position, unwrap_or, zero, suc, Result, Ok, Err}
 use Rattle.std.specs.List.{list_any}
 use Rattle.si_base.specs.Bits.{bit}
 use Rattle.si_base.specs.Bytes.{underscore}

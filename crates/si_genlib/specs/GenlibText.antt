@@ -1,4 +1,5 @@
--- The text of a genlib library: its first fault, and the library that a text without one spells.
+-- (text) The text of a genlib library: its first fault, and the library that a text without one
+-- spells.
 use Rattle.std.specs.Prelude.{ℕ, suc, List, [], codes, Option, Some, None, Result, Ok, Err}
 use Rattle.si_base.specs.Lines.{numbered}
 use Rattle.si_base.specs.declared.fault.TextKind.{TextKind}

@@ -1,4 +1,4 @@
--- What readers hold and answer, as the definitions see it.
+-- (loop) What readers hold and answer, as the definitions see it.
 use Rattle.std.specs.Prelude.{◌≡◌, ℕ, reverse, Option, Some, None, Result, Ok, Err}
 use Rattle.si_words.specs.Reads.{words_now}
 use Rattle.si_tokens.specs.declared.fault.ReadFault.{ReadFault}

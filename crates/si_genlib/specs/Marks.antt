@@ -1,4 +1,4 @@
--- Bytes of genlib texts that mean something there.
+-- (text) Bytes of genlib texts that mean something there.
 use Rattle.std.specs.Prelude.{ℕ}
 
 abbrev pub exclamation_mark : ℕ

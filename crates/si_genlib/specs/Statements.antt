@@ -1,14 +1,18 @@
--- Statements of a genlib text.
-use Rattle.std.specs.Prelude.{ℕ, ◌+◌, ◌==◌, ◌&&◌, ◌||◌, not, Bool, true, false, List, [], length, take, drop, nat_le, bytes_eq, codes, if◌then◌else◌, zero, suc, Result, Ok, Err}
+-- (text) Statements of a genlib text.
+use Rattle.std.specs.Prelude.{ℕ, ◌+◌, ◌==◌, ◌&&◌, ◌||◌, not, Bool, true, false, List, [], length}
+use Rattle.std.specs.Prelude.{take, drop, nat_le, bytes_eq, codes, if◌then◌else◌, zero, suc, Result}
+use Rattle.std.specs.Prelude.{Ok, Err}
 use Rattle.std.specs.List.{prefix_len}
 use Rattle.si_base.specs.Lines.{begins}
 use Rattle.si_base.specs.declared.fault.TextKind.{TextKind}
-use Rattle.si_base.specs.declared.fault.TextKind.TheVariants.{BadGate, BadNumber, BadPin, BadWord, Latch}
+use Rattle.si_base.specs.declared.fault.TextKind.TheVariants.{BadGate, BadNumber, BadPin, BadWord}
+use Rattle.si_base.specs.declared.fault.TextKind.TheVariants.{Latch}
 use Rattle.si_words.specs.Sums.{is_empty}
 use Rattle.si_cell.specs.Library.{Cell}
 use Rattle.si_tokens.specs.declared.fault.Stop.{Stop}
 use Rattle.si_tokens.specs.declared.fault.Stop.TheVariants.{Cut, Fault}
-use Rattle.si_tokens.specs.Unread.{◌>>=◌, Unread, Piece, to_next, word_here, if_there, word, word_at, token_at, tokens}
+use Rattle.si_tokens.specs.Unread.{◌>>=◌, Unread, Piece, to_next, word_here, if_there, word}
+use Rattle.si_tokens.specs.Unread.{word_at, token_at, tokens}
 use Rattle.si_tokens.specs.Decimal.{is_decimal}
 use Rattle.si_genlib.specs.Marks.{double_quote}
 use Rattle.si_genlib.specs.Expression.{trees, start, read, is_name}

@@ -1,5 +1,6 @@
 -- Where the arcs out of a state stand among arcs in order.
-use Rattle.std.proofs.Common.{◌≡◌, ℕ, ◌<◌, ◌≤◌, ◌+◌, ◌-◌, true, false, sym, ap, ◌∙◌, List, length, get_or, take, drop, arith, inl, inr, ltb, Contains, length-take, length-drop}
+use Rattle.std.proofs.Common.{◌≡◌, ℕ, ◌<◌, ◌≤◌, ◌+◌, ◌-◌, true, false, sym, ap, ◌∙◌, List, length, get_or, take, drop}
+use Rattle.std.proofs.Common.{arith, inl, inr, ltb, Contains, length-take, length-drop}
 use Rattle.std.specs.List.Sorted.{IsStrictlySortedBy, IsPartitionPoint}
 use Rattle.std.proofs.lemmas.Bool.{cases_lt, ltb-true, ltb-false}
 use Rattle.std.proofs.lemmas.List.{get_or-drop, get_or-take}
@@ -21,7 +22,8 @@ start_from_cut edges s k up_to cut = record {
 }
 
 -- no arc leaves a state past the last
-pub start_past : (edges : List Edge) (states s : ℕ) → ((k : ℕ) (d : Edge) → k < length edges → (get_or edges k d).from < states)
+pub start_past : (edges : List Edge) (states s : ℕ)
+    → ((k : ℕ) (d : Edge) → k < length edges → (get_or edges k d).from < states)
     → states ≤ s → IsStart edges s (length edges)
 start_past edges states s within past = record {
   up_to = omega arith;

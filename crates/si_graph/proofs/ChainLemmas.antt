@@ -1,5 +1,6 @@
 -- Chains that are linked from the last arc to the first.
-use Rattle.std.proofs.Common.{◌≡◌, ℕ, ◌+◌, ◌<◌, ◌≤◌, List, length, get_or, set, replicate, All, sym, subst, ◌∙◌, arith, inl, inr, get_or-set_same, get_or-set_other, length-set, Option, Some, None, MatchOption}
+use Rattle.std.proofs.Common.{◌≡◌, ℕ, ◌+◌, ◌<◌, ◌≤◌, List, length, get_or, set, replicate, All, sym, subst, ◌∙◌, arith}
+use Rattle.std.proofs.Common.{inl, inr, get_or-set_same, get_or-set_other, length-set, Option, Some, None, MatchOption}
 use Rattle.std.proofs.lemmas.Bool.{cases_eq, cases_lt}
 use Rattle.std.proofs.lemmas.List.{get_or_default, get_or_past, get_or-replicate, length-replicate}
 use Rattle.si_base.specs.declared.graph.Edge.{Edge}

@@ -1,5 +1,7 @@
 -- Each graph has a cut to its reachable states.
-use Rattle.std.proofs.Common.{◌≡◌, ℕ, zero, suc, ◌+◌, ◌<◌, ◌⊎◌, ◌↔◌, ◌∙◌, Bool, true, false, not, cond, List, [], ◌∷◌, length, get_or, set, Contains, All, refl, sym, subst, arith, inl, inr, length-set, slice_index_or}
+use Rattle.std.proofs.Common.{◌≡◌, ℕ, zero, suc, ◌+◌, ◌<◌, ◌⊎◌, ◌↔◌, ◌∙◌, Bool, true, false, not, cond, List, [], ◌∷◌}
+use Rattle.std.proofs.Common.{length, get_or, set, Contains, All, refl, sym, subst, arith, inl, inr, length-set}
+use Rattle.std.proofs.Common.{slice_index_or}
 use Rattle.std.proofs.Math.ListN.{replicate}
 use Rattle.std.proofs.lemmas.Bool.{cases_Bool, true≢false}
 use Rattle.std.proofs.lemmas.List.{length-replicate, get_or_past}

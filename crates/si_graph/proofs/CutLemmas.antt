@@ -1,5 +1,7 @@
 -- The graph that is made of the renamed arcs is the cut, and each of its states is reachable.
-use Rattle.std.proofs.Common.{◌≡◌, ℕ, zero, suc, add-one, ◌+◌, ◌-◌, ◌<◌, ◌≤◌, Bool, ap, ap₂, ◌∙◌, sym, refl, subst, arith, List, [], ◌∷◌, length, get_or, slice_get, Some, Contains, inl, inr, ◌↔◌, AllPairs, All, map, filter, nat_cmp}
+use Rattle.std.proofs.Common.{◌≡◌, ℕ, zero, suc, add-one, ◌+◌, ◌-◌, ◌<◌, ◌≤◌, Bool, ap, ap₂, ◌∙◌, sym, refl, subst}
+use Rattle.std.proofs.Common.{arith, List, [], ◌∷◌, length, get_or, slice_get, Some, Contains, inl, inr, ◌↔◌, AllPairs}
+use Rattle.std.proofs.Common.{All, map, filter, nat_cmp}
 use Rattle.std.specs.List.Sorted.{IsStrictlySortedBy}
 use Rattle.std.proofs.lemmas.Bool.{cases_order}
 use Rattle.std.proofs.lemmas.List.{get_or_default, get_or_read, length-map}

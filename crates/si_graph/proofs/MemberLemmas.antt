@@ -1,5 +1,6 @@
 -- What filter and map keep of a list.
-use Rattle.std.proofs.Common.{◌≡◌, zero, suc, Bool, true, refl, arith, List, [], ◌∷◌, Contains, map, filter, inl, inr, ◌⊎◌}
+use Rattle.std.proofs.Common.{◌≡◌, zero, suc, Bool, true, refl, arith, List, [], ◌∷◌, Contains, map, filter, inl, inr}
+use Rattle.std.proofs.Common.{◌⊎◌}
 use Rattle.std.proofs.lemmas.Bool.{cases_Bool}
 
 module _ {X : Type 0} where

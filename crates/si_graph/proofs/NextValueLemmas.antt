@@ -1,5 +1,6 @@
 -- Each arc out of a state sets the next value of its signal.
-use Rattle.std.proofs.Common.{◌≡◌, ◌≢◌, ℕ, ◌+◌, ◌<◌, ◌&&◌, Bool, true, false, not, List, length, get_or, Contains, refl, sym, ap, subst, ◌∙◌, arith, inl, inr}
+use Rattle.std.proofs.Common.{◌≡◌, ◌≢◌, ℕ, ◌+◌, ◌<◌, ◌&&◌, Bool, true, false, not, List, length, get_or, Contains, refl}
+use Rattle.std.proofs.Common.{sym, ap, subst, ◌∙◌, arith, inl, inr}
 use Rattle.std.specs.List.{AllWithin}
 use Rattle.std.proofs.lemmas.Bool.{cases_eq, cases_Bool, true≢false}
 use Rattle.std.proofs.lemmas.List.{get_or_default}
@@ -53,7 +54,8 @@ set_more arcs n code old new x from_old within at sets before = record {
         let a : Edge = get_or arcs k d in
         elim (cases_eq a.event.sig x.event.sig) [
           | inl same ↦ (
-              let of_x : bit code x.event.sig ≡ not x.event.up = subst (FromOld code) (here x) (from_old n x (omega arith) within) in
+              let of_x : bit code x.event.sig ≡ not x.event.up =
+              subst (FromOld code) (here x) (from_old n x (omega arith) within) in
               let of_a : bit code a.event.sig ≡ not a.event.up = from_old k d (omega arith) (omega arith) in
               let one : not x.event.up ≡ not a.event.up = sym of_x ∙ ap (bit code) (sym same) ∙ of_a in
               ap (bit new) same ∙ sets.there ∙ same_not _ _ one)

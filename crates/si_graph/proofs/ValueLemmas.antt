@@ -1,5 +1,7 @@
 -- Codes read off the arcs, and what arcs that they don't suit show.
-use Rattle.std.proofs.Common.{◌≡◌, ◌≢◌, ℕ, ◌+◌, ◌/◌, ◌%◌, ◌^◌, ◌<◌, ◌≤◌, ◌⊎◌, ◌==◌, ◌||◌, ◌↔◌, Bool, true, false, not, max, List, length, get_or, take, map, All, bit_xor, bit_or, refl, sym, ap, subst, ◌∙◌, arith, inl, inr, length-take, get_or-take, slice_index}
+use Rattle.std.proofs.Common.{◌≡◌, ◌≢◌, ℕ, ◌+◌, ◌/◌, ◌%◌, ◌^◌, ◌<◌, ◌≤◌, ◌⊎◌, ◌==◌, ◌||◌, ◌↔◌, Bool, true, false, not}
+use Rattle.std.proofs.Common.{max, List, length, get_or, take, map, All, bit_xor, bit_or, refl, sym, ap, subst, ◌∙◌}
+use Rattle.std.proofs.Common.{arith, inl, inr, length-take, get_or-take, slice_index}
 use mathlib.Core.Bool.{beq}
 use Rattle.std.specs.Int.{bit_at}
 use Rattle.std.proofs.lemmas.Bool.{cases_eq, cases_lt, or_parts, or_from, true≢false}
@@ -7,7 +9,8 @@ use Rattle.std.proofs.lemmas.List.{get_or-map, take-take, take_all}
 use Rattle.std.proofs.lemmas.List.Elements.{All-more, All-take, All-contains}
 use Rattle.std.proofs.Math.Nat.{mod-lt}
 use Rattle.std.proofs.lemmas.Nat.{pow_pos, div-add-mod'}
-use Rattle.std.proofs.lemmas.Nat.Bits.{bit_at_xor, bit_at_or, bit_at-lt, bit_at-zero, bit_at_above, bit_at_cat_low, same_from_bits}
+use Rattle.std.proofs.lemmas.Nat.Bits.{bit_at_xor, bit_at_or, bit_at-lt, bit_at-zero, bit_at_above, bit_at_cat_low}
+use Rattle.std.proofs.lemmas.Nat.Bits.{same_from_bits}
 use Rattle.si_base.specs.declared.ids.Event.{Event}
 use Rattle.si_base.specs.declared.graph.Edge.{Edge}
 use Rattle.si_base.specs.Bits.{bit, IsSet}

@@ -1,4 +1,4 @@
--- Arcs in chains: those into a state, linked by their places.
+-- (loop) Arcs in chains: those into a state, linked by their places.
 use Rattle.std.specs.Prelude.{◌≡◌, ℕ, ◌+◌, ◌<◌, ◌≤◌, ◌^◌, List, length, All, slice_index}
 use Rattle.std.specs.List.Sorted.{IsStrictlySortedBy}
 use Rattle.si_base.specs.declared.graph.Edge.{Edge}

@@ -1,4 +1,4 @@
--- How codes change on the way from the start, and how far that has been followed.
+-- (loop) How codes change on the way from the start, and how far that has been followed.
 use Rattle.std.specs.Prelude.{◌≡◌, ℕ, ◌+◌, ◌*◌, ◌<◌, ◌⊎◌, Bool, List, length, Contains, slice_index}
 use Rattle.si_base.specs.declared.ids.Event.{Event}
 use Rattle.si_base.specs.Codes.{parity}

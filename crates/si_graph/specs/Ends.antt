@@ -1,4 +1,4 @@
--- Arcs chained by their ends.
+-- (loop) Arcs chained by their ends.
 use Rattle.std.specs.Prelude.{◌≡◌, ℕ, List, length}
 use Rattle.si_base.specs.declared.graph.Edge.{Edge}
 use Rattle.si_graph.specs.Chains.{AreLinked, target}

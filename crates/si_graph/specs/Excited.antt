@@ -1,4 +1,4 @@
--- Signals that are about to switch.
+-- (field) Signals that are about to switch.
 use Rattle.std.specs.Prelude.{◌≢◌, ℕ}
 use Rattle.si_base.specs.Bits.{bit}
 use Rattle.si_base.specs.Graph.{IsNonInput}

@@ -1,4 +1,4 @@
--- Arcs in groups: those of one source side by side.
+-- (loop) Arcs in groups: those of one source side by side.
 use Rattle.std.specs.Prelude.{◌≡◌, ℕ, ◌<◌, ◌↔◌, List, Contains}
 use Rattle.si_base.specs.declared.graph.Edge.{Edge}
 

@@ -1,4 +1,4 @@
--- What holds of each graph with codes.
+-- (law) What holds of each graph with codes.
 use Rattle.std.specs.Prelude.{◌≡◌}
 use Rattle.si_base.specs.Codes.{CodedGraph, IsCoded}
 

@@ -1,4 +1,4 @@
--- The next values of all signals at a state, as a code.
+-- (field) The next values of all signals at a state, as a code.
 use Rattle.std.specs.Prelude.{◌≡◌, ℕ, ◌<◌, ◌^◌, List, length, slice_index}
 use Rattle.si_base.specs.Bits.{bit}
 use Rattle.si_base.specs.Codes.{CodedGraph, IsCoded, next_value}

@@ -1,5 +1,6 @@
--- New ids for the marked states: their places among these.
-use Rattle.std.specs.Prelude.{◌≡◌, ℕ, ◌<◌, ◌≤◌, List, length, Contains, AllPairs, Bool, false, slice_index, slice_index_or, slice_get, Some, ◌↔◌}
+-- (loop) New ids for the marked states: their places among these.
+use Rattle.std.specs.Prelude.{◌≡◌, ℕ, ◌<◌, ◌≤◌, List, length, Contains, AllPairs, Bool, false}
+use Rattle.std.specs.Prelude.{slice_index, slice_index_or, slice_get, Some, ◌↔◌}
 use Rattle.si_base.specs.declared.graph.Edge.{Edge}
 use Rattle.si_graph.specs.Reach.{IsIn}
 

@@ -1,5 +1,5 @@
--- Arcs in order: those out of a state stand together, from its start up to the start of the next
--- state.
+-- (loop) Arcs in order: those out of a state stand together, from its start up to the start of the
+-- next state.
 use Rattle.std.specs.Prelude.{◌≡◌, ℕ, ◌+◌, ◌<◌, ◌≤◌, List, length, slice_index}
 use Rattle.std.specs.List.Sorted.{IsPartitionPoint}
 use Rattle.si_base.specs.declared.graph.Edge.{Edge}
@@ -18,7 +18,8 @@ pub record AreStarts (states : ℕ) (edges : List Edge) (starts : List ℕ) : Ty
 
 -- the arcs are stored, with the starts of the states, and each linked to the next one into its
 -- target
-pub record AreIndexed (states : ℕ) (edges : List Edge) (starts : List ℕ) (into : Chain) : Type 0 where
+pub record AreIndexed (states : ℕ) (edges : List Edge) (starts : List ℕ) (into : Chain)
+    : Type 0 where
   pub stored : AreStored states edges
   pub starts_are : AreStarts states edges starts
   pub into_linked : AreLinked target states edges 0 into.heads.items into.nexts.items

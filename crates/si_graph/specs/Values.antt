@@ -1,4 +1,4 @@
--- Codes that tell the values of signals.
+-- (loop) Codes that tell the values of signals.
 use Rattle.std.specs.Prelude.{◌≡◌, ◌≢◌, ℕ, ◌<◌, Bool, not, List, length, All, slice_index}
 use Rattle.si_base.specs.declared.ids.Event.{Event}
 use Rattle.si_base.specs.declared.graph.Edge.{Edge}

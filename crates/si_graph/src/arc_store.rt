@@ -1,6 +1,7 @@
 //! Arcs in order: those out of a state stand together, and those into a state are chained.
 
-ghost use Rattle.std.specs.Prelude.{◌≡◌, ℕ, ◌+◌, ◌<◌, ◌≤◌, ◌^◌, ◌↔◌, IfOk, All, Contains, MatchOption, length};
+ghost use Rattle.std.specs.Prelude.{◌≡◌, ℕ, ◌+◌, ◌<◌, ◌≤◌, ◌^◌, ◌↔◌, IfOk, All, Contains};
+ghost use Rattle.std.specs.Prelude.{MatchOption, length};
 ghost use Rattle.std.specs.List.Sorted.{IsStrictlySortedBy};
 ghost use Rattle.si_base.specs.declared.graph.Edge.{Edge};
 ghost use Rattle.si_base.specs.EdgeOrder.{edge_cmp};

@@ -1,12 +1,14 @@
 //! Codes read off the arcs, and the first signal whose values don't suit these.
 
-ghost use Rattle.std.specs.Prelude.{◌≡◌, ◌↔◌, ◌<◌, ℕ, All, IfOk, MatchOption, bit_xor, false, length, map, slice_index};
+ghost use Rattle.std.specs.Prelude.{◌≡◌, ◌↔◌, ◌<◌, ℕ, All, IfOk, MatchOption, bit_xor, false};
+ghost use Rattle.std.specs.Prelude.{length, map, slice_index};
 ghost use Rattle.si_base.specs.Bits.{bit};
 ghost use Rattle.si_base.specs.Codes.{IsConnected};
 ghost use Rattle.si_base.specs.Graph.{IsGraph};
 ghost use Rattle.si_base.specs.Limits.{code_width};
 ghost use Rattle.si_graph.specs.Changes.{AreChanges};
-ghost use Rattle.si_graph.specs.Values.{HasPlaces, IsFirstUnsuited, IsStartCode, SuitAll, Suits, TellsValues};
+ghost use Rattle.si_graph.specs.Values.{HasPlaces, IsFirstUnsuited, IsStartCode, SuitAll, Suits};
+ghost use Rattle.si_graph.specs.Values.{TellsValues};
 
 use crate::graph::Graph;
 use crate::spread::changes_from_start;

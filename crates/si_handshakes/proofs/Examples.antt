@@ -1,5 +1,6 @@
 -- One handshake, and a state of two, worked.
-use Rattle.std.proofs.Common.{◌≡◌, ◌≢◌, ℕ, zero, suc, ◌≤◌, ◌∙◌, true, false, [], ◌∷◌, codes, AllPairs, refl, sym, subst, arith, lit<, map}
+use Rattle.std.proofs.Common.{◌≡◌, ◌≢◌, ℕ, zero, suc, ◌≤◌, ◌∙◌, true, false, [], ◌∷◌, codes, AllPairs, refl, sym, subst}
+use Rattle.std.proofs.Common.{arith, lit<, map}
 use Rattle.std.specs.List.{range_with_len}
 use Rattle.std.specs.List.Sorted.{IsStrictlySortedBy}
 use Rattle.std.proofs.lemmas.Fmt.{decimal_digit}

@@ -1,20 +1,26 @@
 -- The graph of handshakes is proper, and its codes tell its states apart.
-use Rattle.std.proofs.Common.{◌≡◌, ◌≢◌, ℕ, zero, suc, ◌+◌, ◌-◌, ◌*◌, ◌%◌, ◌^◌, ◌<◌, ◌≤◌, ◌⊎◌, Bool, true, false, [], length, IsTrue, refl, sym, ap, ap₂, subst, ◌∙◌, arith, inl, inr}
+use Rattle.std.proofs.Common.{◌≡◌, ◌≢◌, ℕ, zero, suc, ◌+◌, ◌-◌, ◌*◌, ◌%◌, ◌^◌, ◌<◌, ◌≤◌, ◌⊎◌, Bool, true, false, []}
+use Rattle.std.proofs.Common.{length, IsTrue, refl, sym, ap, ap₂, subst, ◌∙◌, arith, inl, inr}
 use Rattle.std.proofs.lemmas.Bool.{cases_eq, cases_lt}
 use Rattle.si_base.specs.declared.ids.Event.{Event}
 use Rattle.si_base.specs.Bits.{bit}
 use Rattle.si_base.specs.Graph.{StateGraph, Step, IsReachable, rise, fall, enables}
 use Rattle.si_base.specs.GivenGraph.{Sg}
-use Rattle.si_base.specs.Codes.{AreValues, HasValues, IsConsistent, IsDeterministic, IsConnected, CodedGraph, IsCoded, code}
+use Rattle.si_base.specs.Codes.{AreValues, HasValues, IsConsistent, IsDeterministic, IsConnected, CodedGraph, IsCoded}
+use Rattle.si_base.specs.Codes.{code}
 use Rattle.si_base.specs.Proper.{IsProper, HasNoConflict}
 use Rattle.si_base.proofs.Steps.{enables-step, step_from_enables}
 use Rattle.si_base.proofs.StepFacts.{step_within}
 use Rattle.si_base.proofs.UniqueCodes.{value_unique}
 use Rattle.si_graph.proofs.MarkLemmas.{reachable-step}
-use Rattle.si_handshakes.specs.Handshakes.{phase, request, acknowledgement, ending, GoesOn, IsHandshakes, HasValuesOfPhases}
-use Rattle.si_handshakes.proofs.DigitLemmas.{phase_below, power_pos, lowest, later, same_digits, some_digit, put, put_same, put_other, put_below, put_is}
+use Rattle.si_handshakes.specs.Handshakes.{phase, request, acknowledgement, ending, GoesOn, IsHandshakes}
+use Rattle.si_handshakes.specs.Handshakes.{HasValuesOfPhases}
+use Rattle.si_handshakes.proofs.DigitLemmas.{phase_below, power_pos, lowest, later, same_digits, some_digit, put}
+use Rattle.si_handshakes.proofs.DigitLemmas.{put_same, put_other, put_below, put_is}
 use Rattle.si_handshakes.proofs.NumberedNames.{twice_as_many}
-use Rattle.si_handshakes.proofs.Phases.{same_handshake, request_rises, request_falls, acknowledgement_rises, acknowledgement_falls, request_rests, acknowledgement_rests, goes_on, target_below, same_target}
+use Rattle.si_handshakes.proofs.Phases.{same_handshake, request_rises, request_falls, acknowledgement_rises}
+use Rattle.si_handshakes.proofs.Phases.{acknowledgement_falls, request_rests, acknowledgement_rests, goes_on}
+use Rattle.si_handshakes.proofs.Phases.{target_below, same_target}
 
 -- a step, by what goes on
 pub record Goes (n m : ℕ) (e : Event) (t : ℕ) : Type 0 where

@@ -1,5 +1,6 @@
 -- There is one graph of handshakes for each number, and its sizes.
-use Rattle.std.proofs.Common.{◌≡◌, ◌≢◌, ℕ, suc, ◌+◌, ◌*◌, ◌/◌, ◌%◌, ◌^◌, ◌<◌, ◌≤◌, List, [], ◌∷◌, length, AllPairs, Contains, Ordering, sym, ap, ap₂, ◌∙◌, arith}
+use Rattle.std.proofs.Common.{◌≡◌, ◌≢◌, ℕ, suc, ◌+◌, ◌*◌, ◌/◌, ◌%◌, ◌^◌, ◌<◌, ◌≤◌, List, [], ◌∷◌, length, AllPairs}
+use Rattle.std.proofs.Common.{Contains, Ordering, sym, ap, ap₂, ◌∙◌, arith}
 use Rattle.std.specs.List.Sorted.{IsStrictlySortedBy}
 use Rattle.std.proofs.lemmas.Nat.{div-add-mod', mul-le}
 use Rattle.std.proofs.lemmas.List.FromFn.{get_or-map-range_with_len}
@@ -8,7 +9,8 @@ use Rattle.si_base.specs.EdgeOrder.{edge_cmp}
 use Rattle.si_base.specs.Graph.{StateGraph}
 use Rattle.si_base.specs.GivenGraph.{Sg}
 use Rattle.si_base.proofs.Sorted.{IsStrict, after_head}
-use Rattle.si_base.proofs.Unique.{in_from_contains, contains_from_in, strict_from_total, edges_total, same_edges, same_graph}
+use Rattle.si_base.proofs.Unique.{in_from_contains, contains_from_in, strict_from_total, edges_total, same_edges}
+use Rattle.si_base.proofs.Unique.{same_graph}
 use Rattle.si_base.proofs.Fewer.{Once, at_most as no_more_than}
 use Rattle.si_handshakes.specs.Handshakes.{phase, IsHandshakes, IsWithinLimits, max_handshakes}
 use Rattle.si_handshakes.specs.Arcs.{arc_at}

@@ -1,5 +1,7 @@
 -- The names of handshakes have the forms that texts ask for.
-use Rattle.std.proofs.Common.{◌≡◌, ◌≢◌, ℕ, ◌+◌, ◌-◌, ◌^◌, ◌<◌, ◌≤◌, ◌||◌, ◌&&◌, ◌==◌, not, Bool, true, List, [], ◌∷◌, ◌++◌, length, get_or, All, AllPairs, IsTrue, codes, decimal, refl, sym, ap, subst, ◌∙◌, arith, inl, inr}
+use Rattle.std.proofs.Common.{◌≡◌, ◌≢◌, ℕ, ◌+◌, ◌-◌, ◌^◌, ◌<◌, ◌≤◌, ◌||◌, ◌&&◌, ◌==◌, not, Bool, true, List, [], ◌∷◌}
+use Rattle.std.proofs.Common.{◌++◌, length, get_or, All, AllPairs, IsTrue, codes, decimal, refl, sym, ap, subst, ◌∙◌}
+use Rattle.std.proofs.Common.{arith, inl, inr}
 use Rattle.std.proofs.lemmas.Bool.{and_from, or_right, le-leb, ne_eqb, cases_lt}
 use Rattle.std.proofs.lemmas.Fmt.{decimal_is_IsNumeral}
 use Rattle.std.proofs.lemmas.Str.Parse.{digit_from_value}
@@ -7,12 +9,14 @@ use Rattle.std.specs.List.{list_all}
 use Rattle.std.specs.Str.Parse.{AllDigits}
 use Rattle.si_base.specs.declared.graph.Signal.{Signal}
 use Rattle.si_base.specs.declared.graph.SigKind.TheVariants.{Input, Output, Inserted}
-use Rattle.si_base.specs.Bytes.{digit_zero, digit_nine, dot, at_sign, opening_bracket, closing_bracket, less_sign, greater_sign}
+use Rattle.si_base.specs.Bytes.{digit_zero, digit_nine, dot, at_sign, opening_bracket, closing_bracket, less_sign}
+use Rattle.si_base.specs.Bytes.{greater_sign}
 use Rattle.si_base.specs.GivenGraph.{Sg}
 use Rattle.si_base.specs.Words.{is_between, is_letter, is_name_byte, is_word_byte, is_signal_name, IsStateName}
 use Rattle.si_sg.specs.CanonicalText.{IsWritable}
 use Rattle.si_handshakes.specs.Handshakes.{numbered, IsHandshakes, max_handshakes}
-use Rattle.si_handshakes.proofs.NumberedNames.{numbers_differ, length-numbered, name_at, both_kinds, twice_as_many, input_at, output_at}
+use Rattle.si_handshakes.proofs.NumberedNames.{numbers_differ, length-numbered, name_at, both_kinds, twice_as_many}
+use Rattle.si_handshakes.proofs.NumberedNames.{input_at, output_at}
 use Rattle.si_handshakes.proofs.ProperGraph.{connected}
 use Rattle.si_handshakes.proofs.Sizes.{within_limits}
 

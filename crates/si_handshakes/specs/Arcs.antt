@@ -1,4 +1,4 @@
--- The arcs as they are made, one after another.
+-- (loop) The arcs as they are made, one after another.
 use Rattle.std.specs.Prelude.{ℕ, ◌+◌, ◌-◌, ◌*◌, ◌/◌, ◌%◌, ◌^◌, ◌==◌, if◌then◌else◌}
 use Rattle.si_base.specs.declared.graph.Edge.{Edge}
 use Rattle.si_base.specs.Graph.{arc}

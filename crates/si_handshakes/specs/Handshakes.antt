@@ -1,5 +1,5 @@
--- Independent handshakes of four phases (return to zero): the environment drives the requests, the
--- circuit the acknowledgements.
+-- (field) Independent handshakes of four phases (return to zero): the environment drives the
+-- requests, the circuit the acknowledgements.
 use Rattle.std.specs.Prelude.{◌≡◌, ◌≢◌, ℕ, ◌+◌, ◌/◌, ◌%◌, ◌^◌, ◌<◌, ◌≤◌, ◌==◌, ◌||◌, ◌++◌, ◌↔◌}
 use Rattle.std.specs.Prelude.{Bool, List, map, length, codes, decimal, if◌then◌else◌}
 use Rattle.std.specs.List.{range_with_len}

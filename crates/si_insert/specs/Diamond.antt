@@ -1,4 +1,4 @@
--- Diamonds: two events that leave a state, and the one after the other.
+-- (field) Diamonds: two events that leave a state, and the one after the other.
 use Rattle.std.specs.Prelude.{◌≢◌, ℕ}
 use Rattle.si_base.specs.declared.ids.Event.{Event}
 use Rattle.si_base.specs.Graph.{StateGraph, Step, IsNonInput}

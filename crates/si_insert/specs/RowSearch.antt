@@ -1,4 +1,4 @@
--- A search for the item of least weight, row after row: the first among equals.
+-- (loop) A search for the item of least weight, row after row: the first among equals.
 use Rattle.std.specs.Prelude.{ℕ, List, [], ◌∷◌, Option, Some, None}
 use Rattle.si_base.specs.Order.{Before}
 use Rattle.si_checks.specs.Searches.{IsFirstOrNone}

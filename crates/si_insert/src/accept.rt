@@ -1,6 +1,7 @@
 //! Acceptance of a partition, by tests on the arcs of the graph and on two steps from one state.
 
-ghost use Rattle.std.specs.Prelude.{◌≡◌, ℕ, ◌<◌, ◌≤◌, ◌↔◌, ◌&&◌, ◌||◌, not, true, false, IfOk, IfErr, IfSome, IfNone, IsTrue, MatchOption, length, ◌∷◌, []};
+ghost use Rattle.std.specs.Prelude.{◌≡◌, ℕ, ◌<◌, ◌≤◌, ◌↔◌, ◌&&◌, ◌||◌, not, true, false, IfOk};
+ghost use Rattle.std.specs.Prelude.{IfErr, IfSome, IfNone, IsTrue, MatchOption, length, ◌∷◌, []};
 ghost use Rattle.si_base.specs.declared.graph.Edge.{Edge};
 ghost use Rattle.si_base.specs.Order.{IsFirst};
 ghost use Rattle.si_insert.specs.Partition.{class_of, edge_place};

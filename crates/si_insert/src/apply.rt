@@ -1,6 +1,7 @@
 //! The inserted graph.
 
-ghost use Rattle.std.specs.Prelude.{◌≡◌, ◌≢◌, ℕ, ◌<◌, ◌≤◌, ◌++◌, ◌∷◌, [], ◌^◌, IfOk, OnOk, All, length, map};
+ghost use Rattle.std.specs.Prelude.{◌≡◌, ◌≢◌, ℕ, ◌<◌, ◌≤◌, ◌++◌, ◌∷◌, [], ◌^◌, IfOk, OnOk, All};
+ghost use Rattle.std.specs.Prelude.{length, map};
 ghost use Rattle.si_base.specs.Codes.{IsCoded};
 ghost use Rattle.si_base.specs.Graph.{IsGraph, IsMadeOf};
 ghost use Rattle.si_base.specs.Limits.{max_signals};

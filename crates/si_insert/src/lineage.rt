@@ -1,13 +1,15 @@
 //! A given graph with accepted insertions, one after another.
 
-ghost use Rattle.std.specs.Prelude.{◌≡◌, ◌≢◌, ℕ, ◌+◌, ◌^◌, ◌<◌, ◌≤◌, List, [], ◌∷◌, ◌++◌, IfOk, IfErr, All, length, map, slice_index};
+ghost use Rattle.std.specs.Prelude.{◌≡◌, ◌≢◌, ℕ, ◌+◌, ◌^◌, ◌<◌, ◌≤◌, List, [], ◌∷◌, ◌++◌, IfOk};
+ghost use Rattle.std.specs.Prelude.{IfErr, All, length, map, slice_index};
 ghost use Rattle.std.specs.List.{range_with_len};
 ghost use Rattle.si_base.specs.Bits.{bit};
 ghost use Rattle.si_base.specs.Codes.{code};
 ghost use Rattle.si_base.specs.Limits.{max_signals};
 ghost use Rattle.si_insert.specs.Accepted.{IsAccepted};
 ghost use Rattle.si_insert.specs.Fresh.{IsTaken};
-ghost use Rattle.si_insert.specs.Lineage.{AllGiven, Extends, Inserts, IsLineage, Keeps, as_given, origin};
+ghost use Rattle.si_insert.specs.Lineage.{AllGiven, Extends, Inserts, IsLineage, Keeps, as_given};
+ghost use Rattle.si_insert.specs.Lineage.{origin};
 
 use crate::accept::Accepted;
 use crate::apply::{WithCopies, apply_with_copies};

@@ -1,4 +1,4 @@
--- What a load of the host makes of a file.
+-- (outside) What a load of the host makes of a file.
 use Rattle.std.specs.Prelude.{◌≡◌, ℕ, ◌+◌, ◌≤◌, List, length, Option, Result, Vec, Err}
 use Rattle.std.specs.Io.KnownBytes.{Consumes}
 use Rattle.std.specs.declared.alloc.Global.{Global}

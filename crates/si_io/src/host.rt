@@ -1,7 +1,8 @@
 //! Files of the host's file store, and its writers, over the calls of `system`. Nothing is told of
 //! their bytes.
 
-ghost use Rattle.std.specs.Prelude.{◌≡◌, ◌≢◌, ◌⊎◌, ℕ, ◌+◌, ◌^◌, ◌<◌, ◌≤◌, List, take, None, OnOk, Err};
+ghost use Rattle.std.specs.Prelude.{◌≡◌, ◌≢◌, ◌⊎◌, ℕ, ◌+◌, ◌^◌, ◌<◌, ◌≤◌, List, take, None, OnOk};
+ghost use Rattle.std.specs.Prelude.{Err};
 ghost use Rattle.std.specs.Io.KnownBytes.{Appends};
 ghost use Rattle.si_io.specs.Host.{IsRead};
 ghost use Rattle.si_io.specs.Outside.{IsLoad, one_more};

@@ -1,5 +1,7 @@
 -- The text of covers is one, and there is one; and what its writers have still to add, a step at a time.
-use Rattle.std.proofs.Common.{◌≡◌, ℕ, zero, suc, ◌+◌, ◌<◌, ◌≤◌, false, List, [], ◌∷◌, ◌++◌, take, drop, length, get_or, slice_get, Some, All, Contains, AllPairs, Result, Ok, Err, OnOk, IsTrue, refl, sym, ap, ap₂, subst, ◌∙◌, add-one, append_assoc, codes, decimal, arith, inl, inr, if◌then◌else◌}
+use Rattle.std.proofs.Common.{◌≡◌, ℕ, zero, suc, ◌+◌, ◌<◌, ◌≤◌, false, List, [], ◌∷◌, ◌++◌, take, drop, length, get_or}
+use Rattle.std.proofs.Common.{slice_get, Some, All, Contains, AllPairs, Result, Ok, Err, OnOk, IsTrue, refl, sym, ap}
+use Rattle.std.proofs.Common.{ap₂, subst, ◌∙◌, add-one, append_assoc, codes, decimal, arith, inl, inr, if◌then◌else◌}
 use Rattle.std.proofs.Math.Seq.{drop-cons}
 use Rattle.std.proofs.lemmas.Bool.{cases_Bool, false_from_ne_true, false≢true}
 use Rattle.std.proofs.lemmas.Grind.{flat_map-append}
@@ -31,7 +33,9 @@ use Rattle.si_regions.proofs.RegionsExist.{some_regions}
 use Rattle.si_regions.proofs.UniqueRegions.{one_list}
 use Rattle.si_words.specs.Writing.{spaced}
 use Rattle.si_words.proofs.WritingLemmas.{whole_line}
-use Rattle.si_listings.specs.CoverText.{Told, LeastCube, NoCube, IsTold, Component, AreComponents, regions_of, sum_line, told_words, mono_line, mono_lines, monos_after, signal_lines, lines_from, covers_text, conflict_text, IsCoverText}
+use Rattle.si_listings.specs.CoverText.{Told, LeastCube, NoCube, IsTold, Component, AreComponents, regions_of, sum_line}
+use Rattle.si_listings.specs.CoverText.{told_words, mono_line, mono_lines, monos_after, signal_lines, lines_from}
+use Rattle.si_listings.specs.CoverText.{covers_text, conflict_text, IsCoverText}
 use Rattle.si_listings.specs.RegionText.{number_after}
 use Rattle.si_sg.specs.CanonicalText.{event_word}
 

@@ -1,4 +1,4 @@
--- The text of the conflicts of a graph.
+-- (text) The text of the conflicts of a graph.
 use Rattle.std.specs.Prelude.{◌≡◌, ℕ, List, [], ◌∷◌, map, codes, decimal}
 use Rattle.si_base.specs.Codes.{CodedGraph}
 use Rattle.si_base.specs.Words.{text_of}

@@ -1,5 +1,6 @@
--- The text of the regions of a graph.
-use Rattle.std.specs.Prelude.{◌≡◌, ℕ, ◌+◌, ◌<◌, ◌-◌, List, [], ◌∷◌, ◌++◌, length, All, map, count_by, codes, decimal, slice_index_or}
+-- (text) The text of the regions of a graph.
+use Rattle.std.specs.Prelude.{◌≡◌, ℕ, ◌+◌, ◌<◌, ◌-◌, List, [], ◌∷◌, ◌++◌, length, All, map}
+use Rattle.std.specs.Prelude.{count_by, codes, decimal, slice_index_or}
 use Rattle.si_base.specs.declared.graph.Signal.{Signal}
 use Rattle.si_base.specs.declared.ids.Event.{Event}
 use Rattle.si_base.specs.Codes.{CodedGraph}

@@ -1,6 +1,7 @@
 //! The laws of the listings, as contracts of functions that do nothing.
 
-ghost use Rattle.si_listings.specs.Laws.{RegionTextsAreUnique, ConflictTextsAreUnique, CoverTextsAreUnique};
+ghost use Rattle.si_listings.specs.Laws.{RegionTextsAreUnique, ConflictTextsAreUnique};
+ghost use Rattle.si_listings.specs.Laws.{CoverTextsAreUnique};
 ghost use Rattle.si_listings.specs.Laws.{RegionTextsExist, ConflictTextsExist, CoverTextsExist};
 
 /// A graph with names for its states has one text of each kind.

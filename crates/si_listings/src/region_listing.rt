@@ -1,9 +1,11 @@
 //! The text of the regions of a graph.
 
-ghost use Rattle.std.specs.Prelude.{◌≡◌, ℕ, ◌+◌, ◌<◌, ◌++◌, ◌∷◌, IfOk, OnOk, All, length, decimal, codes, take, slice_index_or};
+ghost use Rattle.std.specs.Prelude.{◌≡◌, ℕ, ◌+◌, ◌<◌, ◌++◌, ◌∷◌, IfOk, OnOk, All, length, decimal};
+ghost use Rattle.std.specs.Prelude.{codes, take, slice_index_or};
 ghost use Rattle.si_base.specs.Words.{line, text_of};
 ghost use Rattle.si_regions.specs.Regions.{AreRegions};
-ghost use Rattle.si_listings.specs.RegionText.{set_line, region_lines, regions_text, IsRegionText, IsWithinNames};
+ghost use Rattle.si_listings.specs.RegionText.{set_line, region_lines, regions_text, IsRegionText};
+ghost use Rattle.si_listings.specs.RegionText.{IsWithinNames};
 
 use crate::numbers::goes_on;
 use crate::words::{add_event, add_states};

@@ -1,5 +1,6 @@
 -- A graph has a best divisor, or none serves.
-use Rattle.std.proofs.Common.{◌≡◌, ℕ, ◌<◌, ◌≤◌, ◌⊎◌, Bool, List, is_some, length, codes, Option, Some, None, slice_get, refl, ap, subst, subst₂, arith, inl, inr}
+use Rattle.std.proofs.Common.{◌≡◌, ℕ, ◌<◌, ◌≤◌, ◌⊎◌, Bool, List, is_some, length, codes, Option, Some, None, slice_get}
+use Rattle.std.proofs.Common.{refl, ap, subst, subst₂, arith, inl, inr}
 use Rattle.std.proofs.lemmas.Bool.{cases_lt}
 use Rattle.std.proofs.lemmas.Option.{slice_get_cases}
 use Rattle.si_base.specs.Codes.{CodedGraph, IsCoded}

@@ -1,5 +1,6 @@
 -- Either each signal that the circuit drives fits a cell, or one signal is the first that doesn't.
-use Rattle.std.proofs.Common.{◌≡◌, ℕ, zero, suc, ◌+◌, ◌⊎◌, length, true, Option, Some, None, is_some, sym, ap, subst, ◌∙◌, arith, refl, inl, inr}
+use Rattle.std.proofs.Common.{◌≡◌, ℕ, zero, suc, ◌+◌, ◌⊎◌, length, true, Option, Some, None, is_some, sym, ap, subst}
+use Rattle.std.proofs.Common.{◌∙◌, arith, refl, inl, inr}
 use Rattle.std.specs.Option.{IsSome}
 use Rattle.std.proofs.lemmas.Bool.{cases_Bool, cases_order, true≢false}
 use Rattle.std.proofs.lemmas.Option.{slice_get_cases}

@@ -12,7 +12,8 @@ use Rattle.si_insert.specs.Lineage.{Current, Inserts}
 use Rattle.si_insert.proofs.TraceLemmas as traces
 use Rattle.si_match.specs.Weight.{weight_of}
 use Rattle.si_map.specs.Best.{Choice, IsUnfit, LeavesWeight}
-use Rattle.si_map.specs.Laws.{BestIsUnique, TracesAreShort, TracesLeaveNoConflict, FittedIsMapped, MappedIsUnique, UnmappedIsUnique, EndsExclude, TracesAreLineages, TracesImplement}
+use Rattle.si_map.specs.Laws.{BestIsUnique, TracesAreShort, TracesLeaveNoConflict, FittedIsMapped, MappedIsUnique}
+use Rattle.si_map.specs.Laws.{UnmappedIsUnique, EndsExclude, TracesAreLineages, TracesImplement}
 use Rattle.si_map.specs.Trace.{Maps, IsMapping, IsStuck}
 use Rattle.si_map.proofs.EndLemmas.{first_is_one, not_both}
 use Rattle.si_map.proofs.NoneLeft.{none_left}

@@ -1,5 +1,6 @@
 -- A signal that follows an input: mapped at once by a buffer, and unmapped where there is no cell.
-use Rattle.std.proofs.Common.{◌≡◌, ℕ, zero, suc, ◌<◌, List, [], slice_get, is_some, codes, refl, sym, ap, subst, ◌∙◌, arith}
+use Rattle.std.proofs.Common.{◌≡◌, ℕ, zero, suc, ◌<◌, List, [], slice_get, is_some, codes, refl, sym, ap, subst, ◌∙◌}
+use Rattle.std.proofs.Common.{arith}
 use Rattle.std.proofs.lemmas.Bool.{true≢false}
 use Rattle.std.proofs.lemmas.Option.{slice_get_within, same_Some}
 use Rattle.si_base.specs.Graph.{IsNonInput, is_driven}

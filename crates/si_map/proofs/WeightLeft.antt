@@ -1,5 +1,6 @@
 -- The weight that an insertion leaves is one, whatever the new signal is called.
-use Rattle.std.proofs.Common.{◌≡◌, ℕ, zero, suc, ◌+◌, ◌&&◌, ◌||◌, not, Bool, true, false, List, [], ◌∷◌, ◌++◌, length, map, is_none, if◌then◌else◌, refl, sym, ap, ap₂, subst, ◌∙◌, length-append}
+use Rattle.std.proofs.Common.{◌≡◌, ℕ, zero, suc, ◌+◌, ◌&&◌, ◌||◌, not, Bool, true, false, List, [], ◌∷◌, ◌++◌, length}
+use Rattle.std.proofs.Common.{map, is_none, if◌then◌else◌, refl, sym, ap, ap₂, subst, ◌∙◌, length-append}
 use Rattle.std.specs.List.{list_all, enumerate_from}
 use mathlib.Core.Bool.{beq}
 use Rattle.si_base.specs.Bits.{bit, flip, ones}

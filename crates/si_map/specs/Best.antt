@@ -1,4 +1,4 @@
--- The divisor that mapping inserts next.
+-- (field) The divisor that mapping inserts next.
 use Rattle.std.specs.Prelude.{◌≡◌, ℕ, ◌<◌, List, [], ◌∷◌, slice_get, Some, None}
 use Rattle.si_base.specs.Order.{IsFirst}
 use Rattle.si_base.specs.declared.graph.Signal.{Signal}

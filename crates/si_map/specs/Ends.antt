@@ -1,4 +1,4 @@
--- Why mapping goes no further.
+-- (field) Why mapping goes no further.
 use Rattle.si_cell.specs.Library.{Library}
 use Rattle.si_insert.specs.Lineage.{Current}
 use Rattle.si_map.specs.Trace.{IsStuck}

@@ -1,4 +1,4 @@
--- The laws of mapping, one word each.
+-- (law) The laws of mapping, one word each.
 use Rattle.std.specs.Prelude.{◌≡◌, ℕ, ◌+◌, ◌≤◌, ◌⊎◌, List, [], ◌++◌, length}
 use Rattle.si_base.specs.Codes.{CodedGraph, IsCoded}
 use Rattle.si_base.specs.Proper.{IsProper, HasNoConflict}

@@ -1,4 +1,4 @@
--- The search for the best divisor, divisor after divisor.
+-- (loop) The search for the best divisor, divisor after divisor.
 use Rattle.std.specs.Prelude.{ℕ, [], ◌∷◌, Option}
 use Rattle.si_base.specs.Order.{Before}
 use Rattle.si_base.specs.Codes.{CodedGraph}

@@ -1,4 +1,4 @@
--- Mapping: the best divisor is inserted as a signal, again and again, while one serves.
+-- (field) Mapping: the best divisor is inserted as a signal, again and again, while one serves.
 use Rattle.std.specs.Prelude.{◌≡◌, ℕ, List, codes}
 use Rattle.si_cell.specs.Library.{Library}
 use Rattle.si_circuit.specs.Cells.{AllFit, IsFirstUnfit}

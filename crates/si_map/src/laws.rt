@@ -1,6 +1,9 @@
 //! The laws of mapping. Each function does nothing: its contract is the law.
 
-ghost use Rattle.si_map.specs.Laws.{FitOrNot, FirstUnfitIsUnique, FitExcludesUnfit, BestIsUnique, TracesAreShort, TracesLeaveNoConflict, FittedIsMapped, MappedIsUnique, UnmappedIsUnique, EndsExclude, TracesAreLineages, TracesImplement};
+ghost use Rattle.si_map.specs.Laws.{FitOrNot, FirstUnfitIsUnique, FitExcludesUnfit, BestIsUnique};
+ghost use Rattle.si_map.specs.Laws.{TracesAreShort, TracesLeaveNoConflict, FittedIsMapped};
+ghost use Rattle.si_map.specs.Laws.{MappedIsUnique, UnmappedIsUnique, EndsExclude};
+ghost use Rattle.si_map.specs.Laws.{TracesAreLineages, TracesImplement};
 
 /// Either each signal that the circuit drives fits a cell, or there is a first that doesn't, and
 /// one only.

@@ -1,5 +1,6 @@
 -- The first fitting instance fits, and without one none fits.
-use Rattle.std.proofs.Common.{◌≡◌, ℕ, zero, suc, ◌⊎◌, ◌+◌, ◌<◌, ◌≤◌, Bool, true, false, List, [], ◌∷◌, ◌++◌, length, map, get_or, Some, None, All, refl, sym, ap, ◌∙◌, arith, inl, inr, subst}
+use Rattle.std.proofs.Common.{◌≡◌, ℕ, zero, suc, ◌⊎◌, ◌+◌, ◌<◌, ◌≤◌, Bool, true, false, List, [], ◌∷◌, ◌++◌, length}
+use Rattle.std.proofs.Common.{map, get_or, Some, None, All, refl, sym, ap, ◌∙◌, arith, inl, inr, subst}
 use Rattle.std.specs.Prelude.{flat_map}
 use Rattle.std.specs.List.{enumerate_from}
 use Rattle.std.proofs.lemmas.Bool.{true≢false, cases_Bool}
@@ -14,7 +15,8 @@ use Rattle.si_base.specs.Limits.{code_width}
 use Rattle.si_base.specs.declared.ids.Literal.{Literal}
 use Rattle.si_cell.specs.Library.{Cell, Library, Instance, cell_at, no_cell}
 use Rattle.si_cell.specs.Literals.{both_from}
-use Rattle.si_match.specs.Fit.{fits, suits, states_of, first_that, lists_of, literals_of_signals, instances_of, instances, first_fit, IsOver, Fits}
+use Rattle.si_match.specs.Fit.{fits, suits, states_of, first_that, lists_of, literals_of_signals, instances_of}
+use Rattle.si_match.specs.Fit.{instances, first_fit, IsOver, Fits}
 use Rattle.si_match.proofs.CodeLemmas.{all_from}
 use Rattle.si_match.proofs.StateLemmas.{state_at, states_are}
 

@@ -1,4 +1,4 @@
--- Lists of codes, as far as some of the signals go.
+-- (loop) Lists of codes, as far as some of the signals go.
 use Rattle.std.specs.Prelude.{◌≡◌, ℕ, ◌<◌, ◌↔◌, Bool, List, Contains, bit_and, length}
 use Rattle.si_base.specs.Codes.{CodedGraph, code, next_value}
 

@@ -1,12 +1,14 @@
--- The instances of a library over the signals of a graph, and the first that fits a signal.
-use Rattle.std.specs.Prelude.{◌≡◌, ℕ, ◌<◌, Bool, List, [], ◌∷◌, zero, suc, length, map, flat_map, if◌then◌else◌, All, Option, Some, None}
+-- (field) The instances of a library over the signals of a graph, and the first that fits a signal.
+use Rattle.std.specs.Prelude.{◌≡◌, ℕ, ◌<◌, Bool, List, [], ◌∷◌, zero, suc, length, map, flat_map}
+use Rattle.std.specs.Prelude.{if◌then◌else◌, All, Option, Some, None}
 use Rattle.std.specs.List.{list_all, enumerate_from}
 use mathlib.Core.Bool.{beq}
 use Rattle.si_base.specs.Bits.{bit}
 use Rattle.si_base.specs.Codes.{CodedGraph, code, next_value}
 use Rattle.si_base.specs.Netlist.{sum_value}
 use Rattle.si_base.specs.declared.ids.Literal.{Literal}
-use Rattle.si_cell.specs.Library.{Cell, Library, Instance, IsInstance, cell_at, pin_values, instance_value}
+use Rattle.si_cell.specs.Library.{Cell, Library, Instance, IsInstance, cell_at, pin_values}
+use Rattle.si_cell.specs.Library.{instance_value}
 use Rattle.si_cell.specs.Literals.{both_from}
 
 -- ---- all instances, by cell in library order, then by their literals in literal order, the first

@@ -1,5 +1,6 @@
--- The support of a signal.
-use Rattle.std.specs.Prelude.{ℕ, ◌+◌, ◌==◌, ◌||◌, not, Bool, zero, suc, length, if◌then◌else◌, bit_and}
+-- (field) The support of a signal.
+use Rattle.std.specs.Prelude.{ℕ, ◌+◌, ◌==◌, ◌||◌, not, Bool, zero, suc, length, if◌then◌else◌}
+use Rattle.std.specs.Prelude.{bit_and}
 use Rattle.std.specs.List.{list_all}
 use mathlib.Core.Bool.{beq}
 use Rattle.si_base.specs.Bits.{flip, ones}

@@ -1,5 +1,6 @@
--- The weight of a graph for a library.
-use Rattle.std.specs.Prelude.{ℕ, ◌+◌, ◌&&◌, List, [], ◌∷◌, zero, suc, length, if◌then◌else◌, is_none}
+-- (field) The weight of a graph for a library.
+use Rattle.std.specs.Prelude.{ℕ, ◌+◌, ◌&&◌, List, [], ◌∷◌, zero, suc, length, if◌then◌else◌}
+use Rattle.std.specs.Prelude.{is_none}
 use Rattle.si_base.specs.Bits.{bit}
 use Rattle.si_base.specs.Codes.{CodedGraph}
 use Rattle.si_base.specs.Graph.{is_driven}

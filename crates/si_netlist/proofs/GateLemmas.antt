@@ -1,5 +1,7 @@
 -- The places and values of gates.
-use Rattle.std.proofs.Common.{◌≡◌, ℕ, ◌<◌, ◌+◌, ◌-◌, ◌≤◌, not, AllPairs, Bool, true, false, List, [], ◌∷◌, filter, map, zero, suc, length, if◌then◌else◌, slice_get, option_map, Some, refl, sym, ap, ◌∙◌, arith, get_or, inl, inr}
+use Rattle.std.proofs.Common.{◌≡◌, ℕ, ◌<◌, ◌+◌, ◌-◌, ◌≤◌, not, AllPairs, Bool, true, false, List, [], ◌∷◌, filter, map}
+use Rattle.std.proofs.Common.{zero, suc, length, if◌then◌else◌, slice_get, option_map, Some, refl, sym, ap, ◌∙◌, arith}
+use Rattle.std.proofs.Common.{get_or, inl, inr}
 use Rattle.std.proofs.lemmas.List.Filters.{length-filter_both}
 use Rattle.std.proofs.lemmas.Bool.{cases_Bool}
 use Rattle.std.proofs.lemmas.List.{length-map}

@@ -1,5 +1,7 @@
 -- What gates read, and that a signal that a gate doesn't read doesn't change its value.
-use Rattle.std.proofs.Common.{◌≡◌, ◌≢◌, ℕ, ◌⊎◌, ◌<◌, ◌≤◌, ◌+◌, ◌^◌, ◌==◌, ◌||◌, max, bit_or, Bool, true, false, List, [], ◌∷◌, zero, suc, length, take, get_or, if◌then◌else◌, slice_get, Option, Some, None, refl, sym, ap, ◌∙◌, arith, inl, inr}
+use Rattle.std.proofs.Common.{◌≡◌, ◌≢◌, ℕ, ◌⊎◌, ◌<◌, ◌≤◌, ◌+◌, ◌^◌, ◌==◌, ◌||◌, max, bit_or, Bool, true, false, List}
+use Rattle.std.proofs.Common.{[], ◌∷◌, zero, suc, length, take, get_or, if◌then◌else◌, slice_get, Option, Some, None}
+use Rattle.std.proofs.Common.{refl, sym, ap, ◌∙◌, arith, inl, inr}
 use Rattle.std.specs.Int.{bit_at}
 use Rattle.std.specs.List.{list_any, list_all}
 use Rattle.std.proofs.lemmas.Bool.{true≢false, cases_lt}
@@ -10,7 +12,8 @@ use mathlib.Core.Bool.{beq}
 use Rattle.si_base.specs.declared.ids.Literal.{Literal}
 use Rattle.si_base.specs.Bits.{bit, flip}
 use Rattle.si_base.specs.Limits.{code_width}
-use Rattle.si_base.specs.Netlist.{Sum, Gate, SumGate, Gc, Cell, Netlist, gate_place, gate_value, value_of, value_if_there, sum_value, literal_value, IsExcited}
+use Rattle.si_base.specs.Netlist.{Sum, Gate, SumGate, Gc, Cell, Netlist, gate_place, gate_value, value_of}
+use Rattle.si_base.specs.Netlist.{value_if_there, sum_value, literal_value, IsExcited}
 use Rattle.si_base.proofs.BitFacts.{flip-other}
 use Rattle.si_cube.specs.Literals.{literals_from, literals_of}
 use Rattle.si_netlist.specs.Reads.{sum_reads, gate_reads, reads_if_there, signal_reads}

@@ -1,4 +1,4 @@
--- Gates and insertions of the code, as the definitions see them.
+-- (loop) Gates and insertions of the code, as the definitions see them.
 use Rattle.si_base.specs.Netlist as base
 use Rattle.si_netlist.specs.declared.gate.Gate.{Gate}
 use Rattle.si_netlist.specs.declared.gate.Gate.TheVariants.{Sum, Gc, Cell}

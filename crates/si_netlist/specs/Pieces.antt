@@ -1,4 +1,4 @@
--- Pieces one after another in one run of bytes.
+-- (loop) Pieces one after another in one run of bytes.
 use Rattle.std.specs.Prelude.{◌≡◌, ℕ, ◌≤◌, List, ◌∷◌, length, map, All, slice_index}
 use Rattle.std.specs.List.{zip, slice_range}
 

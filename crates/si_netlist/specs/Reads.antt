@@ -1,4 +1,4 @@
--- What gates read: the signals with a literal in one of their sums.
+-- (field) What gates read: the signals with a literal in one of their sums.
 use Rattle.std.specs.Prelude.{◌≡◌, ℕ, ◌==◌, ◌||◌, Bool, false, slice_get, Option, Some, None}
 use Rattle.std.specs.List.{list_any}
 use Rattle.si_base.specs.Bits.{bit}

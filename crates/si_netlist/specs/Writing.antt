@@ -1,4 +1,4 @@
--- Parts of a netlist's text.
+-- (loop) Parts of a netlist's text.
 use Rattle.std.specs.Prelude.{ℕ, List, ◌∷◌, map, filter}
 use Rattle.std.specs.List.{zip}
 use Rattle.si_base.specs.declared.graph.Signal.{Signal}

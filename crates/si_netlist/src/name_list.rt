@@ -1,6 +1,7 @@
 //! Names one after another in one run of bytes.
 
-ghost use Rattle.std.specs.Prelude.{◌≡◌, ◌<◌, [], ◌∷◌, ◌++◌, length, slice_get, slice_index, Some, OnOk, OnErr};
+ghost use Rattle.std.specs.Prelude.{◌≡◌, ◌<◌, [], ◌∷◌, ◌++◌, length, slice_get, slice_index, Some};
+ghost use Rattle.std.specs.Prelude.{OnOk, OnErr};
 
 use si_base::ids::NoMemory;
 use std::alloc::Global;

@@ -136,7 +136,7 @@ impl Netlist {
     }
 
     /// The gate of a signal. The signals without one, the inputs, stand in front.
-    fn gate_of(&self, z: Sig) -> &Gate
+    pub fn gate_of(&self, z: Sig) -> &Gate
         requires { IsNonInput self.now.signals z }
         ensures gate { slice_get self.now.gates (base.gate_place self.now.signals z)
             ≡ Some (gate_seen result.now) }

@@ -1,5 +1,7 @@
 -- What gate lines and insert lines without fault are made of.
-use Rattle.std.proofs.Common.{◌≡◌, ℕ, ◌+◌, ◌≤◌, ◌<◌, true, List, [], ◌∷◌, ◌++◌, length, map, take, drop, get_or, MatchResult, false, refl, sym, ap, ◌∙◌, arith, Bor, Vec, Global, Result, Ok, Err, IfOk, Some, None, codes, bytes_eq}
+use Rattle.std.proofs.Common.{◌≡◌, ℕ, ◌+◌, ◌≤◌, ◌<◌, true, List, [], ◌∷◌, ◌++◌, length, map, take, drop, get_or}
+use Rattle.std.proofs.Common.{MatchResult, false, refl, sym, ap, ◌∙◌, arith, Bor, Vec, Global, Result, Ok, Err, IfOk}
+use Rattle.std.proofs.Common.{Some, None, codes, bytes_eq}
 use Rattle.std.specs.List.{slice_split}
 use Rattle.std.proofs.lemmas.List.{map_push}
 use Rattle.si_base.specs.declared.fault.TextKind.TheVariants.{BadLine}

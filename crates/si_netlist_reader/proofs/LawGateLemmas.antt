@@ -1,5 +1,7 @@
 -- Words of a gate without fault spell a gate that is written as these words.
-use Rattle.std.proofs.Common.{suc, ◌≡◌, ℕ, ◌+◌, ◌<◌, ◌≤◌, ◌&&◌, Bool, true, false, not, List, [], ◌∷◌, ◌++◌, length, map, take, drop, get_or, refl, sym, ap, ap₂, subst, ◌∙◌, inl, inr, arith, codes, bytes_eq, nat_lt, nat_le, Option, Some, None, is_none}
+use Rattle.std.proofs.Common.{suc, ◌≡◌, ℕ, ◌+◌, ◌<◌, ◌≤◌, ◌&&◌, Bool, true, false, not, List, [], ◌∷◌, ◌++◌, length}
+use Rattle.std.proofs.Common.{map, take, drop, get_or, refl, sym, ap, ap₂, subst, ◌∙◌, inl, inr, arith, codes, bytes_eq}
+use Rattle.std.proofs.Common.{nat_lt, nat_le, Option, Some, None, is_none}
 use Rattle.std.proofs.lemmas.Bool.{cases_Bool, true≢false, and_parts, not-false, ltb-true, leb-true}
 use Rattle.std.proofs.lemmas.List.{drop_more, take-append-drop}
 use Rattle.std.proofs.lemmas.List.Elements.{All-from_recursion}
@@ -17,7 +19,8 @@ use Rattle.si_base.specs.Words.{is_signal_name}
 use Rattle.si_base.specs.WellFormed.{IsGate}
 use Rattle.si_words.specs.Sums.{is_literal, is_sum, len_before, cut_at}
 use Rattle.si_words.specs.Lines.{rest_of}
-use Rattle.si_words.specs.GateLines.{place_in, is_gate, are_sums, are_pins, are_pins_and_sum, pin_fault, pins_fault, cell_fault, literals_fault, gate_fault, sum_fault}
+use Rattle.si_words.specs.GateLines.{place_in, is_gate, are_sums, are_pins, are_pins_and_sum, pin_fault, pins_fault}
+use Rattle.si_words.specs.GateLines.{cell_fault, literals_fault, gate_fault, sum_fault}
 use Rattle.si_netlist_reader.specs.NetlistValue.{literal_of, sum_of, gc_of, cell_of, gate_of}
 use Rattle.si_netlist_reader.proofs.LawLemmas.{literals_back}
 use Rattle.si_words.proofs.FaultLemmas.{both, not_when}

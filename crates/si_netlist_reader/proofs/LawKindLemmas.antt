@@ -1,5 +1,6 @@
 -- Signals in the order of their kinds, by their names.
-use Rattle.std.proofs.Common.{◌≡◌, ℕ, ◌<◌, ◌≤◌, true, false, List, [], ◌∷◌, ◌++◌, length, map, filter, get_or, AllPairs, refl, sym, ap, ap₂, subst, ◌∙◌, arith, append_assoc, codes}
+use Rattle.std.proofs.Common.{◌≡◌, ℕ, ◌<◌, ◌≤◌, true, false, List, [], ◌∷◌, ◌++◌, length, map, filter, get_or, AllPairs}
+use Rattle.std.proofs.Common.{refl, sym, ap, ap₂, subst, ◌∙◌, arith, append_assoc, codes}
 use Rattle.std.proofs.lemmas.List.{append-nil, length-map, map-append, get_or-map}
 use Rattle.std.proofs.lemmas.List.Elements.{All-from_recursion, filter-append}
 use Rattle.std.proofs.lemmas.List.Kept.{AllPairs-cons}
@@ -9,7 +10,8 @@ use Rattle.si_base.specs.declared.graph.SigKind.{SigKind}
 use Rattle.si_base.specs.declared.graph.SigKind.TheVariants.{Input, Output, Internal, Inserted}
 use Rattle.si_base.specs.Graph.{is_driven, kind_place}
 use Rattle.si_base.specs.Netlist.{Gate, Insertion, Netlist}
-use Rattle.si_base.specs.NetlistText.{same_kind, names_of, gate_words, bits_from, word_if_any, insert_line, netlist_lines}
+use Rattle.si_base.specs.NetlistText.{same_kind, names_of, gate_words, bits_from, word_if_any, insert_line}
+use Rattle.si_base.specs.NetlistText.{netlist_lines}
 use Rattle.si_base.specs.GivenGraph.{signals_of}
 use Rattle.si_netlist_reader.proofs.LawSumLemmas.{names_in}
 

@@ -1,5 +1,7 @@
 -- A literal's word, and the literal that it spells; cubes and sums by their words.
-use Rattle.std.proofs.Common.{◌≡◌, ℕ, ◌<◌, ◌==◌, Bool, true, false, List, [], ◌∷◌, ◌++◌, length, get_or, map, refl, sym, ap, ◌∙◌, bytes_eq, Option, Some, None, not, if◌then◌else◌, unwrap_or, inl, inr, ◌⊎◌, eqb-true, is_none, codes, ap₂, arith, ◌+◌}
+use Rattle.std.proofs.Common.{◌≡◌, ℕ, ◌<◌, ◌==◌, Bool, true, false, List, [], ◌∷◌, ◌++◌, length, get_or, map, refl, sym}
+use Rattle.std.proofs.Common.{ap, ◌∙◌, bytes_eq, Option, Some, None, not, if◌then◌else◌, unwrap_or, inl, inr, ◌⊎◌}
+use Rattle.std.proofs.Common.{eqb-true, is_none, codes, ap₂, arith, ◌+◌}
 use Rattle.std.proofs.lemmas.Bool.{true≢false, not-true, cases_Bool, and_parts}
 use Rattle.si_words.specs.GateLines.{place_in}
 use Rattle.si_netlist_reader.specs.NetlistValue.{literal_of, cube_of, sum_of}

@@ -1,7 +1,11 @@
 -- The other lines of a netlist: words without fault are those that are written of what they spell.
-use Rattle.std.proofs.Common.{IsTrue, ◌||◌, if◌then◌else◌, suc, ◌≡◌, ◌≢◌, ℕ, ◌+◌, ◌*◌, ◌/◌, ◌%◌, ◌^◌, ◌<◌, ◌≤◌, ◌==◌, ◌&&◌, Bool, true, false, not, List, [], ◌∷◌, ◌++◌, length, All, AllPairs, refl, sym, ap, ap₂, subst, ◌∙◌, inl, inr, arith, codes, bytes_eq, nat_le, Option, Some, None, eqb-true, append_assoc}
+use Rattle.std.proofs.Common.{IsTrue, ◌||◌, if◌then◌else◌, suc, ◌≡◌, ◌≢◌, ℕ, ◌+◌, ◌*◌, ◌/◌, ◌%◌, ◌^◌, ◌<◌, ◌≤◌, ◌==◌}
+use Rattle.std.proofs.Common.{◌&&◌, Bool, true, false, not, List, [], ◌∷◌, ◌++◌, length, All, AllPairs, refl, sym, ap}
+use Rattle.std.proofs.Common.{ap₂, subst, ◌∙◌, inl, inr, arith, codes, bytes_eq, nat_le, Option, Some, None, eqb-true}
+use Rattle.std.proofs.Common.{append_assoc}
 use Rattle.std.proofs.Math.Nat.{pow-succ'}
-use Rattle.std.proofs.lemmas.Bool.{cases_Bool, true≢false, and_parts, or_parts, not-true, not-false, leb-true, leb-false}
+use Rattle.std.proofs.lemmas.Bool.{cases_Bool, true≢false, and_parts, or_parts, not-true, not-false, leb-true}
+use Rattle.std.proofs.lemmas.Bool.{leb-false}
 use Rattle.std.proofs.lemmas.List.{nil_from_length, length_push, append-nil}
 use Rattle.std.proofs.lemmas.List.Elements.{All-from_recursion, All-push, All-nil}
 use Rattle.std.proofs.lemmas.List.Folds.{list_any_at}
@@ -19,7 +23,8 @@ use Rattle.si_base.specs.Words.{is_signal_name, is_between}
 use Rattle.si_base.specs.WellFormed.{IsWord, IsInsertion}
 use Rattle.si_words.specs.Names.{stands_in, name_fault}
 use Rattle.si_words.specs.Sums.{is_empty, cut_at}
-use Rattle.si_netlist_reader.specs.NetlistFault.{model_fault, is_model_word, start_fault, are_both_lists, insert_fault, word_fault}
+use Rattle.si_netlist_reader.specs.NetlistFault.{model_fault, is_model_word, start_fault, are_both_lists, insert_fault}
+use Rattle.si_netlist_reader.specs.NetlistFault.{word_fault}
 use Rattle.si_words.specs.Lines.{names_fault, rest_of}
 use Rattle.si_netlist_reader.specs.NetlistValue.{insertion_with, insertion_of, first_word, code_of_bits}
 use Rattle.si_netlist_reader.proofs.LawTextLemmas.{IsDark}

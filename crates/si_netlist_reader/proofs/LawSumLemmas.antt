@@ -1,6 +1,9 @@
 -- Sums: words without fault spell a sum that is written as these words, and a sum's words have no fault and spell it.
-use Rattle.std.proofs.Common.{◌≡◌, ℕ, ◌+◌, ◌<◌, ◌≤◌, ◌&&◌, true, false, not, List, [], ◌∷◌, ◌++◌, length, map, AllPairs, refl, sym, ap, subst, ◌∙◌, inl, inr, arith, codes, bytes_eq, Option, Some, None, is_none, unwrap_or}
-use Rattle.std.proofs.lemmas.Bool.{cases_Bool, true≢false, and_parts, or_cases, not-true, not-false, ltb-true, false_from_ne_true}
+use Rattle.std.proofs.Common.{◌≡◌, ℕ, ◌+◌, ◌<◌, ◌≤◌, ◌&&◌, true, false, not, List, [], ◌∷◌, ◌++◌, length, map, AllPairs}
+use Rattle.std.proofs.Common.{refl, sym, ap, subst, ◌∙◌, inl, inr, arith, codes, bytes_eq, Option, Some, None, is_none}
+use Rattle.std.proofs.Common.{unwrap_or}
+use Rattle.std.proofs.lemmas.Bool.{cases_Bool, true≢false, and_parts, or_cases, not-true, not-false, ltb-true}
+use Rattle.std.proofs.lemmas.Bool.{false_from_ne_true}
 use Rattle.std.proofs.lemmas.List.Elements.{All-from_recursion, All-nil}
 use Rattle.std.proofs.lemmas.List.Kept.{AllPairs-cons}
 use Rattle.std.proofs.lemmas.List.Quantifiers.{position-Some}

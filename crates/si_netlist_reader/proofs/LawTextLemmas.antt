@@ -1,5 +1,6 @@
 -- A text by its lines, and lines by their words, both ways.
-use Rattle.std.proofs.Common.{if◌then◌else◌, ◌≡◌, ℕ, ◌==◌, ◌≤◌, true, false, not, List, [], ◌∷◌, ◌++◌, map, flat_map, refl, ap, ap₂, ◌∙◌, inl, inr, arith, eqb-true, append_assoc, nat_le}
+use Rattle.std.proofs.Common.{if◌then◌else◌, ◌≡◌, ℕ, ◌==◌, ◌≤◌, true, false, not, List, [], ◌∷◌, ◌++◌, map, flat_map}
+use Rattle.std.proofs.Common.{refl, ap, ap₂, ◌∙◌, inl, inr, arith, eqb-true, append_assoc, nat_le}
 use Rattle.std.proofs.lemmas.Bool.{cases_Bool, or_parts, and_parts, and_from, leb-true, le-leb, eqb-false, not-false}
 use Rattle.std.proofs.lemmas.List.Splits.{join_with_byte-slice_split}
 use Rattle.std.specs.List.{AllByRecursion, join_with_byte, list_all, onto_first}

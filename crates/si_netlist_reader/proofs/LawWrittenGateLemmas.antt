@@ -1,6 +1,9 @@
 -- The words of a gate have no fault, spell that gate, and have bytes of words only.
-use Rattle.std.proofs.Common.{if◌then◌else◌, suc, ◌≡◌, ℕ, ◌+◌, ◌<◌, ◌≤◌, ◌==◌, Bool, true, false, List, [], ◌∷◌, ◌++◌, length, map, drop, All, refl, sym, ap, ap₂, ◌∙◌, inl, inr, arith, codes, bytes_eq, nat_le, nat_lt, Option, Some, None, eqb-true}
-use Rattle.std.proofs.lemmas.Bool.{true≢false, and_parts, and_from, or_cases, lt-ltb, leb-true, le-leb, false_from_ne_true}
+use Rattle.std.proofs.Common.{if◌then◌else◌, suc, ◌≡◌, ℕ, ◌+◌, ◌<◌, ◌≤◌, Bool, true, false, List, [], ◌∷◌, ◌++◌}
+use Rattle.std.proofs.Common.{length, map, drop, All, refl, sym, ap, ap₂, ◌∙◌, arith, codes, bytes_eq}
+use Rattle.std.proofs.Common.{nat_lt, Option, Some, None}
+use Rattle.std.proofs.lemmas.Bool.{true≢false, and_parts, and_from, lt-ltb, le-leb}
+use Rattle.std.proofs.lemmas.Bool.{false_from_ne_true}
 use Rattle.std.proofs.lemmas.List.{length-map, length-append, take_at}
 use Rattle.std.proofs.lemmas.List.Elements.{recursion_from_All}
 use Rattle.std.proofs.lemmas.List.Folds.{list_all-append}
@@ -12,60 +15,21 @@ use Rattle.si_base.specs.Faults.{first_in}
 use Rattle.si_base.specs.Netlist.{Sum, Gate, SumGate, Gc, Cell}
 use Rattle.si_base.specs.Graph.{name_of}
 use Rattle.si_base.specs.NetlistText.{literal_word, cube_words, more_cubes, sum_words, gate_words}
-use Rattle.si_base.specs.Words.{is_signal_name, is_name_byte, is_letter, is_between}
+use Rattle.si_base.specs.Words.{is_signal_name, is_name_byte, is_letter}
 use Rattle.si_base.specs.WellFormed.{IsCube, IsSum, IsGate}
+use Rattle.si_words.proofs.NameByteLemmas.{dark_letter, dark_name_byte}
 use Rattle.si_words.specs.Sums.{cut_at, len_before}
 use Rattle.si_words.specs.GateLines.{is_gate, are_pins, pin_fault, literals_fault, gate_fault}
 use Rattle.si_netlist_reader.specs.NetlistValue.{gate_of, gc_of, cell_of}
 use Rattle.si_netlist_reader.proofs.LawTextLemmas.{IsDark}
 use Rattle.si_netlist_reader.proofs.LawSumLemmas.{names_in, none_after}
 use Rattle.si_netlist_reader.proofs.LawLineLemmas.{AreNames}
-use Rattle.si_netlist_reader.proofs.LawWrittenSumLemmas.{AreDark, dark_append, There, Unlike, literals_unlike, words_are_literals, literals_spelled, literal_place, good_name, CubeFits, cubes_fit, sum_good, sum_is, sum_spelled, sum_unlike, good_join}
+use Rattle.si_netlist_reader.proofs.LawWrittenSumLemmas.{AreDark, dark_append, There, Unlike, literals_unlike}
+use Rattle.si_netlist_reader.proofs.LawWrittenSumLemmas.{words_are_literals, literals_spelled, literal_place, good_name}
+use Rattle.si_netlist_reader.proofs.LawWrittenSumLemmas.{CubeFits, cubes_fit, sum_good, sum_is, sum_spelled, sum_unlike}
+use Rattle.si_netlist_reader.proofs.LawWrittenSumLemmas.{good_join}
 
 -- ---- bytes of names
-narrow : (low high b : ℕ) → nat_le 33 low ≡ true → nat_le high 126 ≡ true → is_between low high b ≡ true
-    → is_between 33 126 b ≡ true
-narrow low high b above below is =
-    let parts = and_parts (nat_le low b) (nat_le b high) is in
-    let first : 33 ≤ low = leb-true 33 low above in
-    let last : high ≤ 126 = leb-true high 126 below in
-    let one : low ≤ b = leb-true low b parts.0 in
-    let other : b ≤ high = leb-true b high parts.1 in
-    and_from _ _ (le-leb 33 b (omega arith)) (le-leb b 126 (omega arith))
-
-exactly : (c b : ℕ) → is_between 33 126 c ≡ true → (b == c) ≡ true → is_between 33 126 b ≡ true
-exactly c b is same = rw (eqb-true b c same) is
-
-dark_letter : (b : ℕ) → is_letter b ≡ true → is_between 33 126 b ≡ true
-dark_letter b is = elim (or_cases _ _ is) [
-  | inr line ↦ exactly 95 b refl line
-  | inl two ↦ elim (or_cases _ _ two) [
-    | inl upper ↦ narrow 65 90 b refl refl upper
-    | inr lower ↦ narrow 97 122 b refl refl lower
-  ]
-]
-
-dark_name_byte : (b : ℕ) → is_name_byte b ≡ true → is_between 33 126 b ≡ true
-dark_name_byte b is = elim (or_cases _ _ is) [
-  | inr e ↦ exactly 62 b refl e
-  | inl six ↦ elim (or_cases _ _ six) [
-    | inr e ↦ exactly 60 b refl e
-    | inl five ↦ elim (or_cases _ _ five) [
-      | inr e ↦ exactly 93 b refl e
-      | inl four ↦ elim (or_cases _ _ four) [
-        | inr e ↦ exactly 91 b refl e
-        | inl three ↦ elim (or_cases _ _ three) [
-          | inr e ↦ exactly 46 b refl e
-          | inl two ↦ elim (or_cases _ _ two) [
-            | inl letter ↦ dark_letter b letter
-            | inr digit ↦ narrow 48 57 b refl refl digit
-          ]
-        ]
-      ]
-    ]
-  ]
-]
-
 dark_bytes : (bs : List ℕ) → list_all is_name_byte bs ≡ true → IsDark bs
 dark_bytes [] are = refl
 dark_bytes (b ∷ bs) are =

@@ -1,6 +1,9 @@
 -- The other lines that are written have no fault, and spell what was written.
-use Rattle.std.proofs.Common.{IsTrue, if◌then◌else◌, zero, suc, ◌≡◌, ◌≢◌, ℕ, ◌+◌, ◌*◌, ◌%◌, ◌^◌, ◌<◌, ◌≤◌, ◌==◌, Bool, true, false, List, [], ◌∷◌, ◌++◌, length, get_or, All, AllPairs, refl, sym, ap, subst, ◌∙◌, inl, inr, arith, codes, bytes_eq, nat_le, Some, None, eqb-true, eq-eqb, append_assoc}
-use Rattle.std.proofs.lemmas.Bool.{cases_Bool, true≢false, and_from, or_from, not_from_false, lt-leb, eqb-false, false_from_ne_true}
+use Rattle.std.proofs.Common.{IsTrue, if◌then◌else◌, zero, suc, ◌≡◌, ◌≢◌, ℕ, ◌+◌, ◌*◌, ◌%◌, ◌^◌, ◌<◌, ◌≤◌, ◌==◌, Bool}
+use Rattle.std.proofs.Common.{true, false, List, [], ◌∷◌, ◌++◌, length, get_or, All, AllPairs, refl, sym, ap, subst}
+use Rattle.std.proofs.Common.{◌∙◌, inl, inr, arith, codes, bytes_eq, nat_le, Some, None, eqb-true, eq-eqb, append_assoc}
+use Rattle.std.proofs.lemmas.Bool.{cases_Bool, true≢false, and_from, or_from, not_from_false, lt-leb, eqb-false}
+use Rattle.std.proofs.lemmas.Bool.{false_from_ne_true}
 use Rattle.std.proofs.lemmas.List.{length-map, length-append, get_or_at, get_or_append_left, get_or-map, get_or_default}
 use Rattle.std.proofs.lemmas.List.Elements.{recursion_from_All, All-map}
 use Rattle.std.proofs.lemmas.List.Folds.{Any-from_list_any}

@@ -1,5 +1,7 @@
 -- The words of a sum have no fault, and spell that sum.
-use Rattle.std.proofs.Common.{IsTrue, if◌then◌else◌, suc, ◌≡◌, ◌≢◌, ℕ, ◌+◌, ◌<◌, ◌≤◌, Bool, true, false, not, List, [], ◌∷◌, ◌++◌, length, map, get_or, All, AllPairs, refl, sym, ap, ap₂, subst, ◌∙◌, arith, codes, bytes_eq, Option, Some, None, unwrap_or, position}
+use Rattle.std.proofs.Common.{IsTrue, if◌then◌else◌, suc, ◌≡◌, ◌≢◌, ℕ, ◌+◌, ◌<◌, ◌≤◌, Bool, true, false, not, List, []}
+use Rattle.std.proofs.Common.{◌∷◌, ◌++◌, length, map, get_or, All, AllPairs, refl, sym, ap, ap₂, subst, ◌∙◌, arith}
+use Rattle.std.proofs.Common.{codes, bytes_eq, Option, Some, None, unwrap_or, position}
 use Rattle.std.proofs.lemmas.Bool.{and_parts, and_from, or_right, lt-ltb, false_from_ne_true, not_from_false}
 use Rattle.std.proofs.lemmas.List.{append-nil, length_push}
 use Rattle.std.proofs.lemmas.List.Elements.{All-from_recursion, recursion_from_All, All-get_or}

@@ -1,26 +1,34 @@
 -- A text without fault spells a netlist, and is that netlist's text.
-use Rattle.std.proofs.Common.{◌≡◌, ◌≢◌, ℕ, ◌+◌, ◌^◌, ◌<◌, ◌≤◌, List, [], ◌∷◌, ◌++◌, length, map, take, drop, refl, sym, ap, ap₂, subst, ◌∙◌, arith, codes, None, IsTrue, suc, append_assoc, Bool, true, false, flat_map, if◌then◌else◌}
+use Rattle.std.proofs.Common.{◌≡◌, ◌≢◌, ℕ, ◌+◌, ◌^◌, ◌<◌, ◌≤◌, List, [], ◌∷◌, ◌++◌, length, map, take, drop, refl, sym}
+use Rattle.std.proofs.Common.{ap, ap₂, subst, ◌∙◌, arith, codes, None, IsTrue, suc, append_assoc, Bool, true, false}
+use Rattle.std.proofs.Common.{flat_map, if◌then◌else◌}
 use Rattle.std.proofs.lemmas.List.{length-map, drop-drop, take-append-drop, map-append}
 use Rattle.std.proofs.lemmas.List.Elements.{All-from_recursion, recursion_from_All}
 use Rattle.std.specs.List.{AllByRecursion}
 use Rattle.si_base.specs.declared.graph.Signal.{Signal}
 use Rattle.si_base.specs.Limits.{max_signals}
 use Rattle.si_base.specs.Netlist.{Gate, Insertion, Netlist}
-use Rattle.si_base.specs.NetlistText.{Version, Version1, Version2, most_signals, netlist_lines, netlist_text_in, insert_line}
+use Rattle.si_base.specs.NetlistText.{Version, Version1, Version2, most_signals, netlist_lines, netlist_text_in}
+use Rattle.si_base.specs.NetlistText.{insert_line}
 use Rattle.si_base.specs.Words.{text_of, is_signal_name}
 use Rattle.si_base.specs.WellFormed.{IsWord, IsGate, IsInsertion, IsNetlist}
-use Rattle.si_netlist_reader.specs.NetlistFault.{due_in, netlist_fault, version_of, after_version, body, insert_fault, word_fault, start_fault}
+use Rattle.si_netlist_reader.specs.NetlistFault.{due_in, netlist_fault, version_of, after_version, body, insert_fault}
+use Rattle.si_netlist_reader.specs.NetlistFault.{word_fault, start_fault}
 use Rattle.si_words.specs.Lines.{Form, words_of, ended, tail_of, rest_of}
 use Rattle.si_words.specs.Rows.{Left, all_lines, begins_with, fault_of}
 use Rattle.std.proofs.lemmas.Slice.Eq.{bytes_eq-Decides}
 use Rattle.si_words.specs.GateLines.{gate_fault}
-use Rattle.si_netlist_reader.specs.NetlistValue.{gate_of, insertion_of, first_word, code_of_bits, netlist_of, netlist_of_lines}
+use Rattle.si_netlist_reader.specs.NetlistValue.{gate_of, insertion_of, first_word, code_of_bits, netlist_of}
+use Rattle.si_netlist_reader.specs.NetlistValue.{netlist_of_lines}
 use Rattle.si_netlist_reader.proofs.LawFitLemmas.{Fits, fits, fits_map}
 use Rattle.si_netlist_reader.proofs.LawTextLemmas.{closed, text_back, lines_back, words_dark}
 use Rattle.si_netlist_reader.proofs.LawSumLemmas.{names_in}
 use Rattle.si_netlist_reader.proofs.LawGateLemmas.{gate_read}
-use Rattle.si_netlist_reader.proofs.LawLineLemmas.{AreNames, no_names, model_read, names_read, start_read, insert_read, word_read}
-use Rattle.si_netlist_reader.proofs.LawKindLemmas.{signals_by, driven_by, netlist_by, lines_are, gate_lines, inserted_of, driven_of, all_names, driven_names, kinds_in_order, each_named, pairs_named}
+use Rattle.si_netlist_reader.proofs.LawLineLemmas.{AreNames, no_names, model_read, names_read, start_read, insert_read}
+use Rattle.si_netlist_reader.proofs.LawLineLemmas.{word_read}
+use Rattle.si_netlist_reader.proofs.LawKindLemmas.{signals_by, driven_by, netlist_by, lines_are, gate_lines}
+use Rattle.si_netlist_reader.proofs.LawKindLemmas.{inserted_of, driven_of, all_names, driven_names, kinds_in_order}
+use Rattle.si_netlist_reader.proofs.LawKindLemmas.{each_named, pairs_named}
 
 -- ---- gate lines
 abbrev pub gates_in : List (List ℕ) → List (List ℕ) → List Gate

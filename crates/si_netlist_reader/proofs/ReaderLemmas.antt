@@ -1,5 +1,6 @@
 -- A whole netlist text, read.
-use Rattle.std.proofs.Common.{◌≡◌, ℕ, zero, suc, ◌+◌, ◌-◌, List, [], ◌∷◌, ◌++◌, length, map, take, drop, refl, sym, ap, ap₂, ◌∙◌, arith, Option, None, codes, append_assoc, length-append, Result, Err, subst}
+use Rattle.std.proofs.Common.{◌≡◌, ℕ, zero, suc, ◌+◌, ◌-◌, List, [], ◌∷◌, ◌++◌, length, map, take, drop, refl, sym, ap}
+use Rattle.std.proofs.Common.{ap₂, ◌∙◌, arith, Option, None, codes, append_assoc, length-append, Result, Err, subst}
 use Rattle.std.proofs.Math.Seq.{drop-append_seam, take-append_seam}
 use Rattle.std.proofs.lemmas.List.{length-map, drop_all}
 use Rattle.si_base.specs.declared.fault.TextKind.{TextKind}
@@ -13,7 +14,8 @@ use Rattle.si_base.specs.TextFaults.{Gives, Shows}
 use Rattle.si_base.specs.WellFormed.{IsNetlist}
 use Rattle.si_netlist_reader.specs.declared.header.Header.{Header}
 use Rattle.si_netlist_reader.specs.Headers.{ReadsHeader, gate_in, signals_by}
-use Rattle.si_netlist_reader.specs.NetlistFault.{netlist_fault, version_at, version_of, after_version, body, due_in, due_after, insert_fault, word_fault, names_at}
+use Rattle.si_netlist_reader.specs.NetlistFault.{netlist_fault, version_at, version_of, after_version, body, due_in}
+use Rattle.si_netlist_reader.specs.NetlistFault.{due_after, insert_fault, word_fault, names_at}
 use Rattle.si_words.specs.Lines.{Form, words_of}
 use Rattle.si_words.specs.GateLines.{gate_fault}
 use Rattle.si_netlist_reader.specs.NetlistValue.{netlist_of, netlist_of_lines, insertion_of}

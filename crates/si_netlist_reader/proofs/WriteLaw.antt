@@ -1,5 +1,7 @@
 -- The text of a netlist has no fault, and spells that netlist.
-use Rattle.std.proofs.Common.{◌≡◌, ◌≢◌, ℕ, ◌<◌, ◌≤◌, true, false, not, List, [], ◌∷◌, ◌++◌, length, map, take, drop, All, AllPairs, refl, sym, ap, ap₂, subst, ◌∙◌, arith, codes, None, suc, zero, append_assoc}
+use Rattle.std.proofs.Common.{◌≡◌, ◌≢◌, ℕ, ◌<◌, ◌≤◌, true, false, not, List, [], ◌∷◌, ◌++◌, length, map, take, drop}
+use Rattle.std.proofs.Common.{All, AllPairs, refl, sym, ap, ap₂, subst, ◌∙◌, arith, codes, None, suc, zero}
+use Rattle.std.proofs.Common.{append_assoc}
 use Rattle.std.proofs.lemmas.Bool.{or_from, and_parts, leb-true, le-leb, not_from_true, and_from}
 use Rattle.std.proofs.lemmas.List.{length-map, map-append, take_at, drop_at}
 use Rattle.std.proofs.lemmas.List.Elements.{recursion_from_All, All-filter}
@@ -9,25 +11,30 @@ use Rattle.si_base.specs.declared.graph.SigKind.{SigKind}
 use Rattle.si_base.specs.declared.graph.SigKind.TheVariants.{Input, Output, Internal, Inserted}
 use Rattle.si_base.specs.Graph.{is_driven, kind_place}
 use Rattle.si_base.specs.Netlist.{Gate, Insertion, Netlist}
-use Rattle.si_base.specs.NetlistText.{Version, Version1, Version2, version_lines, most_signals, same_kind, names_of, netlist_lines, netlist_text_in, insert_line, gate_words, bits_from, word_if_any}
+use Rattle.si_base.specs.NetlistText.{Version, Version1, Version2, version_lines, most_signals, same_kind, names_of}
+use Rattle.si_base.specs.NetlistText.{netlist_lines, netlist_text_in, insert_line, gate_words, bits_from, word_if_any}
 use Rattle.si_base.specs.GivenGraph.{signals_of}
 use Rattle.si_base.specs.Words.{text_of, is_signal_name, is_between}
 use Rattle.si_base.specs.WellFormed.{IsGate, IsInsertion, IsNetlist}
 use Rattle.si_base.proofs.CleanWords.{AreClean, LinesClean, clean_word, words_without}
 use Rattle.si_base.proofs.Unsplit.{split-join}
-use Rattle.si_netlist_reader.specs.NetlistFault.{due, due_in, netlist_fault, version_of, after_version, insert_fault, word_fault}
+use Rattle.si_netlist_reader.specs.NetlistFault.{due, due_in, netlist_fault, version_of, after_version, insert_fault}
+use Rattle.si_netlist_reader.specs.NetlistFault.{word_fault}
 use Rattle.si_words.specs.Lines.{Form, words_of, rest_of, has_bad_byte_here}
 use Rattle.si_words.specs.Rows.{Left, all_lines, begins_with, fault_of}
 use Rattle.si_words.specs.GateLines.{gate_fault}
-use Rattle.si_netlist_reader.specs.NetlistValue.{gate_of, insertion_of, first_word, code_of_bits, netlist_of, netlist_of_lines}
+use Rattle.si_netlist_reader.specs.NetlistValue.{gate_of, insertion_of, first_word, code_of_bits, netlist_of}
+use Rattle.si_netlist_reader.specs.NetlistValue.{netlist_of_lines}
 use Rattle.si_netlist_reader.proofs.LawFitLemmas.{Fits, no_fault}
 use Rattle.si_netlist_reader.proofs.LawTextLemmas.{IsDark, ended_text, tail_text}
 use Rattle.si_netlist_reader.proofs.LawSumLemmas.{names_in}
 use Rattle.si_netlist_reader.proofs.LawLineLemmas.{AreNames}
-use Rattle.si_netlist_reader.proofs.LawKindLemmas.{signals_by, driven_by, netlist_by, lines_by, lines_are, gate_lines, inserted_of, driven_of, all_names, driven_names}
+use Rattle.si_netlist_reader.proofs.LawKindLemmas.{signals_by, driven_by, netlist_by, lines_by, lines_are, gate_lines}
+use Rattle.si_netlist_reader.proofs.LawKindLemmas.{inserted_of, driven_of, all_names, driven_names}
 use Rattle.si_netlist_reader.proofs.LawWrittenSumLemmas.{AreDark}
 use Rattle.si_netlist_reader.proofs.LawWrittenGateLemmas.{gate_written, gate_line_good, dark_name}
-use Rattle.si_netlist_reader.proofs.LawWrittenLineLemmas.{model_good, names_good, front_names, signals_named, start_good, start_dark, start_spelled, insert_good}
+use Rattle.si_netlist_reader.proofs.LawWrittenLineLemmas.{model_good, names_good, front_names, signals_named}
+use Rattle.si_netlist_reader.proofs.LawWrittenLineLemmas.{start_good, start_dark, start_spelled, insert_good}
 use Rattle.si_netlist_reader.proofs.ReadLaw.{gates_in, inserts_in, with_rest, gate_rows_at}
 
 -- ---- the signals of each kind, one kind after another

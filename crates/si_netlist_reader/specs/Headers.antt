@@ -1,4 +1,4 @@
--- The first six lines of a netlist text, read.
+-- (loop) The first six lines of a netlist text, read.
 use Rattle.std.specs.Prelude.{ℕ, ◌≡◌, List, ◌++◌, length, take, drop, ◌-◌}
 use Rattle.si_base.specs.Netlist.{Gate}
 use Rattle.si_base.specs.declared.graph.Signal.{Signal}

@@ -1,5 +1,6 @@
--- The fault of a text that is no netlist's.
-use Rattle.std.specs.Prelude.{ℕ, ◌==◌, Bool, false, not, ◌&&◌, List, [], ◌∷◌, ◌++◌, length, map, bytes_eq, codes, slice_index_or, Option, Some, None, if◌then◌else◌}
+-- (text) The fault of a text that is no netlist's.
+use Rattle.std.specs.Prelude.{ℕ, ◌==◌, Bool, false, not, ◌&&◌, List, [], ◌∷◌, ◌++◌, length, map}
+use Rattle.std.specs.Prelude.{bytes_eq, codes, slice_index_or, Option, Some, None, if◌then◌else◌}
 use Rattle.std.specs.List.{list_any, list_all}
 use Rattle.si_base.specs.Bytes.{digit_zero, digit_one}
 use Rattle.si_base.specs.NetlistText.{Version, Version1, Version2, most_signals}

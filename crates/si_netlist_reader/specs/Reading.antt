@@ -1,4 +1,4 @@
--- What a reader says of the words of a part of a line.
+-- (loop) What a reader says of the words of a part of a line.
 use Rattle.std.specs.Prelude.{◌≡◌, ℕ, List, Bool, true, false, Option, Some, None, Result, Ok, Err}
 use Rattle.si_base.specs.declared.fault.TextKind.{TextKind}
 use Rattle.si_netlist_reader.specs.NetlistFault.{is_insert_line}

@@ -1,6 +1,7 @@
 //! The reader of the netlist text.
 
-ghost use Rattle.std.specs.Prelude.{◌≡◌, ℕ, ◌≤◌, ◌++◌, ◌-◌, ◌∷◌, [], List, length, IfOk, OnOk, map, take, drop};
+ghost use Rattle.std.specs.Prelude.{◌≡◌, ℕ, ◌≤◌, ◌++◌, ◌-◌, ◌∷◌, [], List, length, IfOk, OnOk, map};
+ghost use Rattle.std.specs.Prelude.{take, drop};
 ghost use Rattle.si_base.specs.Limits.{max_signals};
 ghost use Rattle.si_base.specs.GivenGraph.{signals_of};
 ghost use Rattle.si_base.specs.NetlistText.{most_signals};

@@ -1,4 +1,4 @@
--- What is checked of a graph, each as a stage.
+-- (command) What is checked of a graph, each as a stage.
 use Rattle.std.specs.Prelude.{◌≡◌, ℕ, List, length, Option, None, Some, Ok, Err}
 use Rattle.si_base.specs.Codes.{CodedGraph, IsCoded, IsConnected}
 use Rattle.si_base.specs.Graph.{StateGraph, IsGraph}

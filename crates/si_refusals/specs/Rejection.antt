@@ -1,4 +1,4 @@
--- The words of the reasons why a netlist isn't certified.
+-- (command) The words of the reasons why a netlist isn't certified.
 use Rattle.std.specs.Prelude.{ℕ, List, [], ◌∷◌, codes, decimal}
 use Rattle.si_refusals.specs.declared.rejection.NamedRejection.{NamedRejection}
 use Rattle.si_refusals.specs.declared.rejection.NamedRejection.TheVariants.{States, Classes}

@@ -1,6 +1,7 @@
 -- Regions at work: an input pulses twice, and an output switches after each pulse. Each of the two components of `a+`
 -- is one state, and as `a` falls at once nothing rests after it.
-use Rattle.std.proofs.Common.{◌≡◌, ℕ, ◌==◌, ◌&&◌, ◌||◌, not, Bool, true, List, [], ◌∷◌, Contains, refl, sym, subst, ◌∙◌, lit<, eqb-true, arith, inl, inr}
+use Rattle.std.proofs.Common.{◌≡◌, ℕ, ◌==◌, ◌&&◌, ◌||◌, not, Bool, true, List, [], ◌∷◌, Contains, refl, sym, subst, ◌∙◌}
+use Rattle.std.proofs.Common.{lit<, eqb-true, arith, inl, inr}
 use Rattle.std.proofs.lemmas.Bool.{or_cases, true≢false}
 use Rattle.std.specs.List.Sorted.{IsStrictlySortedBy}
 use Rattle.std.specs.Ordering.{nat_cmp}
@@ -12,7 +13,8 @@ use Rattle.si_base.specs.Codes.{CodedGraph}
 use Rattle.si_base.proofs.Steps.{all_arcs}
 use Rattle.si_regions.specs.declared.regions.Region.{Region}
 use Rattle.si_regions.specs.Connected.{Adjoins, IsComponent}
-use Rattle.si_regions.specs.Regions.{Enables, IsSetOf, IsEntered, IsQuiet, WalkThrough, IsReachedThrough, IsRegion, opposite, region_place}
+use Rattle.si_regions.specs.Regions.{Enables, IsSetOf, IsEntered, IsQuiet, WalkThrough, IsReachedThrough, IsRegion}
+use Rattle.si_regions.specs.Regions.{opposite, region_place}
 use Rattle.si_regions.proofs.StateLists.{contains_only, only_in}
 
 abbrev pulses : CodedGraph

@@ -1,5 +1,6 @@
 -- Each coded graph has a list of regions.
-use Rattle.std.proofs.Common.{◌≡◌, ℕ, zero, suc, ◌+◌, ◌*◌, ◌<◌, Bool, true, false, List, [], ◌∷◌, ◌++◌, length, get_or, Contains, IsTrue, refl, sym, ap, subst, ◌∙◌, arith, inl, inr}
+use Rattle.std.proofs.Common.{◌≡◌, ℕ, zero, suc, ◌+◌, ◌*◌, ◌<◌, Bool, true, false, List, [], ◌∷◌, ◌++◌, length, get_or}
+use Rattle.std.proofs.Common.{Contains, IsTrue, refl, sym, ap, subst, ◌∙◌, arith, inl, inr}
 use Rattle.std.proofs.lemmas.Bool.{cases_Bool, cases_eq, cases_lt, true≢false}
 use Rattle.si_base.specs.declared.ids.Event.{Event}
 use Rattle.si_base.specs.declared.graph.Edge.{Edge}
@@ -15,7 +16,8 @@ use Rattle.si_regions.specs.Regions.{Enables, IsSetOf, IsEntered, IsQuiet, IsReg
 use Rattle.si_regions.specs.Searching.{AreMarksOf, RegionsTo}
 use Rattle.si_regions.proofs.SetsExist.{Decided, both, same_bit, some_of, listed, some_set, some_marks, some_reached}
 use Rattle.si_regions.proofs.ComponentLemmas.{is_component, is_rest, er_has, entered_within}
-use Rattle.si_regions.proofs.RegionLemmas.{AreDone, regions_none, regions_pass, regions_more, regions_event, regions_all, enables_within, place_below}
+use Rattle.si_regions.proofs.RegionLemmas.{AreDone, regions_none, regions_pass, regions_more, regions_event}
+use Rattle.si_regions.proofs.RegionLemmas.{regions_all, enables_within, place_below}
 
 same_events : (e f : Event) → Decided (e ≡ f)
 same_events e f = elim (cases_Bool (same_event e f)) [

@@ -1,10 +1,13 @@
 -- A set of states that can be decided has a list and marks, and so has what is reached in it along arcs.
-use Rattle.std.proofs.Common.{◌≡◌, ◌≢◌, ℕ, zero, suc, ◌+◌, ◌<◌, ◌⊎◌, ◌↔◌, ◌∙◌, Bool, true, false, not, cond, List, [], ◌∷◌, ◌++◌, map, filter, length, get_or, set, Contains, refl, sym, ap, subst, arith, inl, inr, length-set, nat_cmp}
+use Rattle.std.proofs.Common.{◌≡◌, ◌≢◌, ℕ, zero, suc, ◌+◌, ◌<◌, ◌⊎◌, ◌↔◌, ◌∙◌, Bool, true, false, not, cond, List, []}
+use Rattle.std.proofs.Common.{◌∷◌, ◌++◌, map, filter, length, get_or, set, Contains, refl, sym, ap, subst, arith, inl}
+use Rattle.std.proofs.Common.{inr, length-set, nat_cmp}
 use Rattle.std.specs.List.{range_with_len}
 use Rattle.std.specs.List.Sorted.{IsStrictlySortedBy}
 use Rattle.std.proofs.lemmas.Bool.{cases_Bool, cases_eq, true≢false}
 use Rattle.std.proofs.lemmas.List.Elements.{Contains-append_left, Contains-append_right, Contains-append_cases}
-use Rattle.std.proofs.lemmas.List.FromFn.{length-range_with_len, get_or-range_with_len, length-map-range_with_len, get_or-map-range_with_len}
+use Rattle.std.proofs.lemmas.List.FromFn.{length-range_with_len, get_or-range_with_len, length-map-range_with_len}
+use Rattle.std.proofs.lemmas.List.FromFn.{get_or-map-range_with_len}
 use Rattle.std.proofs.lemmas.List.Kept.{IsStrictlySortedBy-filter}
 use Rattle.std.proofs.lemmas.List.Sums.{sum_by-set}
 use Rattle.std.proofs.lemmas.Map.Keys.{sorted_from_strictly_increasing}
@@ -17,7 +20,8 @@ use Rattle.si_graph.specs.declared.closure.Along.TheVariants.{Out, OutWithout, I
 use Rattle.si_graph.specs.Closure.{IsBeside, IsNext, Leads}
 use Rattle.si_graph.specs.Reach.{IsIn, unmarked}
 use Rattle.si_graph.proofs.MarkLemmas.{stays_in, in_cases, in_below}
-use Rattle.si_graph.proofs.MemberLemmas.{Contains-cons_cases, Contains-here, Contains-there, Contains-nil, Contains-map, Contains-from_map, Contains-filter, Contains-from_filter}
+use Rattle.si_graph.proofs.MemberLemmas.{Contains-cons_cases, Contains-here, Contains-there, Contains-nil, Contains-map}
+use Rattle.si_graph.proofs.MemberLemmas.{Contains-from_map, Contains-filter, Contains-from_filter}
 use Rattle.si_regions.specs.Regions.{IsSetOf}
 use Rattle.si_regions.specs.Searching.{AreMarksOf, IsReachedIn, IsSeed}
 use Rattle.si_graph.proofs.ClosureLemmas.{reached_on, reached_seed}

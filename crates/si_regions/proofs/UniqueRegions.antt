@@ -5,7 +5,8 @@ use Rattle.si_base.specs.Graph.{StateGraph}
 use Rattle.si_base.specs.Codes.{CodedGraph}
 use Rattle.si_regions.specs.declared.regions.Region.{Region}
 use Rattle.si_regions.specs.Connected.{PathOf, IsComponent}
-use Rattle.si_regions.specs.Regions.{Enables, IsSetOf, IsEntered, IsReachedThrough, IsQuiet, IsRegion, AreRegions, region_place}
+use Rattle.si_regions.specs.Regions.{Enables, IsSetOf, IsEntered, IsReachedThrough, IsQuiet, IsRegion, AreRegions}
+use Rattle.si_regions.specs.Regions.{region_place}
 use Rattle.si_base.proofs.InOrder.{same_in_order}
 use Rattle.si_base.proofs.Unique.{same_numbers}
 use Rattle.si_regions.proofs.StateLists.{one_set}

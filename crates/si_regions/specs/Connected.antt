@@ -1,6 +1,5 @@
--- Sets of states that hang together by arcs, taken in either direction. A set of states is the list
--- of its states in
--- order.
+-- (field) Sets of states that hang together by arcs, taken in either direction. A set of states is
+-- the list of its states in order.
 use Rattle.std.specs.Prelude.{◌≡◌, ℕ, List, [], ◌∷◌, Contains}
 use Rattle.std.specs.List.Sorted.{IsStrictlySortedBy}
 use Rattle.std.specs.Ordering.{nat_cmp}

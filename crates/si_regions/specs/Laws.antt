@@ -1,4 +1,4 @@
--- The laws of regions, one word each.
+-- (law) The laws of regions, one word each.
 use Rattle.std.specs.Prelude.{◌≡◌, ℕ, List, Contains}
 use Rattle.si_base.specs.declared.ids.Event.{Event}
 use Rattle.si_base.specs.Graph.{StateGraph}

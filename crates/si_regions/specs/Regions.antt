@@ -1,5 +1,5 @@
--- Excitation, switching and quiescent regions of events. Source: the book, on excitation and
--- quiescent regions.
+-- (field) Excitation, switching and quiescent regions of events. Source: the book, on excitation
+-- and quiescent regions.
 use Rattle.std.specs.Prelude.{◌≡◌, ℕ, ◌↔◌, not, false, List, [], ◌∷◌, Contains, AllPairs, IsTrue}
 use Rattle.std.specs.List.Sorted.{IsStrictlySortedBy}
 use Rattle.std.specs.Ordering.{nat_cmp}

@@ -1,4 +1,4 @@
--- What a search for regions reaches, and how far the regions are found.
+-- (loop) What a search for regions reaches, and how far the regions are found.
 use Rattle.std.specs.Prelude.{◌≡◌, ℕ, ◌↔◌, Bool, List, [], ◌∷◌, length, Contains, AllPairs, IsTrue}
 use Rattle.si_base.specs.declared.ids.Event.{Event}
 use Rattle.si_base.specs.Order.{Before}

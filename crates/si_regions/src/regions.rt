@@ -1,9 +1,11 @@
 //! Regions of a coded graph.
 
-ghost use Rattle.std.specs.Prelude.{◌≡◌, ℕ, ◌+◌, ◌*◌, ◌<◌, ◌↔◌, ◌⊎◌, IfOk, OnOk, All, length, Contains, IsTrue, [], ◌∷◌};
+ghost use Rattle.std.specs.Prelude.{◌≡◌, ℕ, ◌+◌, ◌*◌, ◌<◌, ◌↔◌, ◌⊎◌, IfOk, OnOk, All, length};
+ghost use Rattle.std.specs.Prelude.{Contains, IsTrue, [], ◌∷◌};
 ghost use Rattle.si_base.specs.Graph.{event_place};
 ghost use Rattle.si_graph.specs.Reach.{IsIn};
-ghost use Rattle.si_regions.specs.Regions.{Enables, IsSetOf, IsEntered, IsQuiet, IsRegion, AreRegions, opposite};
+ghost use Rattle.si_regions.specs.Regions.{Enables, IsSetOf, IsEntered, IsQuiet, IsRegion};
+ghost use Rattle.si_regions.specs.Regions.{AreRegions, opposite};
 ghost use Rattle.si_regions.specs.Searching.{AreMarksOf, IsIdle, RegionsTo};
 
 use crate::search::reached;

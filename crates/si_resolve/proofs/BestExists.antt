@@ -1,5 +1,6 @@
 -- A proper graph has a best candidate that leaves fewer conflicts than it has, or none leaves fewer.
-use Rattle.std.proofs.Common.{◌≡◌, ℕ, ◌<◌, ◌⊎◌, Bool, List, length, Option, Some, None, refl, sym, subst, subst₂, ◌∙◌, arith, inl, inr}
+use Rattle.std.proofs.Common.{◌≡◌, ℕ, ◌<◌, ◌⊎◌, Bool, List, length, Option, Some, None, refl, sym, subst, subst₂, ◌∙◌}
+use Rattle.std.proofs.Common.{arith, inl, inr}
 use Rattle.si_base.specs.Codes.{CodedGraph, IsCoded}
 use Rattle.si_base.specs.Proper.{IsProper}
 use Rattle.si_checks.specs.Searches.{IsFirstOrNone}

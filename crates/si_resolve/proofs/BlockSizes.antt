@@ -1,5 +1,6 @@
 -- Each block of a graph has a place for each of its states.
-use Rattle.std.proofs.Common.{◌≡◌, ◌==◌, ℕ, suc, ◌<◌, not, arith, Bool, List, [], ◌∷◌, ◌++◌, length, map, All, sym, subst}
+use Rattle.std.proofs.Common.{◌≡◌, ◌==◌, ℕ, suc, ◌<◌, not, arith, Bool, List, [], ◌∷◌, ◌++◌, length, map, All, sym}
+use Rattle.std.proofs.Common.{subst}
 use Rattle.std.specs.List.{list_any}
 use Rattle.std.proofs.lemmas.List.Elements.{All-append, All-cons, All-filter, All-nil, All-take}
 use Rattle.std.proofs.lemmas.List.FromFn.{length-map-range_with_len}
@@ -7,7 +8,8 @@ use Rattle.si_base.specs.declared.ids.Event.{Event}
 use Rattle.si_base.specs.Graph.{StateGraph}
 use Rattle.si_base.specs.Codes.{CodedGraph}
 use Rattle.si_regions.specs.declared.regions.Region.{Region}
-use Rattle.si_candidates.specs.Blocks.{marked, same_set, once, AreIntervalsFrom, AreIntervals, max_blocks, AreBlocks, block_at}
+use Rattle.si_candidates.specs.Blocks.{marked, same_set, once, AreIntervalsFrom, AreIntervals, max_blocks, AreBlocks}
+use Rattle.si_candidates.specs.Blocks.{block_at}
 
 -- a set of so many places
 abbrev pub HasSize : ℕ → List Bool → Type 0

@@ -37,7 +37,8 @@ use Rattle.si_candidates.proofs.Separable.{accepted_by_blocks}
 use Rattle.si_candidates.proofs.CopyCount.{copies_by_blocks}
 use Rattle.si_resolve.proofs.AspectLemmas.{unparted_stay}
 use Rattle.si_resolve.proofs.BlockSizes.{size_at}
-use Rattle.si_resolve.proofs.SearchSteps.{search_start, search_skip, search_take, search_row, search_finds, search_finds_none, block_refuses}
+use Rattle.si_resolve.proofs.SearchSteps.{search_start, search_skip, search_take, search_row, search_finds}
+use Rattle.si_resolve.proofs.SearchSteps.{search_finds_none, block_refuses}
 
 -- ---- a candidate alone
 pub lawful_classes : (g : StateGraph) (plus minus : List Bool) (classes : List Class) → IsGraph g

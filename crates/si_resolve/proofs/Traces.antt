@@ -15,7 +15,8 @@ use Rattle.si_insert.specs.Insertion.{new_signal, coded}
 use Rattle.si_insert.specs.Lineage.{Current, Inserts}
 use Rattle.si_insert.proofs.TraceLemmas as traces
 use Rattle.si_resolve.specs.Best.{Choice, IsStuck}
-use Rattle.si_resolve.specs.Laws.{TracesAreShort, ResolvedIsUnique, UnresolvedIsUnique, EndsExclude, TracesAreLineages, TracesImplement}
+use Rattle.si_resolve.specs.Laws.{TracesAreShort, ResolvedIsUnique, UnresolvedIsUnique, EndsExclude, TracesAreLineages}
+use Rattle.si_resolve.specs.Laws.{TracesImplement}
 use Rattle.si_resolve.specs.Trace.{Resolves, IsResolving}
 use Rattle.si_resolve.proofs.OneBest.{one_best}
 

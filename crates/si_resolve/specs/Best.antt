@@ -1,4 +1,4 @@
--- The best candidate of a graph.
+-- (field) The best candidate of a graph.
 use Rattle.std.specs.Prelude.{ℕ, ◌<◌, ◌≤◌, Bool, List, [], ◌∷◌}
 use Rattle.si_base.specs.Order.{IsFirst}
 use Rattle.si_base.specs.Codes.{CodedGraph}

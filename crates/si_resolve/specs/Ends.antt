@@ -1,4 +1,4 @@
--- Why resolving goes no further.
+-- (field) Why resolving goes no further.
 use Rattle.si_base.specs.Codes.{CodedGraph}
 use Rattle.si_resolve.specs.Best.{IsStuck}
 use Rattle.si_resolve.specs.declared.resolve.Stuck.{Stuck}

@@ -1,5 +1,6 @@
--- The laws of resolving, one word each.
-use Rattle.std.specs.Prelude.{◌≡◌, ℕ, ◌+◌, ◌<◌, ◌≤◌, ◌⊎◌, Option, Bool, List, ◌++◌, length, Some, None}
+-- (law) The laws of resolving, one word each.
+use Rattle.std.specs.Prelude.{◌≡◌, ℕ, ◌+◌, ◌<◌, ◌≤◌, ◌⊎◌, Option, Bool, List, ◌++◌, length, Some}
+use Rattle.std.specs.Prelude.{None}
 use Rattle.si_base.specs.Codes.{CodedGraph, IsCoded}
 use Rattle.si_base.specs.Proper.{IsProper}
 use Rattle.si_base.specs.Sets.{IsIn}

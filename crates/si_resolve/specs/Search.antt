@@ -1,4 +1,4 @@
--- The search for the best candidate, candidate after candidate.
+-- (loop) The search for the best candidate, candidate after candidate.
 use Rattle.std.specs.Prelude.{ℕ, ◌<◌, Bool, List, [], ◌∷◌, Option}
 use Rattle.si_base.specs.Order.{Before}
 use Rattle.si_base.specs.Codes.{CodedGraph}

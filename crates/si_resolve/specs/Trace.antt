@@ -1,4 +1,4 @@
--- Resolving: the best candidate is inserted while it has fewer conflicts than the graph.
+-- (field) Resolving: the best candidate is inserted while it has fewer conflicts than the graph.
 use Rattle.std.specs.Prelude.{◌≡◌, ℕ, List, codes}
 use Rattle.si_base.specs.Proper.{HasNoConflict}
 use Rattle.si_insert.specs.declared.lineage.TraceStep.{TraceStep}

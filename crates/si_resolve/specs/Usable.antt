@@ -1,4 +1,4 @@
--- The blocks that a search has to look at.
+-- (loop) The blocks that a search has to look at.
 use Rattle.std.specs.Prelude.{◌≡◌, ℕ, ◌<◌, ◌↔◌, true, false, Bool, List, length}
 use Rattle.std.specs.List.{slice_index_or}
 use Rattle.si_base.specs.Graph.{StateGraph}

@@ -1,6 +1,10 @@
 //! The laws of resolving. Each function does nothing: its contract is the law.
 
-ghost use Rattle.si_resolve.specs.Laws.{SearchStarts, SearchSkips, SearchTakes, SearchPassesRow, SearchFinds, SearchFindsNone, BlockRefuses, BestIsUnique, NoneImprovesIsStuck, TracesAreShort, ResolvedIsUnique, UnresolvedIsUnique, EndsExclude, TracesAreLineages, TracesImplement};
+ghost use Rattle.si_resolve.specs.Laws.{SearchStarts, SearchSkips, SearchTakes, SearchPassesRow};
+ghost use Rattle.si_resolve.specs.Laws.{SearchFinds, SearchFindsNone, BlockRefuses, BestIsUnique};
+ghost use Rattle.si_resolve.specs.Laws.{NoneImprovesIsStuck, TracesAreShort, ResolvedIsUnique};
+ghost use Rattle.si_resolve.specs.Laws.{UnresolvedIsUnique, EndsExclude, TracesAreLineages};
+ghost use Rattle.si_resolve.specs.Laws.{TracesImplement};
 
 /// The best candidate is determined.
 pub fn best_is_unique()

@@ -1,6 +1,7 @@
 //! The search for the best candidate, candidate after candidate.
 
-ghost use Rattle.std.specs.Prelude.{◌≡◌, ℕ, ◌+◌, ◌<◌, ◌≤◌, ◌↔◌, Bool, false, List, IfOk, IfSome, IfNone, OnOk, IsTrue, length, count_by};
+ghost use Rattle.std.specs.Prelude.{◌≡◌, ℕ, ◌+◌, ◌<◌, ◌≤◌, ◌↔◌, Bool, false, List, IfOk, IfSome};
+ghost use Rattle.std.specs.Prelude.{IfNone, OnOk, IsTrue, length, count_by};
 ghost use Rattle.si_base.specs.Codes.{IsCoded};
 ghost use Rattle.si_base.specs.Sets.{IsIn};
 ghost use Rattle.si_candidates.specs.Blocks.{AreDisjoint, block_at};

@@ -1,4 +1,4 @@
--- What laws say of audits of netlists that are written.
+-- (law) What laws say of audits of netlists that are written.
 use Rattle.std.specs.Prelude.{ℕ, List, Ok}
 use Rattle.si_circuit.specs.declared.style.Style.{Style}
 use Rattle.si_stages.specs.Meaning.{audit, mapping, synth}

@@ -1,4 +1,4 @@
--- Whether a netlist is certified for a graph.
+-- (command) Whether a netlist is certified for a graph.
 use Rattle.std.specs.Prelude.{◌≡◌, ℕ, ◌⊎◌, List, [], ◌∷◌, length, codes, decimal, Ok, Err, None}
 use Rattle.si_audit.specs.declared.fault.AuditFault.{AuditFault}
 use Rattle.si_audit.specs.declared.fault.AuditFault.TheVariants as fault

@@ -1,4 +1,4 @@
--- Handshakes, exercised: the sizes of their graph and of its circuit.
+-- (command) Handshakes, exercised: the sizes of their graph and of its circuit.
 use Rattle.std.specs.Prelude.{◌≡◌, ℕ, ◌+◌, List, [], ◌∷◌, length, codes}
 use Rattle.std.specs.List.{sum_by}
 use Rattle.si_base.specs.Behaviour.{Implements}

@@ -1,4 +1,4 @@
--- The folded graph of a given graph, and its text.
+-- (command) The folded graph of a given graph, and its text.
 use Rattle.std.specs.Prelude.{◌≡◌, ℕ, List, map}
 use Rattle.si_base.specs.Codes.{CodedGraph}
 use Rattle.si_base.specs.GivenGraph.{Sg}

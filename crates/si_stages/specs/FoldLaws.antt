@@ -1,4 +1,4 @@
--- What laws say of the texts of folded graphs.
+-- (law) What laws say of the texts of folded graphs.
 use Rattle.std.specs.Prelude.{◌≡◌, ℕ, List, Ok}
 use Rattle.si_base.specs.Behaviour.{Implements}
 use Rattle.si_base.specs.Codes.{CodedGraph}

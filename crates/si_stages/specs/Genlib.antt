@@ -1,4 +1,4 @@
--- What `genlib` means over the text of its file: its library, in the tool's own format.
+-- (command) What `genlib` means over the text of its file: its library, in the tool's own format.
 use Rattle.std.specs.Prelude.{◌≡◌, ℕ, List, None}
 use Rattle.si_cell.specs.LibraryText.{library_fault, library_of}
 use Rattle.si_genlib.specs.GenlibText.{genlib_fault}

@@ -1,4 +1,4 @@
--- The netlist of a graph from the cells of a library.
+-- (command) The netlist of a graph from the cells of a library.
 use Rattle.std.specs.Prelude.{◌≡◌, ℕ, List, [], Ok, Err}
 use Rattle.si_base.specs.GivenGraph.{Sg}
 use Rattle.si_base.specs.NetlistText.{name_of, netlist_text}

@@ -1,4 +1,4 @@
--- What each command means over the text of its file, or the texts of its files.
+-- (command) What each command means over the text of its file, or the texts of its files.
 use Rattle.std.specs.Prelude.{ℕ, List}
 use Rattle.si_circuit.specs.declared.style.Style.{Style}
 use Rattle.si_refusals.specs.Refusal.{TextRefusal}

@@ -1,4 +1,4 @@
--- What is told of an outcome of a replay.
+-- (loop) What is told of an outcome of a replay.
 use Rattle.std.specs.Prelude.{◌≡◌, ℕ, ◌<◌, List, length, Some, slice_get}
 use Rattle.si_base.specs.Netlist.{Netlist}
 use Rattle.si_base.specs.NetlistText.{name_of}

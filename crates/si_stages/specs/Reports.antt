@@ -1,4 +1,4 @@
--- What is told of a proper graph.
+-- (command) What is told of a proper graph.
 use Rattle.std.specs.Prelude.{ℕ, List, [], ◌∷◌, length, codes, decimal}
 use Rattle.si_base.specs.Codes.{CodedGraph, code}
 use Rattle.si_base.specs.NetlistText.{bits_from, word_if_any}

@@ -1,4 +1,4 @@
--- The conflicts of a graph, resolved.
+-- (command) The conflicts of a graph, resolved.
 use Rattle.std.specs.Prelude.{◌≡◌, ℕ, List, Ok, Err}
 use Rattle.si_base.specs.Codes.{CodedGraph}
 use Rattle.si_base.specs.Graph.{StateGraph}

@@ -1,4 +1,4 @@
--- The netlist of a graph.
+-- (command) The netlist of a graph.
 use Rattle.std.specs.Prelude.{◌≡◌, ℕ, List, []}
 use Rattle.si_base.specs.GivenGraph.{Sg}
 use Rattle.si_base.specs.Proper.{HasNoConflict}

@@ -1,4 +1,4 @@
--- What `verilog` means over the text of its file: the netlist as a module.
+-- (command) What `verilog` means over the text of its file: the netlist as a module.
 use Rattle.std.specs.Prelude.{◌≡◌, ℕ, List, None}
 use Rattle.si_netlist_reader.specs.NetlistFault.{netlist_fault}
 use Rattle.si_netlist_reader.specs.NetlistValue.{netlist_of}

@@ -1,4 +1,4 @@
--- A netlist that is written for a given graph.
+-- (command) A netlist that is written for a given graph.
 use Rattle.std.specs.Prelude.{◌≡◌, ℕ, List}
 use Rattle.si_base.specs.Behaviour.{Implements}
 use Rattle.si_base.specs.GivenGraph.{Sg}

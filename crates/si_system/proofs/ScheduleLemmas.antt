@@ -1,5 +1,7 @@
 -- The names of signals, taken one after the other, and the signals of events.
-use Rattle.std.proofs.Common.{◌≡◌, ◌≢◌, ℕ, ◌+◌, ◌<◌, not, Bool, true, false, List, [], ◌∷◌, ◌++◌, length, map, take, get_or, min, sym, ap, subst, ◌∙◌, arith, inl, inr, bytes_eq, position, unwrap_or, All, IfOk, Contains, AllPairs, Option, Some, None, Result, Ok, Err, refl, true≢false}
+use Rattle.std.proofs.Common.{◌≡◌, ◌≢◌, ℕ, ◌+◌, ◌<◌, not, Bool, true, false, List, [], ◌∷◌, ◌++◌, length, map, take}
+use Rattle.std.proofs.Common.{get_or, min, sym, ap, subst, ◌∙◌, arith, inl, inr, bytes_eq, position, unwrap_or, All}
+use Rattle.std.proofs.Common.{IfOk, Contains, AllPairs, Option, Some, None, Result, Ok, Err, refl, true≢false}
 use Rattle.std.specs.Prelude.{flat_map}
 use Rattle.std.specs.List.{position_or_len}
 use Rattle.std.proofs.lemmas.Bool.{cases_lt}

@@ -1,5 +1,6 @@
 -- Steps and lost excitations.
-use Rattle.std.proofs.Common.{◌≡◌, ℕ, ◌+◌, ◌<◌, ◌↔◌, Bool, true, false, not, List, length, get_or, refl, sym, ap, subst, subst₂, ◌∙◌, slice_get, Option, Some, IsTrue, below_more}
+use Rattle.std.proofs.Common.{◌≡◌, ℕ, ◌+◌, ◌<◌, ◌↔◌, Bool, true, false, not, List, length, get_or, refl, sym, ap, subst}
+use Rattle.std.proofs.Common.{subst₂, ◌∙◌, slice_get, Option, Some, IsTrue, below_more}
 use Rattle.std.proofs.lemmas.Bool.{true≢false}
 use Rattle.std.proofs.lemmas.Option.{slice_get_within, slice_get-get_or}
 use Rattle.si_base.specs.declared.ids.Event.{Event}

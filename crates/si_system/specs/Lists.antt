@@ -1,4 +1,4 @@
--- The signals of a graph beside the given signals of a netlist.
+-- (field) The signals of a graph beside the given signals of a netlist.
 use Rattle.std.specs.Prelude.{◌≡◌, ℕ, ◌+◌, ◌<◌, not, List, length, filter, slice_get}
 use Rattle.si_base.specs.declared.graph.Signal.{Signal}
 use Rattle.si_base.specs.Bits.{bit}

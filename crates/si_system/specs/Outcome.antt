@@ -1,4 +1,4 @@
--- How the replay of a schedule ends.
+-- (field) How the replay of a schedule ends.
 use Rattle.std.specs.Prelude.{◌≡◌, ◌≢◌, ℕ, ◌+◌, Some, List, [], ◌∷◌, ◌++◌, length}
 use Rattle.si_base.specs.declared.ids.Event.{Event}
 use Rattle.si_base.specs.Graph.{StateGraph}

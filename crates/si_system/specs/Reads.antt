@@ -1,4 +1,4 @@
--- What the gates of a netlist read, kept as a list of codes.
+-- (loop) What the gates of a netlist read, kept as a list of codes.
 use Rattle.std.specs.Prelude.{◌≡◌, ℕ, ◌≤◌, List, length, slice_index}
 use Rattle.si_base.specs.Graph.{IsNonInput}
 use Rattle.si_base.specs.Netlist.{Netlist}

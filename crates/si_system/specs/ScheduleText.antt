@@ -1,4 +1,4 @@
--- The text of a schedule: its first fault, and the events that it spells.
+-- (text) The text of a schedule: its first fault, and the events that it spells.
 use Rattle.std.specs.Prelude.{ℕ, false, List, map, flat_map, Option}
 use Rattle.si_base.specs.declared.ids.Event.{Event}
 use Rattle.si_base.specs.declared.graph.Signal.{Signal}

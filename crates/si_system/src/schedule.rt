@@ -1,6 +1,7 @@
 //! The reader of schedules.
 
-ghost use Rattle.std.specs.Prelude.{◌≡◌, ◌≢◌, ℕ, ◌<◌, ◌≤◌, ◌++◌, length, map, All, AllPairs, IfOk, OnOk, false};
+ghost use Rattle.std.specs.Prelude.{◌≡◌, ◌≢◌, ℕ, ◌<◌, ◌≤◌, ◌++◌, length, map, All, AllPairs, IfOk};
+ghost use Rattle.std.specs.Prelude.{OnOk, false};
 ghost use Rattle.si_base.specs.Faults.{when, ◌otherwise◌, first_in};
 ghost use Rattle.si_base.specs.Limits.{max_signals};
 ghost use Rattle.si_base.specs.Lines as text;

@@ -1,4 +1,4 @@
--- What is left of a text, parts of it, and what readers answer, as the definitions see it.
+-- (loop) What is left of a text, parts of it, and what readers answer, as the definitions see it.
 use Rattle.std.specs.Prelude.{◌≡◌, Result, Ok, Err}
 use Rattle.si_tokens.specs.declared.fault.ReadFault.{ReadFault}
 use Rattle.si_tokens.specs.declared.fault.ReadFault.TheVariants as faults

@@ -1,6 +1,7 @@
 -- Words and forms, place by place.
 use Rattle.std.proofs.Common.{◌≡◌, ◌≢◌, ℕ, suc, ◌+◌, ◌<◌, List, [], ◌∷◌, ◌++◌, length, map, drop, get_or, refl, sym, ap}
-use Rattle.std.proofs.Common.{◌∙◌, arith, append-nil, append_assoc, add-one, String, string_bytes, Global, Bool, true, false, not, bytes_eq}
+use Rattle.std.proofs.Common.{◌∙◌, arith, append-nil, append_assoc, add-one, String, string_bytes, Global, Bool, true}
+use Rattle.std.proofs.Common.{false, not, bytes_eq}
 use Rattle.std.proofs.lemmas.Slice.Eq.{bytes_eq-Decides}
 use Rattle.std.proofs.Math.Seq.{drop-cons}
 use Rattle.std.proofs.lemmas.List.{drop-map}

@@ -1,4 +1,4 @@
--- What the program tells of itself.
+-- (command) What the program tells of itself.
 use Rattle.std.specs.Prelude.{ℕ, List, codes}
 use Rattle.si_tool.specs.declared.about.TheConstants.{HELP}
 use Rattle.si_tool.specs.declared.about.Topic.{Topic}

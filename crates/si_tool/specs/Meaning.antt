@@ -1,4 +1,5 @@
--- What a command that is asked for means over its texts, and what it comes to over its files.
+-- (command) What a command that is asked for means over its texts, and what it comes to over its
+-- files.
 use Rattle.std.specs.Prelude.{ℕ, List, [], ◌∷◌, String, Ok, Err}
 use Rattle.std.specs.declared.alloc.Global.{Global}
 use Rattle.si_tool.specs.About.{about_text}

@@ -1,4 +1,4 @@
--- What the code holds, as definitions speak of it.
+-- (loop) What the code holds, as definitions speak of it.
 use Rattle.std.specs.Prelude.{ℕ, List, map, Vec}
 use Rattle.std.specs.declared.alloc.Global.{Global}
 use Rattle.std.specs.Borrow.{Bor}

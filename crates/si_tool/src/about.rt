@@ -42,49 +42,66 @@ impl Topic {
     }
 }
 
-/// Each form of the command line, the statuses, and where the documents are.
+/// Each form of the command line with an example, what the files are, and where the documents are.
 const HELP: &[u8] = b"sisyn makes circuits without a clock from state graphs.
 
   sisyn check F                      the size of a graph, where it is proper
+  sisyn states F                     its states: their codes, what they enable
   sisyn regions F                    where events are excited, and what follows
   sisyn conflicts F                  states that no gates can tell apart
+  sisyn explain F                    walks to them, and which no signal resolves
   sisyn covers F                     sums for each signal, and monotonous cubes
   sisyn fold F                       the graph with alike states merged
+  sisyn dot F                        the graph as a picture for Graphviz
   sisyn synth F complex              a netlist of complex gates
   sisyn synth F gc                   a netlist of generalised C-elements
   sisyn map F LIB                    a netlist of cells of a library
   sisyn map F genlib FILE            a netlist of gates of a library of genlib
+  sisyn resolve F                    the graph with its conflicts resolved
+  sisyn insert F NETLIST             the graph after insertions of a netlist
   sisyn genlib FILE                  a library of genlib as a library of cells
   sisyn verilog NETLIST              a netlist as a module of Verilog
   sisyn replay F NETLIST SCHEDULE    where a schedule over a netlist ends
+  sisyn wave F NETLIST SCHEDULE      the same as a Value Change Dump
   sisyn audit F NETLIST              whether a netlist is certified for a graph
   sisyn exercise N                   the sizes of N handshakes, from 1 to 8
-  sisyn --help                       this text
-  sisyn -h                           this text
-  sisyn help                         this text
+  sisyn --help, -h or help           this text
   sisyn --version                    the version
 
-F is a state graph, LIB a library of cells, FILE a library of genlib, NETLIST a
-netlist and SCHEDULE a list of events, each the name of a file. A run that
-succeeds writes to standard output. A refused run writes one line to standard
-error, and ends with the status of its first word:
+F is a state graph, in the text that petrify calls .sg: lists of signals, then
+arcs such as 's0 a+ s1'. Petri nets (.g) are not read: unfold them first. LIB is
+a library of cells ('.cell AND2 a b = a b'), FILE one of genlib, NETLIST a
+netlist as synth and map write it, and SCHEDULE a list of events ('a+ b+ c+').
+Each is the name of a file; /dev/stdin and <(..) serve too.
 
-  0  the command was done
-  1  nomemory: memory ran out
-  2  usage: the words are no command
-  3  readfault: a file could not be read
-  4  writefault: the output could not be written
-  5  toolong: a file has over 16777216 bytes
-  6  badtext: a text has a fault; lists: the netlist isn't for the graph
-  7  nondeterministic, inconsistent, noncommutative, nonpersistent:
-     the graph isn't proper
-  8  unresolved: two states of one code want different things of the circuit
-  9  unmapped: a signal fits no cell of the library
- 10  differs: the schedule has an event that the circuit or the graph refuses
- 11  rejected: the netlist isn't certified for the graph
+A run that succeeds writes to standard output. A refused run writes one line to
+standard error, and ends with a status from 1 to 11.
+
+Examples, beside the sources:
+
+  sisyn check examples/vme-read.sg
+  sisyn states examples/vme-read.sg
+  sisyn regions examples/c-element.sg
+  sisyn conflicts examples/vme-read.sg
+  sisyn explain examples/pulse-train.sg
+  sisyn covers examples/c-element.sg
+  sisyn fold examples/vme-read.sg
+  sisyn dot examples/vme-read.sg | dot -Tsvg > vme-read.svg
+  sisyn synth examples/vme-read.sg complex > vme-read.net
+  sisyn map examples/vme-read.sg examples/four.lib
+  sisyn map examples/c-element-three.sg genlib examples/everyday.genlib
+  sisyn resolve examples/vme-read.sg | sisyn synth /dev/stdin gc
+  sisyn insert examples/vme-read.sg examples/vme-read.net
+  sisyn genlib examples/everyday.genlib > everyday.lib
+  sisyn verilog examples/vme-read.net > vme-read.v
+  sisyn replay examples/c-element.sg examples/c-element.net <(echo 'a+ b+ c+')
+  sisyn wave examples/c-element.sg examples/c-element.net <(echo 'a+ b+ c+')
+  sisyn audit examples/vme-read.sg examples/vme-read.net
+  sisyn exercise 5
 
 The documents stand beside the sources: README.md has a walk through the
-commands, docs/FORMATS.md each text and line, docs/THEOREM.md what is proved.
+commands, docs/GUIDE.md what to do where a run is refused, docs/FORMATS.md each
+text, line and status, docs/THEOREM.md what is proved.
 ";
 
 /// The text on a topic. It fails only where memory runs out.

@@ -1,4 +1,4 @@
--- The signals that a module declares.
+-- (text) The signals that a module declares.
 use Rattle.std.specs.Prelude.{ℕ, List, ◌++◌, map}
 use Rattle.si_verilog.specs.Grammar.{Port, InputPort, OutputPort, Module}
 

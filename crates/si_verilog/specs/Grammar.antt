@@ -1,6 +1,7 @@
--- A grammar of a part of Verilog: modules of ports, wires and assigns, each to an expression of
--- `~`, `&` and `|`. What it accepts, Verilog accepts with the same meaning (IEEE 1364-2005, Annex
--- A, and its table of precedences: `~` before `&`, `&` before `|`, and each joins from the left).
+-- (text) A grammar of a part of Verilog: modules of ports, wires and assigns, each to an expression
+-- of `~`, `&` and `|`. What it accepts, Verilog accepts with the same meaning (IEEE 1364-2005,
+-- Annex A, and its table of precedences: `~` before `&`, `&` before `|`, and each joins from the
+-- left).
 use Rattle.std.specs.Prelude.{◌≡◌, ℕ, ◌&&◌, ◌||◌, not, Bool, true, false, List, [], ◌∷◌, ◌++◌}
 use Rattle.std.specs.Prelude.{codes, flat_map}
 use Rattle.std.specs.List.{join_by}

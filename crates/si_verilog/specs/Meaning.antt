@@ -1,4 +1,4 @@
--- What a text of Verilog means, and when that is a netlist.
+-- (text) What a text of Verilog means, and when that is a netlist.
 use Rattle.std.specs.Prelude.{◌≡◌, ℕ, ◌+◌, Bool, false, List, [], ◌∷◌, map, filter, bytes_eq}
 use Rattle.std.specs.Prelude.{slice_get, Some, if◌then◌else◌}
 use Rattle.si_base.specs.declared.graph.Signal.{Signal}

@@ -1,4 +1,4 @@
--- The text of a netlist as a module of Verilog.
+-- (text) The text of a netlist as a module of Verilog.
 use Rattle.std.specs.Prelude.{ℕ, ◌==◌, ◌&&◌, ◌||◌, Bool, false, List, [], ◌∷◌, ◌++◌, map, filter}
 use Rattle.std.specs.Prelude.{flat_map, length, codes, if◌then◌else◌}
 use Rattle.std.specs.List.{list_all, list_any, join_by, zip}

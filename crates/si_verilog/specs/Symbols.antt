@@ -1,4 +1,4 @@
--- The symbols that Verilog reads the bytes of a text as.
+-- (text) The symbols that Verilog reads the bytes of a text as.
 use Rattle.std.specs.Prelude.{ℕ, ◌==◌, ◌&&◌, ◌||◌, not, Bool, false, List, [], ◌∷◌, ◌++◌}
 use Rattle.std.specs.Prelude.{if◌then◌else◌}
 use Rattle.std.specs.List.{list_all}

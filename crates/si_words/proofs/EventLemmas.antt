@@ -1,5 +1,6 @@
 -- Event words, read from left to right.
-use Rattle.std.proofs.Common.{◌≡◌, ℕ, Bool, true, false, List, [], ◌∷◌, length, take, refl, ap, ap₂, arith, position, unwrap_or, bytes_eq, Option, Some, None, inl, inr, one-add}
+use Rattle.std.proofs.Common.{◌≡◌, ℕ, Bool, true, false, List, [], ◌∷◌, length, take, refl, ap, ap₂, arith, position}
+use Rattle.std.proofs.Common.{unwrap_or, bytes_eq, Option, Some, None, inl, inr, one-add}
 use Rattle.std.specs.List.{list_all, list_any, prefix_len, position_or_len}
 use Rattle.std.proofs.lemmas.Bool.{cases_Bool, cases_lt}
 use Rattle.std.proofs.lemmas.List.Folds.{list_any_at, list_any_none}

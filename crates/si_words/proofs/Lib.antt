@@ -4,6 +4,7 @@ pub mod PlaceLemmas
 pub mod RowLemmas
 pub mod SumWordLemmas
 pub mod WritingLemmas
+pub mod NameByteLemmas
 pub mod NameLemmas
 pub mod FaultLemmas
 pub mod EndLemmas

@@ -1,5 +1,6 @@
 -- The parts of words between marks.
-use Rattle.std.proofs.Common.{◌≡◌, ℕ, List, [], ◌∷◌, map, refl, ap, ◌∙◌, Bor, Vec, Global, Result, Ok, Err, IfOk, codes, bytes_eq}
+use Rattle.std.proofs.Common.{◌≡◌, ℕ, List, [], ◌∷◌, map, refl, ap, ◌∙◌, Bor, Vec, Global, Result, Ok, Err, IfOk, codes}
+use Rattle.std.proofs.Common.{bytes_eq}
 use Rattle.std.specs.List.{slice_split}
 use Rattle.si_words.proofs.SumWordLemmas.{slice_split-map}
 use Rattle.si_words.specs.Reads.{words_now, parts_now}

@@ -1,5 +1,7 @@
 -- The place of a name among distinct names.
-use Rattle.std.proofs.Common.{◌≡◌, ◌≢◌, ℕ, ◌<◌, true, false, List, [], length, get_or, refl, sym, ◌∙◌, arith, position, slice_get, bytes_eq, Option, Some, None, is_some, Contains, AllPairs, IfSome, IsNone, ◌↔◌, inl, inr}
+use Rattle.std.proofs.Common.{◌≡◌, ◌≢◌, ℕ, ◌<◌, true, false, List, [], length, get_or, refl, sym, ◌∙◌, arith, position}
+use Rattle.std.proofs.Common.{slice_get, bytes_eq, Option, Some, None, is_some, Contains, AllPairs, IfSome, IsNone, ◌↔◌}
+use Rattle.std.proofs.Common.{inl, inr}
 use Rattle.std.specs.List.{position_or_len}
 use Rattle.std.proofs.lemmas.Bool.{cases_lt, false_from_ne_true, true≢false}
 use Rattle.std.proofs.lemmas.List.Sums.{position_or_len_is, passes_at_first}

@@ -1,5 +1,7 @@
 -- Lines of a text, one taken from the front.
-use Rattle.std.proofs.Common.{◌≡◌, ℕ, zero, suc, ◌+◌, ◌<◌, ◌≤◌, ◌==◌, Bool, true, false, not, List, [], ◌∷◌, length, take, drop, refl, sym, ap, ◌∙◌, arith, Some, None, inl, inr, add-one, if◌then◌else◌, ◌||◌, eqb-true, ap₂, bytes_eq}
+use Rattle.std.proofs.Common.{◌≡◌, ℕ, zero, suc, ◌+◌, ◌<◌, ◌≤◌, ◌==◌, Bool, true, false, not, List, [], ◌∷◌, length}
+use Rattle.std.proofs.Common.{take, drop, refl, sym, ap, ◌∙◌, arith, Some, None, inl, inr, add-one, if◌then◌else◌, ◌||◌}
+use Rattle.std.proofs.Common.{eqb-true, ap₂, bytes_eq}
 use Rattle.std.specs.List.{prefix_len}
 use Rattle.std.proofs.lemmas.Bool.{cases_Bool, cases_lt}
 use Rattle.si_base.specs.declared.fault.TextKind.{TextKind}

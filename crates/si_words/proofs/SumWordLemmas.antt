@@ -1,5 +1,6 @@
 -- Words.
-use Rattle.std.proofs.Common.{◌≡◌, ℕ, ◌-◌, ◌≤◌, ◌==◌, Bool, true, false, List, [], ◌∷◌, ◌++◌, length, get_or, take, drop, map, refl, ap, ◌∙◌, arith, Some, inl, inr}
+use Rattle.std.proofs.Common.{◌≡◌, ℕ, ◌-◌, ◌≤◌, ◌==◌, Bool, true, false, List, [], ◌∷◌, ◌++◌, length, get_or, take}
+use Rattle.std.proofs.Common.{drop, map, refl, ap, ◌∙◌, arith, Some, inl, inr}
 use Rattle.si_words.specs.GateLines.{last_of}
 use Rattle.std.specs.List.{list_any, list_all, slice_split, prefix_len, onto_first}
 use Rattle.std.proofs.lemmas.Bool.{cases_Bool}

@@ -1,5 +1,6 @@
 -- What the writers of lines have still to add, a step at a time.
-use Rattle.std.proofs.Common.{◌≡◌, ℕ, zero, suc, ◌+◌, ◌<◌, List, [], ◌∷◌, ◌++◌, refl, sym, ap, ◌∙◌, length, drop, add-one, append_assoc, get_or, Result, OnOk, subst, arith}
+use Rattle.std.proofs.Common.{◌≡◌, ℕ, zero, suc, ◌+◌, ◌<◌, List, [], ◌∷◌, ◌++◌, refl, sym, ap, ◌∙◌, length, drop}
+use Rattle.std.proofs.Common.{add-one, append_assoc, get_or, Result, OnOk, subst, arith}
 use Rattle.std.specs.List.{join_with_byte}
 use Rattle.std.specs.Borrow.{Bor}
 use Rattle.std.proofs.lemmas.List.{append-nil}

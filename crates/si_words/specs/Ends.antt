@@ -1,4 +1,4 @@
--- The end of a text.
+-- (text) The end of a text.
 use Rattle.std.specs.Prelude.{ℕ, ◌+◌, List, length}
 use Rattle.si_base.specs.Lines.{lines_of}
 

@@ -1,5 +1,6 @@
--- Event words: a signal name, then `+` or `-`, then nothing or `/` with one to nine digits.
-use Rattle.std.specs.Prelude.{ℕ, ◌==◌, Bool, true, false, not, ◌&&◌, ◌||◌, List, [], ◌∷◌, length, take, drop, position, bytes_eq, unwrap_or, Option}
+-- (text) Event words: a signal name, then `+` or `-`, then nothing or `/` with one to nine digits.
+use Rattle.std.specs.Prelude.{ℕ, ◌==◌, Bool, true, false, not, ◌&&◌, ◌||◌, List, [], ◌∷◌, length}
+use Rattle.std.specs.Prelude.{take, drop, position, bytes_eq, unwrap_or, Option}
 use Rattle.std.specs.List.{list_all, prefix_len}
 use Rattle.si_base.specs.Bytes.{plus, minus, slash, digit_zero, digit_nine, tilde}
 use Rattle.si_base.specs.Words.{is_between, is_name_byte, is_signal_name}

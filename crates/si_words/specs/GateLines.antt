@@ -1,5 +1,7 @@
--- The fault of a gate line, by its words.
-use Rattle.std.specs.Prelude.{ℕ, Bool, true, false, not, ◌&&◌, ◌||◌, List, [], ◌∷◌, length, if◌then◌else◌, nat_lt, nat_le, bytes_eq, codes, Option, Some, None, position, is_none}
+-- (text) The fault of a gate line, by its words.
+use Rattle.std.specs.Prelude.{ℕ, Bool, true, false, not, ◌&&◌, ◌||◌, List, [], ◌∷◌, length}
+use Rattle.std.specs.Prelude.{if◌then◌else◌, nat_lt, nat_le, bytes_eq, codes, Option, Some, None}
+use Rattle.std.specs.Prelude.{position, is_none}
 use Rattle.std.specs.List.{list_all}
 use Rattle.si_base.specs.Words.{is_signal_name}
 use Rattle.si_base.specs.declared.fault.TextKind.{TextKind}

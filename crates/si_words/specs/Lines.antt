@@ -1,5 +1,6 @@
--- Lines of a text by their words, and the fault of lines against the forms that are due.
-use Rattle.std.specs.Prelude.{ℕ, ◌==◌, ◌+◌, Bool, not, ◌||◌, List, [], ◌∷◌, if◌then◌else◌, bytes_eq, Option, Some}
+-- (text) Lines of a text by their words, and the fault of lines against the forms that are due.
+use Rattle.std.specs.Prelude.{ℕ, ◌==◌, ◌+◌, Bool, not, ◌||◌, List, [], ◌∷◌, if◌then◌else◌, bytes_eq}
+use Rattle.std.specs.Prelude.{Option, Some}
 use Rattle.std.specs.List.{list_any, slice_split}
 use Rattle.si_base.specs.Bytes.{line_feed, space, tilde}
 use Rattle.si_base.specs.Words.{is_between}

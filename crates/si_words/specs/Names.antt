@@ -1,5 +1,6 @@
--- Names in the lists of signals.
-use Rattle.std.specs.Prelude.{◌≡◌, ℕ, Bool, not, List, ◌++◌, length, take, nat_le, bytes_eq, slice_get, Option, Some, None}
+-- (text) Names in the lists of signals.
+use Rattle.std.specs.Prelude.{◌≡◌, ℕ, Bool, not, List, ◌++◌, length, take, nat_le, bytes_eq}
+use Rattle.std.specs.Prelude.{slice_get, Option, Some, None}
 use Rattle.std.specs.List.{list_any}
 use Rattle.si_base.specs.Words.{is_signal_name}
 use Rattle.si_base.specs.declared.fault.TextKind.{TextKind}

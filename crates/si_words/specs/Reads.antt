@@ -1,4 +1,4 @@
--- Borrowed words as lists of bytes.
+-- (loop) Borrowed words as lists of bytes.
 use Rattle.std.specs.Prelude.{ℕ, List, map}
 use Rattle.std.specs.Borrow.{Bor}
 

@@ -1,4 +1,4 @@
--- Lines of a text that were taken, with the values that they spell.
+-- (loop) Lines of a text that were taken, with the values that they spell.
 use Rattle.std.specs.Prelude.{ℕ, ◌≡◌, List, ◌++◌, length, map, take, drop, None}
 use Rattle.si_words.specs.Lines.{Form, words_of}
 use Rattle.si_words.specs.Rows.{Left, fault_of, TakesLine}

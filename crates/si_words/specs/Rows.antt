@@ -1,5 +1,6 @@
--- Lines of a text that are not yet read.
-use Rattle.std.specs.Prelude.{ℕ, ◌≡◌, ◌⊎◌, ◌+◌, Bool, false, List, [], ◌∷◌, ◌++◌, drop, bytes_eq, Option, None}
+-- (loop) Lines of a text that are not yet read.
+use Rattle.std.specs.Prelude.{ℕ, ◌≡◌, ◌⊎◌, ◌+◌, Bool, false, List, [], ◌∷◌, ◌++◌, drop, bytes_eq}
+use Rattle.std.specs.Prelude.{Option, None}
 use Rattle.si_base.specs.declared.fault.TextKind.{TextKind}
 use Rattle.si_base.specs.declared.fault.TextKind.TheVariants.{BadLine}
 use Rattle.si_base.specs.declared.fault.LineFault.{LineFault}
@@ -7,7 +8,8 @@ use Rattle.si_base.specs.declared.fault.LineFault.TheVariants.{Kind}
 use Rattle.si_base.specs.declared.fault.TextFault.{TextFault}
 use Rattle.si_base.specs.TextFaults.{Shows, ToldAt}
 use Rattle.si_words.specs.Names.{LeavesNames}
-use Rattle.si_words.specs.Lines.{Form, ended, tail_of, lines_fault, words_of, rest_of, has_bad_byte_here}
+use Rattle.si_words.specs.Lines.{Form, ended, tail_of, lines_fault, words_of, rest_of}
+use Rattle.si_words.specs.Lines.{has_bad_byte_here}
 
 -- the number of the next line, the lines, and what stands after the last line feed
 pub record Left : Type 0 where

@@ -1,4 +1,4 @@
--- Parts of lines, as the tool writes them.
+-- (loop) Parts of lines, as the tool writes them.
 use Rattle.std.specs.Prelude.{ℕ, List, ◌∷◌, flat_map}
 use Rattle.si_base.specs.Bytes.{space}
 

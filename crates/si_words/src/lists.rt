@@ -1,6 +1,7 @@
 //! Lists of signals.
 
-ghost use Rattle.std.specs.Prelude.{◌≡◌, ℕ, List, [], ◌∷◌, ◌++◌, OnOk, OnErr, IfErr, position, bytes_eq, false, ◌<◌, ◌≤◌, length};
+ghost use Rattle.std.specs.Prelude.{◌≡◌, ℕ, List, [], ◌∷◌, ◌++◌, OnOk, OnErr, IfErr, position};
+ghost use Rattle.std.specs.Prelude.{bytes_eq, false, ◌<◌, ◌≤◌, length};
 ghost use Rattle.si_base.specs.Faults.{first_after};
 ghost use Rattle.si_base.specs.TextFaults.{Tells};
 ghost use Rattle.si_base.specs.declared.fault.LineFault.TheVariants.{NoMemory};

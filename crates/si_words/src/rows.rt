@@ -1,6 +1,7 @@
 //! Lines of a text, read one after the other.
 
-ghost use Rattle.std.specs.Prelude.{if◌then◌else◌, ◌≡◌, ℕ, ◌≤◌, ◌++◌, List, length, IfOk, IfErr, OnOk, OnErr, ◌==◌, not, ◌∷◌, [], None};
+ghost use Rattle.std.specs.Prelude.{if◌then◌else◌, ◌≡◌, ℕ, ◌≤◌, ◌++◌, List, length, IfOk, IfErr};
+ghost use Rattle.std.specs.Prelude.{OnOk, OnErr, ◌==◌, not, ◌∷◌, [], None};
 ghost use Rattle.std.specs.List.{prefix_len, list_any};
 ghost use Rattle.si_base.specs.Bytes.{line_feed};
 ghost use Rattle.si_base.specs.TextFaults.{Tells, ToldBy};
@@ -9,7 +10,8 @@ ghost use Rattle.si_base.specs.declared.fault.TextKind.TheVariants.{BadLine};
 ghost use Rattle.si_words.specs.Lines as text_lines;
 ghost use Rattle.si_words.specs.Lines.{Form};
 ghost use Rattle.si_words.specs.Reads.{words_now};
-ghost use Rattle.si_words.specs.Rows.{Left, all_lines, begins_with, after_line, fault_of, TakesLine, AddsNames, LeavesLine, RefusesNames};
+ghost use Rattle.si_words.specs.Rows.{Left, all_lines, begins_with, after_line, fault_of};
+ghost use Rattle.si_words.specs.Rows.{TakesLine, AddsNames, LeavesLine, RefusesNames};
 ghost use Rattle.si_words.specs.Sums.{is_empty};
 
 use crate::lists::add_names;

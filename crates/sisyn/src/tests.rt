@@ -412,7 +412,7 @@ fn summaries(rt: HostRuntime) -> Result<(), Fail> {
 }
 
 #[test]
-fn help_fits_a_screen(rt: HostRuntime) -> Result<(), Fail> {
+fn help_fits_a_page(rt: HostRuntime) -> Result<(), Fail> {
     let alloc = rt.alloc();
     let mut shelf = SureShelf::new(files(alloc, only(b""))?);
     let mut out = SureSink::new(alloc);
@@ -422,6 +422,6 @@ fn help_fits_a_screen(rt: HostRuntime) -> Result<(), Fail> {
     assert_eq!(rt; status, Status::Done);
     let mut lines = out.bytes().split(|b| *b == b'\n');
     assert!(rt; lines.all(|line| line.len() <= 80));
-    assert!(rt; out.bytes().split(|b| *b == b'\n').count() <= 43);
+    assert!(rt; out.bytes().split(|b| *b == b'\n').count() <= 66);
     Ok(())
 }

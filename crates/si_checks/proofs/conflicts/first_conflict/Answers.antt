@@ -6,7 +6,8 @@ use Rattle.si_base.specs.Graph.{StateGraph}
 use Rattle.si_base.specs.Codes.{code}
 use Rattle.si_base.specs.Proper.{pair_place}
 use Rattle.si_checks.specs.Searches.{Differ, IsFirstOrNone}
-use Rattle.si_checks.proofs.ConflictLemmas.{IsConflictBelow, IsAt, first_at, firsts_more, keep_found, take_pair, all_states}
+use Rattle.si_checks.proofs.ConflictLemmas.{IsConflictBelow, IsAt, first_at, firsts_more, keep_found, take_pair}
+use Rattle.si_checks.proofs.ConflictLemmas.{all_states}
 use Rattle.si_checks.proofs.conflicts.first_conflict.Goals as goal
 use Rattle.si_checks.proofs.conflicts.first_conflict.Goals.{then-differ, else-differ}
 

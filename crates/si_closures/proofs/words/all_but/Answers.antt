@@ -6,7 +6,9 @@ use Rattle.si_closures.proofs.WordLemmas.{none_barred, one_barred, place_below, 
 use Rattle.si_closures.proofs.words.all_but.Goals as goal
 
 pub loop-k-init : goal.loop-k-init
-loop-k-init c = rw (c.in_ok-words.ensures.items_if_clones_equal (λ _ same. same)) (none_barred (2 * c.args.signals) c.args.stops.now)
+loop-k-init c =
+    rw (c.in_ok-words.ensures.items_if_clones_equal (λ _ same. same))
+    (none_barred (2 * c.args.signals) c.args.stops.now)
 
 pub loop-k-preserved : goal.loop-k-preserved
 loop-k-preserved c =

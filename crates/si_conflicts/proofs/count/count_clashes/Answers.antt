@@ -2,7 +2,8 @@ use Rattle.std.proofs.Common.{◌==◌, ◌∙◌, arith, ap, unwrap_or, take}
 use Rattle.std.specs.BTreeMap.{get}
 use Rattle.std.specs.Ordering.{nat_cmp, is_eq}
 use Rattle.si_conflicts.specs.Keys.{key_cmp}
-use Rattle.si_conflicts.proofs.CountLemmas.{same_key, fewer_equal, clashes_more, counts_more, code_hit, code_counted, key_hit, key_counted, at_most_counted}
+use Rattle.si_conflicts.proofs.CountLemmas.{same_key, fewer_equal, clashes_more, counts_more, code_hit, code_counted}
+use Rattle.si_conflicts.proofs.CountLemmas.{key_hit, key_counted, at_most_counted}
 use Rattle.si_conflicts.proofs.count.count_clashes.Goals as goal
 
 pub overflow_sub-total : goal.overflow_sub-total

@@ -4,7 +4,8 @@ use Rattle.si_conflicts.specs.declared.members.Member.{Member}
 use Rattle.si_conflicts.specs.Apart as Apart
 use Rattle.si_conflicts.specs.Apart.{are_apart, role_at, IsTally, IsUpTo, pair_sum}
 use Rattle.si_conflicts.proofs.PairSums.{pair_take}
-use Rattle.si_conflicts.proofs.TallyLemmas.{tallied_to, few_met, first_key, next_key, tally_at, has_tally, pass_total, pass_tally, pass_order, pass_next}
+use Rattle.si_conflicts.proofs.TallyLemmas.{tallied_to, few_met, first_key, next_key, tally_at, has_tally, pass_total}
+use Rattle.si_conflicts.proofs.TallyLemmas.{pass_tally, pass_order, pass_next}
 use Rattle.si_conflicts.proofs.trial.told_apart.Goals as goal
 
 pub loop-m-init : goal.loop-m-init

@@ -1,4 +1,5 @@
-use Rattle.si_cover.proofs.MonoLemmas.{monos_meet, least_monos_agree, least_monos_have_same_literals, drawn_is_mono, strayed_is_none, no_mono_is_unique}
+use Rattle.si_cover.proofs.MonoLemmas.{monos_meet, least_monos_agree, least_monos_have_same_literals, drawn_is_mono}
+use Rattle.si_cover.proofs.MonoLemmas.{strayed_is_none, no_mono_is_unique}
 use Rattle.si_cover.proofs.mono_laws.there_is_a_least.Goals as goal
 
 pub returns-clause-meet : goal.returns-clause-meet

@@ -3,7 +3,8 @@ use Rattle.std.proofs.lemmas.Bool.{true≢false}
 use Rattle.si_divisor.specs.Targets.{forced_in}
 use Rattle.si_divisor.proofs.AnswerLemmas.{sets_of, are_sets, is_partition}
 use Rattle.si_divisor.proofs.classes.classes_for.Goals as goal
-use Rattle.si_divisor.proofs.classes.classes_for.Goals.{then-not-has_some-via-then-not-has_some, then-not-has_some-via-else-not-has_some+then-not-has_some-2}
+use Rattle.si_divisor.proofs.classes.classes_for.Goals.{then-not-has_some-via-then-not-has_some}
+use Rattle.si_divisor.proofs.classes.classes_for.Goals.{then-not-has_some-via-else-not-has_some+then-not-has_some-2}
 
 pub returns-in-Some-first_leaving-clause-fault : goal.returns-in-Some-first_leaving-clause-fault
 returns-in-Some-first_leaving-clause-fault c =

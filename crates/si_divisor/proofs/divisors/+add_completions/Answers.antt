@@ -1,11 +1,13 @@
-use Rattle.std.proofs.Common.{◌≡◌, ◌≢◌, ◌++◌, ◌+◌, ◌-◌, ◌<◌, ◌∙◌, take, sym, ap, subst, arith, List, [], ◌∷◌, rules, refl, length}
+use Rattle.std.proofs.Common.{◌≡◌, ◌≢◌, ◌++◌, ◌+◌, ◌-◌, ◌<◌, ◌∙◌, take, sym, ap, subst, arith, List, [], ◌∷◌, rules}
+use Rattle.std.proofs.Common.{refl, length}
 use Rattle.std.proofs.lemmas.Bool.{true≢false}
 use Rattle.std.proofs.lemmas.List.{length_push}
 use Rattle.si_base.specs.declared.ids.Literal.{Literal}
 use Rattle.si_match.proofs.SearchLemmas.{popped}
 use Rattle.si_divisor.specs.Divisors.{are_apart, max_divisors}
 use Rattle.si_divisor.specs.Completions.{completions}
-use Rattle.si_divisor.proofs.CompletionLemmas.{AreOther, apart_on, stays_full, starts_with, stays_few, puts_it, pins_done, pin_put, pin_passed}
+use Rattle.si_divisor.proofs.CompletionLemmas.{AreOther, apart_on, stays_full, starts_with, stays_few, puts_it}
+use Rattle.si_divisor.proofs.CompletionLemmas.{pins_done, pin_put, pin_passed}
 use Rattle.si_divisor.proofs.divisors.+add_completions.Goals as goal
 use Rattle.si_divisor.proofs.divisors.+add_completions.Goals.{then-is_apart+in_ok-add_completions, else-is_apart}
 

@@ -7,7 +7,8 @@ use Rattle.si_divisor.specs.Targets.{forced_by}
 use Rattle.si_divisor.proofs.FillLemmas.{filled_added, filled_passed}
 use Rattle.si_divisor.proofs.FunctionLemmas.{signals_within}
 use Rattle.si_divisor.proofs.forced.forced_states.Goals as goal
-use Rattle.si_divisor.proofs.forced.forced_states.Goals.{then-is_forced, else-is_forced, then-is_forced-2, else-is_forced-2}
+use Rattle.si_divisor.proofs.forced.forced_states.Goals.{then-is_forced, else-is_forced, then-is_forced-2}
+use Rattle.si_divisor.proofs.forced.forced_states.Goals.{else-is_forced-2}
 
 pub is_forced-requires-clause-within : goal.is_forced-requires-clause-within
 is_forced-requires-clause-within c =

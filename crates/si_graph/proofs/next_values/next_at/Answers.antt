@@ -6,7 +6,8 @@ use Rattle.si_graph.proofs.next_values.next_at.Goals as goal
 pub set-next-requires : goal.set-next-requires
 set-next-requires c =
     let coded : CodedGraph = record { graph = c.args.graph.now; codes = c.args.codes.now } in
-    let inside = out_inside coded c.requires.coded _ _ c.arcs_out-arc-items.ensures c.loop-arc.arc-index c.arc-item.result
+    let inside =
+    out_inside coded c.requires.coded _ _ c.arcs_out-arc-items.ensures c.loop-arc.arc-index c.arc-item.result
     (omega arith) c.loop-arc-test.true in
     let sig : c.arc-item.result.event.sig < length c.args.graph.now.signals = rw (← c.arc-item.is) at inside in
     omega (arith, sig, c.requires.coded.graph_is.few_signals)

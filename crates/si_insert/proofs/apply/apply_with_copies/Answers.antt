@@ -49,7 +49,8 @@ known-requires c =
 pub known-graph-requires : goal.known-graph-requires
 known-graph-requires c =
     let P : CodedGraph → Type 0 = λ h. IsProper h.graph in
-    subst P (sym c.in_ok-inserted.ensures) (put_together c.args.graph.now c.coded-coded.result.now c.graph-given.result.now
+    subst P (sym c.in_ok-inserted.ensures)
+    (put_together c.args.graph.now c.coded-coded.result.now c.graph-given.result.now
     c.args.accepted.now c.classes-classes.result.now c.args.name.now c.in_ok-made.made c.in_ok-codes.codes.items
     c.as_slice.result.now
     (record {

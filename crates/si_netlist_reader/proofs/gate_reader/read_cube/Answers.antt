@@ -3,7 +3,8 @@ use Rattle.si_base.specs.declared.ids.Literal.{Literal}
 use Rattle.si_base.specs.declared.fault.TextKind.{TextKind}
 use Rattle.si_base.specs.Bits.{IsSet}
 use Rattle.si_base.specs.Limits.{code_width}
-use Rattle.si_netlist_reader.proofs.CubeReading.{InCube, in_none, after_fault, undeclared, disordered, ordered, no_cube, one_read, fault_read, cube_read}
+use Rattle.si_netlist_reader.proofs.CubeReading.{InCube, in_none, after_fault, undeclared, disordered, ordered, no_cube}
+use Rattle.si_netlist_reader.proofs.CubeReading.{one_read, fault_read, cube_read}
 use Rattle.si_netlist_reader.proofs.PartLemmas.{reads_form, reads_fault, reads_value, if_ok, some_words}
 use Rattle.si_netlist_reader.proofs.gate_reader.read_cube.Goals as goal
 

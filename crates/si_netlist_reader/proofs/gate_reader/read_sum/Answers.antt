@@ -6,7 +6,8 @@ use Rattle.si_words.specs.GateLines.{sum_fault}
 use Rattle.si_words.specs.Reads.{words_now, parts_now}
 use Rattle.si_words.specs.Sums.{is_cube}
 use Rattle.si_netlist_reader.specs.NetlistValue.{cube_of}
-use Rattle.si_netlist_reader.proofs.PartLemmas.{InParts, without_form, good_part, bad_part, reads_fault, reads_value, part_within, part_at, all_good, all_bad}
+use Rattle.si_netlist_reader.proofs.PartLemmas.{InParts, without_form, good_part, bad_part, reads_fault, reads_value}
+use Rattle.si_netlist_reader.proofs.PartLemmas.{part_within, part_at, all_good, all_bad}
 use Rattle.si_netlist_reader.proofs.SumReading.{sum_form, sum_by_cubes, sum_value_is}
 use Rattle.si_netlist_reader.proofs.gate_reader.read_sum.Goals as goal
 

@@ -1,6 +1,7 @@
 use Rattle.std.proofs.Common.{◌∙◌, []}
 use Rattle.std.proofs.lemmas.Result.{err_from_is_err_and}
-use Rattle.si_netlist_reader.proofs.ReaderLemmas.{opens, begins, failed, to1, to2, to3, to4, to5, parts_are, makes, rest1, rest2, rest3}
+use Rattle.si_netlist_reader.proofs.ReaderLemmas.{opens, begins, failed, to1, to2, to3, to4, to5, parts_are, makes}
+use Rattle.si_netlist_reader.proofs.ReaderLemmas.{rest1, rest2, rest3}
 use Rattle.si_netlist_reader.proofs.reader.read_netlist.Goals as goal
 
 pub returns-in_err-header : goal.returns-in_err-header

@@ -1,9 +1,11 @@
-use Rattle.std.proofs.Common.{◌≡◌, ℕ, ◌≤◌, ◌++◌, ◌∷◌, ◌∙◌, List, [], Bool, get_or, true, false, IsTrue, arith, ap, sym, refl}
+use Rattle.std.proofs.Common.{◌≡◌, ℕ, ◌≤◌, ◌++◌, ◌∷◌, ◌∙◌, List, [], Bool, get_or, true, false, IsTrue, arith, ap, sym}
+use Rattle.std.proofs.Common.{refl}
 use Rattle.std.proofs.lemmas.Bool.{true≢false}
 use Rattle.std.proofs.lemmas.List.{length-replicate}
 use Rattle.si_base.specs.Graph.{StateGraph, enables, event_place}
 use Rattle.si_graph.specs.Reach.{IsIn}
-use Rattle.si_regions.proofs.RegionLemmas.{done_none, regions_pass, regions_more, done_more, regions_event, enables_within}
+use Rattle.si_regions.proofs.RegionLemmas.{done_none, regions_pass, regions_more, done_more, regions_event}
+use Rattle.si_regions.proofs.RegionLemmas.{enables_within}
 use Rattle.si_regions.proofs.StateLists.{all_below}
 use Rattle.si_regions.proofs.regions.add_regions.Goals as goal
 use Rattle.si_regions.proofs.regions.add_regions.Goals.{then-is_new+in_ok-region+in_ok-push, else-is_new}

@@ -3,7 +3,8 @@ use Rattle.si_base.specs.Graph.{StateGraph}
 use Rattle.si_base.specs.Codes.{CodedGraph}
 use Rattle.si_conflicts.specs.Conflicts.{HasConflicts}
 use Rattle.si_resolve.proofs.BlockListLemmas.{none_from_zero, none_without_room}
-use Rattle.si_resolve.proofs.best.best.Goals.{then-conflicts-eq0-via-then-conflicts-eq0, then-conflicts-eq0-via-else-conflicts-eq0+then-signals-ge-MAX_SIGNALS}
+use Rattle.si_resolve.proofs.best.best.Goals.{then-conflicts-eq0-via-then-conflicts-eq0}
+use Rattle.si_resolve.proofs.best.best.Goals.{then-conflicts-eq0-via-else-conflicts-eq0+then-signals-ge-MAX_SIGNALS}
 use Rattle.si_resolve.proofs.best.best.Goals as goal
 
 pub returns-then-conflicts-eq0 : goal.returns-then-conflicts-eq0

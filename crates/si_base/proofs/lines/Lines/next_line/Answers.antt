@@ -1,4 +1,5 @@
-use Rattle.std.proofs.Common.{◌≡◌, ℕ, ◌+◌, suc, ◌∷◌, [], List, length, sym, refl, min, drop, take, eqb, not, add-one, false}
+use Rattle.std.proofs.Common.{◌≡◌, ℕ, ◌+◌, suc, ◌∷◌, [], List, length, sym, refl, min, drop, take, eqb, not, add-one}
+use Rattle.std.proofs.Common.{false}
 use Rattle.std.specs.List.{enumerate_from, prefix_len}
 use Rattle.std.proofs.lemmas.List.{drop_min}
 use Rattle.si_base.specs.Lines.{lines_of}

@@ -3,7 +3,8 @@ use Rattle.std.proofs.lemmas.Bool.{true≢false}
 use Rattle.si_base.specs.Lines.{words_in}
 use Rattle.si_base.proofs.LineScans.{bad_byte, no_bad_byte, comment_at}
 use Rattle.si_base.proofs.lines.Words.of_clean.Goals as goal
-use Rattle.si_base.proofs.lines.Words.of_clean.Goals.{else-end-line-via-then-end-line+else-line-end-ne35, else-end-line-via-else-end-line}
+use Rattle.si_base.proofs.lines.Words.of_clean.Goals.{else-end-line-via-then-end-line+else-line-end-ne35}
+use Rattle.si_base.proofs.lines.Words.of_clean.Goals.{else-end-line-via-else-end-line}
 
 pub returns-then-line-end-ne35-clause-bad : goal.returns-then-line-end-ne35-clause-bad
 returns-then-line-end-ne35-clause-bad c = (

@@ -1,5 +1,6 @@
 use Rattle.std.proofs.Common.{◌≡◌, ◌<◌, ◌∙◌, ap, arith, length, get_or}
-use Rattle.si_graph.proofs.CutLemmas.{new_arcs, new_arcs_are, new_arcs_few, new_arcs_inside, place_read, start_within, made_is_cut, whole_is_cut, cut_connected}
+use Rattle.si_graph.proofs.CutLemmas.{new_arcs, new_arcs_are, new_arcs_few, new_arcs_inside, place_read, start_within}
+use Rattle.si_graph.proofs.CutLemmas.{made_is_cut, whole_is_cut, cut_connected}
 use Rattle.si_graph.proofs.graph.Graph.cut.Goals as goal
 
 pub returns-then-len-states-clause-cut : goal.returns-then-len-states-clause-cut

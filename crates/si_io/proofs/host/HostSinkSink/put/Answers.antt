@@ -13,7 +13,8 @@ loop-rest-preserved g c = record {
 
 pub returns-in_default-clause-part : goal.returns-in_default-clause-part
 returns-in_default-clause-part g c =
-    λ _. prefix_written _ _ _ _ _ _ _ c.loop-rest.invariant.parts c.loop-rest.invariant.written c.write_some.ensures.bytes
+    λ _. prefix_written _ _ _ _ _ _ _ c.loop-rest.invariant.parts c.loop-rest.invariant.written
+    c.write_some.ensures.bytes
 
 pub returns-in-Err-clause-part : goal.returns-in-Err-clause-part
 returns-in-Err-clause-part g c = λ _. prefix_kept _ _ _ _ _ _ c.loop-rest.invariant.parts c.loop-rest.invariant.written

@@ -1,7 +1,9 @@
-use Rattle.std.proofs.Common.{◌≡◌, ℕ, ◌==◌, List, Some, Bool, true, false, length, sym, ap, subst, ◌∙◌, refl, if◌then◌else◌, nat_lt}
+use Rattle.std.proofs.Common.{◌≡◌, ℕ, ◌==◌, List, Some, Bool, true, false, length, sym, ap, subst, ◌∙◌, refl}
+use Rattle.std.proofs.Common.{if◌then◌else◌, nat_lt}
 use Rattle.std.specs.List.{list_any}
 use Rattle.si_io.specs.Outside.{one_more}
-use Rattle.si_io.specs.Memory.{ShelfState, Loading, Exceeds, Gives, content_of, loading, loading_of, Answers, shelf_after, faults_after}
+use Rattle.si_io.specs.Memory.{ShelfState, Loading, Exceeds, Gives, content_of, loading, loading_of, Answers}
+use Rattle.si_io.specs.Memory.{shelf_after, faults_after}
 use Rattle.si_io.proofs.memory.MemShelfShelf.load.Goals as goal
 
 -- a call that isn't listed, on a name that is there

@@ -2,7 +2,8 @@ use Rattle.std.proofs.Common.{sym, ◌∙◌, arith}
 use Rattle.std.proofs.lemmas.Bool.{not-false, not-true}
 use Rattle.si_words.proofs.RowLemmas.{begins_row, another_row}
 use Rattle.si_words.proofs.rows.Rows.take_line.Goals as goal
-use Rattle.si_words.proofs.rows.Rows.take_line.Goals.{then-len-rest-via-then-len-rest, then-len-rest-via-else-len-rest+then-ne}
+use Rattle.si_words.proofs.rows.Rows.take_line.Goals.{then-len-rest-via-then-len-rest}
+use Rattle.si_words.proofs.rows.Rows.take_line.Goals.{then-len-rest-via-else-len-rest+then-ne}
 
 pub returns-then-len-rest-clause-is : goal.returns-then-len-rest-clause-is
 returns-then-len-rest-clause-is c =
