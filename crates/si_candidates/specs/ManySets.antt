@@ -1,4 +1,4 @@
--- Where a new signal may switch, said of many sets at once.
+-- (loop) Where a new signal may switch, said of many sets at once.
 use Rattle.std.specs.Prelude.{◌≡◌, ℕ, ◌+◌, ◌<◌, ◌↔◌, Bool, true, false, List, length}
 use Rattle.std.specs.List.{slice_index_or}
 use Rattle.si_base.specs.Bits.{bit}

@@ -1,4 +1,5 @@
--- On which side of a block each state lies, and how the sides of two blocks tell the classes.
+-- (loop) On which side of a block each state lies, and how the sides of two blocks tell the
+-- classes.
 use Rattle.std.specs.Prelude.{◌≡◌, ℕ, ◌<◌, ◌&&◌, ◌↔◌, not, Bool, true, false, List, length}
 use Rattle.std.specs.List.{slice_index_or}
 use Rattle.si_base.specs.Graph.{StateGraph}

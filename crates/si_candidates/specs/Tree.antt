@@ -1,4 +1,4 @@
--- A tree of arcs, from the start of a graph to each other state.
+-- (loop) A tree of arcs, from the start of a graph to each other state.
 use Rattle.std.specs.Prelude.{◌≡◌, ℕ, ◌<◌, ◌⊎◌, Bool, List, length}
 use Rattle.std.specs.List.{slice_index_or}
 use Rattle.si_base.specs.declared.ids.Event.{Event}

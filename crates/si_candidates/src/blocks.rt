@@ -6,7 +6,8 @@ ghost use Rattle.si_base.specs.Graph.{IsGraph};
 ghost use Rattle.si_base.specs.Limits.{max_signals};
 ghost use Rattle.si_closures.specs.WordSearch.{column};
 ghost use Rattle.si_regions.specs.Regions.{AreRegions};
-ghost use Rattle.si_candidates.specs.Adding.{with_block, with_blocks, AddsIntervalsFrom, AddsIntervals};
+ghost use Rattle.si_candidates.specs.Adding.{with_block, with_blocks, AddsIntervalsFrom};
+ghost use Rattle.si_candidates.specs.Adding.{AddsIntervals};
 ghost use Rattle.si_candidates.specs.Blocks.{AreBlocks, driven_events, marked, same_set};
 
 use crate::block::Block;

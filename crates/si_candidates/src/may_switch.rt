@@ -1,6 +1,7 @@
 //! Where a new signal may switch: 128 blocks in one pass over the arcs.
 
-ghost use Rattle.std.specs.Prelude.{◌≡◌, ℕ, ◌+◌, ◌<◌, ◌≤◌, ◌↔◌, ◌⊎◌, true, IfOk, OnOk, All, Contains, length, replicate};
+ghost use Rattle.std.specs.Prelude.{◌≡◌, ℕ, ◌+◌, ◌<◌, ◌≤◌, ◌↔◌, ◌⊎◌, true, IfOk, OnOk, All};
+ghost use Rattle.std.specs.Prelude.{Contains, length, replicate};
 ghost use Rattle.si_base.specs.Bits.{bit};
 ghost use Rattle.si_base.specs.Codes.{IsDeterministic};
 ghost use Rattle.si_base.specs.Graph.{IsGraph};

@@ -1,4 +1,4 @@
--- The conflicts that an insertion leaves.
+-- (field) The conflicts that an insertion leaves.
 use Rattle.std.specs.Prelude.{ℕ, Bool, true, false, not, List}
 use Rattle.si_base.specs.declared.graph.Signal.{Signal}
 use Rattle.si_base.specs.Graph.{StateGraph}

@@ -1,6 +1,10 @@
 //! The laws of the partition for an instance, as contracts of functions that do nothing.
 
-ghost use Rattle.si_divisor.specs.Laws.{RulesAreAcceptance, PartitionsAreLawful, PartitionsAreAccepted, PartitionsAreLeast, PartitionsAreUnique, ReasonsAreUnique, ReasonsExclude, PartitionsExist, InstancesAreUnate, InstancesFit, NewSignalFits, FunctionsDecide};
+ghost use Rattle.si_divisor.specs.Laws.{RulesAreAcceptance, PartitionsAreLawful};
+ghost use Rattle.si_divisor.specs.Laws.{PartitionsAreAccepted, PartitionsAreLeast};
+ghost use Rattle.si_divisor.specs.Laws.{PartitionsAreUnique, ReasonsAreUnique, ReasonsExclude};
+ghost use Rattle.si_divisor.specs.Laws.{PartitionsExist, InstancesAreUnate, InstancesFit};
+ghost use Rattle.si_divisor.specs.Laws.{NewSignalFits, FunctionsDecide};
 
 /// The rules are what acceptance asks, so a partition is accepted unless it is too large, and no
 /// accepted one with the same targets switches at fewer states.

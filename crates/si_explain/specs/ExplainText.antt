@@ -1,4 +1,4 @@
--- The text that explains the first conflicts of a graph.
+-- (text) The text that explains the first conflicts of a graph.
 use Rattle.std.specs.Prelude.{◌≡◌, ℕ, ◌==◌, List, [], ◌∷◌, ◌++◌, map, filter, flat_map, Contains}
 use Rattle.std.specs.Prelude.{codes, decimal, Option, Some, None}
 use Rattle.si_base.specs.declared.ids.Event.{Event}

@@ -1,4 +1,4 @@
--- The laws of the text that explains conflicts, one word each.
+-- (law) The laws of the text that explains conflicts, one word each.
 use Rattle.std.specs.Prelude.{◌≡◌, List, ℕ, Some, None}
 use Rattle.si_base.specs.Codes.{CodedGraph, IsCoded}
 use Rattle.si_base.specs.Proper.{IsConflict}

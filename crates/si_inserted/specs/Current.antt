@@ -1,5 +1,5 @@
--- The current graph of a lineage as a given graph: its inserted signals are internal ones, and its
--- states have names that a text of a graph may have.
+-- (text) The current graph of a lineage as a given graph: its inserted signals are internal ones,
+-- and its states have names that a text of a graph may have.
 use Rattle.std.specs.Prelude.{ℕ, ◌==◌, List, [], map, if◌then◌else◌}
 use Rattle.std.specs.List.{range_with_len}
 use Rattle.si_base.specs.declared.graph.Signal.{Signal}

@@ -1,4 +1,4 @@
--- The laws of current graphs as given ones, one word each.
+-- (law) The laws of current graphs as given ones, one word each.
 use Rattle.std.specs.Prelude.{◌≡◌, ◌≢◌, ℕ, ◌≤◌, List, length, AllPairs}
 use Rattle.si_base.specs.Codes.{CodedGraph, IsCoded}
 use Rattle.si_base.specs.Limits.{max_arcs_read}

@@ -1,5 +1,6 @@
 -- What an insertion keeps of the fits of signals none of whose arcs waits.
-use Rattle.std.proofs.Common.{◌≡◌, ℕ, ◌+◌, ◌<◌, ◌&&◌, ◌||◌, ◌++◌, ◌∷◌, not, Bool, true, false, [], List, length, map, All, slice_get, Some, None}
+use Rattle.std.proofs.Common.{◌≡◌, ℕ, ◌+◌, ◌<◌, ◌&&◌, ◌||◌, ◌++◌, ◌∷◌, not, Bool, true, false, [], List, length, map}
+use Rattle.std.proofs.Common.{All, slice_get, Some, None}
 use Rattle.std.proofs.Common.{refl, sym, ap, subst, ◌∙◌, arith, inl, inr, length-append, ◌≢◌, Option, is_some}
 use Rattle.std.proofs.lemmas.List.Elements.{recursion_from_All}
 use Rattle.si_base.specs.Bits.{bit, IsSet}

@@ -1,4 +1,4 @@
--- What a search for the best divisor keeps.
+-- (loop) What a search for the best divisor keeps.
 use Rattle.std.specs.Prelude.{◌≡◌, ℕ, ◌+◌, ◌<◌, ◌≤◌, ◌⊎◌, List, [], ◌∷◌, ◌++◌, All, Contains}
 use Rattle.std.specs.Prelude.{IsTrue, Option, Some, None, IfSome, is_some}
 use Rattle.std.specs.BTreeSet.{BTreeSet, contains}

@@ -1,4 +1,4 @@
--- Signals that never wait for a new one.
+-- (loop) Signals that never wait for a new one.
 use Rattle.std.specs.Prelude.{◌≡◌, ℕ, Bool, false, List}
 use Rattle.si_base.specs.declared.graph.Edge.{Edge}
 use Rattle.si_base.specs.declared.ids.Event.{Event}

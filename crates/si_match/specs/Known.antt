@@ -1,4 +1,4 @@
--- What is known of the fits of signals before an instance is looked for.
+-- (loop) What is known of the fits of signals before an instance is looked for.
 use Rattle.std.specs.Prelude.{◌≡◌, ℕ, Bool, true, false}
 use Rattle.si_base.specs.Bits.{bit}
 use Rattle.si_base.specs.Codes.{CodedGraph}

@@ -1,4 +1,4 @@
--- The search for literals, pin after pin.
+-- (loop) The search for literals, pin after pin.
 use Rattle.std.specs.Prelude.{◌≡◌, ℕ, ◌<◌, ◌≤◌, ◌++◌, false, List, Option, length, All}
 use Rattle.si_base.specs.Bits.{bit}
 use Rattle.si_base.specs.Codes.{CodedGraph}

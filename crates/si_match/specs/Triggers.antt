@@ -1,5 +1,5 @@
--- The trigger signals of a signal (the book): those whose switching changes its next value, so that
--- each of its gates has to read them.
+-- (field) The trigger signals of a signal (the book): those whose switching changes its next value,
+-- so that each of its gates has to read them.
 use Rattle.std.specs.Prelude.{◌≡◌, ◌≢◌, ℕ, ◌<◌, true, false, List, All, length}
 use Rattle.si_base.specs.Bits.{bit}
 use Rattle.si_base.specs.Codes.{CodedGraph, next_value}

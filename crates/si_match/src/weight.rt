@@ -1,6 +1,7 @@
 //! The weight of a graph for a library.
 
-ghost use Rattle.std.specs.Prelude.{◌≡◌, ℕ, ◌<◌, ◌≤◌, ◌+◌, IfOk, IfSome, IfNone, length, if◌then◌else◌, is_none, is_some};
+ghost use Rattle.std.specs.Prelude.{◌≡◌, ℕ, ◌<◌, ◌≤◌, ◌+◌, IfOk, IfSome, IfNone, length};
+ghost use Rattle.std.specs.Prelude.{if◌then◌else◌, is_none, is_some};
 ghost use Rattle.si_base.specs.Codes.{IsCoded};
 ghost use Rattle.si_base.specs.Graph.{IsNonInput};
 ghost use Rattle.si_base.specs.Limits.{code_width};

@@ -1,4 +1,4 @@
--- The code of a state as it is printed, and the events that a state enables.
+-- (text) The code of a state as it is printed, and the events that a state enables.
 use Rattle.std.specs.Prelude.{ℕ, ◌||◌, Bool, List, [], ◌∷◌, ◌++◌, length, flat_map}
 use Rattle.std.specs.Prelude.{if◌then◌else◌}
 use Rattle.std.specs.List.{range_with_len}

@@ -1,6 +1,7 @@
--- A grammar of a part of Graphviz's language DOT: directed graphs of nodes, edges and settings of
--- the graph, each with labels as the values of its attributes. What it accepts, Graphviz reads with
--- the same meaning (The DOT Language, and `escString` among its attribute types).
+-- (text) A grammar of a part of Graphviz's language DOT: directed graphs of nodes, edges and
+-- settings of the graph, each with labels as the values of its attributes. What it accepts,
+-- Graphviz reads with the same meaning (The DOT Language, and `escString` among its attribute
+-- types).
 use Rattle.std.specs.Prelude.{◌≡◌, ℕ, List, [], ◌∷◌, ◌++◌, flat_map, codes}
 use Rattle.si_base.specs.Bytes.{opening_bracket, closing_bracket, opening_brace, closing_brace}
 use Rattle.si_pictures.specs.Tokens.{Token, Id, Keyword, Quoted, Arrow, Mark, tokens_of}

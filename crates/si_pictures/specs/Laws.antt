@@ -1,4 +1,4 @@
--- The laws of pictures, one word each.
+-- (law) The laws of pictures, one word each.
 use Rattle.std.specs.Prelude.{◌≡◌, ℕ, ◌↔◌, List}
 use Rattle.si_base.specs.Codes.{CodedGraph, IsCoded}
 use Rattle.si_conflicts.specs.Conflicts.{AreConflicts}

@@ -1,4 +1,4 @@
--- One state for each code, and which codes have a conflict.
+-- (loop) One state for each code, and which codes have a conflict.
 use Rattle.std.specs.Prelude.{◌≡◌, ◌≢◌, ℕ, ◌<◌, ◌↔◌, Bool, false, List, length, IsTrue, Some}
 use Rattle.std.specs.Prelude.{Option, slice_index, slice_index_or}
 use Rattle.si_base.specs.Codes.{CodedGraph, code}

@@ -1,4 +1,4 @@
--- The text of the states of a graph: a line for each.
+-- (text) The text of the states of a graph: a line for each.
 use Rattle.std.specs.Prelude.{ℕ, List, ◌∷◌, ◌++◌, map, flat_map, codes}
 use Rattle.si_base.specs.Codes.{CodedGraph}
 use Rattle.si_base.specs.Words.{line}

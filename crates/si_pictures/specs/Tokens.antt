@@ -1,5 +1,5 @@
--- The tokens that Graphviz reads the bytes of a text in its language DOT as. A part of the language
--- is enough: what isn't in it is read as `Unread`, which no text of the grammar has.
+-- (text) The tokens that Graphviz reads the bytes of a text in its language DOT as. A part of the
+-- language is enough: what isn't in it is read as `Unread`, which no text of the grammar has.
 use Rattle.std.specs.Prelude.{ℕ, ◌+◌, ◌==◌, ◌||◌, Bool, false, List, [], ◌∷◌, ◌++◌, map}
 use Rattle.std.specs.Prelude.{codes, bytes_eq, if◌then◌else◌}
 use Rattle.std.specs.List.{list_all, list_any}

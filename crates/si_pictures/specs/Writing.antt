@@ -1,4 +1,4 @@
--- Statements as they are written.
+-- (text) Statements as they are written.
 use Rattle.std.specs.Prelude.{ℕ, ◌==◌, List, [], ◌∷◌, ◌++◌, flat_map, codes, if◌then◌else◌}
 use Rattle.si_base.specs.Bytes.{line_feed}
 use Rattle.si_pictures.specs.Grammar.{Attribute, Statement, Setting, Node, Link}

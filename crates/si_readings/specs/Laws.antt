@@ -1,4 +1,4 @@
--- What laws say of a stage.
+-- (law) What laws say of a stage.
 use Rattle.std.specs.Prelude.{◌≡◌, Result}
 use Rattle.si_refusals.specs.Stages.{Stage}
 

@@ -1,4 +1,4 @@
--- How a block lies to the states of a conflict, and which conflicts two blocks part.
+-- (loop) How a block lies to the states of a conflict, and which conflicts two blocks part.
 use Rattle.std.specs.Prelude.{◌≡◌, ◌<◌, ℕ, ◌+◌, Bool, true, false, List, [], ◌∷◌, length, map}
 use Rattle.std.specs.Prelude.{All, if◌then◌else◌}
 use Rattle.std.specs.List.{slice_index_or}

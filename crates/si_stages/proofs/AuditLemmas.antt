@@ -38,7 +38,8 @@ use Rattle.si_readings.specs.Laws.{AtMostOne, HasResult}
 use Rattle.si_stages.specs.Meaning.{audit}
 use Rattle.si_readings.specs.Readings.{AuditReadings}
 use Rattle.si_readings.proofs.CheckLemmas.{proper_one, match_lists_one}
-use Rattle.si_readings.proofs.ReadingLemmas.{AreAuditReadings, audit_readings_are, audit_readings_one, audit_readings_some}
+use Rattle.si_readings.proofs.ReadingLemmas.{AreAuditReadings, audit_readings_are, audit_readings_one}
+use Rattle.si_readings.proofs.ReadingLemmas.{audit_readings_some}
 use Rattle.si_readings.proofs.GivenNames.{as_many_names}
 use Rattle.si_readings.proofs.SomeLemmas.{match_lists_some, proper_some}
 use Rattle.si_readings.proofs.StageLemmas.{passed, then_one, then_some}

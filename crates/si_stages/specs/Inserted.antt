@@ -1,5 +1,5 @@
--- What `resolve` and `insert` mean over the texts of their files: the graph after the insertions
--- that resolve its conflicts, or after those of a netlist, as a text.
+-- (command) What `resolve` and `insert` mean over the texts of their files: the graph after the
+-- insertions that resolve its conflicts, or after those of a netlist, as a text.
 use Rattle.std.specs.Prelude.{◌≡◌, ℕ, List, Ok, Err}
 use Rattle.si_audit.specs.Audit.{TakesAll, begun}
 use Rattle.si_audit.specs.Faults.{ShowsRejection}

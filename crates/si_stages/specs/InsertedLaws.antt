@@ -1,4 +1,4 @@
--- What laws say of the texts of graphs after insertions.
+-- (law) What laws say of the texts of graphs after insertions.
 use Rattle.std.specs.Prelude.{◌≡◌, ℕ, ◌≤◌, ◌↔◌, List, length, Ok, Err}
 use Rattle.si_base.specs.GivenGraph.{Sg}
 use Rattle.si_base.specs.Limits.{max_arcs_read}

@@ -1,4 +1,4 @@
--- What laws say of the commands over texts.
+-- (law) What laws say of the commands over texts.
 use Rattle.std.specs.Prelude.{◌≡◌, ℕ, ◌⊎◌, List, Ok, Err, None}
 use Rattle.si_base.specs.Codes.{CodedGraph}
 use Rattle.si_base.specs.GivenGraph.{Sg}

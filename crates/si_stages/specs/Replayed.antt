@@ -1,4 +1,4 @@
--- What is told of a schedule that is replayed, over a netlist beside a graph.
+-- (command) What is told of a schedule that is replayed, over a netlist beside a graph.
 use Rattle.std.specs.Prelude.{◌≡◌, ℕ, List, [], ◌∷◌, length, codes, decimal}
 use Rattle.std.specs.Prelude.{Some, slice_get, Ok, Err}
 use Rattle.si_base.specs.declared.ids.Event.{Event}

@@ -1,4 +1,4 @@
--- What commands come to where input events join a conflict of the graph.
+-- (law) What commands come to where input events join a conflict of the graph.
 use Rattle.std.specs.Prelude.{◌≡◌, ℕ, List, Ok, Err}
 use Rattle.si_base.specs.Codes.{CodedGraph}
 use Rattle.si_base.specs.GivenGraph.{Sg}

@@ -8,7 +8,8 @@ use Rattle.si_tool.specs.Loads.{Contents, Counts, loads, load_well, loads_well, 
 use Rattle.si_tool.specs.Meaning.{meaning, ComesTo}
 use Rattle.si_refusals.specs.Refusal.{TextRefusal, ReadFault, Answer, Output, FileRefused, TextRefused}
 use Rattle.si_tool.specs.declared.command.Task.{Task}
-use Rattle.si_tool.specs.declared.command.Task.TheVariants.{About, Tell, Synth, Map, FromGenlib, Verilog, Replay, Audit, Exercise}
+use Rattle.si_tool.specs.declared.command.Task.TheVariants.{About, Tell, Synth, Map, FromGenlib, Verilog, Replay, Audit}
+use Rattle.si_tool.specs.declared.command.Task.TheVariants.{Exercise}
 use Rattle.si_tool.specs.declared.command.Task.TheVariants.{Resolve, Insert}
 use Rattle.si_readings.specs.Laws.{AtMostOne, HasResult}
 use Rattle.si_readings.specs.declared.library_format.LibraryFormat.TheVariants.{Own, Genlib}

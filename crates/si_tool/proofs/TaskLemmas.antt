@@ -10,7 +10,8 @@ use Rattle.si_tool.specs.declared.about.Topic.TheVariants.{Help, Version}
 use Rattle.si_tool.specs.declared.command.HandshakeCount.{HandshakeCount}
 use Rattle.si_tool.specs.declared.command.HandshakeCount.TheVariants.{One, Two, Three, Four, Five, Six, Seven, Eight}
 use Rattle.si_tool.specs.declared.command.Task.{Task}
-use Rattle.si_tool.specs.declared.command.Task.TheVariants.{About, Tell, Synth, Map, FromGenlib, Verilog, Replay, Audit, Exercise}
+use Rattle.si_tool.specs.declared.command.Task.TheVariants.{About, Tell, Synth, Map, FromGenlib, Verilog, Replay, Audit}
+use Rattle.si_tool.specs.declared.command.Task.TheVariants.{Exercise}
 use Rattle.si_tool.specs.declared.command.Task.TheVariants.{Resolve, Insert}
 use Rattle.si_tool.specs.declared.command.TheConstants.{TASKS}
 use Rattle.si_readings.specs.declared.library_format.LibraryFormat.{LibraryFormat}

@@ -189,7 +189,11 @@ fn files_for<'w>(
         }
         Task::Audit => files_in(alloc, words, &[Slot::Word("audit"), Slot::File, Slot::File]),
         Task::Resolve => files_in(alloc, words, &[Slot::Word("resolve"), Slot::File]),
-        Task::Insert => files_in(alloc, words, &[Slot::Word("insert"), Slot::File, Slot::File]),
+        Task::Insert => files_in(
+            alloc,
+            words,
+            &[Slot::Word("insert"), Slot::File, Slot::File],
+        ),
         Task::Exercise(count) => {
             files_in(
                 alloc,

@@ -1,4 +1,4 @@
--- How many arcs lead from states to a target.
+-- (field) How many arcs lead from states to a target.
 use Rattle.std.specs.Prelude.{◌≡◌, ℕ, ◌+◌, ◌<◌, ◌≤◌, ◌⊎◌, List, length, Contains, Option, Some}
 use Rattle.std.specs.Prelude.{None, slice_index_or}
 use Rattle.si_base.specs.declared.ids.Event.{Event}

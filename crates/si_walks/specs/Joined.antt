@@ -1,4 +1,5 @@
--- Conflicts whose states input events join: no insertion that delays no input resolves them.
+-- (field) Conflicts whose states input events join: no insertion that delays no input resolves
+-- them.
 use Rattle.std.specs.Prelude.{◌≡◌, ℕ, ◌+◌, ◌⊎◌, List, [], ◌∷◌, length, Option, Some, None}
 use Rattle.si_base.specs.declared.ids.Event.{Event}
 use Rattle.si_base.specs.Codes.{CodedGraph}

@@ -1,4 +1,4 @@
--- The laws of conflicts whose states input events join, one word each.
+-- (law) The laws of conflicts whose states input events join, one word each.
 use Rattle.std.specs.Prelude.{ℕ, ◌⊎◌, List}
 use Rattle.si_base.specs.Codes.{CodedGraph, IsCoded}
 use Rattle.si_base.specs.Proper.{IsConflict, HasNoConflict}

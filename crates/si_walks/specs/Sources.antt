@@ -1,4 +1,4 @@
--- Of the states from which two targets can be reached the first.
+-- (loop) Of the states from which two targets can be reached the first.
 use Rattle.std.specs.Prelude.{◌≡◌, ℕ, ◌+◌, ◌<◌, ◌≤◌, ◌⊎◌, List, Option, Some, None}
 use Rattle.si_walks.specs.Distances.{at}
 

@@ -1,4 +1,4 @@
--- Walks along all arcs or along those of inputs alone, and the first of them.
+-- (field) Walks along all arcs or along those of inputs alone, and the first of them.
 use Rattle.std.specs.Prelude.{◌≡◌, ℕ, List, [], ◌∷◌, length, map}
 use Rattle.si_base.specs.declared.ids.Event.{Event}
 use Rattle.si_base.specs.Graph.{StateGraph, Step, event_place}

@@ -1,4 +1,4 @@
--- Value Change Dumps of wires of one bit, and their text (IEEE 1364-2005, clause 18).
+-- (text) Value Change Dumps of wires of one bit, and their text (IEEE 1364-2005, clause 18).
 use Rattle.std.specs.Prelude.{ℕ, Bool, List, [], ◌∷◌, ◌++◌, map, flat_map, codes, decimal}
 use Rattle.std.specs.Prelude.{if◌then◌else◌}
 use Rattle.si_base.specs.Bytes.{hash, digit_zero, digit_one}

@@ -1,4 +1,5 @@
--- What a reader of a text sees: the dump that its words spell, and the value of a wire at a time.
+-- (text) What a reader of a text sees: the dump that its words spell, and the value of a wire at a
+-- time.
 use Rattle.std.specs.Prelude.{◌≡◌, ℕ, ◌<◌, ◌≤◌, ◌==◌, ◌^◌, Bool, false, List, [], ◌∷◌, ◌++◌}
 use Rattle.std.specs.Prelude.{All, length, take, filter, flat_map, bytes_eq, nat_le, nat_lt}
 use Rattle.std.specs.Prelude.{if◌then◌else◌}

@@ -1,4 +1,4 @@
--- Events of a netlist's signals as a Value Change Dump: one unit of time for each event.
+-- (text) Events of a netlist's signals as a Value Change Dump: one unit of time for each event.
 use Rattle.std.specs.Prelude.{ℕ, ◌+◌, ◌-◌, ◌==◌, ◌||◌, Bool, List, [], ◌∷◌, ◌++◌, nat_lt}
 use Rattle.std.specs.Prelude.{if◌then◌else◌}
 use Rattle.si_base.specs.declared.graph.Signal.{Signal}

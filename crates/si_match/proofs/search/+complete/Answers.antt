@@ -1,4 +1,5 @@
-use Rattle.std.proofs.Common.{◌≡◌, ℕ, ◌<◌, ◌==◌, ◌+◌, ◌++◌, ◌-◌, ◌/◌, ◌%◌, ◌∙◌, ap, arith, false, length, rules, refl, subst, sym, List, [], ◌∷◌}
+use Rattle.std.proofs.Common.{◌≡◌, ℕ, ◌<◌, ◌==◌, ◌+◌, ◌++◌, ◌-◌, ◌/◌, ◌%◌, ◌∙◌, ap, arith, false, length, rules, refl}
+use Rattle.std.proofs.Common.{subst, sym, List, [], ◌∷◌}
 use Rattle.std.proofs.lemmas.List.{length_push}
 use Rattle.std.proofs.lemmas.List.Elements.{All-push}
 use Rattle.si_base.specs.Bits.{bit}

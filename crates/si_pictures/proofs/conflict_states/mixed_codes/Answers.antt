@@ -1,4 +1,5 @@
-use Rattle.std.proofs.Common.{◌≡◌, ◌<◌, ◌==◌, ◌∙◌, not, ap, ap₂, sym, subst, arith, true, Bool, List, length, set, length-set}
+use Rattle.std.proofs.Common.{◌≡◌, ◌<◌, ◌==◌, ◌∙◌, not, ap, ap₂, sym, subst, arith, true, Bool, List, length, set}
+use Rattle.std.proofs.Common.{length-set}
 use Rattle.std.proofs.Common.{get_or}
 use Rattle.std.proofs.lemmas.List.{get_or_default}
 use Rattle.si_base.specs.Graph.{StateGraph}
