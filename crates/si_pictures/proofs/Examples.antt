@@ -1,16 +1,14 @@
 -- Pictures of a small graph, as texts; strings that hold quotes, backslashes and `&`; and texts that aren't read.
-use Rattle.std.proofs.Common.{◌≡◌, ℕ, Bool, true, false, List, [], ◌∷◌, ◌++◌, flat_map, refl, codes, lit<}
+use Rattle.std.proofs.Common.{◌≡◌, ℕ, true, false, List, [], ◌∷◌, ◌++◌, flat_map, refl, codes, lit<}
 use Rattle.std.proofs.lemmas.Fmt.{decimal_digit}
-use Rattle.si_base.specs.declared.graph.Signal.{Signal}
 use Rattle.si_base.specs.declared.graph.SigKind.TheVariants.{Input, Output}
 use Rattle.si_base.specs.Codes.{CodedGraph}
-use Rattle.si_base.specs.Graph.{arc, rise, fall}
+use Rattle.si_base.specs.Graph.{arc, rise}
 use Rattle.si_pictures.specs.CodeWord.{code_word}
-use Rattle.si_pictures.specs.Grammar.{Attribute, Node, Link, IsReadAs}
 use Rattle.si_pictures.specs.InConflict.{is_among}
 use Rattle.si_pictures.specs.Picture.{picture}
 use Rattle.si_pictures.specs.StatesText.{states_text}
-use Rattle.si_pictures.specs.Tokens.{Token, Id, Keyword, Quoted, Mark, Unread, tokens_of}
+use Rattle.si_pictures.specs.Tokens.{Id, Keyword, Quoted, Mark, Unread, tokens_of}
 use Rattle.si_pictures.specs.Writing.{escaped, dot_text}
 
 -- ---- the input `a` rises, then the output `z`
@@ -42,7 +40,8 @@ drawn = rw (decimal_digit 0 (lit< tt), decimal_digit 1 (lit< tt), decimal_digit 
 all_escaped : flat_map escaped (codes "a\"b\\&\n") ≡ codes "a\\\"b\\\\&amp;\\n"
 all_escaped = refl
 
-shown : tokens_of (codes "x=\"a\\\"b\\\\&amp;\\n\";") ≡ Id (codes "x") ∷ Mark 61 ∷ Quoted (codes "a\"b\\&\n") ∷ Mark 59 ∷ []
+shown : tokens_of (codes "x=\"a\\\"b\\\\&amp;\\n\";")
+    ≡ Id (codes "x") ∷ Mark 61 ∷ Quoted (codes "a\"b\\&\n") ∷ Mark 59 ∷ []
 unfolding tokens_of
 shown = refl
 

@@ -1,7 +1,7 @@
 -- A state is in a conflict just where some state of its code differs from the one that is chosen for the code.
 use Rattle.std.proofs.Common.{◌≡◌, ◌≢◌, ℕ, ◌+◌, ◌<◌, ◌==◌, not, ◌↔◌, Bool, true, false}
-use Rattle.std.proofs.Common.{List, [], ◌∷◌, ◌++◌, length, get_or, set, get_or-set_same, get_or-set_other, IsTrue}
-use Rattle.std.proofs.Common.{eqb-true, eq-eqb}
+use Rattle.std.proofs.Common.{List, [], ◌∷◌, ◌++◌, length, get_or}
+use Rattle.std.proofs.Common.{set, get_or-set_same, get_or-set_other, IsTrue, eqb-true, eq-eqb}
 use Rattle.std.proofs.Common.{Option, Some, None, unwrap_or, refl, sym, ap, subst, ◌∙◌, arith, inl, inr}
 use Rattle.std.proofs.lemmas.Bool.{cases_Bool, cases_eq, cases_order, true≢false}
 use Rattle.std.proofs.lemmas.List.{get_or_push, get_or_append_left}
@@ -18,7 +18,8 @@ pub one_more : {A : Type 0} (xs : List A) (x d : A) (f : ℕ → A) (k : ℕ) �
 one_more xs x d f k count each is s below = elim (cases_eq s k) [
   | inl same ↦ ap (λ i. get_or (xs ++ x ∷ []) i d) (same ∙ sym count) ∙ get_or_push xs x d (length xs) refl ∙ is
       ∙ ap f (sym same)
-  | inr other ↦ get_or_append_left xs (x ∷ []) d s (omega (arith, count, below, other)) ∙ each s (omega (arith, below, other))
+  | inr other ↦ get_or_append_left xs (x ∷ []) d s (omega (arith, count, below, other))
+      ∙ each s (omega (arith, below, other))
 ]
 
 -- ---- a state of each code
@@ -219,7 +220,8 @@ module _ (c : CodedGraph) (keys : List Key) (coded : IsCoded c) (are : AreKeys c
           let size = reps.count in
           let inside = reps.within s below in
           let mix_at = mix.each (chosen_at s) (omega (arith, size, inside)) in (
-            λ marked. (let found = mix_at.0 (subst IsTrue (each s below) marked) in to_conflict s found.0 below found.1),
+            λ marked. (
+                let found = mix_at.0 (subst IsTrue (each s below) marked) in to_conflict s found.0 below found.1),
             λ is. subst IsTrue (sym (each s below)) (mix_at.1 (from_conflict s below is)),
           ));
     }

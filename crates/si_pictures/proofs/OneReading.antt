@@ -3,8 +3,8 @@ use Rattle.std.proofs.Common.{◌≡◌, ℕ, List, [], ◌∷◌, ◌++◌, fla
 use Rattle.std.proofs.Common.{◌⊎◌, arith, drop, get_or, inl, inr}
 use Rattle.si_pictures.specs.Tokens.{Token, Id, Keyword, Quoted, Arrow, Mark, Unread}
 use Rattle.si_pictures.specs.Grammar.{Attribute, Statement, Setting, Node, Link}
-use Rattle.si_pictures.specs.Grammar.{attribute_tokens, later_tokens, list_tokens, statement_tokens, graph_tokens}
-use Rattle.si_pictures.specs.Grammar.{IsReadAs}
+use Rattle.si_pictures.specs.Grammar.{attribute_tokens, later_tokens, list_tokens}
+use Rattle.si_pictures.specs.Grammar.{statement_tokens, graph_tokens, IsReadAs}
 
 -- ---- what a token is
 

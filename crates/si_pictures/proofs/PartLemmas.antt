@@ -1,6 +1,6 @@
 -- What a writer of many parts has still to add, a part at a time.
-use Rattle.std.proofs.Common.{◌≡◌, ℕ, suc, ◌+◌, ◌-◌, ◌<◌, ◌≤◌, List, [], ◌∷◌, ◌++◌, flat_map, map, drop, length, get_or}
-use Rattle.std.proofs.Common.{refl}
+use Rattle.std.proofs.Common.{◌≡◌, ℕ, suc, ◌+◌, ◌-◌, ◌<◌, ◌≤◌, List, []}
+use Rattle.std.proofs.Common.{◌∷◌, ◌++◌, flat_map, map, drop, length, get_or, refl}
 use Rattle.std.proofs.Common.{sym, ap, ap₂, zero, ◌∙◌, add-one, append_assoc, arith}
 use Rattle.std.specs.List.{range_with_len}
 use Rattle.std.proofs.Math.Seq.{drop-cons}
@@ -36,7 +36,8 @@ parts_done part n k text old all so_far =
 pub same_parts : {A : Type 0} (f g : ℕ → A) (n : ℕ) → ((k : ℕ) → k < n → f k ≡ g k) → map f (first n) ≡ map g (first n)
 same_parts f g n same = from 0 n (λ k low high. same k (omega (arith, high)))
   where
-    from : (a m : ℕ) → ((k : ℕ) → a ≤ k → k < a + m → f k ≡ g k) → map f (range_with_len a m) ≡ map g (range_with_len a m)
+    from : (a m : ℕ) → ((k : ℕ) → a ≤ k → k < a + m → f k ≡ g k)
+        → map f (range_with_len a m) ≡ map g (range_with_len a m)
     from a zero agree = refl
     from a (suc m) agree =
         ap₂ (λ x xs. x ∷ xs) (agree a (omega arith) (omega arith))

@@ -62,7 +62,8 @@ is_identifier [] = false
 is_identifier (b ∷ bs) = is_letter b
 
 abbrev pub in_small_letters : List ℕ → List ℕ
-in_small_letters word = map (λ b. if is_between first_capital last_capital b then b + 32 else b) word
+in_small_letters word =
+    map (λ b. if is_between first_capital last_capital b then b + 32 else b) word
 
 abbrev pub keywords : List (List ℕ)
 keywords = codes "node" ∷ codes "edge" ∷ codes "graph" ∷ codes "digraph" ∷ codes "subgraph"

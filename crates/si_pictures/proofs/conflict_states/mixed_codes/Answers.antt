@@ -1,5 +1,5 @@
-use Rattle.std.proofs.Common.{◌≡◌, ◌<◌, ◌==◌, ◌∙◌, not, ap, ap₂, sym, subst, arith, true, Bool, List, length, set}
-use Rattle.std.proofs.Common.{length-set}
+use Rattle.std.proofs.Common.{◌≡◌, ◌<◌, ◌==◌, ◌∙◌, not, ap, ap₂, sym}
+use Rattle.std.proofs.Common.{subst, arith, true, Bool, List, length, set, length-set}
 use Rattle.std.proofs.Common.{get_or}
 use Rattle.std.proofs.lemmas.List.{get_or_default}
 use Rattle.si_base.specs.Graph.{StateGraph}
@@ -30,15 +30,15 @@ loop-k-preserved c =
           record {
             most = omega (arith, within);
             count = ap (λ (l : List Bool). length l) items ∙ length-set c.loop-k.mixed.items r true ∙ count;
-            each = rw items (mixed_more c.args.keys.now c.args.chosen.now k r d.graph.states c.loop-k.mixed.items inside at
-                below count c.loop-k.invariant.each (apart_from _ _ c.ne.result differ w.if-ne.true));
+            each = rw items (mixed_more c.args.keys.now c.args.chosen.now k r d.graph.states c.loop-k.mixed.items inside
+                at below count c.loop-k.invariant.each (apart_from _ _ c.ne.result differ w.if-ne.true));
           })
       | else-ne w ↦ (
           let items : c.if-ne.mixed.items ≡ c.loop-k.mixed.items = ap (λ v. v.items) w.mixed-is in
           record {
             most = omega (arith, within);
             count = ap (λ (l : List Bool). length l) items ∙ count;
-            each = rw items (mixed_pass c.args.keys.now c.args.chosen.now k r d.graph.states c.loop-k.mixed.items inside at
-                below count c.loop-k.invariant.each (same_from _ _ c.ne.result differ w.if-ne.false));
+            each = rw items (mixed_pass c.args.keys.now c.args.chosen.now k r d.graph.states c.loop-k.mixed.items inside
+                at below count c.loop-k.invariant.each (same_from _ _ c.ne.result differ w.if-ne.false));
           })
     ]

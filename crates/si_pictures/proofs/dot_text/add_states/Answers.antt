@@ -19,7 +19,7 @@ returns c =
     let d = c.args.graph.now in
     let states = c.states-k-end.ensures ∙ ap (λ (g : StateGraph). g.states) c.graph.ensures.same in
     let all : d.graph.states ≤ c.loop-k.k = omega (arith, c.loop-k-test.false, states) in
-    parts_done (node_at d c.args.states.now c.args.marks.now) d.graph.states c.loop-k.k c.loop-k.text c.args.text.now all
-    c.loop-k.invariant
+    parts_done (node_at d c.args.states.now c.args.marks.now) d.graph.states c.loop-k.k c.loop-k.text
+    c.args.text.now all c.loop-k.invariant
     ∙ ap (λ (t : List ℕ). c.args.text.now ++ t) (sym (mapped_parts statement_text
     (node_of d c.args.states.now c.args.marks.now) (first d.graph.states)))

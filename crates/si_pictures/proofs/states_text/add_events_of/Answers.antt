@@ -14,5 +14,6 @@ returns c =
     let signals = c.signals.ensures ∙ ap (λ (g : StateGraph). g.signals) c.graph.ensures.same in
     let name = c.signal_name.ensures ∙ ap (λ (l : List Signal). name_of l c.args.z) signals in
     let up = ap not (c.get.ensures ∙ ap (λ k. bit k c.args.z) c.code.ensures) in
-    left_as _ _ _ _ (event_by_calls d c.args.s c.args.z c.graph.ensures.coded c.requires.signal (sym c.if-not-is_excited.ensures)
+    left_as _ _ _ _ (event_by_calls d c.args.s c.args.z c.graph.ensures.coded c.requires.signal
+    (sym c.if-not-is_excited.ensures)
     c.args.text.now _ _ _ name (c.sign.ensures ∙ ap (λ b. sign b ∷ []) up) c.in_ok-add_word.ensures) c.add.ensures.added
