@@ -1,4 +1,4 @@
--- The picture of a graph: the statements that Graphviz draws it from.
+-- (text) The picture of a graph: the statements that Graphviz draws it from.
 use Rattle.std.specs.Prelude.{◌≡◌, ℕ, ◌==◌, not, Bool, true, List}
 use Rattle.std.specs.Prelude.{[], ◌∷◌, ◌++◌, map, codes, decimal}
 use Rattle.std.specs.Prelude.{slice_get, option_map, unwrap_or, if◌then◌else◌}
