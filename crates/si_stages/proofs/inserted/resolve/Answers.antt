@@ -9,7 +9,7 @@ use Rattle.si_refusals.specs.declared.refusals.Refusal.TheVariants.{NoMemory}
 use Rattle.si_sg.specs.CanonicalText.{sg_text}
 use Rattle.si_sg.specs.GivenGraph.{sg_now}
 use Rattle.si_stages.specs.Inserted.{resolve}
-use Rattle.si_stages.proofs.GivenLineages.{given_lineage}
+use Rattle.si_stages.proofs.GivenLineages.{given_lineage, given_signals}
 use Rattle.si_stages.proofs.ResolutionLemmas.{resolution_is}
 use Rattle.si_stages.proofs.inserted.resolve.Goals as goal
 
@@ -49,3 +49,8 @@ returns-clause-ok c =
     ∙ ap (λ (m : History). sg_text (current_sg given.model given.states m)) c.lineage.ensures.same in
     Passes given c.in_ok-model.ensures.ok (Passes l c.in_ok-resolved.ensures.ok
     (ap (λ (t : List ℕ). Ok t) text))
+
+-- ---- what the calls ask for
+pub resolution-requires-clause-given : goal.resolution-requires-clause-given
+resolution-requires-clause-given c =
+    given_signals c.args.text.now (sg_now c.in_ok-model.field-0) c.in_ok-model.ensures.ok
