@@ -1,7 +1,7 @@
 //! Graphs after insertions, as texts: written, read back, and refused.
 
 use crate::tests::{
-    C_ELEMENT, C_ELEMENT_NETLIST, DISABLED_OUTPUT, SYNTH, Texts, VME, expect, expect_output, only,
+    C_ELEMENT, C_ELEMENT_NETLIST, DISABLED_OUTPUT, Texts, VME, expect, expect_output, only,
 };
 use si_refusals::status::Status;
 use std::test::Fail;
@@ -56,7 +56,7 @@ s13_1 LDTACK- s1_1
 .end
 ";
 
-/// Its netlist before and after the insertion is taken over.
+/// Its netlist.
 const VME_NETLIST: &[u8] = b".model vme
 .inputs DSr LDTACK
 .outputs D DTACK LDS
@@ -64,21 +64,6 @@ const VME_NETLIST: &[u8] = b".model vme
 .inserted csc0
 .start 000001
 .insert csc0 up s6 down s1
-.gates
-D sum LDTACK csc0'
-DTACK sum D
-LDS sum csc0' + D
-csc0 sum DSr' + LDTACK csc0
-.end
-";
-
-const VME_RESOLVED_NETLIST: &[u8] = b".version 2
-.model vme
-.inputs DSr LDTACK
-.outputs D DTACK LDS
-.internal csc0
-.inserted
-.start 000001
 .gates
 D sum LDTACK csc0'
 DTACK sum D
@@ -118,17 +103,6 @@ csc0 sum 0
 .end
 ";
 
-/// After one pulse of the input the output rises, and after the next one it falls: no insertion
-/// may delay the input.
-const PULSES: &[u8] = b".model pulses
-.inputs a
-.outputs z
-.state graph
-s0 a+ s1 a- s2 z+ s3 a+ s4 a- s5 z- s0
-.marking {s0}
-.end
-";
-
 fn texts<'t>(graph: &'t [u8], netlist: &'t [u8]) -> Texts<'t> {
     Texts {
         graph,
@@ -142,19 +116,6 @@ fn resolved_graphs(rt: HostRuntime) -> Result<(), Fail> {
     let alloc = rt.alloc();
     expect_output(&rt, alloc, &RESOLVE, only(VME), VME_RESOLVED)?;
     expect_output(&rt, alloc, &RESOLVE, only(VME_RESOLVED), VME_RESOLVED)?;
-    let again = only(VME_RESOLVED);
-    expect_output(&rt, alloc, &SYNTH, again, VME_RESOLVED_NETLIST)
-}
-
-#[test]
-fn unresolved_graphs(rt: HostRuntime) -> Result<(), Fail> {
-    let alloc = rt.alloc();
-    let want = (
-        Status::Unresolved,
-        b"".as_slice(),
-        b"unresolved s0 s2\n".as_slice(),
-    );
-    expect(&rt, alloc, &RESOLVE, only(PULSES), want)?;
     let want = (
         Status::Improper,
         b"".as_slice(),
