@@ -109,8 +109,8 @@ grouped : (text word name events : List ℕ) → (((text ++ word) ++ 32 ∷ name
 grouped text word name events = simp append_assoc
 
 pub events_line_by_calls : (text word : List ℕ) (signals : List Signal) (states : List (List ℕ)) (s : ℕ)
-    (es : List Event) (name first second third : List ℕ) → name ≡ state_at states s → first ≡ text ++ word → second ≡ first ++ 32 ∷ name
-    → third ≡ second ++ spaced (events_words signals es)
+    (es : List Event) (name first second third : List ℕ) → name ≡ state_at states s → first ≡ text ++ word
+    → second ≡ first ++ 32 ∷ name → third ≡ second ++ spaced (events_words signals es)
     → third ++ 10 ∷ [] ≡ text ++ line (events_line word signals states s es)
 events_line_by_calls text word signals states s es name first second third e0 e1 e2 e3 =
     rw (e3, e2, e1, e0) (grouped text word (state_at states s) (spaced (events_words signals es))

@@ -73,8 +73,8 @@ told_end what graph states net events (outcome.Done values state) text out tells
 told_end what graph states net events (outcome.Differs step event verdict) text out tells = absurd tells
 
 pub told_departure : (what : ReplayReport) (graph : StateGraph) (states : List (List ℕ)) (net : Netlist)
-    (events : List Event) (o : Outcome) (e : Ending) → IsOutcome graph net (start graph net) events o → TellsDeparture net.signals o e
-    → MayStop (replay_end what graph states net events) e
+    (events : List Event) (o : Outcome) (e : Ending) → IsOutcome graph net (start graph net) events o
+    → TellsDeparture net.signals o e → MayStop (replay_end what graph states net events) e
 told_departure what graph states net events (outcome.Done values state) NoMemory out tells = tt
 told_departure what graph states net events (outcome.Done values state) e out tells = absurd tells
 told_departure what graph states net events (outcome.Differs step event verdict) NoMemory out tells = tt

@@ -33,7 +33,8 @@ pub record IsResolvedText (text resolved : List ℕ) : Type 0 where
       → IsGivenBy resolved (current_sg given.model given.states lineage)
   pub synthesised : HasFewArcs lineage
       → (style : Style) (file resolved_file output : List ℕ) → synth style file text (Ok output)
-      → synth style resolved_file resolved (Ok (netlist_text (internal_netlist (netlist_of output))))
+      → synth style resolved_file resolved
+      (Ok (netlist_text (internal_netlist (netlist_of output))))
 
 -- such is what `resolve` comes to
 abbrev pub ResolvedTextsServe : Type 0

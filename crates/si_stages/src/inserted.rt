@@ -50,8 +50,9 @@ pub fn resolve<'w>(alloc: Global, file: &'w str, text: &[u8]) -> Result<Text, Re
 /// # Errors
 ///
 /// `BadText` with the first fault of the texts in their order, else `Improper` with the first
-/// breach, else `ListsDiffer` with the first place, else `Rejected` exactly where an insertion isn't
-/// taken, with the first, and the first reason against it. `NoMemory` only where memory runs out.
+/// breach, else `ListsDiffer` with the first place, else `Rejected` exactly where an insertion
+/// isn't taken, with the first, and the first reason against it. `NoMemory` only where memory runs
+/// out.
 pub fn insert<'w>(
     alloc: Global,
     graph_file: &'w str,

@@ -29,8 +29,8 @@ use si_wave::write::write_wave;
 use si_words::writing::add_line;
 use std::alloc::Global;
 
-/// What is told of the schedule, over the netlist beside the graph: where it ends, or its values from
-/// event to event. A refusal shows the names of the texts' files.
+/// What is told of the schedule, over the netlist beside the graph: where it ends, or its values
+/// from event to event. A refusal shows the names of the texts' files.
 ///
 /// # Errors
 ///

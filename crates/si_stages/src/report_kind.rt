@@ -16,8 +16,8 @@ pub enum Report {
     Fold,
     /// Its states, with their codes and the events that they enable.
     States,
-    /// How many conflicts it has, and the first of them explained: codes, enabled events, walks, and
-    /// whether inputs alone lead to both states.
+    /// How many conflicts it has, and the first of them explained: codes, enabled events, walks,
+    /// and whether inputs alone lead to both states.
     Explain,
     /// Its picture, for Graphviz.
     Dot,
