@@ -1,9 +1,13 @@
-use Rattle.std.proofs.Common.{◌≡◌, ◌∙◌, length, ap, subst, arith}
+use Rattle.std.proofs.Common.{◌≡◌, ◌∙◌, false, length, refl, sym, ap, subst, arith}
+use Rattle.std.proofs.lemmas.Bool.{true≢false}
+use Rattle.std.specs.BTreeSet.{BTreeSet, contains, IsEmpty}
 use Rattle.si_base.specs.Graph.{StateGraph}
 use Rattle.si_base.specs.Codes.{CodedGraph}
 use Rattle.si_cell.specs.Library.{Library}
 use Rattle.si_match.specs.Weight.{weight_of}
 use Rattle.si_checks.specs.Lent.{lent_graph}
+use Rattle.si_divisor.specs.declared.function.Function.{Function}
+use Rattle.si_divisor.specs.Functions.{function_cmp}
 use Rattle.si_map.specs.Progress.{AreFitted, IsSearching}
 use Rattle.si_map.proofs.SearchSignals.{found, pass_input_by}
 use Rattle.si_map.proofs.search.find_best.Goals as goal
@@ -14,7 +18,15 @@ loop-i-init c =
     λ d. (library : Library) → c.args.weight ≡ weight_of d library → AreFitted d library c.fitted_signals-fitted.result
     → IsSearching d library 0 0 c.in_ok-search.search in
     let starts : Starts (lent_graph c.args.graph) = subst Starts c.proper.ensures.same c.in_ok-search.ensures in
-    starts c.args.library.now c.requires c.fitted_signals-fitted.ensures
+    record {
+      searching = starts c.args.library.now c.requires c.fitted_signals-fitted.ensures;
+      spent = λ f i there is.
+          absurd (true≢false (sym there ∙ none_in c.new-functions.result c.new-functions.ensures.empty f));
+    }
+  where
+    none_in : (functions : BTreeSet Function) → IsEmpty functions → (f : Function)
+        → contains function_cmp functions f ≡ false
+    none_in functions empty f = rw empty refl
 
 pub loop-i-preserved-then-not-is_driven : goal.loop-i-preserved-then-not-is_driven
 loop-i-preserved-then-not-is_driven c =
