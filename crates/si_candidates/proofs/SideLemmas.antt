@@ -145,16 +145,6 @@ module _ (g : StateGraph) (tree : List Link) (is : IsTree g tree) (block : List 
       let step = (is.each n l (inside, sym at)).along in
       let within = step_within g l.from step.0 l.to graph step.1 in (within.0, within.2)
 
--- one state more is told
-pub told_more : (told : ℕ → Class) (classes : List Class) (k : ℕ) (class : Class) → k < length classes
-    → class ≡ told k → ((s : ℕ) → s < k → class_of classes s ≡ told s)
-    → (s : ℕ) → s < k + 1 → class_of (set classes k class) s ≡ told s
-told_more told classes k class inside here before s below = elim (cases_eq s k) [
-  | inl same ↦ ap (λ (n : ℕ). class_of (set classes k class) n) same ∙ get_or-set_same classes k class Low inside
-      ∙ here ∙ ap told (sym same)
-  | inr other ↦ get_or-set_other classes k s class Low other ∙ before s (omega (arith, below, other))
-]
-
 -- ---- one arc
 abbrev is_rising : Class → Bool
 is_rising Rising = true

@@ -1,17 +1,12 @@
 //! The classes of one candidate after another, in memory that is taken once.
 
-ghost use Rattle.std.specs.Prelude.{◌≡◌, ℕ, true, false, List, IfOk, length};
+ghost use Rattle.std.specs.Prelude.{◌≡◌, ℕ, true, false, IfOk, length};
 ghost use Rattle.si_base.specs.Sets.{IsIn};
-ghost use Rattle.si_insert.specs.declared.partition.Class.{Class};
 ghost use Rattle.si_candidates.specs.Blocks.{AreDisjoint};
 ghost use Rattle.si_candidates.specs.Parts.{AreClasses, IsTorn};
-ghost use Rattle.si_candidates.specs.declared.tree.Link.{Link};
-ghost use Rattle.si_candidates.specs.Sides.{AreSides, IsPartitionFor};
-ghost use Rattle.si_candidates.specs.Tree.{IsTree};
 
 use crate::block::Block;
 use crate::raising::Raising;
-use crate::sides::{first_of, is_between, tell};
 use si_base::ids::NoMemory;
 use si_base::sets::StateSet;
 use si_checks::proper::Proper;
@@ -77,42 +72,5 @@ impl Parting {
     {
         let parted = self.raising.part(graph.coded(), plus, minus)?;
         Ok(parted)
-    }
-
-    /// Finds the only classes that a lawful partition can have which is Rising in the one block and
-    /// Falling in the other, by the sides of both: nothing is searched for that.
-    pub fn tell(
-        &mut self,
-        graph: &Proper,
-        plus: &Block,
-        minus: &Block,
-        plus_sides: &StateSet,
-        minus_sides: &StateSet,
-    )
-        requires room { length self.old ≡ graph.now.graph.states }
-        requires plus_size { length plus.now ≡ graph.now.graph.states }
-        requires minus_size { length minus.now ≡ graph.now.graph.states }
-        requires plus_sides_size { length plus_sides.now ≡ graph.now.graph.states }
-        requires minus_sides_size { length minus_sides.now ≡ graph.now.graph.states }
-        requires some_plus { (s : ℕ) × IsIn plus.now s }
-        ensures room { length self.new ≡ length self.old }
-        ensures only { (tree : List Link) → IsTree graph.now.graph tree
-            → AreSides graph.now.graph tree plus.now plus_sides.now
-            → AreSides graph.now.graph tree minus.now minus_sides.now
-            → (others : List Class) → IsPartitionFor graph.now.graph plus.now minus.now others
-            → others ≡ self.new }
-    {
-        let _given = graph.coded().graph();
-        let rising = first_of(plus.set());
-        let turn = is_between(plus_sides, minus_sides, rising);
-        let classes = self.raising.classes.as_mut_slice();
-        tell(
-            classes,
-            plus.set(),
-            minus.set(),
-            plus_sides,
-            minus_sides,
-            turn,
-        );
     }
 }

@@ -1,11 +1,10 @@
 //! On which side of a block each state lies, along a tree of arcs, and the classes that the sides
 //! of two blocks tell.
 
-ghost use Rattle.std.specs.Prelude.{◌≡◌, ℕ, ◌<◌, Bool, IfOk, length};
+ghost use Rattle.std.specs.Prelude.{◌≡◌, ℕ, ◌<◌, IfOk, length};
 ghost use Rattle.si_base.specs.Sets.{IsIn};
-ghost use Rattle.si_insert.specs.Partition.{class_of};
 ghost use Rattle.si_candidates.specs.Sides as of_sides;
-ghost use Rattle.si_candidates.specs.Sides.{AreSides, between, flag};
+ghost use Rattle.si_candidates.specs.Sides.{AreSides, between};
 ghost use Rattle.si_candidates.specs.Tree.{IsTree};
 
 use crate::tree::Link;
@@ -47,14 +46,14 @@ fn leaves(set: &StateSet, link: &Link) -> bool
 }
 
 /// Whether it is one of the two, and not both.
-fn differ(x: bool, y: bool) -> bool
+pub fn differ(x: bool, y: bool) -> bool
     ensures { result ≡ of_sides.differ x y }
 {
     x != y
 }
 
 /// Whether the state lies on different sides of two blocks, of which these are the sides.
-pub(crate) fn is_between(plus_sides: &StateSet, minus_sides: &StateSet, s: StateId) -> bool
+pub fn is_between(plus_sides: &StateSet, minus_sides: &StateSet, s: StateId) -> bool
     requires plus { s < length plus_sides.now }
     requires minus { s < length minus_sides.now }
     ensures { result ≡ between plus_sides.now minus_sides.now s }
@@ -63,7 +62,7 @@ pub(crate) fn is_between(plus_sides: &StateSet, minus_sides: &StateSet, s: State
 }
 
 /// The first state of a set that has one.
-pub(crate) fn first_of(set: &StateSet) -> StateId
+pub fn first_of(set: &StateSet) -> StateId
     requires { (s : ℕ) × IsIn set.now s }
     ensures there { IsIn set.now result }
     ensures within { result < length set.now }
@@ -74,35 +73,9 @@ pub(crate) fn first_of(set: &StateSet) -> StateId
     }
 }
 
-/// Finds the class of each state by two blocks and their sides, where the new signal has the value
-/// 0 on the way to those states that lie on different sides of the two exactly if `turn` is set.
-pub(crate) fn tell(
-    classes: &mut [Class],
-    plus: &StateSet,
-    minus: &StateSet,
-    plus_sides: &StateSet,
-    minus_sides: &StateSet,
-    turn: bool,
-)
-    requires plus_size { length plus.now ≡ length classes.old }
-    requires minus_size { length minus.now ≡ length classes.old }
-    requires plus_sides_size { length plus_sides.now ≡ length classes.old }
-    requires minus_sides_size { length minus_sides.now ≡ length classes.old }
-    ensures size { length classes.new ≡ length classes.old }
-    ensures each { (s : ℕ) → s < length classes.old → class_of classes.new s
-        ≡ of_sides.class_by (flag plus.now s) (flag minus.now s)
-        (of_sides.differ turn (between plus_sides.now minus_sides.now s)) }
-{
-    for k in 0..plus.size() {
-        let s = StateId(k);
-        let value = differ(turn, is_between(plus_sides, minus_sides, s));
-        classes[k as usize] = class_by(plus.has(s), minus.has(s), value);
-    }
-}
-
 /// The class of a state by whether the new signal rises there, or falls there, and by its value on
 /// the way there.
-fn class_by(rises: bool, falls: bool, value: bool) -> Class
+pub fn class_by(rises: bool, falls: bool, value: bool) -> Class
     ensures { result ≡ of_sides.class_by rises falls value }
 {
     match (rises, falls, value) {

@@ -1,13 +1,12 @@
 -- Conflicts whose states an insertion doesn't part stay, so that as many are left at least.
 use Rattle.std.proofs.Common.{◌≡◌, ◌≢◌, ◌⊎◌, ℕ, zero, suc, ◌+◌, ◌<◌, ◌≤◌, ◌==◌, ◌&&◌, ◌∙◌, Bool, true, false, not, cond}
-use Rattle.std.proofs.Common.{List, [], ◌∷◌, ◌++◌, length, map, filter, slice_index, Contains, refl, sym, ap, ap₂}
+use Rattle.std.proofs.Common.{List, [], ◌∷◌, ◌++◌, length, map, filter, slice_index, Contains, refl, sym, ap}
 use Rattle.std.proofs.Common.{subst, arith, inl, inr, ltb, lt-ltb, le-ltb, eqb-true}
 use Rattle.std.proofs.lemmas.Bool.{cases_Bool, cases_lt, true≢false}
 use Rattle.std.proofs.lemmas.List.{length-append}
 use Rattle.std.proofs.lemmas.List.Sorted.{Contains-permutation}
 use Rattle.std.proofs.lemmas.List.Sums.{sum_by-cons}
 use Rattle.std.specs.List.{sum_by, range_with_len}
-use Rattle.si_base.specs.Order.{Before}
 use Rattle.si_base.specs.Codes.{CodedGraph, IsCoded, code}
 use Rattle.si_base.specs.Proper.{IsConflict, pair_place}
 use Rattle.si_base.proofs.Fewer.{Once, at_most}
@@ -20,12 +19,12 @@ use Rattle.si_insert.specs.Partition.{class_of, IsLawful}
 use Rattle.si_conflicts.specs.declared.keys.Key.{Key}
 use Rattle.si_conflicts.specs.declared.members.Member.{Member}
 use Rattle.si_conflicts.specs.Apart.{are_apart, pair_sum, role_at, told_apart}
-use Rattle.si_conflicts.specs.Chains.{AreRings, AreMembers, Chains, AreChains, IsNextInRing, has_equal, with_equals}
+use Rattle.si_conflicts.specs.Chains.{Chains, AreChains, IsNextInRing, has_equal, with_equals}
 use Rattle.si_conflicts.specs.Keys.{IsKey, clashes}
 use Rattle.si_conflicts.specs.Left.{LeavesConflicts, are_parted, stays}
 use Rattle.si_conflicts.proofs.CopyCount.{alone}
 use Rattle.si_conflicts.proofs.Counted.{once_in_order}
-use Rattle.si_conflicts.proofs.CountLemmas.{clash_back, eq_back}
+use Rattle.si_conflicts.proofs.CountLemmas.{clash_back}
 use Rattle.si_conflicts.proofs.KeyLemmas.{conflict_clash}
 use Rattle.si_conflicts.proofs.LeftCount.{at_least}
 use Rattle.si_conflicts.proofs.PairLemmas.{in_left, in_right}

@@ -9,6 +9,7 @@ ghost use Rattle.si_conflicts.specs.Apart.{pair_sum};
 ghost use Rattle.si_conflicts.specs.Chains.{AreChains};
 ghost use Rattle.si_conflicts.specs.Left.{LeavesConflicts};
 
+use crate::classes::Classes;
 use crate::keys::Key;
 use crate::members::{Member, members};
 use crate::rings::rings;
@@ -63,13 +64,13 @@ impl CodeChains {
 
     /// Whether the insertion may leave fewer conflicts than `bar`, by those that the new signal
     /// shows and those of copies where it is stable: the others are not counted.
-    pub fn may_leave_below(&self, graph: &Proper, classes: &[Class], bar: u64) -> bool
+    pub fn may_leave_below<C: Classes>(&self, graph: &Proper, classes: &C, bar: u64) -> bool
         requires chains { AreChains graph.now self.now }
-        requires count { length classes.now ≡ graph.now.graph.states }
+        requires count { length (C.classes classes.now) ≡ graph.now.graph.states }
         ensures told { IsTrue result
-            ↔ (pair_sum (Apart.told_apart classes.now) self.now.members < bar) }
-        ensures none { result ≡ false → IsLawful graph.now.graph classes.now
-            → (n : ℕ) → LeavesConflicts graph.now classes.now n → bar ≤ n }
+            ↔ (pair_sum (Apart.told_apart (C.classes classes.now)) self.now.members < bar) }
+        ensures none { result ≡ false → IsLawful graph.now.graph (C.classes classes.now)
+            → (n : ℕ) → LeavesConflicts graph.now (C.classes classes.now) n → bar ≤ n }
     {
         let _given = graph.coded().graph();
         let members = self.members.as_slice();
@@ -92,7 +93,7 @@ impl CodeChains {
         let given = graph.coded().graph();
         let classes = accepted.partition().classes();
         let members = self.members.as_slice();
-        let told = told_apart(members, classes, u64::MAX);
+        let told = told_apart(members, &classes, u64::MAX);
         let rest = count_switching(alloc, &mut self.scratch, given, classes, members)?;
         Ok(told + rest)
     }
@@ -116,7 +117,7 @@ impl CodeChains {
     {
         let given = graph.coded().graph();
         let members = self.members.as_slice();
-        let told = told_apart(members, classes, bar);
+        let told = told_apart(members, &classes, bar);
         if told >= bar {
             return Ok(None);
         }

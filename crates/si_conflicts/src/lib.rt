@@ -2,6 +2,7 @@
 #![tactic(auto)]
 
 pub mod chains;
+pub mod classes;
 pub mod conflicts;
 mod count;
 pub mod keys;

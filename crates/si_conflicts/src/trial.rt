@@ -10,6 +10,7 @@ ghost use Rattle.si_conflicts.specs.Apart as Apart;
 ghost use Rattle.si_conflicts.specs.Apart.{AreStaying, AllStaying, pair_sum};
 ghost use Rattle.si_conflicts.specs.Chains.{member_cmp};
 
+use crate::classes::Classes;
 use crate::count::count_clashes;
 use crate::keys::Key;
 use crate::members::Member;
@@ -22,12 +23,14 @@ use std::alloc::Global;
 
 /// How many pairs of copies are a conflict that the new signal shows, or the others where it is
 /// stable. It ends as soon as they are `bar`.
-pub fn told_apart(members: &[Member], classes: &[Class], bar: u64) -> u64
+pub fn told_apart<C: Classes>(members: &[Member], classes: &C, bar: u64) -> u64
     requires few { length members.now ≤ max_states }
     requires sorted { IsSorted member_cmp members.now }
-    requires within { All (λ m. m.state < length classes.now) members.now }
-    ensures all { result < bar → result ≡ pair_sum (Apart.told_apart classes.now) members.now }
-    ensures more { bar ≤ result → bar ≤ pair_sum (Apart.told_apart classes.now) members.now }
+    requires within { All (λ m. m.state < length (C.classes classes.now)) members.now }
+    ensures all { result < bar
+        → result ≡ pair_sum (Apart.told_apart (C.classes classes.now)) members.now }
+    ensures more { bar ≤ result
+        → bar ≤ pair_sum (Apart.told_apart (C.classes classes.now)) members.now }
     ensures few { result ≤ 2 * max_states * max_states }
 {
     let mut low = Tally::none();
@@ -38,7 +41,7 @@ pub fn told_apart(members: &[Member], classes: &[Class], bar: u64) -> u64
     };
     let mut total: u64 = 0;
     for m in members {
-        let class = classes[m.state.0 as usize];
+        let class = classes.class(m.state);
         let at_low = Role::of(class, false);
         let at_high = Role::of(class, true);
         low = low.moved(&key, &m.key);

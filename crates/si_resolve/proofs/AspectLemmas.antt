@@ -1,7 +1,7 @@
 -- Conflicts whose states two blocks don't part stay, whatever classes the blocks have.
-use Rattle.std.proofs.Common.{◌≡◌, ◌⊎◌, ℕ, ◌+◌, ◌<◌, ◌≤◌, ◌∙◌, Bool, true, false, not, cond, List, [], ◌∷◌, ◌++◌}
-use Rattle.std.proofs.Common.{length, map, take, filter, get_or, All, Contains, refl, sym, ap, ap₂, subst, arith, inl}
-use Rattle.std.proofs.Common.{inr}
+use Rattle.std.proofs.Common.{◌≡◌, ◌⊎◌, ℕ, zero, suc, ◌+◌, ◌<◌, ◌≤◌, ◌∙◌, Bool, true, false, not, cond, List, []}
+use Rattle.std.proofs.Common.{◌∷◌, ◌++◌, length, map, take, drop, filter, get_or, refl, sym, ap, ap₂}
+use Rattle.std.proofs.Common.{arith, inl, inr}
 use Rattle.std.proofs.lemmas.Bool.{cases_Bool, true≢false}
 use Rattle.std.proofs.lemmas.List.{take_more, take_all, length-take-le}
 use Rattle.si_base.proofs.Sorted.{In}
@@ -12,7 +12,7 @@ use Rattle.si_candidates.specs.Sides.{between, class_by, differ, flag}
 use Rattle.si_candidates.proofs.SideLemmas.{differ_group, differ_swap}
 use Rattle.si_conflicts.specs.Left.{are_parted, stays}
 use Rattle.si_resolve.specs.declared.aspects.Aspect.{Aspect}
-use Rattle.si_resolve.specs.declared.aspects.Aspect.TheVariants.{Together, Apart, Touched}
+use Rattle.si_resolve.specs.declared.aspects.Aspect.TheVariants.{Together, Apart}
 use Rattle.si_resolve.specs.Aspects.{aspect_by, aspect_of, part, stays_by, unparted}
 
 -- ---- the count, place after place
@@ -36,6 +36,31 @@ unparted_more xs ys k same inside =
 pub unparted_all : (xs ys : List Aspect) (k : ℕ) → length ys ≡ length xs → length xs ≤ k
     → unparted (take k xs) (take k ys) ≡ unparted xs ys
 unparted_all xs ys k same all = ap₂ unparted (take_all k xs all) (take_all k ys (omega (arith, same, all)))
+
+none_left : (xs : List Aspect) → unparted xs [] ≡ 0
+none_left [] = refl
+none_left (x ∷ xs) = refl
+
+-- the first n conflicts, and the others
+unparted_split : (n : ℕ) (xs ys : List Aspect)
+    → unparted xs ys ≡ unparted (take n xs) (take n ys) + unparted (drop n xs) (drop n ys)
+unparted_split zero xs ys = omega arith
+unparted_split (suc n) [] ys = omega arith
+unparted_split (suc n) (x ∷ xs) [] =
+    let rest : unparted (drop (suc n) (x ∷ xs)) (drop {A = Aspect} (suc n) []) ≡ 0 = none_left (drop n xs) in
+    omega (arith, rest)
+unparted_split (suc n) (x ∷ xs) (y ∷ ys) =
+    let rest = unparted_split n xs ys in
+    omega (arith, rest)
+
+pub unparted_parts : (n : ℕ) (xs ys first_xs later_xs first_ys later_ys : List Aspect)
+    → first_xs ≡ take n xs → later_xs ≡ drop n xs → first_ys ≡ take n ys → later_ys ≡ drop n ys
+    → unparted xs ys ≡ unparted first_xs first_ys + unparted later_xs later_ys
+unparted_parts n xs ys first_xs later_xs first_ys later_ys first_x later_x first_y later_y =
+    let parts = unparted_split n xs ys in
+    let first = ap₂ unparted first_x first_y in
+    let later = ap₂ unparted later_x later_y in
+    omega (arith, parts, first, later)
 
 -- ---- classes that are parted
 low_is : (a b v : Bool) → class_by a b v ≡ Low → (a ≡ false) × (b ≡ false) × (v ≡ false)

@@ -1,14 +1,14 @@
 -- Blocks that a search may pass over, and graphs that it needn't be made for.
 use Rattle.std.proofs.Common.{◌≡◌, ℕ, ◌+◌, ◌<◌, ◌≤◌, ◌↔◌, ◌∙◌, Bool, true, false, List, [], ◌∷◌, ◌++◌, length, get_or}
 use Rattle.std.proofs.Common.{slice_index_or, Contains, IsTrue, sym, arith, ap, subst, inl, inr, ◌≢◌}
-use Rattle.std.proofs.lemmas.Bool.{cases_eq, true≢false}
+use Rattle.std.proofs.lemmas.Bool.{cases_eq}
 use Rattle.std.proofs.lemmas.List.{get_or-map, get_or_append_left, get_or_push, length-map, get_or_default}
 use Rattle.std.proofs.lemmas.List.Elements.{Contains-get_or}
 use Rattle.si_base.specs.declared.graph.Signal.{Signal}
 use Rattle.si_base.specs.Graph.{StateGraph}
 use Rattle.si_base.specs.Limits.{max_signals}
 use Rattle.si_base.specs.Codes.{CodedGraph}
-use Rattle.si_base.specs.Sets.{IsIn, HasNoneFrom}
+use Rattle.si_base.specs.Sets.{IsIn}
 use Rattle.si_base.specs.Proper.{IsConflict}
 use Rattle.si_candidates.specs.Blocking.{MaySwitch}
 use Rattle.si_candidates.specs.Blocks.{AreBlocks, block_at}

@@ -1,6 +1,7 @@
 pub mod Best
 pub mod Search
 pub mod Aspects
+pub mod SideClasses
 pub mod Usable
 pub mod Progress
 pub mod Trace

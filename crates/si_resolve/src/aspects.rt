@@ -1,6 +1,6 @@
 //! How blocks lie to the states of conflicts, and how many conflicts two blocks leave for certain.
 
-ghost use Rattle.std.specs.Prelude.{◌≡◌, ℕ, ◌<◌, ◌≤◌, IfOk, length, map};
+ghost use Rattle.std.specs.Prelude.{◌≡◌, ℕ, ◌<◌, ◌≤◌, ◌↔◌, IfOk, IsTrue, length, map};
 ghost use Rattle.si_conflicts.specs.Conflicts.{pairs_of};
 ghost use Rattle.si_resolve.specs.Aspects as of_aspects;
 ghost use Rattle.si_resolve.specs.Aspects.{AreWithin, aspect_by, aspect_of};
@@ -10,6 +10,10 @@ use si_base::sets::StateSet;
 use si_conflicts::conflicts::Pair;
 use std::alloc::Global;
 use std::marker::Model;
+
+/// So many conflicts are counted before the count is compared: few enough for a byte, so that many
+/// of them are counted in one step.
+const CHUNK: usize = 64;
 
 /// How a block lies to the two states of a conflict.
 #[derive(Clone, Copy, PartialEq, Eq, Debug)]
@@ -68,12 +72,13 @@ impl Column {
         Ok(Column { aspects })
     }
 
-    /// How many conflicts the two blocks don't part.
-    pub(crate) fn unparted(&self, other: &Column) -> usize
+    /// Whether the conflicts that the two blocks don't part are fewer than `bar`. It ends as soon
+    /// as they aren't.
+    pub(crate) fn leaves_below(&self, other: &Column, bar: u64) -> bool
         requires { length other.now ≡ length self.now }
-        ensures is { result ≡ of_aspects.unparted self.now other.now }
+        ensures { IsTrue result ↔ (of_aspects.unparted self.now other.now < bar) }
     {
-        unparted(self.aspects.as_slice(), other.aspects.as_slice())
+        are_below(self.aspects.as_slice(), other.aspects.as_slice(), bar)
     }
 }
 
@@ -106,9 +111,32 @@ fn aspect_of_flags(p: bool, q: bool, p_side: bool, q_side: bool) -> Aspect
     }
 }
 
-/// How many conflicts two blocks with these aspects don't part.
-fn unparted(plus: &[Aspect], minus: &[Aspect]) -> usize
+/// Whether the conflicts that two blocks with these aspects don't part are fewer than `bar`.
+fn are_below(plus: &[Aspect], minus: &[Aspect], bar: u64) -> bool
     requires { length minus.now ≡ length plus.now }
+    ensures { IsTrue result ↔ (of_aspects.unparted plus.now minus.now < bar) }
+{
+    let mut plus = plus;
+    let mut minus = minus;
+    let mut room = bar;
+    while plus.len() > CHUNK {
+        let (first_plus, later_plus) = plus.split_at(CHUNK);
+        let (first_minus, later_minus) = minus.split_at(CHUNK);
+        let left = unparted(first_plus, first_minus) as u64;
+        if left >= room {
+            return false;
+        }
+        room -= left;
+        plus = later_plus;
+        minus = later_minus;
+    }
+    (unparted(plus, minus) as u64) < room
+}
+
+/// How many of so few conflicts two blocks with these aspects don't part.
+fn unparted(plus: &[Aspect], minus: &[Aspect]) -> u8
+    requires count { length minus.now ≡ length plus.now }
+    requires few { length plus.now ≤ 64 }
     ensures { result ≡ of_aspects.unparted plus.now minus.now }
 {
     let mut left = 0;
@@ -119,13 +147,17 @@ fn unparted(plus: &[Aspect], minus: &[Aspect]) -> usize
 }
 
 /// 1 where the blocks don't part the states, else 0.
-fn stays(plus: Aspect, minus: Aspect) -> usize
+fn stays(plus: Aspect, minus: Aspect) -> u8
     ensures is { result ≡ of_aspects.stays_by plus minus }
     ensures few { result ≤ 1 }
 {
-    match (plus, minus) {
-        (Aspect::Together, Aspect::Apart) => 0,
-        (Aspect::Apart, Aspect::Together) => 0,
-        _ => 1,
-    }
+    u8::from(!part(plus, minus))
+}
+
+/// Whether two blocks with these aspects part the states.
+fn part(plus: Aspect, minus: Aspect) -> bool
+    ensures { result ≡ of_aspects.part plus minus }
+{
+    (plus == Aspect::Together && minus == Aspect::Apart)
+        || (plus == Aspect::Apart && minus == Aspect::Together)
 }

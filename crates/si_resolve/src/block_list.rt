@@ -58,16 +58,17 @@ impl BlockList {
         &self.sides[k]
     }
 
-    /// How many of the first conflicts the two blocks don't part, if both are usable.
-    pub(crate) fn unparted(&self, i: usize, j: usize) -> usize
+    /// Whether the first conflicts that the two blocks don't part are fewer than `bar`, if both are
+    /// usable.
+    pub(crate) fn leaves_below(&self, i: usize, j: usize, bar: u64) -> bool
         requires i { i < length self.now.columns.items }
         requires j { j < length self.now.columns.items }
         requires count { length (column_at self.now.columns.items j)
             ≡ length (column_at self.now.columns.items i) }
-        ensures { result ≡ of_aspects.unparted (column_at self.now.columns.items i)
-            (column_at self.now.columns.items j) }
+        ensures { IsTrue result ↔ (of_aspects.unparted (column_at self.now.columns.items i)
+            (column_at self.now.columns.items j) < bar) }
     {
-        self.columns[i].unparted(&self.columns[j])
+        self.columns[i].leaves_below(&self.columns[j], bar)
     }
 
     /// Whether the block at that place has a state and a new signal may switch in it.

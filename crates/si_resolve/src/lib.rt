@@ -4,6 +4,7 @@
 mod aspects;
 pub mod best;
 mod block_list;
+mod by_sides;
 pub mod ends;
 pub mod laws;
 pub mod resolve;

@@ -13,6 +13,7 @@ ghost use Rattle.si_resolve.specs.Progress.{IsSearching, IsFound, MayBeAccepted,
 ghost use Rattle.si_resolve.specs.Progress.{LeavesNoneBelow, NoneIsBelow, HasSameRoom, bar_of};
 
 use crate::block_list::BlockList;
+use crate::by_sides::BySides;
 use si_base::ids::NoMemory;
 use si_base::limits::MAX_STATES;
 use si_base::sets::StateSet;
@@ -167,7 +168,7 @@ impl Search {
             → NoneIsBelow graph.now list.now.blocks.items i j (bar_of self.now) }
     {
         let _ = graph;
-        (list.unparted(i, j) as u64) < self.bar()
+        list.leaves_below(i, j, self.bar())
     }
 
     /// The number of conflicts that the next candidate has to get below.
@@ -221,7 +222,7 @@ impl Search {
     /// Whether the candidate may leave fewer conflicts than the best so far, by the only classes
     /// that it can have: the sides of its blocks tell them, and nothing is searched for that.
     fn may_leave_fewer(
-        &mut self,
+        &self,
         graph: &Proper,
         plus: &Block,
         minus: &Block,
@@ -229,23 +230,18 @@ impl Search {
         minus_sides: &StateSet,
     ) -> bool
         requires coded { IsCoded graph.now }
-        requires chains { AreChains graph.now self.old.chains }
-        requires room { length self.old.parting ≡ graph.now.graph.states }
+        requires chains { AreChains graph.now self.now.chains }
         requires plus_size { length plus.now ≡ graph.now.graph.states }
         requires minus_size { length minus.now ≡ graph.now.graph.states }
         requires sided { AreSided graph.now.graph plus.now minus.now
             plus_sides.now minus_sides.now }
         requires some_plus { (s : ℕ) × IsIn plus.now s }
         requires some_minus { (s : ℕ) × IsIn minus.now s }
-        ensures none { result ≡ false
-            → LeavesNoneBelow graph.now plus.now minus.now (bar_of self.old) }
-        ensures same { HasSameRoom self.old self.new }
+        ensures { result ≡ false
+            → LeavesNoneBelow graph.now plus.now minus.now (bar_of self.now) }
     {
-        let bar = self.bar();
-        self.parting
-            .tell(graph, plus, minus, plus_sides, minus_sides);
-        let classes = self.parting.classes();
-        self.chains.may_leave_below(graph, classes, bar)
+        let classes = BySides::new(graph, plus, minus, plus_sides, minus_sides);
+        self.chains.may_leave_below(graph, &classes, self.bar())
     }
 }
 

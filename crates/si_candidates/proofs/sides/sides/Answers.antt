@@ -1,4 +1,4 @@
-use Rattle.std.proofs.Common.{◌≡◌, ◌∙◌, Bool, sym, ap₂, subst}
+use Rattle.std.proofs.Common.{◌≡◌, ◌∙◌, sym, ap₂, subst}
 use Rattle.si_base.specs.Codes.{IsCoded}
 use Rattle.si_candidates.specs.Sides.{differ}
 use Rattle.si_candidates.proofs.SideLemmas.{link_within, side_after, sides_other, sides_same}

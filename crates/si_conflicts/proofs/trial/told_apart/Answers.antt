@@ -1,6 +1,4 @@
 use Rattle.std.proofs.Common.{◌+◌, ◌∙◌, arith, ap, refl, true, false}
-use Rattle.si_insert.specs.Partition.{class_of}
-use Rattle.si_conflicts.specs.declared.members.Member.{Member}
 use Rattle.si_conflicts.specs.Apart as Apart
 use Rattle.si_conflicts.specs.Apart.{are_apart, role_at, IsTally, IsUpTo, pair_sum}
 use Rattle.si_conflicts.proofs.PairSums.{pair_take}
@@ -9,7 +7,7 @@ use Rattle.si_conflicts.proofs.TallyLemmas.{pass_tally, pass_order, pass_next}
 use Rattle.si_conflicts.proofs.trial.told_apart.Goals as goal
 
 pub loop-m-init : goal.loop-m-init
-loop-m-init c = record {
+loop-m-init g c = record {
   low = c.none-low.ensures (record { code = 0; excited = 0 });
   high = c.none-high.ensures (record { code = 0; excited = 0 });
   order = λ k d within. absurd (omega arith);
@@ -19,13 +17,13 @@ loop-m-init c = record {
 }
 
 pub moved-low-requires : goal.moved-low-requires
-moved-low-requires c =
-    next_key c.args.classes.now c.args.members.now c.loop-m.m-index c.m-item.result c.loop-m-test.true c.m-item.is
-    _ (ap (λ (x : Member). x.key) c.m.view_is) c.loop-m.key c.loop-m.invariant.next
+moved-low-requires g c =
+    next_key (g.C.Classes.classes c.args.classes.now) c.args.members.now c.loop-m.m-index c.m-item.result
+    c.loop-m-test.true c.m-item.is _ refl c.loop-m.key c.loop-m.invariant.next
 
 pub conflicts-requires : goal.conflicts-requires
-conflicts-requires c =
-    let classes = c.args.classes.now in
+conflicts-requires g c =
+    let classes = g.C.Classes.classes c.args.classes.now in
     let ms = c.args.members.now in
     let i = c.loop-m.m-index in
     let low = tally_at classes false ms i c.loop-m.key _ _ _ c.moved-low.ensures c.loop-m.invariant.order
@@ -33,8 +31,8 @@ conflicts-requires c =
     has_tally classes false ms i _ _ c.loop-m-test.true c.requires.few low
 
 pub conflicts-requires-in-loop-m : goal.conflicts-requires-in-loop-m
-conflicts-requires-in-loop-m c =
-    let classes = c.args.classes.now in
+conflicts-requires-in-loop-m g c =
+    let classes = g.C.Classes.classes c.args.classes.now in
     let ms = c.args.members.now in
     let i = c.loop-m.m-index in
     let high = tally_at classes true ms i c.loop-m.key _ _ _ c.moved-high.ensures c.loop-m.invariant.order
@@ -42,8 +40,8 @@ conflicts-requires-in-loop-m c =
     has_tally classes true ms i _ _ c.loop-m-test.true c.requires.few high
 
 pub with-low-requires : goal.with-low-requires
-with-low-requires c =
-    let classes = c.args.classes.now in
+with-low-requires g c =
+    let classes = g.C.Classes.classes c.args.classes.now in
     let ms = c.args.members.now in
     let i = c.loop-m.m-index in
     let low = tally_at classes false ms i c.loop-m.key _ _ _ c.moved-low.ensures c.loop-m.invariant.order
@@ -51,8 +49,8 @@ with-low-requires c =
     has_tally classes false ms i _ _ c.loop-m-test.true c.requires.few low
 
 pub with-high-requires : goal.with-high-requires
-with-high-requires c =
-    let classes = c.args.classes.now in
+with-high-requires g c =
+    let classes = g.C.Classes.classes c.args.classes.now in
     let ms = c.args.members.now in
     let i = c.loop-m.m-index in
     let high = tally_at classes true ms i c.loop-m.key _ _ _ c.moved-high.ensures c.loop-m.invariant.order
@@ -60,17 +58,15 @@ with-high-requires c =
     has_tally classes true ms i _ _ c.loop-m-test.true c.requires.few high
 
 pub loop-m-preserved : goal.loop-m-preserved
-loop-m-preserved c =
-    let classes = c.args.classes.now in
+loop-m-preserved g c =
+    let classes = g.C.Classes.classes c.args.classes.now in
     let ms = c.args.members.now in
     let i = c.loop-m.m-index in
     let m = c.m-item.result in
     let inside = c.loop-m-test.true in
     let at = c.m-item.is in
-    let key_is = ap (λ (x : Member). x.key) c.m.view_is in
-    let state_is = ap (λ (x : Member). x.state) c.m.view_is in
-    let low_role = c.of-at_low.ensures ∙ ap (λ s. role_at false (class_of classes s)) state_is in
-    let high_role = c.of-at_high.ensures ∙ ap (λ s. role_at true (class_of classes s)) state_is in
+    let low_role = c.of-at_low.ensures ∙ ap (role_at false) c.class-class.ensures in
+    let high_role = c.of-at_high.ensures ∙ ap (role_at true) c.class-class.ensures in
     let low = tally_at classes false ms i c.loop-m.key _ _ _ c.moved-low.ensures c.loop-m.invariant.order
     c.loop-m.invariant.low in
     let high = tally_at classes true ms i c.loop-m.key _ _ _ c.moved-high.ensures c.loop-m.invariant.order
@@ -78,14 +74,14 @@ loop-m-preserved c =
     let met_low = c.conflicts.ensures (tallied_to classes false ms i) low in
     let met_high = c.conflicts-in-loop-m.ensures (tallied_to classes true ms i) high in
     record {
-      low = pass_tally classes ms i m inside at _ key_is false _ c.with-low.result low_role
+      low = pass_tally classes ms i m inside at _ refl false _ c.with-low.result low_role
           (c.with-low.ensures (tallied_to classes false ms i) low);
-      high = pass_tally classes ms i m inside at _ key_is true _ c.with-high.result high_role
+      high = pass_tally classes ms i m inside at _ refl true _ c.with-high.result high_role
           (c.with-high.ensures (tallied_to classes true ms i) high);
-      order = pass_order classes ms i m inside at _ key_is c.loop-m.key c.loop-m.invariant.order
-          (next_key classes ms i m inside at _ key_is c.loop-m.key c.loop-m.invariant.next);
-      next = pass_next classes ms i m inside at _ key_is c.requires.sorted;
-      total = pass_total classes ms i m inside at _ key_is c.loop-m.total _ _ _ _ _ low_role high_role
+      order = pass_order classes ms i m inside at _ refl c.loop-m.key c.loop-m.invariant.order
+          (next_key classes ms i m inside at _ refl c.loop-m.key c.loop-m.invariant.next);
+      next = pass_next classes ms i m inside at _ refl c.requires.sorted;
+      total = pass_total classes ms i m inside at _ refl c.loop-m.total _ _ _ _ _ low_role high_role
           c.loop-m.invariant.total met_low met_high refl;
       few = (
           let few_low = few_met _ classes false ms i _ met_low inside in
@@ -94,32 +90,30 @@ loop-m-preserved c =
     }
 
 pub returns-then-total-bar-clause-more : goal.returns-then-total-bar-clause-more
-returns-then-total-bar-clause-more c = λ enough. (
-    let classes = c.args.classes.now in
+returns-then-total-bar-clause-more g c = λ enough. (
+    let classes = g.C.Classes.classes c.args.classes.now in
     let ms = c.args.members.now in
     let i = c.loop-m.m-index in
     let m = c.m-item.result in
     let inside = c.loop-m-test.true in
     let at = c.m-item.is in
-    let key_is = ap (λ (x : Member). x.key) c.m.view_is in
-    let state_is = ap (λ (x : Member). x.state) c.m.view_is in
-    let low_role = c.of-at_low.ensures ∙ ap (λ s. role_at false (class_of classes s)) state_is in
-    let high_role = c.of-at_high.ensures ∙ ap (λ s. role_at true (class_of classes s)) state_is in
+    let low_role = c.of-at_low.ensures ∙ ap (role_at false) c.class-class.ensures in
+    let high_role = c.of-at_high.ensures ∙ ap (role_at true) c.class-class.ensures in
     let low = tally_at classes false ms i c.loop-m.key _ _ _ c.moved-low.ensures c.loop-m.invariant.order
     c.loop-m.invariant.low in
     let high = tally_at classes true ms i c.loop-m.key _ _ _ c.moved-high.ensures c.loop-m.invariant.order
     c.loop-m.invariant.high in
     let met_low = c.conflicts.ensures (tallied_to classes false ms i) low in
     let met_high = c.conflicts-in-loop-m.ensures (tallied_to classes true ms i) high in
-    let total = pass_total classes ms i m inside at _ key_is c.loop-m.total c.conflicts.result
+    let total = pass_total classes ms i m inside at _ refl c.loop-m.total c.conflicts.result
     c.conflicts-in-loop-m.result (c.loop-m.total + (c.conflicts.result + c.conflicts-in-loop-m.result)) _ _
     low_role high_role c.loop-m.invariant.total met_low met_high refl in
     let part = pair_take (Apart.told_apart classes) (i + 1) ms in
     omega (arith, total, part, enough))
 
 pub returns-then-total-bar-clause-few : goal.returns-then-total-bar-clause-few
-returns-then-total-bar-clause-few c =
-    let classes = c.args.classes.now in
+returns-then-total-bar-clause-few g c =
+    let classes = g.C.Classes.classes c.args.classes.now in
     let ms = c.args.members.now in
     let i = c.loop-m.m-index in
     let inside = c.loop-m-test.true in

@@ -7,11 +7,11 @@ use Rattle.si_conflicts.proofs.TallyLemmas.{tallied_to}
 use Rattle.si_conflicts.proofs.trial.told_apart.Given as goal
 
 abbrev pub invariant-loop-m : goal.invariant-loop-m
-invariant-loop-m l = record {
-  low : IsTally l.key (tallied_to l.classes false l.members l.m-index) l.low;
-  high : IsTally l.key (tallied_to l.classes true l.members l.m-index) l.high;
+invariant-loop-m g l = record {
+  low : IsTally l.key (tallied_to (g.C.Classes.classes l.classes) false l.members l.m-index) l.low;
+  high : IsTally l.key (tallied_to (g.C.Classes.classes l.classes) true l.members l.m-index) l.high;
   order : All (λ m. IsUpTo m.key l.key) (take l.m-index l.members);
   next : (d : Member) → l.m-index < length l.members → IsUpTo l.key (get_or l.members l.m-index d).key;
-  total : l.total ≡ pair_sum (Apart.told_apart l.classes) (take l.m-index l.members);
+  total : l.total ≡ pair_sum (Apart.told_apart (g.C.Classes.classes l.classes)) (take l.m-index l.members);
   few : l.total ≤ l.m-index * (2 * max_states);
 }

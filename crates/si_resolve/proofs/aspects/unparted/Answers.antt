@@ -7,7 +7,7 @@ loop-k-preserved c =
     let plus = c.args.plus.now in
     let k = c.loop-k.k in
     let inside : k < length plus = omega (arith, c.loop-k-test.true) in
-    let more = unparted_more plus c.args.minus.now k c.requires inside in
+    let more = unparted_more plus c.args.minus.now k c.requires.count inside in
     record {
       left = omega (arith, more, c.loop-k.invariant.left, c.stays-left.ensures.is);
       few = omega (arith, c.loop-k.invariant.few, c.stays-left.ensures.few);

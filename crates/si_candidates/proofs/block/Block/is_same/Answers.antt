@@ -1,4 +1,4 @@
-use Rattle.std.proofs.Common.{◌∙◌, Bool, List, count_by, sym, ap}
+use Rattle.std.proofs.Common.{◌∙◌, Bool, count_by, sym, ap}
 use Rattle.si_candidates.proofs.SetTests.{same_set-not}
 use Rattle.si_candidates.proofs.block.Block.is_same.Goals as goal
 

@@ -5,7 +5,7 @@ use Rattle.si_resolve.proofs.SearchLemmas.{lawful_classes, one_leaves_none, if_n
 use Rattle.si_resolve.proofs.search.Search.left_below.Goals as goal
 
 pub returns-then-not-may_leave_fewer-clause-none : goal.returns-then-not-may_leave_fewer-clause-none
-returns-then-not-may_leave_fewer-clause-none c = c.may_leave_fewer.ensures.none c.if-not-may_leave_fewer.true
+returns-then-not-may_leave_fewer-clause-none c = c.may_leave_fewer.ensures c.if-not-may_leave_fewer.true
 
 pub trial_below-requires-clause-lawful : goal.trial_below-requires-clause-lawful
 trial_below-requires-clause-lawful c =

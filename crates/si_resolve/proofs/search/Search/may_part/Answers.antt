@@ -1,18 +1,18 @@
-use Rattle.std.proofs.Common.{◌≤◌, arith}
-use Rattle.std.proofs.lemmas.Bool.{ltb-false}
+use Rattle.std.proofs.Common.{◌≤◌, ◌∙◌, ℕ, arith, sym, inl, inr}
+use Rattle.std.proofs.lemmas.Bool.{cases_lt, true≢false}
 use Rattle.si_resolve.specs.Aspects.{column_at, unparted}
 use Rattle.si_resolve.specs.Progress.{bar_of}
 use Rattle.si_resolve.proofs.SearchLemmas.{none_by_aspects, one_flag, other_flag, same_lengths}
 use Rattle.si_resolve.proofs.search.Search.may_part.Goals as goal
 
-pub unparted-requires-clause-i : goal.unparted-requires-clause-i
-unparted-requires-clause-i c = omega (arith, c.requires.i_within, c.requires.list.aspects.count)
+pub leaves_below-requires-clause-i : goal.leaves_below-requires-clause-i
+leaves_below-requires-clause-i c = omega (arith, c.requires.i_within, c.requires.list.aspects.count)
 
-pub unparted-requires-clause-j : goal.unparted-requires-clause-j
-unparted-requires-clause-j c = omega (arith, c.requires.j_within, c.requires.list.aspects.count)
+pub leaves_below-requires-clause-j : goal.leaves_below-requires-clause-j
+leaves_below-requires-clause-j c = omega (arith, c.requires.j_within, c.requires.list.aspects.count)
 
-pub unparted-requires-clause-count : goal.unparted-requires-clause-count
-unparted-requires-clause-count c =
+pub leaves_below-requires-clause-count : goal.leaves_below-requires-clause-count
+leaves_below-requires-clause-count c =
     let r = c.requires in
     let d = c.args.graph.now in
     let list = c.args.list.now in
@@ -25,9 +25,11 @@ pub returns : goal.returns
 returns c = λ refused.
     let r = c.requires in
     let list = c.args.list.now in
-    let more = ltb-false c.unparted.result c.bar.result refused in
-    let enough : bar_of c.args.self.now
-    ≤ unparted (column_at list.columns.items c.args.i) (column_at list.columns.items c.args.j) =
-    omega (arith, more, c.unparted.ensures, c.bar.ensures) in
+    let left : ℕ = unparted (column_at list.columns.items c.args.i) (column_at list.columns.items c.args.j) in
+    let enough : bar_of c.args.self.now ≤ left =
+    elim (cases_lt left c.bar.result) [
+      | inl fewer ↦ absurd (true≢false (sym (c.leaves_below.ensures.1 fewer) ∙ refused))
+      | inr more ↦ omega (arith, more, c.bar.ensures)
+    ] in
     none_by_aspects c.args.graph.now list r.list c.args.i c.args.j r.i_within r.j_within r.first r.later
     c.args.self.now.chains r.chains (bar_of c.args.self.now) enough
