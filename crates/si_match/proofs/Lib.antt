@@ -6,4 +6,5 @@ pub mod CodeLemmas
 pub mod WeightLemmas
 pub mod FitLemmas
 pub mod SupportLemmas
+pub mod DroppingLemmas
 pub mod KnownLemmas

@@ -3,5 +3,6 @@ pub mod Search
 pub mod Triggers
 pub mod Codes
 pub mod Support
+pub mod Dropping
 pub mod Weight
 pub mod Known

@@ -1,4 +1,4 @@
-use Rattle.std.proofs.Common.{◌≡◌, ◌∙◌, refl, sym}
+use Rattle.std.proofs.Common.{◌∙◌, refl, sym}
 use Rattle.si_checks.specs.Lent.{lent_graph}
 use Rattle.si_match.specs.Fit.{first_fit}
 use Rattle.si_match.proofs.KnownLemmas.{has_bit, fitted_some, some_not_none}
