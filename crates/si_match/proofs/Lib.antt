@@ -8,3 +8,4 @@ pub mod FitLemmas
 pub mod SupportLemmas
 pub mod DroppingLemmas
 pub mod KnownLemmas
+pub mod UnfitLemmas

@@ -5,4 +5,5 @@ pub mod Codes
 pub mod Support
 pub mod Dropping
 pub mod Weight
+pub mod Unfit
 pub mod Known
