@@ -1,19 +1,19 @@
 -- Codes as far as some of the signals go, and the signals that determine a next value.
 use Rattle.std.proofs.Common.{◌≡◌, ℕ, suc, ◌⊎◌, ◌+◌, ◌-◌, ◌<◌, ◌≤◌, ◌&&◌, ◌||◌, ◌↔◌, not, Bool, true, false, List, []}
-use Rattle.std.proofs.Common.{◌∷◌, ◌++◌, length, map, take, get_or, bit_and, nat_lt, if◌then◌else◌, Contains, Result}
+use Rattle.std.proofs.Common.{◌∷◌, ◌++◌, length, map, take, get_or, bit_and, if◌then◌else◌, Contains, Result}
 use Rattle.std.proofs.Common.{Ok, Err, refl, sym, ap, ◌∙◌, arith, inl, inr, subst}
 use Rattle.std.specs.List.{list_all}
 use Rattle.std.proofs.lemmas.Bool.{true≢false, eq-eqb}
-use Rattle.std.proofs.lemmas.Bool.Decides.{eqb_tells, leb_tells}
+use Rattle.std.proofs.lemmas.Bool.Decides.{eqb_tells}
 use Rattle.std.proofs.lemmas.List.Elements.{Contains-push, Contains-push_cases, Contains-append_left}
 use Rattle.std.proofs.lemmas.List.Sums.{list_all-from_AllPass}
 use Rattle.std.proofs.lemmas.Nat.{and_assoc}
 use mathlib.Core.Bool.{beq}
 use Rattle.si_base.proofs.BitFacts.{same_codes, flip-same, flip-other}
 use Rattle.si_base.proofs.Steps.{beq-refl}
-use Rattle.si_base.specs.Bits.{bit, flip, ones}
+use Rattle.si_base.specs.Bits.{bit, flip}
 use Rattle.si_base.specs.Codes.{CodedGraph, code, next_value}
-use Rattle.si_cube.proofs.LiteralLemmas.{bit-and, bit-ones}
+use Rattle.si_cube.proofs.LiteralLemmas.{bit-and}
 use Rattle.std.specs.Ordering.{nat_cmp}
 use Rattle.std.specs.List.Sorted.{IsBinarySearchResult, IsNonDecreasing}
 use Rattle.std.specs.Result.{is_ok}
@@ -22,6 +22,7 @@ use Rattle.std.proofs.lemmas.List.{get_or_default, take_all}
 use Rattle.si_graph.proofs.MemberLemmas.{Contains-map, Contains-from_map}
 use Rattle.si_cube.specs.Order.{HaveSame}
 use Rattle.si_match.specs.Codes.{AreCodes, AreProjected}
+use Rattle.si_match.specs.Dropping.{AreTried}
 use Rattle.si_match.specs.Fit.{states_of}
 use Rattle.si_match.specs.Support.{agree, determines, dropped_from, support_of}
 use Rattle.si_match.proofs.StateLemmas.{state_at, states_are, one_fails}
@@ -31,10 +32,9 @@ abbrev pub CodesBefore : CodedGraph → ℕ → Bool → ℕ → ℕ → List �
 CodesBefore c z value signals count codes =
     (k : ℕ) → Contains codes k ↔ ((s : ℕ) × (s < count) × (next_value c s z ≡ value) × (bit_and (code c s) signals ≡ k))
 
--- the signals from the i-th on are all there, and what is to be dropped of them gives the support
+-- the signals before the i-th have been tried, and what the codes have of those that are left
 pub record InSupport (c : CodedGraph) (z i signals : ℕ) (on off : List ℕ) : Type 0 where
-  pub told : dropped_from c z (length c.graph.signals - i) i signals ≡ support_of c z
-  pub later : (j : ℕ) → i ≤ j → j < length c.graph.signals → bit signals j ≡ true
+  pub tried : AreTried c z i signals
   pub on_are : AreCodes c z true signals on
   pub off_are : AreCodes c z false signals off
 
@@ -159,29 +159,19 @@ module _ (c : CodedGraph) (z signals : ℕ) (on off : List ℕ) (on_are : AreCod
       (one_fails c (λ q. not (agree signals (code c s) q.1)
       || beq (next_value c s z) (next_value c q.0 z)) t inside_t fails)
 
+-- ---- two lists of codes tell whether signals determine the next value
+module _ (c : CodedGraph) (z signals : ℕ) (on off sorted : List ℕ) (on_are : AreCodes c z true signals on)
+    (off_are : AreCodes c z false signals off) (same : HaveSame sorted off) where
+  sorted_are : AreCodes c z false signals sorted
+  sorted_are k = (λ there. (off_are k).0 ((same k).0 there), λ state. (same k).1 ((off_are k).1 state))
+
+  pub told_by_lists : (met : Bool)
+      → (met ≡ true → (k : ℕ) × Contains on k × Contains sorted k)
+      → (met ≡ false → (k : ℕ) → Contains on k → Contains sorted k → ⊥) → not met ≡ determines c z signals
+  told_by_lists true meet apart = sym (meet_determines_not c z signals on sorted on_are sorted_are (meet refl))
+  told_by_lists false meet apart = sym (apart_determines c z signals on sorted on_are sorted_are (apart refl))
+
 -- ---- signal after signal
-whole : (c : CodedGraph) (z : ℕ) → dropped_from c z (length c.graph.signals) 0 (ones (length c.graph.signals))
-    ≡ support_of c z
-unfolding support_of
-whole c z = refl
-
-pub in_start : (c : CodedGraph) (z n signals : ℕ) (on off : List ℕ) → n ≡ length c.graph.signals → signals ≡ ones n
-    → AreCodes c z true signals on → AreCodes c z false signals off
-    → InSupport c z 0 signals on off
-in_start c z n signals on off count all on_are off_are = record {
-  told = (let e : length c.graph.signals - 0 ≡ length c.graph.signals = omega arith in rw (e, all, count) (whole c z));
-  later = λ j low high. rw all (bit-ones n j ∙ below j high);
-  on_are = on_are;
-  off_are = off_are;
-}
-  where
-    below : (j : ℕ) → j < length c.graph.signals → nat_lt j n ≡ true
-    below j high = elim (leb_tells (suc j) n) [
-      | inl low ↦ low.0
-      | inr up ↦ absurd (let past = up.1 in omega
-          (arith, past, high, count))
-    ]
-
 module _ (c : CodedGraph) (z i signals : ℕ) (on off : List ℕ) (so_far : InSupport c z i signals on off)
     (inside : i < length c.graph.signals) where
   told_step : (b : Bool) → determines c z (flip signals i) ≡ b
@@ -189,12 +179,14 @@ module _ (c : CodedGraph) (z i signals : ℕ) (on off : List ℕ) (so_far : InSu
       ≡ support_of c z
   told_step b is =
       let e : length c.graph.signals - i ≡ suc (length c.graph.signals - (i + 1)) = omega arith in
-      rw (← is) (rw e at so_far.told)
+      rw (← is) (rw e at so_far.tried.told)
 
   pub in_kept : determines c z (flip signals i) ≡ false → InSupport c z (i + 1) signals on off
   in_kept needed = record {
-    told = told_step false needed;
-    later = λ j low high. so_far.later j (omega (arith, low)) high;
+    tried = record {
+      told = told_step false needed;
+      later = λ j low high. so_far.tried.later j (omega (arith, low)) high;
+    };
     on_are = so_far.on_are;
     off_are = so_far.off_are;
   }
@@ -203,16 +195,18 @@ module _ (c : CodedGraph) (z i signals : ℕ) (on off : List ℕ) (so_far : InSu
       → AreCodes c z false (flip signals i) off2
       → determines c z (flip signals i) ≡ true → InSupport c z (i + 1) (flip signals i) on2 off2
   in_dropped on2 off2 on_are off_are needless = record {
-    told = told_step true needless;
-    later = λ j low high. flip-other signals i j (λ same. omega (arith, low, same))
-        ∙ so_far.later j (omega (arith, low)) high;
+    tried = record {
+      told = told_step true needless;
+      later = λ j low high. flip-other signals i j (λ same. omega (arith, low, same))
+          ∙ so_far.tried.later j (omega (arith, low)) high;
+    };
     on_are = on_are;
     off_are = off_are;
   }
 
 pub in_end : (c : CodedGraph) (z i signals : ℕ) (on off : List ℕ) → length c.graph.signals ≤ i
     → InSupport c z i signals on off → signals ≡ support_of c z
-in_end c z i signals on off past all = let e : length c.graph.signals - i ≡ 0 = omega arith in rw e at all.told
+in_end c z i signals on off past all = let e : length c.graph.signals - i ≡ 0 = omega arith in rw e at all.tried.told
 
 -- ---- searching
 pub not_found : (xs : List ℕ) (x : ℕ) (r : Result ℕ ℕ) → IsBinarySearchResult (λ y. nat_cmp y x) xs r
@@ -280,7 +274,7 @@ module _ (c : CodedGraph) (z i signals fewer : ℕ) (on off one other on2 off2 :
     ≡ off)
     (on_cut : AreProjected one fewer on2) (off_cut : AreProjected other fewer off2) where
   within : bit_and signals (flip signals i) ≡ flip signals i
-  within = fewer_within signals i (so_far.later i (omega arith) inside)
+  within = fewer_within signals i (so_far.tried.later i (omega arith) inside)
 
   on2_are : AreCodes c z true (flip signals i) on2
   on2_are = cut_further c z true signals (flip signals i) on on2 so_far.on_are (rw (one_is, fewer_is) at on_cut) within

@@ -1,13 +1,26 @@
--- The two-input C-element: its first fitting instance, its support and its weight.
-use Rattle.std.proofs.Common.{◌≡◌, ℕ, Bool, true, false, List, [], ◌∷◌, refl, Some, None, codes}
+-- The two-input C-element: its first fitting instance, its support and its weight; and a signal that repeats another:
+-- its trigger, and what is known of its fits.
+use Rattle.std.proofs.Common.{◌≡◌, ◌≢◌, ℕ, Bool, true, false, List, [], ◌∷◌, refl, Some, None, codes}
+use Rattle.std.proofs.Common.{zero, suc, ◌∙◌, sym, ap, subst, arith, lit<}
+use Rattle.std.proofs.lemmas.Bool.{true≢false}
+use Rattle.std.proofs.lemmas.List.Elements.{recursion_from_All}
+use Rattle.si_base.proofs.BitFacts.{flip-other}
 use Rattle.si_base.specs.Codes.{CodedGraph}
-use Rattle.si_base.specs.Graph.{arc, rise, fall}
+use Rattle.si_base.specs.Graph.{arc, rise, fall, is_driven, IsNonInput}
+use Rattle.si_base.specs.declared.graph.Signal.{Signal}
 use Rattle.si_base.specs.declared.graph.SigKind.TheVariants.{Input, Output}
 use Rattle.si_base.specs.declared.ids.Literal.{Literal}
-use Rattle.si_cell.specs.Library.{Cell, Library}
+use Rattle.si_cell.specs.Library.{Cell, Library, instance_value}
+use Rattle.si_graph.proofs.ValueLemmas.{bit-zero}
+use Rattle.si_match.specs.Dropping.{AreTried}
 use Rattle.si_match.specs.Fit.{first_fit}
-use Rattle.si_match.specs.Support.{support_of}
+use Rattle.si_match.specs.Known.{AreKnown, FitsByReading}
+use Rattle.si_match.specs.Support.{determines, support_of}
+use Rattle.si_match.specs.Triggers.{IsTrigger}
+use Rattle.si_match.specs.Unfit.{bound_of, weight_of_unfit}
 use Rattle.si_match.specs.Weight.{weight_of}
+use Rattle.si_match.specs.declared.unfit.Unfit.{Unfit}
+use Rattle.si_match.proofs.TriggerLemmas.{same_values}
 
 -- the inputs a and b are signals 0 and 1, the output c is signal 2
 abbrev c_element : CodedGraph
@@ -60,3 +73,82 @@ weight = refl
 no_weight : weight_of c_element (library (inverting ∷ [])) ≡ 0
 unfolding weight_of first_fit support_of
 no_weight = refl
+
+-- ---- triggers and the support
+-- the triggers a and b of the C-element don't determine its next value: it is in its support itself
+triggers_alone : determines c_element 2 3 ≡ false
+triggers_alone = refl
+
+with_itself : determines c_element 2 7 ≡ true
+with_itself = refl
+
+-- once all three signals have been tried, none is left to drop
+all_tried : AreTried c_element 2 3 7
+unfolding support_of
+all_tried = record { told = refl; later = λ j low high. absurd (omega (arith, low, high)) }
+
+-- where it fits no cell, it adds 4 to the weight, of which 3 are sure by the triggers
+abbrev unfit : Unfit
+unfit = record { sig = 2; triggers = 3 }
+
+adds : weight_of_unfit c_element unfit ≡ 4
+unfolding support_of
+adds = refl
+
+adds_at_least : bound_of c_element unfit ≡ 3
+adds_at_least = refl
+
+-- the output b, signal 1, repeats the input a, signal 0
+abbrev repeater : CodedGraph
+repeater = record {
+  graph = record {
+    signals = record { name = codes "a"; kind = Input } ∷ record { name = codes "b"; kind = Output } ∷ [];
+    states = 4;
+    edges = arc 0 (rise 0) 1 ∷ arc 1 (rise 1) 2 ∷ arc 2 (fall 0) 3 ∷ arc 3 (fall 1) 0 ∷ [];
+    start = 0;
+  };
+  codes = 0 ∷ 1 ∷ 3 ∷ 2 ∷ [];
+}
+
+-- its trigger a determines the next value of b, and is its support
+trigger : IsTrigger repeater 1 0
+trigger = record {
+  from = 0;
+  event = rise 0;
+  to = 1;
+  step = (0, lit< tt, refl);
+  signal = refl;
+  other = λ e. omega (arith, e);
+  changes = true≢false;
+}
+
+trigger_alone : determines repeater 1 1 ≡ true
+trigger_alone = refl
+
+support_is_trigger : support_of repeater 1 ≡ 1
+unfolding support_of
+support_is_trigger = refl
+
+-- ---- what is known of fits
+-- each instance that fits b reads a: at the first two states, which differ at a alone, b has other next values
+reads : FitsByReading repeater (library (buffer ∷ [])) 0 1
+reads i over fit unread = true≢false (sym (fit 1 (lit< tt)) ∙ same ∙ fit 0 (lit< tt))
+  where
+    same : instance_value (library (buffer ∷ [])) i 1 false ≡ instance_value (library (buffer ∷ [])) i 0 false
+    same = rw (same_values 0 1 0 (flip-other 0 0) i.literals (recursion_from_All (λ
+        (l : Literal). l.sig ≢ 0) i.literals unread)) refl
+
+driven_is_b : (z : ℕ) → IsNonInput repeater.graph.signals z → z ≡ 1
+driven_is_b zero (x, at, driven) =
+    let is_a : record { name = codes "a"; kind = Input } ≡ x = cc in
+    absurd (true≢false (sym driven ∙ ap (λ (y : Signal). is_driven y.kind) (sym is_a)))
+driven_is_b (suc zero) b = refl
+driven_is_b (suc (suc z)) (x, at, driven) = cc
+
+-- so this much is known: no signal is unknown, and what fits one that isn't told to fit reads a
+known : AreKnown repeater (library (buffer ∷ [])) (record { unknown = 0; fitted = 0; read = 0 })
+known = record {
+  fitted = λ z driven sure told. absurd (true≢false (sym told ∙ bit-zero z));
+  others = λ z driven sure told. subst (FitsByReading repeater (library (buffer ∷ [])) 0) (sym (driven_is_b z driven))
+      reads;
+}

@@ -1,11 +1,11 @@
 -- What is known of a fit decides it, or which signals its instances read.
-use Rattle.std.proofs.Common.{◌≡◌, ◌≢◌, ℕ, ◌<◌, Bool, true, false, [], length, is_none, is_some, All, Option, Some}
-use Rattle.std.proofs.Common.{None, refl, sym, ap, ◌∙◌, arith, inl, inr, subst}
+use Rattle.std.proofs.Common.{◌≡◌, ◌≢◌, ℕ, ◌<◌, true, false, [], length, is_none, is_some, Option, Some}
+use Rattle.std.proofs.Common.{None, refl, sym, ◌∙◌, arith, inl, inr, subst}
 use Rattle.std.proofs.lemmas.Bool.{cases_Bool, true≢false}
 use Rattle.std.proofs.lemmas.Bool.Decides.{eqb_tells}
 use Rattle.std.proofs.lemmas.List.Elements.{All-nil}
 use Rattle.std.proofs.lemmas.Option.{slice_get_within}
-use Rattle.si_base.specs.Bits.{bit, IsSet}
+use Rattle.si_base.specs.Bits.{IsSet}
 use Rattle.si_base.specs.Codes.{CodedGraph, IsCoded}
 use Rattle.si_base.specs.Graph.{IsNonInput}
 use Rattle.si_base.specs.Limits.{code_width}

@@ -6,4 +6,6 @@ pub mod CodeLemmas
 pub mod WeightLemmas
 pub mod FitLemmas
 pub mod SupportLemmas
+pub mod DroppingLemmas
 pub mod KnownLemmas
+pub mod UnfitLemmas

@@ -1,17 +1,16 @@
 -- The support determines the next value.
 use Rattle.std.proofs.Common.{◌≡◌, ℕ, zero, suc, ◌+◌, ◌<◌, ◌^◌, ◌≤◌, ◌&&◌, ◌||◌, not, Bool, true, false, bit_and}
 use Rattle.std.proofs.Common.{nat_lt, length, refl, sym, ap, ◌∙◌, arith, inl, inr}
-use Rattle.std.proofs.lemmas.Bool.{cases_Bool, cases_order, true≢false}
+use Rattle.std.proofs.lemmas.Bool.{cases_Bool, true≢false}
 use Rattle.std.proofs.lemmas.Bool.Decides.{eqb_tells, leb_tells}
 use Rattle.std.proofs.lemmas.Nat.Bits.{bit_at_above}
 use mathlib.Core.Bool.{beq}
-use Rattle.si_base.proofs.BitFacts.{beq_false, same_codes}
-use Rattle.si_base.proofs.Steps.{beq-true, beq-refl}
+use Rattle.si_base.proofs.BitFacts.{same_codes}
+use Rattle.si_base.proofs.Steps.{beq-refl}
 use Rattle.si_base.specs.Bits.{bit, flip, ones}
 use Rattle.si_base.specs.Codes.{CodedGraph, IsCoded, code, next_value}
-use Rattle.si_base.specs.Graph.{enables, rise, fall, IsNonInput}
+use Rattle.si_base.specs.Graph.{IsNonInput}
 use Rattle.si_base.specs.Proper.{HasNoConflict}
-use Rattle.si_base.specs.declared.ids.Event.{Event}
 use Rattle.si_cube.proofs.LiteralLemmas.{bit-and, bit-ones}
 use Rattle.si_checks.proofs.ConflictFree.{same_next}
 use Rattle.si_match.specs.Support.{agree, determines, dropped_from, support_of}

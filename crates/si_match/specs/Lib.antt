@@ -3,5 +3,7 @@ pub mod Search
 pub mod Triggers
 pub mod Codes
 pub mod Support
+pub mod Dropping
 pub mod Weight
+pub mod Unfit
 pub mod Known

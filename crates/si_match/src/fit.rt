@@ -22,8 +22,8 @@ use si_graph::coded::Coded;
 /// literal order, the first pin first. `None` exactly where none fits.
 ///
 /// Each gate of `z` has to read its trigger signals. The search ends below literals at the first
-/// pins that leave too few pins for them, or where a state beside an arc of a trigger, or one that refuted an
-/// earlier instance, refutes every instance with these literals.
+/// pins that leave too few pins for them, or where a state beside an arc of a trigger, or one that
+/// refuted an earlier instance, refutes every instance with these literals.
 pub fn fit(graph: Distinct<'_>, library: &Library, z: Sig) -> Option<Instance>
     requires { IsNonInput (lent_graph graph).graph.signals z }
     ensures { result ≡ first_fit (lent_graph graph.entry) library.now z }

@@ -10,4 +10,5 @@ mod search;
 mod state;
 pub mod support;
 mod triggers;
+mod unfit;
 pub mod weight;

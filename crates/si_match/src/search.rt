@@ -33,9 +33,9 @@ fn literal_at(place: usize) -> PinLiteral
 /// Completes the literals at the first pins of the cell by `more` of the `choices` literals of the
 /// graph's signals to the first instance that fits `z`, in literal order, the first of these pins
 /// first. Answers whether there is one; if there is none, the literals are as before. The search
-/// ends where more signals that the cell needs are missing at the pins than can come, or where one of the
-/// witnesses refutes all completions. States that refute an instance join the witnesses, as far as
-/// there is room.
+/// ends where more signals that the cell needs are missing at the pins than can come, or where one
+/// of the witnesses refutes all completions. States that refute an instance join the witnesses, as
+/// far as there is room.
 pub(crate) fn complete(
     coded: &Coded,
     choices: usize,

@@ -1,13 +1,20 @@
 //! The support of a signal.
 
-ghost use Rattle.std.specs.Prelude.{◌≡◌, ℕ, ◌<◌, IfOk, length};
+ghost use Rattle.std.specs.Prelude.{◌≡◌, ℕ, ◌<◌, ◌≤◌, IfOk, length, true};
+ghost use Rattle.si_base.specs.Bits.{bit};
+ghost use Rattle.si_base.specs.Codes.{IsCoded};
 ghost use Rattle.si_base.specs.Graph.{IsNonInput};
+ghost use Rattle.si_base.specs.Limits.{code_width};
 ghost use Rattle.si_checks.specs.Lent.{lent_graph};
-ghost use Rattle.si_match.specs.Support.{support_of};
+ghost use Rattle.si_match.specs.Dropping.{AreTried};
+ghost use Rattle.si_match.specs.Support.{determines, support_of};
+ghost use Rattle.si_match.specs.Triggers.{AreTriggers};
 
 use crate::codes::{codes_with, meet, projected};
+use crate::triggers::triggers_of;
 use si_base::ids::{Code, NoMemory, Sig};
 use si_checks::distinct::Distinct;
+use si_cube::codes::in_order;
 use si_graph::coded::Coded;
 use std::alloc::Global;
 
@@ -18,21 +25,89 @@ pub fn support(alloc: Global, graph: Distinct<'_>, z: Sig) -> Result<Code, NoMem
     requires { IsNonInput (lent_graph graph).graph.signals z }
     ensures { IfOk result (λ signals. signals ≡ support_of (lent_graph graph.entry) z) }
 {
-    kept_signals(alloc, graph.proper().coded(), z)
+    let coded = graph.proper().coded();
+    let triggers = triggers_of(coded, z);
+    support_from(alloc, coded, z, triggers.signals)
 }
 
-/// The support of `z`. The codes are kept as two lists, by the next value, and get shorter with
-/// each signal that is dropped.
-fn kept_signals(alloc: Global, coded: &Coded, z: Sig) -> Result<Code, NoMemory>
+/// The support of `z`, some triggers of which are known: no trigger can be dropped. So the
+/// triggers are the support where they determine the next value. Where they do so together with
+/// `z` itself, all other signals before `z` are dropped; and those behind it too, unless they and
+/// the triggers make `z` needless. Else all signals but the triggers are tried.
+pub(crate) fn support_from(
+    alloc: Global,
+    coded: &Coded,
+    z: Sig,
+    triggers: Code,
+) -> Result<Code, NoMemory>
+    requires coded { IsCoded coded.now }
+    requires signal { z < length coded.now.graph.signals }
+    requires triggers { AreTriggers coded.now z triggers }
+    ensures { IfOk result (λ signals. signals ≡ support_of coded.now z) }
+{
+    if determine(alloc, coded, z, triggers)? {
+        return Ok(triggers);
+    }
+    let count = coded.graph().signals().len();
+    let own = triggers.set(z, true);
+    if !determine(alloc, coded, z, own)? {
+        return kept_signals(alloc, coded, z, triggers, 0, Code::ones(count));
+    }
+    let later = with_later(triggers, z, count);
+    if !determine(alloc, coded, z, later)? {
+        return Ok(own);
+    }
+    kept_signals(alloc, coded, z, triggers, z.0 as usize + 1, later)
+}
+
+/// Whether the values of these signals determine the next value of `z`.
+fn determine(alloc: Global, coded: &Coded, z: Sig, signals: Code) -> Result<bool, NoMemory>
     requires { z < length coded.now.graph.signals }
+    ensures { IfOk result (λ told. told ≡ determines coded.now z signals) }
+{
+    let on = codes_with(alloc, coded, z, true, signals)?;
+    let off = in_order(codes_with(alloc, coded, z, false, signals)?);
+    Ok(!meet(&on, &off))
+}
+
+/// The set with all signals behind `z`.
+fn with_later(signals: Code, z: Sig, count: usize) -> Code
+    requires within { z < count }
+    requires few { count ≤ code_width }
+    ensures later { (j : ℕ) → z < j → j < count → bit result j ≡ true }
+    ensures others { (j : ℕ) → (z < j → j < count → ⊥) → bit result j ≡ bit signals j }
+{
+    let later = Code::ones(count).0 ^ Code::ones(z.0 as usize + 1).0;
+    Code(signals.0 | later)
+}
+
+/// The support of `z`, where the signals before `first` have been tried and those behind are all
+/// there. The codes are kept as two lists, by the next value, and get shorter with each signal that
+/// is dropped.
+fn kept_signals(
+    alloc: Global,
+    coded: &Coded,
+    z: Sig,
+    triggers: Code,
+    first: usize,
+    all: Code,
+) -> Result<Code, NoMemory>
+    requires coded { IsCoded coded.now }
+    requires signal { z < length coded.now.graph.signals }
+    requires triggers { AreTriggers coded.now z triggers }
+    requires tried { AreTried coded.now z first all }
     ensures { IfOk result (λ signals. signals ≡ support_of coded.now z) }
 {
     let count = coded.graph().signals().len();
-    let mut signals = Code::ones(count);
+    let mut signals = all;
     let mut on = codes_with(alloc, coded, z, true, signals)?;
     let mut off = codes_with(alloc, coded, z, false, signals)?;
-    for i in 0..count {
-        let fewer = signals.flip(Sig(i as u8));
+    for i in first..count {
+        let sig = Sig(i as u8);
+        if triggers.get(sig) {
+            continue;
+        }
+        let fewer = signals.flip(sig);
         let fewer_on = projected(alloc, &on, fewer)?;
         let fewer_off = projected(alloc, &off, fewer)?;
         if meet(&fewer_on, &fewer_off) {

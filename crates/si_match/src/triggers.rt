@@ -14,6 +14,7 @@ pub(crate) const MAX_WITNESSES: usize = 32;
 
 /// The triggers of a signal (the book's trigger signals), and, as far as there is room, for each of
 /// them and each direction the ends of an arc across which the next value changes.
+#[derive(Drop)]
 pub(crate) struct Triggers {
     pub(crate) signals: Code,
     pub(crate) witnesses: ArrayVec<u32, MAX_WITNESSES>,

@@ -1,4 +1,4 @@
-use Rattle.std.proofs.Common.{◌≡◌, ◌<◌, ◌≤◌, List, [], sym, refl, subst, length, rules}
+use Rattle.std.proofs.Common.{◌≡◌, ◌<◌, ◌≤◌, List, sym, refl, subst, length, rules}
 use Rattle.si_base.specs.declared.ids.Literal.{Literal}
 use Rattle.si_cell.specs.Library.{Cell, cell_at}
 use Rattle.si_match.specs.Triggers.{AreMissing}

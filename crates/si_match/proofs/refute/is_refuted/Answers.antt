@@ -1,4 +1,4 @@
-use Rattle.std.proofs.Common.{◌<◌, ◌++◌, arith, get_or, length}
+use Rattle.std.proofs.Common.{◌<◌, ◌++◌, arith, get_or}
 use Rattle.si_match.specs.Fit.{suits}
 use Rattle.si_match.proofs.StateLemmas.{one_fails}
 use Rattle.si_match.proofs.refute.is_refuted.Goals as goal

@@ -4,7 +4,6 @@ use Rattle.std.proofs.lemmas.List.{length_push}
 use Rattle.std.proofs.lemmas.List.Elements.{All-push}
 use Rattle.si_base.specs.Bits.{bit}
 use Rattle.si_base.specs.declared.ids.Literal.{Literal}
-use Rattle.si_match.specs.Triggers.{AreMissing}
 use Rattle.si_match.specs.Weight.{size_from}
 use Rattle.si_match.proofs.TriggerLemmas.{missing_next, missing_now}
 use Rattle.si_match.proofs.SearchLemmas.{within_width, refuted_now, starts, found_now, none_now, done_now, popped}

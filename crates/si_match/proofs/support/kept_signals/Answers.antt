@@ -1,13 +1,23 @@
-use Rattle.std.proofs.Common.{◌≡◌, ◌<◌, ◌≤◌, sym, length, subst, rules, Contains}
-use Rattle.si_match.proofs.CodeLemmas.{in_start, signal_kept, signal_dropped, in_end}
+use Rattle.std.proofs.Common.{◌<◌, ◌≤◌, ◌∙◌, sym, length, subst, rules, arith, Contains}
+use Rattle.si_match.proofs.CodeLemmas.{in_kept, signal_kept, signal_dropped, in_end}
+use Rattle.si_match.proofs.DroppingLemmas.{kept_when_tried}
 use Rattle.si_match.proofs.support.kept_signals.Goals as goal
 
 pub loop-i-init : goal.loop-i-init
-loop-i-init c =
-    let count : length c.signals-count.result.now ≡ length c.args.coded.now.graph.signals = search rules in
-    in_start c.args.coded.now c.args.z (length c.signals-count.result.now) c.ones-signals.result c.in_ok-on.on.items
-    c.in_ok-off.off.items count
-    c.ones-signals.ensures c.in_ok-on.ensures c.in_ok-off.ensures
+loop-i-init c = record {
+  tried = c.requires.tried;
+  on_are = c.in_ok-on.ensures;
+  off_are = c.in_ok-off.ensures;
+}
+
+pub loop-i-preserved-then-get : goal.loop-i-preserved-then-get
+loop-i-preserved-then-get c =
+    let inside : c.loop-i.i < length c.args.coded.now.graph.signals = search rules in
+    let so_far = c.loop-i.invariant in
+    let there = so_far.tried.later c.loop-i.i (omega arith) inside in
+    let trigger = c.requires.triggers c.loop-i.i (sym c.get.ensures ∙ c.if-get.true) in
+    in_kept c.args.coded.now c.args.z c.loop-i.i c.loop-i.signals c.loop-i.on.items c.loop-i.off.items so_far inside
+    (kept_when_tried c.args.coded.now c.args.z c.loop-i.i c.loop-i.signals c.requires.coded trigger there)
 
 pub loop-i-preserved-then-meet : goal.loop-i-preserved-then-meet
 loop-i-preserved-then-meet c =

@@ -1,5 +1,4 @@
-use Rattle.std.proofs.Common.{◌≡◌, ◌∙◌, ℕ, ◌<◌, List, ap, arith, sym, subst, length, Contains}
-use Rattle.si_base.specs.Codes.{CodedGraph}
+use Rattle.std.proofs.Common.{◌≡◌, ◌∙◌, List, ap, sym, subst, Contains}
 use Rattle.si_base.specs.Graph.{StateGraph}
 use Rattle.si_base.specs.declared.graph.Edge.{Edge}
 use Rattle.si_base.proofs.StepFacts.{step_within}

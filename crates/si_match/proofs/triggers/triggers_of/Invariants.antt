@@ -1,4 +1,4 @@
-use Rattle.std.proofs.Common.{◌≤◌, ◌<◌, length, All}
+use Rattle.std.proofs.Common.{◌<◌, All}
 use Rattle.si_match.specs.Triggers.{AreTriggers}
 use Rattle.si_match.proofs.triggers.triggers_of.Given as goal
 
