@@ -6,18 +6,18 @@ ghost use Rattle.si_base.specs.declared.graph.Edge.{Edge};
 ghost use Rattle.si_base.specs.Graph.{Step, IsGraph, IsNonInput};
 ghost use Rattle.si_base.specs.Sets.{IsSubset};
 ghost use Rattle.si_graph.specs.Reach.{IsIn, Marks, MarksAll};
-ghost use Rattle.si_insert.specs.Accepted.{IsInput};
 ghost use Rattle.si_divisor.specs.Targets.{IsLeast, target};
 ghost use Rattle.si_divisor.specs.Switching.{Switches};
 ghost use Rattle.si_divisor.specs.WorkList.{Works, SwitchRule, Strays, Belongs, AllBelong};
 ghost use Rattle.si_divisor.specs.WorkList.{IsTargetBy, MayExit, ExitsDone, ExitsBothWays};
 ghost use Rattle.si_divisor.specs.WorkList.{FollowsInto, IsAfterInput, IsCrossed};
 
-use si_base::graph::{Edge, SigKind};
-use si_base::ids::{Event, NoMemory, Sig, StateId};
+use si_base::graph::Edge;
+use si_base::ids::{Event, NoMemory, StateId};
 use si_base::sets::StateSet;
 use si_graph::graph::Graph;
 use si_graph::search::Search;
+use si_insert::accept::is_input;
 use std::alloc::Global;
 
 /// Reaches the state, if it is wanted.
@@ -185,14 +185,6 @@ fn reach_all_into(
         at = graph.next_in(k);
     }
     Ok(())
-}
-
-/// Whether the signal is an input.
-fn is_input(graph: &Graph, z: Sig) -> bool
-    requires { z < length graph.now.signals }
-    ensures { IsTrue result ↔ IsInput graph.now.signals z }
-{
-    matches!(graph.signals()[z.0 as usize].kind, SigKind::Input)
 }
 
 /// Reaches what inputs lead to from a state.

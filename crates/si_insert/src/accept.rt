@@ -10,6 +10,7 @@ ghost use Rattle.si_base.specs.Codes.{IsDeterministic};
 ghost use Rattle.si_base.specs.Limits.{max_states};
 ghost use Rattle.si_insert.specs.Partition.{IsLawful};
 ghost use Rattle.si_insert.specs.Accepted.{IsInput, IsAccepted, ShowsRejected, copy_count};
+ghost use Rattle.si_insert.specs.Accepted.{DelaysNoInput, StaysProper};
 ghost use Rattle.si_insert.specs.Insertion;
 ghost use Rattle.si_insert.specs.Pairs.{breaks, IsHeld, IsBroken, ArcWaits, PairBreaks, ArcBreaks};
 
@@ -58,6 +59,15 @@ impl Accepted {
     {
         Accepted { partition }
     }
+
+    /// The partition, of which it is known that it is accepted for the graph.
+    pub fn known(graph: &Proper, partition: Partition) -> Accepted
+        requires { IsAccepted graph.now.graph partition }
+        ensures { result ≡ partition }
+    {
+        let _ = graph;
+        Accepted::of(partition)
+    }
 }
 
 /// Why a lawful partition isn't accepted.
@@ -74,7 +84,7 @@ pub enum Rejected {
 }
 
 /// Whether the signal is an input.
-fn is_input(graph: &Graph, z: Sig) -> bool
+pub fn is_input(graph: &Graph, z: Sig) -> bool
     requires { z < length graph.now.signals }
     ensures { IsTrue result ↔ IsInput graph.now.signals z }
 {
@@ -236,6 +246,24 @@ pub fn accept(graph: &Proper, partition: Partition) -> Result<Accepted, (Partiti
             },
         ));
     }
+    accept_by_size(graph, partition)
+}
+
+/// The same for a partition of which it is known that the inserted graph is proper and delays no
+/// input: only the limits are left to test, and no arc is looked at.
+pub fn accept_by_size(
+    graph: &Proper,
+    partition: Partition,
+) -> Result<Accepted, (Partition, Rejected)>
+    requires lawful { IsLawful graph.now.graph partition }
+    requires proper { StaysProper graph.now.graph partition }
+    requires inputs { DelaysNoInput graph.now.graph partition }
+    ensures same { IfOk result (λ a. a ≡ partition) }
+    ensures accepted { IfOk result (IsAccepted graph.now.graph) }
+    ensures back { IfErr result (λ e. e.0 ≡ partition) }
+    ensures fault { IfErr result (λ e. ShowsRejected graph.now.graph partition e.1) }
+{
+    let g = graph.coded().graph();
     let states = count_copies(partition.classes());
     if states > MAX_STATES {
         return Err((

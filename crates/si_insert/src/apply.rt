@@ -2,7 +2,9 @@
 
 ghost use Rattle.std.specs.Prelude.{◌≡◌, ◌≢◌, ℕ, ◌<◌, ◌≤◌, ◌++◌, ◌∷◌, [], ◌^◌, IfOk, OnOk, All};
 ghost use Rattle.std.specs.Prelude.{length, map};
+ghost use Rattle.std.specs.List.Sorted.{IsStrictlySortedBy};
 ghost use Rattle.si_base.specs.Codes.{IsCoded};
+ghost use Rattle.si_base.specs.EdgeOrder.{edge_cmp};
 ghost use Rattle.si_base.specs.Graph.{IsGraph, IsMadeOf};
 ghost use Rattle.si_base.specs.Limits.{max_signals};
 ghost use Rattle.si_insert.specs.Accepted.{IsAccepted, copy_count};
@@ -62,23 +64,26 @@ pub(crate) fn apply_with_copies(
     let coded = graph.coded();
     let given = coded.graph();
     let classes = accepted.partition().classes();
-    let made = made_graph(alloc, given, classes, name)?;
     let copies = copies_of(alloc, classes)?;
+    let made = made_graph(alloc, given, classes, copies.as_slice(), name)?;
     let codes = codes_of(alloc, coded, copies.as_slice())?;
     let inserted = Coded::known(alloc, made, codes)?;
     let graph = Proper::known(inserted);
     Ok(WithCopies { graph, copies })
 }
 
-/// The inserted graph, without its codes.
+/// The inserted graph, without its codes. Its arcs come in order, so that to sort them again takes
+/// one pass.
 fn made_graph(
     alloc: Global,
     graph: &Graph,
     classes: &[Class],
+    copies: &[StateCopy],
     name: &Name,
 ) -> Result<Graph, NoMemory>
     requires graph { IsGraph graph.now }
     requires count { length classes.now ≡ graph.now.states }
+    requires copies { copies.now ≡ Made.copies_of classes.now }
     requires room { length graph.now.signals < max_signals }
     requires conditions { CanBeMade (graph.now.signals ++ new_signal name.now ∷ [])
         (copy_count classes.now) (new_edges graph.now classes.now)
@@ -89,11 +94,7 @@ fn made_graph(
 {
     let firsts = firsts_of(alloc, classes)?;
     let firsts = firsts.as_slice();
-    let mut edges = Vec::new(alloc);
-    add_copied(&mut edges, graph, classes, firsts, false)?;
-    add_copied(&mut edges, graph, classes, firsts, true)?;
-    add_switches(&mut edges, graph, classes, firsts, true)?;
-    add_switches(&mut edges, graph, classes, firsts, false)?;
+    let edges = edges_of(alloc, graph, classes, firsts, copies)?;
     let signals = with_new(alloc, graph, name)?;
     let start = graph.start();
     let start = place(firsts, classes, start, classes[start.0 as usize].entry());
@@ -113,23 +114,46 @@ fn with_new(alloc: Global, graph: &Graph, name: &Name) -> Result<Vec<Signal>, No
     Ok(signals)
 }
 
-/// Adds a copy at the value of each arc that has one.
+/// The arcs of the inserted graph in order: those out of each copy, one copy after another.
+fn edges_of(
+    alloc: Global,
+    graph: &Graph,
+    classes: &[Class],
+    firsts: &[StateId],
+    copies: &[StateCopy],
+) -> Result<Vec<Edge>, NoMemory>
+    requires graph { IsGraph graph.now }
+    requires count { length classes.now ≡ graph.now.states }
+    requires firsts { AreFirsts classes.now firsts.now }
+    requires copies { copies.now ≡ Made.copies_of classes.now }
+    ensures all { IfOk result (λ edges. edges.items ≡ new_edges graph.now classes.now) }
+    ensures ordered { IfOk result (λ edges. IsStrictlySortedBy edge_cmp edges.items) }
+{
+    let mut edges = Vec::with_capacity(alloc, graph.edges() as usize + copies.len())?;
+    for x in copies {
+        add_copied(&mut edges, graph, classes, firsts, *x)?;
+        add_switch(&mut edges, graph, classes, firsts, *x)?;
+    }
+    Ok(edges)
+}
+
+/// Adds the arcs of the graph out of a copy.
 fn add_copied(
     edges: &mut Vec<Edge>,
     graph: &Graph,
     classes: &[Class],
     firsts: &[StateId],
-    value: bool,
+    x: StateCopy,
 ) -> Result<(), NoMemory>
     requires count { length classes.now ≡ graph.now.states }
     requires firsts { AreFirsts classes.now firsts.now }
     ensures { OnOk result
-        (edges.new.items ≡ edges.old.items ++ Made.copied_edges graph.now classes.now value) }
+        (edges.new.items ≡ edges.old.items ++ Made.copied_edges graph.now classes.now x) }
 {
-    let arcs = graph.arcs();
+    let arcs = graph.arcs_out(x.state);
     for a in arcs {
-        if goes(classes, *a, value) {
-            edges.push(moved(firsts, classes, *a, value))?;
+        if goes(classes, *a, x.value) {
+            edges.push(moved(firsts, classes, *a, x.value))?;
         }
     }
     Ok(())
@@ -161,30 +185,29 @@ fn moved(firsts: &[StateId], classes: &[Class], a: Edge, value: bool) -> Edge
     }
 }
 
-/// Adds the arcs by which the new signal switches in that direction.
-fn add_switches(
+/// Adds the arc of the new signal out of a copy, if it switches there.
+fn add_switch(
     edges: &mut Vec<Edge>,
     graph: &Graph,
     classes: &[Class],
     firsts: &[StateId],
-    up: bool,
+    x: StateCopy,
 ) -> Result<(), NoMemory>
     requires graph { IsGraph graph.now }
     requires count { length classes.now ≡ graph.now.states }
     requires firsts { AreFirsts classes.now firsts.now }
+    requires within { x.state < length classes.now }
     ensures { OnOk result
-        (edges.new.items ≡ edges.old.items ++ Made.switch_edges graph.now classes.now up) }
+        (edges.new.items ≡ edges.old.items ++ Made.switch_edges graph.now classes.now x) }
 {
-    let new = Sig(graph.signals().len() as u8);
-    for k in 0..graph.states() {
-        let s = StateId(k);
-        if classes[s.0 as usize].switches(up) {
-            edges.push(Edge {
-                from: place(firsts, classes, s, !up),
-                event: Event { sig: new, up },
-                to: place(firsts, classes, s, up),
-            })?;
-        }
+    let up = !x.value;
+    if classes[x.state.0 as usize].switches(up) {
+        let new = Sig(graph.signals().len() as u8);
+        edges.push(Edge {
+            from: place(firsts, classes, x.state, x.value),
+            event: Event { sig: new, up },
+            to: place(firsts, classes, x.state, up),
+        })?;
     }
     Ok(())
 }

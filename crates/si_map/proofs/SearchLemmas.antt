@@ -8,7 +8,7 @@ use Rattle.std.specs.BTreeSet.{BTreeSet, Updates, contains}
 use Rattle.std.specs.List.{list_any}
 use Rattle.std.proofs.lemmas.List.Elements.{All-push}
 use Rattle.si_base.specs.Codes.{CodedGraph, IsCoded}
-use Rattle.si_base.specs.Proper.{HasNoConflict}
+use Rattle.si_base.specs.Proper.{HasNoConflict, IsProper}
 use Rattle.si_cell.specs.Library.{Library, Instance, instance_value}
 use Rattle.si_conflicts.specs.Chains.{AreChains}
 use Rattle.si_conflicts.specs.Left.{LeavesConflicts}
@@ -16,15 +16,17 @@ use Rattle.si_divisor.specs.declared.function.Function.{Function}
 use Rattle.si_divisor.specs.Functions.{IsFunction, function_cmp}
 use Rattle.si_divisor.specs.PartitionFor.{IsPartitionFor}
 use Rattle.si_divisor.specs.Targets.{forced_by}
+use Rattle.si_divisor.proofs.PartitionLemmas.{passes}
 use Rattle.si_divisor.proofs.SameFunction.{functions_decide, same_function}
 use Rattle.si_divisor.proofs.UniqueAnswers.{one_partition}
 use Rattle.si_insert.specs.declared.partition.Class.{Class}
 use Rattle.si_insert.specs.Partition.{IsLawful}
-use Rattle.si_insert.specs.Accepted.{IsAccepted}
+use Rattle.si_insert.specs.Accepted.{DelaysNoInput, IsAccepted, StaysProper}
 use Rattle.si_insert.specs.Applied.{IsApplied}
 use Rattle.si_insert.specs.Fresh.{IsTaken}
 use Rattle.si_insert.specs.Insertion.{coded, new_signal}
 use Rattle.si_insert.specs.Made.{copies_of}
+use Rattle.si_insert.proofs.Persistent.{no_delay, proper_if_none}
 use Rattle.si_match.specs.Weight.{weight_of}
 use Rattle.si_map.specs.declared.search.Search.{Search}
 use Rattle.si_map.specs.Best.{Choice, IsDivisorAt, LeavesWeight, Serves}
@@ -296,6 +298,20 @@ module _ (c : CodedGraph) (library : Library) (divisor : Instance) where
       subst (λ p. MatchOption p ((classes : List Class) → IsPartition classes → ⊥)
       (λ p. IsPartition p × IsLawful c.graph p)) is told in
       tried classes s t found.0
+
+  -- its inserted graph is proper and delays no input
+  pub found_stays : (classes : List Class) (o : Option (List Class)) → IsCoded c → IsProper c.graph → o ≡ Some classes
+      → MatchOption o ((classes : List Class) → IsPartition classes → ⊥)
+      (λ p. IsPartition p × IsLawful c.graph p) → StaysProper c.graph classes × DelaysNoInput c.graph classes
+  found_stays classes o coded proper is told =
+      let found : IsPartition classes × IsLawful c.graph classes =
+      subst (λ p. MatchOption p ((classes : List Class) → IsPartition classes → ⊥)
+      (λ p. IsPartition p × IsLawful c.graph p)) is told in
+      let forced = forced_by (instance_value library divisor) c in
+      let tests = passes c.graph forced classes coded.graph_is found.0 in (
+        proper_if_none c classes coded proper tests.lawful tests.losses,
+        no_delay c.graph classes coded.graph_is tests.lawful tests.inputs,
+      )
 
   pub found_spent : (classes : List Class) (s t : Search) (o : Option (List Class)) → o ≡ Some classes
       → MatchOption o ((classes : List Class) → IsPartition classes → ⊥)

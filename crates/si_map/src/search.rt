@@ -7,7 +7,7 @@ ghost use Rattle.si_base.specs.Limits.{max_signals};
 ghost use Rattle.si_base.specs.Graph.{IsNonInput};
 ghost use Rattle.si_cell.specs.Library.{Library as LibraryValue, IsInstance};
 ghost use Rattle.si_checks.specs.Lent.{lent_graph};
-ghost use Rattle.si_insert.specs.Accepted.{IsAccepted};
+ghost use Rattle.si_insert.specs.Accepted.{DelaysNoInput, IsAccepted, StaysProper};
 ghost use Rattle.si_insert.specs.Partition.{IsLawful};
 ghost use Rattle.si_match.specs.Weight.{weight_of};
 ghost use Rattle.si_map.specs.Waiting.{NeverWaits};
@@ -28,7 +28,7 @@ use si_divisor::divisors::divisors;
 use si_divisor::function::{Function, function_of};
 use si_divisor::partition_for::partition_if;
 use si_graph::graph::Graph;
-use si_insert::accept::{Accepted, accept};
+use si_insert::accept::{Accepted, accept_by_size};
 use si_insert::apply::apply;
 use si_insert::fresh::fresh_name;
 use si_insert::partition::{Class, Partition};
@@ -189,6 +189,8 @@ impl Search {
         partition: Partition,
     ) -> Result<(), NoMemory>
         requires lawful { IsLawful graph.now.graph partition }
+        requires proper { StaysProper graph.now.graph partition }
+        requires inputs { DelaysNoInput graph.now.graph partition }
         requires ready { IsReady graph.now library.now self.old }
         ensures { OnOk result
             (IsTried graph.now library.now partition self.old self.new) }
@@ -196,7 +198,7 @@ impl Search {
         if self.has_tried(&partition) {
             return Ok(());
         }
-        let accepted = match accept(graph, partition) {
+        let accepted = match accept_by_size(graph, partition) {
             Ok(accepted) => accepted,
             Err(_refused) => return Ok(()),
         };

@@ -21,7 +21,7 @@ made_graph-requires-clause-conditions c =
 pub codes_of-requires-clause-within : goal.codes_of-requires-clause-within
 codes_of-requires-clause-within c =
     copies_inside c.args.graph.now c.coded-coded.result.now c.graph-given.result.now c.args.accepted.now
-    c.classes-classes.result.now c.as_slice.result.now
+    c.classes-classes.result.now c.as_slice-2.result.now
     (record {
       same = c.coded-coded.ensures.same;
       graph = c.graph-given.ensures.same;
@@ -30,12 +30,12 @@ codes_of-requires-clause-within c =
       proper = c.coded-coded.ensures.proper;
       lawful = c.requires.accepted.lawful;
     })
-    (c.as_slice.ensures.value ∙ c.in_ok-copies.ensures)
+    (c.as_slice-2.ensures.value ∙ c.in_ok-copies.ensures)
 
 pub known-requires : goal.known-requires
 known-requires c =
     (put_together c.args.graph.now c.coded-coded.result.now c.graph-given.result.now c.args.accepted.now
-    c.classes-classes.result.now c.args.name.now c.in_ok-made.made c.in_ok-codes.codes.items c.as_slice.result.now
+    c.classes-classes.result.now c.args.name.now c.in_ok-made.made c.in_ok-codes.codes.items c.as_slice-2.result.now
     (record {
       same = c.coded-coded.ensures.same;
       graph = c.graph-given.ensures.same;
@@ -44,7 +44,7 @@ known-requires c =
       proper = c.coded-coded.ensures.proper;
       lawful = c.requires.accepted.lawful;
     }) c.requires.accepted
-    c.in_ok-made.ensures c.in_ok-codes.ensures (c.as_slice.ensures.value ∙ c.in_ok-copies.ensures)).coded
+    c.in_ok-made.ensures c.in_ok-codes.ensures (c.as_slice-2.ensures.value ∙ c.in_ok-copies.ensures)).coded
 
 pub known-graph-requires : goal.known-graph-requires
 known-graph-requires c =
@@ -52,7 +52,7 @@ known-graph-requires c =
     subst P (sym c.in_ok-inserted.ensures)
     (put_together c.args.graph.now c.coded-coded.result.now c.graph-given.result.now
     c.args.accepted.now c.classes-classes.result.now c.args.name.now c.in_ok-made.made c.in_ok-codes.codes.items
-    c.as_slice.result.now
+    c.as_slice-2.result.now
     (record {
       same = c.coded-coded.ensures.same;
       graph = c.graph-given.ensures.same;
@@ -61,14 +61,14 @@ known-graph-requires c =
       proper = c.coded-coded.ensures.proper;
       lawful = c.requires.accepted.lawful;
     }) c.requires.accepted
-    c.in_ok-made.ensures c.in_ok-codes.ensures (c.as_slice.ensures.value ∙ c.in_ok-copies.ensures)).proper
+    c.in_ok-made.ensures c.in_ok-codes.ensures (c.as_slice-2.ensures.value ∙ c.in_ok-copies.ensures)).proper
 
 pub returns-clause-graph : goal.returns-clause-graph
 returns-clause-graph c =
     let P : CodedGraph → Type 0 = λ h. IsApplied c.args.graph.now c.args.accepted.now c.args.name.now h in
     subst P (sym (c.known-graph.ensures ∙ c.in_ok-inserted.ensures))
     (put_together c.args.graph.now c.coded-coded.result.now c.graph-given.result.now c.args.accepted.now
-    c.classes-classes.result.now c.args.name.now c.in_ok-made.made c.in_ok-codes.codes.items c.as_slice.result.now
+    c.classes-classes.result.now c.args.name.now c.in_ok-made.made c.in_ok-codes.codes.items c.as_slice-2.result.now
     (record {
       same = c.coded-coded.ensures.same;
       graph = c.graph-given.ensures.same;
@@ -77,4 +77,4 @@ returns-clause-graph c =
       proper = c.coded-coded.ensures.proper;
       lawful = c.requires.accepted.lawful;
     }) c.requires.accepted
-    c.in_ok-made.ensures c.in_ok-codes.ensures (c.as_slice.ensures.value ∙ c.in_ok-copies.ensures))
+    c.in_ok-made.ensures c.in_ok-codes.ensures (c.as_slice-2.ensures.value ∙ c.in_ok-copies.ensures))

@@ -1,4 +1,4 @@
-use Rattle.si_map.proofs.SearchLemmas.{found_spent, found_tried, lowers, none_spent, spent_tried}
+use Rattle.si_map.proofs.SearchLemmas.{found_spent, found_stays, found_tried, lowers, none_spent, spent_tried}
 use Rattle.si_map.proofs.search.Search.try_divisor.Goals as goal
 
 pub returns-in_default-clause-tried : goal.returns-in_default-clause-tried
@@ -11,6 +11,16 @@ pub returns-in_default-clause-spent : goal.returns-in_default-clause-spent
 returns-in_default-clause-spent c =
     none_spent c.args.graph.now c.args.library.now c.args.divisor.now c.args.self.now.bar c.in_ok-partition.field-0
     c.in_default.is c.in_ok-partition.ensures
+
+pub try_partition-requires-clause-proper : goal.try_partition-requires-clause-proper
+try_partition-requires-clause-proper c =
+    (found_stays c.args.graph.now c.args.library.now c.args.divisor.now c.in-Some.partition c.in_ok-partition.field-0
+    c.requires.ready.coded c.requires.ready.proper c.in-Some.is c.in_ok-partition.ensures).0
+
+pub try_partition-requires-clause-inputs : goal.try_partition-requires-clause-inputs
+try_partition-requires-clause-inputs c =
+    (found_stays c.args.graph.now c.args.library.now c.args.divisor.now c.in-Some.partition c.in_ok-partition.field-0
+    c.requires.ready.coded c.requires.ready.proper c.in-Some.is c.in_ok-partition.ensures).1
 
 pub returns-clause-tried : goal.returns-clause-tried
 returns-clause-tried c =

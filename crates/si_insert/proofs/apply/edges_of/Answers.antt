@@ -1,0 +1,37 @@
+use Rattle.std.proofs.Common.{◌≡◌, ◌<◌, List, length, All, ◌∙◌, ap, refl, sym, subst, arith}
+use Rattle.std.proofs.lemmas.List.{take_all}
+use Rattle.std.specs.List.{flat_map}
+use Rattle.std.specs.List.Sorted.{IsStrictlySortedBy}
+use Rattle.si_base.specs.EdgeOrder.{edge_cmp}
+use Rattle.si_insert.specs.Insertion.{Copy}
+use Rattle.si_insert.specs.Made.{edges_from, new_edges}
+use Rattle.si_insert.proofs.FirstPlaces.{copies_within}
+use Rattle.si_insert.proofs.NewArcOrder.{new_edges_sorted}
+use Rattle.si_insert.proofs.apply.edges_of.Goals as goal
+
+pub add_switch-requires-clause-within : goal.add_switch-requires-clause-within
+add_switch-requires-clause-within c =
+    let p = c.args.classes.now in
+    let P : List Copy → Type 0 = λ xs. All (λ x. x.state < length p) xs in
+    let inside = subst P (sym c.requires.copies) (copies_within p (length p) refl) c.loop-x.x-index c.x-item.result
+    c.loop-x-test.true in
+    let Q : Copy → Type 0 = λ x. x.state < length p in
+    subst Q (sym c.x-item.is) inside
+
+pub returns-clause-all : goal.returns-clause-all
+returns-clause-all c =
+    let f = edges_from c.args.graph.now c.args.classes.now in
+    c.loop-x.invariant
+    ∙ ap (flat_map f) (take_all c.loop-x.x-index c.args.copies.now (omega (arith, c.loop-x-test.false)))
+    ∙ ap (flat_map f) c.requires.copies
+
+pub returns-clause-ordered : goal.returns-clause-ordered
+returns-clause-ordered c =
+    let g = c.args.graph.now in
+    let p = c.args.classes.now in
+    let f = edges_from g p in
+    let all : c.loop-x.edges.items ≡ new_edges g p =
+    c.loop-x.invariant
+    ∙ ap (flat_map f) (take_all c.loop-x.x-index c.args.copies.now (omega (arith, c.loop-x-test.false)))
+    ∙ ap (flat_map f) c.requires.copies in
+    subst (IsStrictlySortedBy edge_cmp) (sym all) (new_edges_sorted g p c.requires.graph c.requires.count)
