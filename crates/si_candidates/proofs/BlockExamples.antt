@@ -1,19 +1,31 @@
 -- An interval and the blocks of a small graph: the input `a` switches twice, and the output `z` once in between.
-use Rattle.std.proofs.Common.{◌≡◌, ◌≢◌, ℕ, ◌||◌, Bool, true, false, not, List, [], ◌∷◌, map, get_or, refl, sym, ap}
-use Rattle.std.proofs.Common.{subst, lit<, inl, inr}
-use Rattle.std.proofs.lemmas.Bool.{or_cases, true≢false}
+use Rattle.std.proofs.Common.{◌≡◌, ◌≢◌, ℕ, zero, suc, ◌+◌, ◌<◌, ◌≤◌, ◌==◌, ◌||◌, ◌&&◌, ◌↔◌, ◌∙◌, Bool, true, false, not}
+use Rattle.std.proofs.Common.{List, [], ◌∷◌, ◌++◌, length, map, get_or, refl, sym, ap, subst, lit<, inl, inr, arith}
+use Rattle.std.proofs.Common.{eqb-true}
+use Rattle.std.proofs.lemmas.Bool.{or_cases, true≢false, cases_Bool}
+use Rattle.std.proofs.lemmas.Nat.Bits.{bit_at-pow_other}
 use Rattle.si_base.specs.declared.ids.Event.{Event}
 use Rattle.si_base.specs.declared.graph.Edge.{Edge}
 use Rattle.si_base.specs.declared.graph.SigKind.TheVariants.{Input, Output}
-use Rattle.si_base.specs.Graph.{StateGraph, Step, arc, rise, fall, same_event}
+use Rattle.si_base.specs.Bits.{bit}
+use Rattle.si_base.specs.Graph.{StateGraph, Step, arc, rise, fall, same_event, IsNonInput}
 use Rattle.si_base.specs.Sets.{IsIn}
 use Rattle.si_base.proofs.Steps.{all_arcs, same_event-true}
 use Rattle.si_graph.proofs.MemberLemmas.{Contains-cons_cases}
+use Rattle.si_graph.proofs.ValueLemmas.{bit-zero}
+use Rattle.si_closures.specs.WordSearch.{column, HasBit}
+use Rattle.si_closures.proofs.WordSearchLemmas.{in_column}
 use Rattle.si_regions.specs.declared.regions.Region.{Region}
 use Rattle.si_regions.proofs.StateLists.{only_in}
+use Rattle.si_insert.specs.Accepted.{IsInput}
 use Rattle.si_candidates.specs.Interval.{IsReachedBefore, IsInterval}
-use Rattle.si_candidates.specs.Blocks.{marked, driven_events, blocks_of}
+use Rattle.si_candidates.specs.Asked.{asked_for, asks_from, asks_of, AreIntervalsOf}
+use Rattle.si_candidates.specs.Adding.{AddsFirst}
+use Rattle.si_candidates.specs.Blocks.{marked, driven_events, blocks_of, block_at}
+use Rattle.si_candidates.specs.Blocking.{MaySwitch}
+use Rattle.si_candidates.specs.ManySets.{AreAllTold, AreToldBelow, ArePacked}
 use Rattle.si_candidates.proofs.MarkedSets.{marked_has}
+use Rattle.si_candidates.proofs.Switching.{input_is_no_other, apart_events}
 
 abbrev pulses : StateGraph
 pulses = record {
@@ -99,3 +111,120 @@ fifteen : blocks_of 6 regions (map (marked 6) intervals) ≡ map (marked 6)
     ∷ (0 ∷ 1 ∷ 2 ∷ 4 ∷ 5 ∷ []) ∷ (4 ∷ 5 ∷ []) ∷ (2 ∷ 3 ∷ 4 ∷ 5 ∷ []) ∷ (0 ∷ 1 ∷ 2 ∷ 5 ∷ [])
     ∷ (0 ∷ 1 ∷ 2 ∷ 3 ∷ 4 ∷ 5 ∷ []) ∷ (3 ∷ 4 ∷ 5 ∷ []) ∷ (0 ∷ 1 ∷ 2 ∷ []) ∷ [])
 fifteen = refl
+
+-- ---- what is asked for: from s1 up to `z+` and up to `z-`, from s2 up to `z+`
+abbrev seeds : List ℕ
+seeds = 0 ∷ 3 ∷ 4 ∷ 0 ∷ 0 ∷ 0 ∷ []
+
+three_asked : asked_for seeds (rise 1 ∷ fall 1 ∷ rise 1 ∷ [])
+    ≡ asks_from from (rise 1 ∷ fall 1 ∷ []) ++ asks_from (marked 6 (2 ∷ [])) (rise 1 ∷ [])
+three_asked = refl
+
+of_two_regions : asks_of 6 (rise 1 ∷ []) (region (rise 0) 0 1 ∷ region (fall 0) 1 2 ∷ [])
+    ≡ asks_from from (rise 1 ∷ []) ++ asks_from (marked 6 (2 ∷ [])) (rise 1 ∷ [])
+of_two_regions = refl
+
+first_answered : AreIntervalsOf pulses (asks_from from (rise 1 ∷ [])) (set ∷ [])
+first_answered = (is_interval, tt)
+
+-- the first of two is added, the other one waits
+one_of_two : AddsFirst pulses (asks_from from (fall 1 ∷ [])) (asks_from from (rise 1 ∷ [])) []
+    (asks_from from (fall 1 ∷ [])) (set ∷ [])
+one_of_two = record {
+  first = asks_from from (rise 1 ∷ []);
+  parts = refl;
+  adds = record { sets = set ∷ []; are = first_answered; added = refl };
+}
+
+-- ---- two sets as bits of words: s1 and s2, where a new signal may switch, and s0, out of which the input leads
+abbrev start : List Bool
+start = marked 6 (0 ∷ [])
+
+abbrev two : List (List Bool)
+two = set ∷ start ∷ []
+
+abbrev words : List ℕ
+words = 2 ∷ 1 ∷ 1 ∷ 0 ∷ 0 ∷ 0 ∷ []
+
+first_set : column 0 words ≡ set
+first_set = refl
+
+next_set : column 1 words ≡ start
+next_set = refl
+
+no_third : (k s : ℕ) → 2 ≤ k → HasBit words k s → ⊥
+no_third k zero late has =
+    true≢false (sym has ∙ ap (λ b. b == 1) (bit_at-pow_other 1 k (λ same. absurd (omega (arith, same, late)))))
+no_third k (suc zero) late has =
+    true≢false (sym has ∙ ap (λ b. b == 1) (bit_at-pow_other 0 k (λ same. absurd (omega (arith, same, late)))))
+no_third k (suc (suc zero)) late has =
+    true≢false (sym has ∙ ap (λ b. b == 1) (bit_at-pow_other 0 k (λ same. absurd (omega (arith, same, late)))))
+no_third k (suc (suc (suc zero))) late has = true≢false (sym has ∙ bit-zero k)
+no_third k (suc (suc (suc (suc zero)))) late has = true≢false (sym has ∙ bit-zero k)
+no_third k (suc (suc (suc (suc (suc s))))) late has = true≢false (sym has ∙ none s)
+  where
+    none : (t : ℕ) → bit (get_or (0 ∷ []) t 0) k ≡ false
+    none zero = bit-zero k
+    none (suc t) = bit-zero k
+
+packed : ArePacked 6 two 0 128 words
+packed = record { size = refl; each = each }
+  where
+    each : (k s : ℕ) → k < 128
+        → HasBit words k s ↔ ((k < 128) × (0 + k < length two) × IsIn (block_at two (0 + k)) s)
+    each zero s few = (
+      λ has. (few, omega arith, (in_column 0 words s).1 has),
+      λ both. (in_column 0 words s).0 both.2,
+    )
+    each (suc zero) s few = (
+      λ has. (few, omega arith, (in_column 1 words s).1 has),
+      λ both. (in_column 1 words s).0 both.2,
+    )
+    each (suc (suc k)) s few = (
+      λ has. absurd (no_third (suc (suc k)) s (omega arith) has),
+      λ both. absurd (omega (arith, both.1)),
+    )
+
+driven_z : IsNonInput pulses.signals 1
+driven_z = (record { name = 122 ∷ []; kind = Output }, refl, refl)
+
+input_a : IsInput pulses.signals 0
+input_a = (record { name = []; kind = Input }, refl, refl)
+
+-- only the arc out of s2 is by `z+`, and it leads to s3 alone
+from_second : (s : ℕ) (t : ℕ) → Step pulses s (rise 1) t → s ≡ 2
+from_second s t step =
+    eqb-true s 2 (all_arcs (λ a. not (same_event a.event (rise 1)) || a.from == 2) pulses s (rise 1) t refl step)
+
+not_round : (s : ℕ) (e : Event) (t : ℕ) → Step pulses s e t → s ≡ 2 → t ≡ 2 → ⊥
+not_round s e t step from_there to_there =
+    not_both (s == 2 && t == 2) (rw (from_there, to_there) refl)
+    (all_arcs (λ a. not (a.from == 2 && a.to == 2)) pulses s e t refl step)
+
+out_by_rise : (u : ℕ) (e : Event) (w : ℕ) → IsIn set u → (IsIn set w → ⊥) → Step pulses u e w → e ≡ rise 1
+out_by_rise u e w here out step = elim (cases_Bool (same_event e (rise 1))) [
+  | inl same ↦ same_event-true e (rise 1) same
+  | inr other ↦ absurd (out (closed u e w here step (apart_events e (rise 1) (sym other))))
+]
+
+may_switch : MaySwitch pulses (IsIn set)
+may_switch = record {
+  inputs = λ s e t input step here. closed s e t here step (λ same.
+      input_is_no_other pulses.signals 1 (subst (λ (x : Event). IsInput pulses.signals x.sig) same input) driven_z);
+  exits = λ s lost by t u w d here out. (
+      let is = out_by_rise u lost w here out d.next in
+      let before = from_second s t (subst (λ x. Step pulses s x t) is d.first) in
+      let after = from_second u w (subst (λ x. Step pulses u x w) is d.next) in
+      absurd (not_round s by u d.other before after));
+}
+
+may_not : MaySwitch pulses (IsIn start) → ⊥
+may_not may = true≢false (sym (may.inputs 0 (rise 0) 1 input_a (0, lit< tt, refl) refl))
+
+told : AreAllTold pulses two (true ∷ false ∷ [])
+told = record { count = refl; each = each }
+  where
+    each : AreToldBelow pulses two (true ∷ false ∷ [])
+    each zero below = (λ _. may_switch, λ _. refl)
+    each (suc zero) below = (λ said. absurd (true≢false (sym said)), λ may. absurd (may_not may))
+    each (suc (suc k)) below = absurd (omega arith)

@@ -1,13 +1,11 @@
 -- A coded graph has one list of blocks.
-use Rattle.std.proofs.Common.{◌≡◌, Bool, List, [], ◌∷◌, ◌++◌, length, refl, sym, ap, ap₂, subst, ◌∙◌, append_assoc}
-use Rattle.std.proofs.lemmas.List.{append-nil}
+use Rattle.std.proofs.Common.{◌≡◌, Bool, List, [], ◌∷◌, ◌++◌, length, refl, sym, ap₂, subst, ◌∙◌}
 use Rattle.si_base.specs.declared.ids.Event.{Event}
 use Rattle.si_base.specs.Graph.{StateGraph, IsGraph}
 use Rattle.si_base.specs.Codes.{CodedGraph, IsCoded}
 use Rattle.si_regions.specs.declared.regions.Region.{Region}
 use Rattle.si_regions.proofs.UniqueRegions.{one_list}
 use Rattle.si_regions.proofs.RegionsExist.{some_regions}
-use Rattle.si_candidates.specs.Interval.{IsInterval}
 use Rattle.si_candidates.specs.Blocks.{marked, driven_events, AreIntervalsFrom, AreIntervals, blocks_of, AreBlocks}
 use Rattle.si_candidates.proofs.IntervalLemmas.{one_interval}
 use Rattle.si_candidates.proofs.IntervalsExist.{some_interval}
@@ -69,26 +67,3 @@ some_blocks c coded =
         blocks_are = refl;
       },
     )
-
--- ---- one more
-pub from_push : (g : StateGraph) (from : List Bool) (stops : List Event) (stop : Event) (sets : List (List Bool))
-    (set : List Bool) → AreIntervalsFrom g from stops sets → IsInterval g from stop set
-    → AreIntervalsFrom g from (stops ++ stop ∷ []) (sets ++ set ∷ [])
-from_push g from [] stop [] set are is = (is, tt)
-from_push g from [] stop (x ∷ sets) set are is = absurd are
-from_push g from (s ∷ stops) stop [] set are is = absurd are
-from_push g from (s ∷ stops) stop (x ∷ sets) set (here, rest) is =
-    (here, from_push g from stops stop sets set rest is)
-
-pub each_push : (g : StateGraph) (stops : List Event) (regions : List Region) (r : Region)
-    (sets here : List (List Bool)) → AreIntervals g stops regions sets
-    → AreIntervalsFrom g (marked g.states r.sr) stops here
-    → AreIntervals g stops (regions ++ r ∷ []) (sets ++ here)
-each_push g stops [] r sets here are is = (here, [], ap (λ zs. zs ++ here) are ∙ sym (append-nil here), is, refl)
-each_push g stops (q ∷ regions) r sets here (first, rest, same, from, more) is = (
-  first,
-  rest ++ here,
-  ap (λ zs. zs ++ here) same ∙ append_assoc first rest here,
-  from,
-  each_push g stops regions r rest here more is,
-)

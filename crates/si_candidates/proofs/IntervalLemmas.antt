@@ -59,7 +59,8 @@ module _ (g : StateGraph) (stop : Event) where
   }
 
   -- so is the least set that is closed along arcs by events with P, where these are the others
-  module _ (P : Event → Type 0) (others : (e : Event) → e.sig < length g.signals → P e ↔ (e ≢ stop)) (is : IsGraph g) where
+  module _ (P : Event → Type 0) (others : (e : Event) → e.sig < length g.signals → P e ↔ (e ≢ stop))
+      (is : IsGraph g) where
     walk_by : (within : List Bool) (s : ℕ) (path : List ℕ) (t : ℕ) → PathBy (IsNextBy g P within) s path t
         → (es : List Event) × WalkWithout g stop s es t
     walk_by within s [] t same = ([], same)
@@ -83,14 +84,13 @@ module _ (g : StateGraph) (stop : Event) where
     }
 
 -- many at once: the closures of words are intervals, one for each of the events
-pub intervals_of : (g : StateGraph) (from : List Bool) (stops : List Event) (passes within seeds words : List ℕ)
+pub intervals_of : (g : StateGraph) (stops : List Event) (passes within seeds words : List ℕ)
     → IsGraph g → length stops ≤ 128
     → ((k : ℕ) (stop e : Event) → IsEventAt stops k stop → e.sig < length g.signals → Passes passes k e ↔ (e ≢ stop))
-    → HasAll g.states within → ((k : ℕ) → k < 128 → column k seeds ≡ from)
+    → HasAll g.states within
     → ((k : ℕ) → IsClosureBy g (Passes passes k) (column k within) (column k seeds) (column k words))
-    → (k : ℕ) (stop : Event) → IsEventAt stops k stop → IsInterval g from stop (column k words)
-intervals_of g from stops passes within seeds words is few others all same closures k stop at =
+    → (k : ℕ) (stop : Event) → IsEventAt stops k stop → IsInterval g (column k seeds) stop (column k words)
+intervals_of g stops passes within seeds words is few others all closures k stop at =
     let small : k < 128 = let inside = at.inside in omega (arith, inside, few) in
-    interval_by g stop (Passes passes k) (λ e below. others k stop e at below) is (column k within) from
-    (column k words) (λ s below. (in_column k within s).1 (all.each k s small below))
-    (subst (λ x. IsClosureBy g (Passes passes k) (column k within) x (column k words)) (same k small) (closures k))
+    interval_by g stop (Passes passes k) (λ e below. others k stop e at below) is (column k within) (column k seeds)
+    (column k words) (λ s below. (in_column k within s).1 (all.each k s small below)) (closures k)

@@ -19,6 +19,7 @@ pub mod IntervalsExist
 pub mod BlockLists
 pub mod BlocksExist
 pub mod AddingLemmas
+mod AskLemmas
 pub mod ClassesExist
 pub mod AcceptanceDecided
 pub mod TreeLemmas

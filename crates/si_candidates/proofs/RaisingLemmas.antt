@@ -203,7 +203,7 @@ not_torn true M strict other torn = refl
 not_torn false M strict other torn = absurd (true≢false (sym (torn refl).0 ∙ other))
 
 -- a list that was lent whole
-pub written_back : (size : ℕ) (new old : List Class) → length new ≡ size → length old ≡ size
+pub written_back : {X : Type 0} (size : ℕ) (new old : List X) → length new ≡ size → length old ≡ size
     → take size (new ++ drop (length new) old) ≡ new
 written_back size new old full same =
     take-append-le size new (drop (length new) old) (omega arith) ∙ take_all size new (omega arith)

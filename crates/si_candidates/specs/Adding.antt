@@ -4,7 +4,8 @@ use Rattle.std.specs.List.{list_any}
 use Rattle.si_base.specs.declared.ids.Event.{Event}
 use Rattle.si_base.specs.Graph.{StateGraph}
 use Rattle.si_regions.specs.declared.regions.Region.{Region}
-use Rattle.si_candidates.specs.Blocks.{same_set, max_blocks, AreIntervalsFrom, AreIntervals}
+use Rattle.si_candidates.specs.Asked.{Ask, AreIntervalsOf}
+use Rattle.si_candidates.specs.Blocks.{same_set, max_blocks, AreIntervals}
 
 -- the list with one more set, unless that stands already or enough sets stand
 abbrev pub with_block : List (List Bool) → List Bool → List (List Bool)
@@ -18,14 +19,21 @@ abbrev pub with_blocks : List (List Bool) → List (List Bool) → List (List Bo
 with_blocks sets [] = sets
 with_blocks sets (x ∷ xs) = with_blocks (with_block sets x) xs
 
--- the list grows by the intervals from one set, up to each of the events
-pub record AddsIntervalsFrom (g : StateGraph) (from : List Bool) (stops : List Event)
-    (old new : List (List Bool)) : Type 0 where
+-- the list grows by the intervals that are asked for
+pub record AddsAsked (g : StateGraph) (asks : List Ask) (old new : List (List Bool)) : Type 0 where
   pub sets : List (List Bool)
-  pub are : AreIntervalsFrom g from stops sets
+  pub are : AreIntervalsOf g asks sets
   pub added : new ≡ with_blocks old sets
 
--- by those from the switching region of each region
+-- the new asks come behind those that waited: of all these the list grows by the first ones, and
+-- the others wait
+pub record AddsFirst (g : StateGraph) (asks waited : List Ask) (old : List (List Bool))
+    (waiting : List Ask) (new : List (List Bool)) : Type 0 where
+  pub first : List Ask
+  pub parts : waited ++ asks ≡ first ++ waiting
+  pub adds : AddsAsked g first old new
+
+-- the list grows by the intervals from the switching region of each region
 pub record AddsIntervals (g : StateGraph) (stops : List Event) (regions : List Region)
     (old new : List (List Bool)) : Type 0 where
   pub sets : List (List Bool)

@@ -1,5 +1,6 @@
 pub mod Interval
 pub mod Blocks
+pub mod Asked
 pub mod Adding
 pub mod Parts
 pub mod Blocking

@@ -1,22 +1,23 @@
 //! The blocks of a graph: sets of states in which a new signal may switch.
 
-ghost use Rattle.std.specs.Prelude.{◌≡◌, ◌≤◌, ◌<◌, ◌*◌, ℕ, IfOk, OnOk, All, length, map};
+ghost use Rattle.std.specs.Prelude.{◌≡◌, ◌≤◌, ◌<◌, [], IfOk, OnOk, All, length, map};
 ghost use Rattle.std.specs.List.{list_any};
 ghost use Rattle.si_base.specs.Graph.{IsGraph};
 ghost use Rattle.si_base.specs.Limits.{max_signals};
 ghost use Rattle.si_closures.specs.WordSearch.{column};
 ghost use Rattle.si_regions.specs.Regions.{AreRegions};
-ghost use Rattle.si_candidates.specs.Adding.{with_block, with_blocks, AddsIntervalsFrom};
+ghost use Rattle.si_candidates.specs.Adding.{with_block, with_blocks, AddsAsked, AddsFirst};
 ghost use Rattle.si_candidates.specs.Adding.{AddsIntervals};
+ghost use Rattle.si_candidates.specs.Asked.{asked_for, asks_from, AreReady};
 ghost use Rattle.si_candidates.specs.Blocks.{AreBlocks, driven_events, marked, same_set};
 
 use crate::block::Block;
-use crate::intervals::intervals;
+use crate::intervals::Asked;
 use si_base::graph::Signal;
 use si_base::ids::{Event, NoMemory, Sig, StateId};
 use si_base::sets::StateSet;
 use si_checks::proper::Proper;
-use si_closures::words::{SETS, set_at};
+use si_closures::words::set_at;
 use si_regions::regions::Region;
 use std::alloc::Global;
 
@@ -92,56 +93,104 @@ fn add_intervals(
 {
     let g = graph.coded().graph();
     let stops = driven(alloc, g.signals())?;
+    let mut asked = Asked::new(alloc, g.states())?;
     for r in regions {
-        add_intervals_from(alloc, graph, r.sr.as_slice(), stops.as_slice(), found)?;
+        ask(
+            alloc,
+            graph,
+            r.sr.as_slice(),
+            stops.as_slice(),
+            &mut asked,
+            found,
+        )?;
     }
+    add_asked(alloc, graph, &asked, found)?;
     Ok(())
 }
 
-/// Adds the intervals from these states up to each of the events.
-fn add_intervals_from(
+/// Asks for the intervals from these states up to each of the events, and adds those that are asked
+/// for whenever there are 128 of them.
+fn ask(
     alloc: Global,
     graph: &Proper,
     from: &[StateId],
     stops: &[Event],
+    asked: &mut Asked,
     found: &mut Vec<Block>,
 ) -> Result<(), NoMemory>
     requires graph { IsGraph graph.now.graph }
     requires from { All (λ s. s < graph.now.graph.states) from.now }
-    requires few { length stops.now ≤ 2 * max_signals }
-    requires within { All (λ e. e.sig < length graph.now.graph.signals) stops.now }
-    ensures { OnOk result (AddsIntervalsFrom graph.now.graph
-        (marked graph.now.graph.states from.now) stops.now found.old.items found.new.items) }
+    requires stops { All (λ e. e.sig < length graph.now.graph.signals) stops.now }
+    requires ready { AreReady graph.now.graph.states asked.old.seeds.items asked.old.stops.items }
+    requires within { All (λ e. e.sig < length graph.now.graph.signals) asked.old.stops.items }
+    ensures ready { OnOk result
+        (AreReady graph.now.graph.states asked.new.seeds.items asked.new.stops.items) }
+    ensures within { OnOk result
+        (All (λ e. e.sig < length graph.now.graph.signals) asked.new.stops.items) }
+    ensures adds { OnOk result (AddsFirst graph.now.graph
+        (asks_from (marked graph.now.graph.states from.now) stops.now)
+        (asked_for asked.old.seeds.items asked.old.stops.items) found.old.items
+        (asked_for asked.new.seeds.items asked.new.stops.items) found.new.items) }
 {
-    let from = marked_set(alloc, graph.coded().graph().states(), from)?;
-    // All events of the most signals fill two words.
-    let (first, last) = stops.split_at(stops.len().min(SETS));
-    add_intervals_at_once(alloc, graph, &from, first, found)?;
-    add_intervals_at_once(alloc, graph, &from, last, found)?;
+    let mut at = 0;
+    while at < stops.len() {
+        make_room(alloc, graph, asked, found)?;
+        let (_, rest) = stops.split_at(at);
+        let count = asked.room().min(rest.len());
+        let (next, _) = rest.split_at(count);
+        asked.add(from, next)?;
+        at += count;
+    }
     Ok(())
 }
 
-/// Adds the intervals from the set up to each of at most 128 events.
-fn add_intervals_at_once(
+/// Adds the intervals that are asked for, if no more can be asked for. None is asked for then.
+fn make_room(
     alloc: Global,
     graph: &Proper,
-    from: &StateSet,
-    stops: &[Event],
+    asked: &mut Asked,
     found: &mut Vec<Block>,
 ) -> Result<(), NoMemory>
     requires graph { IsGraph graph.now.graph }
-    requires from { length from.now ≡ graph.now.graph.states }
-    requires few { length stops.now ≤ 128 }
-    requires within { All (λ e. e.sig < length graph.now.graph.signals) stops.now }
-    ensures { OnOk result (AddsIntervalsFrom graph.now.graph from.now stops.now
-        found.old.items found.new.items) }
+    requires ready { AreReady graph.now.graph.states asked.old.seeds.items asked.old.stops.items }
+    requires within { All (λ e. e.sig < length graph.now.graph.signals) asked.old.stops.items }
+    ensures room { OnOk result (length asked.new.stops.items < 128) }
+    ensures ready { OnOk result
+        (AreReady graph.now.graph.states asked.new.seeds.items asked.new.stops.items) }
+    ensures within { OnOk result
+        (All (λ e. e.sig < length graph.now.graph.signals) asked.new.stops.items) }
+    ensures adds { OnOk result (AddsFirst graph.now.graph []
+        (asked_for asked.old.seeds.items asked.old.stops.items) found.old.items
+        (asked_for asked.new.seeds.items asked.new.stops.items) found.new.items) }
+{
+    if asked.room() > 0 {
+        return Ok(());
+    }
+    add_asked(alloc, graph, asked, found)?;
+    asked.clear();
+    Ok(())
+}
+
+/// Adds the intervals that are asked for.
+fn add_asked(
+    alloc: Global,
+    graph: &Proper,
+    asked: &Asked,
+    found: &mut Vec<Block>,
+) -> Result<(), NoMemory>
+    requires graph { IsGraph graph.now.graph }
+    requires size { length asked.now.seeds.items ≡ graph.now.graph.states }
+    requires few { length asked.now.stops.items ≤ 128 }
+    requires within { All (λ e. e.sig < length graph.now.graph.signals) asked.now.stops.items }
+    ensures { OnOk result (AddsAsked graph.now.graph
+        (asked_for asked.now.seeds.items asked.now.stops.items) found.old.items found.new.items) }
 {
     if found.len() >= MAX_BLOCKS {
         return Ok(());
     }
-    let words = intervals(alloc, graph, from, stops)?;
-    let states = from.size();
-    for k in 0..stops.len() {
+    let words = asked.intervals(alloc, graph)?;
+    let states = graph.coded().graph().states();
+    for k in 0..asked.stops.len() {
         add_column(alloc, &words, states, k as u32, found)?;
     }
     Ok(())

@@ -5,7 +5,7 @@ pub mod block;
 pub mod blocks;
 pub mod classes;
 pub mod interval;
-pub mod intervals;
+mod intervals;
 pub mod laws;
 pub mod may_switch;
 pub mod part_laws;
