@@ -41,7 +41,7 @@ invariant_of-result c =
 
 pub returns-clause-size : goal.returns-clause-size
 returns-clause-size c =
-    size_is c.set-2.result.now c.set-3.result.now c.args.plus_sides.now c.args.minus_sides.now c.is_between.result
+    size_is c.set-2.result.now c.set-3.result.now c.args.plus_sides.now c.args.minus_sides.now _
     ∙ ap (length {A = Bool}) c.set-2.ensures ∙ c.requires.plus_size
 
 pub returns-clause-only : goal.returns-clause-only
