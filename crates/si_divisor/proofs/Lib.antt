@@ -6,6 +6,7 @@ pub mod CubesExist
 pub mod ChoiceLemmas
 mod DivisorExamples
 mod FunctionExamples
+mod ManyFunctionExamples
 pub mod Sets
 pub mod ClassCases
 pub mod RuleLemmas
@@ -19,6 +20,7 @@ pub mod FunctionLemmas
 pub mod SameFunction
 pub mod FillLemmas
 pub mod OutsideLemmas
+pub mod ManyFunctionLemmas
 pub mod InstanceLemmas
 pub mod DivisorsExist
 pub mod LeastExists

@@ -1,16 +1,14 @@
 -- Searches that end at the first state outside of a set, and why there is no partition then.
-use Rattle.std.proofs.Common.{◌≡◌, ℕ, ◌<◌, ◌⊎◌, Bool, true, false, List, [], ◌∷◌, ◌++◌, length, replicate, Contains}
+use Rattle.std.proofs.Common.{◌≡◌, ℕ, ◌⊎◌, Bool, true, false, List, [], ◌∷◌, ◌++◌, replicate, Contains}
 use Rattle.std.proofs.Common.{sym, subst, ◌∙◌, arith, inl, inr}
 use Rattle.std.proofs.lemmas.Bool.{true≢false}
 use Rattle.std.proofs.lemmas.List.Elements.{Contains-push_cases}
 use Rattle.si_base.specs.Sets.{IsSubset}
-use Rattle.si_base.specs.declared.ids.Event.{Event}
-use Rattle.si_base.specs.Graph.{StateGraph, Step, IsGraph}
-use Rattle.si_base.proofs.StepFacts.{step_within}
+use Rattle.si_base.specs.Graph.{StateGraph}
 use Rattle.si_graph.specs.Reach.{IsIn, Marks}
-use Rattle.si_graph.proofs.MarkLemmas.{in_none, in_below}
+use Rattle.si_graph.proofs.MarkLemmas.{in_none}
 use Rattle.si_insert.specs.declared.partition.Class.{Class}
-use Rattle.si_divisor.specs.Targets.{IsLeast, AreSettled, AreHeld, HaveTargets, forced_in, holds, target}
+use Rattle.si_divisor.specs.Targets.{IsLeast, AreSettled, HaveTargets, forced_in, target}
 use Rattle.si_divisor.specs.Switching.{Switches}
 use Rattle.si_divisor.specs.WorkList.{Belongs, Strays}
 use Rattle.si_divisor.specs.PartitionFor.{LeavesAt, HasSome, IsPartitionFor, HasNone}
@@ -100,33 +98,3 @@ pub stays_within : (up down plus minus : List Bool) → IsSubset plus up → IsS
     → LeavesAt (forced_in up down) plus minus s → ⊥
 stays_within up down plus minus in_up in_down s (inl leaves) = true≢false (sym (in_up s leaves.0) ∙ leaves.1)
 stays_within up down plus minus in_up in_down s (inr leaves) = true≢false (sym (in_down s leaves.0) ∙ leaves.1)
-
--- where no state holds, the forced states settle
-pub forced_settle : (g : StateGraph) (up down held : List Bool) → IsGraph g → length up ≡ g.states
-    → length down ≡ g.states → AreHeld (forced_in up down) (length up) held → (HasSome held → ⊥)
-    → AreSettled g (forced_in up down) up down
-forced_settle g up down held graph up_size down_size are none = record {
-  at_one = record {
-    size = up_size;
-    meets = record {
-      begins = λ s within there. there;
-      goes_on =
-          λ s e t step there hold. none_holds s e t step hold;
-    };
-    least = λ other size rules s there. rules.begins s (omega (arith, in_below up s there, up_size)) there;
-  };
-  at_zero = record {
-    size = down_size;
-    meets = record {
-      begins = λ s within there. there;
-      goes_on =
-          λ s e t step there hold. none_holds s e t step hold;
-    };
-    least = λ other size rules s there. rules.begins s (omega (arith, in_below down s there, down_size)) there;
-  };
-}
-  where
-    none_holds : {A : Type 0} (s : ℕ) (e : Event) (t : ℕ) → Step g s e t → holds (forced_in up down) t ≡ true → A
-    none_holds s e t step hold =
-        let below : t < length up = omega (arith, (step_within g s e t graph step).2, up_size) in
-        absurd (none (t, are.each t below ∙ hold))

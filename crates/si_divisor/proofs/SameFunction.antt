@@ -1,5 +1,5 @@
 -- Instances that compute one function.
-use Rattle.std.proofs.Common.{◌≡◌, ℕ, ◌&&◌, not, Bool, true, refl, sym, ap, ◌∙◌, eqb-true}
+use Rattle.std.proofs.Common.{◌≡◌, ℕ, ◌&&◌, not, Bool, true, List, Option, None, Some, refl, sym, ap, ◌∙◌, eqb-true}
 use Rattle.std.proofs.lemmas.Bool.{and_parts}
 use Rattle.std.proofs.lemmas.Map.Text.{is_eq-slice_cmp}
 use Rattle.std.proofs.lemmas.Slice.Eq.{bytes_eq-Decides}
@@ -9,11 +9,14 @@ use Rattle.std.specs.Ordering.{nat_cmp, is_eq, ordering_then}
 use Rattle.std.specs.declared.cmp.Ordering.{Ordering}
 use Rattle.std.specs.declared.cmp.Ordering.TheVariants.{Less, Equal, Greater}
 use mathlib.Core.Bool.{beq}
-use Rattle.si_base.specs.Codes.{code}
+use Rattle.si_base.specs.Codes.{CodedGraph, code}
+use Rattle.si_base.specs.Graph.{IsGraph}
 use Rattle.si_cell.specs.Library.{Library, Instance, instance_value}
+use Rattle.si_insert.specs.declared.partition.Class.{Class}
 use Rattle.si_divisor.specs.declared.function.Function.{Function}
-use Rattle.si_divisor.specs.Functions.{IsFunction, function_cmp}
+use Rattle.si_divisor.specs.Functions.{Computes, IsFunction, function_cmp, function_value}
 use Rattle.si_divisor.specs.Laws.{FunctionsDecide}
+use Rattle.si_divisor.specs.PartitionFor.{Answers}
 use Rattle.si_divisor.specs.Targets.{forced_by}
 use Rattle.si_divisor.proofs.SameForced.{ForceAlike, partitions_alike}
 
@@ -49,3 +52,19 @@ same_function f g level = λ i. record { signals = record { items = signals i };
 
     table : f.table ≡ g.table
     table = eqb-true f.table g.table (unsigned_ties f.table g.table ∙ parts.1)
+
+value_alike : (c : CodedGraph) (f : Function) (value : ℕ → Bool → Bool) → Computes f value
+    → ForceAlike c.graph (forced_by (function_value f) c) (forced_by value c)
+value_alike c f value same v s within = ap (λ b. beq b v) (same (code c s) (not v))
+
+-- the answer for a function is that for each value that it computes
+pub answers_alike : (c : CodedGraph) (f : Function) (value : ℕ → Bool → Bool) (found : Option (List Class))
+    → IsGraph c.graph → Computes f value → Answers c (function_value f) found → Answers c value found
+answers_alike c f value None graph same none =
+    λ classes p. none classes (partitions_alike c.graph (forced_by value c) (forced_by (function_value f) c)
+    classes graph (λ v s within. sym (value_alike c f value same v s within)) p)
+answers_alike c f value (Some classes) graph same (p, lawful) = (
+  partitions_alike c.graph (forced_by (function_value f) c) (forced_by value c) classes graph
+      (value_alike c f value same) p,
+  lawful,
+)

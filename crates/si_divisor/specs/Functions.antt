@@ -31,6 +31,10 @@ pub record IsFunction (library : Library) (i : Instance) (f : Function) : Type 0
 abbrev pub function_value : Function → ℕ → Bool → Bool
 function_value f code q = bit f.table (values_at f.signals.items code q)
 
+-- the value is that of the function at each code
+abbrev pub Computes : Function → (ℕ → Bool → Bool) → Type 0
+Computes f value = (code : ℕ) (q : Bool) → function_value f code q ≡ value code q
+
 -- the order of functions: by their signals, the first first, then by their tables
 abbrev pub function_cmp : Function → Function → Ordering
 function_cmp f g =

@@ -6,5 +6,6 @@ pub mod Targets
 pub mod Switching
 pub mod PartitionFor
 pub mod Functions
+pub mod ManyFunctions
 pub mod WorkList
 pub mod Laws

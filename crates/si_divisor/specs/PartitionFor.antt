@@ -1,13 +1,15 @@
 -- (field) The partition for an instance, and the first reason why there is none.
 use Rattle.std.specs.Prelude.{◌≡◌, ℕ, ◌<◌, ◌⊎◌, Bool, true, false, List, [], ◌∷◌, length}
-use Rattle.std.specs.Prelude.{slice_index_or, if◌then◌else◌}
+use Rattle.std.specs.Prelude.{slice_index_or, if◌then◌else◌, Option, MatchOption}
 use Rattle.si_base.specs.Order.{IsFirst}
 use Rattle.si_base.specs.Graph.{StateGraph}
+use Rattle.si_base.specs.Codes.{CodedGraph}
 use Rattle.si_graph.specs.Reach.{IsIn}
 use Rattle.si_insert.specs.declared.partition.Class.{Class}
 use Rattle.si_insert.specs.declared.partition.Class.TheVariants.{Low, Rising, High, Falling}
-use Rattle.si_insert.specs.Partition.{class_of}
+use Rattle.si_insert.specs.Partition.{class_of, IsLawful}
 use Rattle.si_divisor.specs.Targets.{IsLeast, AreSettled, IsUnforced, IsTorn, HaveTargets, target}
+use Rattle.si_divisor.specs.Targets.{forced_by}
 use Rattle.si_divisor.specs.Switching.{Switches}
 use Rattle.si_divisor.specs.declared.fault.NoPartition.{NoPartition}
 use Rattle.si_divisor.specs.declared.fault.NoPartition.TheVariants.{NoMemory, Unforced}
@@ -64,6 +66,12 @@ pub record IsPartitionFor (g : StateGraph) (forced : Bool → ℕ → Bool) (cla
 -- there is no partition
 abbrev pub HasNone : StateGraph → (Bool → ℕ → Bool) → Type 0
 HasNone g forced = (classes : List Class) → IsPartitionFor g forced classes → ⊥
+
+-- the answer is the partition for this value, which is lawful, or None exactly where there is none
+abbrev pub Answers : CodedGraph → (ℕ → Bool → Bool) → Option (List Class) → Type 0
+Answers c value found =
+    MatchOption found (HasNone c.graph (forced_by value c))
+    (λ p. IsPartitionFor c.graph (forced_by value c) p × IsLawful c.graph p)
 
 abbrev pub state_place : ℕ → List ℕ
 state_place s = s ∷ []

@@ -1,7 +1,7 @@
 //! The classes of the states, by the sets of states that settle and of those that switch.
 
 ghost use Rattle.std.specs.Prelude.{◌≡◌, ℕ, ◌<◌, ◌↔◌, IfOk, IfErr, MatchOption, IsTrue, length};
-ghost use Rattle.std.specs.Prelude.{slice_index_or, false};
+ghost use Rattle.std.specs.Prelude.{slice_index_or, false, List, Bool};
 ghost use Rattle.si_base.specs.Order.{IsFirst};
 ghost use Rattle.si_base.specs.Graph.{IsGraph};
 ghost use Rattle.si_insert.specs.Partition.{class_of};
@@ -136,36 +136,25 @@ pub(crate) fn classes_for(
     Ok(list)
 }
 
-/// Whether each state settles at just one value.
-fn have_targets(graph: &Graph, ones: &StateSet, zeros: &StateSet) -> bool
-    requires ones { length ones.now ≡ graph.now.states }
-    requires zeros { length zeros.now ≡ graph.now.states }
-    ensures { IsTrue result ↔ HaveTargets graph.now ones.now zeros.now }
-{
-    first_unforced(graph, ones, zeros).is_none() && first_torn(ones, zeros).is_none()
-}
-
-/// The classes of the states where these settle at 1 and those at 0; `None` exactly where there are
-/// none. It ends as soon as one of the reasons against them is seen.
-fn classes_by(
+/// The classes of the states, each of which settles at just one value: these at 1, the others at 0;
+/// `None` exactly where there are none. It ends as soon as one of the reasons against them is seen.
+pub(crate) fn classes_by(
     alloc: Global,
     graph: &Graph,
     up: &StateSet,
     down: &StateSet,
     ones: &StateSet,
-    zeros: &StateSet,
 ) -> Result<Option<Vec<Class>>, NoMemory>
     requires graph { IsGraph graph.now }
     requires up { length up.now ≡ graph.now.states }
     requires down { length down.now ≡ graph.now.states }
-    requires settled { AreSettled graph.now (forced_in up.now down.now) ones.now zeros.now }
+    requires ones { length ones.now ≡ graph.now.states }
+    requires settled { (zeros : List Bool) × HaveTargets graph.now ones.now zeros
+        × AreSettled graph.now (forced_in up.now down.now) ones.now zeros }
     ensures { IfOk result (λ found. MatchOption found
         (HasNone graph.now (forced_in up.now down.now))
         (λ v. IsPartitionFor graph.now (forced_in up.now down.now) v.items)) }
 {
-    if !have_targets(graph, ones, zeros) {
-        return Ok(None);
-    }
     let Some(plus) = switching_within(alloc, graph, ones, true, up)? else {
         return Ok(None);
     };
@@ -177,28 +166,4 @@ fn classes_by(
     }
     let list = class_list(alloc, &plus, &minus, ones)?;
     Ok(Some(list))
-}
-
-/// The classes of the states for an instance that forces the states of the one set to 1 and those
-/// of the other to 0; `None` exactly where there are none. Where no state holds, the forced states
-/// are those that settle.
-pub(crate) fn classes_if(
-    alloc: Global,
-    graph: &Graph,
-    up: &StateSet,
-    down: &StateSet,
-) -> Result<Option<Vec<Class>>, NoMemory>
-    requires graph { IsGraph graph.now }
-    requires up { length up.now ≡ graph.now.states }
-    requires down { length down.now ≡ graph.now.states }
-    ensures { IfOk result (λ found. MatchOption found
-        (HasNone graph.now (forced_in up.now down.now))
-        (λ v. IsPartitionFor graph.now (forced_in up.now down.now) v.items)) }
-{
-    let held = holding(alloc, up, down)?;
-    if !has_some(&held) {
-        return classes_by(alloc, graph, up, down, up, down);
-    }
-    let Settled { ones, zeros } = settled_states(alloc, graph, &held, up, down)?;
-    classes_by(alloc, graph, up, down, &ones, &zeros)
 }

@@ -8,6 +8,7 @@ pub mod divisors;
 pub mod fault;
 mod forced;
 pub mod function;
+pub mod function_sets;
 pub mod laws;
 pub mod partition_for;
 pub mod pins;

@@ -1,15 +1,16 @@
 //! The partition for an instance.
 
-ghost use Rattle.std.specs.Prelude.{IfOk, IfErr, MatchOption, List};
-ghost use Rattle.si_insert.specs.declared.partition.Class.{Class};
+ghost use Rattle.std.specs.Prelude.{IfOk, IfErr};
 ghost use Rattle.si_insert.specs.Partition.{IsLawful};
 ghost use Rattle.si_cell.specs.Library.{IsInstance, instance_value};
 ghost use Rattle.si_divisor.specs.Targets.{forced_by};
-ghost use Rattle.si_divisor.specs.PartitionFor.{IsPartitionFor, ShowsNone};
+ghost use Rattle.si_divisor.specs.PartitionFor.{Answers, IsPartitionFor, ShowsNone};
 
-use crate::classes::{classes_for, classes_if};
+use crate::classes::classes_for;
 use crate::fault::NoPartition;
 use crate::forced::{Forced, forced_states};
+use crate::function::function_of;
+use crate::function_sets::FunctionSets;
 use si_base::ids::NoMemory;
 use si_cell::cell::Instance;
 use si_cell::library::Library;
@@ -48,17 +49,11 @@ pub fn partition_if(
     instance: &Instance,
 ) -> Result<Option<Partition>, NoMemory>
     requires { IsInstance library.now instance.now }
-    ensures { IfOk result (λ found. MatchOption found
-        ((classes : List Class) → IsPartitionFor graph.now.graph
-        (forced_by (instance_value library.now instance.now) graph.now) classes → ⊥)
-        (λ p. IsPartitionFor graph.now.graph
-        (forced_by (instance_value library.now instance.now) graph.now) p
-        × IsLawful graph.now.graph p)) }
+    ensures { IfOk result (Answers graph.now (instance_value library.now instance.now)) }
 {
-    let coded = graph.coded();
-    let Forced { up, down } = forced_states(alloc, coded, library, instance)?;
-    let Some(classes) = classes_if(alloc, coded.graph(), &up, &down)? else {
-        return Ok(None);
-    };
-    Ok(Some(Partition::known(graph, classes)))
+    let mut functions = Vec::new(alloc);
+    functions.push(function_of(library, instance))?;
+    let sets = FunctionSets::make(alloc, graph, functions)?;
+    let found = sets.partition(alloc, graph, 0)?;
+    Ok(found)
 }

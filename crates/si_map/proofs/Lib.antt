@@ -11,6 +11,7 @@ pub mod OneBest
 pub mod SearchSteps
 pub mod SearchLemmas
 pub mod SearchSignals
+pub mod NextFunctions
 pub mod ChoicesDecided
 pub mod MapTraces
 pub mod MapLemmas

@@ -11,6 +11,7 @@ use Rattle.si_conflicts.specs.Chains.{AreChains}
 use Rattle.si_conflicts.specs.Left.{LeavesConflicts}
 use Rattle.si_divisor.specs.declared.function.Function.{Function}
 use Rattle.si_divisor.specs.Functions.{IsFunction, function_cmp}
+use Rattle.si_divisor.specs.ManyFunctions.{AreFunctionSets}
 use Rattle.si_divisor.specs.PartitionFor.{IsPartitionFor}
 use Rattle.si_divisor.specs.Targets.{forced_by}
 use Rattle.si_insert.specs.declared.partition.Class.{Class}
@@ -20,6 +21,7 @@ use Rattle.si_match.specs.Fit.{first_fit}
 use Rattle.si_match.specs.Weight.{weight_of}
 use Rattle.si_map.specs.Best.{Choice, IsUnfit, IsDivisorAt, LeavesWeight}
 use Rattle.si_map.specs.Search.{IsBestSoFar, bar}
+use Rattle.si_map.specs.declared.functions.Functions.{Functions}
 use Rattle.si_map.specs.declared.search.Search.{Search}
 
 -- ---- one partition
@@ -48,6 +50,12 @@ IsSpent c library bar i = (classes : List Class)
 abbrev pub AreSpent : CodedGraph → Library → ℕ → BTreeSet Function → Type 0
 AreSpent c library bar functions = (f : Function) (i : Instance)
     → IsTrue (contains function_cmp functions f) → IsFunction library i f → IsSpent c library bar i
+
+-- so are those of the divisors that were looked at, and the sets are those of functions
+pub record AreKnown (c : CodedGraph) (library : Library) (bar : ℕ) (functions : Functions)
+    : Type 0 where
+  pub spent : AreSpent c library bar functions.tried
+  pub sets : AreFunctionSets c functions.next
 
 -- ---- the search
 

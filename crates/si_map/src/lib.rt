@@ -3,6 +3,7 @@
 
 pub mod best;
 pub mod ends;
+mod functions;
 pub mod laws;
 pub mod map;
 mod search;

@@ -1,21 +1,24 @@
 //! The search for the best divisor, signal after signal and divisor after divisor.
 
 ghost use Rattle.std.specs.Prelude.{◌≡◌, ◌≢◌, ℕ, ◌<◌, ◌≤◌, ◌↔◌, ◌+◌, false, length, IsTrue};
-ghost use Rattle.std.specs.Prelude.{IfOk, IfSome, IfNone, OnOk, MatchOption};
+ghost use Rattle.std.specs.Prelude.{All, IfOk, IfSome, IfNone, OnOk, MatchOption};
 ghost use Rattle.si_base.specs.Bits.{bit};
 ghost use Rattle.si_base.specs.Limits.{max_signals};
 ghost use Rattle.si_base.specs.Graph.{IsNonInput};
 ghost use Rattle.si_cell.specs.Library.{Library as LibraryValue, IsInstance};
 ghost use Rattle.si_checks.specs.Lent.{lent_graph};
 ghost use Rattle.si_insert.specs.Accepted.{DelaysNoInput, IsAccepted, StaysProper};
+ghost use Rattle.si_divisor.specs.ManyFunctions.{AreFunctionSets};
+ghost use Rattle.si_insert.specs.Accepted.{IsAccepted};
 ghost use Rattle.si_insert.specs.Partition.{IsLawful};
 ghost use Rattle.si_match.specs.Weight.{weight_of};
 ghost use Rattle.si_map.specs.Waiting.{NeverWaits};
 ghost use Rattle.si_map.specs.Best.{Choice, IsBest, NoneServes};
 ghost use Rattle.si_map.specs.Progress.{AreFitted, IsReady, IsSearching, HasTried, IsTried};
-ghost use Rattle.si_map.specs.Progress.{IsKnown, IsGrown, IsSpent, AreSpent, LeavesBelow};
+ghost use Rattle.si_map.specs.Progress.{AreKnown, IsKnown, IsGrown, IsSpent, LeavesBelow};
 ghost use Rattle.si_map.specs.Progress.{LeavesNoneBelow};
 
+use crate::functions::Functions;
 use crate::waiting::waiting_signals;
 use si_base::ids::{Code, NoMemory, Sig};
 use si_base::text::Name;
@@ -25,8 +28,7 @@ use si_checks::distinct::Distinct;
 use si_checks::proper::Proper;
 use si_conflicts::chains::CodeChains;
 use si_divisor::divisors::divisors;
-use si_divisor::function::{Function, function_of};
-use si_divisor::partition_for::partition_if;
+use si_divisor::function::function_of;
 use si_graph::graph::Graph;
 use si_insert::accept::{Accepted, accept_by_size};
 use si_insert::apply::apply;
@@ -36,7 +38,6 @@ use si_match::fit::fit;
 use si_match::known::KnownFits;
 use si_match::weight::weight_below;
 use std::alloc::Global;
-use std::collections::BTreeSet;
 
 /// With what the names of signals begin that are inserted for the gates of others.
 pub(crate) const STEM: &[u8] = b"map";
@@ -72,7 +73,7 @@ pub(crate) fn find_best(
 {
     let fitted = fitted_signals(graph, library);
     let mut search = Search::new(alloc, graph.proper(), weight, fitted)?;
-    let mut functions = BTreeSet::new(alloc);
+    let mut functions = Functions::new(alloc);
     let known = graph.proper().coded().graph();
     for i in 0..known.signals().len() {
         let z = Sig(i as u8);
@@ -108,71 +109,88 @@ impl Search {
         graph: Distinct<'_>,
         library: &Library,
         z: Sig,
-        functions: &mut BTreeSet<Function>,
+        functions: &mut Functions,
     ) -> Result<(), NoMemory>
         requires driven { IsNonInput (lent_graph graph).graph.signals z }
         requires before { IsSearching (lent_graph graph) library.now z 0 self.old }
-        requires spent { AreSpent (lent_graph graph) library.now self.old.bar functions.old }
+        requires known { AreKnown (lent_graph graph) library.now self.old.bar functions.old }
         ensures after { OnOk result
             (IsSearching (lent_graph graph.entry) library.now (z + 1) 0 self.new) }
-        ensures spent { OnOk result
-            (AreSpent (lent_graph graph.entry) library.now self.new.bar functions.new) }
+        ensures known { OnOk result
+            (AreKnown (lent_graph graph.entry) library.now self.new.bar functions.new) }
     {
         if fit(graph, library, z).is_some() {
             return Ok(());
         }
         let divisors = divisors(alloc, graph, library, z)?;
         for k in 0..divisors.len() {
-            self.try_once(alloc, graph.proper(), library, &divisors[k], functions)?;
+            let others = &divisors[k + 1..];
+            self.try_once(
+                alloc,
+                graph.proper(),
+                library,
+                &divisors[k],
+                others,
+                functions,
+            )?;
         }
         Ok(())
     }
 
     /// Looks at one divisor, unless one was looked at that computes the same function. Below the
-    /// weight 0 there is none.
+    /// weight 0 there is none. Behind it come the others.
     fn try_once(
         &mut self,
         alloc: Global,
         graph: &Proper,
         library: &Library,
         divisor: &Instance,
-        functions: &mut BTreeSet<Function>,
+        others: &[Instance],
+        functions: &mut Functions,
     ) -> Result<(), NoMemory>
         requires instance { IsInstance library.now divisor.now }
+        requires others { All (λ i. IsInstance library.now i) others.now }
         requires ready { IsReady graph.now library.now self.old }
-        requires spent { AreSpent graph.now library.now self.old.bar functions.old }
+        requires known { AreKnown graph.now library.now self.old.bar functions.old }
         ensures tried { OnOk result
             (HasTried graph.now library.now divisor.now self.old self.new) }
-        ensures spent { OnOk result (AreSpent graph.now library.now self.new.bar functions.new) }
+        ensures known { OnOk result (AreKnown graph.now library.now self.new.bar functions.new) }
     {
         if self.bar == 0 {
             return Ok(());
         }
         let function = function_of(library, divisor);
-        if functions.contains(&function) {
+        if functions.tried.contains(&function) {
             return Ok(());
         }
-        self.try_divisor(alloc, graph, library, divisor)?;
-        functions.insert(function)?;
+        self.try_divisor(alloc, graph, library, divisor, others, functions)?;
+        functions.tried.insert(function)?;
         Ok(())
     }
 
-    /// Looks at one divisor.
+    /// Looks at one divisor. Behind it come the others.
     fn try_divisor(
         &mut self,
         alloc: Global,
         graph: &Proper,
         library: &Library,
         divisor: &Instance,
+        others: &[Instance],
+        functions: &mut Functions,
     ) -> Result<(), NoMemory>
         requires instance { IsInstance library.now divisor.now }
+        requires others { All (λ i. IsInstance library.now i) others.now }
         requires ready { IsReady graph.now library.now self.old }
+        requires sets { AreFunctionSets graph.now functions.old.next }
         ensures tried { OnOk result
             (HasTried graph.now library.now divisor.now self.old self.new) }
         ensures lower { OnOk result (self.new.bar ≤ self.old.bar) }
         ensures spent { OnOk result (IsSpent graph.now library.now self.new.bar divisor.now) }
+        ensures sets { OnOk result (AreFunctionSets graph.now functions.new.next) }
+        ensures same { functions.new.tried ≡ functions.old.tried }
     {
-        let Some(partition) = partition_if(alloc, graph, library, divisor)? else {
+        let found = functions.partition(alloc, graph, library, divisor, others)?;
+        let Some(partition) = found else {
             return Ok(());
         };
         self.try_partition(alloc, graph, library, partition)?;

@@ -1,30 +1,18 @@
-use Rattle.si_cell.specs.Library.{instance_value}
-use Rattle.si_divisor.proofs.AnswerLemmas.{none_carried, partition_carried, lawful_carried}
+use Rattle.std.proofs.Common.{[], All, ◌<◌, arith}
+use Rattle.std.proofs.lemmas.List.Elements.{All-push}
+use Rattle.si_base.specs.Limits.{code_width}
+use Rattle.si_divisor.proofs.FunctionLemmas.{signals_within}
+use Rattle.si_divisor.proofs.ManyFunctionLemmas.{no_function}
 use Rattle.si_divisor.proofs.partition_for.partition_if.Goals as goal
 
-pub returns-in_default : goal.returns-in_default
-returns-in_default c =
-    let value = instance_value c.args.library.now c.args.instance.now in
-    none_carried value c.args.graph.now c.coded-coded.result.now c.graph.result.now c.in_ok-up.field-0.up
-    c.in_ok-up.field-0.down c.graph.ensures.same c.coded-coded.ensures.same c.graph.ensures.coded c.in_ok-up.ensures
-    (rw c.in_default.is at c.in_ok-classes.ensures)
-
-pub known-requires : goal.known-requires
-known-requires c =
-    let value = instance_value c.args.library.now c.args.instance.now in
-    lawful_carried value c.args.graph.now c.coded-coded.result.now c.graph.result.now c.in_ok-up.field-0.up
-    c.in_ok-up.field-0.down c.graph.ensures.same c.coded-coded.ensures.same c.graph.ensures.coded c.in_ok-up.ensures
-    c.in-Some.classes.items (rw c.in-Some.is at c.in_ok-classes.ensures)
+pub make-requires-clause-within : goal.make-requires-clause-within
+make-requires-clause-within c =
+    rw (c.in_ok-push.ensures.items, c.new-functions.ensures.items)
+    (All-push (λ f. All (λ s. s < code_width) f.signals.items)
+    [] c.function_of.result (λ k d inside. absurd (omega (arith, inside)))
+    (signals_within c.args.library.now c.args.instance.now c.function_of.result c.requires c.function_of.ensures))
 
 pub returns : goal.returns
 returns c =
-    let value = instance_value c.args.library.now c.args.instance.now in
-    let found = rw c.in-Some.is at c.in_ok-classes.ensures in
-    rw c.known.ensures (
-      partition_carried value c.args.graph.now c.coded-coded.result.now c.graph.result.now c.in_ok-up.field-0.up
-          c.in_ok-up.field-0.down c.graph.ensures.same c.coded-coded.ensures.same c.graph.ensures.coded
-          c.in_ok-up.ensures c.in-Some.classes.items found,
-      lawful_carried value c.args.graph.now c.coded-coded.result.now c.graph.result.now c.in_ok-up.field-0.up
-          c.in_ok-up.field-0.down c.graph.ensures.same c.coded-coded.ensures.same c.graph.ensures.coded
-          c.in_ok-up.ensures c.in-Some.classes.items found,
-    )
+    (rw (c.in_ok-sets.ensures.functions, c.in_ok-push.ensures.items, c.new-functions.ensures.items)
+    at (c.in_ok-found.ensures no_function)) _ c.function_of.ensures.table.value

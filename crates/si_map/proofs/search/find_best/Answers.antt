@@ -1,13 +1,10 @@
-use Rattle.std.proofs.Common.{◌≡◌, ◌∙◌, false, length, refl, sym, ap, subst, arith}
-use Rattle.std.proofs.lemmas.Bool.{true≢false}
-use Rattle.std.specs.BTreeSet.{BTreeSet, contains, IsEmpty}
+use Rattle.std.proofs.Common.{◌≡◌, ◌∙◌, length, ap, subst, arith}
 use Rattle.si_base.specs.Graph.{StateGraph}
 use Rattle.si_base.specs.Codes.{CodedGraph}
 use Rattle.si_cell.specs.Library.{Library}
 use Rattle.si_match.specs.Weight.{weight_of}
 use Rattle.si_checks.specs.Lent.{lent_graph}
-use Rattle.si_divisor.specs.declared.function.Function.{Function}
-use Rattle.si_divisor.specs.Functions.{function_cmp}
+use Rattle.si_map.proofs.SearchLemmas.{none_yet}
 use Rattle.si_map.specs.Progress.{AreFitted, IsSearching}
 use Rattle.si_map.proofs.SearchSignals.{found, pass_input_by}
 use Rattle.si_map.proofs.search.find_best.Goals as goal
@@ -20,13 +17,15 @@ loop-i-init c =
     let starts : Starts (lent_graph c.args.graph) = subst Starts c.proper.ensures.same c.in_ok-search.ensures in
     record {
       searching = starts c.args.library.now c.requires c.fitted_signals-fitted.ensures;
-      spent = λ f i there is.
-          absurd (true≢false (sym there ∙ none_in c.new-functions.result c.new-functions.ensures.empty f));
+      known = record {
+        spent = none_yet (lent_graph c.args.graph) c.args.library.now c.in_ok-search.search.bar
+            c.new-functions.result.tried c.new-functions.ensures.tried;
+        sets = record {
+          few = omega (arith, c.new-functions.ensures.next);
+          each = λ k d inside. absurd (omega (arith, inside, c.new-functions.ensures.next));
+        };
+      };
     }
-  where
-    none_in : (functions : BTreeSet Function) → IsEmpty functions → (f : Function)
-        → contains function_cmp functions f ≡ false
-    none_in functions empty f = rw empty refl
 
 pub loop-i-preserved-then-not-is_driven : goal.loop-i-preserved-then-not-is_driven
 loop-i-preserved-then-not-is_driven c =
@@ -36,7 +35,7 @@ loop-i-preserved-then-not-is_driven c =
       searching = pass_input_by (lent_graph c.args.graph) c.args.library.now c.loop-i.i c.loop-i.search
           c.graph-known.result.now c.is_driven.result known c.is_driven.ensures c.if-not-is_driven.true
           c.loop-i.invariant.searching;
-      spent = c.loop-i.invariant.spent;
+      known = c.loop-i.invariant.known;
     }
 
 pub returns : goal.returns

@@ -1,4 +1,5 @@
-use Rattle.std.proofs.Common.{◌∙◌, sym}
+use Rattle.std.proofs.Common.{◌∙◌, sym, subst}
+use Rattle.si_map.specs.Progress.{AreSpent}
 use Rattle.si_map.proofs.SearchLemmas.{more_spent, spent_tried, zero_tried}
 use Rattle.si_map.proofs.search.Search.try_once.Goals as goal
 
@@ -9,12 +10,17 @@ returns-then-self-eq0-clause-tried c =
 pub returns-then-contains-clause-tried : goal.returns-then-contains-clause-tried
 returns-then-contains-clause-tried c =
     spent_tried c.args.graph.now c.args.library.now c.args.divisor.now c.args.self.now
-    (c.requires.spent c.function_of-function.result c.args.divisor.now (sym c.contains.ensures ∙ c.if-contains.true)
-    c.function_of-function.ensures)
+    (c.requires.known.spent c.function_of-function.result c.args.divisor.now
+    (sym c.contains.ensures ∙ c.if-contains.true) c.function_of-function.ensures)
 
-pub returns-clause-spent : goal.returns-clause-spent
-returns-clause-spent c =
-    more_spent c.args.graph.now c.args.library.now c.args.self.now.bar c.try_divisor.new.self.bar c.args.divisor.now
-    c.function_of-function.result c.args.functions.now c.insert.new.self c.requires.ready.coded
-    c.in_ok-try_divisor.ensures.lower c.requires.spent c.function_of-function.ensures
-    c.in_ok-try_divisor.ensures.spent c.in_ok-insert.ensures.updates
+pub returns-clause-known : goal.returns-clause-known
+returns-clause-known c =
+    let before = subst (λ fs. AreSpent c.args.graph.now c.args.library.now c.args.self.now.bar fs)
+    (sym c.in_ok-try_divisor.ensures.same) c.requires.known.spent in
+    record {
+      spent = more_spent c.args.graph.now c.args.library.now c.args.self.now.bar c.try_divisor.new.self.bar
+          c.args.divisor.now c.function_of-function.result c.try_divisor.new.functions.tried c.insert.new.self
+          c.requires.ready.coded c.in_ok-try_divisor.ensures.lower before c.function_of-function.ensures
+          c.in_ok-try_divisor.ensures.spent c.in_ok-insert.ensures.updates;
+      sets = c.in_ok-try_divisor.ensures.sets;
+    }

@@ -1,9 +1,10 @@
-use Rattle.std.proofs.Common.{◌≡◌, ◌<◌, ◌∙◌, length, sym, ap, subst, arith, Option, is_some}
-use Rattle.si_cell.specs.Library.{Instance}
+use Rattle.std.proofs.Common.{◌≡◌, ◌+◌, ◌-◌, ◌<◌, ◌∙◌, drop, length, sym, ap, subst, arith, Option, is_some}
+use Rattle.std.proofs.lemmas.List.Elements.{All-drop, All-take}
+use Rattle.si_cell.specs.Library.{Instance, IsInstance}
 use Rattle.si_checks.specs.Lent.{lent_graph}
-use Rattle.si_map.specs.Progress.{AreSpent, IsSearching}
+use Rattle.si_map.specs.Progress.{AreKnown, IsSearching}
 use Rattle.si_map.proofs.SearchSignals.{unfit_by, next_divisor, end_signal, pass_fitted}
-use Rattle.si_map.proofs.DivisorFacts.{is_instance}
+use Rattle.si_map.proofs.DivisorFacts.{all_instances, is_instance}
 use Rattle.si_map.proofs.search.Search.try_signal.Goals as goal
 
 pub returns-then-is_some-clause-after : goal.returns-then-is_some-clause-after
@@ -30,8 +31,8 @@ loop-k-preserved c =
       searching = next_divisor d c.args.library.now c.proper.result.now c.args.z c.loop-k.k c.index.result.now
           c.in_ok-divisors.divisors.items c.loop-k.self c.try_once.new.self c.proper.ensures.same unfit
           c.in_ok-divisors.ensures within c.index.ensures c.in_ok-try_once.ensures.tried c.loop-k.invariant.searching;
-      spent = subst (λ e. AreSpent e c.args.library.now c.try_once.new.self.bar c.try_once.new.functions)
-          c.proper.ensures.same c.in_ok-try_once.ensures.spent;
+      known = subst (λ e. AreKnown e c.args.library.now c.try_once.new.self.bar c.try_once.new.functions)
+          c.proper.ensures.same c.in_ok-try_once.ensures.known;
     }
 
 pub returns-clause-after : goal.returns-clause-after
@@ -42,7 +43,16 @@ returns-clause-after c =
     end_signal d c.args.library.now c.args.z c.in_ok-divisors.divisors.items c.loop-k.self c.in_ok-divisors.ensures
     (subst (λ k. IsSearching d c.args.library.now c.args.z k c.loop-k.self) all c.loop-k.invariant.searching)
 
-pub try_once-requires-clause-spent : goal.try_once-requires-clause-spent
-try_once-requires-clause-spent c =
-    subst (λ e. AreSpent e c.args.library.now c.loop-k.self.bar c.loop-k.functions) (sym c.proper.ensures.same)
-    c.loop-k.invariant.spent
+pub try_once-requires-clause-known : goal.try_once-requires-clause-known
+try_once-requires-clause-known c =
+    subst (λ e. AreKnown e c.args.library.now c.loop-k.self.bar c.loop-k.functions) (sym c.proper.ensures.same)
+    c.loop-k.invariant.known
+
+pub try_once-requires-clause-others : goal.try_once-requires-clause-others
+try_once-requires-clause-others c =
+    let library = c.args.library.now in
+    let divisors = c.in_ok-divisors.divisors.items in
+    rw c.deref.ensures.value (All-take (λ i. IsInstance library i) (length divisors - (c.loop-k.k + 1))
+    (drop (c.loop-k.k + 1) divisors) (All-drop (λ i. IsInstance library i) (c.loop-k.k + 1) divisors
+    (all_instances (lent_graph c.args.graph) library c.args.z divisors c.requires.before.ready.coded
+    c.in_ok-divisors.ensures)))

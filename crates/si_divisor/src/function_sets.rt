@@ -1,0 +1,184 @@
+//! The partitions for many functions at once.
+
+ghost use Rattle.std.specs.Prelude.{◌≡◌, ◌≢◌, ℕ, ◌<◌, ◌≤◌, ◌↔◌, Bool, true, All, IfOk, MatchOption};
+ghost use Rattle.std.specs.Prelude.{length, slice_index_or};
+ghost use Rattle.si_base.specs.Bits.{bit};
+ghost use Rattle.si_base.specs.Limits.{code_width};
+ghost use Rattle.si_closures.specs.WordSearch.{column};
+ghost use Rattle.si_divisor.specs.declared.function.Function.{Function as FunctionValue};
+ghost use Rattle.si_divisor.specs.Functions.{Computes};
+ghost use Rattle.si_divisor.specs.ManyFunctions.{AreForcedWords, AreFunctionSets, AreHeldWords};
+ghost use Rattle.si_divisor.specs.ManyFunctions.{AreOpposed, TellsForced};
+ghost use Rattle.si_divisor.specs.PartitionFor.{Answers};
+
+use crate::classes::classes_by;
+use crate::forced::is_forced;
+use crate::function::Function;
+use si_base::ids::{NoMemory, StateId};
+use si_checks::proper::Proper;
+use si_closures::word_search::closures;
+use si_closures::words::{everywhere, has_bit, set_at};
+use si_graph::coded::Coded;
+use si_insert::partition::Partition;
+use std::alloc::Global;
+
+/// What each of at most 128 functions makes of the states, as the gate of a new signal: those that
+/// it forces to each value, and those that settle at 1. A word stands for each state; its bit k is
+/// that of the function at k.
+///
+/// States settle for all the functions in one search, which takes hardly longer than that for one.
+#[derive(Drop)]
+pub struct FunctionSets {
+    functions: Vec<Function>,
+    up: Vec<u128>,
+    down: Vec<u128>,
+    ones: Vec<u128>,
+    /// The functions for which each state settles at just one value.
+    targets: u128,
+}
+
+impl FunctionSets {
+    /// The sets of no function.
+    pub fn none(alloc: Global) -> FunctionSets
+        ensures { length result.functions.items ≡ 0 }
+    {
+        FunctionSets {
+            functions: Vec::new(alloc),
+            up: Vec::new(alloc),
+            down: Vec::new(alloc),
+            ones: Vec::new(alloc),
+            targets: 0,
+        }
+    }
+
+    /// The sets of the functions. It fails only where memory runs out.
+    pub fn make(
+        alloc: Global,
+        graph: &Proper,
+        functions: Vec<Function>,
+    ) -> Result<FunctionSets, NoMemory>
+        requires few { length functions.items ≤ 128 }
+        requires within { All (λ f. All (λ s. s < code_width) f.signals.items) functions.items }
+        ensures functions { IfOk result (λ sets. sets.functions.items ≡ functions.items) }
+        ensures sets { IfOk result (AreFunctionSets graph.now) }
+    {
+        let coded = graph.coded();
+        let g = coded.graph();
+        let up = forced_words(alloc, coded, &functions, true)?;
+        let down = forced_words(alloc, coded, &functions, false)?;
+        let held = held_words(alloc, &up, &down)?;
+        let passes = everywhere(alloc, 2 * g.signals().len() as u32)?;
+        let ones = closures(alloc, g, &passes, &held, &up)?;
+        let zeros = closures(alloc, g, &passes, &held, &down)?;
+        let targets = those_with_targets(&ones, &zeros);
+        Ok(FunctionSets {
+            functions,
+            up,
+            down,
+            ones,
+            targets,
+        })
+    }
+
+    /// The place of the function among those whose sets these are.
+    pub fn place_of(&self, function: &Function) -> Option<usize>
+        ensures { MatchOption result
+            ((k : ℕ) (d : FunctionValue) → k < length self.now.functions.items
+            → slice_index_or self.now.functions.items k d ≢ function.now)
+            (λ k. (k < length self.now.functions.items) × ((d : FunctionValue)
+            → slice_index_or self.now.functions.items k d ≡ function.now)) }
+    {
+        for k in 0..self.functions.len() {
+            if self.functions[k] == *function {
+                return Some(k);
+            }
+        }
+        None
+    }
+
+    /// The partition for the function at that place; `None` exactly where there is none. It fails
+    /// only where memory runs out.
+    pub fn partition(
+        &self,
+        alloc: Global,
+        graph: &Proper,
+        k: usize,
+    ) -> Result<Option<Partition>, NoMemory>
+        requires sets { AreFunctionSets graph.now self.now }
+        requires place { k < length self.now.functions.items }
+        ensures { IfOk result (λ found. (d : FunctionValue) (value : ℕ → Bool → Bool)
+            → Computes (slice_index_or self.now.functions.items k d) value
+            → Answers graph.now value found) }
+    {
+        let g = graph.coded().graph();
+        if !has_bit(self.targets, k as u32) {
+            return Ok(None);
+        }
+        let up = set_at(alloc, &self.up, g.states(), k as u32)?;
+        let down = set_at(alloc, &self.down, g.states(), k as u32)?;
+        let ones = set_at(alloc, &self.ones, g.states(), k as u32)?;
+        let Some(classes) = classes_by(alloc, g, &up, &down, &ones)? else {
+            return Ok(None);
+        };
+        Ok(Some(Partition::known(graph, classes)))
+    }
+}
+
+/// The functions that force the state to the value, a bit for each.
+fn those_forcing(coded: &Coded, functions: &[Function], s: StateId, b: bool) -> u128
+    requires few { length functions.now ≤ 128 }
+    requires within { All (λ f. All (λ s. s < code_width) f.signals.items) functions.now }
+    requires state { s < coded.now.graph.states }
+    ensures { TellsForced coded.now functions.now b s result }
+{
+    let mut word = 0;
+    for k in 0..functions.len() {
+        if is_forced(coded, &functions[k], s, b) {
+            word |= 1 << k;
+        }
+    }
+    word
+}
+
+/// For each state the functions that force it to the value.
+fn forced_words(
+    alloc: Global,
+    coded: &Coded,
+    functions: &[Function],
+    b: bool,
+) -> Result<Vec<u128>, NoMemory>
+    requires few { length functions.now ≤ 128 }
+    requires within { All (λ f. All (λ s. s < code_width) f.signals.items) functions.now }
+    ensures { IfOk result (λ words. AreForcedWords coded.now functions.now b words.items) }
+{
+    let mut words = Vec::new(alloc);
+    for s in 0..coded.graph().states() {
+        words.push(those_forcing(coded, functions, StateId(s), b))?;
+    }
+    Ok(words)
+}
+
+/// For each state those whose bit neither of its words has.
+fn held_words(alloc: Global, up: &[u128], down: &[u128]) -> Result<Vec<u128>, NoMemory>
+    requires { length down.now ≡ length up.now }
+    ensures { IfOk result (λ held. AreHeldWords up.now down.now held.items) }
+{
+    let mut held = Vec::new(alloc);
+    for s in 0..up.len() {
+        held.push(!(up[s] | down[s]))?;
+    }
+    Ok(held)
+}
+
+/// Those whose bit just one of the two words of each state has.
+fn those_with_targets(ones: &[u128], zeros: &[u128]) -> u128
+    requires { length zeros.now ≡ length ones.now }
+    ensures { (k : ℕ) → k < 128 → (bit result k ≡ true)
+        ↔ AreOpposed (length ones.now) (column k ones.now) (column k zeros.now) }
+{
+    let mut all = u128::MAX;
+    for s in 0..ones.len() {
+        all &= ones[s] ^ zeros[s];
+    }
+    all
+}
