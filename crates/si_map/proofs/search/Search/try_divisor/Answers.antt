@@ -14,13 +14,13 @@ returns-in_default-clause-spent c =
 
 pub try_partition-requires-clause-proper : goal.try_partition-requires-clause-proper
 try_partition-requires-clause-proper c =
-    (found_stays c.args.graph.now c.args.library.now c.args.divisor.now c.in-Some.partition c.in_ok-partition.field-0
-    c.requires.ready.coded c.requires.ready.proper c.in-Some.is c.in_ok-partition.ensures).0
+    (found_stays c.args.graph.now c.args.library.now c.args.divisor.now c.in-Some.partition c.in_ok-found.found
+    c.requires.ready.coded c.requires.ready.proper c.in-Some.is c.in_ok-found.ensures.answer).0
 
 pub try_partition-requires-clause-inputs : goal.try_partition-requires-clause-inputs
 try_partition-requires-clause-inputs c =
-    (found_stays c.args.graph.now c.args.library.now c.args.divisor.now c.in-Some.partition c.in_ok-partition.field-0
-    c.requires.ready.coded c.requires.ready.proper c.in-Some.is c.in_ok-partition.ensures).1
+    (found_stays c.args.graph.now c.args.library.now c.args.divisor.now c.in-Some.partition c.in_ok-found.found
+    c.requires.ready.coded c.requires.ready.proper c.in-Some.is c.in_ok-found.ensures.answer).1
 
 pub returns-clause-tried : goal.returns-clause-tried
 returns-clause-tried c =
