@@ -116,7 +116,8 @@ module _ (g : StateGraph) (plus minus : List Bool) where
     drawn_reached s d =
         let other = end_other s d.part.path d.at d.part.begins d.part.leads in
         let seed = (seeds.1.exactly d.at).1 (other, d.by) in
-        let end = reached_seed (IsNext g Both others.0) (IsSeed others.0 seeds.0) d.at (seed, (others.1.exactly d.at).1 other) in
+        let end = reached_seed (IsNext g Both others.0) (IsSeed others.0 seeds.0) d.at
+            (seed, (others.1.exactly d.at).1 other) in
         reached_back s d.part.path d.at d.part.begins d.part.leads end
 
     pub drawn_or_not : (s : ℕ) → Decided (IsDrawn g plus minus from into s)

@@ -139,8 +139,8 @@ module _ (weight : Member → Member → ℕ) where
   in_row : (x y : Member) (ys : List Member) → In y ys → 0 < weight x y → In (place x.state y.state) (row x ys)
   in_row x y [] there some = absurd there
   in_row x y (z ∷ ys) (inl same) some =
-      subst (λ (u : Member). In (place x.state y.state) (put_if (ltb 0 (weight x u)) (place x.state u.state) (row x ys)))
-      same (put_there (place x.state y.state) (row x ys) (ltb 0 (weight x y)) (lt-ltb 0 (weight x y) some))
+      subst (λ (u : Member). In (place x.state y.state) (put_if (ltb 0 (weight x u)) (place x.state u.state)
+      (row x ys))) same (put_there (place x.state y.state) (row x ys) (ltb 0 (weight x y)) (lt-ltb 0 (weight x y) some))
   in_row x y (z ∷ ys) (inr later) some =
       put_behind (place x.state y.state) (place x.state z.state) (row x ys) (ltb 0 (weight x z))
       (in_row x y ys later some)

@@ -42,7 +42,8 @@ both_equal Greater p = refl
 pub same_function : (f g : Function) → is_eq (function_cmp f g) ≡ true → f ≡ g
 same_function f g level = λ i. record { signals = record { items = signals i }; table = table i }
   where
-    parts : (is_eq (slice_cmp nat_cmp f.signals.items g.signals.items) ≡ true) × (is_eq (nat_cmp f.table g.table) ≡ true)
+    parts : (is_eq (slice_cmp nat_cmp f.signals.items g.signals.items) ≡ true)
+        × (is_eq (nat_cmp f.table g.table) ≡ true)
     parts = and_parts (is_eq (slice_cmp nat_cmp f.signals.items g.signals.items)) (is_eq (nat_cmp f.table g.table))
         (sym (both_equal (slice_cmp nat_cmp f.signals.items g.signals.items) (nat_cmp f.table g.table)) ∙ level)
 

@@ -317,13 +317,13 @@ search_goes_on g ones b x marks rest mid mid_work after work w m into by_inputs 
     follows t (AfterIt r) = by_inputs.all t r
     follows t (AtExit r) =
         let d = r.joins.diamond in
-        by_inputs.marks_are.grows t (into (arc r.s r.joins.c x) t d.other refl (After (arc r.s r.joins.a r.t) d.first refl
-        (record { non_input = d.non_input; apart = d.apart; there = here; may = inl r.low }) d.next))
+        by_inputs.marks_are.grows t (into (arc r.s r.joins.c x) t d.other refl (After (arc r.s r.joins.a r.t)
+        d.first refl (record { non_input = d.non_input; apart = d.apart; there = here; may = inl r.low }) d.next))
     follows t (WithFirst v there r) =
         let d = r.joins.diamond in
         by_inputs.marks_are.grows t (into (arc r.s r.joins.c x) t d.other refl (After (arc r.s r.joins.a v) d.first refl
         (record { non_input = d.non_input; apart = d.apart; there = here; may = inr there }) d.next))
     follows t (WithOther u there r) =
         let d = r.joins.diamond in
-        by_inputs.marks_are.grows t (into (arc r.s r.joins.a x) t d.first refl (Beside (arc r.s r.joins.c u) d.other refl
-        (record { non_input = d.non_input; apart = d.apart; there = there; may = inr here }) d.next))
+        by_inputs.marks_are.grows t (into (arc r.s r.joins.a x) t d.first refl (Beside (arc r.s r.joins.c u)
+        d.other refl (record { non_input = d.non_input; apart = d.apart; there = there; may = inr here }) d.next))

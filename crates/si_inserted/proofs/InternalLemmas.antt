@@ -92,8 +92,8 @@ internal_is_graph g is =
       few_states = is.few_states;
       few_signals = subst (λ (n : ℕ). n ≤ max_signals) (sym count) is.few_signals;
       few_edges = is.few_edges;
-      within = subst (λ (n : ℕ). All (λ (a : Edge). (a.from < g.states) × (a.event.sig < n) × (a.to < g.states)) g.edges)
-          (sym count) is.within;
+      within = subst (λ (n : ℕ). All (λ (a : Edge). (a.from < g.states) × (a.event.sig < n) × (a.to < g.states))
+          g.edges) (sym count) is.within;
       starts = is.starts;
       kinds = in_order g.signals is.kinds;
       names = names_apart g.signals is.names;

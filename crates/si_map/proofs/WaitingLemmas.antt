@@ -26,7 +26,8 @@ module _ (classes : List Class) (edges : List Edge) (i : ℕ) (item : Edge) (ins
       → (bit next item.event.sig ≡ false → GoesOn classes item) → AreSeen classes edges next (i + 1)
   one_more next fewer here k a within at clear = elim (eqb_tells k i) [
     | inl same ↦ (
-        let this : item ≡ a = is ∙ get_or_default edges i item a inside ∙ ap (λ n. get_or edges n a) (sym same.1) ∙ at in
+        let this : item ≡ a =
+        is ∙ get_or_default edges i item a inside ∙ ap (λ n. get_or edges n a) (sym same.1) ∙ at in
         subst (GoesOn classes) this (here (subst (λ (b : Edge). bit next b.event.sig ≡ false) (sym this) clear)))
     | inr other ↦ (let not_last = other.1 in seen k a (grind (arith, within, not_last)) at (fewer a.event.sig clear))
   ]

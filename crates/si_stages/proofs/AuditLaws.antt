@@ -35,7 +35,8 @@ use Rattle.si_stages.proofs.ResolutionLemmas.{resolution_is}
 use Rattle.si_readings.proofs.StageLemmas.{passed}
 use Rattle.si_stages.proofs.WrittenLemmas.{has_insertions}
 
-pub reads_back : (n : Netlist) → IsNetlist n → (netlist_fault (netlist_text n) ≡ None) × (netlist_of (netlist_text n) ≡ n)
+pub reads_back : (n : Netlist) → IsNetlist n
+    → (netlist_fault (netlist_text n) ≡ None) × (netlist_of (netlist_text n) ≡ n)
 unfolding netlist_text
 reads_back n is = (let read = written_reads Version2 n is is.few in (read.1, read.2))
 
@@ -76,7 +77,8 @@ module _ (text output : List ℕ) (sg : Sg) (l : History) (is : IsGivenBy text s
       Passes readings reads (Passes l.given sound (Passes tt fits (Passes l all refl)))
 
   written_passes : PassesAudit text output
-  written_passes = (audit_text l w.netlist, λ g n. certified_output g text n output (audit_text l w.netlist) is_certified)
+  written_passes =
+      (audit_text l w.netlist, λ g n. certified_output g text n output (audit_text l w.netlist) is_certified)
 
 pub synthesised_pass : SynthesisedPass
 synthesised_pass style file text output made =

@@ -135,8 +135,8 @@ then_ends first next x is (inl ends) = inl (ends.0, Passes x is ends.1)
 then_ends first next x is (inr departs) = inr (departs.0, departs.1, departs.2, Passes x is departs.3)
 
 pub replay_ends : (what : ReplayReport) (g n s a b c : List ℕ) (given : Sg) (coded : CodedGraph)
-    → IsGivenBy a given → netlist_fault b ≡ None → schedule_fault (signal_names (netlist_of b).signals) c ≡ None → IsSound given.graph coded
-    → IsFor coded (netlist_of b) → EndsOrDeparts (replay what g a n b s c)
+    → IsGivenBy a given → netlist_fault b ≡ None → schedule_fault (signal_names (netlist_of b).signals) c ≡ None
+    → IsSound given.graph coded → IsFor coded (netlist_of b) → EndsOrDeparts (replay what g a n b s c)
 replay_ends what g n s a b c given coded is netlist schedule sound fits =
     let net = netlist_of b in
     let events = schedule_of (signal_names net.signals) c in

@@ -108,8 +108,8 @@ moments_one (m ∷ ms) (n ∷ ns) one other same =
     let time = decimal_injective m.time n.time (one 0 m (omega arith)) (other 0 n (omega arith)) word in
     let rest = changes_one m.changes n.changes (later ms) (later ns) (no_change_later ms) (no_change_later ns)
     (ap (drop 1) cut) in
-    let more = moments_one ms ns (λ i d within. one (suc i) d (omega arith)) (λ i d within. other (suc i) d (omega arith))
-    rest.1 in
+    let more = moments_one ms ns (λ i d within. one (suc i) d (omega arith))
+    (λ i d within. other (suc i) d (omega arith)) rest.1 in
     let moment : m ≡ n =
     ap₂ (λ (k : ℕ) (cs : List Change). let x : Moment = record { time = k; changes = cs } in x) time rest.0 in
     ap₂ (λ (x : Moment) (xs : List Moment). x ∷ xs) moment more

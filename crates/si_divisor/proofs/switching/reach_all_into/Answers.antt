@@ -21,8 +21,8 @@ loop-at-preserved c =
     let First : ℕ → Type 0 = λ t. IsFirstPlace (IsInto g.edges t) (k + 1) (length g.edges) c.next_in-at.result in
     let next = subst First stands.1 c.next_in-at.ensures in
     let here : (t : ℕ) → P (edge_at g.edges k) t → IsIn c.reach_into.new.search.marks t = λ t p.
-    c.in_ok-reach_into.ensures.done t (follows_on g (target c.args.ones.now) c.args.b c.args.search.now.marks c.loop-at.search.marks
-    c.edge-arc.result t m.grows (subst (λ (a : Edge). P a t) (sym c.edge-arc.ensures.edge) p)) in
+    c.in_ok-reach_into.ensures.done t (follows_on g (target c.args.ones.now) c.args.b c.args.search.now.marks
+    c.loop-at.search.marks c.edge-arc.result t m.grows (subst (λ (a : Edge). P a t) (sym c.edge-arc.ensures.edge) p)) in
     record {
       marks_are = marks_on Q _ _ _ _ _ _ m c.in_ok-reach_into.ensures.marks;
       stands = stands_first g [] x (k + 1) c.next_in-at.result next;
@@ -34,4 +34,5 @@ pub returns-clause-done : goal.returns-clause-done
 returns-clause-done c a t there into follows =
     let g = c.args.graph.now in
     let P : Edge → ℕ → Type 0 = FollowsInto g (target c.args.ones.now) c.args.b c.args.search.now.marks in
-    walk_ends g P c.args.x c.loop-at.search.marks (rw c.in_default.is at c.loop-at.invariant.passed) a t there into follows
+    walk_ends g P c.args.x c.loop-at.search.marks (rw c.in_default.is at c.loop-at.invariant.passed)
+    a t there into follows

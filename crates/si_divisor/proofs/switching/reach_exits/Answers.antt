@@ -50,10 +50,12 @@ pub returns-clause-done : goal.returns-clause-done
 returns-clause-done c beside there same =
     let g = c.args.graph.now in
     let arcs = c.arcs_out-beside-items.result.now in
-    let P : Edge → ℕ → Type 0 = LeavesEither g (target c.args.ones.now) c.args.b c.args.search.now.marks c.args.arc.now in
+    let P : Edge → ℕ → Type 0 = LeavesEither g (target c.args.ones.now) c.args.b c.args.search.now.marks
+    c.args.arc.now in
     let all : length arcs ≤ c.loop-beside.beside-index = omega (arith, c.loop-beside-test.false) in
     let one = (c.arcs_out-beside-items.ensures.exactly beside).1 (there, same) in
-    let done = done_all P arcs c.loop-beside.beside-index c.loop-beside.search.marks all c.loop-beside.invariant.done beside in (
+    let done = done_all P arcs c.loop-beside.beside-index c.loop-beside.search.marks all
+    c.loop-beside.invariant.done beside in (
       λ may w step. done w one (inl (may, step)),
       λ may w step. done w one (inr (may, step)),
     )

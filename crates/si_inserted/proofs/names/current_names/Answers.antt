@@ -7,7 +7,8 @@ use Rattle.si_inserted.proofs.names.current_names.Goals as goal
 pub unreachable-requires : goal.unreachable-requires
 unreachable-requires c =
     let l = c.args.lineage.now in
-    let graph = c.graph.ensures.same ∙ ap (λ (k : CodedGraph). k.graph) (c.coded.ensures.same ∙ c.current.ensures.same) in
+    let graph = c.graph.ensures.same
+    ∙ ap (λ (k : CodedGraph). k.graph) (c.coded.ensures.same ∙ c.current.ensures.same) in
     let size : c.states-size.result ≡ l.current.coded.graph.states =
     c.states-size.ensures ∙ ap (λ (g : StateGraph). g.states) graph in
     let full = c.in-Err-Full.ensures.full.0 (ap Err c.in-Err-Full.field-0-is) in
@@ -18,7 +19,8 @@ unreachable-requires c =
 pub loop-s-preserved : goal.loop-s-preserved
 loop-s-preserved c =
     let l = c.args.lineage.now in
-    let graph = c.graph.ensures.same ∙ ap (λ (k : CodedGraph). k.graph) (c.coded.ensures.same ∙ c.current.ensures.same) in
+    let graph = c.graph.ensures.same
+    ∙ ap (λ (k : CodedGraph). k.graph) (c.coded.ensures.same ∙ c.current.ensures.same) in
     let size : c.states-size.result ≡ l.current.coded.graph.states =
     c.states-size.ensures ∙ ap (λ (g : StateGraph). g.states) graph in
     one_more c.args.states.now l c.requires c.trace-trace.ensures.made c.len-count.ensures.distinct c.loop-s.s

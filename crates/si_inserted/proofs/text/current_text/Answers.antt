@@ -12,7 +12,8 @@ use Rattle.si_inserted.proofs.text.current_text.Goals as goal
 pub write_sg-requires : goal.write_sg-requires
 write_sg-requires c =
     let l = c.args.lineage.now in
-    let graph = c.graph.ensures.same ∙ ap (λ (k : CodedGraph). k.graph) (c.coded.ensures.same ∙ c.current.ensures.same) in
+    let graph = c.graph.ensures.same
+    ∙ ap (λ (k : CodedGraph). k.graph) (c.coded.ensures.same ∙ c.current.ensures.same) in
     let internal = c.in_ok-internal_graph.ensures ∙ ap internal_graph graph in
     let count = ap (λ (names : List (List ℕ)). length names) c.in_ok-current_names.ensures
     ∙ length-map-range_with_len (current_name c.args.states.now l) 0 l.current.coded.graph.states in
@@ -21,7 +22,8 @@ write_sg-requires c =
 pub returns-clause-back : goal.returns-clause-back
 returns-clause-back c =
     let l = c.args.lineage.now in
-    let graph = c.graph.ensures.same ∙ ap (λ (k : CodedGraph). k.graph) (c.coded.ensures.same ∙ c.current.ensures.same) in
+    let graph = c.graph.ensures.same
+    ∙ ap (λ (k : CodedGraph). k.graph) (c.coded.ensures.same ∙ c.current.ensures.same) in
     let internal = c.in_ok-internal_graph.ensures ∙ ap internal_graph graph in
     λ can. IfOk-weaker c.write_sg.result
     (λ (text : List ℕ). text ≡ sg_text (record {

@@ -46,8 +46,8 @@ loop-place-preserved-then-not-get t c =
     let half : c.args.choices / 2 ≡ length coded.graph.signals = omega (arith, c.requires.choices) in
     let Size : ℕ → Type 0 = λ n. c.size-most.result ≡ size_from n 0 c.args.missing in
     let clear : bit c.args.missing l.sig ≡ false = sym c.get.ensures ∙ c.if-not-get.true in
-    let still = missing_next coded c.args.z c.args.cell.now literals l c.args.missing c.args.missing clear (λ i other. refl)
-    c.requires.missing in
+    let still = missing_next coded c.args.z c.args.cell.now literals l c.args.missing c.args.missing clear
+    (λ i other. refl) c.requires.missing in
     let fewer : c.args.more - 1 < c.size-most.result = omega (arith, c.if-only_missing.true, c.if-more-eq0.false) in
     let pins : length (literals ++ l ∷ []) + (c.args.more - 1) ≡ length c.args.cell.now.pins =
     rw length_push (omega (arith, c.requires.pins, c.if-more-eq0.false)) in

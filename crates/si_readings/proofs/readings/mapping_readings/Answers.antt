@@ -9,8 +9,8 @@ use Rattle.si_readings.proofs.readings.mapping_readings.Goals as goal
 pub returns-in_err-given-clause-err : goal.returns-in_err-given-clause-err
 returns-in_err-given-clause-err c =
     let a = c.args in
-    stops (mapping_readings a.format a.graph_file.now a.graph.now a.library_file.now a.library.now) c.from_residual.result _
-    c.from_residual.ensures.1 (stop_first _ _ _ c.in_err-given.ensures.err)
+    stops (mapping_readings a.format a.graph_file.now a.graph.now a.library_file.now a.library.now)
+    c.from_residual.result _ c.from_residual.ensures.1 (stop_first _ _ _ c.in_err-given.ensures.err)
 
 pub returns-in_err-library-clause-err : goal.returns-in_err-library-clause-err
 returns-in_err-library-clause-err c =

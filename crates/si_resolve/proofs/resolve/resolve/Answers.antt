@@ -8,5 +8,6 @@ loop-resolved-preserved c =
     let start = c.args.lineage in
     let now = c.in-Err.unresolved in
     let next = c.in_ok-lineage-in-Err.ensures.extended in
-    let so : Leads Resolves start now = subst (Leads Resolves start) (sym c.in-Err.ensures.back) c.loop-resolved.invariant in
+    let so : Leads Resolves start now =
+    subst (Leads Resolves start) (sym c.in-Err.ensures.back) c.loop-resolved.invariant in
     leads_on Resolves start now c.in_ok-lineage-in-Err.lineage next.0 so next.1 next.2 next.3

@@ -16,13 +16,15 @@ use Rattle.si_stages.proofs.replayed.replay_texts.Goals as goal
 pub returns-in_err-readings-clause-err : goal.returns-in_err-readings-clause-err
 returns-in_err-readings-clause-err c =
     let a = c.args in
-    stops (replay a.what a.graph_file.now a.graph.now a.netlist_file.now a.netlist.now a.schedule_file.now a.schedule.now)
+    stops (replay a.what a.graph_file.now a.graph.now a.netlist_file.now a.netlist.now a.schedule_file.now
+    a.schedule.now)
     c.from_residual.result _ c.from_residual.ensures.1 (stop_first _ _ _ c.in_err-readings.ensures.err)
 
 pub returns-in_err-proper-clause-err : goal.returns-in_err-proper-clause-err
 returns-in_err-proper-clause-err c =
     let a = c.args in
-    stops (replay a.what a.graph_file.now a.graph.now a.netlist_file.now a.netlist.now a.schedule_file.now a.schedule.now)
+    stops (replay a.what a.graph_file.now a.graph.now a.netlist_file.now a.netlist.now a.schedule_file.now
+    a.schedule.now)
     c.from_residual-in_err-proper.result _ c.from_residual-in_err-proper.ensures.1
     (stop_next _ _ (replay_readings_now c.in_ok-readings.readings) _ c.in_ok-readings.ensures.ok
     (stop_first _ _ _ c.in_err-proper.ensures.err))
@@ -32,7 +34,8 @@ returns-in_err-match_lists-clause-err c =
     let a = c.args in
     let read = replay_readings_now c.in_ok-readings.readings in
     let proper = c.in_ok-proper.proper in
-    stops (replay a.what a.graph_file.now a.graph.now a.netlist_file.now a.netlist.now a.schedule_file.now a.schedule.now)
+    stops (replay a.what a.graph_file.now a.graph.now a.netlist_file.now a.netlist.now a.schedule_file.now
+    a.schedule.now)
     c.from_residual-in_err-match_lists.result _ c.from_residual-in_err-match_lists.ensures.1
     (stop_next _ _ read _ c.in_ok-readings.ensures.ok
     (stop_next _ _ proper _ c.in_ok-proper.ensures.ok
@@ -56,7 +59,8 @@ returns-clause-ok c =
     let same = c.coded-coded.ensures.same in
     let graph = ap (λ (k : CodedGraph). k.graph) same ∙ sound.same_graph in
     let fits = subst (λ (k : CodedGraph). IsFor k read.netlist) same c.in_ok-match_lists.ensures.ok in
-    ok_map c.replay_end.result (λ text. replay_end a.what coded.graph read.given.states read.netlist read.events (Ok text))
+    ok_map c.replay_end.result (λ text. replay_end a.what coded.graph read.given.states read.netlist read.events
+    (Ok text))
     (λ text. replay a.what a.graph_file.now a.graph.now a.netlist_file.now a.netlist.now a.schedule_file.now
     a.schedule.now (Ok text))
     (λ text ends. Passes read c.in_ok-readings.ensures.ok (Passes proper sound (Passes tt fits
@@ -77,5 +81,6 @@ returns-clause-err c =
     (MayStop
     (replay a.what a.graph_file.now a.graph.now a.netlist_file.now a.netlist.now a.schedule_file.now a.schedule.now))
     (λ e may. stop_next _ _ read e c.in_ok-readings.ensures.ok (stop_next _ _ proper e sound (stop_next _ _ tt e fits
-    (subst (λ (g : StateGraph). MayStop (replay_end a.what g read.given.states read.netlist read.events) e) graph may))))
+    (subst (λ (g : StateGraph). MayStop (replay_end a.what g read.given.states read.netlist read.events) e)
+    graph may))))
     c.replay_end.ensures.err
