@@ -1,19 +1,19 @@
 pub mod ColumnLemmas
 pub mod WordParts
 pub mod StateWords
-pub mod SetWords
-pub mod Reading
-pub mod Stopping
-pub mod SignalLists
-pub mod Walking
-pub mod Building
-pub mod OneReason
+pub mod NamedSetWords
+pub mod NamedReading
+pub mod InsertionFaults
+pub mod WalkSignals
+pub mod WalkLemmas
+pub mod LastBuilt
+pub mod OneFaultReason
 pub mod OneAudit
-pub mod BuiltLineages
-mod BuiltExamples
-pub mod OneAnswer
-pub mod ReasonExists
-pub mod SetsExist
-pub mod AnswerExists
-pub mod Telling
+pub mod AuditBuiltLineages
+mod AuditBuiltExamples
+pub mod OneCertificate
+pub mod FaultReasonExists
+pub mod NamedSetsExist
+pub mod AuditExists
+pub mod FaultSignalLemmas
 mod Examples

@@ -12,21 +12,21 @@ use Rattle.si_insert.specs.declared.partition.Class.{Class}
 use Rattle.si_insert.specs.declared.accept.Rejected.{Rejected}
 use Rattle.si_insert.specs.Accepted.{ShowsRejected}
 use Rattle.si_insert.specs.Lineage.{History, IsLineage, Keeps}
-use Rattle.si_insert.proofs.Accepting.{rejected_is_not}
-use Rattle.si_insert.proofs.Kept.{keeps}
-use Rattle.si_insert.proofs.OneGraph.{lineage_on, one_view}
-use Rattle.si_candidates.specs.Parts.{AreClasses, IsTorn}
+use Rattle.si_insert.proofs.AcceptedByTests.{rejected_is_not}
+use Rattle.si_insert.proofs.InsertionKeeps.{keeps}
+use Rattle.si_insert.proofs.OneInsertion.{lineage_on, one_view}
+use Rattle.si_candidates.specs.Parts.{AreClasses, HasBothLevels}
 use Rattle.si_candidates.proofs.PartLaws.{classes_lawful, classes_unique, torn_have_none}
 use Rattle.si_audit.specs.declared.fault.AuditFault.{AuditFault}
 use Rattle.si_audit.specs.declared.fault.AuditFault.TheVariants.{NoMemory, States, Classes, Refused, Start, Gate}
 use Rattle.si_audit.specs.Named.{NamesSets}
-use Rattle.si_audit.specs.Audit.{Takes, TakesAll, begun}
+use Rattle.si_audit.specs.Audit.{Takes, TakesAll, start_lineage}
 use Rattle.si_audit.specs.Faults.{IsRefused, StopsAt, refused_word}
 use Rattle.si_audit.specs.Laws.{CanBeAudited}
 use Rattle.si_audit.proofs.StateWords.{HasStateNames}
-use Rattle.si_audit.proofs.OneReason.{one_reason}
-use Rattle.si_audit.proofs.SetWords.{one_set, some_state}
-use Rattle.si_audit.proofs.SignalLists.{none_inserted}
+use Rattle.si_audit.proofs.OneFaultReason.{one_reason}
+use Rattle.si_audit.proofs.NamedSetWords.{one_set, some_state}
+use Rattle.si_audit.proofs.WalkSignals.{none_inserted}
 
 -- ---- lineages
 same_history : (l m : History) → l.given ≡ m.given → l.trace ≡ m.trace → l.current ≡ m.current → l ≡ m
@@ -40,7 +40,7 @@ goes_on states l i m lineage takes =
     subst₂ P (sym takes.extends.given_stays) (sym takes.extends.trace_grows) on
 
 pub spelled_first : (states : List (List ℕ)) (c : CodedGraph) (n : Netlist) → CanBeAudited states c n
-    → HasStateNames states (begun c)
+    → HasStateNames states (start_lineage c)
 spelled_first states c n can = record {
   lineage = record {
     coded = can.coded;
@@ -140,7 +140,8 @@ module _ (states : List (List ℕ)) where
     never_stops k (Gate sig state) m other stops takes = stops
 
     torn_not_refused : (p q x y : List Bool) (s : ℕ) (a : List Class) → NamesSets states l i p q
-        → IsTorn l.current.coded.graph p q s → NamesSets states l i x y → AreClasses l.current.coded.graph x y a → ⊥
+        → HasBothLevels l.current.coded.graph p q s → NamesSets states l i x y → AreClasses l.current.coded.graph x y a
+        → ⊥
     torn_not_refused p q x y s a one torn other are =
         let g = l.current.coded.graph in
         let same = same_sets p q x y one other in

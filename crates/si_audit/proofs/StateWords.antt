@@ -5,8 +5,8 @@ use Rattle.si_base.specs.Bits.{bit}
 use Rattle.si_base.specs.Codes.{code}
 use Rattle.si_insert.specs.Lineage.{History, IsLineage, origin}
 use Rattle.si_circuit.specs.Spelling.{current_word, mark, state_word, WordsTellStates}
-use Rattle.si_circuit.proofs.CurrentLemmas.{current_word_made}
-use Rattle.si_circuit.proofs.CurrentWords as words
+use Rattle.si_circuit.proofs.SpellingWord.{current_word_made}
+use Rattle.si_circuit.proofs.SpellingTellsStates as words
 
 -- what makes the words of a lineage's states tell the states
 pub record HasStateNames (states : List (List ℕ)) (l : History) : Type 0 where

@@ -6,7 +6,7 @@ use Rattle.std.proofs.lemmas.List.FromFn.{fill_by_all, length-map-range_with_len
 use Rattle.si_base.specs.Bits.{bit}
 use Rattle.si_base.specs.Bytes.{at_sign}
 use Rattle.si_circuit.specs.Spelling.{digit, digits, mark}
-use Rattle.si_circuit.proofs.MarkLemmas.{digit_at}
+use Rattle.si_circuit.proofs.SpellingMarks.{digit_at}
 
 -- ---- digits
 pub digits_if : (k bits : ℕ) (bytes : List ℕ) → length bytes ≡ k

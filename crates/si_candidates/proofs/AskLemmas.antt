@@ -19,12 +19,12 @@ use Rattle.si_regions.specs.declared.regions.Region.{Region}
 use Rattle.si_candidates.specs.Interval.{IsInterval}
 use Rattle.si_candidates.specs.Asked.{Ask, asks_from, asks_of, asked_on, asked_for, AreReady, AreIntervalsOf}
 use Rattle.si_candidates.specs.Adding.{with_block, with_blocks, AddsAsked, AddsFirst, AddsIntervals}
-use Rattle.si_candidates.specs.Blocks.{marked, max_blocks, AreIntervalsFrom, AreIntervals}
+use Rattle.si_candidates.specs.Blocks.{state_set, max_blocks, AreIntervalsFrom, AreIntervals}
 use Rattle.si_candidates.proofs.BlockLists.{with_blocks-append, full_blocks}
 use Rattle.si_candidates.proofs.IntervalsExist.{some_interval}
-use Rattle.si_candidates.proofs.MarkedSets.{marked_has, length-marked}
-use Rattle.si_candidates.proofs.SetTests.{same_states}
-use Rattle.si_candidates.proofs.WordTests.{or_is}
+use Rattle.si_candidates.proofs.BlockMarks.{marked_has, length-marked}
+use Rattle.si_candidates.proofs.BlockSameSets.{same_states}
+use Rattle.si_candidates.proofs.MaySwitchWords.{or_is}
 
 -- ---- a run of bits
 -- the bits from the first one to the one before k
@@ -175,10 +175,10 @@ module _ (old new from : List ℕ) (stops more : List Event) (bits : ℕ) (ready
       ]))
       (λ s there. (in_column k new s).1 ((each k s).1 (inl ((in_column k old s).0 there))))
 
-  new_column : (k : ℕ) → length stops ≤ k → k < length stops + length more → column k new ≡ marked (length old) from
+  new_column : (k : ℕ) → length stops ≤ k → k < length stops + length more → column k new ≡ state_set (length old) from
   new_column k late within =
       let few : k < 128 = omega (arith, within, room) in
-      same_states (column k new) (marked (length old) from)
+      same_states (column k new) (state_set (length old) from)
       (length-map new (λ (w : ℕ). bit w k) ∙ size ∙ sym (length-marked (length old) from))
       (λ s there. elim ((each k s).0 ((in_column k new s).0 there)) [
         | inl has ↦ absurd (ready.free k s late few has)
@@ -203,10 +203,10 @@ module _ (old new from : List ℕ) (stops more : List Event) (bits : ℕ) (ready
     ];
   }
 
-  pub asked_more : asked_for new (stops ++ more) ≡ asked_for old stops ++ asks_from (marked (length old) from) more
+  pub asked_more : asked_for new (stops ++ more) ≡ asked_for old stops ++ asks_from (state_set (length old) from) more
   asked_more = asked-append 0 new stops more ∙ ap₂ (λ (xs ys : List Ask). xs ++ ys)
       (same_asked 0 old new stops (λ j _ early. old_column j (omega (arith, early))))
-      (asked_from (0 + length stops) new (marked (length old) from) more
+      (asked_from (0 + length stops) new (state_set (length old) from) more
       (λ j late within. new_column j (omega (arith, late)) (omega (arith, within))))
 
 -- ---- their intervals
@@ -251,11 +251,11 @@ are_each : (g : StateGraph) (stops : List Event) (regions : List Region) (sets :
 are_each g stops [] [] are = refl
 are_each g stops [] (x ∷ sets) are = absurd are
 are_each g stops (r ∷ regions) sets are =
-    let split = are_split g (asks_from (marked g.states r.sr) stops) (asks_of g.states stops regions) sets are in (
+    let split = are_split g (asks_from (state_set g.states r.sr) stops) (asks_of g.states stops regions) sets are in (
       split.here,
       split.rest,
       split.parts,
-      are_from g (marked g.states r.sr) stops split.here split.here_are,
+      are_from g (state_set g.states r.sr) stops split.here split.here_are,
       are_each g stops regions split.rest split.rest_are,
     )
 
@@ -366,31 +366,32 @@ module _ (g : StateGraph) where
       → asks_of g.states stops (xs ++ ys) ≡ asks_of g.states stops xs ++ asks_of g.states stops ys
   asks-append stops [] ys = refl
   asks-append stops (r ∷ xs) ys =
-      ap (λ asks. asks_from (marked g.states r.sr) stops ++ asks) (asks-append stops xs ys)
-      ∙ sym (append_assoc (asks_from (marked g.states r.sr) stops) (asks_of g.states stops xs)
+      ap (λ asks. asks_from (state_set g.states r.sr) stops ++ asks) (asks-append stops xs ys)
+      ∙ sym (append_assoc (asks_from (state_set g.states r.sr) stops) (asks_of g.states stops xs)
       (asks_of g.states stops ys))
 
   pub region_more : (stops : List Event) (regions : List Region) (k : ℕ) (r : Region) (from : List ℕ)
       (events : List Event) (a b c : List Ask) (old mid new : List (List Bool)) → k < length regions
       → r ≡ get_or regions k r → from ≡ r.sr → events ≡ stops
       → AddsFirst g (asks_of g.states stops (take k regions)) a old b mid
-      → AddsFirst g (asks_from (marked g.states from) events) b mid c new
+      → AddsFirst g (asks_from (state_set g.states from) events) b mid c new
       → AddsFirst g (asks_of g.states stops (take (k + 1) regions)) a old c new
   region_more stops regions k r from events a b c old mid new inside at states same before one =
       subst (λ asks. AddsFirst g asks a old c new) (sym whole)
-      (first_both (asks_of g.states stops (take k regions)) (asks_from (marked g.states from) events) a b c old mid new
+      (first_both (asks_of g.states stops (take k regions)) (asks_from (state_set g.states from) events) a b c old mid
+      new
       before one)
     where
-      here : asks_from (marked g.states r.sr) stops ≡ asks_from (marked g.states from) events
-      here = ap₂ (λ (xs : List ℕ) (es : List Event). asks_from (marked g.states xs) es) (sym states) (sym same)
+      here : asks_from (state_set g.states r.sr) stops ≡ asks_from (state_set g.states from) events
+      here = ap₂ (λ (xs : List ℕ) (es : List Event). asks_from (state_set g.states xs) es) (sym states) (sym same)
 
       whole : asks_of g.states stops (take (k + 1) regions)
-          ≡ asks_of g.states stops (take k regions) ++ asks_from (marked g.states from) events
+          ≡ asks_of g.states stops (take k regions) ++ asks_from (state_set g.states from) events
       whole = ap (asks_of g.states stops) (take_more regions k r inside
           ∙ ap (λ q. take k regions ++ q ∷ []) (sym at))
           ∙ asks-append stops (take k regions) (r ∷ [])
           ∙ ap (λ asks. asks_of g.states stops (take k regions) ++ asks)
-          (append-nil (asks_from (marked g.states r.sr) stops) ∙ here)
+          (append-nil (asks_from (state_set g.states r.sr) stops) ∙ here)
 
   -- those that wait at the end are added, too
   pub adds_each : (stops : List Event) (regions : List Region) (k : ℕ) (waited waiting : List Ask)

@@ -21,11 +21,11 @@ use Rattle.si_insert.specs.Accepted.{IsInput}
 use Rattle.si_candidates.specs.Interval.{IsReachedBefore, IsInterval}
 use Rattle.si_candidates.specs.Asked.{asked_for, asks_from, asks_of, AreIntervalsOf}
 use Rattle.si_candidates.specs.Adding.{AddsFirst}
-use Rattle.si_candidates.specs.Blocks.{marked, driven_events, blocks_of, block_at}
+use Rattle.si_candidates.specs.Blocks.{state_set, driven_events, blocks_of, block_at}
 use Rattle.si_candidates.specs.Blocking.{MaySwitch}
 use Rattle.si_candidates.specs.ManySets.{AreAllTold, AreToldBelow, ArePacked}
-use Rattle.si_candidates.proofs.MarkedSets.{marked_has}
-use Rattle.si_candidates.proofs.Switching.{input_is_no_other, apart_events}
+use Rattle.si_candidates.proofs.BlockMarks.{marked_has}
+use Rattle.si_candidates.proofs.MaySwitchArcs.{input_is_no_other, apart_events}
 
 abbrev pulses : StateGraph
 pulses = record {
@@ -41,10 +41,10 @@ driven = refl
 
 -- ---- from s1 up to `z+` there are s1 and s2
 abbrev from : List Bool
-from = marked 6 (1 ∷ [])
+from = state_set 6 (1 ∷ [])
 
 abbrev set : List Bool
-set = marked 6 (1 ∷ 2 ∷ [])
+set = state_set 6 (1 ∷ 2 ∷ [])
 
 -- an arc out of the set is by `z+`
 abbrev stays : Edge → Bool
@@ -106,7 +106,7 @@ intervals = (1 ∷ 2 ∷ []) ∷ (1 ∷ 2 ∷ 3 ∷ 4 ∷ 5 ∷ [])
     ∷ []
 
 -- the switching regions stand already, and so do three of the intervals
-fifteen : blocks_of 6 regions (map (marked 6) intervals) ≡ map (marked 6)
+fifteen : blocks_of 6 regions (map (state_set 6) intervals) ≡ map (state_set 6)
     ((0 ∷ []) ∷ (3 ∷ []) ∷ (1 ∷ []) ∷ (4 ∷ []) ∷ (2 ∷ []) ∷ (5 ∷ []) ∷ (1 ∷ 2 ∷ []) ∷ (1 ∷ 2 ∷ 3 ∷ 4 ∷ 5 ∷ [])
     ∷ (0 ∷ 1 ∷ 2 ∷ 4 ∷ 5 ∷ []) ∷ (4 ∷ 5 ∷ []) ∷ (2 ∷ 3 ∷ 4 ∷ 5 ∷ []) ∷ (0 ∷ 1 ∷ 2 ∷ 5 ∷ [])
     ∷ (0 ∷ 1 ∷ 2 ∷ 3 ∷ 4 ∷ 5 ∷ []) ∷ (3 ∷ 4 ∷ 5 ∷ []) ∷ (0 ∷ 1 ∷ 2 ∷ []) ∷ [])
@@ -117,11 +117,11 @@ abbrev seeds : List ℕ
 seeds = 0 ∷ 3 ∷ 4 ∷ 0 ∷ 0 ∷ 0 ∷ []
 
 three_asked : asked_for seeds (rise 1 ∷ fall 1 ∷ rise 1 ∷ [])
-    ≡ asks_from from (rise 1 ∷ fall 1 ∷ []) ++ asks_from (marked 6 (2 ∷ [])) (rise 1 ∷ [])
+    ≡ asks_from from (rise 1 ∷ fall 1 ∷ []) ++ asks_from (state_set 6 (2 ∷ [])) (rise 1 ∷ [])
 three_asked = refl
 
 of_two_regions : asks_of 6 (rise 1 ∷ []) (region (rise 0) 0 1 ∷ region (fall 0) 1 2 ∷ [])
-    ≡ asks_from from (rise 1 ∷ []) ++ asks_from (marked 6 (2 ∷ [])) (rise 1 ∷ [])
+    ≡ asks_from from (rise 1 ∷ []) ++ asks_from (state_set 6 (2 ∷ [])) (rise 1 ∷ [])
 of_two_regions = refl
 
 first_answered : AreIntervalsOf pulses (asks_from from (rise 1 ∷ [])) (set ∷ [])
@@ -138,7 +138,7 @@ one_of_two = record {
 
 -- ---- two sets as bits of words: s1 and s2, where a new signal may switch, and s0, out of which the input leads
 abbrev start : List Bool
-start = marked 6 (0 ∷ [])
+start = state_set 6 (0 ∷ [])
 
 abbrev two : List (List Bool)
 two = set ∷ start ∷ []

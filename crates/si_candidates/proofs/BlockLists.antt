@@ -11,12 +11,12 @@ use Rattle.si_base.specs.declared.ids.Event.{Event}
 use Rattle.si_base.specs.declared.graph.Signal.{Signal}
 use Rattle.si_base.specs.Graph.{rise, fall, is_driven}
 use Rattle.si_candidates.specs.Adding.{with_block, with_blocks}
-use Rattle.si_candidates.specs.Blocks.{same_set, once, max_blocks, driven_events}
-use Rattle.si_candidates.proofs.SetTests.{same_set-true}
+use Rattle.si_candidates.specs.Blocks.{same_set, without_repeats, max_blocks, driven_events}
+use Rattle.si_candidates.proofs.BlockSameSets.{same_set-true}
 
 -- the first of them, each once
 abbrev pub blocks_from : List (List Bool) → List (List Bool)
-blocks_from sets = take max_blocks (once sets)
+blocks_from sets = take max_blocks (without_repeats sets)
 
 abbrev stands : List (List Bool) → List Bool → Bool
 stands sets x = list_any (same_set x) sets
@@ -53,14 +53,14 @@ filter_with_set x y zs = elim (cases_Bool (same_set y x)) [
     p : List Bool → Bool
     p z = not (same_set z x)
 
-once_push : (xs : List (List Bool)) (y : List Bool) → once (xs ++ y ∷ []) ≡ with_set (once xs) y
+once_push : (xs : List (List Bool)) (y : List Bool) → without_repeats (xs ++ y ∷ []) ≡ with_set (without_repeats xs) y
 once_push [] y = refl
 once_push (x ∷ xs) y =
     ap (λ zs. x ∷ filter (λ z. not (same_set z x)) zs) (once_push xs y)
-    ∙ ap (λ zs. x ∷ zs) (filter_with_set x y (once xs)) ∙ put_first (same_set y x) refl
+    ∙ ap (λ zs. x ∷ zs) (filter_with_set x y (without_repeats xs)) ∙ put_first (same_set y x) refl
   where
     kept : List (List Bool)
-    kept = filter (λ z. not (same_set z x)) (once xs)
+    kept = filter (λ z. not (same_set z x)) (without_repeats xs)
 
     put_first : (b : Bool) → same_set y x ≡ b → x ∷ (if b then kept else with_set kept y)
         ≡ (if b || stands kept y then x ∷ kept else (x ∷ kept) ++ y ∷ [])
@@ -93,7 +93,7 @@ cut m zs y = elim (cases_lt (length zs) m) [
 
 blocks_push : (xs : List (List Bool)) (y : List Bool)
     → blocks_from (xs ++ y ∷ []) ≡ with_block (blocks_from xs) y
-blocks_push xs y = ap (take max_blocks) (once_push xs y) ∙ cut max_blocks (once xs) y
+blocks_push xs y = ap (take max_blocks) (once_push xs y) ∙ cut max_blocks (without_repeats xs) y
 
 -- ---- more of them
 pub with_blocks-append : (sets xs ys : List (List Bool))

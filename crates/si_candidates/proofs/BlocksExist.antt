@@ -6,10 +6,10 @@ use Rattle.si_base.specs.Codes.{CodedGraph, IsCoded}
 use Rattle.si_regions.specs.declared.regions.Region.{Region}
 use Rattle.si_regions.proofs.UniqueRegions.{one_list}
 use Rattle.si_regions.proofs.RegionsExist.{some_regions}
-use Rattle.si_candidates.specs.Blocks.{marked, driven_events, AreIntervalsFrom, AreIntervals, blocks_of, AreBlocks}
+use Rattle.si_candidates.specs.Blocks.{state_set, driven_events, AreIntervalsFrom, AreIntervals, blocks_of, AreBlocks}
 use Rattle.si_candidates.proofs.IntervalLemmas.{one_interval}
 use Rattle.si_candidates.proofs.IntervalsExist.{some_interval}
-use Rattle.si_candidates.proofs.MarkedSets.{length-marked}
+use Rattle.si_candidates.proofs.BlockMarks.{length-marked}
 
 -- ---- one list
 one_from : (g : StateGraph) (from : List Bool) (stops : List Event) (xs ys : List (List Bool))
@@ -26,7 +26,7 @@ one_each : (g : StateGraph) (stops : List Event) (regions : List Region) (xs ys 
     → AreIntervals g stops regions xs → AreIntervals g stops regions ys → xs ≡ ys
 one_each g stops [] xs ys a b = a ∙ sym b
 one_each g stops (r ∷ regions) xs ys (here, rest, is, are, more) (other, others, same, equal, again) =
-    is ∙ ap₂ (λ z zs. z ++ zs) (one_from g (marked g.states r.sr) stops here other are equal)
+    is ∙ ap₂ (λ z zs. z ++ zs) (one_from g (state_set g.states r.sr) stops here other are equal)
     (one_each g stops regions rest others more again) ∙ sym same
 
 pub one_blocks : (c : CodedGraph) (xs ys : List (List Bool)) → AreBlocks c xs → AreBlocks c ys → xs ≡ ys
@@ -50,7 +50,7 @@ pub some_each : (g : StateGraph) (stops : List Event) (regions : List Region) �
     → (sets : List (List Bool)) × AreIntervals g stops regions sets
 some_each g stops [] is = ([], refl)
 some_each g stops (r ∷ regions) is =
-    let here = some_from g (marked g.states r.sr) stops is (length-marked g.states r.sr) in
+    let here = some_from g (state_set g.states r.sr) stops is (length-marked g.states r.sr) in
     let rest = some_each g stops regions is in
     (here.0 ++ rest.0, (here.0, rest.0, refl, here.1, rest.1))
 

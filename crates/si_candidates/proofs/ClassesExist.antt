@@ -1,4 +1,4 @@
--- Two disjoint blocks of a connected graph have classes, or some part between them is torn.
+-- Two disjoint blocks of a connected graph have classes, or some part between them has both levels.
 use Rattle.std.proofs.Common.{◌≡◌, ℕ, ◌<◌, ◌↔◌, ◌⊎◌, Bool, true, false, if◌then◌else◌, List, [], ◌∷◌, length, map}
 use Rattle.std.proofs.Common.{get_or, Contains, refl, sym, subst, ◌∙◌, arith, inl, inr}
 use Rattle.std.specs.List.{range_with_len}
@@ -23,8 +23,8 @@ use Rattle.si_insert.specs.declared.partition.Class.{Class}
 use Rattle.si_insert.specs.declared.partition.Class.TheVariants.{Low, Rising, High, Falling}
 use Rattle.si_insert.specs.Partition.{class_of}
 use Rattle.si_candidates.specs.Blocks.{AreDisjoint}
-use Rattle.si_candidates.specs.Parts.{IsOther, ComesFrom, GoesInto, IsDrawn, IsHigh, IsLow, AreClasses, IsTorn}
-use Rattle.si_candidates.proofs.Decisions.{either, member}
+use Rattle.si_candidates.specs.Parts.{IsOther, ComesFrom, GoesInto, PartMeets, IsHigh, IsLow, AreClasses, HasBothLevels}
+use Rattle.si_candidates.proofs.BlockDecisions.{either, member}
 use Rattle.si_candidates.proofs.PartLaws.{drawn_on}
 use Rattle.si_candidates.proofs.LawfulParts.{each_is_drawn}
 
@@ -33,7 +33,7 @@ pub first_of : (P : ℕ → Type 0) (states : List ℕ) → IsSetOf P states →
 first_of P [] are = inr (λ (s, is). Contains-nil s ((are.exactly s).1 is))
 first_of P (s ∷ states) are = inl (s, (are.exactly s).0 (Contains-here s states))
 
--- ---- which parts are drawn
+-- ---- which parts meet the blocks
 module _ (g : StateGraph) (plus minus : List Bool) where
   other_or_not : (s : ℕ) → Decided (IsOther g plus minus s)
   other_or_not s =
@@ -83,23 +83,23 @@ module _ (g : StateGraph) (plus minus : List Bool) where
     adjoins_back s t (inl leads) = inr leads
     adjoins_back s t (inr leads) = inl leads
 
-    -- what is reached from a seed is drawn
-    drawn_along : (s : ℕ) (path : List ℕ) (t : ℕ) → IsDrawn g plus minus from into s → Path g Both others.0 s path t
-        → IsDrawn g plus minus from into t
-    drawn_along s [] t drawn leads = subst (IsDrawn g plus minus from into) leads drawn
+    -- what is reached from a seed meets them
+    drawn_along : (s : ℕ) (path : List ℕ) (t : ℕ) → PartMeets g plus minus from into s → Path g Both others.0 s path t
+        → PartMeets g plus minus from into t
+    drawn_along s [] t drawn leads = subst (PartMeets g plus minus from into) leads drawn
     drawn_along s (u ∷ us) t drawn leads =
         let other = (others.1.exactly u).0 leads.0.1 in
         drawn_along u us t
         (drawn_on g plus minus from into u s other (adjoins_back s u leads.0.0) drawn) leads.1
 
-    reached_drawn : (s : ℕ) → Reached s → IsDrawn g plus minus from into s
+    reached_drawn : (s : ℕ) → Reached s → PartMeets g plus minus from into s
     reached_drawn s r =
         let seed = (seeds.1.exactly r.seed).0 r.there.0 in
-        let alone : IsDrawn g plus minus from into r.seed =
+        let alone : PartMeets g plus minus from into r.seed =
         record { at = r.seed; part = record { begins = seed.0; path = []; leads = refl }; by = seed.1 } in
         drawn_along r.seed r.path s alone r.leads
 
-    -- and what is drawn is reached from a seed
+    -- and what meets them is reached from a seed
     end_other : (s : ℕ) (path : List ℕ) (t : ℕ) → IsOther g plus minus s → PathOf g (IsOther g plus minus) s path t
         → IsOther g plus minus t
     end_other s [] t here leads = subst (IsOther g plus minus) leads here
@@ -112,26 +112,26 @@ module _ (g : StateGraph) (plus minus : List Bool) where
         reached_on (IsNext g Both others.0) (IsSeed others.0 seeds.0) u s (reached_back u us t leads.1 leads.2 end)
         (adjoins_back s u leads.0, (others.1.exactly s).1 here)
 
-    drawn_reached : (s : ℕ) → IsDrawn g plus minus from into s → Reached s
+    drawn_reached : (s : ℕ) → PartMeets g plus minus from into s → Reached s
     drawn_reached s d =
         let other = end_other s d.part.path d.at d.part.begins d.part.leads in
         let seed = (seeds.1.exactly d.at).1 (other, d.by) in
         let end = reached_seed (IsNext g Both others.0) (IsSeed others.0 seeds.0) d.at
-            (seed, (others.1.exactly d.at).1 other) in
+        (seed, (others.1.exactly d.at).1 other) in
         reached_back s d.part.path d.at d.part.begins d.part.leads end
 
-    pub drawn_or_not : (s : ℕ) → Decided (IsDrawn g plus minus from into s)
+    pub drawn_or_not : (s : ℕ) → Decided (PartMeets g plus minus from into s)
     drawn_or_not s = elim (listed reached.0 s) [
       | inl there ↦ inl (reached_drawn s ((reached.1.exactly s).0 there))
       | inr absent ↦ inr (λ drawn. absent ((reached.1.exactly s).1 (drawn_reached s drawn)))
     ]
 
-  pub torn_or_not : Decided ((s : ℕ) × IsTorn g plus minus s)
+  pub torn_or_not : Decided ((s : ℕ) × HasBothLevels g plus minus s)
   torn_or_not =
-      let torn = some_set g (IsTorn g plus minus) one (λ s is. is.high.part.begins.within) in
-      first_of (IsTorn g plus minus) torn.0 torn.1
+      let torn = some_set g (HasBothLevels g plus minus) one (λ s is. is.high.part.begins.within) in
+      first_of (HasBothLevels g plus minus) torn.0 torn.1
     where
-      one : (s : ℕ) → Decided (IsTorn g plus minus s)
+      one : (s : ℕ) → Decided (HasBothLevels g plus minus s)
       one s = elim (both (drawn_or_not plus minus s) (drawn_or_not minus plus s)) [
         | inl is ↦ inl (record { high = is.0; low = is.1 })
         | inr none ↦ inr (λ is. none (is.high, is.low))
@@ -189,7 +189,7 @@ module _ (g : StateGraph) (plus minus : List Bool) (r : ℕ) (graph : IsGraph g)
       → (class_of listed_classes s ≡ k) ↔ P
   has_class s within k is = ((λ e. is.0 (sym (class_is s within) ∙ e)), (λ p. class_is s within ∙ is.1 p))
 
-  module _ (none_torn : (s : ℕ) → IsTorn g plus minus s → ⊥) where
+  module _ (none_torn : (s : ℕ) → HasBothLevels g plus minus s → ⊥) where
     high_class : (s : ℕ) → (class_at s ≡ High) ↔ IsHigh g plus minus s
     unfolding class_at
     high_class s =
@@ -232,7 +232,7 @@ module _ (g : StateGraph) (plus minus : List Bool) (r : ℕ) (graph : IsGraph g)
     }
 
   pub classes_or_torn_within : ((classes : List Class) × AreClasses g plus minus classes)
-      ⊎ ((s : ℕ) × IsTorn g plus minus s)
+      ⊎ ((s : ℕ) × HasBothLevels g plus minus s)
   classes_or_torn_within = elim (torn_or_not g plus minus) [
     | inl torn ↦ inr torn
     | inr none ↦ inl (listed_classes, are_classes (λ s torn. none (s, torn)))
@@ -240,7 +240,7 @@ module _ (g : StateGraph) (plus minus : List Bool) (r : ℕ) (graph : IsGraph g)
 
 pub classes_or_torn : (g : StateGraph) (plus minus : List Bool) (r f : ℕ) → IsGraph g → IsConnected g
     → length plus ≡ g.states → length minus ≡ g.states → AreDisjoint plus minus → IsIn plus r → IsIn minus f
-    → ((classes : List Class) × AreClasses g plus minus classes) ⊎ ((s : ℕ) × IsTorn g plus minus s)
+    → ((classes : List Class) × AreClasses g plus minus classes) ⊎ ((s : ℕ) × HasBothLevels g plus minus s)
 classes_or_torn g plus minus r f graph connected plus_size minus_size disjoint in_plus in_minus =
     let r_in : r < g.states = omega (arith, in_below plus r in_plus, plus_size) in
     classes_or_torn_within g plus minus r graph connected disjoint in_plus r_in

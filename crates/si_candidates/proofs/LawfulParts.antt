@@ -11,7 +11,7 @@ use Rattle.si_regions.specs.Connected.{Adjoins, PathOf}
 use Rattle.si_insert.specs.declared.partition.Class.{Class}
 use Rattle.si_insert.specs.declared.partition.Class.TheVariants.{Low, Rising, High, Falling}
 use Rattle.si_insert.specs.Partition.{class_of, may_lead, IsLawful}
-use Rattle.si_candidates.specs.Parts.{IsOther, ComesFrom, GoesInto, IsDrawn, IsHigh, IsLow, AreClasses}
+use Rattle.si_candidates.specs.Parts.{IsOther, ComesFrom, GoesInto, PartMeets, IsHigh, IsLow, AreClasses}
 use Rattle.si_candidates.proofs.PartLaws.{drawn_on}
 
 -- the facts at hand
@@ -61,7 +61,7 @@ end_other : (g : StateGraph) (P : ℕ → Type 0) (s : ℕ) (path : List ℕ) (t
 end_other g P s [] t here p = subst P p here
 end_other g P s (u ∷ us) t here p = end_other g P u us t p.1 p.2
 
--- a part that is drawn high is High, one that is drawn low Low
+-- a part that meets the blocks as High ones do is High, and so with Low
 pub drawn_high : (g : StateGraph) (plus minus : List Bool) (classes : List Class) (s : ℕ)
     → Setting g plus minus classes → IsHigh g plus minus s → class_of classes s ≡ High
 drawn_high g plus minus classes s x d =
@@ -96,7 +96,7 @@ drawn_low g plus minus classes s x d =
         let into : class_of classes r ≡ Rising = (x.rising r (step_within g d.at e r x.graph step).2).1 there in
         absurd (true≢false (sym (rw (high, into) at (x.lawful.arcs d.at e r step))))
 
--- ---- each part is drawn
+-- ---- each part meets a block
 either : (b : Bool) → (b ≡ true) ⊎ (b ≡ true → ⊥)
 either true = inl refl
 either false = inr (λ h. true≢false (sym h))
@@ -105,7 +105,7 @@ abbrev Drawn : StateGraph → List Bool → List Bool → ℕ → Type 0
 Drawn g plus minus s = IsOther g plus minus s → IsHigh g plus minus s ⊎ IsLow g plus minus s
 
 alone : (g : StateGraph) (plus minus from into : List Bool) (s : ℕ) → IsOther g plus minus s
-    → (ComesFrom g from s ⊎ GoesInto g into s) → IsDrawn g plus minus from into s
+    → (ComesFrom g from s ⊎ GoesInto g into s) → PartMeets g plus minus from into s
 alone g plus minus from into s other by =
     record { at = s; part = record { begins = other; path = []; leads = refl }; by = by }
 

@@ -1,19 +1,19 @@
-pub mod Decisions
+pub mod BlockDecisions
 pub mod PartLaws
 pub mod LawfulParts
-pub mod Separable
-pub mod CopyCount
+pub mod BlockingLemmas
+pub mod BlockCopyCount
 mod BlockStates
 mod BlockWalks
-mod Switching
-mod WordTests
+mod MaySwitchArcs
+mod MaySwitchWords
 mod RaisingLemmas
 mod RaisingLoops
-mod Flooding
+mod RaisingSpread
 mod BlockExamples
 mod PartExamples
-pub mod SetTests
-pub mod MarkedSets
+pub mod BlockSameSets
+pub mod BlockMarks
 pub mod IntervalLemmas
 pub mod IntervalsExist
 pub mod BlockLists
@@ -21,7 +21,7 @@ pub mod BlocksExist
 pub mod AddingLemmas
 mod AskLemmas
 pub mod ClassesExist
-pub mod AcceptanceDecided
+pub mod ClassesDecided
 pub mod TreeLemmas
 pub mod SideLemmas
 mod SideExamples

@@ -1,4 +1,4 @@
--- Candidates at work: two outputs of which one lags, where a part is torn, and an output that follows pulses of an
+-- Candidates at work: two outputs, one late, where a part has both levels, and an output that follows pulses of an
 -- input, where there are classes.
 use Rattle.std.proofs.Common.{◌≡◌, ℕ, zero, suc, ◌<◌, Bool, true, false, List, [], ◌∷◌, refl, arith, inl, inr}
 use Rattle.si_base.specs.declared.graph.SigKind.TheVariants.{Input, Output}
@@ -6,7 +6,7 @@ use Rattle.si_base.specs.Graph.{StateGraph, arc, rise, fall}
 use Rattle.si_insert.specs.declared.partition.Class.{Class}
 use Rattle.si_insert.specs.declared.partition.Class.TheVariants.{Low, Rising, High, Falling}
 use Rattle.si_insert.specs.Partition.{class_of}
-use Rattle.si_candidates.specs.Parts.{IsOther, IsHigh, IsLow, AreClasses, IsTorn}
+use Rattle.si_candidates.specs.Parts.{IsOther, IsHigh, IsLow, AreClasses, HasBothLevels}
 use Rattle.si_candidates.proofs.PartLaws.{torn_have_none, same_list}
 
 -- ---- y and z rise in any order, then y falls, then z; the new signal is to rise in s1 and to fall in s4
@@ -38,7 +38,7 @@ other_3 : IsOther lagging in_s1 in_s4 3
 other_3 = record { within = omega arith; not_plus = out refl; not_minus = out refl }
 
 -- s3 is in the part of s0, by s2, and is entered from s1; s0 is entered from s4
-torn : IsTorn lagging in_s1 in_s4 0
+torn : HasBothLevels lagging in_s1 in_s4 0
 torn = record {
   high = record {
     at = 3;

@@ -11,11 +11,11 @@ use Rattle.si_insert.specs.declared.partition.Class.{Class}
 use Rattle.si_insert.specs.declared.partition.Class.TheVariants.{Low, Rising, High, Falling}
 use Rattle.si_insert.specs.Partition.{class_of, may_lead, IsLawful, HasSameSwitches}
 use Rattle.si_insert.proofs.OnePartition.{one_partition}
-use Rattle.si_candidates.specs.Parts.{IsOther, ComesFrom, GoesInto, IsDrawn, IsHigh, IsLow, AreClasses, IsTorn}
+use Rattle.si_candidates.specs.Parts.{IsOther, ComesFrom, GoesInto, PartMeets, IsHigh, IsLow, AreClasses, HasBothLevels}
 
 -- a state is in one class
 pub torn_have_none : (g : StateGraph) (plus minus : List Bool) (classes : List Class) (s : ℕ)
-    → AreClasses g plus minus classes → IsTorn g plus minus s → ⊥
+    → AreClasses g plus minus classes → HasBothLevels g plus minus s → ⊥
 torn_have_none g plus minus classes s a torn =
     let within = torn.high.part.begins.within in
     let high : class_of classes s ≡ High = (a.high s within).1 torn.high in
@@ -24,7 +24,7 @@ torn_have_none g plus minus classes s a torn =
 
 -- a step of connected states goes on
 pub drawn_on : (g : StateGraph) (plus minus from into : List Bool) (s t : ℕ) → IsOther g plus minus s → Adjoins g s t
-    → IsDrawn g plus minus from into t → IsDrawn g plus minus from into s
+    → PartMeets g plus minus from into t → PartMeets g plus minus from into s
 drawn_on g plus minus from into s t other adjoins d = record {
   at = d.at;
   part = record { begins = other; path = t ∷ d.part.path; leads = (adjoins, d.part.begins, d.part.leads) };
@@ -41,7 +41,7 @@ is_other g plus minus classes s a within rise fall = record {
 }
 
 alone : (g : StateGraph) (s : ℕ) (plus minus from into : List Bool) → IsOther g plus minus s
-    → (ComesFrom g from s ⊎ GoesInto g into s) → IsDrawn g plus minus from into s
+    → (ComesFrom g from s ⊎ GoesInto g into s) → PartMeets g plus minus from into s
 alone g s plus minus from into other by =
     record { at = s; part = record { begins = other; path = []; leads = refl }; by = by }
 

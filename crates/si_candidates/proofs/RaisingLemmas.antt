@@ -11,7 +11,7 @@ use Rattle.si_graph.proofs.MarkLemmas.{marks_same, marks_both, one_taken, one_le
 use Rattle.si_insert.specs.declared.partition.Class.{Class}
 use Rattle.si_insert.specs.declared.partition.Class.TheVariants.{Low, Rising, High, Falling}
 use Rattle.si_insert.specs.Partition.{class_of}
-use Rattle.si_candidates.specs.Raising.{lowered, is_high, is_between, Raises, MeetsFalling}
+use Rattle.si_candidates.specs.Raising.{before_raising, is_high, is_between, Raises, MeetsFalling}
 
 -- ---- classes by their tests
 high_only : (c : Class) → is_high c ≡ true → c ≡ High
@@ -44,58 +44,60 @@ in_between classes s there =
     (below, sym (get_or-map is_between classes s Low false below) ∙ there)
 
 -- ---- what lowering keeps
-lower_between : (c : Class) → is_between (lowered c) ≡ is_between c
+lower_between : (c : Class) → is_between (before_raising c) ≡ is_between c
 lower_between Low = refl
 lower_between Rising = refl
 lower_between High = refl
 lower_between Falling = refl
 
-betweens : (classes : List Class) → map is_between (map lowered classes) ≡ map is_between classes
+betweens : (classes : List Class) → map is_between (map before_raising classes) ≡ map is_between classes
 betweens [] = refl
 betweens (c ∷ classes) =
     let head = lower_between c in
     let tail = betweens classes in cc
 
-pub same_between : (old new : List Class) → map lowered new ≡ map lowered old → map is_between new ≡ map is_between old
+pub same_between : (old new : List Class) → map before_raising new ≡ map before_raising old → map is_between new
+    ≡ map is_between old
 same_between old new stays = sym (betweens new) ∙ ap (map is_between) stays ∙ betweens old
 
-lowered_of : (classes : List Class) (s : ℕ) → class_of (map lowered classes) s ≡ lowered (class_of classes s)
+lowered_of : (classes : List Class) (s : ℕ) → class_of (map before_raising classes) s
+    ≡ before_raising (class_of classes s)
 lowered_of [] s = refl
 lowered_of (c ∷ classes) zero = refl
 lowered_of (c ∷ classes) (suc s) = lowered_of classes s
 
-same_lowered : (old new : List Class) → map lowered new ≡ map lowered old → (s : ℕ)
-    → lowered (class_of new s) ≡ lowered (class_of old s)
+same_lowered : (old new : List Class) → map before_raising new ≡ map before_raising old → (s : ℕ)
+    → before_raising (class_of new s) ≡ before_raising (class_of old s)
 same_lowered old new stays s = sym (lowered_of new s) ∙ ap (λ (xs : List Class). class_of xs s) stays ∙ lowered_of old s
 
-rising_only : (c : Class) → lowered c ≡ Rising → c ≡ Rising
+rising_only : (c : Class) → before_raising c ≡ Rising → c ≡ Rising
 rising_only Rising h = refl
 rising_only Low h = absurd cc
 rising_only High h = absurd cc
 rising_only Falling h = absurd cc
 
-falling_only : (c : Class) → lowered c ≡ Falling → c ≡ Falling
+falling_only : (c : Class) → before_raising c ≡ Falling → c ≡ Falling
 falling_only Falling h = refl
 falling_only Low h = absurd cc
 falling_only High h = absurd cc
 falling_only Rising h = absurd cc
 
-pub rising_stays : (old new : List Class) → map lowered new ≡ map lowered old → (s : ℕ)
+pub rising_stays : (old new : List Class) → map before_raising new ≡ map before_raising old → (s : ℕ)
     → (class_of new s ≡ Rising) ↔ (class_of old s ≡ Rising)
 rising_stays old new stays s = (
-  λ h. rising_only (class_of old s) (sym (same_lowered old new stays s) ∙ ap lowered h),
-  λ h. rising_only (class_of new s) (same_lowered old new stays s ∙ ap lowered h),
+  λ h. rising_only (class_of old s) (sym (same_lowered old new stays s) ∙ ap before_raising h),
+  λ h. rising_only (class_of new s) (same_lowered old new stays s ∙ ap before_raising h),
 )
 
-pub falling_stays : (old new : List Class) → map lowered new ≡ map lowered old → (s : ℕ)
+pub falling_stays : (old new : List Class) → map before_raising new ≡ map before_raising old → (s : ℕ)
     → (class_of new s ≡ Falling) ↔ (class_of old s ≡ Falling)
 falling_stays old new stays s = (
-  λ h. falling_only (class_of old s) (sym (same_lowered old new stays s) ∙ ap lowered h),
-  λ h. falling_only (class_of new s) (same_lowered old new stays s ∙ ap lowered h),
+  λ h. falling_only (class_of old s) (sym (same_lowered old new stays s) ∙ ap before_raising h),
+  λ h. falling_only (class_of new s) (same_lowered old new stays s ∙ ap before_raising h),
 )
 
-pub same_size : (old new : List Class) → map lowered new ≡ map lowered old → length new ≡ length old
-same_size old new stays = sym (length-map new lowered) ∙ ap length stays ∙ length-map old lowered
+pub same_size : (old new : List Class) → map before_raising new ≡ map before_raising old → length new ≡ length old
+same_size old new stays = sym (length-map new before_raising) ∙ ap length stays ∙ length-map old before_raising
 
 -- ---- one state is raised
 -- marks of states with other words for them
@@ -139,7 +141,7 @@ raised classes work t inside low = record {
       (one_taken (IsIn (map is_between classes)) (map is_high classes) work t
       (between_in classes t inside (ap is_between low)) (omega (arith, length-map classes is_high))
       (get_or-map is_high classes t Low false inside ∙ ap is_high low));
-  stays = map-set_same lowered classes t High Low (sym (ap lowered low));
+  stays = map-set_same before_raising classes t High Low (sym (ap before_raising low));
 }
 
 -- ---- one after the other
@@ -188,11 +190,11 @@ pub not_beside : (is : Bool) (P : Type 0) → (is ≡ true) ↔ P → is ≡ fal
 not_beside is P tells not_so holds = true≢false (sym (tells.1 holds) ∙ not_so)
 
 -- a Falling state that enters s stays
-pub meets_before : (g : StateGraph) (old new : List Class) (s : ℕ) → map lowered new ≡ map lowered old
+pub meets_before : (g : StateGraph) (old new : List Class) (s : ℕ) → map before_raising new ≡ map before_raising old
     → MeetsFalling g old s → MeetsFalling g new s
 meets_before g old new s stays (t, leads, falling) = (t, leads, (falling_stays old new stays t).1 falling)
 
-pub meets_after : (g : StateGraph) (old new : List Class) (s : ℕ) → map lowered new ≡ map lowered old
+pub meets_after : (g : StateGraph) (old new : List Class) (s : ℕ) → map before_raising new ≡ map before_raising old
     → MeetsFalling g new s → MeetsFalling g old s
 meets_after g old new s stays (t, leads, falling) = (t, leads, (falling_stays old new stays t).0 falling)
 

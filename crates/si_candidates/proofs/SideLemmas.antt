@@ -15,7 +15,7 @@ use Rattle.si_insert.specs.Insertion.{entry}
 use Rattle.si_base.specs.Sets.{IsIn}
 use Rattle.si_candidates.specs.declared.tree.Link.{Link}
 use Rattle.si_candidates.specs.Tree.{IsLinkAt, IsMet, IsTree}
-use Rattle.si_candidates.specs.Sides.{differ, flag, leaves, between, class_by, AreSides, IsPartitionFor}
+use Rattle.si_candidates.specs.Sides.{differ, flag, leaves, between, class_by, AreSides, IsPartitionOfBlocks}
 
 -- ---- one of the two, and not both
 differ_not : (a b : Bool) → differ (not a) b ≡ not (differ a b)
@@ -208,7 +208,7 @@ class_told Falling = refl
 
 -- ---- two blocks
 module _ (g : StateGraph) (graph : IsGraph g) (plus minus : List Bool) (others : List Class)
-    (from : IsPartitionFor g plus minus others) where
+    (from : IsPartitionOfBlocks g plus minus others) where
   rises : (s : ℕ) → s < g.states → flag plus s ≡ is_rising (class_of others s)
   rises s within = by_test is_rising Rising (flag plus s) (class_of others s) only_rising refl (from.rising s within)
 

@@ -4,7 +4,7 @@ use Rattle.si_base.specs.declared.ids.Event.{Event}
 use Rattle.si_base.specs.Graph.{StateGraph}
 use Rattle.si_closures.specs.WordSearch.{column, HasBit}
 use Rattle.si_regions.specs.declared.regions.Region.{Region}
-use Rattle.si_candidates.specs.Blocks.{marked}
+use Rattle.si_candidates.specs.Blocks.{state_set}
 use Rattle.si_candidates.specs.Interval.{IsInterval}
 
 -- the interval from a set up to an event
@@ -20,7 +20,7 @@ asks_from from stops = map (λ (stop : Event). record { from = from; stop = stop
 abbrev pub asks_of : ℕ → List Event → List Region → List Ask
 asks_of states stops [] = []
 asks_of states stops (r ∷ regions) =
-    asks_from (marked states r.sr) stops ++ asks_of states stops regions
+    asks_from (state_set states r.sr) stops ++ asks_of states stops regions
 
 -- ---- words and events that ask
 -- from bit k of the words and the first event on

@@ -14,8 +14,8 @@ use Rattle.si_regions.specs.Regions.{AreRegions}
 use Rattle.si_candidates.specs.Interval.{IsInterval}
 
 -- the states of the list, marked among so many states
-abbrev pub marked : ℕ → List ℕ → List Bool
-marked states set = map (λ s. list_any (λ t. t == s) set) (range_with_len 0 states)
+abbrev pub state_set : ℕ → List ℕ → List Bool
+state_set states set = map (λ s. list_any (λ t. t == s) set) (range_with_len 0 states)
 
 -- the same states
 abbrev pub same_set : List Bool → List Bool → Bool
@@ -24,9 +24,9 @@ same_set (x ∷ xs) (y ∷ ys) = beq x y && same_set xs ys
 same_set xs ys = false
 
 -- each set once, where it stands first
-abbrev pub once : List (List Bool) → List (List Bool)
-once [] = []
-once (x ∷ xs) = x ∷ filter (λ z. not (same_set z x)) (once xs)
+abbrev pub without_repeats : List (List Bool) → List (List Bool)
+without_repeats [] = []
+without_repeats (x ∷ xs) = x ∷ filter (λ z. not (same_set z x)) (without_repeats xs)
 
 -- the events of the signals that the circuit drives, in event order; a is the place of the first
 abbrev pub driven_events : ℕ → List Signal → List Event
@@ -47,7 +47,7 @@ abbrev pub AreIntervals : StateGraph → List Event → List Region → List (Li
 AreIntervals g stops [] sets = sets ≡ []
 AreIntervals g stops (r ∷ regions) sets =
     (here : List (List Bool)) × (rest : List (List Bool)) × (sets ≡ here ++ rest)
-    × AreIntervalsFrom g (marked g.states r.sr) stops here × AreIntervals g stops regions rest
+    × AreIntervalsFrom g (state_set g.states r.sr) stops here × AreIntervals g stops regions rest
 
 -- the most blocks
 abbrev pub max_blocks : ℕ
@@ -57,8 +57,8 @@ max_blocks = 1024
 -- of these the first
 abbrev pub blocks_of : ℕ → List Region → List (List Bool) → List (List Bool)
 blocks_of states regions intervals =
-    take max_blocks (once (map (λ r. marked states r.er) regions
-    ++ (map (λ r. marked states r.sr) regions ++ intervals)))
+    take max_blocks (without_repeats (map (λ r. state_set states r.er) regions
+    ++ (map (λ r. state_set states r.sr) regions ++ intervals)))
 
 -- the blocks of c
 pub record AreBlocks (c : CodedGraph) (blocks : List (List Bool)) : Type 0 where

@@ -13,7 +13,7 @@ use Rattle.si_insert.specs.Accepted.{IsAccepted, copy_count, Delay}
 use Rattle.si_insert.specs.Tests.{InputWaits, WaitsAfter}
 use Rattle.si_candidates.specs.Interval.{IsInterval}
 use Rattle.si_candidates.specs.Blocks.{AreBlocks, AreDisjoint}
-use Rattle.si_candidates.specs.Parts.{AreClasses, IsTorn}
+use Rattle.si_candidates.specs.Parts.{AreClasses, HasBothLevels}
 use Rattle.si_candidates.specs.Blocking.{IsClosedUnderInputs, KeepsExits, MaySwitch}
 
 -- ---- blocks
@@ -62,17 +62,17 @@ ClassesAreUnique = (g : StateGraph) (plus minus : List Bool) (xs ys : List Class
     → AreClasses g plus minus xs → AreClasses g plus minus ys → xs ≡ ys
 
 -- and none where some part is both
-abbrev pub TornHaveNone : Type 0
-TornHaveNone = (g : StateGraph) (plus minus : List Bool) (classes : List Class) (s : ℕ)
-    → AreClasses g plus minus classes → IsTorn g plus minus s → ⊥
+abbrev pub BothLevelsHaveNone : Type 0
+BothLevelsHaveNone = (g : StateGraph) (plus minus : List Bool) (classes : List Class) (s : ℕ)
+    → AreClasses g plus minus classes → HasBothLevels g plus minus s → ⊥
 
 -- two disjoint blocks that aren't empty have classes, or some part is both
-abbrev pub ClassesOrTorn : Type 0
-ClassesOrTorn = (g : StateGraph) (plus minus : List Bool) (r f : ℕ)
+abbrev pub ClassesOrBothLevels : Type 0
+ClassesOrBothLevels = (g : StateGraph) (plus minus : List Bool) (r f : ℕ)
     → IsGraph g → IsConnected g → length plus ≡ g.states → length minus ≡ g.states
     → AreDisjoint plus minus → IsIn plus r → IsIn minus f
     → ((classes : List Class) × AreClasses g plus minus classes)
-    ⊎ ((s : ℕ) × IsTorn g plus minus s)
+    ⊎ ((s : ℕ) × HasBothLevels g plus minus s)
 
 -- ---- acceptance
 

@@ -27,18 +27,18 @@ abbrev pub GoesInto : StateGraph → List Bool → ℕ → Type 0
 GoesInto g set t = (s : ℕ) × (e : Event) × IsIn set s × Step g t e s
 
 -- in the part of s some state is entered from the set `from`, or leads into the set `into`
-pub record IsDrawn (g : StateGraph) (plus minus from into : List Bool) (s : ℕ) : Type 0 where
+pub record PartMeets (g : StateGraph) (plus minus from into : List Bool) (s : ℕ) : Type 0 where
   pub at : ℕ
   pub part : AreConnected g (IsOther g plus minus) s at
   pub by : ComesFrom g from at ⊎ GoesInto g into at
 
 -- the part of s is entered from a Rising state, or leads to a Falling one
 abbrev pub IsHigh : StateGraph → List Bool → List Bool → ℕ → Type 0
-IsHigh g plus minus s = IsDrawn g plus minus plus minus s
+IsHigh g plus minus s = PartMeets g plus minus plus minus s
 
 -- the part of s is entered from a Falling state, or leads to a Rising one
 abbrev pub IsLow : StateGraph → List Bool → List Bool → ℕ → Type 0
-IsLow g plus minus s = IsDrawn g plus minus minus plus s
+IsLow g plus minus s = PartMeets g plus minus minus plus s
 
 -- the classes for a block that rises and one that falls
 pub record AreClasses (g : StateGraph) (plus minus : List Bool) (classes : List Class)
@@ -50,15 +50,15 @@ pub record AreClasses (g : StateGraph) (plus minus : List Bool) (classes : List 
   pub low : (s : ℕ) → s < g.states → (class_of classes s ≡ Low) ↔ IsLow g plus minus s
 
 -- the part of s is both High and Low
-pub record IsTorn (g : StateGraph) (plus minus : List Bool) (s : ℕ) : Type 0 where
+pub record HasBothLevels (g : StateGraph) (plus minus : List Bool) (s : ℕ) : Type 0 where
   pub high : IsHigh g plus minus s
   pub low : IsLow g plus minus s
 
 -- the least state of all parts that are both
-abbrev pub IsFirstTorn : StateGraph → List Bool → List Bool → ℕ → Type 0
-IsFirstTorn g plus minus s = IsFirst (λ t. t ∷ []) (IsTorn g plus minus) s
+abbrev pub IsFirstWithBothLevels : StateGraph → List Bool → List Bool → ℕ → Type 0
+IsFirstWithBothLevels g plus minus s = IsFirst (λ t. t ∷ []) (HasBothLevels g plus minus) s
 
 -- what a refusal shows
 abbrev pub ShowsNoClasses : StateGraph → List Bool → List Bool → ClassFault → Type 0
 ShowsNoClasses g plus minus NoMemory = Unit {0}
-ShowsNoClasses g plus minus (NoClasses s) = IsFirstTorn g plus minus s
+ShowsNoClasses g plus minus (NoClasses s) = IsFirstWithBothLevels g plus minus s

@@ -12,11 +12,11 @@ use Rattle.si_candidates.specs.Blocks.{AreDisjoint}
 use Rattle.si_candidates.specs.Parts.{IsHigh}
 
 -- the class before anything was raised
-abbrev pub lowered : Class → Class
-lowered Low = Low
-lowered Rising = Rising
-lowered High = Low
-lowered Falling = Falling
+abbrev pub before_raising : Class → Class
+before_raising Low = Low
+before_raising Rising = Rising
+before_raising High = Low
+before_raising Falling = Falling
 
 abbrev pub is_high : Class → Bool
 is_high Low = false
@@ -42,7 +42,7 @@ abbrev pub AreListsBegun : List ℕ → List ℕ → List Class → Type 0
 AreListsBegun rising falling classes = (plus minus : List Bool) → IsSetOf (IsIn plus) rising
     → IsSetOf (IsIn minus) falling → AreDisjoint plus minus → AreBegun plus minus classes
 
--- all states of High parts are High then, torn parts too
+-- all states of High parts are High then, parts of both levels too
 pub record AreRaised (g : StateGraph) (plus minus : List Bool) (classes : List Class) : Type 0 where
   pub size : length classes ≡ g.states
   pub rising : (s : ℕ) → (class_of classes s ≡ Rising) ↔ IsIn plus s
@@ -58,7 +58,7 @@ pub record Raises (Q : ℕ → Type 0) (old : List Class) (work : List ℕ) (new
     (new_work : List ℕ) : Type 0 where
   pub marks : MarksAll (λ t. Q t × IsIn (map is_between old) t)
       (map is_high old) work (map is_high new) new_work
-  pub stays : map lowered new ≡ map lowered old
+  pub stays : map before_raising new ≡ map before_raising old
 
 -- some state of the list leads to t
 abbrev pub IsEnteredBy : StateGraph → List ℕ → ℕ → Type 0

@@ -44,7 +44,7 @@ class_by false false true = High
 class_by false false false = Low
 
 -- a lawful partition whose Rising states are the one set and whose Falling states the other
-pub record IsPartitionFor (g : StateGraph) (plus minus : List Bool) (classes : List Class)
+pub record IsPartitionOfBlocks (g : StateGraph) (plus minus : List Bool) (classes : List Class)
     : Type 0 where
   pub lawful : IsLawful g classes
   pub rising : (s : ℕ) → s < g.states → (class_of classes s ≡ Rising) ↔ IsIn plus s

@@ -9,7 +9,7 @@ ghost use Rattle.si_regions.specs.Regions.{AreRegions};
 ghost use Rattle.si_candidates.specs.Adding.{with_block, with_blocks, AddsAsked, AddsFirst};
 ghost use Rattle.si_candidates.specs.Adding.{AddsIntervals};
 ghost use Rattle.si_candidates.specs.Asked.{asked_for, asks_from, AreReady};
-ghost use Rattle.si_candidates.specs.Blocks.{AreBlocks, driven_events, marked, same_set};
+ghost use Rattle.si_candidates.specs.Blocks.{AreBlocks, driven_events, state_set, same_set};
 
 use crate::block::Block;
 use crate::intervals::Asked;
@@ -53,7 +53,7 @@ fn add_excited(
 ) -> Result<(), NoMemory>
     requires { AreRegions graph.now regions.now }
     ensures { OnOk result (found.new.items ≡ with_blocks found.old.items
-        (map (λ r. marked graph.now.graph.states r.er) regions.now)) }
+        (map (λ r. state_set graph.now.graph.states r.er) regions.now)) }
 {
     let g = graph.coded().graph();
     for r in regions {
@@ -71,7 +71,7 @@ fn add_switched(
 ) -> Result<(), NoMemory>
     requires { AreRegions graph.now regions.now }
     ensures { OnOk result (found.new.items ≡ with_blocks found.old.items
-        (map (λ r. marked graph.now.graph.states r.sr) regions.now)) }
+        (map (λ r. state_set graph.now.graph.states r.sr) regions.now)) }
 {
     let g = graph.coded().graph();
     for r in regions {
@@ -92,7 +92,7 @@ fn add_intervals(
         (driven_events 0 graph.now.graph.signals) regions.now found.old.items found.new.items) }
 {
     let g = graph.coded().graph();
-    let stops = driven(alloc, g.signals())?;
+    let stops = circuit_events(alloc, g.signals())?;
     let mut asked = Asked::new(alloc, g.states())?;
     for r in regions {
         ask(
@@ -128,7 +128,7 @@ fn ask(
     ensures within { OnOk result
         (All (λ e. e.sig < length graph.now.graph.signals) asked.new.stops.items) }
     ensures adds { OnOk result (AddsFirst graph.now.graph
-        (asks_from (marked graph.now.graph.states from.now) stops.now)
+        (asks_from (state_set graph.now.graph.states from.now) stops.now)
         (asked_for asked.old.seeds.items asked.old.stops.items) found.old.items
         (asked_for asked.new.seeds.items asked.new.stops.items) found.new.items) }
 {
@@ -225,7 +225,7 @@ fn add_states(
 ) -> Result<(), NoMemory>
     requires { All (λ s. s < size) states.now }
     ensures { OnOk result
-        (found.new.items ≡ with_block found.old.items (marked size states.now)) }
+        (found.new.items ≡ with_block found.old.items (state_set size states.now)) }
 {
     if found.len() >= MAX_BLOCKS {
         return Ok(());
@@ -276,7 +276,7 @@ fn sets_of(alloc: Global, found: Vec<Block>) -> Result<Vec<StateSet>, NoMemory>
 /// The set of these states, among so many.
 fn marked_set(alloc: Global, size: u32, states: &[StateId]) -> Result<StateSet, NoMemory>
     requires { All (λ s. s < size) states.now }
-    ensures { IfOk result (λ set. set ≡ marked size states.now) }
+    ensures { IfOk result (λ set. set ≡ state_set size states.now) }
 {
     let mut set = StateSet::new(alloc, size)?;
     for s in states {
@@ -286,7 +286,7 @@ fn marked_set(alloc: Global, size: u32, states: &[StateId]) -> Result<StateSet, 
 }
 
 /// The events of the signals that the circuit drives, in event order.
-fn driven(alloc: Global, signals: &[Signal]) -> Result<Vec<Event>, NoMemory>
+fn circuit_events(alloc: Global, signals: &[Signal]) -> Result<Vec<Event>, NoMemory>
     requires { length signals.now ≤ max_signals }
     ensures { IfOk result (λ events. events.items ≡ driven_events 0 signals.now) }
 {

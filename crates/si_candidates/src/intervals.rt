@@ -7,7 +7,7 @@ ghost use Rattle.si_base.specs.Bits.{bit};
 ghost use Rattle.si_closures.specs.WordSearch.{column, HasBit};
 ghost use Rattle.si_closures.specs.Words.{IsEventAt};
 ghost use Rattle.si_candidates.specs.Asked.{asked_for, asks_from, AreReady};
-ghost use Rattle.si_candidates.specs.Blocks.{marked};
+ghost use Rattle.si_candidates.specs.Blocks.{state_set};
 ghost use Rattle.si_candidates.specs.Interval.{IsInterval};
 
 use si_base::ids::{Event, NoMemory, StateId};
@@ -57,7 +57,7 @@ impl Asked {
         ensures stops { OnOk result (self.new.stops.items ≡ self.old.stops.items ++ stops.now) }
         ensures asks { OnOk result (asked_for self.new.seeds.items self.new.stops.items
             ≡ asked_for self.old.seeds.items self.old.stops.items
-            ++ asks_from (marked (length self.old.seeds.items) from.now) stops.now) }
+            ++ asks_from (state_set (length self.old.seeds.items) from.now) stops.now) }
     {
         let bits = bits_from(self.stops.len(), stops.len());
         give(self.seeds.as_mut_slice(), from, bits);

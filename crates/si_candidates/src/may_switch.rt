@@ -54,7 +54,7 @@ fn add_answers(
 {
     let g = graph.coded().graph();
     let first = may.len();
-    let words = packed(alloc, g.states(), blocks, first)?;
+    let words = block_words(alloc, g.states(), blocks, first)?;
     let sets = which_sets_may_switch(g, &words);
     let count = (blocks.len() - first).min(SETS);
     for k in 0..count {
@@ -65,7 +65,12 @@ fn add_answers(
 
 /// The words of the blocks from that place on, of which there are 128 at most: bit k of a state's
 /// word says whether the block that stands k places on has the state.
-fn packed(alloc: Global, states: u32, blocks: &[Block], first: usize) -> Result<Vec<u128>, NoMemory>
+fn block_words(
+    alloc: Global,
+    states: u32,
+    blocks: &[Block],
+    first: usize,
+) -> Result<Vec<u128>, NoMemory>
     requires sizes { All (λ b. length b ≡ states) blocks.now }
     requires within { first < length blocks.now }
     ensures { IfOk result (λ words. ArePacked states blocks.now first 128 words.items) }

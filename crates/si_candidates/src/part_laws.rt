@@ -4,8 +4,8 @@ ghost use Rattle.si_candidates.specs.Laws.{
   ClassesAreLawful,
   LawfulAreClasses,
   ClassesAreUnique,
-  ClassesOrTorn,
-  TornHaveNone,
+  ClassesOrBothLevels,
+  BothLevelsHaveNone,
   InputsWaitByBlock,
   LossesByBlock,
   AcceptedByBlocks,
@@ -18,8 +18,8 @@ pub fn candidates_are_determined()
     ensures lawful { ClassesAreLawful }
     ensures each_lawful { LawfulAreClasses }
     ensures unique { ClassesAreUnique }
-    ensures torn { TornHaveNone }
-    ensures or_torn { ClassesOrTorn }
+    ensures torn { BothLevelsHaveNone }
+    ensures or_torn { ClassesOrBothLevels }
 {}
 
 /// Acceptance looks at each block alone.

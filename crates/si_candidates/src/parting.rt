@@ -3,7 +3,7 @@
 ghost use Rattle.std.specs.Prelude.{◌≡◌, ℕ, true, false, IfOk, length};
 ghost use Rattle.si_base.specs.Sets.{IsIn};
 ghost use Rattle.si_candidates.specs.Blocks.{AreDisjoint};
-ghost use Rattle.si_candidates.specs.Parts.{AreClasses, IsTorn};
+ghost use Rattle.si_candidates.specs.Parts.{AreClasses, HasBothLevels};
 
 use crate::block::Block;
 use crate::raising::Raising;
@@ -68,7 +68,7 @@ impl Parting {
         ensures parted { IfOk result
             (λ is. is ≡ true → AreClasses graph.now.graph plus.now minus.now self.new) }
         ensures torn { IfOk result
-            (λ is. is ≡ false → (s : ℕ) × IsTorn graph.now.graph plus.now minus.now s) }
+            (λ is. is ≡ false → (s : ℕ) × HasBothLevels graph.now.graph plus.now minus.now s) }
     {
         let parted = self.raising.part(graph.coded(), plus, minus)?;
         Ok(parted)

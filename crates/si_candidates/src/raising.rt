@@ -7,7 +7,7 @@ ghost use Rattle.si_graph.specs.Closure.{Leads};
 ghost use Rattle.si_regions.specs.Connected.{Adjoins};
 ghost use Rattle.si_insert.specs.Partition.{class_of};
 ghost use Rattle.si_candidates.specs.Blocks.{AreDisjoint};
-ghost use Rattle.si_candidates.specs.Parts.{AreClasses, IsTorn};
+ghost use Rattle.si_candidates.specs.Parts.{AreClasses, HasBothLevels};
 ghost use Rattle.si_candidates.specs.Raising.{AreListsBegun, AreRaised, IsEnteredBy, LeadsInto};
 ghost use Rattle.si_candidates.specs.Raising.{MeetsRising, MeetsFalling, Raises};
 
@@ -23,7 +23,7 @@ use std::alloc::Global;
 ///
 /// Every state outside the blocks begins as Low. Those beside the blocks that have to be High are
 /// raised, and each raised state raises the states of its part beside it. Where one adjoins a block
-/// as only a Low state may, its part is torn.
+/// as only a Low state may, its part has both levels.
 #[derive(Drop)]
 pub(crate) struct Raising {
     alloc: Global,
@@ -75,7 +75,7 @@ impl Raising {
         ensures parted { IfOk result (λ is. is ≡ true
             → AreClasses graph.now.graph plus.now minus.now self.new.classes.items) }
         ensures torn { IfOk result
-            (λ is. is ≡ false → (s : ℕ) × IsTorn graph.now.graph plus.now minus.now s) }
+            (λ is. is ≡ false → (s : ℕ) × HasBothLevels graph.now.graph plus.now minus.now s) }
     {
         let g = graph.graph();
         let rising = plus.states(self.alloc)?;
@@ -91,7 +91,7 @@ impl Raising {
         Ok(true)
     }
 
-    /// Raises all states of High parts, torn ones too.
+    /// Raises all states of High parts, also of those of both levels.
     pub(crate) fn raise_all(
         &mut self,
         graph: &Graph,

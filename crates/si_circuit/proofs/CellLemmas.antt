@@ -23,7 +23,7 @@ use Rattle.si_circuit.specs.declared.cells.CellsFault.TheVariants.{NoMemory, Unf
 use Rattle.si_circuit.specs.Gates.{netlist_of}
 use Rattle.si_circuit.specs.Spelled.{AreSpelled, AreInserted}
 use Rattle.si_circuit.proofs.GateLemmas.{is_netlist}
-use Rattle.si_circuit.proofs.RightLemmas.{has_gates}
+use Rattle.si_circuit.proofs.CoveredGates.{has_gates}
 
 -- an instance that is there, as the gate of z
 record IsGateOf (c : CodedGraph) (library : Library) (z : ℕ) (i : Instance) : Type 0 where

@@ -6,15 +6,15 @@ use Rattle.si_base.specs.Proper.{HasNoConflict}
 use Rattle.si_base.specs.RightGates.{GivesNextValues}
 use Rattle.si_insert.specs.Built.{IsBuilt}
 use Rattle.si_insert.specs.Lineage.{History, IsLineage}
-use Rattle.si_insert.proofs.Chain.{implements}
-use Rattle.si_insert.proofs.Kept.{keeps}
+use Rattle.si_insert.proofs.LineageChain.{implements}
+use Rattle.si_insert.proofs.InsertionKeeps.{keeps}
 use Rattle.si_circuit.specs.declared.style.Style.{Style}
 use Rattle.si_circuit.specs.Circuits.{AreStateNames, IsCircuit, circuit_of}
 use Rattle.si_circuit.specs.Gates.{gate_of, netlist_of}
 use Rattle.si_circuit.specs.Spelled.{AreInserted}
 use Rattle.si_circuit.specs.Spelling.{insertions_of}
-use Rattle.si_circuit.proofs.InsertedLemmas.{are_inserted, insertion_names}
-use Rattle.si_circuit.proofs.RightLemmas.{chosen_give}
+use Rattle.si_circuit.proofs.SpelledInsertions.{are_inserted, insertion_names}
+use Rattle.si_circuit.proofs.CoveredGates.{chosen_give}
 
 built : (gate : ℕ → Gate) (model : List ℕ) (states : List (List ℕ)) (l : History)
     → GivesNextValues l.current.coded (netlist_of gate model (insertions_of states l) l.current.coded)

@@ -1,14 +1,14 @@
-pub mod RightLemmas
+pub mod CoveredGates
 pub mod GateLemmas
 pub mod CellLemmas
 pub mod Examples
-pub mod DescentLemmas
-pub mod WordLemmas
-pub mod TraceLemmas
-pub mod InsertedLemmas
+pub mod SpellingDescents
+pub mod SpellingWords
+pub mod SpellingTraces
+pub mod SpelledInsertions
 pub mod CircuitLemmas
-pub mod CurrentLemmas
-pub mod MarkLemmas
-pub mod CurrentWords
-pub mod LineLemmas
+pub mod SpellingWord
+pub mod SpellingMarks
+pub mod SpellingTellsStates
+pub mod InsertionWordsLemmas
 mod SpelledExamples

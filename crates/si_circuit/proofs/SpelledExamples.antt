@@ -7,7 +7,7 @@ use Rattle.si_base.specs.Codes.{CodedGraph}
 use Rattle.si_base.specs.Netlist.{Insertion}
 use Rattle.si_insert.specs.declared.lineage.TraceStep.{TraceStep}
 use Rattle.si_insert.specs.declared.partition.Class.{Class}
-use Rattle.si_insert.specs.Lineage.{History, as_given}
+use Rattle.si_insert.specs.Lineage.{History, given_current}
 use Rattle.si_insert.specs.declared.partition.Class.TheVariants.{Low, Rising, High, Falling}
 use Rattle.si_circuit.specs.Spelling.{current_word, insertions_from, given_descents}
 
@@ -69,7 +69,8 @@ unfolding current_word
 current_words = (refl, refl, refl, refl)
 
 -- where nothing is inserted the word is the name
-given_word : current_word (codes "p" ∷ codes "q" ∷ []) (record { given = given; trace = []; current = as_given given })
+given_word : current_word (codes "p" ∷ codes "q" ∷ [])
+    (record { given = given; trace = []; current = given_current given })
     1
     ≡ codes "q"
 unfolding current_word

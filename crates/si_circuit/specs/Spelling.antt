@@ -11,7 +11,7 @@ use Rattle.si_insert.specs.declared.lineage.TraceStep.{TraceStep}
 use Rattle.si_insert.specs.declared.partition.Class.{Class}
 use Rattle.si_insert.specs.Partition.{class_of}
 use Rattle.si_insert.specs.Insertion.{Copy}
-use Rattle.si_insert.specs.Made.{copies_of, switches}
+use Rattle.si_insert.specs.GraphOfCopies.{copies_of, switches}
 use Rattle.si_insert.specs.Lineage.{Current, History, origin}
 use Rattle.si_circuit.specs.declared.spelling.Descent.{Descent}
 
@@ -52,8 +52,8 @@ insertion_of states k ds p = record {
 }
 
 -- a copy comes from where its state comes, and has the new signal's value as bit k
-abbrev pub copied : ℕ → List Descent → Copy → Descent
-copied k ds x =
+abbrev pub copy_descent : ℕ → List Descent → Copy → Descent
+copy_descent k ds x =
     record {
       origin = (descent ds x.state).origin;
       bits = if x.value then flip (descent ds x.state).bits k else (descent ds x.state).bits;
@@ -61,7 +61,7 @@ copied k ds x =
 
 -- the descents of the states after one more insertion
 abbrev pub descents_after : ℕ → List Class → List Descent → List Descent
-descents_after k classes ds = map (copied k ds) (copies_of classes)
+descents_after k classes ds = map (copy_descent k ds) (copies_of classes)
 
 -- and after a row of insertions
 abbrev pub descents_along : ℕ → List TraceStep → List Descent → List Descent

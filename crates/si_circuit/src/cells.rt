@@ -146,7 +146,7 @@ fn gate_of_instance(
         (λ gate. gate_seen gate ≡ chosen.instance_gate library.now z instance.now) }
 {
     let name = Name::copy_of(alloc, library.cell(instance.cell).name.bytes())?;
-    let literals = copied(alloc, instance.literals.as_slice())?;
+    let literals = literal_list(alloc, instance.literals.as_slice())?;
     let sum = expand(alloc, library, instance, z)?;
     Ok(Gate::Cell {
         name,
@@ -156,7 +156,7 @@ fn gate_of_instance(
 }
 
 /// The literals in a vector.
-fn copied(alloc: Global, literals: &[PinLiteral]) -> Result<Vec<Literal>, NoMemory>
+fn literal_list(alloc: Global, literals: &[PinLiteral]) -> Result<Vec<Literal>, NoMemory>
     ensures { IfOk result (λ v. v.items ≡ literals.now) }
 {
     let mut copies = Vec::new(alloc);

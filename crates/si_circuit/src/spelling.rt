@@ -96,16 +96,16 @@ fn descents_after(
     let copies = copies_of(alloc, classes)?;
     let mut after = Vec::new(alloc);
     for x in &copies {
-        after.push(copied(k, descents, *x))?;
+        after.push(copy_descent(k, descents, *x))?;
     }
     Ok(after)
 }
 
 /// The descent of a copy.
-fn copied(k: usize, descents: &[Descent], x: StateCopy) -> Descent
+fn copy_descent(k: usize, descents: &[Descent], x: StateCopy) -> Descent
     requires room { k < code_width }
     requires within { x.state < length descents.now }
-    ensures { result ≡ spelled.copied k descents.now x }
+    ensures { result ≡ spelled.copy_descent k descents.now x }
 {
     let Descent { origin, bits } = descents[x.state.0 as usize];
     let bits = if x.value {

@@ -14,7 +14,7 @@ use Rattle.si_checks.proofs.DecisionLemmas as decide
 use Rattle.si_checks.proofs.DecisionLemmas.{Decided}
 use Rattle.si_conflicts.specs.Conflicts.{AreConflicts, HasConflicts, AreFirstConflicts}
 use Rattle.si_conflicts.specs.Search.{AreBelow}
-use Rattle.si_conflicts.proofs.BelowLemmas.{below_none, below_gap, below_take, below_row, below_all}
+use Rattle.si_conflicts.proofs.SearchLemmas.{below_none, below_gap, below_take, below_row, below_all}
 
 -- ---- whether two states are a conflict
 -- a non-input event, and just one of p and q enables it

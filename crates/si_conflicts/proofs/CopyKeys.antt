@@ -18,18 +18,18 @@ use Rattle.si_insert.specs.declared.partition.Class.TheVariants.{Low, Rising, Hi
 use Rattle.si_insert.specs.Partition.{class_of, IsLawful}
 use Rattle.si_insert.specs.Insertion.{Copy, IsCopy, Moves, has_copy, waits, switching, IsInsertedGraph, copy_code}
 use Rattle.si_insert.specs.Insertion.{coded}
-use Rattle.si_insert.proofs.Classes.{stays_within, same_goes}
-use Rattle.si_insert.proofs.Copies.{copy, copy_at}
-use Rattle.si_insert.proofs.NewCodes.{values}
-use Rattle.si_insert.proofs.Persistent.{driven_before, driven_after}
-use Rattle.si_insert.proofs.Places.{leads, goes_on, code_at}
+use Rattle.si_insert.proofs.PartitionClasses.{stays_within, same_goes}
+use Rattle.si_insert.proofs.InsertionCopies.{copy, copy_at}
+use Rattle.si_insert.proofs.InsertionCodes.{values}
+use Rattle.si_insert.proofs.AcceptedLosses.{driven_before, driven_after}
+use Rattle.si_insert.proofs.InsertionProper.{leads, goes_on, code_at}
 use Rattle.si_conflicts.specs.declared.keys.Key.{Key}
 use Rattle.si_conflicts.specs.declared.tally.Role.{Role}
 use Rattle.si_conflicts.specs.declared.tally.Role.TheVariants.{Absent, Plain, Switching}
-use Rattle.si_conflicts.specs.Keys.{Switches, AreExcited, IsKey, AreKeys, no_key}
+use Rattle.si_conflicts.specs.Keys.{IsExcitedNonInput, AreExcited, IsKey, AreKeys, no_key}
 use Rattle.si_conflicts.specs.Apart.{Stays, AreStaying, role_at}
 use Rattle.si_conflicts.proofs.KeyLemmas.{HaveValues}
-use Rattle.si_conflicts.proofs.Numbers.{driven_within}
+use Rattle.si_conflicts.proofs.KeyNumbers.{driven_within}
 
 -- the excited signals of a copy: those of its state, or those that don't wait and the new one
 abbrev pub excited_there : Role → ℕ → ℕ → ℕ → ℕ
@@ -130,7 +130,7 @@ module _ (c : CodedGraph) (is : IsCoded c) (classes : List Class) (lawful : IsLa
 
     -- an arc that goes at the copy
     along : (z : ℕ) (up : Bool) (t : ℕ) → IsNonInput c.graph.signals z → Step c.graph x.state (event z up) t
-        → waits class (class_of classes t) x.value ≡ false → Switches h k z
+        → waits class (class_of classes t) x.value ≡ false → IsExcitedNonInput h k z
     along z up t non_input step goes = record {
       non_input = given z non_input;
       up = up;
@@ -142,7 +142,7 @@ module _ (c : CodedGraph) (is : IsCoded c) (classes : List Class) (lawful : IsLa
     Goes z = IsNonInput c.graph.signals z × (up : Bool) × (t : ℕ) × Step c.graph x.state (event z up) t
         × (waits class (class_of classes t) x.value ≡ false)
 
-    switched : (z : ℕ) → Switches h k z → Goes z ⊎ ((z ≡ last) × (class ≡ switching (not x.value)))
+    switched : (z : ℕ) → IsExcitedNonInput h k z → Goes z ⊎ ((z ≡ last) × (class ≡ switching (not x.value)))
     switched z s =
         let found = moves (event z s.up) s.enabled in
         from found.0 found.1
@@ -187,7 +187,7 @@ module _ (c : CodedGraph) (is : IsCoded c) (classes : List Class) (lawful : IsLa
 
     -- ---- one at which it may switch
     module _ (may : class ≡ switching (not x.value)) where
-      switches_new : Switches h k last
+      switches_new : IsExcitedNonInput h k last
       switches_new = record {
         non_input = new_driven;
         up = not x.value;
@@ -217,9 +217,9 @@ module _ (c : CodedGraph) (is : IsCoded c) (classes : List Class) (lawful : IsLa
 
       at_switching : AreExcited h k (flip (staying x.state) last)
       at_switching z = elim (cases_eq z last) as
-          (λ w. (bit (flip (staying x.state) last) z ≡ true) ↔ Switches h k z) [
+          (λ w. (bit (flip (staying x.state) last) z ≡ true) ↔ IsExcitedNonInput h k z) [
             | inl same ↦ (
-              λ on. subst (λ y. Switches h k y) (sym same) switches_new,
+              λ on. subst (λ y. IsExcitedNonInput h k y) (sym same) switches_new,
               λ s. ap (λ y. bit (flip (staying x.state) last) y) same ∙ flip-same (staying x.state) last
                   ∙ ap not (no_last x.state),
             )

@@ -6,7 +6,7 @@ use Rattle.si_insert.specs.declared.partition.Class.TheVariants.{Low, Rising, Hi
 use Rattle.si_conflicts.specs.declared.keys.Key.{Key}
 use Rattle.si_conflicts.specs.declared.members.Member.{Member}
 use Rattle.si_conflicts.specs.Keys.{clashes, clash_count}
-use Rattle.si_conflicts.specs.Apart.{told_apart, pair_sum, switching_count}
+use Rattle.si_conflicts.specs.Apart.{stable_count, pair_sum, switching_count}
 
 abbrev key : ℕ → ℕ → Key
 key code excited = record { code = code; excited = excited }
@@ -34,7 +34,7 @@ members =
 classes : List Class
 classes = Low ∷ Low ∷ Rising ∷ High ∷ High ∷ Falling ∷ []
 
-two_are_told : pair_sum (told_apart classes) members ≡ 2
+two_are_told : pair_sum (stable_count classes) members ≡ 2
 unfolding members classes
 two_are_told = refl
 
@@ -43,6 +43,6 @@ unfolding members classes
 none_is_left_over = refl
 
 -- a Low and a High state of one code have no copies at one value
-low_by_high : told_apart (Low ∷ High ∷ []) (record { key = key 4 1; state = 0 })
+low_by_high : stable_count (Low ∷ High ∷ []) (record { key = key 4 1; state = 0 })
     (record { key = key 4 2; state = 1 }) ≡ 0
 low_by_high = refl

@@ -17,7 +17,7 @@ use Rattle.si_base.proofs.Steps.{enables-step, step_from_enables}
 use Rattle.si_graph.specs.Arcs.{AreOut}
 use Rattle.si_checks.specs.Searches.{Differ}
 use Rattle.si_conflicts.specs.declared.keys.Key.{Key}
-use Rattle.si_conflicts.specs.Keys.{Switches, AreExcited, IsKey, clashes, key_at, no_key}
+use Rattle.si_conflicts.specs.Keys.{IsExcitedNonInput, AreExcited, IsKey, clashes, key_at, no_key}
 
 -- ---- the signals of those of the first n arcs that are P
 abbrev pub ExcitedTo : (Edge → Type 0) → List Edge → ℕ → ℕ → Type 0
@@ -88,11 +88,12 @@ excited_all g s arcs n excited out all x z = (
       (x z).1 (place.0, a, (let l = place.1 in omega arith), place.1, place.2, is.non_input, refl)),
 )
   where
-    switches : (a : Edge) → Contains arcs a → IsNonInput g.signals a.event.sig → a.event.sig ≡ z → Switches g s z
+    switches : (a : Edge) → Contains arcs a → IsNonInput g.signals a.event.sig → a.event.sig ≡ z
+        → IsExcitedNonInput g s z
     switches a there non_input same =
         let of = (out.exactly a).0 there in
         let step : Step g s a.event a.to = subst (λ (v : ℕ). Step g v a.event a.to) of.1 of.0 in
-        subst (λ y. Switches g s y) same
+        subst (λ y. IsExcitedNonInput g s y) same
         (record { non_input = non_input; up = a.event.up; enabled = enables-step g s a.event a.to step })
 
 -- ---- which keys clash

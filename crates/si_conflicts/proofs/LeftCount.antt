@@ -8,21 +8,21 @@ use Rattle.si_base.specs.Codes.{CodedGraph, IsCoded}
 use Rattle.si_insert.specs.declared.partition.Class.{Class}
 use Rattle.si_insert.specs.Partition.{IsLawful}
 use Rattle.si_insert.specs.Insertion.{Copy, IsInsertedGraph, coded, new_signal}
-use Rattle.si_insert.specs.Made.{copies_of, made}
-use Rattle.si_insert.proofs.Making.{made_is_insertion}
-use Rattle.si_insert.proofs.OneGraph.{same_copies}
+use Rattle.si_insert.specs.GraphOfCopies.{copies_of, graph_of_copies}
+use Rattle.si_insert.proofs.ApplyInserts.{made_is_insertion}
+use Rattle.si_insert.proofs.OneInsertion.{same_copies}
 use Rattle.si_conflicts.specs.declared.keys.Key.{Key}
 use Rattle.si_conflicts.specs.declared.members.Member.{Member}
 use Rattle.si_conflicts.specs.Conflicts.{HasConflicts}
 use Rattle.si_conflicts.specs.Keys.{IsKey, clash_count}
 use Rattle.si_conflicts.specs.Chains.{AreRings, AreMembers}
-use Rattle.si_conflicts.specs.Apart.{AreStaying, AllStaying, told_apart, pair_sum, switching_count}
+use Rattle.si_conflicts.specs.Apart.{AreStaying, AllStaying, stable_count, pair_sum, switching_count}
 use Rattle.si_conflicts.specs.Left.{LeavesConflicts}
-use Rattle.si_conflicts.proofs.Counted.{one_count}
-use Rattle.si_conflicts.proofs.CopyCount.{copies_clash}
+use Rattle.si_conflicts.proofs.OneConflictList.{one_count}
+use Rattle.si_conflicts.proofs.ApartCopyCount.{copies_clash}
 use Rattle.si_conflicts.proofs.CopyKeys.{copy_key, are_keys, have_values}
-use Rattle.si_conflicts.proofs.Numbers.{some_key, some_staying}
-use Rattle.si_conflicts.proofs.PairLemmas.{as_many}
+use Rattle.si_conflicts.proofs.KeyNumbers.{some_key, some_staying}
+use Rattle.si_conflicts.proofs.KeyPairs.{as_many}
 
 -- a signal that an insertion may add
 abbrev some_signal : Signal
@@ -49,7 +49,8 @@ module _ (c : CodedGraph) (is : IsCoded c) (classes : List Class) (lawful : IsLa
       (map (copy_key c classes own staying) copies) _
       (are_keys c is classes lawful own own_is staying stay new copies h inserted) refl
 
-  inserted : IsInsertedGraph c.graph classes some_signal (copies_of classes) (made c.graph classes some_signal)
+  inserted : IsInsertedGraph c.graph classes some_signal (copies_of classes)
+      (graph_of_copies c.graph classes some_signal)
   inserted = made_is_insertion c.graph classes some_signal is.graph_is lawful refl
 
   -- that number
@@ -60,9 +61,9 @@ module _ (c : CodedGraph) (is : IsCoded c) (classes : List Class) (lawful : IsLa
   leaves = record {
     new = some_signal;
     copies = copies_of classes;
-    graph = made c.graph classes some_signal;
+    graph = graph_of_copies c.graph classes some_signal;
     insertion = inserted;
-    counted = counted some_signal (copies_of classes) (made c.graph classes some_signal) inserted;
+    counted = counted some_signal (copies_of classes) (graph_of_copies c.graph classes some_signal) inserted;
   }
 
   pub some_left : (n : ℕ) × LeavesConflicts c classes n
@@ -75,11 +76,12 @@ module _ (c : CodedGraph) (is : IsCoded c) (classes : List Class) (lawful : IsLa
       (counted l.new l.copies l.graph l.insertion)
       ∙ ap (λ xs. clash_count (map (copy_key c classes own staying) xs)) same
     where
-      renamed : IsInsertedGraph c.graph classes l.new (copies_of classes) (made c.graph classes l.new)
+      renamed : IsInsertedGraph c.graph classes l.new (copies_of classes) (graph_of_copies c.graph classes l.new)
       renamed = made_is_insertion c.graph classes l.new is.graph_is lawful l.insertion.kind
 
       same : l.copies ≡ copies_of classes
-      same = same_copies c.graph classes l.new l.copies (copies_of classes) l.graph (made c.graph classes l.new)
+      same = same_copies c.graph classes l.new l.copies (copies_of classes) l.graph
+          (graph_of_copies c.graph classes l.new)
           l.insertion renamed
 
   pub one_left : (n m : ℕ) → LeavesConflicts c classes n → LeavesConflicts c classes m → n ≡ m
@@ -87,12 +89,12 @@ module _ (c : CodedGraph) (is : IsCoded c) (classes : List Class) (lawful : IsLa
 
   -- what a trial counts
   pub trial_count : (next : List ℕ) (members : List Member) → AreRings c next → AreMembers c next members
-      → LeavesConflicts c classes (pair_sum (told_apart classes) members + switching_count classes staying members)
+      → LeavesConflicts c classes (pair_sum (stable_count classes) members + switching_count classes staying members)
   trial_count next members rings are = subst (λ n. LeavesConflicts c classes n)
       (copies_clash c is classes lawful.count own own_is staying stay next rings members are) leaves
 
   pub trial_is : (next : List ℕ) (members : List Member) (told rest : ℕ) → AreRings c next → AreMembers c next members
-      → told ≡ pair_sum (told_apart classes) members
+      → told ≡ pair_sum (stable_count classes) members
       → ((staying : ℕ → ℕ) → AllStaying c.graph classes staying → rest ≡ switching_count classes staying members)
       → LeavesConflicts c classes (told + rest)
   trial_is next members told rest rings are told_is rest_is = subst (λ n. LeavesConflicts c classes n)
@@ -100,7 +102,7 @@ module _ (c : CodedGraph) (is : IsCoded c) (classes : List Class) (lawful : IsLa
 
   -- the conflicts that are told apart are among them
   pub at_least : (next : List ℕ) (members : List Member) (bar n : ℕ) → AreRings c next → AreMembers c next members
-      → bar ≤ pair_sum (told_apart classes) members → LeavesConflicts c classes n → bar ≤ n
+      → bar ≤ pair_sum (stable_count classes) members → LeavesConflicts c classes n → bar ≤ n
   at_least next members bar n rings are enough left_n =
       let same = one_left n _ left_n (trial_count next members rings are) in
       omega (arith, same)
@@ -110,13 +112,13 @@ pub trial_found : (c : CodedGraph) (classes : List Class) (next : List ℕ) (mem
     (d : CodedGraph) (g : StateGraph) (given : List Class) (ms : List Member) (told rest : ℕ)
     → d ≡ c → g ≡ d.graph → given ≡ classes → ms ≡ members → IsCoded d → IsLawful c.graph classes
     → AreRings c next → AreMembers c next members
-    → told ≡ pair_sum (told_apart given) ms
+    → told ≡ pair_sum (stable_count given) ms
     → ((staying : ℕ → ℕ) → AllStaying g given staying → rest ≡ switching_count given staying ms)
     → LeavesConflicts c classes (told + rest)
 trial_found c classes next members d g given ms told rest d_is g_is given_is ms_is coded lawful rings are told_is
     rest_is =
     trial_is c (subst IsCoded d_is coded) classes lawful next members told rest rings are
-    (told_is ∙ ap₂ (λ xs ys. pair_sum (told_apart xs) ys) given_is ms_is)
+    (told_is ∙ ap₂ (λ xs ys. pair_sum (stable_count xs) ys) given_is ms_is)
     (λ staying all. rest_is staying (there staying all)
     ∙ ap₂ (λ xs ys. switching_count xs staying ys) given_is ms_is)
   where
@@ -129,11 +131,11 @@ trial_found c classes next members d g given ms told rest d_is g_is given_is ms_
 
 pub none_below : (c : CodedGraph) (classes : List Class) (next : List ℕ) (members : List Member)
     (d : CodedGraph) (ms : List Member) (bar : ℕ) → d ≡ c → ms ≡ members → IsCoded d → IsLawful c.graph classes
-    → AreRings c next → AreMembers c next members → bar ≤ pair_sum (told_apart classes) ms
+    → AreRings c next → AreMembers c next members → bar ≤ pair_sum (stable_count classes) ms
     → (n : ℕ) → LeavesConflicts c classes n → bar ≤ n
 none_below c classes next members d ms bar d_is ms_is coded lawful rings are enough n left_n =
     at_least c (subst IsCoded d_is coded) classes lawful next members bar n rings are
-    (subst (λ xs. bar ≤ pair_sum (told_apart classes) xs) ms_is enough) left_n
+    (subst (λ xs. bar ≤ pair_sum (stable_count classes) xs) ms_is enough) left_n
 
 -- ---- the answer below a bar
 pub below_is : (c : CodedGraph) (classes : List Class) (n bar : ℕ) (o : Option ℕ) → LeavesConflicts c classes n

@@ -1,18 +1,18 @@
 mod Examples
-pub mod Counted
+pub mod OneConflictList
 pub mod KeyLemmas
 pub mod CountLemmas
-pub mod PairLemmas
+pub mod KeyPairs
 pub mod LinkLemmas
-pub mod BelowLemmas
+pub mod SearchLemmas
 pub mod ConflictsExist
-pub mod PairSums
-pub mod Numbers
+pub mod ApartPairSums
+pub mod KeyNumbers
 pub mod CopyKeys
-pub mod Meeting
-pub mod CopyCount
+pub mod ApartConflicts
+pub mod ApartCopyCount
 pub mod LeftCount
-pub mod StayingConflicts
+pub mod LeftStaying
 pub mod TallyLemmas
-pub mod StayLemmas
+pub mod ApartStayLemmas
 pub mod RingLemmas

@@ -19,9 +19,10 @@ use Rattle.si_conflicts.specs.declared.tally.Role.{Role}
 use Rattle.si_conflicts.specs.declared.tally.Role.TheVariants.{Absent, Plain, Switching}
 use Rattle.si_conflicts.specs.declared.tally.Tally.{Tally}
 use Rattle.si_conflicts.specs.Chains.{member_cmp}
-use Rattle.si_conflicts.specs.Apart.{role_at, is_plain, is_switching, Tallied, are_apart, tallied, told_apart, pair_sum}
+use Rattle.si_conflicts.specs.Apart.{role_at, is_plain, is_switching, RoleAndKey, are_apart, role_and_key, stable_count}
+use Rattle.si_conflicts.specs.Apart.{pair_sum}
 use Rattle.si_conflicts.specs.Apart.{IsUpTo, AreUpTo, equal_keys, IsTally, HasTally}
-use Rattle.si_conflicts.proofs.PairSums.{all_in, same_sum, sum_none, sum_two, sum_map, pair_push}
+use Rattle.si_conflicts.proofs.ApartPairSums.{all_in, same_sum, sum_none, sum_two, sum_map, pair_push}
 
 abbrev one_if : Bool → ℕ
 one_if b = cond b 1 0
@@ -39,7 +40,7 @@ and_false true b is = is
 and_false false b is = refl
 
 -- ---- what one copy more meets
-pub meets_none : (key : Key) (copies : List Tallied) → count_by (λ e. are_apart e (Absent, key)) copies ≡ 0
+pub meets_none : (key : Key) (copies : List RoleAndKey) → count_by (λ e. are_apart e (Absent, key)) copies ≡ 0
 meets_none key copies = sum_none (λ e. cond (are_apart e (Absent, key)) 1 0) copies (λ e there. ap one_if (at e.0 e.1))
   where
     at : (r : Role) (x : Key) → are_apart (r, x) (Absent, key) ≡ false
@@ -47,7 +48,7 @@ meets_none key copies = sum_none (λ e. cond (are_apart e (Absent, key)) 1 0) co
     at Plain x = refl
     at Switching x = refl
 
-pub meets_plain : (key : Key) (copies : List Tallied) (t : Tally) → IsTally key copies t
+pub meets_plain : (key : Key) (copies : List RoleAndKey) (t : Tally) → IsTally key copies t
     → count_by (λ e. are_apart e (Plain, key)) copies + t.equal ≡ t.plain + t.switching
 meets_plain key copies t is =
     let left = sum_two met equal copies in
@@ -58,16 +59,16 @@ meets_plain key copies t is =
     let r = is.switching in
     omega arith
   where
-    met : Tallied → ℕ
+    met : RoleAndKey → ℕ
     met e = cond (are_apart e (Plain, key)) 1 0
 
-    equal : Tallied → ℕ
+    equal : RoleAndKey → ℕ
     equal e = cond (is_plain e.0 && equal_keys e.1 key) 1 0
 
-    plain : Tallied → ℕ
+    plain : RoleAndKey → ℕ
     plain e = cond (is_plain e.0 && (e.1.code == key.code)) 1 0
 
-    switching : Tallied → ℕ
+    switching : RoleAndKey → ℕ
     switching e = cond (is_switching e.0 && (e.1.code == key.code)) 1 0
 
     one : (a b : Bool) → cond (a && not b) 1 0 + cond (a && b) 1 0 ≡ cond a 1 0 + 0
@@ -80,7 +81,7 @@ meets_plain key copies t is =
     at Plain x = one (x.code == key.code) (x.excited == key.excited)
     at Switching x = omega arith
 
-pub meets_switching : (key : Key) (copies : List Tallied) (t : Tally) → IsTally key copies t
+pub meets_switching : (key : Key) (copies : List RoleAndKey) (t : Tally) → IsTally key copies t
     → t.plain ≡ count_by (λ e. are_apart e (Switching, key)) copies
 meets_switching key copies t is = is.plain
     ∙ count_same (λ e. is_plain e.0 && (e.1.code == key.code)) (λ e. are_apart e (Switching, key)) copies
@@ -91,7 +92,7 @@ meets_switching key copies t is = is.plain
     at Plain x = refl
     at Switching x = refl
 
-pub fewer_equal : (key : Key) (copies : List Tallied) (t : Tally) → IsTally key copies t → t.equal ≤ t.plain
+pub fewer_equal : (key : Key) (copies : List RoleAndKey) (t : Tally) → IsTally key copies t → t.equal ≤ t.plain
 fewer_equal key copies t is =
     let less = sum_by-le-sum_by (λ e. cond (is_plain e.0 && equal_keys e.1 key) 1 0)
     (λ e. cond (is_plain e.0 && (e.1.code == key.code)) 1 0) copies
@@ -132,7 +133,7 @@ other_key x y z (inr a) (inr b) other =
     and_false (x.code == z.code) (x.excited == z.excited) (ne_eqb x.excited z.excited (λ same.
     other (let l = a.1 in let m = b.1 in omega arith)))
 
-module _ (from to : Key) (order : IsUpTo from to) (copies : List Tallied) (all : AreUpTo copies from) where
+module _ (from to : Key) (order : IsUpTo from to) (copies : List RoleAndKey) (all : AreUpTo copies from) where
   pub tally_of_code : from.code ≢ to.code → IsTally to copies (record { plain = 0; equal = 0; switching = 0 })
   tally_of_code other = record {
     plain = sym (count_none (λ e. is_plain e.0 && (e.1.code == to.code)) copies
@@ -159,7 +160,7 @@ module _ (from to : Key) (order : IsUpTo from to) (copies : List Tallied) (all :
   }
 
 -- the tally of no copy is that of copies that count nothing
-pub no_tally : (key : Key) (copies : List Tallied) (t : Tally) → IsTally key [] t
+pub no_tally : (key : Key) (copies : List RoleAndKey) (t : Tally) → IsTally key [] t
     → IsTally key copies (record { plain = 0; equal = 0; switching = 0 }) → IsTally key copies t
 no_tally key copies t none is = record {
   plain = none.plain ∙ is.plain;
@@ -167,7 +168,7 @@ no_tally key copies t none is = record {
   switching = none.switching ∙ is.switching;
 }
 
-pub tally_same : (from to : Key) (copies : List Tallied) (t : Tally) → IsTally from copies t → from.code ≡ to.code
+pub tally_same : (from to : Key) (copies : List RoleAndKey) (t : Tally) → IsTally from copies t → from.code ≡ to.code
     → from.excited ≡ to.excited → IsTally to copies t
 tally_same from to copies t is codes excited =
     let same : from ≡ to = λ i. record { code = codes i; excited = excited i } in
@@ -192,13 +193,13 @@ up_to x y sorted = elim (cases_order x.key.code y.key.code) [
 ]
 
 -- ---- one member more
-abbrev pub tallied_to : List Class → Bool → List Member → ℕ → List Tallied
-tallied_to classes b ms i = map (tallied classes b) (take i ms)
+abbrev pub tallied_to : List Class → Bool → List Member → ℕ → List RoleAndKey
+tallied_to classes b ms i = map (role_and_key classes b) (take i ms)
 
 pub tallied_length : (classes : List Class) (b : Bool) (ms : List Member) (i : ℕ) → i < length ms
     → length (tallied_to classes b ms i) ≡ i
 tallied_length classes b ms i inside =
-    length-map (take i ms) (tallied classes b) ∙ length-take-le i ms (omega arith)
+    length-map (take i ms) (role_and_key classes b) ∙ length-take-le i ms (omega arith)
 
 module _ (classes : List Class) (ms : List Member) (i : ℕ) (m : Member) (inside : i < length ms)
     (at : m ≡ get_or ms i m)
@@ -208,31 +209,31 @@ module _ (classes : List Class) (ms : List Member) (i : ℕ) (m : Member) (insid
 
     module _ (key : Key) (key_is : key ≡ m.key) where
       tallied_is : (b : Bool) (role : Role) → role ≡ role_at b (class_of classes m.state)
-          → tallied classes b m ≡ (role, key)
+          → role_and_key classes b m ≡ (role, key)
       tallied_is b role is = sym (λ j. (is j, key_is j))
 
       pub pass_total : (total low high new : ℕ) (at_low at_high : Role)
           → at_low ≡ role_at false (class_of classes m.state) → at_high ≡ role_at true (class_of classes m.state)
-          → total ≡ pair_sum (told_apart classes) (take i ms)
+          → total ≡ pair_sum (stable_count classes) (take i ms)
           → low ≡ count_by (λ e. are_apart e (at_low, key)) (tallied_to classes false ms i)
           → high ≡ count_by (λ e. are_apart e (at_high, key)) (tallied_to classes true ms i)
-          → new ≡ total + (low + high) → new ≡ pair_sum (told_apart classes) (take (i + 1) ms)
+          → new ≡ total + (low + high) → new ≡ pair_sum (stable_count classes) (take (i + 1) ms)
       pass_total total low high new at_low at_high low_is high_is old is_low is_high sum =
-          let more = ap (pair_sum (told_apart classes)) taken in
-          let push = pair_push (told_apart classes) (take i ms) m in
-          let two = sum_two (λ y. cond (are_apart (tallied classes false y) (tallied classes false m)) 1 0)
-          (λ y. cond (are_apart (tallied classes true y) (tallied classes true m)) 1 0) (take i ms) in
+          let more = ap (pair_sum (stable_count classes)) taken in
+          let push = pair_push (stable_count classes) (take i ms) m in
+          let two = sum_two (λ y. cond (are_apart (role_and_key classes false y) (role_and_key classes false m)) 1 0)
+          (λ y. cond (are_apart (role_and_key classes true y) (role_and_key classes true m)) 1 0) (take i ms) in
           let lower = met false at_low low_is in
           let higher = met true at_high high_is in
           omega (arith, more, push, two, lower, higher, old, is_low, is_high, sum)
         where
           met : (b : Bool) (role : Role) → role ≡ role_at b (class_of classes m.state)
               → count_by (λ e. are_apart e (role, key)) (tallied_to classes b ms i)
-              ≡ sum_by (λ y. cond (are_apart (tallied classes b y) (tallied classes b m)) 1 0) (take i ms)
+              ≡ sum_by (λ y. cond (are_apart (role_and_key classes b y) (role_and_key classes b m)) 1 0) (take i ms)
           met b role is =
-              ap (λ (x : Tallied). count_by (λ e. are_apart e x) (tallied_to classes b ms i))
+              ap (λ (x : RoleAndKey). count_by (λ e. are_apart e x) (tallied_to classes b ms i))
               (sym (tallied_is b role is))
-              ∙ sum_map (tallied classes b) (λ e. cond (are_apart e (tallied classes b m)) 1 0) (take i ms)
+              ∙ sum_map (role_and_key classes b) (λ e. cond (are_apart e (role_and_key classes b m)) 1 0) (take i ms)
 
       pub pass_tally : (b : Bool) (role : Role) (t : Tally) → role ≡ role_at b (class_of classes m.state)
           → IsTally key (tallied_to classes b ms i ++ (role, key) ∷ []) t
@@ -240,7 +241,7 @@ module _ (classes : List Class) (ms : List Member) (i : ℕ) (m : Member) (insid
       pass_tally b role t role_is is = subst (λ es. IsTally key es t) (sym all) is
         where
           all : tallied_to classes b ms (i + 1) ≡ tallied_to classes b ms i ++ (role, key) ∷ []
-          all = ap (map (tallied classes b)) taken ∙ map-append (tallied classes b) (take i ms) (m ∷ [])
+          all = ap (map (role_and_key classes b)) taken ∙ map-append (role_and_key classes b) (take i ms) (m ∷ [])
               ∙ ap (λ e. tallied_to classes b ms i ++ e ∷ []) (tallied_is b role role_is)
 
       pub pass_order : (from : Key) → All (λ y. IsUpTo y.key from) (take i ms) → IsUpTo from key
@@ -266,10 +267,10 @@ module _ (classes : List Class) (ms : List Member) (i : ℕ) (m : Member) (insid
       next_key from next = subst (λ k. IsUpTo from k) (ap (λ (x : Member). x.key) (sym at) ∙ sym key_is) (next m inside)
 
 pub tallied_up_to : (classes : List Class) (b : Bool) (ms : List Member) (key : Key)
-    → All (λ y. IsUpTo y.key key) ms → AreUpTo (map (tallied classes b) ms) key
-tallied_up_to classes b ms key all = All-map (λ e. IsUpTo e.1 key) (tallied classes b) ms all
+    → All (λ y. IsUpTo y.key key) ms → AreUpTo (map (role_and_key classes b) ms) key
+tallied_up_to classes b ms key all = All-map (λ e. IsUpTo e.1 key) (role_and_key classes b) ms all
 
-pub few_met : (q : Tallied → Bool) (classes : List Class) (b : Bool) (ms : List Member) (i n : ℕ)
+pub few_met : (q : RoleAndKey → Bool) (classes : List Class) (b : Bool) (ms : List Member) (i n : ℕ)
     → n ≡ count_by q (tallied_to classes b ms i) → i < length ms → n ≤ i
 few_met q classes b ms i n is inside =
     let few = count_by-le-length q (tallied_to classes b ms i) in
@@ -278,7 +279,7 @@ few_met q classes b ms i n is inside =
 
 -- the tally of the members before i, as the next key sees it
 pub tally_at : (classes : List Class) (b : Bool) (ms : List Member) (i : ℕ) (from to : Key) (old new : Tally)
-    → ((copies : List Tallied) → AreUpTo copies from → IsTally from copies old → IsTally to copies new)
+    → ((copies : List RoleAndKey) → AreUpTo copies from → IsTally from copies old → IsTally to copies new)
     → All (λ y. IsUpTo y.key from) (take i ms) → IsTally from (tallied_to classes b ms i) old
     → IsTally to (tallied_to classes b ms i) new
 tally_at classes b ms i from to old new moved order is =

@@ -36,25 +36,25 @@ is_switching Switching = true
 is_switching r = false
 
 -- a copy at some value, by its role and the key of its state
-abbrev pub Tallied : Type 0
-Tallied = Role × Key
+abbrev pub RoleAndKey : Type 0
+RoleAndKey = Role × Key
 
 -- two copies at one value are a conflict, by the new signal or, where it is stable at both, by the
 -- others. Of two at which it may switch this tells nothing.
-abbrev pub are_apart : Tallied → Tallied → Bool
+abbrev pub are_apart : RoleAndKey → RoleAndKey → Bool
 are_apart (Plain, x) (Plain, y) = clashes x y
 are_apart (Plain, x) (Switching, y) = x.code == y.code
 are_apart (Switching, x) (Plain, y) = x.code == y.code
 are_apart (r, x) (s, y) = false
 
-abbrev pub tallied : List Class → Bool → Member → Tallied
-tallied classes value m = (role_at value (class_of classes m.state), m.key)
+abbrev pub role_and_key : List Class → Bool → Member → RoleAndKey
+role_and_key classes value m = (role_at value (class_of classes m.state), m.key)
 
 -- at how many values copies of two states are a conflict so
-abbrev pub told_apart : List Class → Member → Member → ℕ
-told_apart classes x y =
-    (if are_apart (tallied classes false x) (tallied classes false y) then 1 else 0)
-    + (if are_apart (tallied classes true x) (tallied classes true y) then 1 else 0)
+abbrev pub stable_count : List Class → Member → Member → ℕ
+stable_count classes x y =
+    (if are_apart (role_and_key classes false x) (role_and_key classes false y) then 1 else 0)
+    + (if are_apart (role_and_key classes true x) (role_and_key classes true y) then 1 else 0)
 
 -- the sum over all pairs of a list
 abbrev pub pair_sum : {A : Type 0} → (A → A → ℕ) → List A → ℕ
@@ -65,14 +65,14 @@ pair_sum weight (x ∷ xs) = sum_by (weight x) xs + pair_sum weight xs
 abbrev pub IsUpTo : Key → Key → Type 0
 IsUpTo x y = (x.code < y.code) ⊎ ((x.code ≡ y.code) × (x.excited ≤ y.excited))
 
-abbrev pub AreUpTo : List Tallied → Key → Type 0
+abbrev pub AreUpTo : List RoleAndKey → Key → Type 0
 AreUpTo copies key = All (λ e. IsUpTo e.1 key) copies
 
 abbrev pub equal_keys : Key → Key → Bool
 equal_keys x y = (x.code == y.code) && (x.excited == y.excited)
 
 -- the tally of these copies, as a copy with that key sees them
-pub record IsTally (key : Key) (copies : List Tallied) (tally : Tally) : Type 0 where
+pub record IsTally (key : Key) (copies : List RoleAndKey) (tally : Tally) : Type 0 where
   pub plain : tally.plain ≡ count_by (λ e. is_plain e.0 && (e.1.code == key.code)) copies
   pub equal : tally.equal ≡ count_by (λ e. is_plain e.0 && equal_keys e.1 key) copies
   pub switching : tally.switching
@@ -80,7 +80,7 @@ pub record IsTally (key : Key) (copies : List Tallied) (tally : Tally) : Type 0 
 
 -- it is the tally of some copies, and of no more than there are states
 pub record HasTally (key : Key) (tally : Tally) : Type 0 where
-  pub copies : List Tallied
+  pub copies : List RoleAndKey
   pub few : length copies ≤ max_states
   pub is : IsTally key copies tally
 

@@ -9,14 +9,14 @@ use Rattle.si_base.specs.Codes.{CodedGraph, code}
 use Rattle.si_conflicts.specs.declared.keys.Key.{Key}
 
 -- z is no input, and s enables an event of it
-pub record Switches (g : StateGraph) (s z : ℕ) : Type 0 where
+pub record IsExcitedNonInput (g : StateGraph) (s z : ℕ) : Type 0 where
   pub non_input : IsNonInput g.signals z
   pub up : Bool
   pub enabled : enables g s (record { sig = z; up = up }) ≡ true
 
 -- the bits of the number are those of such signals
 abbrev pub AreExcited : StateGraph → ℕ → ℕ → Type 0
-AreExcited g s excited = (z : ℕ) → (bit excited z ≡ true) ↔ Switches g s z
+AreExcited g s excited = (z : ℕ) → (bit excited z ≡ true) ↔ IsExcitedNonInput g s z
 
 -- the key of s
 pub record IsKey (c : CodedGraph) (s : ℕ) (key : Key) : Type 0 where

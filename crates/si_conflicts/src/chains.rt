@@ -13,7 +13,7 @@ use crate::classes::Classes;
 use crate::keys::Key;
 use crate::members::{Member, members};
 use crate::rings::rings;
-use crate::trial::{count_switching, told_apart};
+use crate::trial::{count_stable, count_switching};
 use si_base::ids::{NoMemory, StateId};
 use si_checks::proper::Proper;
 use si_insert::accept::Accepted;
@@ -68,13 +68,13 @@ impl CodeChains {
         requires chains { AreChains graph.now self.now }
         requires count { length (C.classes classes.now) ≡ graph.now.graph.states }
         ensures told { IsTrue result
-            ↔ (pair_sum (Apart.told_apart (C.classes classes.now)) self.now.members < bar) }
+            ↔ (pair_sum (Apart.stable_count (C.classes classes.now)) self.now.members < bar) }
         ensures none { result ≡ false → IsLawful graph.now.graph (C.classes classes.now)
             → (n : ℕ) → LeavesConflicts graph.now (C.classes classes.now) n → bar ≤ n }
     {
         let _given = graph.coded().graph();
         let members = self.members.as_slice();
-        told_apart(members, classes, bar) < bar
+        count_stable(members, classes, bar) < bar
     }
 
     /// How many conflicts the insertion by the partition leaves. The chains stay as they are. It
@@ -93,7 +93,7 @@ impl CodeChains {
         let given = graph.coded().graph();
         let classes = accepted.partition().classes();
         let members = self.members.as_slice();
-        let told = told_apart(members, &classes, u64::MAX);
+        let told = count_stable(members, &classes, u64::MAX);
         let rest = count_switching(alloc, &mut self.scratch, given, classes, members)?;
         Ok(told + rest)
     }
@@ -117,7 +117,7 @@ impl CodeChains {
     {
         let given = graph.coded().graph();
         let members = self.members.as_slice();
-        let told = told_apart(members, &classes, bar);
+        let told = count_stable(members, &classes, bar);
         if told >= bar {
             return Ok(None);
         }

@@ -2,7 +2,8 @@
 
 ghost use Rattle.std.specs.Prelude.{◌≡◌, ◌+◌, ◌<◌, ◌≤◌, ℕ, List, [], ◌∷◌, ◌++◌, count_by};
 ghost use Rattle.si_conflicts.specs.Apart as Apart;
-ghost use Rattle.si_conflicts.specs.Apart.{role_at, are_apart, Tallied, HasTally, IsTally, IsUpTo};
+ghost use Rattle.si_conflicts.specs.Apart.{role_at, are_apart, RoleAndKey, HasTally, IsTally};
+ghost use Rattle.si_conflicts.specs.Apart.{IsUpTo};
 ghost use Rattle.si_conflicts.specs.Apart.{AreUpTo};
 
 use crate::keys::Key;
@@ -66,9 +67,10 @@ impl Tally {
 
     /// The tally for the second key in place of the first, where no copy has a key after the first
     /// and the second isn't before it.
-    pub fn moved(self, from: &Key, to: &Key) -> Tally
+    pub fn for_next_key(self, from: &Key, to: &Key) -> Tally
         requires { IsUpTo from.now to.now }
-        ensures { (copies : List Tallied) → AreUpTo copies from.now → IsTally from.now copies self
+        ensures { (copies : List RoleAndKey) → AreUpTo copies from.now
+            → IsTally from.now copies self
             → IsTally to.now copies result }
     {
         if from.code != to.code {
@@ -83,7 +85,7 @@ impl Tally {
     /// How many of the copies are a conflict with one more of that role.
     pub fn conflicts(self, role: Role, key: &Key) -> u32
         requires { HasTally key.now self }
-        ensures { (copies : List Tallied) → IsTally key.now copies self
+        ensures { (copies : List RoleAndKey) → IsTally key.now copies self
             → result ≡ count_by (λ e. are_apart e (role, key.now)) copies }
     {
         let _ = key;
@@ -97,7 +99,7 @@ impl Tally {
     /// The tally with that copy.
     pub fn with(self, role: Role, key: &Key) -> Tally
         requires { HasTally key.now self }
-        ensures { (copies : List Tallied) → IsTally key.now copies self
+        ensures { (copies : List RoleAndKey) → IsTally key.now copies self
             → IsTally key.now (copies ++ (role, key.now) ∷ []) result }
     {
         let _ = key;

@@ -23,14 +23,14 @@ use std::alloc::Global;
 
 /// How many pairs of copies are a conflict that the new signal shows, or the others where it is
 /// stable. It ends as soon as they are `bar`.
-pub fn told_apart<C: Classes>(members: &[Member], classes: &C, bar: u64) -> u64
+pub fn count_stable<C: Classes>(members: &[Member], classes: &C, bar: u64) -> u64
     requires few { length members.now ≤ max_states }
     requires sorted { IsSorted member_cmp members.now }
     requires within { All (λ m. m.state < length (C.classes classes.now)) members.now }
     ensures all { result < bar
-        → result ≡ pair_sum (Apart.told_apart (C.classes classes.now)) members.now }
+        → result ≡ pair_sum (Apart.stable_count (C.classes classes.now)) members.now }
     ensures more { bar ≤ result
-        → bar ≤ pair_sum (Apart.told_apart (C.classes classes.now)) members.now }
+        → bar ≤ pair_sum (Apart.stable_count (C.classes classes.now)) members.now }
     ensures few { result ≤ 2 * max_states * max_states }
 {
     let mut low = Tally::none();
@@ -44,8 +44,8 @@ pub fn told_apart<C: Classes>(members: &[Member], classes: &C, bar: u64) -> u64
         let class = classes.class(m.state);
         let at_low = Role::of(class, false);
         let at_high = Role::of(class, true);
-        low = low.moved(&key, &m.key);
-        high = high.moved(&key, &m.key);
+        low = low.for_next_key(&key, &m.key);
+        high = high.for_next_key(&key, &m.key);
         key = m.key;
         total += low.conflicts(at_low, &key) as u64 + high.conflicts(at_high, &key) as u64;
         if total >= bar {

@@ -5,7 +5,7 @@ use Rattle.si_insert.specs.declared.partition.Class.{Class}
 use Rattle.si_insert.specs.declared.partition.Class.TheVariants.{Low, Rising, High, Falling}
 use Rattle.si_insert.specs.Partition.{may_lead}
 use Rattle.si_insert.specs.Insertion.{has_copy}
-use Rattle.si_insert.proofs.WaitingClass.{waiting}
+use Rattle.si_insert.proofs.PairWaiting.{waiting}
 use Rattle.si_divisor.specs.Laws.{to_one}
 
 pub at_each : (P : Bool → Type 0) → P false → P true → (b : Bool) → P b

@@ -2,7 +2,7 @@
 use Rattle.std.proofs.Common.{length, refl, sym, ap, ◌∙◌}
 use Rattle.si_divisor.specs.DivisorLaws.{DivisorsAreUnique, PinsExist, DivisorsExist}
 use Rattle.si_divisor.specs.Divisors.{divisors_of}
-use Rattle.si_divisor.proofs.CubesExist.{some_cubes}
+use Rattle.si_divisor.proofs.PinCubesExist.{some_cubes}
 use Rattle.si_divisor.proofs.PinLemmas.{are_pins, one_list, pins}
 
 pub one_divisors : DivisorsAreUnique

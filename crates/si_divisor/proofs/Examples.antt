@@ -16,8 +16,8 @@ use Rattle.si_divisor.specs.declared.fault.NoPartition.TheVariants.{Unforced, Co
 use Rattle.si_divisor.specs.Targets.{forced_by, target}
 use Rattle.si_cell.specs.Library.{Cell, Library, Instance, instance_value}
 use Rattle.si_divisor.specs.PartitionFor.{Sets, AreSets, class_by, IsPartitionFor, ShowsNone}
-use Rattle.si_divisor.proofs.UniqueAnswers.{one_partition}
-use Rattle.si_divisor.proofs.Testing.{settles_if, switches_if, each_member, each_at, targets_if}
+use Rattle.si_divisor.proofs.OnePartitionFor.{one_partition}
+use Rattle.si_divisor.proofs.SwitchingTests.{settles_if, switches_if, each_member, each_at, targets_if}
 
 abbrev plain : ℕ → Literal
 plain a = record { sig = a; plain = true }

@@ -1,29 +1,29 @@
 pub mod CompletionLemmas
 pub mod DivisorLemmas
 pub mod PinLemmas
-pub mod RegionCubes
-pub mod CubesExist
-pub mod ChoiceLemmas
+pub mod PinRegionCubes
+pub mod PinCubesExist
+pub mod DivisorChoices
 mod DivisorExamples
 mod FunctionExamples
 mod ManyFunctionExamples
-pub mod Sets
+pub mod TargetSets
 pub mod ClassCases
-pub mod RuleLemmas
+pub mod SwitchingRules
 pub mod PartitionLemmas
-pub mod UniqueAnswers
-pub mod WorkLemmas
-pub mod TurnLemmas
+pub mod OnePartitionFor
+pub mod WorkListLemmas
+pub mod SwitchingTurns
 pub mod SameForced
-pub mod AnswerLemmas
+pub mod PartitionForAnswers
 pub mod FunctionLemmas
 pub mod SameFunction
-pub mod FillLemmas
-pub mod OutsideLemmas
+pub mod ForcedFill
+pub mod SwitchingOutside
 pub mod ManyFunctionLemmas
-pub mod InstanceLemmas
+pub mod InstanceLaws
 pub mod DivisorsExist
-pub mod LeastExists
+pub mod TargetLeastExists
 pub mod PartitionExists
-mod Testing
+mod SwitchingTests
 mod Examples

@@ -29,9 +29,9 @@ use Rattle.si_divisor.specs.ManyFunctions.{AreForcedWords, AreHeldWords, AreOppo
 use Rattle.si_divisor.specs.PartitionFor.{IsPartitionFor, HasNone}
 use Rattle.si_divisor.specs.Targets.{IsLeast, Settles, AreForced, AreSettled, HaveTargets}
 use Rattle.si_divisor.specs.Targets.{forced_by, forced_in, holds}
-use Rattle.si_divisor.proofs.AnswerLemmas.{none_carried, partition_carried, lawful_carried}
-use Rattle.si_divisor.proofs.OutsideLemmas.{none_without_targets}
-use Rattle.si_divisor.proofs.TurnLemmas.{closure_settles}
+use Rattle.si_divisor.proofs.PartitionForAnswers.{none_carried, partition_carried, lawful_carried}
+use Rattle.si_divisor.proofs.SwitchingOutside.{none_without_targets}
+use Rattle.si_divisor.proofs.SwitchingTurns.{closure_settles}
 
 -- ---- bits
 below_two : (n : ℕ) → n < 2 → (n ≡ 0) ⊎ (n ≡ 1)

@@ -12,11 +12,11 @@ use Rattle.si_insert.specs.declared.partition.Class.TheVariants.{Low}
 use Rattle.si_divisor.specs.declared.fault.NoPartition.{NoPartition}
 use Rattle.si_divisor.specs.declared.fault.NoPartition.TheVariants.{NoMemory, Unforced, Contradiction, LeavesForced}
 use Rattle.si_divisor.specs.declared.fault.NoPartition.TheVariants.{Constant}
-use Rattle.si_divisor.specs.Targets.{AreSettled, IsUnforced, IsTorn, target}
+use Rattle.si_divisor.specs.Targets.{AreSettled, IsUnforced, SettlesAtBoth, target}
 use Rattle.si_divisor.specs.PartitionFor.{Sets, AreSets, Leaves, HasSome, class_by, IsPartitionFor, state_place}
 use Rattle.si_divisor.specs.Laws.{IsReason, PartitionsExist}
-use Rattle.si_divisor.proofs.Sets.{in_within}
-use Rattle.si_divisor.proofs.LeastExists.{first_below, is_in, either, some_settled, some_switching}
+use Rattle.si_divisor.proofs.TargetSets.{in_within}
+use Rattle.si_divisor.proofs.TargetLeastExists.{first_below, is_in, either, some_settled, some_switching}
 
 -- the first state with P, where all with P are below n
 first_or_none : (P : ℕ → Type 0) (n : ℕ) → ((s : ℕ) → Decided (P s)) → ((s : ℕ) → P s → s < n)
@@ -44,7 +44,7 @@ module _ (g : StateGraph) (graph : IsGraph g) (forced : Bool → ℕ → Bool) w
         | inr none ↦ inr (λ u. none (u.within, (u.not_one, u.not_zero)))
       ]
 
-  torn : (ones zeros : List Bool) (s : ℕ) → Decided (IsTorn ones zeros s)
+  torn : (ones zeros : List Bool) (s : ℕ) → Decided (SettlesAtBoth ones zeros s)
   torn ones zeros s = elim (decide.both (is_in ones s) (is_in zeros s)) [
     | inl is ↦ inl (record { one = is.0; zero = is.1 })
     | inr none ↦ inr (λ t. none (t.one, t.zero))
@@ -105,7 +105,7 @@ module _ (g : StateGraph) (graph : IsGraph g) (forced : Bool → ℕ → Bool) w
           Unforced s,
           record { known = λ (h : Unforced s ≡ NoMemory). cc; shows = (ones, zeros, are, first) },
         )
-        | inr some ↦ elim (first_or_none (IsTorn ones zeros) g.states (torn ones zeros) below) [
+        | inr some ↦ elim (first_or_none (SettlesAtBoth ones zeros) g.states (torn ones zeros) below) [
           | inl (s, first) ↦ inr (
             Contradiction s,
             record {
@@ -125,7 +125,7 @@ module _ (g : StateGraph) (graph : IsGraph g) (forced : Bool → ℕ → Bool) w
         ]
       ]
     where
-      below : (s : ℕ) → IsTorn ones zeros s → s < g.states
+      below : (s : ℕ) → SettlesAtBoth ones zeros s → s < g.states
       below s t = let k = in_within ones s t.one in omega (arith, k, are.at_one.size)
 
   pub some_answer : Answer

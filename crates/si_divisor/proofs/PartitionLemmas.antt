@@ -10,14 +10,14 @@ use Rattle.si_insert.specs.declared.partition.Class.{Class}
 use Rattle.si_insert.specs.declared.partition.Class.TheVariants.{Low, Rising, High, Falling}
 use Rattle.si_insert.specs.Partition.{class_of}
 use Rattle.si_insert.specs.Insertion.{has_copy}
-use Rattle.si_insert.proofs.Accepting.{accepts_at_tests}
+use Rattle.si_insert.proofs.AcceptedByTests.{accepts_at_tests}
 use Rattle.si_divisor.specs.Targets.{forced_by, target}
 use Rattle.si_divisor.specs.Switching.{Switches}
 use Rattle.si_divisor.specs.PartitionFor.{class_for, IsPartitionFor}
 use Rattle.si_divisor.specs.Laws.{to_one, AreClassed, Passes, InstancesFit, PartitionsAreLawful, PartitionsAreAccepted}
 use Rattle.si_divisor.specs.Laws.{PartitionsAreLeast}
-use Rattle.si_divisor.proofs.Sets.{least_within, in_or_not}
-use Rattle.si_divisor.proofs.RuleLemmas.{switches_at, rules_are_acceptance}
+use Rattle.si_divisor.proofs.TargetSets.{least_within, in_or_not}
+use Rattle.si_divisor.proofs.SwitchingRules.{switches_at, rules_are_acceptance}
 
 -- what the truth values of the sets say of the class
 rising_if : (minus one : Bool) → class_for true minus one ≡ Rising

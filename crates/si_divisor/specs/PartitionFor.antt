@@ -8,7 +8,8 @@ use Rattle.si_graph.specs.Reach.{IsIn}
 use Rattle.si_insert.specs.declared.partition.Class.{Class}
 use Rattle.si_insert.specs.declared.partition.Class.TheVariants.{Low, Rising, High, Falling}
 use Rattle.si_insert.specs.Partition.{class_of, IsLawful}
-use Rattle.si_divisor.specs.Targets.{IsLeast, AreSettled, IsUnforced, IsTorn, HaveTargets, target}
+use Rattle.si_divisor.specs.Targets.{IsLeast, AreSettled, IsUnforced, SettlesAtBoth, HaveTargets}
+use Rattle.si_divisor.specs.Targets.{target}
 use Rattle.si_divisor.specs.Targets.{forced_by}
 use Rattle.si_divisor.specs.Switching.{Switches}
 use Rattle.si_divisor.specs.declared.fault.NoPartition.{NoPartition}
@@ -84,7 +85,7 @@ ShowsNone g forced (Unforced s) =
     × IsFirst state_place (IsUnforced g ones zeros) s
 ShowsNone g forced (Contradiction s) =
     (ones : List Bool) × (zeros : List Bool) × AreSettled g forced ones zeros
-    × ((t : ℕ) → IsUnforced g ones zeros t → ⊥) × IsFirst state_place (IsTorn ones zeros) s
+    × ((t : ℕ) → IsUnforced g ones zeros t → ⊥) × IsFirst state_place (SettlesAtBoth ones zeros) s
 ShowsNone g forced (LeavesForced s) =
     (x : Sets) × AreSets g forced x × IsFirst state_place (Leaves forced x) s
 ShowsNone g forced Constant =

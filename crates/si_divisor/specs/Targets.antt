@@ -60,14 +60,14 @@ pub record IsUnforced (g : StateGraph) (ones zeros : List Bool) (s : ℕ) : Type
   pub not_zero : IsIn zeros s → ⊥
 
 -- s settles at both
-pub record IsTorn (ones zeros : List Bool) (s : ℕ) : Type 0 where
+pub record SettlesAtBoth (ones zeros : List Bool) (s : ℕ) : Type 0 where
   pub one : IsIn ones s
   pub zero : IsIn zeros s
 
 -- each state settles at just one value
 pub record HaveTargets (g : StateGraph) (ones zeros : List Bool) : Type 0 where
   pub some : (s : ℕ) → IsUnforced g ones zeros s → ⊥
-  pub one : (s : ℕ) → IsTorn ones zeros s → ⊥
+  pub one : (s : ℕ) → SettlesAtBoth ones zeros s → ⊥
 
 -- then its target is 1 where it settles at 1
 abbrev pub target : List Bool → ℕ → Bool

@@ -72,7 +72,7 @@ pub record IsAfterInput (g : StateGraph) (s t : ℕ) : Type 0 where
   pub input : IsInput g.signals e.sig
 
 -- a diamond with s, t, u and w
-pub record Joins (g : StateGraph) (s t u w : ℕ) : Type 0 where
+pub record HasDiamond (g : StateGraph) (s t u w : ℕ) : Type 0 where
   pub a : Event
   pub c : Event
   pub diamond : Diamond g s a c t u w
@@ -81,13 +81,13 @@ pub record Joins (g : StateGraph) (s t u w : ℕ) : Type 0 where
 pub record ExitsLow (g : StateGraph) (target : ℕ → Bool) (b : Bool) (u w : ℕ) : Type 0 where
   pub s : ℕ
   pub t : ℕ
-  pub joins : Joins g s t u w
+  pub joins : HasDiamond g s t u w
   pub low : target s ≡ not b
 
 -- w ends a diamond with t and u
 pub record ExitsBoth (g : StateGraph) (t u w : ℕ) : Type 0 where
   pub s : ℕ
-  pub joins : Joins g s t u w
+  pub joins : HasDiamond g s t u w
 
 -- the rules in the form that a list of work needs: that s is a member needs no look, since u is one
 pub data SwitchRule (g : StateGraph) (target : ℕ → Bool) (b : Bool) (ps : List ℕ)
@@ -100,13 +100,15 @@ pub data SwitchRule (g : StateGraph) (target : ℕ → Bool) (b : Bool) (ps : Li
   Both : (u t : ℕ) (two : ps ≡ u ∷ t ∷ []) (is : ExitsBoth g t u w) → SwitchRule g target b ps w
 
 -- what a turn at x has to mark, beside marks
-pub data Follows (g : StateGraph) (target : ℕ → Bool) (b : Bool) (marks : List Bool)
+pub data FollowsByRule (g : StateGraph) (target : ℕ → Bool) (b : Bool) (marks : List Bool)
     (x w : ℕ) : Type 0 where
-  BeforeIt : (is : IsBefore g target b x w) → Follows g target b marks x w
-  AfterIt : (is : IsAfterInput g x w) → Follows g target b marks x w
-  AtExit : (is : ExitsLow g target b x w) → Follows g target b marks x w
-  WithFirst : (t : ℕ) (there : IsIn marks t) (is : ExitsBoth g t x w) → Follows g target b marks x w
-  WithOther : (u : ℕ) (there : IsIn marks u) (is : ExitsBoth g x u w) → Follows g target b marks x w
+  BeforeIt : (is : IsBefore g target b x w) → FollowsByRule g target b marks x w
+  AfterIt : (is : IsAfterInput g x w) → FollowsByRule g target b marks x w
+  AtExit : (is : ExitsLow g target b x w) → FollowsByRule g target b marks x w
+  WithFirst : (t : ℕ) (there : IsIn marks t) (is : ExitsBoth g t x w)
+      → FollowsByRule g target b marks x w
+  WithOther : (u : ℕ) (there : IsIn marks u) (is : ExitsBoth g x u w)
+      → FollowsByRule g target b marks x w
 
 -- ---- in the turns of the loop, for targets that are a set
 -- t is in each set that meets the rules
@@ -117,8 +119,8 @@ abbrev pub AllBelong : StateGraph → List Bool → Bool → List Bool → Type 
 AllBelong g ones b marks = (t : ℕ) → IsIn marks t → Belongs g ones b t
 
 -- a state that is in each set that meets the rules isn't in this one
-abbrev pub Strays : StateGraph → List Bool → Bool → List Bool → Type 0
-Strays g ones b set = (s : ℕ) × Belongs g ones b s × (slice_index_or set s false ≡ false)
+abbrev pub OmitsState : StateGraph → List Bool → Bool → List Bool → Type 0
+OmitsState g ones b set = (s : ℕ) × Belongs g ones b s × (slice_index_or set s false ≡ false)
 
 -- an arc of the list by e leads to w
 pub record IsTargetBy (arcs : List Edge) (e : Event) (w : ℕ) : Type 0 where

@@ -10,7 +10,7 @@ ghost use Rattle.si_divisor.specs.PartitionFor.{LeavesAt, HasSome, class_for, Is
 ghost use Rattle.si_divisor.specs.PartitionFor.{HasNone, state_place, ShowsNone};
 
 use crate::fault::NoPartition;
-use crate::settled::{Settled, first_torn, first_unforced, holding, settled_states};
+use crate::settled::{Settled, first_settled_at_both, first_unforced, holding, settled_states};
 use crate::switching::{switching, switching_within};
 use si_base::ids::{NoMemory, StateId};
 use si_base::sets::StateSet;
@@ -121,7 +121,7 @@ pub(crate) fn classes_for(
     if let Some(s) = first_unforced(graph, &ones, &zeros) {
         return Err(NoPartition::Unforced { s });
     }
-    if let Some(s) = first_torn(&ones, &zeros) {
+    if let Some(s) = first_settled_at_both(&ones, &zeros) {
         return Err(NoPartition::Contradiction { s });
     }
     let plus = switching(alloc, graph, &ones, true)?;

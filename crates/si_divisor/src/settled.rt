@@ -4,7 +4,8 @@ ghost use Rattle.std.specs.Prelude.{◌≡◌, ℕ, ◌<◌, ◌↔◌, IfOk, Is
 ghost use Rattle.std.specs.Prelude.{slice_index_or, false};
 ghost use Rattle.si_base.specs.Order.{IsFirst};
 ghost use Rattle.si_base.specs.Graph.{IsGraph};
-ghost use Rattle.si_divisor.specs.Targets.{AreHeld, AreSettled, IsTorn, IsUnforced, forced_in};
+ghost use Rattle.si_divisor.specs.Targets.{AreHeld, AreSettled, SettlesAtBoth, IsUnforced};
+ghost use Rattle.si_divisor.specs.Targets.{forced_in};
 ghost use Rattle.si_divisor.specs.Targets.{holds};
 ghost use Rattle.si_divisor.specs.PartitionFor.{state_place};
 
@@ -94,16 +95,16 @@ pub(crate) fn first_unforced(graph: &Graph, ones: &StateSet, zeros: &StateSet) -
 fn in_both(x: &StateSet, y: &StateSet, s: StateId) -> bool
     requires x { s < length x.now }
     requires y { s < length y.now }
-    ensures { IsTrue result ↔ IsTorn x.now y.now s }
+    ensures { IsTrue result ↔ SettlesAtBoth x.now y.now s }
 {
     x.has(s) && y.has(s)
 }
 
 /// The first state that settles at both values.
-pub(crate) fn first_torn(ones: &StateSet, zeros: &StateSet) -> Option<StateId>
+pub(crate) fn first_settled_at_both(ones: &StateSet, zeros: &StateSet) -> Option<StateId>
     requires { length zeros.now ≡ length ones.now }
-    ensures { MatchOption result ((t : ℕ) → IsTorn ones.now zeros.now t → ⊥)
-        (IsFirst state_place (IsTorn ones.now zeros.now)) }
+    ensures { MatchOption result ((t : ℕ) → SettlesAtBoth ones.now zeros.now t → ⊥)
+        (IsFirst state_place (SettlesAtBoth ones.now zeros.now)) }
 {
     for s in 0..ones.size() {
         if in_both(ones, zeros, StateId(s)) {

@@ -8,7 +8,7 @@ ghost use Rattle.si_base.specs.Sets.{IsSubset};
 ghost use Rattle.si_graph.specs.Reach.{IsIn, Marks, MarksAll};
 ghost use Rattle.si_divisor.specs.Targets.{IsLeast, target};
 ghost use Rattle.si_divisor.specs.Switching.{Switches};
-ghost use Rattle.si_divisor.specs.WorkList.{Works, SwitchRule, Strays, Belongs, AllBelong};
+ghost use Rattle.si_divisor.specs.WorkList.{Works, SwitchRule, OmitsState, Belongs, AllBelong};
 ghost use Rattle.si_divisor.specs.WorkList.{IsTargetBy, MayExit, ExitsDone, ExitsBothWays};
 ghost use Rattle.si_divisor.specs.WorkList.{FollowsInto, IsAfterInput, IsCrossed};
 
@@ -283,7 +283,7 @@ pub(crate) fn switching_within(
     requires ones { length ones.now ≡ graph.now.states }
     requires within { length within.now ≡ graph.now.states }
     ensures { IfOk result (λ found. MatchOption found
-        (Strays graph.now ones.now b within.now)
+        (OmitsState graph.now ones.now b within.now)
         (λ set. IsLeast graph.now.states (Switches graph.now (target ones.now) b) set
         × IsSubset set within.now)) }
 {

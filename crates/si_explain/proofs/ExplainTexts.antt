@@ -5,7 +5,7 @@ use Rattle.si_base.specs.Codes.{CodedGraph, IsCoded}
 use Rattle.si_base.specs.Proper.{IsConflict}
 use Rattle.si_conflicts.specs.Conflicts.{AreFirstConflicts}
 use Rattle.si_conflicts.proofs.ConflictsExist.{some_count, some_first}
-use Rattle.si_conflicts.proofs.Counted.{one_count, first_unique}
+use Rattle.si_conflicts.proofs.OneConflictList.{one_count, first_unique}
 use Rattle.si_graph.proofs.MemberLemmas.{Contains-cons_cases, Contains-here, Contains-there, Contains-nil}
 use Rattle.si_walks.specs.declared.arcs.Arcs.TheVariants.{All}
 use Rattle.si_walks.specs.Joined.{Source, IsSourceOrNone, IsJoinedConflict}

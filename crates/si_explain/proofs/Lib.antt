@@ -1,5 +1,5 @@
 pub mod EventLemmas
-pub mod TextLemmas
+pub mod ExplainLines
 pub mod ExplainTexts
-pub mod Unresolved
+pub mod ExplainUnresolved
 mod Examples

@@ -4,7 +4,7 @@ use Rattle.si_base.specs.Codes.{CodedGraph, IsCoded}
 use Rattle.si_base.specs.Proper.{IsConflict}
 use Rattle.si_insert.specs.declared.lineage.TraceStep.{TraceStep}
 use Rattle.si_insert.specs.Lineage.{Current, IsLineage}
-use Rattle.si_resolve.specs.Trace.{ResolvesTo, EndsUnresolved}
+use Rattle.si_resolve.specs.Trace.{EndsResolved, EndsUnresolved}
 use Rattle.si_walks.specs.Joined.{Source, IsJoinedConflict}
 use Rattle.si_explain.specs.ExplainText.{Explained, IsExplained, IsExplainText}
 
@@ -32,7 +32,7 @@ NoSourceShowsNone = (c : CodedGraph) (x : Explained)
 abbrev pub JoinedNeverResolve : Type 0
 JoinedNeverResolve = (given : CodedGraph) (before trace : List TraceStep) (v w : Current)
     (pair : ℕ × ℕ)
-    → IsLineage given before v → IsJoinedConflict given pair → ResolvesTo v trace w → ⊥
+    → IsLineage given before v → IsJoinedConflict given pair → EndsResolved v trace w → ⊥
 
 -- one ends unresolved
 abbrev pub JoinedEndUnresolved : Type 0

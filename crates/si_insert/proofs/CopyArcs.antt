@@ -18,8 +18,9 @@ use Rattle.si_insert.specs.declared.partition.Class.{Class}
 use Rattle.si_insert.specs.declared.partition.Class.TheVariants.{Low, Rising, High, Falling}
 use Rattle.si_insert.specs.Partition.{class_of}
 use Rattle.si_insert.specs.Insertion.{Copy}
-use Rattle.si_insert.specs.Made.{copies_from, goes, moved, out_of, copied_edges, switches, switch_edges}
-use Rattle.si_insert.specs.Made.{edges_from}
+use Rattle.si_insert.specs.GraphOfCopies.{copies_from, edge_has_copy, copied_edge, out_of, copied_edges, switches}
+use Rattle.si_insert.specs.GraphOfCopies.{switch_edges}
+use Rattle.si_insert.specs.GraphOfCopies.{edges_from}
 
 -- ---- the loops
 -- the arcs that a graph hands out for a state
@@ -42,11 +43,11 @@ out_within g s arcs k a out within item =
 -- where a loop over them ends, all are copied
 pub all_copied : (g : StateGraph) (classes : List Class) (x : Copy) (arcs : List Edge) (k : ℕ) (initial new : List Edge)
     → AreOut g x.state arcs → length arcs ≤ k
-    → new ≡ initial ++ map (moved classes x.value) (filter (goes classes x.value) (take k arcs))
+    → new ≡ initial ++ map (copied_edge classes x.value) (filter (edge_has_copy classes x.value) (take k arcs))
     → new ≡ initial ++ copied_edges g classes x
 all_copied g classes x arcs k initial new out last made =
     let copies : List Edge → List Edge =
-    λ xs. initial ++ map (moved classes x.value) (filter (goes classes x.value) xs) in
+    λ xs. initial ++ map (copied_edge classes x.value) (filter (edge_has_copy classes x.value) xs) in
     made ∙ ap copies (take_all k arcs last ∙ out_is g x.state arcs out)
 
 -- ---- how many
@@ -88,8 +89,8 @@ few_at : (g : StateGraph) (classes : List Class) (x : Copy)
     → length (edges_from g classes x) ≤ length (out_of g x.state) + 1
 few_at g classes x =
     let both = length-append (copied_edges g classes x) (switch_edges g classes x) in
-    let copied = length-map (filter (goes classes x.value) (out_of g x.state)) (moved classes x.value) in
-    let fewer = filtered_few (goes classes x.value) (out_of g x.state) in
+    let copied = length-map (filter (edge_has_copy classes x.value) (out_of g x.state)) (copied_edge classes x.value) in
+    let fewer = filtered_few (edge_has_copy classes x.value) (out_of g x.state) in
     let one : length (switch_edges g classes x) ≤ 1 =
     elim (cases_Bool (switches (not x.value) (class_of classes x.state))) [
       | inl yes_x ↦ rw yes_x (omega arith)

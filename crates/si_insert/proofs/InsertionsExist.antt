@@ -13,11 +13,11 @@ use Rattle.si_insert.specs.declared.partition.Class.{Class}
 use Rattle.si_insert.specs.Accepted.{IsAccepted, copy_count}
 use Rattle.si_insert.specs.Fresh.{IsTaken, IsFresh}
 use Rattle.si_insert.specs.Insertion.{IsInsertedGraph, new_signal}
-use Rattle.si_insert.specs.Lineage.{Current, Inserts, grown}
-use Rattle.si_insert.specs.Made.{CanBeMade, copies_of, new_edges, new_start}
-use Rattle.si_insert.proofs.Applying.{can_be_made, applied}
+use Rattle.si_insert.specs.Lineage.{Current, Inserts, next_current}
+use Rattle.si_insert.specs.GraphOfCopies.{CanBeMade, copies_of, new_edges, new_start}
+use Rattle.si_insert.proofs.ApplyLemmas.{can_be_made, applied}
 use Rattle.si_insert.proofs.OneFreshName.{some_fresh}
-use Rattle.si_insert.proofs.TraceLemmas.{coded_next}
+use Rattle.si_insert.proofs.LineageTraces.{coded_next}
 
 -- ---- the inserted graph
 module _ (c : CodedGraph) (classes : List Class) (name : List ℕ) (coded : IsCoded c)
@@ -76,7 +76,7 @@ pub some_next : (v : Current) (p : TraceStep) → IsCoded v.coded → IsAccepted
 some_next v p coded accepted free =
     let made = some_insertion v.coded p.partition p.name coded accepted free in
     let copies = copies_of p.partition in (
-      grown v copies made.0,
+      next_current v copies made.0,
       record {
         inserts = record {
           accepted = accepted;

@@ -25,12 +25,13 @@ use Rattle.si_insert.specs.declared.partition.Class.TheVariants.{Low, Rising, Hi
 use Rattle.si_insert.specs.Partition.{class_of}
 use Rattle.si_insert.specs.Accepted.{copy_count}
 use Rattle.si_insert.specs.Insertion.{Copy, IsCopy, copy_cmp}
-use Rattle.si_insert.specs.Made.{copies_of, second, place, goes, moved, out_of, copied_edges, switches, switched}
-use Rattle.si_insert.specs.Made.{switch_edges, edges_from, new_edges}
-use Rattle.si_insert.proofs.Copies.{before_itself}
+use Rattle.si_insert.specs.GraphOfCopies.{copies_of, copies_before, place, edge_has_copy, copied_edge, out_of}
+use Rattle.si_insert.specs.GraphOfCopies.{copied_edges, switches, switch_edge}
+use Rattle.si_insert.specs.GraphOfCopies.{switch_edges, edges_from, new_edges}
+use Rattle.si_insert.proofs.InsertionCopies.{before_itself}
 use Rattle.si_insert.proofs.FlatMaps.{Contains-from_flat_map}
-use Rattle.si_insert.proofs.Making.{at_place, exactly, in_order, only_switch}
-use Rattle.si_insert.proofs.OneGraph.{strict}
+use Rattle.si_insert.proofs.ApplyInserts.{at_place, exactly, in_order, only_switch}
+use Rattle.si_insert.proofs.OneInsertion.{strict}
 
 -- ---- lists in order
 module _ {K : Type 0} (c : K → K → Ordering) where
@@ -95,7 +96,7 @@ module _ {X K : Type 0} (o : X → X → Ordering) (c : K → K → Ordering) wh
       ]
 
 -- ---- places
-second_small : (c : Class) (b : Bool) → second c b < copy_count (c ∷ [])
+second_small : (c : Class) (b : Bool) → copies_before c b < copy_count (c ∷ [])
 second_small Low b = omega arith
 second_small High b = omega arith
 second_small Rising true = omega arith
@@ -149,33 +150,34 @@ by_event : (a b : Edge) → a.from ≡ b.from → ordering_then (event_cmp a.eve
 by_event a b same rest = rw (same, nat_same b.from) rest
 
 moved_less : (classes : List Class) (v : Bool) (a b : Edge) → a.from ≡ b.from → b.to < length classes
-    → edge_cmp a b ≡ Less → edge_cmp (moved classes v a) (moved classes v b) ≡ Less
+    → edge_cmp a b ≡ Less → edge_cmp (copied_edge classes v a) (copied_edge classes v b) ≡ Less
 moved_less classes v a b same within less =
     let from : place classes a.from v ≡ place classes b.from v = ap (λ (s : ℕ). place classes s v) same in
     elim (then_Less (nat_cmp a.from b.from) (ordering_then (event_cmp a.event b.event) (nat_cmp a.to b.to)) less) [
       | inl before ↦ (let low = nat_less a.from b.from before in absurd (omega (arith, low, same)))
       | inr rest ↦ elim (then_Less (event_cmp a.event b.event) (nat_cmp a.to b.to) rest.1) [
-        | inl event ↦ by_event (moved classes v a) (moved classes v b) from (rw event refl)
+        | inl event ↦ by_event (copied_edge classes v a) (copied_edge classes v b) from (rw event refl)
         | inr last ↦
             (let low = place_less classes a.to b.to v v (nat_less a.to b.to last.1) within in
             let to = less_nat (place classes a.to v) (place classes b.to v) low in
-            by_event (moved classes v a) (moved classes v b) from (rw (last.0, to) refl))
+            by_event (copied_edge classes v a) (copied_edge classes v b) from (rw (last.0, to) refl))
       ]
     ]
 
 module _ (g : StateGraph) (classes : List Class) (graph : IsGraph g) (count : length classes ≡ g.states) where
-  out_there : (x : Copy) (a : Edge) → Contains (filter (goes classes x.value) (out_of g x.state)) a
+  out_there : (x : Copy) (a : Edge) → Contains (filter (edge_has_copy classes x.value) (out_of g x.state)) a
       → (a.from ≡ x.state) × (a.event.sig < length g.signals) × (a.to < length classes)
   out_there x a there =
-      let goes_there = Contains-from_filter (goes classes x.value) (out_of g x.state) a there in
+      let goes_there = Contains-from_filter (edge_has_copy classes x.value) (out_of g x.state) a there in
       let out = Contains-from_filter (λ (d : Edge). d.from == x.state) g.edges a goes_there.0 in
       let parts = step_within g a.from a.event a.to graph out.0 in
       (eqb-true a.from x.state out.1, parts.1, omega (arith, parts.2, count))
 
   copied_sorted : (x : Copy) → IsStrictlySortedBy edge_cmp (copied_edges g classes x)
   copied_sorted x =
-      sorted_map edge_cmp edge_cmp (moved classes x.value) (filter (goes classes x.value) (out_of g x.state))
-      (IsStrictlySortedBy-filter edge_cmp (goes classes x.value) (out_of g x.state)
+      sorted_map edge_cmp edge_cmp (copied_edge classes x.value)
+      (filter (edge_has_copy classes x.value) (out_of g x.state))
+      (IsStrictlySortedBy-filter edge_cmp (edge_has_copy classes x.value) (out_of g x.state)
       (IsStrictlySortedBy-filter edge_cmp (λ (d : Edge). d.from == x.state) g.edges graph.ordered))
       (λ a b in_a in_b less.
       (let p = out_there x a in_a in
@@ -184,7 +186,7 @@ module _ (g : StateGraph) (classes : List Class) (graph : IsGraph g) (count : le
 
   switch_sorted : (x : Copy) → IsStrictlySortedBy edge_cmp (switch_edges g classes x)
   switch_sorted x = elim (cases_Bool (switches (not x.value) (class_of classes x.state))) [
-    | inl yes_x ↦ rw yes_x (sorted_one edge_cmp (switched classes (length g.signals) x))
+    | inl yes_x ↦ rw yes_x (sorted_one edge_cmp (switch_edge classes (length g.signals) x))
     | inr no_x ↦ rw no_x (sorted_none edge_cmp)
   ]
 
@@ -192,13 +194,14 @@ module _ (g : StateGraph) (classes : List Class) (graph : IsGraph g) (count : le
   switch_last : (x : Copy) (a b : Edge) → Contains (copied_edges g classes x) a → Contains (switch_edges g classes x) b
       → edge_cmp a b ≡ Less
   switch_last x a b in_a in_b =
-      let d = Contains-from_map (moved classes x.value) (filter (goes classes x.value) (out_of g x.state)) a in_a in
+      let d = Contains-from_map (copied_edge classes x.value)
+      (filter (edge_has_copy classes x.value) (out_of g x.state)) a in_a in
       let p = out_there x d.0 d.1 in
       let only = only_switch g classes x b in_b in
       let event = less_nat d.0.event.sig (length g.signals) p.1 in
       let P : Edge → Edge → Type 0 = λ y z. edge_cmp y z ≡ Less in
       subst₂ P d.2 only.1
-      (by_event (moved classes x.value d.0) (switched classes (length g.signals) x)
+      (by_event (copied_edge classes x.value d.0) (switch_edge classes (length g.signals) x)
       (ap (λ (s : ℕ). place classes s x.value) p.0) (rw event refl))
 
   edges_sorted : (x : Copy) → IsStrictlySortedBy edge_cmp (edges_from g classes x)
@@ -209,8 +212,8 @@ module _ (g : StateGraph) (classes : List Class) (graph : IsGraph g) (count : le
   from_copy : (x : Copy) (a : Edge) → Contains (edges_from g classes x) a → a.from ≡ place classes x.state x.value
   from_copy x a there = elim (Contains-append_cases (copied_edges g classes x) (switch_edges g classes x) a there) [
     | inl copied ↦
-        (let kept = filter (goes classes x.value) (out_of g x.state) in
-        let d = Contains-from_map (moved classes x.value) kept a copied in
+        (let kept = filter (edge_has_copy classes x.value) (out_of g x.state) in
+        let d = Contains-from_map (copied_edge classes x.value) kept a copied in
         let p = out_there x d.0 d.1 in
         ap (λ (y : Edge). y.from) (sym d.2) ∙ ap (λ (s : ℕ). place classes s x.value) p.0)
     | inr switch ↦ ap (λ (y : Edge). y.from) (sym (only_switch g classes x a switch).1)

@@ -7,7 +7,7 @@ use Rattle.si_base.specs.declared.graph.Signal.{Signal}
 use Rattle.si_base.specs.Limits.{max_signals}
 use Rattle.si_checks.proofs.DecisionLemmas.{Decided, some_of}
 use Rattle.si_insert.specs.Fresh.{IsTaken, IsFresh}
-use Rattle.si_insert.proofs.Free.{last_fresh}
+use Rattle.si_insert.proofs.FreshNameExists.{last_fresh}
 
 -- ---- it has no two
 not_lower : (signals : List Signal) (stem a b : List ℕ) → (x : IsFresh signals stem a) → (y : IsFresh signals stem b)

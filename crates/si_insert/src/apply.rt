@@ -12,8 +12,8 @@ ghost use Rattle.si_insert.specs.Applied.{IsApplied};
 ghost use Rattle.si_insert.specs.Fresh.{IsTaken};
 ghost use Rattle.si_insert.specs.Insertion;
 ghost use Rattle.si_insert.specs.Insertion.{new_signal};
-ghost use Rattle.si_insert.specs.Made;
-ghost use Rattle.si_insert.specs.Made.{AreFirsts, CanBeMade, new_edges, new_start};
+ghost use Rattle.si_insert.specs.GraphOfCopies;
+ghost use Rattle.si_insert.specs.GraphOfCopies.{AreFirsts, CanBeMade, new_edges, new_start};
 
 use crate::accept::{Accepted, count_copies};
 use crate::partition::Class;
@@ -59,13 +59,13 @@ pub(crate) fn apply_with_copies(
     requires accepted { IsAccepted graph.now.graph accepted.now }
     requires new { ¬ IsTaken graph.now.graph.signals name.now }
     ensures graph { IfOk result (λ r. IsApplied graph.now accepted.now name.now r.graph) }
-    ensures copies { IfOk result (λ r. r.copies.items ≡ Made.copies_of accepted.now) }
+    ensures copies { IfOk result (λ r. r.copies.items ≡ GraphOfCopies.copies_of accepted.now) }
 {
     let coded = graph.coded();
     let given = coded.graph();
     let classes = accepted.partition().classes();
     let copies = copies_of(alloc, classes)?;
-    let made = made_graph(alloc, given, classes, copies.as_slice(), name)?;
+    let made = graph_of_copies(alloc, given, classes, copies.as_slice(), name)?;
     let codes = codes_of(alloc, coded, copies.as_slice())?;
     let inserted = Coded::known(alloc, made, codes)?;
     let graph = Proper::known(inserted);
@@ -74,7 +74,7 @@ pub(crate) fn apply_with_copies(
 
 /// The inserted graph, without its codes. Its arcs come in order, so that to sort them again takes
 /// one pass.
-fn made_graph(
+fn graph_of_copies(
     alloc: Global,
     graph: &Graph,
     classes: &[Class],
@@ -83,7 +83,7 @@ fn made_graph(
 ) -> Result<Graph, NoMemory>
     requires graph { IsGraph graph.now }
     requires count { length classes.now ≡ graph.now.states }
-    requires copies { copies.now ≡ Made.copies_of classes.now }
+    requires copies { copies.now ≡ GraphOfCopies.copies_of classes.now }
     requires room { length graph.now.signals < max_signals }
     requires conditions { CanBeMade (graph.now.signals ++ new_signal name.now ∷ [])
         (copy_count classes.now) (new_edges graph.now classes.now)
@@ -125,7 +125,7 @@ fn edges_of(
     requires graph { IsGraph graph.now }
     requires count { length classes.now ≡ graph.now.states }
     requires firsts { AreFirsts classes.now firsts.now }
-    requires copies { copies.now ≡ Made.copies_of classes.now }
+    requires copies { copies.now ≡ GraphOfCopies.copies_of classes.now }
     ensures all { IfOk result (λ edges. edges.items ≡ new_edges graph.now classes.now) }
     ensures ordered { IfOk result (λ edges. IsStrictlySortedBy edge_cmp edges.items) }
 {
@@ -148,22 +148,22 @@ fn add_copied(
     requires count { length classes.now ≡ graph.now.states }
     requires firsts { AreFirsts classes.now firsts.now }
     ensures { OnOk result
-        (edges.new.items ≡ edges.old.items ++ Made.copied_edges graph.now classes.now x) }
+        (edges.new.items ≡ edges.old.items ++ GraphOfCopies.copied_edges graph.now classes.now x) }
 {
     let arcs = graph.arcs_out(x.state);
     for a in arcs {
-        if goes(classes, *a, x.value) {
-            edges.push(moved(firsts, classes, *a, x.value))?;
+        if edge_has_copy(classes, *a, x.value) {
+            edges.push(copied_edge(firsts, classes, *a, x.value))?;
         }
     }
     Ok(())
 }
 
 /// Whether an arc has a copy at the value.
-fn goes(classes: &[Class], a: Edge, value: bool) -> bool
+fn edge_has_copy(classes: &[Class], a: Edge, value: bool) -> bool
     requires from { a.from < length classes.now }
     requires to { a.to < length classes.now }
-    ensures { result ≡ Made.goes classes.now value a }
+    ensures { result ≡ GraphOfCopies.edge_has_copy classes.now value a }
 {
     let from = classes[a.from.0 as usize];
     let to = classes[a.to.0 as usize];
@@ -171,12 +171,12 @@ fn goes(classes: &[Class], a: Edge, value: bool) -> bool
 }
 
 /// The copy of an arc at the value.
-fn moved(firsts: &[StateId], classes: &[Class], a: Edge, value: bool) -> Edge
+fn copied_edge(firsts: &[StateId], classes: &[Class], a: Edge, value: bool) -> Edge
     requires from { a.from < length classes.now }
     requires to { a.to < length classes.now }
     requires few { length classes.now ≤ Rattle.si_base.specs.Limits.max_states }
     requires firsts { AreFirsts classes.now firsts.now }
-    ensures { result ≡ Made.moved classes.now value a }
+    ensures { result ≡ GraphOfCopies.copied_edge classes.now value a }
 {
     Edge {
         from: place(firsts, classes, a.from, value),
@@ -198,7 +198,7 @@ fn add_switch(
     requires firsts { AreFirsts classes.now firsts.now }
     requires within { x.state < length classes.now }
     ensures { OnOk result
-        (edges.new.items ≡ edges.old.items ++ Made.switch_edges graph.now classes.now x) }
+        (edges.new.items ≡ edges.old.items ++ GraphOfCopies.switch_edges graph.now classes.now x) }
 {
     let up = !x.value;
     if classes[x.state.0 as usize].switches(up) {

@@ -8,7 +8,8 @@ ghost use Rattle.si_base.specs.Codes.{code};
 ghost use Rattle.si_base.specs.Limits.{max_signals};
 ghost use Rattle.si_insert.specs.Accepted.{IsAccepted};
 ghost use Rattle.si_insert.specs.Fresh.{IsTaken};
-ghost use Rattle.si_insert.specs.Lineage.{AllGiven, Extends, Inserts, IsLineage, Keeps, as_given};
+ghost use Rattle.si_insert.specs.Lineage.{AllGiven, Extends, Inserts, IsLineage, Keeps};
+ghost use Rattle.si_insert.specs.Lineage.{given_current};
 ghost use Rattle.si_insert.specs.Lineage.{origin};
 
 use crate::accept::Accepted;
@@ -61,7 +62,7 @@ impl Lineage {
     pub fn start(alloc: Global, graph: Proper) -> Result<Lineage, (Proper, NoMemory)>
         requires { AllGiven graph.graph.signals }
         ensures line { IfOk result
-            (λ l. l ≡ record { given = graph; trace = []; current = as_given graph }) }
+            (λ l. l ≡ record { given = graph; trace = []; current = given_current graph }) }
         ensures back { IfErr result (λ e. e.0 ≡ graph) }
     {
         let Ok(current) = graph.copy(alloc) else {

@@ -28,7 +28,7 @@ impl Class {
     ghost use Rattle.std.specs.Prelude.{◌≡◌, ◌≤◌, ◌∷◌, []};
     ghost use Rattle.si_insert.specs.Accepted.{copy_count};
     ghost use Rattle.si_insert.specs.Insertion as insertion;
-    ghost use Rattle.si_insert.specs.Made as made;
+    ghost use Rattle.si_insert.specs.GraphOfCopies as made;
     ghost use Rattle.si_insert.specs.Partition.{may_lead};
 
     /// Whether an arc may lead from a state of the class to one of the other.

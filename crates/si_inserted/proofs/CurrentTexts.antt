@@ -7,9 +7,9 @@ use Rattle.si_base.specs.declared.graph.SigKind.TheVariants.{Inserted}
 use Rattle.si_base.specs.GivenGraph.{Sg}
 use Rattle.si_base.specs.Graph.{StateGraph}
 use Rattle.si_base.specs.Words.{is_signal_name}
-use Rattle.si_insert.proofs.Kept.{keeps}
+use Rattle.si_insert.proofs.InsertionKeeps.{keeps}
 use Rattle.si_insert.specs.Lineage.{History}
-use Rattle.si_inserted.proofs.InternalLemmas.{internal_is_coded, none_inserted}
+use Rattle.si_inserted.proofs.InternalGraphLemmas.{internal_is_coded, none_inserted}
 use Rattle.si_inserted.proofs.NameLemmas.{all_apart, all_names}
 use Rattle.si_inserted.specs.Current.{current_name, current_names, current_sg, given_signal, internal_graph}
 use Rattle.si_inserted.specs.Laws.{CanBeGiven, CurrentTextsReadBack}

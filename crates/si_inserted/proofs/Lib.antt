@@ -1,5 +1,5 @@
-pub mod InternalLemmas
-pub mod InternalGates
+pub mod InternalGraphLemmas
+pub mod InternalGraphGates
 pub mod NameLemmas
 pub mod CurrentTexts
 mod Examples

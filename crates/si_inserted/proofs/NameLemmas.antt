@@ -13,10 +13,10 @@ use Rattle.si_base.specs.Codes.{code}
 use Rattle.si_base.specs.Words.{IsStateName, is_word_byte}
 use Rattle.si_circuit.specs.Circuits.{AreStateNames}
 use Rattle.si_circuit.specs.Spelling.{current_word, digit, digits, mark}
-use Rattle.si_circuit.proofs.CurrentWords.{one_word}
-use Rattle.si_circuit.proofs.MarkLemmas.{mark_length, same_split}
+use Rattle.si_circuit.proofs.SpellingTellsStates.{one_word}
+use Rattle.si_circuit.proofs.SpellingMarks.{mark_length, same_split}
 use Rattle.si_insert.specs.Lineage.{History, IsLineage, origin}
-use Rattle.si_insert.proofs.Kept.{keeps}
+use Rattle.si_insert.proofs.InsertionKeeps.{keeps}
 use Rattle.si_inserted.specs.Current.{current_name, current_names, name_byte}
 
 -- ---- bytes

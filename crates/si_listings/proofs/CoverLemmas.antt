@@ -33,8 +33,9 @@ use Rattle.si_regions.proofs.RegionsExist.{some_regions}
 use Rattle.si_regions.proofs.UniqueRegions.{one_list}
 use Rattle.si_words.specs.Writing.{spaced}
 use Rattle.si_words.proofs.WritingLemmas.{whole_line}
-use Rattle.si_listings.specs.CoverText.{Told, LeastCube, NoCube, IsTold, Component, AreComponents, regions_of, sum_line}
-use Rattle.si_listings.specs.CoverText.{told_words, mono_line, mono_lines, monos_after, signal_lines, lines_from}
+use Rattle.si_listings.specs.CoverText.{RegionCube, LeastCube, NoCube, IsRegionCube, Component, AreComponents}
+use Rattle.si_listings.specs.CoverText.{regions_of, sum_line}
+use Rattle.si_listings.specs.CoverText.{region_cube_words, mono_line, mono_lines, monos_after, signal_lines, lines_from}
 use Rattle.si_listings.specs.CoverText.{covers_text, conflict_text, IsCoverText}
 use Rattle.si_listings.specs.RegionText.{number_after}
 use Rattle.si_sg.specs.CanonicalText.{event_word}
@@ -48,7 +49,8 @@ in_places : (cube : List Literal) → InSignalOrder cube
 unfolding literal_place
 in_places cube order = λ i j d before within. inl (order i j d before within)
 
-one_told : (c : CodedGraph) (r : Region) (t u : Told) → IsRegion c r → IsTold c r t → IsTold c r u → t ≡ u
+one_told : (c : CodedGraph) (r : Region) (t u : RegionCube) → IsRegion c r → IsRegionCube c r t → IsRegionCube c r u → t
+    ≡ u
 one_told c r (LeastCube x) (LeastCube y) is a b =
     let (s, there) = is.excited.some in
     let same = least_monos_have_same_literals c r.er r.qr x y s there a.0 b.0 in
@@ -60,7 +62,7 @@ one_told c r (NoCube s) (NoCube t) is a b =
     ap (λ (state : ℕ). NoCube state) (no_mono_is_unique c r.er r.qr s t a b)
 
 AreTold : CodedGraph → List Component → Type 0
-AreTold c xs = (x : Component) → Contains xs x → IsTold c x.region x.told
+AreTold c xs = (x : Component) → Contains xs x → IsRegionCube c x.region x.told
 
 same_told : (c : CodedGraph) (xs ys : List Component) → ((r : Region) → Contains (regions_of xs) r → IsRegion c r)
     → regions_of xs ≡ regions_of ys → AreTold c xs → AreTold c ys → xs ≡ ys
@@ -72,8 +74,8 @@ same_told c (x ∷ xs) (y ∷ ys) are same a b =
     let regions : x.region ≡ y.region = cc in
     let rest : regions_of xs ≡ regions_of ys = cc in
     let is = are x.region (Contains-here x.region (regions_of xs)) in
-    let here : IsTold c x.region y.told =
-    subst (λ r. IsTold c r y.told) (sym regions) (b y (Contains-here y ys)) in
+    let here : IsRegionCube c x.region y.told =
+    subst (λ r. IsRegionCube c r y.told) (sym regions) (b y (Contains-here y ys)) in
     let told : x.told ≡ y.told = one_told c x.region x.told y.told is (a x (Contains-here x xs)) here in
     let heads : x ≡ y = λ i. record { region = regions i; told = told i } in
     ap₂ (λ (z : Component) (zs : List Component). z ∷ zs) heads
@@ -95,7 +97,7 @@ one_cover_text c states x y (inr a) (inr b) =
     a.text_is ∙ ap (covers_text c states) (one_components c a.components b.components a.are b.are) ∙ sym b.text_is
 
 -- ---- and there is one
-some_told : (c : CodedGraph) (r : Region) → IsRegion c r → (t : Told) × IsTold c r t
+some_told : (c : CodedGraph) (r : Region) → IsRegion c r → (t : RegionCube) × IsRegionCube c r t
 some_told c r is =
     let (s, there) = is.excited.some in
     elim (mono_or_none c r.er r.qr s there) [
@@ -105,7 +107,8 @@ some_told c r is =
 
 -- these regions, each with what is told of it
 With : CodedGraph → List Region → Type 0
-With c rs = (xs : List Component) × (regions_of xs ≡ rs) × ((x : Component) → Contains xs x → IsTold c x.region x.told)
+With c rs = (xs : List Component) × (regions_of xs ≡ rs)
+    × ((x : Component) → Contains xs x → IsRegionCube c x.region x.told)
 
 told_each : (c : CodedGraph) (rs : List Region) → ((r : Region) → Contains rs r → IsRegion c r) → With c rs
 unfolding With
@@ -117,7 +120,7 @@ told_each c (r ∷ rs) are =
       first ∷ xs,
       ap (λ (l : List Region). r ∷ l) same,
       λ x there. elim (Contains-cons_cases first xs x there) [
-        | inl at ↦ subst (λ (y : Component). IsTold c y.region y.told) at is
+        | inl at ↦ subst (λ (y : Component). IsRegionCube c y.region y.told) at is
         | inr later ↦ each x later
       ],
     )
@@ -161,12 +164,13 @@ sum_by_calls text word signals z sum name first second third e0 e1 e2 e3 =
     ∙ whole_line text word (name_of signals z ∷ sum_words signals sum))
 
 -- what is told in other words
-pub told_by_call : (c : CodedGraph) (r : Region) (states : List (List ℕ)) (signals : List Signal) (here told : Told)
-    (text new : List ℕ) → IsRegion c r → signals ≡ c.graph.signals → IsTold c r here → IsTold c r told
-    → new ≡ text ++ spaced (told_words signals states here)
-    → new ≡ text ++ spaced (told_words c.graph.signals states told)
+pub told_by_call : (c : CodedGraph) (r : Region) (states : List (List ℕ)) (signals : List Signal)
+    (here told : RegionCube)
+    (text new : List ℕ) → IsRegion c r → signals ≡ c.graph.signals → IsRegionCube c r here → IsRegionCube c r told
+    → new ≡ text ++ spaced (region_cube_words signals states here)
+    → new ≡ text ++ spaced (region_cube_words c.graph.signals states told)
 told_by_call c r states signals here told text new is same one other left =
-    left ∙ ap₂ (λ (l : List Signal) (t : Told). text ++ spaced (told_words l states t)) same
+    left ∙ ap₂ (λ (l : List Signal) (t : RegionCube). text ++ spaced (region_cube_words l states t)) same
     (one_told c r here told is one other)
 
 mono_grouped : (text kind event number rest : List ℕ)
@@ -175,13 +179,13 @@ mono_grouped : (text kind event number rest : List ℕ)
 mono_grouped text kind event number rest = simp append_assoc
 
 pub mono_by_calls : (text : List ℕ) (signals : List Signal) (states : List (List ℕ)) (number : ℕ) (r : Region)
-    (told : Told) (word first second third fourth fifth : List ℕ) → word ≡ decimal number
+    (told : RegionCube) (word first second third fourth fifth : List ℕ) → word ≡ decimal number
     → first ≡ text ++ codes "mono"
     → second ≡ first ++ 32 ∷ event_word signals r.event → third ≡ second ++ 32 ∷ word
-    → fourth ≡ third ++ spaced (told_words signals states told) → fifth ≡ fourth ++ 10 ∷ []
+    → fourth ≡ third ++ spaced (region_cube_words signals states told) → fifth ≡ fourth ++ 10 ∷ []
     → fifth ≡ text ++ line (mono_line signals states number r told)
 mono_by_calls text signals states number r told word first second third fourth fifth e0 e1 e2 e3 e4 e5 =
-    let words = told_words signals states told in
+    let words = region_cube_words signals states told in
     let event = event_word signals r.event in
     rw (e5, e4, e3, e2, e1) (mono_grouped text (codes "mono") event word (spaced words)
     ∙ whole_line text (codes "mono") (event ∷ word ∷ words)
@@ -220,7 +224,7 @@ pub mono_step : (c : CodedGraph) (states : List (List ℕ)) (z : ℕ) (xs : List
     (k number : ℕ) (r : Region) (old text new : List ℕ) → AreComponents c xs → AreRegions c regions
     → k < length regions → r ≡ get_or regions k r → number ≡ number_after (take k regions) r
     → text ++ monos_from c.graph.signals states z xs k ≡ old
-    → ((t : Told) → IsTold c r t → new ≡ text ++ text_of (mono_lines c.graph.signals states z number r t))
+    → ((t : RegionCube) → IsRegionCube c r t → new ≡ text ++ text_of (mono_lines c.graph.signals states z number r t))
     → new ++ monos_from c.graph.signals states z xs (k + 1) ≡ old
 unfolding region_of
 mono_step c states z xs regions k number r old text new are all inside at number_is so_far added =
@@ -233,8 +237,8 @@ mono_step c states z xs regions k number r old text new are all inside at number
     let within : k < length xs = omega (arith, inside, size, sizes) in
     let region_is : x.region ≡ r =
     sym (get_or-map region_of xs k none r within) ∙ ap (λ (l : List Region). get_or l k r) same ∙ sym at in
-    let told : IsTold c r x.told =
-    subst (λ q. IsTold c q x.told) region_is (are.told x (Contains-get_or xs k none within)) in
+    let told : IsRegionCube c r x.told =
+    subst (λ q. IsRegionCube c q x.told) region_is (are.told x (Contains-get_or xs k none within)) in
     let new_is = subst (λ (q : Region). new ≡ text ++ text_of (mono_lines signals states z number q x.told))
     (sym region_is) (added x.told told) in
     let earlier : regions_of (take k xs) ≡ take k regions =

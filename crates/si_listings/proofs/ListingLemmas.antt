@@ -14,7 +14,7 @@ use Rattle.si_regions.specs.declared.regions.Region.{Region}
 use Rattle.si_regions.proofs.UniqueRegions as unique
 use Rattle.si_conflicts.specs.declared.conflicts.Pair.{Pair}
 use Rattle.si_conflicts.specs.Conflicts.{AreFirstConflicts, pairs_of}
-use Rattle.si_conflicts.proofs.Counted.{one_count, first_unique}
+use Rattle.si_conflicts.proofs.OneConflictList.{one_count, first_unique}
 use Rattle.si_sg.specs.CanonicalText.{state_at, event_word}
 use Rattle.si_listings.specs.RegionText.{set_line, region_lines, number_after, lines_after, regions_text, IsRegionText}
 use Rattle.si_listings.specs.ConflictText.{max_printed, pair_line, conflicts_text, IsConflictText}

@@ -16,7 +16,7 @@ use Rattle.si_regions.specs.Regions.{IsRegion, WalkThrough, region_place}
 use Rattle.si_regions.proofs.ComponentLemmas.{entered_within}
 use Rattle.si_regions.proofs.RegionLemmas.{enables_within}
 use Rattle.si_regions.proofs.StateLists.{all_below}
-use Rattle.si_listings.specs.RegionText.{number_after, IsWithinNames, GoesOn}
+use Rattle.si_listings.specs.RegionText.{number_after, IsWithinNames, RepeatsEvent}
 
 -- ---- numbers
 -- the number of the region before the k-th, or 0 where there is none
@@ -48,7 +48,7 @@ module _ (regions : List Region) (k : ℕ) (r : Region) (inside : k < length reg
   abbrev is_of : Event → Region → Bool
   is_of e x = same_event x.event e
 
-  pub goes_on_number : (number : ℕ) → IsNumber regions k number → GoesOn regions k
+  pub goes_on_number : (number : ℕ) → IsNumber regions k number → RepeatsEvent regions k
       → number + 1 ≡ number_after (take k regions) r
   goes_on_number number is on =
       let next : k ≡ last + 1 = (let l = on.later in omega arith) in
@@ -65,7 +65,7 @@ module _ (regions : List Region) (k : ℕ) (r : Region) (inside : k < length reg
       let plus = ap one_if (ap (λ (e : Event). same_event e r.event) same ∙ same_event-refl r.event) in
       omega (arith, so_far, counted, more, one, plus)
 
-  pub first_number : AllPairs (λ x y. Before (region_place x) (region_place y)) regions → (GoesOn regions k → ⊥)
+  pub first_number : AllPairs (λ x y. Before (region_place x) (region_place y)) regions → (RepeatsEvent regions k → ⊥)
       → 1 ≡ number_after (take k regions) r
   first_number order off = (let none = none_counted (is_of r.event) (take k regions) earlier in omega (arith, none))
     where
@@ -73,7 +73,7 @@ module _ (regions : List Region) (k : ℕ) (r : Region) (inside : k < length reg
       place_le x y (inl less) = omega arith
       place_le x y (inr same) = omega (arith, same.0)
 
-      goes_on : 0 < k → before.event ≡ r.event → GoesOn regions k
+      goes_on : 0 < k → before.event ≡ r.event → RepeatsEvent regions k
       goes_on later same = record {
         later = later;
         same = λ d. ap (λ (x : Region). x.event) (get_or_default regions last d r (omega arith)) ∙ same

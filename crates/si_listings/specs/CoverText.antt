@@ -19,20 +19,20 @@ use Rattle.si_listings.specs.ConflictText.{pair_line}
 use Rattle.si_listings.specs.RegionText.{number_after}
 use Rattle.si_sg.specs.CanonicalText.{state_at, event_word}
 
--- what is told of a region: its least monotonous cube, or a state that shows that it has none
-pub data Told : Type 0 where
-  LeastCube : List Literal → Told
-  NoCube : (state : ℕ) → Told
+-- the cube of a region: its least monotonous one, or a state that shows that it has none
+pub data RegionCube : Type 0 where
+  LeastCube : List Literal → RegionCube
+  NoCube : (state : ℕ) → RegionCube
 
 -- this is told of the region; the literals of its cube stand in signal order
-abbrev pub IsTold : CodedGraph → Region → Told → Type 0
-IsTold c r (LeastCube cube) = IsLeastMono c r.er r.qr cube × InSignalOrder cube
-IsTold c r (NoCube state) = ShowsNoMono c r.er r.qr state
+abbrev pub IsRegionCube : CodedGraph → Region → RegionCube → Type 0
+IsRegionCube c r (LeastCube cube) = IsLeastMono c r.er r.qr cube × InSignalOrder cube
+IsRegionCube c r (NoCube state) = ShowsNoMono c r.er r.qr state
 
 -- a region with what is told of it
 pub record Component : Type 0 where
   pub region : Region
-  pub told : Told
+  pub told : RegionCube
 
 abbrev pub regions_of : List Component → List Region
 regions_of xs = map (λ x. x.region) xs
@@ -40,24 +40,26 @@ regions_of xs = map (λ x. x.region) xs
 -- all regions of c, in order, each with what is told of it
 pub record AreComponents (c : CodedGraph) (xs : List Component) : Type 0 where
   pub regions : AreRegions c (regions_of xs)
-  pub told : (x : Component) → Contains xs x → IsTold c x.region x.told
+  pub told : (x : Component) → Contains xs x → IsRegionCube c x.region x.told
 
 -- ---- the lines
 -- a sum: what it is for, its signal, and its words
 abbrev pub sum_line : List Signal → List ℕ → ℕ → Sum → List (List ℕ)
 sum_line signals word z sum = word ∷ name_of signals z ∷ sum_words signals sum
 
-abbrev pub told_words : List Signal → List (List ℕ) → Told → List (List ℕ)
-told_words signals states (LeastCube cube) = cube_words signals cube
-told_words signals states (NoCube state) = codes "none" ∷ state_at states state ∷ []
+abbrev pub region_cube_words : List Signal → List (List ℕ) → RegionCube → List (List ℕ)
+region_cube_words signals states (LeastCube cube) = cube_words signals cube
+region_cube_words signals states (NoCube state) = codes "none" ∷ state_at states state ∷ []
 
 -- a region: its event, the number of its component, and what is told of it
-abbrev pub mono_line : List Signal → List (List ℕ) → ℕ → Region → Told → List (List ℕ)
+abbrev pub mono_line : List Signal → List (List ℕ) → ℕ → Region → RegionCube → List (List ℕ)
 mono_line signals states number r told =
-    codes "mono" ∷ event_word signals r.event ∷ decimal number ∷ told_words signals states told
+    codes "mono" ∷ event_word signals r.event ∷ decimal number
+    ∷ region_cube_words signals states told
 
 -- the line of a region of z, and none of another
-abbrev pub mono_lines : List Signal → List (List ℕ) → ℕ → ℕ → Region → Told → List (List (List ℕ))
+abbrev pub mono_lines : List Signal → List (List ℕ) → ℕ → ℕ → Region → RegionCube
+    → List (List (List ℕ))
 mono_lines signals states z number r told =
     if r.event.sig == z then mono_line signals states number r told ∷ [] else []
 

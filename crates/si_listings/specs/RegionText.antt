@@ -51,7 +51,7 @@ pub record IsWithinNames (states : List (List ℕ)) (r : Region) : Type 0 where
   pub quiescent : All (λ s. s < length states) r.qr
 
 -- the k-th region has the event of the one before it
-pub record GoesOn (regions : List Region) (k : ℕ) : Type 0 where
+pub record RepeatsEvent (regions : List Region) (k : ℕ) : Type 0 where
   pub later : 0 < k
   pub same : (d : Region) → (slice_index_or regions (k - 1) d).event ≡
       (slice_index_or regions k d).event

@@ -6,8 +6,8 @@ ghost use Rattle.si_base.specs.NetlistText.{cube_words};
 ghost use Rattle.si_base.specs.Words.{line, text_of};
 ghost use Rattle.si_checks.specs.Lent.{lent_graph};
 ghost use Rattle.si_cover.specs.Mono.{InSignalOrder};
-ghost use Rattle.si_listings.specs.CoverText.{Told, IsTold, Component, AreComponents};
-ghost use Rattle.si_listings.specs.CoverText.{sum_line, sum_lines, told_words, mono_line};
+ghost use Rattle.si_listings.specs.CoverText.{RegionCube, IsRegionCube, Component, AreComponents};
+ghost use Rattle.si_listings.specs.CoverText.{sum_line, sum_lines, region_cube_words, mono_line};
 ghost use Rattle.si_listings.specs.CoverText.{mono_lines};
 ghost use Rattle.si_listings.specs.CoverText.{monos_after, signal_lines, conflict_text};
 ghost use Rattle.si_listings.specs.CoverText.{TellsCovers, IsCoverText};
@@ -15,7 +15,7 @@ ghost use Rattle.si_sg.specs.CanonicalText.{state_at};
 ghost use Rattle.si_regions.specs.Regions.{IsRegion, AreRegions};
 ghost use Rattle.si_words.specs.Writing.{spaced};
 
-use crate::numbers::goes_on;
+use crate::numbers::repeats;
 use crate::words::add_event;
 use si_base::graph::{Signal, signal_name};
 use si_base::ids::{NoMemory, Sig, StateId};
@@ -148,7 +148,7 @@ fn add_monos(
 {
     let mut number: usize = 0;
     for k in 0..regions.len() {
-        number = if goes_on(regions, k) { number + 1 } else { 1 };
+        number = if repeats(regions, k) { number + 1 } else { 1 };
         add_if_of(alloc, text, graph, states, &regions[k], number, z)?;
     }
     Ok(())
@@ -168,7 +168,7 @@ fn add_if_of(
     requires states { length states.now ≡ (lent_graph graph).graph.states }
     requires region { IsRegion (lent_graph graph) region.now }
     ensures { let c = lent_graph graph.entry in OnOk result
-        ((told : Told) → IsTold c region.now told → text.new ≡ text.old
+        ((told : RegionCube) → IsRegionCube c region.now told → text.new ≡ text.old
         ++ text_of (mono_lines c.graph.signals states.now z number region.now told)) }
 {
     if region.event.sig != z {
@@ -189,7 +189,7 @@ fn add_mono(
     requires states { length states.now ≡ (lent_graph graph).graph.states }
     requires region { IsRegion (lent_graph graph) region.now }
     ensures { let c = lent_graph graph.entry in OnOk result
-        ((told : Told) → IsTold c region.now told → text.new ≡ text.old
+        ((told : RegionCube) → IsRegionCube c region.now told → text.new ≡ text.old
         ++ line (mono_line c.graph.signals states.now number region.now told)) }
 {
     let signals = graph.proper().coded().graph().signals();
@@ -199,13 +199,13 @@ fn add_mono(
     text.add(b"mono")?;
     add_event(text, signals, &region.event)?;
     add_word(text, number.as_bytes())?;
-    add_told(text, graph, states, region)?;
+    add_region_cube(text, graph, states, region)?;
     text.add(b"\n")
 }
 
 /// Adds what is told of the region: its least monotonous cube, or the state that shows that it has
 /// none.
-fn add_told(
+fn add_region_cube(
     text: &mut Text,
     graph: Distinct<'_>,
     states: &Names,
@@ -214,8 +214,8 @@ fn add_told(
     requires states { length states.now ≡ (lent_graph graph).graph.states }
     requires region { IsRegion (lent_graph graph) region.now }
     ensures { let c = lent_graph graph.entry in OnOk result
-        ((told : Told) → IsTold c region.now told
-        → text.new ≡ text.old ++ spaced (told_words c.graph.signals states.now told)) }
+        ((told : RegionCube) → IsRegionCube c region.now told
+        → text.new ≡ text.old ++ spaced (region_cube_words c.graph.signals states.now told)) }
 {
     let signals = graph.proper().coded().graph().signals();
     match mono(graph, region) {

@@ -1,14 +1,14 @@
 //! The numbers of components.
 
 ghost use Rattle.std.specs.Prelude.{◌<◌, ◌↔◌, IsTrue, length};
-ghost use Rattle.si_listings.specs.RegionText.{GoesOn};
+ghost use Rattle.si_listings.specs.RegionText.{RepeatsEvent};
 
 use si_regions::regions::Region;
 
 /// Whether the region has the event of the one before it.
-pub fn goes_on(regions: &[Region], k: usize) -> bool
+pub fn repeats(regions: &[Region], k: usize) -> bool
     requires { k < length regions.now }
-    ensures { IsTrue result ↔ GoesOn regions.now k }
+    ensures { IsTrue result ↔ RepeatsEvent regions.now k }
 {
     k > 0 && regions[k - 1].event == regions[k].event
 }

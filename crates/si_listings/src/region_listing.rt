@@ -7,7 +7,7 @@ ghost use Rattle.si_regions.specs.Regions.{AreRegions};
 ghost use Rattle.si_listings.specs.RegionText.{set_line, region_lines, regions_text, IsRegionText};
 ghost use Rattle.si_listings.specs.RegionText.{IsWithinNames};
 
-use crate::numbers::goes_on;
+use crate::numbers::repeats;
 use crate::words::{add_event, add_states};
 use si_base::graph::Signal;
 use si_base::ids::{Event, NoMemory, StateId};
@@ -45,7 +45,7 @@ pub fn write_regions(
     let mut text = Text::copy_of(alloc, b"")?;
     let mut number: usize = 0;
     for k in 0..regions.len() {
-        number = if goes_on(regions, k) { number + 1 } else { 1 };
+        number = if repeats(regions, k) { number + 1 } else { 1 };
         add_region(alloc, &mut text, signals, states, &regions[k], number)?;
     }
     Ok(text)

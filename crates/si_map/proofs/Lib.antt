@@ -1,18 +1,18 @@
 mod Examples
 mod TraceExamples
 pub mod EndLemmas
-pub mod WeightLeft
-pub mod NoneLeft
+pub mod BestWeight
+pub mod SearchConflicts
 pub mod WaitingLemmas
-pub mod KeptFits
-pub mod FittedLemmas
-pub mod DivisorFacts
+pub mod WaitingFits
+pub mod SearchFitted
+pub mod BestDivisors
 pub mod OneBest
 pub mod SearchSteps
 pub mod SearchLemmas
 pub mod SearchSignals
 pub mod NextFunctions
-pub mod ChoicesDecided
-pub mod MapTraces
+pub mod BestExists
+pub mod TraceLemmas
 pub mod MapLemmas
-pub mod EndExists
+pub mod EndsExist

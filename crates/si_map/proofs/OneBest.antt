@@ -4,13 +4,13 @@ use Rattle.si_base.specs.Codes.{CodedGraph}
 use Rattle.si_cell.specs.Library.{Library, Instance, instance_value}
 use Rattle.si_divisor.specs.PartitionFor.{IsPartitionFor}
 use Rattle.si_divisor.specs.Targets.{forced_by}
-use Rattle.si_divisor.proofs.UniqueAnswers.{one_partition}
+use Rattle.si_divisor.proofs.OnePartitionFor.{one_partition}
 use Rattle.si_insert.specs.declared.partition.Class.{Class}
 use Rattle.si_insert.proofs.RowSearchLemmas.{one_least}
 use Rattle.si_map.specs.Best.{Choice, LeavesWeight, IsDivisorAt, Serves}
 use Rattle.si_map.specs.Laws.{BestIsUnique}
-use Rattle.si_map.proofs.DivisorFacts.{one_divisor}
-use Rattle.si_map.proofs.WeightLeft.{weight_is_one}
+use Rattle.si_map.proofs.BestDivisors.{one_divisor}
+use Rattle.si_map.proofs.BestWeight.{weight_is_one}
 
 -- ---- one place, one choice
 module _ (c : CodedGraph) (library : Library) where

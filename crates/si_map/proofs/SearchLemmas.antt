@@ -18,24 +18,24 @@ use Rattle.si_divisor.specs.PartitionFor.{IsPartitionFor}
 use Rattle.si_divisor.specs.Targets.{forced_by}
 use Rattle.si_divisor.proofs.PartitionLemmas.{passes}
 use Rattle.si_divisor.proofs.SameFunction.{functions_decide, same_function}
-use Rattle.si_divisor.proofs.UniqueAnswers.{one_partition}
+use Rattle.si_divisor.proofs.OnePartitionFor.{one_partition}
 use Rattle.si_insert.specs.declared.partition.Class.{Class}
 use Rattle.si_insert.specs.Partition.{IsLawful}
 use Rattle.si_insert.specs.Accepted.{DelaysNoInput, IsAccepted, StaysProper}
 use Rattle.si_insert.specs.Applied.{IsApplied}
 use Rattle.si_insert.specs.Fresh.{IsTaken}
 use Rattle.si_insert.specs.Insertion.{coded, new_signal}
-use Rattle.si_insert.specs.Made.{copies_of}
-use Rattle.si_insert.proofs.Persistent.{no_delay, proper_if_none}
+use Rattle.si_insert.specs.GraphOfCopies.{copies_of}
+use Rattle.si_insert.proofs.AcceptedLosses.{no_delay, proper_if_none}
 use Rattle.si_match.specs.Weight.{weight_of}
 use Rattle.si_map.specs.declared.search.Search.{Search}
 use Rattle.si_map.specs.Best.{Choice, IsDivisorAt, LeavesWeight, Serves}
-use Rattle.si_map.specs.Progress.{AreFitted, IsReady, IsSearching, HasTried, IsPassed, IsKept, IsTried, IsKnown}
-use Rattle.si_map.specs.Progress.{IsGrown, IsSpent, AreSpent, LeavesBelow, LeavesNoneBelow}
-use Rattle.si_map.proofs.DivisorFacts.{one_divisor}
-use Rattle.si_map.proofs.NoneLeft.{none_left}
+use Rattle.si_map.specs.Progress.{AreFitted, IsReady, IsSearching, HasTried, IsPassed, IsNewBest, IsTried, IsKnown}
+use Rattle.si_map.specs.Progress.{MayHaveRecorded, IsSpent, AreSpent, LeavesBelow, LeavesNoneBelow}
+use Rattle.si_map.proofs.BestDivisors.{one_divisor}
+use Rattle.si_map.proofs.SearchConflicts.{none_left}
 use Rattle.si_map.proofs.SearchSteps.{bar_low, search_skip, search_take}
-use Rattle.si_map.proofs.WeightLeft.{weight_is_one}
+use Rattle.si_map.proofs.BestWeight.{weight_is_one}
 
 -- ---- the inserted graph of a partition
 module _ (c : CodedGraph) (library : Library) (classes : List Class) (name : List ℕ) (h : CodedGraph)
@@ -157,7 +157,8 @@ module _ (c : CodedGraph) (library : Library) (s : Search) (ready : IsReady c li
   pub known : IsKnown s classes → IsTried c library classes s s
   known is = stays (λ accepted. known_leaves c library s classes ready is)
 
-  grown : (t : Search) → IsGrown s classes t → LeavesNoneBelow c library classes s.bar → IsTried c library classes s t
+  grown : (t : Search) → MayHaveRecorded s classes t → LeavesNoneBelow c library classes s.bar
+      → IsTried c library classes s t
   grown t is none = inl (record {
     ready = record {
       coded = ready.coded;
@@ -182,9 +183,9 @@ module _ (c : CodedGraph) (library : Library) (s : Search) (ready : IsReady c li
           (All-push (λ p. LeavesNoneBelow c library p s.bar) s.tried.items classes ready.tried_known none)
 
   pub kept_tried : (given : List Class) (m t : Search) (o : Option ℕ) → given ≡ classes → m ≡ s → o ≡ None
-      → IfNone o (LeavesNoneBelow c library given s.bar) → IsGrown m given t → IsTried c library classes s t
+      → IfNone o (LeavesNoneBelow c library given s.bar) → MayHaveRecorded m given t → IsTried c library classes s t
   kept_tried given m t o same before is told more =
-      grown t (subst (λ xs. IsGrown s xs t) same (subst (λ x. IsGrown x given t) before more))
+      grown t (subst (λ xs. MayHaveRecorded s xs t) same (subst (λ x. MayHaveRecorded x given t) before more))
       (subst (λ (xs : List Class). LeavesNoneBelow c library xs s.bar) same
       (subst (λ p. IfNone p (LeavesNoneBelow c library given s.bar)) is told))
 
@@ -261,7 +262,7 @@ module _ (c : CodedGraph) (library : Library) (divisor : Instance) where
           (subst (λ xs. LeavesConflicts c xs 0) same serves.free)
           (subst (λ xs. LeavesWeight c library xs y.weight) same serves.leaves)
 
-  taken : (classes : List Class) (s t : Search) → IsPartition classes → IsKept c library classes s t
+  taken : (classes : List Class) (s t : Search) → IsPartition classes → IsNewBest c library classes s t
       → HasTried c library divisor s t
   taken classes s t are is z k unfit here so =
       let x : Choice = record { signal = z; place = k; classes = classes; weight = t.bar } in

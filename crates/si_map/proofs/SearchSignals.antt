@@ -13,7 +13,7 @@ use Rattle.si_map.specs.declared.search.Search.{Search}
 use Rattle.si_map.specs.Best.{Choice, IsUnfit, IsDivisorAt, Serves, IsBest, NoneServes, choice_place}
 use Rattle.si_map.specs.Search.{IsEarlier}
 use Rattle.si_map.specs.Progress.{IsSearching, HasTried, classes_of}
-use Rattle.si_map.proofs.DivisorFacts.{place_within}
+use Rattle.si_map.proofs.BestDivisors.{place_within}
 use Rattle.si_map.proofs.SearchSteps.{search_signal, search_ends}
 
 module _ (c : CodedGraph) (library : Library) where

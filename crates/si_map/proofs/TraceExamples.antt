@@ -9,10 +9,10 @@ use Rattle.si_base.specs.declared.graph.SigKind.TheVariants.{Input, Output}
 use Rattle.si_cell.specs.Library.{Library, Instance}
 use Rattle.si_circuit.specs.Cells.{AllFit, IsFirstUnfit}
 use Rattle.si_divisor.specs.Divisors.{divisors_of}
-use Rattle.si_insert.specs.Lineage.{Current, as_given}
+use Rattle.si_insert.specs.Lineage.{Current, given_current}
 use Rattle.si_match.specs.Fit.{first_fit}
 use Rattle.si_map.specs.Best.{NoneServes}
-use Rattle.si_map.specs.Trace.{MapsTo, EndsUnmapped}
+use Rattle.si_map.specs.Trace.{EndsMapped, EndsUnmapped}
 use Rattle.si_map.proofs.EndLemmas.{not_both}
 use Rattle.si_map.proofs.Examples.{follower, buffers}
 
@@ -20,7 +20,7 @@ abbrev no_cells : Library
 no_cells = record { name = codes "l"; cells = [] }
 
 abbrev start : Current
-start = as_given follower
+start = given_current follower
 
 not_driven : IsNonInput follower.graph.signals 0 → ⊥
 not_driven (x, at, is) =
@@ -35,7 +35,7 @@ fits_all (suc (suc z)) (x, at, is) =
     absurd (omega (arith, slice_get_within follower.graph.signals (suc (suc z)) x at))
 
 -- with a buffer nothing is inserted
-mapped : MapsTo buffers start [] start
+mapped : EndsMapped buffers start [] start
 mapped = record { goes = refl; done = fits_all }
 
 first_unfit : IsFirstUnfit follower no_cells 1

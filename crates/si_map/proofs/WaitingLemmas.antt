@@ -10,12 +10,12 @@ use Rattle.si_base.specs.declared.graph.Edge.{Edge}
 use Rattle.si_insert.specs.declared.partition.Class.{Class}
 use Rattle.si_insert.specs.Partition.{class_of}
 use Rattle.si_insert.specs.Insertion.{waits}
-use Rattle.si_map.specs.Waiting.{GoesOn, NeverWaits}
+use Rattle.si_map.specs.Waiting.{ArcNeverWaits, NeverWaits}
 
 -- of the first arcs, so many, those of signals that aren't in the set go on
 abbrev pub AreSeen : List Class → List Edge → ℕ → ℕ → Type 0
 AreSeen classes edges waiting count =
-    (k : ℕ) (a : Edge) → k < count → get_or edges k a ≡ a → bit waiting a.event.sig ≡ false → GoesOn classes a
+    (k : ℕ) (a : Edge) → k < count → get_or edges k a ≡ a → bit waiting a.event.sig ≡ false → ArcNeverWaits classes a
 
 pub none_seen : (classes : List Class) (edges : List Edge) (waiting : ℕ) → AreSeen classes edges waiting 0
 none_seen classes edges waiting k a within at clear = absurd (omega (arith, within))
@@ -23,17 +23,17 @@ none_seen classes edges waiting k a within at clear = absurd (omega (arith, with
 module _ (classes : List Class) (edges : List Edge) (i : ℕ) (item : Edge) (inside : i < length edges)
     (is : item ≡ get_or edges i item) (waiting : ℕ) (seen : AreSeen classes edges waiting i) where
   one_more : (next : ℕ) → ((j : ℕ) → bit next j ≡ false → bit waiting j ≡ false)
-      → (bit next item.event.sig ≡ false → GoesOn classes item) → AreSeen classes edges next (i + 1)
+      → (bit next item.event.sig ≡ false → ArcNeverWaits classes item) → AreSeen classes edges next (i + 1)
   one_more next fewer here k a within at clear = elim (eqb_tells k i) [
     | inl same ↦ (
         let this : item ≡ a =
         is ∙ get_or_default edges i item a inside ∙ ap (λ n. get_or edges n a) (sym same.1) ∙ at in
-        subst (GoesOn classes) this (here (subst (λ (b : Edge). bit next b.event.sig ≡ false) (sym this) clear)))
+        subst (ArcNeverWaits classes) this (here (subst (λ (b : Edge). bit next b.event.sig ≡ false) (sym this) clear)))
     | inr other ↦ (let not_last = other.1 in seen k a (grind (arith, within, not_last)) at (fewer a.event.sig clear))
   ]
 
   -- an arc that goes on changes nothing
-  pub goes_past : GoesOn classes item → AreSeen classes edges waiting (i + 1)
+  pub goes_past : ArcNeverWaits classes item → AreSeen classes edges waiting (i + 1)
   goes_past goes = one_more waiting (λ j clear. clear) (λ clear. goes)
 
   -- the signal of one that waits comes into the set

@@ -11,7 +11,7 @@ use Rattle.si_insert.specs.Lineage.{Current, IsLineage}
 use Rattle.si_insert.specs.Built.{IsBuilt}
 use Rattle.si_match.specs.Weight.{weight_of}
 use Rattle.si_map.specs.Best.{Choice, IsBest}
-use Rattle.si_map.specs.Trace.{IsMapping, MapsTo, EndsUnmapped}
+use Rattle.si_map.specs.Trace.{IsMappingTrace, EndsMapped, EndsUnmapped}
 
 -- each signal that the circuit drives fits a cell, or there is a first that doesn't, and one only
 abbrev pub FitOrNot : Type 0
@@ -35,22 +35,23 @@ BestIsUnique = (c : CodedGraph) (library : Library) (x y : Choice) → IsCoded c
 -- each insertion lowers the weight
 abbrev pub TracesAreShort : Type 0
 TracesAreShort = (library : Library) (v : Current) (trace : List TraceStep) (w : Current)
-    → IsCoded v.coded → IsMapping library v trace w
+    → IsCoded v.coded → IsMappingTrace library v trace w
     → length trace + weight_of w.coded library ≤ weight_of v.coded library
 
 -- and leaves no conflict
 abbrev pub TracesLeaveNoConflict : Type 0
 TracesLeaveNoConflict = (library : Library) (v : Current) (trace : List TraceStep) (w : Current)
-    → IsCoded v.coded → HasNoConflict v.coded → IsMapping library v trace w → HasNoConflict w.coded
+    → IsCoded v.coded → HasNoConflict v.coded → IsMappingTrace library v trace w
+    → HasNoConflict w.coded
 
 -- where all signals fit, nothing is inserted
 abbrev pub FittedIsMapped : Type 0
 FittedIsMapped = (library : Library) (v : Current) (trace : List TraceStep) (w : Current)
-    → AllFit v.coded library → IsMapping library v trace w → trace ≡ []
+    → AllFit v.coded library → IsMappingTrace library v trace w → trace ≡ []
 
 abbrev pub MappedIsUnique : Type 0
 MappedIsUnique = (library : Library) (v : Current) (xs ys : List TraceStep) (w u : Current)
-    → IsCoded v.coded → MapsTo library v xs w → MapsTo library v ys u → (xs ≡ ys) × (w ≡ u)
+    → IsCoded v.coded → EndsMapped library v xs w → EndsMapped library v ys u → (xs ≡ ys) × (w ≡ u)
 
 abbrev pub UnmappedIsUnique : Type 0
 UnmappedIsUnique = (library : Library) (v : Current) (xs ys : List TraceStep) (w u : Current)
@@ -59,18 +60,18 @@ UnmappedIsUnique = (library : Library) (v : Current) (xs ys : List TraceStep) (w
 
 abbrev pub EndsExclude : Type 0
 EndsExclude = (library : Library) (v : Current) (xs ys : List TraceStep) (w u : Current) (z : ℕ)
-    → IsCoded v.coded → MapsTo library v xs w → EndsUnmapped library v ys u z → ⊥
+    → IsCoded v.coded → EndsMapped library v xs w → EndsUnmapped library v ys u z → ⊥
 
 -- a lineage and a mapping trace from it are a lineage
 abbrev pub TracesAreLineages : Type 0
 TracesAreLineages = (library : Library) (given : CodedGraph) (before trace : List TraceStep)
-    (v w : Current) → IsLineage given before v → IsMapping library v trace w
+    (v w : Current) → IsLineage given before v → IsMappingTrace library v trace w
     → IsLineage given (before ++ trace) w
 
 -- right gates for the last graph of a mapping trace implement the given graph
 abbrev pub TracesImplement : Type 0
 TracesImplement = (library : Library) (given : CodedGraph) (before trace : List TraceStep)
-    (v w : Current) (n : Netlist) → IsLineage given before v → IsMapping library v trace w
+    (v w : Current) (n : Netlist) → IsLineage given before v → IsMappingTrace library v trace w
     → IsBuilt w n → Implements n given.graph
 
 -- from each proper graph without conflicts a trace ends: mapped, or with a first signal that fits
@@ -79,4 +80,4 @@ abbrev pub MappingEnds : Type 0
 MappingEnds = (library : Library) (v : Current) → IsCoded v.coded
     → IsProper v.coded.graph → HasNoConflict v.coded
     → (trace : List TraceStep) × (w : Current)
-    × (MapsTo library v trace w ⊎ ((z : ℕ) × EndsUnmapped library v trace w z))
+    × (EndsMapped library v trace w ⊎ ((z : ℕ) × EndsUnmapped library v trace w z))

@@ -100,7 +100,7 @@ abbrev pub IsKnown : Search → List Class → Type 0
 IsKnown search classes = (search.best ≡ Some classes) ⊎ Contains search.tried.items classes
 
 -- the search differs in nothing but that the partition may stand last of those that were tried
-pub record IsGrown (s : Search) (classes : List Class) (t : Search) : Type 0 where
+pub record MayHaveRecorded (s : Search) (classes : List Class) (t : Search) : Type 0 where
   pub bar : t.bar ≡ s.bar
   pub best : t.best ≡ s.best
   pub chains : t.chains ≡ s.chains
@@ -119,7 +119,7 @@ pub record IsPassed (c : CodedGraph) (library : Library) (classes : List Class) 
   pub none : IsAccepted c.graph classes → LeavesNoneBelow c library classes s.bar
 
 -- the partition is the best so far, and its weight the bar
-pub record IsKept (c : CodedGraph) (library : Library) (classes : List Class) (s t : Search)
+pub record IsNewBest (c : CodedGraph) (library : Library) (classes : List Class) (s t : Search)
     : Type 0 where
   pub ready : IsReady c library t
   pub accepted : IsAccepted c.graph classes
@@ -128,4 +128,4 @@ pub record IsKept (c : CodedGraph) (library : Library) (classes : List Class) (s
 
 -- one of the two, whichever applies
 abbrev pub IsTried : CodedGraph → Library → List Class → Search → Search → Type 0
-IsTried c library classes s t = IsPassed c library classes s t ⊎ IsKept c library classes s t
+IsTried c library classes s t = IsPassed c library classes s t ⊎ IsNewBest c library classes s t

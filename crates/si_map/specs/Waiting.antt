@@ -8,11 +8,11 @@ use Rattle.si_insert.specs.Partition.{class_of}
 use Rattle.si_insert.specs.Insertion.{waits}
 
 -- the arc waits at neither value of the new signal
-abbrev pub GoesOn : List Class → Edge → Type 0
-GoesOn classes a =
+abbrev pub ArcNeverWaits : List Class → Edge → Type 0
+ArcNeverWaits classes a =
     (value : Bool) → waits (class_of classes a.from) (class_of classes a.to) value ≡ false
 
 -- no arc of z waits
 abbrev pub NeverWaits : StateGraph → List Class → ℕ → Type 0
 NeverWaits g classes z =
-    (s : ℕ) (e : Event) (t : ℕ) → Step g s e t → e.sig ≡ z → GoesOn classes (arc s e t)
+    (s : ℕ) (e : Event) (t : ℕ) → Step g s e t → e.sig ≡ z → ArcNeverWaits classes (arc s e t)

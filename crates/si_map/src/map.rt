@@ -11,10 +11,10 @@ ghost use Rattle.si_conflicts.specs.Left.{LeavesConflicts};
 ghost use Rattle.si_insert.specs.declared.lineage.TraceStep.{TraceStep};
 ghost use Rattle.si_insert.specs.Accepted.{IsAccepted};
 ghost use Rattle.si_insert.specs.Fresh.{IsFresh, IsTaken};
-ghost use Rattle.si_insert.specs.Lineage.{Extends, GoesOn};
+ghost use Rattle.si_insert.specs.Lineage.{Extends, ExtendsBy};
 ghost use Rattle.si_map.specs.Best.{Choice, IsBest, NoneServes};
 ghost use Rattle.si_map.specs.Ends.{ShowsStuck};
-ghost use Rattle.si_map.specs.Trace.{IsMapping, Maps, MapsTo};
+ghost use Rattle.si_map.specs.Trace.{IsMappingTrace, InsertsDivisor, EndsMapped};
 
 use crate::best::best_divisor;
 use crate::search::STEM;
@@ -64,28 +64,28 @@ pub fn map_cells(
 ) -> Result<Circuit, Unmapped>
     requires spelled { AreSpelled model.now resolved.current.coded.graph.signals }
     requires states { AreStateNames resolved.given.graph states.now }
-    ensures mapped { IfOk result (λ c. (trace : List TraceStep) × GoesOn resolved trace c.lineage
-        × MapsTo library.now resolved.current trace c.lineage.current) }
+    ensures mapped { IfOk result (λ c. (trace : List TraceStep) × ExtendsBy resolved trace c.lineage
+        × EndsMapped library.now resolved.current trace c.lineage.current) }
     ensures netlist { IfOk result
         (λ c. c.netlist ≡ mapped_netlist library.now model.now states.now c.lineage) }
     ensures implements { IfOk result (λ c. Implements c.netlist resolved.given.graph) }
     ensures written { IfOk result (λ c. IsNetlist c.netlist) }
     ensures unmapped { IfErr result (λ u. (trace : List TraceStep)
-        × GoesOn resolved trace u.resolved
-        × IsMapping library.now resolved.current trace u.resolved.current
+        × ExtendsBy resolved trace u.resolved
+        × IsMappingTrace library.now resolved.current trace u.resolved.current
         × ShowsStuck library.now u.resolved.current u.cause) }
 {
     let mut resolved = resolved;
     loop {
         match Circuit::of_cells(alloc, resolved, library, model, states) {
             Ok(circuit) => return Ok(circuit),
-            Err((rest, fault)) => resolved = mapped_further(alloc, rest, library, fault)?,
+            Err((rest, fault)) => resolved = with_best_divisor(alloc, rest, library, fault)?,
         }
     }
 }
 
 /// The lineage of a graph of which a signal fits no cell, with the best divisor inserted.
-fn mapped_further(
+fn with_best_divisor(
     alloc: Global,
     resolved: Resolved,
     library: &Library,
@@ -93,7 +93,8 @@ fn mapped_further(
 ) -> Result<Resolved, Unmapped>
     requires { ShowsUnfit resolved.current.coded library.now fault }
     ensures extended { IfOk result (λ next. (p : TraceStep) × Extends resolved p next
-        × Maps library.now resolved.current p next.current × IsTrue (is_signal_name p.name)) }
+        × InsertsDivisor library.now resolved.current p next.current
+        × IsTrue (is_signal_name p.name)) }
     ensures unmapped { IfErr result (λ u. (u.resolved ≡ resolved)
         × ShowsStuck library.now resolved.current u.cause) }
 {
@@ -110,7 +111,7 @@ fn mapped_further(
             cause: MapStuck::Signal { sig },
         });
     };
-    match inserted(alloc, resolved, insertion) {
+    match with_insertion(alloc, resolved, insertion) {
         Ok(next) => Ok(next),
         Err(back) => Err(without_memory(back)),
     }
@@ -135,7 +136,11 @@ struct Insertion {
 }
 
 /// The lineage with the insertion, which leaves no conflict. After want of memory it comes back.
-fn inserted(alloc: Global, resolved: Resolved, insertion: Insertion) -> Result<Resolved, Resolved>
+fn with_insertion(
+    alloc: Global,
+    resolved: Resolved,
+    insertion: Insertion,
+) -> Result<Resolved, Resolved>
     requires accepted { IsAccepted resolved.current.coded.graph insertion.accepted }
     requires free { LeavesConflicts resolved.current.coded insertion.accepted 0 }
     requires new { ¬ IsTaken resolved.current.coded.graph.signals insertion.name }

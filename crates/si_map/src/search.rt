@@ -14,7 +14,7 @@ ghost use Rattle.si_match.specs.Weight.{weight_of};
 ghost use Rattle.si_map.specs.Waiting.{NeverWaits};
 ghost use Rattle.si_map.specs.Best.{Choice, IsBest, NoneServes};
 ghost use Rattle.si_map.specs.Progress.{AreFitted, IsReady, IsSearching, HasTried, IsTried};
-ghost use Rattle.si_map.specs.Progress.{AreKnown, IsKnown, IsGrown, IsSpent, LeavesBelow};
+ghost use Rattle.si_map.specs.Progress.{AreKnown, IsKnown, MayHaveRecorded, IsSpent, LeavesBelow};
 ghost use Rattle.si_map.specs.Progress.{LeavesNoneBelow};
 
 use crate::functions::Functions;
@@ -231,7 +231,7 @@ impl Search {
 
     /// Keeps the partition among those that were tried, as long as these have few classes.
     fn keep_tried(&mut self, accepted: Accepted) -> Result<(), NoMemory>
-        ensures { OnOk result (IsGrown self.old accepted self.new) }
+        ensures { OnOk result (MayHaveRecorded self.old accepted self.new) }
     {
         let classes = accepted.partition().classes().len();
         if self.tried.len() < MAX_TRIED_CLASSES / (classes + 1) {

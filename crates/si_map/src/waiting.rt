@@ -3,7 +3,7 @@
 ghost use Rattle.std.specs.Prelude.{◌≡◌, ℕ, ◌<◌, Bool, false, length};
 ghost use Rattle.si_base.specs.Bits.{bit};
 ghost use Rattle.si_insert.specs.Insertion.{waits};
-ghost use Rattle.si_map.specs.Waiting.{GoesOn, NeverWaits};
+ghost use Rattle.si_map.specs.Waiting.{ArcNeverWaits, NeverWaits};
 
 use si_base::graph::Edge;
 use si_base::ids::Code;
@@ -26,7 +26,7 @@ fn may_wait(from: Class, to: Class) -> bool
 fn arc_may_wait(classes: &[Class], a: &Edge) -> bool
     requires from { a.now.from < length classes.now }
     requires to { a.now.to < length classes.now }
-    ensures { result ≡ false → GoesOn classes.now a.now }
+    ensures { result ≡ false → ArcNeverWaits classes.now a.now }
 {
     let from = classes[a.from.0 as usize];
     let to = classes[a.to.0 as usize];

@@ -24,7 +24,7 @@ use Rattle.si_cube.specs.Order.{HaveSame}
 use Rattle.si_match.specs.Codes.{AreCodes, AreProjected}
 use Rattle.si_match.specs.Dropping.{AreTried}
 use Rattle.si_match.specs.Fit.{states_of}
-use Rattle.si_match.specs.Support.{agree, determines, dropped_from, support_of}
+use Rattle.si_match.specs.Support.{agree, determines, support_by_drops, support_of}
 use Rattle.si_match.proofs.StateLemmas.{state_at, states_are, one_fails}
 
 -- the values of these signals in the codes of the first states, so many
@@ -175,7 +175,7 @@ module _ (c : CodedGraph) (z signals : ℕ) (on off sorted : List ℕ) (on_are :
 module _ (c : CodedGraph) (z i signals : ℕ) (on off : List ℕ) (so_far : InSupport c z i signals on off)
     (inside : i < length c.graph.signals) where
   told_step : (b : Bool) → determines c z (flip signals i) ≡ b
-      → dropped_from c z (length c.graph.signals - (i + 1)) (i + 1) (if b then flip signals i else signals)
+      → support_by_drops c z (length c.graph.signals - (i + 1)) (i + 1) (if b then flip signals i else signals)
       ≡ support_of c z
   told_step b is =
       let e : length c.graph.signals - i ≡ suc (length c.graph.signals - (i + 1)) = omega arith in

@@ -16,7 +16,7 @@ use Rattle.si_cube.proofs.LiteralLemmas.{bit-and, bit-xor, bit-ones}
 use Rattle.si_graph.proofs.ValueLemmas.{bit-or}
 use Rattle.si_match.specs.Dropping.{AreTried}
 use Rattle.si_match.specs.Fit.{states_of}
-use Rattle.si_match.specs.Support.{agree, determines, dropped_from, support_of}
+use Rattle.si_match.specs.Support.{agree, determines, support_by_drops, support_of}
 use Rattle.si_match.specs.Triggers.{IsTrigger, AreTriggers}
 use Rattle.si_match.proofs.CodeLemmas.{all_from}
 use Rattle.si_match.proofs.StateLemmas.{one_fails}
@@ -153,7 +153,7 @@ module _ (c : CodedGraph) (z : ℕ) where
 
   -- however many signals are tried
   pub trigger_stays : (count i signals j : ℕ) → IsCoded c → IsTrigger c z j → bit signals j ≡ true
-      → bit (dropped_from c z count i signals) j ≡ true
+      → bit (support_by_drops c z count i signals) j ≡ true
   trigger_stays zero i signals j is t there = there
   trigger_stays (suc count) i signals j is t there = elim (cases_Bool (determines c z (flip signals i))) [
     | inl needless ↦ rw needless (trigger_stays count (i + 1) (flip signals i) j is t
@@ -180,7 +180,7 @@ record IsCore (c : CodedGraph) (z i count core signals : ℕ) : Type 0 where
 module _ (c : CodedGraph) (z : ℕ) (is : IsCoded c) where
   -- those that are not in the core are dropped
   dropped_to : (count i core signals left : ℕ) → IsCore c z i count core signals → IsLeft i count core signals left
-      → dropped_from c z count i signals ≡ left
+      → support_by_drops c z count i signals ≡ left
   dropped_to zero i core signals left is_core is_left =
       same_codes signals left (λ j. sym (is_left.outside j (λ low high. omega (arith, low, high))))
   dropped_to (suc count) i core signals left is_core is_left = elim (cases_Bool (bit core i)) [
@@ -228,8 +228,8 @@ module _ (c : CodedGraph) (z : ℕ) (is : IsCoded c) where
       }
 
   -- signals are tried one part after the other
-  tried_in_parts : (one two i signals : ℕ) → dropped_from c z (one + two) i signals
-      ≡ dropped_from c z two (i + one) (dropped_from c z one i signals)
+  tried_in_parts : (one two i signals : ℕ) → support_by_drops c z (one + two) i signals
+      ≡ support_by_drops c z two (i + one) (support_by_drops c z one i signals)
   tried_in_parts zero two i signals =
       let none : 0 + two ≡ two = omega arith in
       let same : i + 0 ≡ i = omega arith in
@@ -241,13 +241,13 @@ module _ (c : CodedGraph) (z : ℕ) (is : IsCoded c) where
       else signals))
 
   one_tried : (count i signals : ℕ) (b : Bool) → determines c z (flip signals i) ≡ b
-      → dropped_from c z (suc count) i signals
-      ≡ dropped_from c z count (i + 1) (if b then flip signals i else signals)
+      → support_by_drops c z (suc count) i signals
+      ≡ support_by_drops c z count (i + 1) (if b then flip signals i else signals)
   one_tried count i signals b is_b =
-      ap (λ (v : Bool). dropped_from c z count (i + 1) (if v then flip signals i else signals)) is_b
+      ap (λ (v : Bool). support_by_drops c z count (i + 1) (if v then flip signals i else signals)) is_b
 
   -- ---- the support
-  whole : dropped_from c z (length c.graph.signals) 0 (ones (length c.graph.signals)) ≡ support_of c z
+  whole : support_by_drops c z (length c.graph.signals) 0 (ones (length c.graph.signals)) ≡ support_of c z
   unfolding support_of
   whole = refl
 
@@ -357,7 +357,7 @@ module _ (c : CodedGraph) (z : ℕ) (is : IsCoded c) where
       ]
 
       -- all other signals before z are dropped
-      up_to_own : dropped_from c z z 0 (ones (length c.graph.signals)) ≡ before
+      up_to_own : support_by_drops c z z 0 (ones (length c.graph.signals)) ≡ before
       up_to_own = dropped_to z 0 own (ones (length c.graph.signals)) before (record {
         determined = determined;
         among = λ j there. in_ones j (length c.graph.signals) (own_within j there);
@@ -388,24 +388,24 @@ module _ (c : CodedGraph) (z : ℕ) (is : IsCoded c) where
 
       -- what is left to try from z on
       from_own_on : (left : ℕ) (b : Bool) → length c.graph.signals ≡ z + suc left → determines c z later ≡ b
-          → dropped_from c z left (z + 1) (if b then later else before) ≡ support_of c z
+          → support_by_drops c z left (z + 1) (if b then later else before) ≡ support_of c z
       from_own_on left b parts is_b =
           sym (in_parts ∙ at_own ∙ one_tried left z before b (ap (determines c z) tried_own ∙ is_b) ∙ without_own)
-          ∙ ap (λ (n : ℕ). dropped_from c z n 0 (ones (length c.graph.signals))) (sym parts) ∙ whole
+          ∙ ap (λ (n : ℕ). support_by_drops c z n 0 (ones (length c.graph.signals))) (sym parts) ∙ whole
         where
-          in_parts : dropped_from c z (z + suc left) 0 (ones (length c.graph.signals))
-              ≡ dropped_from c z (suc left) (0 + z) (dropped_from c z z 0 (ones (length c.graph.signals)))
+          in_parts : support_by_drops c z (z + suc left) 0 (ones (length c.graph.signals))
+              ≡ support_by_drops c z (suc left) (0 + z) (support_by_drops c z z 0 (ones (length c.graph.signals)))
           in_parts = tried_in_parts z (suc left) 0 (ones (length c.graph.signals))
 
-          at_own : dropped_from c z (suc left) (0 + z) (dropped_from c z z 0 (ones (length c.graph.signals)))
-              ≡ dropped_from c z (suc left) z before
+          at_own : support_by_drops c z (suc left) (0 + z) (support_by_drops c z z 0 (ones (length c.graph.signals)))
+              ≡ support_by_drops c z (suc left) z before
           at_own =
               let first : 0 + z ≡ z = omega arith in
-              rw first (ap (dropped_from c z (suc left) z) up_to_own)
+              rw first (ap (support_by_drops c z (suc left) z) up_to_own)
 
-          without_own : dropped_from c z left (z + 1) (if b then flip before z else before)
-              ≡ dropped_from c z left (z + 1) (if b then later else before)
-          without_own = ap (λ (k : ℕ). dropped_from c z left (z + 1) (if b then k else before)) tried_own
+          without_own : support_by_drops c z left (z + 1) (if b then flip before z else before)
+              ≡ support_by_drops c z left (z + 1) (if b then later else before)
+          without_own = ap (λ (k : ℕ). support_by_drops c z left (z + 1) (if b then k else before)) tried_own
 
       -- z is dropped
       pub own_tried : determines c z later ≡ true → AreTried c z (z + 1) later

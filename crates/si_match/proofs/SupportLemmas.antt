@@ -13,7 +13,7 @@ use Rattle.si_base.specs.Graph.{IsNonInput}
 use Rattle.si_base.specs.Proper.{HasNoConflict}
 use Rattle.si_cube.proofs.LiteralLemmas.{bit-and, bit-ones}
 use Rattle.si_checks.proofs.ConflictFree.{same_next}
-use Rattle.si_match.specs.Support.{agree, determines, dropped_from, support_of}
+use Rattle.si_match.specs.Support.{agree, determines, support_by_drops, support_of}
 use Rattle.si_match.proofs.CodeLemmas.{all_from}
 
 -- ---- all signals
@@ -62,7 +62,7 @@ all_determine c z coded none non_input =
 
 -- ---- signals that are dropped
 still : (c : CodedGraph) (z count i signals : ℕ) → determines c z signals ≡ true
-    → determines c z (dropped_from c z count i signals) ≡ true
+    → determines c z (support_by_drops c z count i signals) ≡ true
 still c z zero i signals so_far = so_far
 still c z (suc count) i signals so_far = elim (cases_Bool (determines c z (flip signals i))) [
   | inl needless ↦ rw needless (still c z count (i + 1) (flip signals i) needless)

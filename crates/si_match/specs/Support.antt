@@ -22,12 +22,12 @@ determines c z signals =
 
 -- of the signals from the i-th on, so many, each is dropped without which the others still
 -- determine the next value of z
-abbrev pub dropped_from : CodedGraph → ℕ → ℕ → ℕ → ℕ → ℕ
-dropped_from c z zero i signals = signals
-dropped_from c z (suc count) i signals =
-    dropped_from c z count (i + 1)
+abbrev pub support_by_drops : CodedGraph → ℕ → ℕ → ℕ → ℕ → ℕ
+support_by_drops c z zero i signals = signals
+support_by_drops c z (suc count) i signals =
+    support_by_drops c z count (i + 1)
     (if determines c z (flip signals i) then flip signals i else signals)
 
 -- what is left of all signals
 unfoldable pub support_of : CodedGraph → ℕ → ℕ
-support_of c z = dropped_from c z (length c.graph.signals) 0 (ones (length c.graph.signals))
+support_of c z = support_by_drops c z (length c.graph.signals) 0 (ones (length c.graph.signals))

@@ -39,7 +39,11 @@ pub(crate) fn codes_with(
 }
 
 /// The values of these signals in the codes, in ascending order.
-pub(crate) fn projected(alloc: Global, codes: &[Code], signals: Code) -> Result<Vec<Code>, NoMemory>
+pub(crate) fn projected_codes(
+    alloc: Global,
+    codes: &[Code],
+    signals: Code,
+) -> Result<Vec<Code>, NoMemory>
     ensures in_order { IfOk result (λ part. IsNonDecreasing part.items) }
     ensures same { IfOk result (λ part. AreProjected codes.now signals part.items) }
 {

@@ -10,7 +10,7 @@ ghost use Rattle.si_match.specs.Dropping.{AreTried};
 ghost use Rattle.si_match.specs.Support.{determines, support_of};
 ghost use Rattle.si_match.specs.Triggers.{AreTriggers};
 
-use crate::codes::{codes_with, meet, projected};
+use crate::codes::{codes_with, meet, projected_codes};
 use crate::triggers::triggers_of;
 use si_base::ids::{Code, NoMemory, Sig};
 use si_checks::distinct::Distinct;
@@ -108,8 +108,8 @@ fn kept_signals(
             continue;
         }
         let fewer = signals.flip(sig);
-        let fewer_on = projected(alloc, &on, fewer)?;
-        let fewer_off = projected(alloc, &off, fewer)?;
+        let fewer_on = projected_codes(alloc, &on, fewer)?;
+        let fewer_off = projected_codes(alloc, &off, fewer)?;
         if meet(&fewer_on, &fewer_off) {
             continue;
         }

@@ -9,7 +9,7 @@ use Rattle.si_pictures.specs.InConflict.{is_among}
 use Rattle.si_pictures.specs.Picture.{picture}
 use Rattle.si_pictures.specs.StatesText.{states_text}
 use Rattle.si_pictures.specs.Tokens.{Id, Keyword, Quoted, Mark, Unread, tokens_of}
-use Rattle.si_pictures.specs.Writing.{escaped, dot_text}
+use Rattle.si_pictures.specs.Writing.{escaped_byte, dot_text}
 
 -- ---- the input `a` rises, then the output `z`
 coded : CodedGraph
@@ -37,7 +37,7 @@ unfolding dot_text picture code_word coded names
 drawn = rw (decimal_digit 0 (lit< tt), decimal_digit 1 (lit< tt), decimal_digit 2 (lit< tt)) refl
 
 -- ---- strings
-all_escaped : flat_map escaped (codes "a\"b\\&\n") ≡ codes "a\\\"b\\\\&amp;\\n"
+all_escaped : flat_map escaped_byte (codes "a\"b\\&\n") ≡ codes "a\\\"b\\\\&amp;\\n"
 all_escaped = refl
 
 shown : tokens_of (codes "x=\"a\\\"b\\\\&amp;\\n\";")

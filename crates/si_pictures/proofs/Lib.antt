@@ -1,9 +1,9 @@
 mod Examples
-pub mod PartLemmas
+pub mod WritingParts
 pub mod CodeLemmas
-pub mod MarkLemmas
-pub mod ReadLemmas
-pub mod GraphLemmas
-pub mod OneReading
+pub mod InConflictMarks
+pub mod TokenReading
+pub mod GrammarStatements
+pub mod OneTokenReading
 pub mod PictureLemmas
 pub mod PictureLaws

@@ -14,18 +14,19 @@ use Rattle.si_base.specs.declared.graph.Signal.{Signal}
 use Rattle.si_base.specs.Codes.{CodedGraph, IsCoded}
 use Rattle.si_graph.proofs.MemberLemmas.{Contains-cons_cases, Contains-nil, Contains-from_map}
 use Rattle.si_conflicts.specs.Conflicts.{AreConflicts}
-use Rattle.si_conflicts.proofs.Counted.{one_list}
+use Rattle.si_conflicts.proofs.OneConflictList.{one_list}
 use Rattle.si_conflicts.proofs.ConflictsExist.{some_conflicts}
 use Rattle.si_pictures.specs.CodeWord.{first}
 use Rattle.si_pictures.specs.Grammar.{Attribute, Statement, Setting, IsReadAs}
 use Rattle.si_pictures.specs.InConflict.{is_among}
-use Rattle.si_pictures.specs.Picture.{labelled, two_borders, in_red, dashed, state_label, state_node, drives, arc_link}
+use Rattle.si_pictures.specs.Picture.{label_attribute, two_borders, in_red, dashed_style, state_label, state_node}
+use Rattle.si_pictures.specs.Picture.{drives, arc_link}
 use Rattle.si_pictures.specs.Picture.{picture, IsDotText}
 use Rattle.si_pictures.specs.Tokens.{is_digit}
 use Rattle.si_pictures.specs.Writing.{dot_text}
-use Rattle.si_pictures.proofs.ReadLemmas.{NameReads, IsNumber}
-use Rattle.si_pictures.proofs.GraphLemmas.{AreNamed, IsSound, graph_read}
-use Rattle.si_pictures.proofs.OneReading.{one_reading}
+use Rattle.si_pictures.proofs.TokenReading.{NameReads, IsNumber}
+use Rattle.si_pictures.proofs.GrammarStatements.{AreNamed, IsSound, graph_read}
+use Rattle.si_pictures.proofs.OneTokenReading.{one_reading}
 use Rattle.si_sg.specs.CanonicalText.{event_word}
 
 -- ---- one text, and some
@@ -70,8 +71,8 @@ others_named true a named = λ x there. elim (Contains-cons_cases a [] x there) 
 ]
 others_named false a named = λ x there. absurd (Contains-nil x there)
 
-behind_label : (label : List ℕ) (others : List Attribute) → AreNamed others → AreNamed (labelled label ∷ others)
-behind_label label others named = λ x there. elim (Contains-cons_cases (labelled label) others x there) [
+behind_label : (label : List ℕ) (others : List Attribute) → AreNamed others → AreNamed (label_attribute label ∷ others)
+behind_label label others named = λ x there. elim (Contains-cons_cases (label_attribute label) others x there) [
   | inl same ↦ subst (λ (y : Attribute). NameReads y.name) same label_named
   | inr later ↦ named x later
 ]
@@ -96,7 +97,8 @@ link_sound : (signals : List Signal) (a : Edge) → a.from < 2 ^ 64 → a.to < 2
 link_sound signals a from to = (
   number a.from from,
   number a.to to,
-  behind_label (event_word signals a.event) _ (others_named (not (drives signals a.event.sig)) dashed (λ rest. refl)),
+  behind_label (event_word signals a.event) _
+      (others_named (not (drives signals a.event.sig)) dashed_style (λ rest. refl)),
 )
 
 among_first : (n s : ℕ) → Contains (first n) s → s < n
@@ -115,7 +117,8 @@ unfolding picture
 picture_sound model states c marked coded x there =
     let node : ℕ → Statement = λ s. state_node c states s (marked s) in
     let link : Edge → Statement = λ a. arc_link c.graph.signals a in
-    elim (Contains-cons_cases (Setting (labelled model)) (map node (first c.graph.states) ++ map link c.graph.edges) x
+    elim (Contains-cons_cases (Setting (label_attribute model))
+    (map node (first c.graph.states) ++ map link c.graph.edges) x
     there) [
       | inl same ↦ subst IsSound same label_named
       | inr later ↦ elim (Contains-append_cases (map node (first c.graph.states)) (map link c.graph.edges) x later) [

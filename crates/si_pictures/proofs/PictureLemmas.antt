@@ -15,11 +15,12 @@ use Rattle.si_conflicts.specs.Conflicts.{AreConflicts}
 use Rattle.si_conflicts.proofs.ConflictsExist.{some_conflicts}
 use Rattle.si_pictures.specs.CodeWord.{first}
 use Rattle.si_pictures.specs.InConflict.{IsInConflict, is_among, AreMarks}
-use Rattle.si_pictures.proofs.PartLemmas.{same_parts}
+use Rattle.si_pictures.proofs.WritingParts.{same_parts}
 use Rattle.si_pictures.specs.Grammar.{Attribute, Statement, Setting}
-use Rattle.si_pictures.specs.Picture.{labelled, two_borders, in_red, dashed, drives, state_label, state_node, arc_link}
+use Rattle.si_pictures.specs.Picture.{label_attribute, two_borders, in_red, dashed_style, drives, state_label}
+use Rattle.si_pictures.specs.Picture.{state_node, arc_link}
 use Rattle.si_pictures.specs.Picture.{picture, IsDotText}
-use Rattle.si_pictures.specs.Writing.{escaped, attribute_text, later_text, statement_text, dot_text}
+use Rattle.si_pictures.specs.Writing.{escaped_byte, attribute_text, later_text, statement_text, dot_text}
 use Rattle.si_sg.specs.CanonicalText.{event_word}
 
 abbrev pub node_of : CodedGraph → List (List ℕ) → List Bool → ℕ → Statement
@@ -39,16 +40,16 @@ pub four_parts : (text a b c d : List ℕ) → (((text ++ a) ++ b) ++ c) ++ d �
 four_parts text a b c d = simp append_assoc
 
 pub attribute_by_calls : (text name value first second third : List ℕ) → first ≡ text ++ name
-    → second ≡ first ++ codes "=\"" → third ≡ second ++ flat_map escaped value
+    → second ≡ first ++ codes "=\"" → third ≡ second ++ flat_map escaped_byte value
     → third ++ codes "\"" ≡ text ++ attribute_text (record { name = name; value = value })
 attribute_by_calls text name value first second third e1 e2 e3 =
-    rw (e3, e2, e1) (four_parts text name (codes "=\"") (flat_map escaped value) (codes "\""))
+    rw (e3, e2, e1) (four_parts text name (codes "=\"") (flat_map escaped_byte value) (codes "\""))
 
 pub setting_by_calls : (text label first second : List ℕ) → first ≡ text ++ codes "  "
-    → second ≡ first ++ attribute_text (labelled label)
-    → second ++ codes ";\n" ≡ text ++ statement_text (Setting (labelled label))
+    → second ≡ first ++ attribute_text (label_attribute label)
+    → second ++ codes ";\n" ≡ text ++ statement_text (Setting (label_attribute label))
 setting_by_calls text label first second e1 e2 =
-    rw (e2, e1) (three_parts text (codes "  ") (attribute_text (labelled label)) (codes ";\n"))
+    rw (e2, e1) (three_parts text (codes "  ") (attribute_text (label_attribute label)) (codes ";\n"))
 
 -- an attribute behind another
 pub later_by_calls : (text : List ℕ) (a : Attribute) (first : List ℕ) → first ≡ text ++ codes ", "
@@ -66,14 +67,14 @@ node_parts t two id opening label borders colour close end = simp append_assoc
 pub node_by_calls : (c : CodedGraph) (states : List (List ℕ)) (s : ℕ) (start marked : Bool)
     (text first second third fourth fifth sixth : List ℕ) → start ≡ (s == c.graph.start)
     → first ≡ text ++ codes "  " → second ≡ first ++ decimal s → third ≡ second ++ codes " ["
-    → fourth ≡ third ++ attribute_text (labelled (state_label c states s))
+    → fourth ≡ third ++ attribute_text (label_attribute (state_label c states s))
     → fifth ≡ fourth ++ flat_map later_text (if start then two_borders ∷ [] else [])
     → sixth ≡ fifth ++ flat_map later_text (if marked then in_red ∷ [] else [])
     → sixth ++ codes "];\n" ≡ text ++ statement_text (state_node c states s marked)
 node_by_calls c states s start marked text first second third fourth fifth sixth e0 e1 e2 e3 e4 e5 e6 =
     let border : List Attribute = if start then two_borders ∷ [] else [] in
     let colour : List Attribute = if marked then in_red ∷ [] else [] in
-    let label = attribute_text (labelled (state_label c states s)) in
+    let label = attribute_text (label_attribute (state_label c states s)) in
     let node : List Attribute → List ℕ = λ xs. text ++ (codes "  " ++ (decimal s
     ++ ((codes " [" ++ (label ++ (flat_map later_text xs ++ codes "]"))) ++ codes ";\n"))) in
     let whole : List ℕ → List ℕ = λ later. text ++ (codes "  " ++ (decimal s
@@ -93,16 +94,16 @@ pub link_by_calls : (signals : List Signal) (a : Edge) (driven : Bool)
     (text first second third fourth fifth sixth seventh : List ℕ) → driven ≡ drives signals a.event.sig
     → first ≡ text ++ codes "  " → second ≡ first ++ decimal a.from → third ≡ second ++ codes " -> "
     → fourth ≡ third ++ decimal a.to → fifth ≡ fourth ++ codes " ["
-    → sixth ≡ fifth ++ attribute_text (labelled (event_word signals a.event))
-    → seventh ≡ sixth ++ flat_map later_text (if not driven then dashed ∷ [] else [])
+    → sixth ≡ fifth ++ attribute_text (label_attribute (event_word signals a.event))
+    → seventh ≡ sixth ++ flat_map later_text (if not driven then dashed_style ∷ [] else [])
     → seventh ++ codes "];\n" ≡ text ++ statement_text (arc_link signals a)
 link_by_calls signals a driven text first second third fourth fifth sixth seventh e0 e1 e2 e3 e4 e5 e6 e7 =
-    let label = attribute_text (labelled (event_word signals a.event)) in
+    let label = attribute_text (label_attribute (event_word signals a.event)) in
     let link : List Attribute → List ℕ = λ xs. text ++ (codes "  " ++ (decimal a.from ++ (codes " -> "
     ++ (decimal a.to ++ ((codes " [" ++ (label ++ (flat_map later_text xs ++ codes "]"))) ++ codes ";\n"))))) in
     rw (e7, e6, e5, e4, e3, e2, e1) (link_parts text (codes "  ") (decimal a.from) (codes " -> ") (decimal a.to)
-    (codes " [") label (flat_map later_text (if not driven then dashed ∷ [] else [])) (codes "]") (codes ";\n"))
-    ∙ ap (λ (b : Bool). link (if not b then dashed ∷ [] else [])) e0
+    (codes " [") label (flat_map later_text (if not driven then dashed_style ∷ [] else [])) (codes "]") (codes ";\n"))
+    ∙ ap (λ (b : Bool). link (if not b then dashed_style ∷ [] else [])) e0
 
 -- ---- the marks
 any_found : {A : Type 0} (p : A → Bool) (xs : List A) → list_any p xs ≡ true → (x : A) × Contains xs x × (p x ≡ true)
@@ -149,7 +150,7 @@ whole_parts head title nodes links end = simp append_assoc
 
 pub picture_by_calls : (model : List ℕ) (states : List (List ℕ)) (c : CodedGraph) (marks : List Bool) → AreMarks c marks
     → (begun titled drawn linked all : List ℕ) → begun ≡ codes "digraph {\n"
-    → titled ≡ begun ++ statement_text (Setting (labelled model))
+    → titled ≡ begun ++ statement_text (Setting (label_attribute model))
     → drawn ≡ titled ++ flat_map statement_text (map (node_of c states marks) (first c.graph.states))
     → linked ≡ drawn ++ flat_map statement_text (map (arc_link c.graph.signals) c.graph.edges)
     → all ≡ linked ++ codes "}\n" → IsDotText model states c all
@@ -158,7 +159,7 @@ picture_by_calls model states c marks marked begun titled drawn linked all e1 e2
     let (pairs, are) = some_conflicts c in
     let node : ℕ → Statement = λ s. state_node c states s (is_among pairs s) in
     let links = map (arc_link c.graph.signals) c.graph.edges in
-    let title = statement_text (Setting (labelled model)) in
+    let title = statement_text (Setting (label_attribute model)) in
     let same : map (node_of c states marks) (first c.graph.states) ≡ map node (first c.graph.states) =
     same_parts (node_of c states marks) node c.graph.states (λ s below. ap (state_node c states s)
     (mark_is c pairs are s (get_or marks s false) (marked.each s below))) in

@@ -14,8 +14,8 @@ use Rattle.si_pictures.specs.InConflict.{is_among}
 use Rattle.si_pictures.specs.Writing.{dot_text}
 use Rattle.si_sg.specs.CanonicalText.{state_at, event_word}
 
-abbrev pub labelled : List ℕ → Attribute
-labelled label = record { name = codes "label"; value = label }
+abbrev pub label_attribute : List ℕ → Attribute
+label_attribute label = record { name = codes "label"; value = label }
 
 abbrev pub two_borders : Attribute
 two_borders = record { name = codes "peripheries"; value = codes "2" }
@@ -23,8 +23,8 @@ two_borders = record { name = codes "peripheries"; value = codes "2" }
 abbrev pub in_red : Attribute
 in_red = record { name = codes "color"; value = codes "red" }
 
-abbrev pub dashed : Attribute
-dashed = record { name = codes "style"; value = codes "dashed" }
+abbrev pub dashed_style : Attribute
+dashed_style = record { name = codes "style"; value = codes "dashed" }
 
 -- the name of a state, and on the next line its code
 abbrev pub state_label : CodedGraph → List (List ℕ) → ℕ → List ℕ
@@ -32,7 +32,7 @@ state_label c states s = state_at states s ++ line_feed ∷ code_word c s
 
 -- a state by its number, with two borders where the graph starts, and in red where it is marked
 abbrev pub state_node : CodedGraph → List (List ℕ) → ℕ → Bool → Statement
-state_node c states s marked = Node (decimal s) (labelled (state_label c states s)
+state_node c states s marked = Node (decimal s) (label_attribute (state_label c states s)
     ∷ (if s == c.graph.start then two_borders ∷ [] else [])
     ++ (if marked then in_red ∷ [] else []))
 
@@ -43,13 +43,13 @@ drives signals z = unwrap_or (option_map (λ x. is_driven x.kind) (slice_get sig
 -- an arc, dashed where its event is of an input
 abbrev pub arc_link : List Signal → Edge → Statement
 arc_link signals a = Link (decimal a.from) (decimal a.to)
-    (labelled (event_word signals a.event)
-    ∷ (if not (drives signals a.event.sig) then dashed ∷ [] else []))
+    (label_attribute (event_word signals a.event)
+    ∷ (if not (drives signals a.event.sig) then dashed_style ∷ [] else []))
 
 -- the name of the model, the states in order with the marked ones in red, and the arcs in order
 unfoldable pub picture : (model : List ℕ) → (states : List (List ℕ)) → CodedGraph → (ℕ → Bool)
     → List Statement
-picture model states c marked = Setting (labelled model)
+picture model states c marked = Setting (label_attribute model)
     ∷ map (λ s. state_node c states s (marked s)) (first c.graph.states)
     ++ map (arc_link c.graph.signals) c.graph.edges
 

@@ -5,15 +5,15 @@ use Rattle.si_pictures.specs.Grammar.{Attribute, Statement, Setting, Node, Link}
 use Rattle.si_pictures.specs.Tokens.{quote, ampersand, backslash, small_n}
 
 -- a byte of a label
-abbrev pub escaped : ℕ → List ℕ
-escaped b = if b == quote then backslash ∷ quote ∷ []
+abbrev pub escaped_byte : ℕ → List ℕ
+escaped_byte b = if b == quote then backslash ∷ quote ∷ []
     else if b == backslash then backslash ∷ backslash ∷ []
     else if b == line_feed then backslash ∷ small_n ∷ []
     else if b == ampersand then codes "&amp;" else b ∷ []
 
 -- `NAME="VALUE"`
 abbrev pub attribute_text : Attribute → List ℕ
-attribute_text a = a.name ++ (codes "=\"" ++ (flat_map escaped a.value ++ codes "\""))
+attribute_text a = a.name ++ (codes "=\"" ++ (flat_map escaped_byte a.value ++ codes "\""))
 
 -- an attribute behind another
 abbrev pub later_text : Attribute → List ℕ

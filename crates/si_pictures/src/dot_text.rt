@@ -5,7 +5,8 @@ ghost use Rattle.std.specs.Prelude.{slice_index_or};
 ghost use Rattle.si_pictures.specs.CodeWord.{first};
 ghost use Rattle.si_pictures.specs.Grammar.{Setting};
 ghost use Rattle.si_pictures.specs.Picture as picture;
-ghost use Rattle.si_pictures.specs.Picture.{IsDotText, arc_link, labelled, state_label, state_node};
+ghost use Rattle.si_pictures.specs.Picture.{IsDotText, arc_link, label_attribute, state_label};
+ghost use Rattle.si_pictures.specs.Picture.{state_node};
 ghost use Rattle.si_pictures.specs.Writing.{attribute_text, statement_text};
 ghost use Rattle.si_sg.specs.CanonicalText.{event_word};
 
@@ -42,7 +43,7 @@ pub fn draw(alloc: Global, graph: &Coded, model: &[u8], states: &Names) -> Resul
 /// Adds the name of the model as the label of the graph.
 fn add_title(text: &mut Text, model: &[u8]) -> Result<(), NoMemory>
     ensures { OnOk result
-        (text.new ≡ text.old ++ statement_text (Setting (labelled model.now))) }
+        (text.new ≡ text.old ++ statement_text (Setting (label_attribute model.now))) }
 {
     text.add(b"  ")?;
     add_attribute(text, b"label", model)?;
@@ -103,7 +104,7 @@ fn add_state_label(
     requires state { s < graph.now.graph.states }
     requires names { length states.now ≡ graph.now.graph.states }
     ensures { OnOk result (text.new ≡ text.old
-        ++ attribute_text (labelled (state_label graph.now states.now s))) }
+        ++ attribute_text (label_attribute (state_label graph.now states.now s))) }
 {
     let mut label = Text::copy_of(alloc, name_at(states, s))?;
     label.add(b"\n")?;
@@ -158,7 +159,7 @@ fn add_event_label(
 ) -> Result<(), NoMemory>
     requires { event.sig < length signals.now }
     ensures { OnOk result
-        (text.new ≡ text.old ++ attribute_text (labelled (event_word signals.now event))) }
+        (text.new ≡ text.old ++ attribute_text (label_attribute (event_word signals.now event))) }
 {
     let mut label = Text::copy_of(alloc, signal_name(signals, event.sig))?;
     label.add(sign(event.up))?;

@@ -2,7 +2,7 @@
 
 ghost use Rattle.std.specs.Prelude.{◌≡◌, ◌++◌, ◌∷◌, [], OnOk, decimal, flat_map};
 ghost use Rattle.std.specs.Prelude.{if◌then◌else◌};
-ghost use Rattle.si_pictures.specs.Writing.{attribute_text, escaped, later_text};
+ghost use Rattle.si_pictures.specs.Writing.{attribute_text, escaped_byte, later_text};
 
 use si_base::ids::{NoMemory, StateId};
 use si_base::text::Text;
@@ -44,7 +44,7 @@ pub fn add_attribute_if(
 
 /// Adds the bytes of a label as they stand in a quoted string.
 fn add_escaped(text: &mut Text, label: &[u8]) -> Result<(), NoMemory>
-    ensures { OnOk result (text.new ≡ text.old ++ flat_map escaped label.now) }
+    ensures { OnOk result (text.new ≡ text.old ++ flat_map escaped_byte label.now) }
 {
     for b in label {
         add_escaped_byte(text, *b)?;
@@ -54,7 +54,7 @@ fn add_escaped(text: &mut Text, label: &[u8]) -> Result<(), NoMemory>
 
 /// Adds a byte of a label as it stands in a quoted string.
 fn add_escaped_byte(text: &mut Text, b: u8) -> Result<(), NoMemory>
-    ensures { OnOk result (text.new ≡ text.old ++ escaped b) }
+    ensures { OnOk result (text.new ≡ text.old ++ escaped_byte b) }
 {
     match b {
         b'"' => text.add(b"\\\""),

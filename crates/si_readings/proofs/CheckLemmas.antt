@@ -10,7 +10,7 @@ use Rattle.si_sg.proofs.UniqueLemmas.{given_unique}
 use Rattle.si_system.proofs.UniqueOutcome.{one_difference, for_not_different}
 use Rattle.si_sg.specs.GraphText.{graph_fault}
 use Rattle.si_readings.specs.Checks.{proper, match_lists}
-use Rattle.si_readings.proofs.Breaches.{breach_improper, one_shown}
+use Rattle.si_readings.proofs.CheckBreaches.{breach_improper, one_shown}
 use Rattle.si_readings.proofs.StageLemmas.{one_fault}
 use Rattle.si_readings.specs.Laws.{AtMostOne}
 use Rattle.si_readings.specs.Readings.{graph_in}

@@ -1,8 +1,8 @@
-pub mod HandedOn
-pub mod Breaches
+pub mod ReadingRefusals
+pub mod CheckBreaches
 pub mod StageLemmas
 pub mod CheckLemmas
-pub mod GivenNames
-pub mod SomeLemmas
+pub mod CheckNames
+pub mod ReadingsExist
 pub mod ReadingLemmas
 pub mod Examples

@@ -11,7 +11,7 @@ use Rattle.si_readings.specs.Readings.{AuditReadings, MappingReadings, ReplayRea
 use Rattle.si_readings.specs.Readings.{audit_readings, fault_in, library_from, mapping_readings, replay_readings}
 use Rattle.si_readings.specs.declared.library_format.LibraryFormat.{LibraryFormat}
 use Rattle.si_readings.proofs.CheckLemmas.{graph_one}
-use Rattle.si_readings.proofs.SomeLemmas.{graph_some}
+use Rattle.si_readings.proofs.ReadingsExist.{graph_some}
 use Rattle.si_readings.proofs.StageLemmas.{gives_one, gives_some, spelled_one, spelled_some, then_one, then_some}
 use Rattle.si_readings.proofs.StageLemmas.{no_refusal, one_value}
 

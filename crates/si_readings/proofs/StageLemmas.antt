@@ -4,7 +4,7 @@ use Rattle.std.specs.List.{AllByRecursion}
 use Rattle.si_base.specs.declared.fault.TextKind.{TextKind}
 use Rattle.si_refusals.specs.Ending.{Ending, NoMemory, Answered, MayStop}
 use Rattle.si_readings.specs.Laws.{AtMostOne, HasResult}
-use Rattle.si_readings.specs.Readings.{TellsFault, spelled}
+use Rattle.si_readings.specs.Readings.{TellsFault, spelled_value}
 use Rattle.si_refusals.specs.Refusal.{TextRefusal, TextRefused, BadText}
 use Rattle.si_refusals.specs.Stages.{Stage, Then, Refuses, Passes, gives, shows, each}
 
@@ -76,7 +76,7 @@ one_fault file fault q r one other =
     one.2 ∙ ap (λ (at : ℕ × TextKind). BadText file at.0 at.1) places ∙ sym other.2
 
 pub spelled_one : {A : Type 0} (file : List ℕ) (fault : Option (ℕ × TextKind)) (value : A)
-    → AtMostOne (spelled file fault value)
+    → AtMostOne (spelled_value file fault value)
 spelled_one file fault value (Ok x) (Ok y) one other = ap Ok (one.1 ∙ sym other.1)
 spelled_one file fault value (Ok x) (Err r) one other = (let same = sym one.0 ∙ other.1 in cc)
 spelled_one file fault value (Err q) (Ok y) one other = (let same = sym one.1 ∙ other.0 in cc)
@@ -84,7 +84,7 @@ spelled_one file fault value (Err q) (Err r) one other =
     ap Err (one_fault file fault q r one other)
 
 pub spelled_some : {A : Type 0} (file : List ℕ) (fault : Option (ℕ × TextKind)) (value : A)
-    → HasResult (spelled file fault value)
+    → HasResult (spelled_value file fault value)
 spelled_some file None value = (Ok value, (refl, refl))
 spelled_some file (Some at) value = (Err (BadText file at.0 at.1), (at, refl, refl))
 

@@ -13,11 +13,11 @@ use Rattle.si_candidates.proofs.SideLemmas.{differ_group, differ_swap}
 use Rattle.si_conflicts.specs.Left.{are_parted, stays}
 use Rattle.si_resolve.specs.declared.aspects.Aspect.{Aspect}
 use Rattle.si_resolve.specs.declared.aspects.Aspect.TheVariants.{Together, Apart}
-use Rattle.si_resolve.specs.Aspects.{aspect_by, aspect_of, part, stays_by, unparted}
+use Rattle.si_resolve.specs.Aspects.{aspect_by, aspect_of, part, stays_by, unparted_count}
 
 -- ---- the count, place after place
 unparted_push : (xs ys : List Aspect) (x y : Aspect) → length ys ≡ length xs
-    → unparted (xs ++ x ∷ []) (ys ++ y ∷ []) ≡ unparted xs ys + stays_by x y
+    → unparted_count (xs ++ x ∷ []) (ys ++ y ∷ []) ≡ unparted_count xs ys + stays_by x y
 unparted_push [] [] x y same = omega arith
 unparted_push [] (b ∷ ys) x y same = absurd (omega (arith, same))
 unparted_push (a ∷ xs) [] x y same = absurd (omega (arith, same))
@@ -26,28 +26,28 @@ unparted_push (a ∷ xs) (b ∷ ys) x y same =
     omega (arith, rest)
 
 pub unparted_more : (xs ys : List Aspect) (k : ℕ) → length ys ≡ length xs → k < length xs
-    → unparted (take (k + 1) xs) (take (k + 1) ys)
-    ≡ unparted (take k xs) (take k ys) + stays_by (get_or xs k Together) (get_or ys k Together)
+    → unparted_count (take (k + 1) xs) (take (k + 1) ys)
+    ≡ unparted_count (take k xs) (take k ys) + stays_by (get_or xs k Together) (get_or ys k Together)
 unparted_more xs ys k same inside =
-    ap₂ unparted (take_more xs k Together inside) (take_more ys k Together (omega (arith, same, inside)))
+    ap₂ unparted_count (take_more xs k Together inside) (take_more ys k Together (omega (arith, same, inside)))
     ∙ unparted_push (take k xs) (take k ys) (get_or xs k Together) (get_or ys k Together)
     (length-take-le k ys (omega (arith, same, inside)) ∙ sym (length-take-le k xs (omega (arith, inside))))
 
 pub unparted_all : (xs ys : List Aspect) (k : ℕ) → length ys ≡ length xs → length xs ≤ k
-    → unparted (take k xs) (take k ys) ≡ unparted xs ys
-unparted_all xs ys k same all = ap₂ unparted (take_all k xs all) (take_all k ys (omega (arith, same, all)))
+    → unparted_count (take k xs) (take k ys) ≡ unparted_count xs ys
+unparted_all xs ys k same all = ap₂ unparted_count (take_all k xs all) (take_all k ys (omega (arith, same, all)))
 
-none_left : (xs : List Aspect) → unparted xs [] ≡ 0
+none_left : (xs : List Aspect) → unparted_count xs [] ≡ 0
 none_left [] = refl
 none_left (x ∷ xs) = refl
 
 -- the first n conflicts, and the others
 unparted_split : (n : ℕ) (xs ys : List Aspect)
-    → unparted xs ys ≡ unparted (take n xs) (take n ys) + unparted (drop n xs) (drop n ys)
+    → unparted_count xs ys ≡ unparted_count (take n xs) (take n ys) + unparted_count (drop n xs) (drop n ys)
 unparted_split zero xs ys = omega arith
 unparted_split (suc n) [] ys = omega arith
 unparted_split (suc n) (x ∷ xs) [] =
-    let rest : unparted (drop (suc n) (x ∷ xs)) (drop {A = Aspect} (suc n) []) ≡ 0 = none_left (drop n xs) in
+    let rest : unparted_count (drop (suc n) (x ∷ xs)) (drop {A = Aspect} (suc n) []) ≡ 0 = none_left (drop n xs) in
     omega (arith, rest)
 unparted_split (suc n) (x ∷ xs) (y ∷ ys) =
     let rest = unparted_split n xs ys in
@@ -55,11 +55,11 @@ unparted_split (suc n) (x ∷ xs) (y ∷ ys) =
 
 pub unparted_parts : (n : ℕ) (xs ys first_xs later_xs first_ys later_ys : List Aspect)
     → first_xs ≡ take n xs → later_xs ≡ drop n xs → first_ys ≡ take n ys → later_ys ≡ drop n ys
-    → unparted xs ys ≡ unparted first_xs first_ys + unparted later_xs later_ys
+    → unparted_count xs ys ≡ unparted_count first_xs first_ys + unparted_count later_xs later_ys
 unparted_parts n xs ys first_xs later_xs first_ys later_ys first_x later_x first_y later_y =
     let parts = unparted_split n xs ys in
-    let first = ap₂ unparted first_x first_y in
-    let later = ap₂ unparted later_x later_y in
+    let first = ap₂ unparted_count first_x first_y in
+    let later = ap₂ unparted_count later_x later_y in
     omega (arith, parts, first, later)
 
 -- ---- classes that are parted
@@ -197,9 +197,9 @@ module _ (states : ℕ) (plus minus plus_sides minus_sides : List Bool) (turn : 
       some_stay false = omega arith
 
   pub unparted_stay : (pairs : List (ℕ × ℕ)) → ((pair : ℕ × ℕ) → In pair pairs → (pair.0 < states) × (pair.1 < states))
-      → unparted (map by_plus pairs) (map by_minus pairs) ≤ length (filter (stays classes) pairs)
+      → unparted_count (map by_plus pairs) (map by_minus pairs) ≤ length (filter (stays classes) pairs)
   unparted_stay [] within = omega arith
   unparted_stay (pair ∷ pairs) within =
       let here = within pair (inl refl) in
-      one_more pair pairs (unparted (map by_plus pairs) (map by_minus pairs)) here.0 here.1
+      one_more pair pairs (unparted_count (map by_plus pairs) (map by_minus pairs)) here.0 here.1
       (unparted_stay pairs (λ a there. within a (inr there)))

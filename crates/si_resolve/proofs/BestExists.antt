@@ -10,8 +10,8 @@ use Rattle.si_conflicts.proofs.ConflictsExist.{some_count}
 use Rattle.si_conflicts.proofs.LeftCount.{some_left}
 use Rattle.si_candidates.specs.Blocks.{AreBlocks, IsCandidate, block_at}
 use Rattle.si_candidates.specs.Parts.{AreClasses}
-use Rattle.si_candidates.proofs.Decisions.{disjoint_or_not}
-use Rattle.si_candidates.proofs.AcceptanceDecided.{accepted_classes_or_none}
+use Rattle.si_candidates.proofs.BlockDecisions.{disjoint_or_not}
+use Rattle.si_candidates.proofs.ClassesDecided.{accepted_classes_or_none}
 use Rattle.si_insert.specs.declared.partition.Class.{Class}
 use Rattle.si_insert.specs.Accepted.{IsAccepted}
 use Rattle.si_insert.proofs.RowSearchLemmas.{first_or_none}

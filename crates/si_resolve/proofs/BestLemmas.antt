@@ -5,7 +5,7 @@ use Rattle.si_base.specs.Proper.{IsProper}
 use Rattle.si_insert.specs.declared.partition.Class.{Class}
 use Rattle.si_insert.specs.declared.accept.Rejected.{Rejected}
 use Rattle.si_insert.specs.Accepted.{IsAccepted, ShowsRejected}
-use Rattle.si_insert.proofs.Accepting.{rejected_is_not}
+use Rattle.si_insert.proofs.AcceptedByTests.{rejected_is_not}
 use Rattle.si_candidates.specs.Blocks.{block_at}
 use Rattle.si_candidates.specs.Parts.{AreClasses, ShowsNoClasses}
 use Rattle.si_candidates.specs.declared.classes.ClassFault.{ClassFault}

@@ -15,7 +15,7 @@ use Rattle.si_candidates.specs.Blocks.{AreBlocks, block_at}
 use Rattle.si_conflicts.specs.declared.conflicts.Pair.{Pair}
 use Rattle.si_conflicts.specs.Conflicts.{AreFirstConflicts, HasConflicts, pairs_of}
 use Rattle.si_candidates.specs.ManySets.{AreAllTold}
-use Rattle.si_conflicts.proofs.Counted.{one_count}
+use Rattle.si_conflicts.proofs.OneConflictList.{one_count}
 use Rattle.si_resolve.specs.Best.{NoneImproves}
 use Rattle.si_resolve.specs.Aspects.{AreWithin}
 use Rattle.si_resolve.specs.Usable.{HaveSides, IsUsable}

@@ -8,20 +8,21 @@ use Rattle.si_base.specs.declared.ids.Event.{Event}
 use Rattle.si_base.specs.Graph.{StateGraph}
 use Rattle.si_base.specs.Codes.{CodedGraph}
 use Rattle.si_regions.specs.declared.regions.Region.{Region}
-use Rattle.si_candidates.specs.Blocks.{marked, same_set, once, AreIntervalsFrom, AreIntervals, max_blocks, AreBlocks}
+use Rattle.si_candidates.specs.Blocks.{state_set, same_set, without_repeats, AreIntervalsFrom, AreIntervals, max_blocks}
+use Rattle.si_candidates.specs.Blocks.{AreBlocks}
 use Rattle.si_candidates.specs.Blocks.{block_at}
 
 -- a set of so many places
 abbrev pub HasSize : ℕ → List Bool → Type 0
 HasSize n set = length set ≡ n
 
-marked_size : (n : ℕ) (set : List ℕ) → HasSize n (marked n set)
+marked_size : (n : ℕ) (set : List ℕ) → HasSize n (state_set n set)
 marked_size n set = length-map-range_with_len (λ s. list_any (λ t. t == s) set) 0 n
 
 all_marked : (n : ℕ) (f : Region → List ℕ) (regions : List Region)
-    → All (HasSize n) (map (λ r. marked n (f r)) regions)
+    → All (HasSize n) (map (λ r. state_set n (f r)) regions)
 all_marked n f [] = All-nil (HasSize n)
-all_marked n f (r ∷ regions) = All-cons (HasSize n) (marked n (f r)) (map (λ r. marked n (f r)) regions)
+all_marked n f (r ∷ regions) = All-cons (HasSize n) (state_set n (f r)) (map (λ r. state_set n (f r)) regions)
     (marked_size n (f r)) (all_marked n f regions)
 
 from_sizes : (g : StateGraph) (from : List Bool) (stops : List Event) (sets : List (List Bool))
@@ -37,12 +38,12 @@ interval_sizes : (g : StateGraph) (stops : List Event) (regions : List Region) (
 interval_sizes g stops [] sets are = subst (All (HasSize g.states)) (sym are) (All-nil (HasSize g.states))
 interval_sizes g stops (r ∷ regions) sets (here, rest, same, are, others) =
     subst (All (HasSize g.states)) (sym same) (All-append (HasSize g.states) here rest
-    (from_sizes g (marked g.states r.sr) stops here are) (interval_sizes g stops regions rest others))
+    (from_sizes g (state_set g.states r.sr) stops here are) (interval_sizes g stops regions rest others))
 
-once_sizes : (n : ℕ) (sets : List (List Bool)) → All (HasSize n) sets → All (HasSize n) (once sets)
+once_sizes : (n : ℕ) (sets : List (List Bool)) → All (HasSize n) sets → All (HasSize n) (without_repeats sets)
 once_sizes n [] all = All-nil (HasSize n)
 once_sizes n (x ∷ xs) all = All-cons (HasSize n) x _ (all 0 x (omega arith))
-    (All-filter (λ z. not (same_set z x)) (HasSize n) (once xs)
+    (All-filter (λ z. not (same_set z x)) (HasSize n) (without_repeats xs)
     (once_sizes n xs (λ k d inside. all (suc k) d (omega arith))))
 
 pub block_sizes : (c : CodedGraph) (blocks : List (List Bool)) → AreBlocks c blocks
@@ -50,8 +51,8 @@ pub block_sizes : (c : CodedGraph) (blocks : List (List Bool)) → AreBlocks c b
 block_sizes c blocks are =
     let n = c.graph.states in
     let P = HasSize n in
-    let excited = map (λ (r : Region). marked n r.er) are.regions in
-    let switched = map (λ (r : Region). marked n r.sr) are.regions in
+    let excited = map (λ (r : Region). state_set n r.er) are.regions in
+    let switched = map (λ (r : Region). state_set n r.sr) are.regions in
     let rest : All P (switched ++ are.intervals) = All-append P switched are.intervals
     (all_marked n (λ r. r.sr) are.regions) (interval_sizes c.graph _ are.regions are.intervals are.intervals_are) in
     let all : All P (excited ++ (switched ++ are.intervals)) = All-append P excited (switched ++ are.intervals)

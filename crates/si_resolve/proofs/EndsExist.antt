@@ -5,18 +5,18 @@ use Rattle.si_base.specs.Order.{IsFirst}
 use Rattle.si_base.specs.Proper.{IsConflict, IsProper, pair_place}
 use Rattle.si_conflicts.specs.Conflicts.{HasConflicts}
 use Rattle.si_conflicts.proofs.ConflictsExist.{some_count}
-use Rattle.si_conflicts.proofs.Counted.{first_is_first, none_is_none}
+use Rattle.si_conflicts.proofs.OneConflictList.{first_is_first, none_is_none}
 use Rattle.si_candidates.specs.Laws.{BlocksExist}
 use Rattle.si_insert.specs.declared.lineage.TraceStep.{TraceStep}
 use Rattle.si_insert.specs.Lineage.{Current}
 use Rattle.si_insert.proofs.InsertionsExist.{next_of}
-use Rattle.si_insert.proofs.TraceLemmas.{some_end}
+use Rattle.si_insert.proofs.LineageTraces.{some_end}
 use Rattle.si_resolve.specs.Best.{Choice, Improves, NoneImproves, IsStuck}
 use Rattle.si_resolve.specs.Laws.{ResolvingEnds}
-use Rattle.si_resolve.specs.Trace.{Resolves}
+use Rattle.si_resolve.specs.Trace.{InsertsCandidate}
 use Rattle.si_resolve.proofs.BestExists.{best_or_none}
 use Rattle.si_resolve.proofs.OneBest.{none_improves_is_stuck}
-use Rattle.si_resolve.proofs.Traces.{IsEnd, conflicts_of, fewer_next}
+use Rattle.si_resolve.proofs.TraceLemmas.{IsEnd, conflicts_of, fewer_next}
 
 -- what holds of each graph that resolving comes to
 record IsSound (v : Current) : Type 0 where
@@ -25,12 +25,12 @@ record IsSound (v : Current) : Type 0 where
 
 -- ---- one insertion
 abbrev Betters : Current → Type 0
-Betters v = (p : TraceStep) × (u : Current) × Resolves v p u × IsSound u × (conflicts_of u < conflicts_of v)
+Betters v = (p : TraceStep) × (u : Current) × InsertsCandidate v p u × IsSound u × (conflicts_of u < conflicts_of v)
 
 better : (v : Current) (x : Choice) → IsSound v → Improves v.coded x → Betters v
 better v x sound improves =
     let (p, u, next) = next_of v (codes "csc") x.classes sound.coded improves.best.first.holds.accepted in
-    let resolves : Resolves v p u = record {
+    let resolves : InsertsCandidate v p u = record {
       choice = x;
       improves = improves;
       classes_are = next.classes_are;
@@ -68,7 +68,8 @@ module _ (some_blocks : BlocksExist) where
   pub resolving_ends : ResolvingEnds
   resolving_ends v coded proper =
       let (trace, w, leads, end) =
-      some_end Resolves IsEnd IsSound conflicts_of end_or_better v (record { coded = coded; proper = proper }) in
+      some_end InsertsCandidate IsEnd IsSound conflicts_of end_or_better v
+      (record { coded = coded; proper = proper }) in
       elim end [
         | inl none ↦ (trace, w, inl (record { goes = leads; done = none }))
         | inr (pair, stuck) ↦ (trace, w, inr (pair, record { goes = leads; stuck = stuck }))

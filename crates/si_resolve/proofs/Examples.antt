@@ -4,7 +4,7 @@ use Rattle.std.proofs.Common.{◌≡◌, ℕ, Bool, true, false, List, [], ◌�
 use Rattle.si_base.specs.Order.{Before}
 use Rattle.si_insert.specs.declared.partition.Class.TheVariants.{Low, Rising, High, Falling}
 use Rattle.si_resolve.specs.declared.aspects.Aspect.TheVariants.{Together, Apart, Touched}
-use Rattle.si_resolve.specs.Aspects.{aspect_of, part, unparted}
+use Rattle.si_resolve.specs.Aspects.{aspect_of, part, unparted_count}
 use Rattle.si_resolve.specs.SideClasses.{side_classes}
 use Rattle.si_resolve.specs.Best.{Choice, choice_place}
 use Rattle.si_resolve.specs.Search.{bar}
@@ -64,5 +64,5 @@ touched : aspect_of second sides_of_second (1, 2) ≡ Touched
 touched = refl
 
 -- of two conflicts it leaves one at least
-one_stays : unparted (Apart ∷ Touched ∷ []) (Together ∷ Together ∷ []) ≡ 1
+one_stays : unparted_count (Apart ∷ Touched ∷ []) (Together ∷ Together ∷ []) ≡ 1
 one_stays = refl

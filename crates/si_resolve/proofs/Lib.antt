@@ -1,7 +1,7 @@
 mod Examples
 pub mod OneBest
 pub mod SearchSteps
-pub mod Traces
+pub mod TraceLemmas
 pub mod BestExists
 pub mod EndsExist
 pub mod BlockSizes

@@ -13,15 +13,15 @@ use Rattle.si_base.proofs.Unique.{contains_from_in}
 use Rattle.si_graph.proofs.MarkLemmas.{in_below}
 use Rattle.si_insert.specs.declared.partition.Class.{Class}
 use Rattle.si_insert.specs.Partition.{IsLawful}
-use Rattle.si_candidates.specs.Sides.{AreSides, IsPartitionFor, between}
+use Rattle.si_candidates.specs.Sides.{AreSides, IsPartitionOfBlocks, between}
 use Rattle.si_candidates.proofs.SideLemmas.{class_is}
 use Rattle.si_candidates.specs.Blocks.{AreBlocks, block_at}
-use Rattle.si_candidates.specs.Parts.{AreClasses, IsTorn}
+use Rattle.si_candidates.specs.Parts.{AreClasses, HasBothLevels}
 use Rattle.si_candidates.proofs.PartLaws.{classes_lawful, classes_unique, torn_have_none}
 use Rattle.si_conflicts.specs.Chains.{AreChains, Chains}
 use Rattle.si_conflicts.specs.Conflicts.{HasConflicts}
 use Rattle.si_conflicts.specs.Left.{LeavesConflicts}
-use Rattle.si_conflicts.proofs.StayingConflicts.{stay_left}
+use Rattle.si_conflicts.proofs.LeftStaying.{stay_left}
 use Rattle.si_insert.specs.RowSearch.{bar as bar_in}
 use Rattle.si_resolve.specs.declared.search.Found.{Found}
 use Rattle.si_resolve.specs.declared.search.Search.{Search}
@@ -29,12 +29,12 @@ use Rattle.si_resolve.specs.Best.{Choice, IsChoice, NoneImproves}
 use Rattle.si_resolve.specs.Search.{IsBestSoFar, IsEarlier, bar}
 use Rattle.si_resolve.specs.declared.aspects.Aspect.{Aspect}
 use Rattle.si_resolve.specs.declared.block_list.BlockList.{BlockList}
-use Rattle.si_resolve.specs.Aspects.{HaveAspects, aspect_of, column_at, unparted}
+use Rattle.si_resolve.specs.Aspects.{HaveAspects, aspect_of, column_at, unparted_count}
 use Rattle.si_resolve.specs.Usable.{IsUsable, AreSearched, AreUsable, AreSided, HaveSides}
 use Rattle.si_resolve.specs.Progress.{found_of, best_of, IsSearching, IsFound, bar_of, MayBeAccepted, LeavesBelow}
-use Rattle.si_resolve.specs.Progress.{LeavesNoneBelow, NoneIsBelow, HasSameRoom}
-use Rattle.si_candidates.proofs.Separable.{accepted_by_blocks}
-use Rattle.si_candidates.proofs.CopyCount.{copies_by_blocks}
+use Rattle.si_resolve.specs.Progress.{LeavesNoneBelow, NoneIsBelow, DifferInClassesAlone}
+use Rattle.si_candidates.proofs.BlockingLemmas.{accepted_by_blocks}
+use Rattle.si_candidates.proofs.BlockCopyCount.{copies_by_blocks}
 use Rattle.si_resolve.proofs.AspectLemmas.{unparted_stay}
 use Rattle.si_resolve.proofs.BlockSizes.{size_at}
 use Rattle.si_resolve.proofs.SearchSteps.{search_start, search_skip, search_take, search_row, search_finds}
@@ -49,7 +49,7 @@ lawful_classes g plus minus classes graph plus_size minus_size r f are =
     let f_in = in_below minus f.0 f.1 in
     classes_lawful g plus minus classes r.0 f.0 graph are r.1 (omega (arith, r_in)) f.1 (omega (arith, f_in))
 
-pub torn_leave_none : (c : CodedGraph) (plus minus : List Bool) (low s : ℕ) → IsTorn c.graph plus minus s
+pub torn_leave_none : (c : CodedGraph) (plus minus : List Bool) (low s : ℕ) → HasBothLevels c.graph plus minus s
     → LeavesNoneBelow c plus minus low
 torn_leave_none c plus minus low s torn classes n are leaves =
     absurd (torn_have_none c.graph plus minus classes s are torn)
@@ -69,7 +69,7 @@ one_leaves_none c plus minus classes low is plus_size minus_size r f are high ot
 pub told_leave_none : (c : CodedGraph) (plus minus : List Bool) (low : ℕ) (told : List Class) → IsCoded c
     → length plus ≡ c.graph.states → length minus ≡ c.graph.states
     → ((s : ℕ) × IsIn plus s) → ((s : ℕ) × IsIn minus s)
-    → ((others : List Class) → IsPartitionFor c.graph plus minus others → others ≡ told)
+    → ((others : List Class) → IsPartitionOfBlocks c.graph plus minus others → others ≡ told)
     → (IsLawful c.graph told → (n : ℕ) → LeavesConflicts c told n → low ≤ n)
     → LeavesNoneBelow c plus minus low
 told_leave_none c plus minus low told is plus_size minus_size r f only enough classes n are leaves =
@@ -135,10 +135,10 @@ bar_same : (n : ℕ) (o : Option Choice) → bar_by n (best_of o) ≡ bar n o
 bar_same n None = refl
 bar_same n (Some x) = refl
 
-pub same_room : (s : Search) → HasSameRoom s s
+pub same_room : (s : Search) → DifferInClassesAlone s s
 same_room s = record { given = refl; best = refl; chains = refl; room = refl }
 
-pub same_rooms : (s t u : Search) → HasSameRoom s t → HasSameRoom t u → HasSameRoom s u
+pub same_rooms : (s t u : Search) → DifferInClassesAlone s t → DifferInClassesAlone t u → DifferInClassesAlone s u
 same_rooms s t u one next = record {
   given = next.given ∙ one.given;
   best = next.best ∙ one.best;
@@ -146,11 +146,11 @@ same_rooms s t u one next = record {
   room = next.room ∙ one.room;
 }
 
-pub same_bar : (s t : Search) → HasSameRoom s t → bar_of t ≡ bar_of s
+pub same_bar : (s t : Search) → DifferInClassesAlone s t → bar_of t ≡ bar_of s
 same_bar s t same = ap₂ (λ (n : ℕ) (o : Option Found). bar_by n o) same.given same.best
 
 pub skip : (c : CodedGraph) (blocks : List (List Bool)) (j i : ℕ) (s t : Search) → IsSearching c blocks j i s
-    → HasSameRoom s t
+    → DifferInClassesAlone s t
     → NoneIsBelow c blocks i j (bar_of s) → IsSearching c blocks j (i + 1) t
 skip c blocks j i s t so same high =
     let n = s.given in
@@ -167,7 +167,7 @@ skip c blocks j i s t so same high =
     }
 
 pub keep : (c : CodedGraph) (blocks : List (List Bool)) (j i : ℕ) (s t : Search) (x : Choice) → IsCoded c
-    → IsSearching c blocks j i s → HasSameRoom s t → IsChoice c blocks x → x.j ≡ j → x.i ≡ i
+    → IsSearching c blocks j i s → DifferInClassesAlone s t → IsChoice c blocks x → x.j ≡ j → x.i ≡ i
     → x.conflicts < bar_of s → IsSearching c blocks j (i + 1) (record t { best = Some (found_of x) })
 keep c blocks j i s t x is so same choice at_j at_i fewer =
     let n = s.given in
@@ -288,7 +288,7 @@ module _ (c : CodedGraph) (list : BlockList) (searched : AreSearched c list) (i 
 
     unparted_are_left : (chains : Chains) → AreChains c chains → (classes : List Class) (n : ℕ)
         → AreClasses c.graph one_block other_block classes → LeavesConflicts c classes n
-        → unparted (column_at list.columns.items i) (column_at list.columns.items j) ≤ n
+        → unparted_count (column_at list.columns.items i) (column_at list.columns.items j) ≤ n
     unparted_are_left chains chains_are classes n are leaves =
         let coded = searched.coded in
         let size_i = size_at c list.blocks.items i searched.are i_in in
@@ -304,11 +304,12 @@ module _ (c : CodedGraph) (list : BlockList) (searched : AreSearched c list) (i 
         (between one_sides other_sides one.state) classes each searched.pairs pairs_within in
         let left = stay_left c coded classes chains chains_are searched.pairs searched.pairs_are.each
         searched.pairs_are.in_order lawful n leaves in
-        let same = ap₂ unparted (searched.aspects.each i i_in one_flag) (searched.aspects.each j j_in other_flag) in
+        let same = ap₂ unparted_count (searched.aspects.each i i_in one_flag)
+        (searched.aspects.each j j_in other_flag) in
         omega (arith, same, stay, left)
 
     pub none_by_aspects : (chains : Chains) → AreChains c chains → (low : ℕ)
-        → low ≤ unparted (column_at list.columns.items i) (column_at list.columns.items j)
+        → low ≤ unparted_count (column_at list.columns.items i) (column_at list.columns.items j)
         → NoneIsBelow c list.blocks.items i j low
     none_by_aspects chains chains_are low enough =
         none_by_left c list.blocks.items i j low (λ classes n are leaves.

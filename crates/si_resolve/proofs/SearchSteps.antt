@@ -7,11 +7,11 @@ use Rattle.si_base.specs.Codes.{CodedGraph, IsCoded}
 use Rattle.si_base.specs.Proper.{IsProper}
 use Rattle.si_base.specs.Sets.{IsIn}
 use Rattle.si_conflicts.specs.Conflicts.{HasConflicts}
-use Rattle.si_conflicts.proofs.Counted.{one_count}
+use Rattle.si_conflicts.proofs.OneConflictList.{one_count}
 use Rattle.si_candidates.specs.Blocks.{AreBlocks, block_at}
 use Rattle.si_candidates.specs.Blocking.{MaySwitch}
 use Rattle.si_candidates.proofs.BlocksExist.{one_blocks}
-use Rattle.si_candidates.proofs.Separable.{accepted_by_blocks}
+use Rattle.si_candidates.proofs.BlockingLemmas.{accepted_by_blocks}
 use Rattle.si_insert.proofs.RowSearchLemmas as rows
 use Rattle.si_resolve.specs.Best.{Choice, IsChoice, choice_place, Improves, NoneImproves}
 use Rattle.si_resolve.specs.Search.{IsEarlier, IsFewer, IsBestSoFar, bar}

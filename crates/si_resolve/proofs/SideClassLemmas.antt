@@ -6,7 +6,7 @@ use Rattle.si_base.specs.Sets.{IsIn}
 use Rattle.si_insert.specs.declared.partition.Class.{Class}
 use Rattle.si_insert.specs.declared.partition.Class.TheVariants.{Low}
 use Rattle.si_insert.specs.Partition.{class_of}
-use Rattle.si_candidates.specs.Sides.{IsPartitionFor, between, class_by, differ, flag}
+use Rattle.si_candidates.specs.Sides.{IsPartitionOfBlocks, between, class_by, differ, flag}
 use Rattle.si_candidates.proofs.SideLemmas.{classes_told}
 use Rattle.si_resolve.specs.SideClasses.{side_classes, AreOfOneSize}
 use Rattle.si_resolve.specs.Usable.{AreSided}
@@ -37,7 +37,7 @@ module _ (g : StateGraph) (plus minus plus_sides minus_sides : List Bool) (plus_
   }
 
   pub only_by_sides : IsGraph g → (rising : ℕ) → rising < length plus → IsIn plus rising → (others : List Class)
-      → IsPartitionFor g plus minus others
+      → IsPartitionOfBlocks g plus minus others
       → others ≡ side_classes plus minus plus_sides minus_sides (between plus_sides minus_sides rising)
   only_by_sides graph rising within there others from =
       let turn = between plus_sides minus_sides rising in

@@ -28,9 +28,9 @@ abbrev pub stays_by : Aspect → Aspect → ℕ
 stays_by x y = if part x y then 0 else 1
 
 -- how many conflicts two blocks don't part, by the aspects of each
-abbrev pub unparted : List Aspect → List Aspect → ℕ
-unparted (x ∷ xs) (y ∷ ys) = stays_by x y + unparted xs ys
-unparted xs ys = 0
+abbrev pub unparted_count : List Aspect → List Aspect → ℕ
+unparted_count (x ∷ xs) (y ∷ ys) = stays_by x y + unparted_count xs ys
+unparted_count xs ys = 0
 
 -- how many conflicts are looked at so for each candidate
 abbrev pub max_compared : ℕ

@@ -14,7 +14,7 @@ use Rattle.si_insert.specs.declared.lineage.TraceStep.{TraceStep}
 use Rattle.si_insert.specs.Lineage.{Current, IsLineage}
 use Rattle.si_insert.specs.Built.{IsBuilt}
 use Rattle.si_resolve.specs.Best.{Choice, IsChoice, IsBest, Improves, NoneImproves}
-use Rattle.si_resolve.specs.Trace.{IsResolving, ResolvesTo, EndsUnresolved}
+use Rattle.si_resolve.specs.Trace.{IsResolvingTrace, EndsResolved, EndsUnresolved}
 
 -- ---- the best candidate
 abbrev pub BestIsUnique : Type 0
@@ -72,12 +72,12 @@ BlockRefuses = (c : CodedGraph) (blocks : List (List Bool)) (x : Choice) → IsC
 -- each insertion lowers the number of conflicts
 abbrev pub TracesAreShort : Type 0
 TracesAreShort = (v : Current) (trace : List TraceStep) (w : Current) (n : ℕ) → IsCoded v.coded
-    → IsResolving v trace w → HasConflicts v.coded n
+    → IsResolvingTrace v trace w → HasConflicts v.coded n
     → (m : ℕ) × HasConflicts w.coded m × (length trace + m ≤ n)
 
 abbrev pub ResolvedIsUnique : Type 0
 ResolvedIsUnique = (v : Current) (xs ys : List TraceStep) (w u : Current) → IsCoded v.coded
-    → ResolvesTo v xs w → ResolvesTo v ys u → (xs ≡ ys) × (w ≡ u)
+    → EndsResolved v xs w → EndsResolved v ys u → (xs ≡ ys) × (w ≡ u)
 
 abbrev pub UnresolvedIsUnique : Type 0
 UnresolvedIsUnique = (v : Current) (xs ys : List TraceStep) (w u : Current) (a b : ℕ × ℕ)
@@ -86,20 +86,20 @@ UnresolvedIsUnique = (v : Current) (xs ys : List TraceStep) (w u : Current) (a b
 
 abbrev pub EndsExclude : Type 0
 EndsExclude = (v : Current) (xs ys : List TraceStep) (w u : Current) (pair : ℕ × ℕ)
-    → IsCoded v.coded → ResolvesTo v xs w → EndsUnresolved v ys u pair → ⊥
+    → IsCoded v.coded → EndsResolved v xs w → EndsUnresolved v ys u pair → ⊥
 
 -- a lineage and a resolving trace from it are a lineage
 abbrev pub TracesAreLineages : Type 0
 TracesAreLineages = (given : CodedGraph) (before trace : List TraceStep) (v w : Current)
-    → IsLineage given before v → IsResolving v trace w → IsLineage given (before ++ trace) w
+    → IsLineage given before v → IsResolvingTrace v trace w → IsLineage given (before ++ trace) w
 
 -- right gates for the last graph of a resolving trace implement the given graph
 abbrev pub TracesImplement : Type 0
 TracesImplement = (given : CodedGraph) (before trace : List TraceStep) (v w : Current) (n : Netlist)
-    → IsLineage given before v → IsResolving v trace w → IsBuilt w n → Implements n given.graph
+    → IsLineage given before v → IsResolvingTrace v trace w → IsBuilt w n → Implements n given.graph
 
 -- from each proper graph a trace ends: resolved, or unresolved with a first conflict
 abbrev pub ResolvingEnds : Type 0
 ResolvingEnds = (v : Current) → IsCoded v.coded → IsProper v.coded.graph
     → (trace : List TraceStep) × (w : Current)
-    × (ResolvesTo v trace w ⊎ ((pair : ℕ × ℕ) × EndsUnresolved v trace w pair))
+    × (EndsResolved v trace w ⊎ ((pair : ℕ × ℕ) × EndsUnresolved v trace w pair))

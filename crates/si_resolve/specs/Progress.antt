@@ -68,7 +68,7 @@ NoneIsBelow c blocks i j bar = (y : Choice) → IsChoice c blocks y → y.j ≡ 
     → bar ≤ y.conflicts
 
 -- the searches differ in nothing but the classes that the last candidate left in memory
-pub record HasSameRoom (s t : Search) : Type 0 where
+pub record DifferInClassesAlone (s t : Search) : Type 0 where
   pub given : t.given ≡ s.given
   pub best : t.best ≡ s.best
   pub chains : t.chains ≡ s.chains

@@ -76,7 +76,7 @@ impl Column {
     /// as they aren't.
     pub(crate) fn leaves_below(&self, other: &Column, bar: u64) -> bool
         requires { length other.now ≡ length self.now }
-        ensures { IsTrue result ↔ (of_aspects.unparted self.now other.now < bar) }
+        ensures { IsTrue result ↔ (of_aspects.unparted_count self.now other.now < bar) }
     {
         are_below(self.aspects.as_slice(), other.aspects.as_slice(), bar)
     }
@@ -114,7 +114,7 @@ fn aspect_of_flags(p: bool, q: bool, p_side: bool, q_side: bool) -> Aspect
 /// Whether the conflicts that two blocks with these aspects don't part are fewer than `bar`.
 fn are_below(plus: &[Aspect], minus: &[Aspect], bar: u64) -> bool
     requires { length minus.now ≡ length plus.now }
-    ensures { IsTrue result ↔ (of_aspects.unparted plus.now minus.now < bar) }
+    ensures { IsTrue result ↔ (of_aspects.unparted_count plus.now minus.now < bar) }
 {
     let mut plus = plus;
     let mut minus = minus;
@@ -122,7 +122,7 @@ fn are_below(plus: &[Aspect], minus: &[Aspect], bar: u64) -> bool
     while plus.len() > CHUNK {
         let (first_plus, later_plus) = plus.split_at(CHUNK);
         let (first_minus, later_minus) = minus.split_at(CHUNK);
-        let left = unparted(first_plus, first_minus) as u64;
+        let left = unparted_count(first_plus, first_minus) as u64;
         if left >= room {
             return false;
         }
@@ -130,14 +130,14 @@ fn are_below(plus: &[Aspect], minus: &[Aspect], bar: u64) -> bool
         plus = later_plus;
         minus = later_minus;
     }
-    (unparted(plus, minus) as u64) < room
+    (unparted_count(plus, minus) as u64) < room
 }
 
 /// How many of so few conflicts two blocks with these aspects don't part.
-fn unparted(plus: &[Aspect], minus: &[Aspect]) -> u8
+fn unparted_count(plus: &[Aspect], minus: &[Aspect]) -> u8
     requires count { length minus.now ≡ length plus.now }
     requires few { length plus.now ≤ 64 }
-    ensures { result ≡ of_aspects.unparted plus.now minus.now }
+    ensures { result ≡ of_aspects.unparted_count plus.now minus.now }
 {
     let mut left = 0;
     for k in 0..plus.len() {

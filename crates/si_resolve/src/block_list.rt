@@ -65,7 +65,7 @@ impl BlockList {
         requires j { j < length self.now.columns.items }
         requires count { length (column_at self.now.columns.items j)
             ≡ length (column_at self.now.columns.items i) }
-        ensures { IsTrue result ↔ (of_aspects.unparted (column_at self.now.columns.items i)
+        ensures { IsTrue result ↔ (of_aspects.unparted_count (column_at self.now.columns.items i)
             (column_at self.now.columns.items j) < bar) }
     {
         self.columns[i].leaves_below(&self.columns[j], bar)

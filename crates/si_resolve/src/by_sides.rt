@@ -3,7 +3,7 @@
 ghost use Rattle.std.specs.Prelude.{◌≡◌, ℕ, List, length};
 ghost use Rattle.si_base.specs.Sets.{IsIn};
 ghost use Rattle.si_insert.specs.declared.partition.Class.{Class};
-ghost use Rattle.si_candidates.specs.Sides.{IsPartitionFor};
+ghost use Rattle.si_candidates.specs.Sides.{IsPartitionOfBlocks};
 ghost use Rattle.si_resolve.specs.Usable.{AreSided};
 
 use si_base::ids::StateId;
@@ -59,7 +59,7 @@ impl<'a> BySides<'a> {
         requires some_plus { (s : ℕ) × IsIn plus.now s }
         ensures size { length result ≡ graph.now.graph.states }
         ensures only { (others : List Class)
-            → IsPartitionFor graph.now.graph plus.now minus.now others → others ≡ result }
+            → IsPartitionOfBlocks graph.now.graph plus.now minus.now others → others ≡ result }
     {
         let _given = graph.coded().graph();
         let rising = first_of(plus.set());

@@ -6,9 +6,9 @@ ghost use Rattle.si_base.specs.Words.{is_signal_name};
 ghost use Rattle.si_checks.specs.Faults.{ShowsConflict};
 ghost use Rattle.si_insert.specs.declared.lineage.TraceStep.{TraceStep};
 ghost use Rattle.si_insert.specs.Fresh.{IsFresh};
-ghost use Rattle.si_insert.specs.Lineage.{Extends, GoesOn};
+ghost use Rattle.si_insert.specs.Lineage.{Extends, ExtendsBy};
 ghost use Rattle.si_resolve.specs.Best.{Choice, Improves, NoneImproves};
-ghost use Rattle.si_resolve.specs.Trace.{IsResolving, Resolves, ResolvesTo};
+ghost use Rattle.si_resolve.specs.Trace.{IsResolvingTrace, InsertsCandidate, EndsResolved};
 ghost use Rattle.si_resolve.specs.Ends.{ShowsStuck};
 
 use crate::best::best;
@@ -43,30 +43,34 @@ pub struct Unresolved {
 /// candidate leaves no fewer conflicts than there are, or where there is none. Where the names of
 /// all signals are signal names, those of the inserted ones are, too.
 pub fn resolve(alloc: Global, lineage: Lineage) -> Result<Resolved, Unresolved>
-    ensures resolved { IfOk result (λ r. (trace : List TraceStep) × GoesOn lineage trace r
-        × ResolvesTo lineage.current trace r.current) }
+    ensures resolved { IfOk result (λ r. (trace : List TraceStep) × ExtendsBy lineage trace r
+        × EndsResolved lineage.current trace r.current) }
     ensures names { IfOk result (λ r.
         All (λ x. IsTrue (is_signal_name x.name)) lineage.current.coded.graph.signals
         → All (λ x. IsTrue (is_signal_name x.name)) r.current.coded.graph.signals) }
     ensures unresolved { IfErr result (λ u. (trace : List TraceStep)
-        × GoesOn lineage trace u.lineage
-        × IsResolving lineage.current trace u.lineage.current
+        × ExtendsBy lineage trace u.lineage
+        × IsResolvingTrace lineage.current trace u.lineage.current
         × ShowsStuck u.lineage.current.coded u.cause) }
 {
     let mut lineage = lineage;
     loop {
         match Resolved::make(alloc, lineage) {
             Ok(resolved) => return Ok(resolved),
-            Err((unresolved, fault)) => lineage = improved(alloc, unresolved, fault)?,
+            Err((unresolved, fault)) => lineage = with_best_candidate(alloc, unresolved, fault)?,
         }
     }
 }
 
 /// The lineage of a graph with a conflict, with the best candidate inserted.
-fn improved(alloc: Global, lineage: Lineage, fault: NotDistinct) -> Result<Lineage, Unresolved>
+fn with_best_candidate(
+    alloc: Global,
+    lineage: Lineage,
+    fault: NotDistinct,
+) -> Result<Lineage, Unresolved>
     requires { ShowsConflict lineage.current.coded fault }
     ensures extended { IfOk result (λ next. (p : TraceStep) × Extends lineage p next
-        × Resolves lineage.current p next.current × IsTrue (is_signal_name p.name)) }
+        × InsertsCandidate lineage.current p next.current × IsTrue (is_signal_name p.name)) }
     ensures unresolved { IfErr result (λ u. (u.lineage ≡ lineage)
         × ShowsStuck lineage.current.coded u.cause) }
 {

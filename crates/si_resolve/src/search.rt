@@ -10,7 +10,8 @@ ghost use Rattle.si_conflicts.specs.Conflicts.{HasConflicts};
 ghost use Rattle.si_resolve.specs.Best.{NoneImproves};
 ghost use Rattle.si_resolve.specs.Usable.{IsUsable, AreSearched, AreSided};
 ghost use Rattle.si_resolve.specs.Progress.{IsSearching, IsFound, MayBeAccepted, LeavesBelow};
-ghost use Rattle.si_resolve.specs.Progress.{LeavesNoneBelow, NoneIsBelow, HasSameRoom, bar_of};
+ghost use Rattle.si_resolve.specs.Progress.{LeavesNoneBelow, NoneIsBelow, DifferInClassesAlone};
+ghost use Rattle.si_resolve.specs.Progress.{bar_of};
 
 use crate::block_list::BlockList;
 use crate::by_sides::BySides;
@@ -205,7 +206,7 @@ impl Search {
             (λ o. IfSome o (LeavesBelow graph.now plus.now minus.now (bar_of self.old))) }
         ensures none { IfOk result
             (λ o. IfNone o (LeavesNoneBelow graph.now plus.now minus.now (bar_of self.old))) }
-        ensures same { HasSameRoom self.old self.new }
+        ensures same { DifferInClassesAlone self.old self.new }
     {
         let bar = self.bar();
         if !self.may_leave_fewer(graph, plus, minus, plus_sides, minus_sides) {

@@ -1,7 +1,7 @@
 -- What is written for a graph passes the audit for that graph: its lineage certifies it.
 use Rattle.std.proofs.Common.{◌≡◌, ℕ, List, None, Ok, refl, sym, ap, subst, ◌∙◌}
-use Rattle.si_audit.specs.Audit.{Certifies, TakesAll, begun}
-use Rattle.si_audit.proofs.BuiltLineages.{built_are_certified}
+use Rattle.si_audit.specs.Audit.{Certifies, TakesAll, start_lineage}
+use Rattle.si_audit.proofs.AuditBuiltLineages.{built_are_certified}
 use Rattle.si_base.specs.Behaviour.{Implements}
 use Rattle.si_base.specs.Codes.{CodedGraph}
 use Rattle.si_base.specs.GivenGraph.{Sg}
@@ -71,7 +71,7 @@ module _ (text output : List ℕ) (sg : Sg) (l : History) (is : IsGivenBy text s
       let back : w.netlist ≡ circuit = sym read in
       let certifies = built_are_certified sg.states l w.netlist line w.circuit.built inserts in
       let fits = subst (λ (m : Netlist). IsFor l.given m) back w.is_for in
-      let all = subst (λ (m : Netlist). TakesAll sg.states (begun l.given) m.inserts l) back certifies.taken in
+      let all = subst (λ (m : Netlist). TakesAll sg.states (start_lineage l.given) m.inserts l) back certifies.taken in
       let readings : AuditReadings = record { given = sg; netlist = circuit } in
       let reads = Passes sg is (Passes circuit (is_certified.no_fault, refl) refl) in
       Passes readings reads (Passes l.given sound (Passes tt fits (Passes l all refl)))

@@ -5,10 +5,10 @@ use Rattle.si_audit.specs.declared.fault.AuditFault.TheVariants as fault
 use Rattle.si_audit.specs.Audit.{Certifies}
 use Rattle.si_audit.specs.Faults.{ShowsFault}
 use Rattle.si_audit.specs.Laws.{CanBeAudited}
-use Rattle.si_audit.specs.Told.{TellsOf}
-use Rattle.si_audit.proofs.AnswerExists.{certified_or_faulty}
-use Rattle.si_audit.proofs.OneAnswer.{certified_have_none, certified_implement, one_certificate, one_fault}
-use Rattle.si_audit.proofs.Telling.{tells}
+use Rattle.si_audit.specs.FaultSignals.{TellsOf}
+use Rattle.si_audit.proofs.AuditExists.{certified_or_faulty}
+use Rattle.si_audit.proofs.OneCertificate.{certified_have_none, certified_implement, one_certificate, one_fault}
+use Rattle.si_audit.proofs.FaultSignalLemmas.{tells}
 use Rattle.si_base.specs.declared.graph.Signal.{Signal}
 use Rattle.si_base.specs.Behaviour.{Implements}
 use Rattle.si_base.specs.Codes.{CodedGraph}
@@ -32,7 +32,7 @@ use Rattle.si_sg.proofs.GivenApart.{given_apart}
 use Rattle.si_sg.specs.CanonicalText.{event_word}
 use Rattle.si_sg.specs.GivenGraph.{IsGivenBy}
 use Rattle.si_stages.specs.Audited.{EndsOrRejects, IsAudit, IsCertified, IsNamedSo, IsRejection, TellsRejection}
-use Rattle.si_stages.specs.Audited.{audit_text, audited}
+use Rattle.si_stages.specs.Audited.{audit_text, certification}
 use Rattle.si_readings.specs.Checks.{IsSound}
 use Rattle.si_readings.specs.Laws.{AtMostOne, HasResult}
 use Rattle.si_stages.specs.Meaning.{audit}
@@ -40,8 +40,8 @@ use Rattle.si_readings.specs.Readings.{AuditReadings}
 use Rattle.si_readings.proofs.CheckLemmas.{proper_one, match_lists_one}
 use Rattle.si_readings.proofs.ReadingLemmas.{AreAuditReadings, audit_readings_are, audit_readings_one}
 use Rattle.si_readings.proofs.ReadingLemmas.{audit_readings_some}
-use Rattle.si_readings.proofs.GivenNames.{as_many_names}
-use Rattle.si_readings.proofs.SomeLemmas.{match_lists_some, proper_some}
+use Rattle.si_readings.proofs.CheckNames.{as_many_names}
+use Rattle.si_readings.proofs.ReadingsExist.{match_lists_some, proper_some}
 use Rattle.si_readings.proofs.StageLemmas.{passed, then_one, then_some}
 
 -- ---- a fault that is told has one name
@@ -87,7 +87,7 @@ module _ (states : List (List ℕ)) (coded : CodedGraph) (n : Netlist) (can : Ca
       not_memory n.signals other.fault other.reason other.named
       (certified_have_none states coded n is.lineage other.fault can is.certifies other.shows)
 
-  pub audited_one : AtMostOne (audited states coded n)
+  pub audited_one : AtMostOne (certification states coded n)
   audited_one (Ok a) (Ok b) one other =
       let same = one_certificate states coded n one.lineage other.lineage can one.certifies other.certifies in
       ap Ok (one.output_is ∙ ap (λ (l : History). audit_text l n) same ∙ sym other.output_is)
@@ -113,7 +113,7 @@ module _ (states : List (List ℕ)) (coded : CodedGraph) (n : Netlist) (can : Ca
   }
 
   -- a netlist is certified, or rejected
-  pub ends_or_rejects : EndsOrRejects (audited states coded n)
+  pub ends_or_rejects : EndsOrRejects (certification states coded n)
   ends_or_rejects = elim (certified_or_faulty states coded n can) [
     | inl (l, certifies) ↦ inl (audit_text l n, is_audit l certifies)
     | inr (f, other, shows) ↦ (
@@ -124,7 +124,7 @@ module _ (states : List (List ℕ)) (coded : CodedGraph) (n : Netlist) (can : Ca
         )
   ]
 
-  pub audited_some : HasResult (audited states coded n)
+  pub audited_some : HasResult (certification states coded n)
   audited_some = elim ends_or_rejects [
     | inl ends ↦ (Ok ends.0, ends.1)
     | inr rejects ↦ (Err (Rejected rejects.0), rejects.1)
@@ -132,7 +132,7 @@ module _ (states : List (List ℕ)) (coded : CodedGraph) (n : Netlist) (can : Ca
 
 -- ---- where a call may stop
 pub rejection_told : (states : List (List ℕ)) (coded : CodedGraph) (n : Netlist) (f : AuditFault) (e : Ending)
-    → ShowsFault states coded n f → TellsRejection n.signals f e → MayStop (audited states coded n) e
+    → ShowsFault states coded n f → TellsRejection n.signals f e → MayStop (certification states coded n) e
 rejection_told states coded n f NoMemory shows told = tt
 rejection_told states coded n f (Answered (TextRefused refusal)) shows (reason, so, is) =
     record { fault = f; shows = shows; reason = reason; named = so; refusal_is = is }

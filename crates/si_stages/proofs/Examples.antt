@@ -8,7 +8,7 @@ use Rattle.si_base.specs.declared.graph.Signal.{Signal}
 use Rattle.si_base.specs.declared.graph.SigKind.TheVariants.{Input, Output}
 use Rattle.si_base.specs.declared.ids.Literal.{Literal}
 use Rattle.si_insert.specs.declared.accept.Rejected.TheVariants as why
-use Rattle.si_insert.specs.Lineage.{History, as_given}
+use Rattle.si_insert.specs.Lineage.{History, given_current}
 use Rattle.si_refusals.specs.declared.rejection.NamedRejection.TheVariants.{Delays, Gate}
 use Rattle.si_stages.specs.Audited.{IsNamedSo, audit_text}
 use Rattle.si_stages.specs.Exercise.{literals_of}
@@ -83,7 +83,7 @@ seven_literals = refl
 -- ---- an audit
 -- a lineage of two states without insertions, and a netlist of two gates
 abbrev two_states_alone : History
-two_states_alone = record { given = two_states; trace = []; current = as_given two_states }
+two_states_alone = record { given = two_states; trace = []; current = given_current two_states }
 
 yes_text : audit_text two_states_alone two_gates
     ≡ codes "audited\ninserted " ++ (decimal 0 ++ (codes "\nstates " ++ (decimal 2 ++ (codes "\ngates "

@@ -28,7 +28,7 @@ use Rattle.si_readings.proofs.CheckLemmas.{coded_unique}
 use Rattle.si_stages.proofs.GivenLineages.{IsGivenLineage, given_lineage, given_signals}
 use Rattle.si_stages.proofs.ResolutionLemmas.{IsResolution}
 use Rattle.si_readings.proofs.StageLemmas.{shows_one, shows_some}
-use Rattle.si_stages.proofs.Synthesis.{is_synthesis}
+use Rattle.si_stages.proofs.SynthesisLemmas.{is_synthesis}
 
 -- the netlist that is counted
 abbrev pub own_netlist : Sg → CodedGraph → Netlist

@@ -10,7 +10,7 @@ use Rattle.si_base.specs.Proper.{IsProper}
 use Rattle.si_base.specs.System.{is_inserted}
 use Rattle.si_circuit.specs.Circuits.{AreStateNames}
 use Rattle.si_circuit.specs.Spelled.{AreSpelled}
-use Rattle.si_insert.specs.Lineage.{AllGiven, History, IsLineage, as_given}
+use Rattle.si_insert.specs.Lineage.{AllGiven, History, IsLineage, given_current}
 use Rattle.si_sg.proofs.GivenNames.{given_named}
 use Rattle.si_sg.proofs.GivenStates.{given_states}
 use Rattle.si_sg.specs.GivenGraph.{IsGivenBy}
@@ -61,7 +61,7 @@ given_lineage text sg l given is =
       graph_is = is.sound.same_graph;
       spelled = record {
         model_name = spelled.model_name;
-        names = named_along (as_given l.given) l.trace l.current is.resolves.goes spelled.names;
+        names = named_along (given_current l.given) l.trace l.current is.resolves.goes spelled.names;
       };
       names = subst Named back (given_state_names text sg given);
     }

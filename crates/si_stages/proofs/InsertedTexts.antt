@@ -1,11 +1,11 @@
 -- The text of a graph after insertions: it comes to one answer, is read back, and gives the same gates.
 use Rattle.std.proofs.Common.{◌≡◌, ◌≢◌, ℕ, List, [], Ok, Err, refl, sym, ap, subst, ◌∙◌, inl, inr}
-use Rattle.si_audit.proofs.AnswerExists.{certified_or_faulty}
-use Rattle.si_audit.proofs.OneAnswer.{one_lineage, rejected_not_taken, two_rejected}
-use Rattle.si_audit.proofs.Stopping.{is_rejected, rejected_or_taken, rejection_shows}
-use Rattle.si_audit.proofs.Telling.{tells}
-use Rattle.si_audit.proofs.Walking.{given_stays}
-use Rattle.si_audit.specs.Audit.{TakesAll, begun}
+use Rattle.si_audit.proofs.AuditExists.{certified_or_faulty}
+use Rattle.si_audit.proofs.OneCertificate.{one_lineage, rejected_not_taken, two_rejected}
+use Rattle.si_audit.proofs.InsertionFaults.{is_rejected, rejected_or_taken, rejection_shows}
+use Rattle.si_audit.proofs.FaultSignalLemmas.{tells}
+use Rattle.si_audit.proofs.WalkLemmas.{given_stays}
+use Rattle.si_audit.specs.Audit.{TakesAll, start_lineage}
 use Rattle.si_audit.specs.Faults.{ShowsRejection}
 use Rattle.si_audit.specs.Laws.{CanBeAudited}
 use Rattle.si_audit.specs.declared.fault.AuditFault.{AuditFault}
@@ -20,17 +20,17 @@ use Rattle.si_circuit.specs.Circuits.{AreStateNames, circuit_of}
 use Rattle.si_circuit.specs.Gates.{chosen_netlist}
 use Rattle.si_circuit.specs.Spelling.{insertions_of}
 use Rattle.si_circuit.specs.declared.style.Style.{Style}
-use Rattle.si_insert.proofs.Kept.{keeps}
+use Rattle.si_insert.proofs.InsertionKeeps.{keeps}
 use Rattle.si_insert.specs.Lineage.{History}
 use Rattle.si_inserted.proofs.CurrentTexts.{texts_read_back}
-use Rattle.si_inserted.proofs.InternalGates.{same_netlist}
-use Rattle.si_inserted.proofs.InternalLemmas.{internal_is_coded, internal_is_distinct, internal_is_proper}
+use Rattle.si_inserted.proofs.InternalGraphGates.{same_netlist}
+use Rattle.si_inserted.proofs.InternalGraphLemmas.{internal_is_coded, internal_is_distinct, internal_is_proper}
 use Rattle.si_inserted.specs.Current.{current_sg, internal_coded, internal_graph, internal_netlist}
 use Rattle.si_inserted.specs.Laws.{CanBeGiven}
 use Rattle.si_netlist_reader.specs.NetlistValue.{netlist_of}
 use Rattle.si_readings.proofs.CheckLemmas.{graph_one, match_lists_one, proper_one}
 use Rattle.si_readings.proofs.ReadingLemmas.{audit_readings_are, audit_readings_one, audit_readings_some}
-use Rattle.si_readings.proofs.SomeLemmas.{graph_some, match_lists_some, proper_some}
+use Rattle.si_readings.proofs.ReadingsExist.{graph_some, match_lists_some, proper_some}
 use Rattle.si_readings.proofs.StageLemmas.{gives_one, gives_some, passed, then_one, then_some}
 use Rattle.si_readings.specs.Checks.{IsSound}
 use Rattle.si_readings.specs.Laws.{AtMostOne, HasResult}
@@ -48,9 +48,9 @@ use Rattle.si_stages.proofs.GivenLineages.{IsGivenLineage, given_lineage, given_
 use Rattle.si_stages.proofs.MeaningLemmas.{own_lineage, own_resolution, synth_one}
 use Rattle.si_stages.proofs.ResolutionLemmas.{IsResolution, resolution_is, resolution_of}
 use Rattle.si_stages.proofs.ResolutionLemmas.{resolution_one, resolution_some}
-use Rattle.si_stages.proofs.Synthesis.{is_synthesis}
+use Rattle.si_stages.proofs.SynthesisLemmas.{is_synthesis}
 use Rattle.si_stages.specs.Audited.{IsNamedSo, TellsRejection}
-use Rattle.si_stages.specs.Inserted.{IsInsertRejection, insert, resolve, taken}
+use Rattle.si_stages.specs.Inserted.{IsInsertRejection, insert, resolve, lineage_with_insertions}
 use Rattle.si_stages.specs.InsertedLaws.{HasFewArcs, IsResolvedText, ResolvedAreSynthesised, ResolvedTextsServe}
 use Rattle.si_stages.specs.Meaning.{synth}
 use Rattle.si_stages.specs.Resolving.{resolution}
@@ -67,14 +67,14 @@ resolve_some file text = then_some _ _ (graph_some file text) (λ given is.
     (λ l resolves. gives_some (sg_text (current_sg given.model given.states l))))
 
 module _ (states : List (List ℕ)) (coded : CodedGraph) (n : Netlist) (can : CanBeAudited states coded n) where
-  never_both : (l : History) (refusal : TextRefusal) → TakesAll states (begun coded) n.inserts l
+  never_both : (l : History) (refusal : TextRefusal) → TakesAll states (start_lineage coded) n.inserts l
       → IsInsertRejection states coded n refusal → ⊥
   never_both l refusal takes rejects =
       let other = not_memory n.signals rejects.fault rejects.reason rejects.named in
       rejected_not_taken states coded n can rejects.fault l other
       (is_rejected states coded n rejects.fault other rejects.shows) takes
 
-  pub taken_one : AtMostOne (taken states coded n)
+  pub taken_one : AtMostOne (lineage_with_insertions states coded n)
   taken_one (Ok l) (Ok m) one other = ap Ok (one_lineage states coded n can l m one other)
   taken_one (Ok l) (Err r) one other = absurd (never_both l r one other)
   taken_one (Err r) (Ok m) one other = absurd (never_both m r other one)
@@ -91,7 +91,7 @@ module _ (states : List (List ℕ)) (coded : CodedGraph) (n : Netlist) (can : Ca
       ap Err (one.refusal_is ∙ ap (λ (r : NamedRejection). Rejected r) name ∙ sym other.refusal_is)
 
   rejection_named : (fault : AuditFault) → fault ≢ NoMemory → ShowsRejection states coded n fault
-      → HasResult (taken states coded n)
+      → HasResult (lineage_with_insertions states coded n)
   rejection_named fault other shows =
       let told = tells states coded n fault can (rejection_shows states coded n fault shows) in
       let name = some_name n.signals fault other told in
@@ -99,7 +99,7 @@ module _ (states : List (List ℕ)) (coded : CodedGraph) (n : Netlist) (can : Ca
       record { fault = fault; shows = shows; reason = name.0; named = name.1; refusal_is = refl } in
       (Err (Rejected name.0), rejects)
 
-  pub taken_some : HasResult (taken states coded n)
+  pub taken_some : HasResult (lineage_with_insertions states coded n)
   taken_some = elim (certified_or_faulty states coded n can) [
     | inl (l, certifies) ↦ (Ok l, certifies.taken)
     | inr (fault, other, shows) ↦ elim (rejected_or_taken states coded n fault shows) [
@@ -110,7 +110,8 @@ module _ (states : List (List ℕ)) (coded : CodedGraph) (n : Netlist) (can : Ca
 
 -- where a call may stop
 pub insertion_told : (states : List (List ℕ)) (coded : CodedGraph) (n : Netlist) (fault : AuditFault) (e : Ending)
-    → ShowsRejection states coded n fault → TellsRejection n.signals fault e → MayStop (taken states coded n) e
+    → ShowsRejection states coded n fault → TellsRejection n.signals fault e
+    → MayStop (lineage_with_insertions states coded n) e
 insertion_told states coded n fault ending.NoMemory shows told = tt
 insertion_told states coded n fault (ending.Answered (TextRefused refusal)) shows (reason, so, is) =
     record { fault = fault; shows = shows; reason = reason; named = so; refusal_is = is }
@@ -135,10 +136,10 @@ insert_some g a n b = then_some _ _ (audit_readings_some g a n b)
 
 -- the states of the given graph keep their names
 pub names_taken : (text : List ℕ) (given : Sg) (coded : CodedGraph) (n : Netlist) (l : History) → IsGivenBy text given
-    → IsSound given.graph coded → TakesAll given.states (begun coded) n.inserts l
+    → IsSound given.graph coded → TakesAll given.states (start_lineage coded) n.inserts l
     → AreStateNames l.given.graph given.states
 names_taken text given coded n l is sound takes =
-    let stays = ap (λ (c : CodedGraph). c.graph) (given_stays given.states (begun coded) n.inserts l takes) in
+    let stays = ap (λ (c : CodedGraph). c.graph) (given_stays given.states (start_lineage coded) n.inserts l takes) in
     subst (λ (g : StateGraph). AreStateNames g given.states) (sym (stays ∙ sound.same_graph))
     (given_state_names text given is)
 

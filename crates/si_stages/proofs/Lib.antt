@@ -8,7 +8,7 @@ pub mod ResolvingLemmas
 pub mod ResolutionLemmas
 pub mod GivenLineages
 pub mod WrittenLemmas
-pub mod Synthesis
+pub mod SynthesisLemmas
 pub mod MappingLemmas
 pub mod AuditLemmas
 pub mod MeaningLemmas
@@ -21,4 +21,4 @@ pub mod GenlibLemmas
 pub mod VerilogExamples
 pub mod Examples
 pub mod InsertedTexts
-pub mod Unresolved
+pub mod UnresolvedEnds

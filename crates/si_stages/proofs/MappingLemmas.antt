@@ -14,20 +14,20 @@ use Rattle.si_circuit.proofs.CellLemmas.{cells_give, cells_are_netlist}
 use Rattle.si_circuit.specs.Cells.{AllFit, cell_gate, mapped_netlist}
 use Rattle.si_circuit.specs.Circuits.{AreStateNames}
 use Rattle.si_circuit.specs.Spelling.{insertions_of}
-use Rattle.si_insert.proofs.Kept.{keeps}
+use Rattle.si_insert.proofs.InsertionKeeps.{keeps}
 use Rattle.si_insert.specs.declared.lineage.TraceStep.{TraceStep}
-use Rattle.si_insert.specs.Lineage.{Current, GoesOn, History, IsLineage, Keeps, as_given}
-use Rattle.si_map.specs.Trace.{IsMapping as IsMappingTrace, MapsTo, EndsUnmapped}
-use Rattle.si_map.proofs.MapTraces.{fitted_is_mapped, mapped_is_unique, unmapped_is_unique}
-use Rattle.si_map.proofs.MapTraces.{ends_exclude, traces_are_lineages}
+use Rattle.si_insert.specs.Lineage.{Current, ExtendsBy, History, IsLineage, Keeps, given_current}
+use Rattle.si_map.specs.Trace.{IsMappingTrace, EndsMapped, EndsUnmapped}
+use Rattle.si_map.proofs.TraceLemmas.{fitted_is_mapped, mapped_is_unique, unmapped_is_unique}
+use Rattle.si_map.proofs.TraceLemmas.{ends_exclude, traces_are_lineages}
 use Rattle.si_divisor.proofs.DivisorsExist.{some_divisors}
 use Rattle.si_divisor.proofs.PartitionExists.{partitions_exist}
-use Rattle.si_map.proofs.EndExists.{mapping_ends}
+use Rattle.si_map.proofs.EndsExist.{mapping_ends}
 use Rattle.si_map.proofs.OneBest.{one_best}
 use Rattle.si_map.specs.declared.map.MapStuck.{MapStuck}
 use Rattle.si_map.specs.declared.map.MapStuck.TheVariants.{NoMemory, Signal}
 use Rattle.si_map.specs.Ends.{ShowsStuck}
-use Rattle.si_resolve.specs.Trace.{IsResolving, ResolvesTo}
+use Rattle.si_resolve.specs.Trace.{IsResolvingTrace, EndsResolved}
 use Rattle.si_refusals.specs.Ending.{Ending, Answered, MayStop}
 use Rattle.si_refusals.specs.Ending as ending
 use Rattle.si_refusals.specs.Refusal.{TextRefused}
@@ -54,7 +54,7 @@ mapped_names library v (p ∷ trace) w (u, step, rest) named =
 
 -- a lineage of the given graph that goes on by mapping is one
 pub mapped_lineage : (library : Library) (sg : Sg) (l m : History) (trace : List TraceStep) → IsGivenLineage sg l
-    → GoesOn l trace m → IsMappingTrace library l.current trace m.current → IsGivenLineage sg m
+    → ExtendsBy l trace m → IsMappingTrace library l.current trace m.current → IsGivenLineage sg m
 mapped_lineage library sg l m trace is goes maps =
     let given : l.given ≡ m.given = sym goes.given_stays in
     let Steps : List TraceStep → Type 0 = λ steps. IsLineage l.given steps m.current in
@@ -71,12 +71,12 @@ mapped_lineage library sg l m trace is goes maps =
     }
 
 nothing_inserted : (library : Library) (l m : History) (trace : List TraceStep)
-    → ResolvesTo (as_given l.given) l.trace l.current → GoesOn l trace m
+    → EndsResolved (given_current l.given) l.trace l.current → ExtendsBy l trace m
     → IsMappingTrace library l.current trace m.current → HasNoConflict l.given → AllFit l.given library → m.trace ≡ []
 nothing_inserted library l m trace resolves goes maps free fit =
-    let start = as_given l.given in
+    let start = given_current l.given in
     let none : l.trace ≡ [] = none_needed start l.trace l.current free resolves.goes in
-    let Same : List TraceStep → Type 0 = λ steps. IsResolving start steps l.current in
+    let Same : List TraceStep → Type 0 = λ steps. IsResolvingTrace start steps l.current in
     let same : start ≡ l.current = subst Same none resolves.goes in
     let fitted : AllFit l.current.coded library = subst (λ (v : Current). AllFit v.coded library) same fit in
     goes.trace_grows
@@ -112,7 +112,7 @@ is_library Own text library none is = subst IsLibrary (sym is) (text_is_library 
 is_library Genlib text library none is = subst IsLibrary (sym is) (gates_are_library text)
 
 -- ---- one result
-one_lineage : (l m n : History) (xs ys : List TraceStep) → GoesOn l xs m → GoesOn l ys n → xs ≡ ys
+one_lineage : (l m n : History) (xs ys : List TraceStep) → ExtendsBy l xs m → ExtendsBy l ys n → xs ≡ ys
     → m.current ≡ n.current → m ≡ n
 one_lineage l m n xs ys one other traces currents =
     same_history m n (one.given_stays ∙ sym other.given_stays)
@@ -160,16 +160,16 @@ cells_text_some library text sg l good given is =
     kept = keeps l.given l.trace l.current (given_lineage text sg l given is).line
 
     go : (trace : List TraceStep) × (w : Current)
-        × (MapsTo library l.current trace w ⊎ ((z : ℕ) × EndsUnmapped library l.current trace w z))
+        × (EndsMapped library l.current trace w ⊎ ((z : ℕ) × EndsUnmapped library l.current trace w z))
         → HasResult (cells_text library sg l)
     go (trace, w, inl ends) =
         let m : History = grown_by l trace w in
-        let goes : GoesOn l trace m = record { given_stays = refl; trace_grows = refl } in
+        let goes : ExtendsBy l trace m = record { given_stays = refl; trace_grows = refl } in
         let maps : EndsInCells library l m = record { trace = trace; goes = goes; maps = ends } in
         (Ok _, is_mapping library text sg l m _ good given is maps refl)
     go (trace, w, inr (z, ends)) =
         let m : History = grown_by l trace w in
-        let goes : GoesOn l trace m = record { given_stays = refl; trace_grows = refl } in
+        let goes : ExtendsBy l trace m = record { given_stays = refl; trace_grows = refl } in
         let unfit : EndsUnfit library l m z = record { trace = trace; goes = goes; ends = ends } in
         (Err (unfit_refusal sg.states m z), (m, z, unfit, refl))
 
@@ -181,7 +181,7 @@ cells_stop library sg l (Answered (TextRefused r)) may = may
 cells_stop library sg l e may = absurd may
 
 pub stuck_told : (library : Library) (states : List (List ℕ)) (l m : History) (cause : MapStuck) (e : Ending)
-    → ((trace : List TraceStep) × GoesOn l trace m × IsMappingTrace library l.current trace m.current
+    → ((trace : List TraceStep) × ExtendsBy l trace m × IsMappingTrace library l.current trace m.current
     × ShowsStuck library m.current cause)
     → TellsStuck states m cause e → MayStop (shows_unfit library states l) e
 stuck_told library states l m NoMemory e shown told = absurd told

@@ -9,8 +9,8 @@ use Rattle.si_base.specs.System.{IsFor}
 use Rattle.si_circuit.specs.Cells.{mapped_netlist}
 use Rattle.si_circuit.specs.Circuits.{circuit_of}
 use Rattle.si_circuit.specs.declared.style.Style.{Style}
-use Rattle.si_insert.specs.Lineage.{GoesOn, History, as_given}
-use Rattle.si_insert.proofs.Kept.{keeps}
+use Rattle.si_insert.specs.Lineage.{ExtendsBy, History, given_current}
+use Rattle.si_insert.proofs.InsertionKeeps.{keeps}
 use Rattle.si_netlist_reader.specs.NetlistFault.{netlist_fault}
 use Rattle.si_netlist_reader.specs.NetlistValue.{netlist_of}
 use Rattle.si_refusals.specs.Refusal.{TextRefusal}
@@ -19,7 +19,7 @@ use Rattle.si_sg.specs.GivenGraph.{IsGivenBy}
 use Rattle.si_system.specs.ScheduleText.{signal_names, schedule_fault, schedule_of}
 use Rattle.si_readings.specs.Checks.{IsSound}
 use Rattle.si_readings.specs.Laws.{AtMostOne, HasResult}
-use Rattle.si_stages.specs.Laws.{EndsOrDeparts}
+use Rattle.si_stages.specs.Laws.{EndsOrDiffers}
 use Rattle.si_stages.specs.Laws.{FreeGraphsAreMapped, FreeGraphsAreSynthesised}
 use Rattle.si_stages.specs.Mapping.{EndsInCells}
 use Rattle.si_stages.specs.Meaning.{report, synth, mapping, replay}
@@ -33,14 +33,14 @@ use Rattle.si_stages.proofs.GivenLineages.{given_lineage}
 use Rattle.si_stages.proofs.MappingLemmas.{cells_text_one, cells_text_some, is_library, is_mapping}
 use Rattle.si_readings.proofs.ReadingLemmas.{mapping_readings_are, mapping_readings_one, mapping_readings_some}
 use Rattle.si_readings.proofs.ReadingLemmas.{replay_readings_are, replay_readings_one, replay_readings_some}
-use Rattle.si_readings.proofs.GivenNames.{given_named_states}
+use Rattle.si_readings.proofs.CheckNames.{given_named_states}
 use Rattle.si_stages.proofs.ReportLemmas.{told_one, told_some}
 use Rattle.si_stages.proofs.ResolutionLemmas.{IsResolution, resolution_is, resolution_of}
 use Rattle.si_stages.proofs.ResolutionLemmas.{resolution_one, resolution_some}
-use Rattle.si_readings.proofs.SomeLemmas.{graph_some, proper_some, match_lists_some}
+use Rattle.si_readings.proofs.ReadingsExist.{graph_some, proper_some, match_lists_some}
 use Rattle.si_stages.proofs.ReplayEnds.{ends_or_departs, replay_end_one, replay_end_some}
 use Rattle.si_readings.proofs.StageLemmas.{then_one, then_some}
-use Rattle.si_stages.proofs.Synthesis.{is_synthesis, synthesis_one, synthesis_some}
+use Rattle.si_stages.proofs.SynthesisLemmas.{is_synthesis, synthesis_one, synthesis_some}
 
 -- ---- to one answer at most
 pub report_one : (what : Report) (file text : List ℕ) → AtMostOne (report what file text)
@@ -99,7 +99,7 @@ replay_some what g a n b s c = then_some _ _ (replay_readings_some g a n b s c)
 
 -- ---- a graph without conflicts is its own lineage
 abbrev pub own_lineage : CodedGraph → History
-own_lineage coded = record { given = coded; trace = []; current = as_given coded }
+own_lineage coded = record { given = coded; trace = []; current = given_current coded }
 
 pub own_resolution : (given : Sg) (coded : CodedGraph) → IsSound given.graph coded → HasNoConflict coded
     → IsResolution given.graph (own_lineage coded)
@@ -119,7 +119,7 @@ free_mapped format file text library cells given coded is none sound free fit =
     let resolves = own_resolution given coded sound free in
     let spelled = library_from format cells in
     let readings : MappingReadings = record { given = given; library = spelled } in
-    let goes : GoesOn own [] own = record { given_stays = refl; trace_grows = refl } in
+    let goes : ExtendsBy own [] own = record { given_stays = refl; trace_grows = refl } in
     let maps : EndsInCells spelled own own =
     record { trace = []; goes = goes; maps = record { goes = refl; done = fit } } in
     let output = netlist_text (mapped_netlist spelled given.model given.states own) in
@@ -130,13 +130,13 @@ free_mapped format file text library cells given coded is none sound free fit =
 
 -- ---- where nothing is refused before, a replay ends or departs from the graph
 then_ends : {A : Type 0} (first : Stage TextRefusal A) (next : A → Stage TextRefusal (List ℕ)) (x : A) → first (Ok x)
-    → EndsOrDeparts (next x) → EndsOrDeparts (Then TextRefusal A (List ℕ) first next)
+    → EndsOrDiffers (next x) → EndsOrDiffers (Then TextRefusal A (List ℕ) first next)
 then_ends first next x is (inl ends) = inl (ends.0, Passes x is ends.1)
 then_ends first next x is (inr departs) = inr (departs.0, departs.1, departs.2, Passes x is departs.3)
 
 pub replay_ends : (what : ReplayReport) (g n s a b c : List ℕ) (given : Sg) (coded : CodedGraph)
     → IsGivenBy a given → netlist_fault b ≡ None → schedule_fault (signal_names (netlist_of b).signals) c ≡ None
-    → IsSound given.graph coded → IsFor coded (netlist_of b) → EndsOrDeparts (replay what g a n b s c)
+    → IsSound given.graph coded → IsFor coded (netlist_of b) → EndsOrDiffers (replay what g a n b s c)
 replay_ends what g n s a b c given coded is netlist schedule sound fits =
     let net = netlist_of b in
     let events = schedule_of (signal_names net.signals) c in

@@ -15,8 +15,8 @@ use Rattle.si_system.proofs.UniqueOutcome.{one_outcome}
 use Rattle.si_system.specs.Outcome.{IsOutcome}
 use Rattle.si_system.specs.declared.replay.Outcome.{Outcome}
 use Rattle.si_system.specs.declared.replay.Outcome.TheVariants as outcome
-use Rattle.si_stages.specs.Laws.{EndsOrDeparts}
-use Rattle.si_stages.specs.Replayed.{IsReplay, IsDeparture, output_of, replay_end, shown_signal}
+use Rattle.si_stages.specs.Laws.{EndsOrDiffers}
+use Rattle.si_stages.specs.Replayed.{IsReplay, IsDifference, output_of, replay_end, shown_signal}
 use Rattle.si_stages.specs.declared.replay_kind.ReplayReport.{ReplayReport}
 use Rattle.si_stages.proofs.ReplayLemmas.{has_name}
 
@@ -52,13 +52,13 @@ replay_end_one what graph states netlist events (Err r) (Err q) one other =
         Differs step (name_of netlist.signals (shown_signal event verdict)) verdict
 
 pub ends_or_departs : (what : ReplayReport) (graph : StateGraph) (states : List (List ℕ)) (net : Netlist)
-    (events : List Event) → IsNamed graph states → EndsOrDeparts (replay_end what graph states net events)
+    (events : List Event) → IsNamed graph states → EndsOrDiffers (replay_end what graph states net events)
 ends_or_departs what graph states net events is =
     let some = some_outcome graph net (start graph net) events refl in
     go some.0 some.1
   where
     go : (o : Outcome) → IsOutcome graph net (start graph net) events o
-        → EndsOrDeparts (replay_end what graph states net events)
+        → EndsOrDiffers (replay_end what graph states net events)
     go (outcome.Done values state) out =
         let within : state < length states =
         has_name graph states net events (outcome.Done values state) is.is_graph is.names out in
@@ -69,7 +69,7 @@ ends_or_departs what graph states net events is =
         inl (output_of what net events values name, ends)
     go (outcome.Differs step event verdict) out =
         let signal = name_of net.signals (shown_signal event verdict) in
-        let departs : IsDeparture graph net events (Differs step signal verdict) =
+        let departs : IsDifference graph net events (Differs step signal verdict) =
         record { step = step; event = event; verdict = verdict; outcome_is = out; refusal_is = refl } in
         inr (step, signal, verdict, departs)
 

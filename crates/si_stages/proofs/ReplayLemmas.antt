@@ -12,7 +12,7 @@ use Rattle.si_system.specs.declared.replay.Outcome.{Outcome}
 use Rattle.si_system.specs.declared.replay.Outcome.TheVariants as outcome
 use Rattle.si_refusals.specs.Ending.{Ending, NoMemory, Answered, MayStop}
 use Rattle.si_refusals.specs.Refusal.{TextRefused}
-use Rattle.si_stages.specs.Outcomes.{HasName, TellsEnd, TellsDeparture}
+use Rattle.si_stages.specs.Outcomes.{HasName, TellsEnd, TellsDifference}
 use Rattle.si_stages.specs.Replayed.{IsReplay, replay_end}
 use Rattle.si_stages.specs.declared.replay_kind.ReplayReport.{ReplayReport}
 
@@ -74,7 +74,7 @@ told_end what graph states net events (outcome.Differs step event verdict) text 
 
 pub told_departure : (what : ReplayReport) (graph : StateGraph) (states : List (List ℕ)) (net : Netlist)
     (events : List Event) (o : Outcome) (e : Ending) → IsOutcome graph net (start graph net) events o
-    → TellsDeparture net.signals o e → MayStop (replay_end what graph states net events) e
+    → TellsDifference net.signals o e → MayStop (replay_end what graph states net events) e
 told_departure what graph states net events (outcome.Done values state) NoMemory out tells = tt
 told_departure what graph states net events (outcome.Done values state) e out tells = absurd tells
 told_departure what graph states net events (outcome.Differs step event verdict) NoMemory out tells = tt

@@ -8,7 +8,7 @@ use Rattle.si_listings.proofs.ListingsExist.{some_region_text, some_conflict_tex
 use Rattle.si_readings.specs.Laws.{AtMostOne, HasResult}
 use Rattle.si_pictures.specs.StatesText.{states_text}
 use Rattle.si_pictures.proofs.PictureLaws.{one_dot_text, some_dot_text}
-use Rattle.si_stages.specs.Reports.{summary, told}
+use Rattle.si_stages.specs.Reports.{summary, report_text}
 use Rattle.si_stages.specs.declared.report_kind.Report.{Report}
 use Rattle.si_stages.specs.declared.report_kind.Report.TheVariants.{Summary, Regions, Conflicts, Covers, Fold}
 use Rattle.si_stages.specs.declared.report_kind.Report.TheVariants.{States, Dot, Explain}
@@ -16,7 +16,7 @@ use Rattle.si_stages.proofs.FoldLemmas.{one_fold_text, some_fold_text}
 use Rattle.si_readings.proofs.StageLemmas.{gives_one, gives_some, shows_one, shows_some}
 
 pub told_one : (what : Report) (model : List ℕ) (states : List (List ℕ)) (coded : CodedGraph) → IsCoded coded
-    → AtMostOne (told what model states coded)
+    → AtMostOne (report_text what model states coded)
 told_one Summary model states coded is = gives_one (summary coded)
 told_one Regions model states coded is = shows_one _ (one_region_text coded states)
 told_one Conflicts model states coded is = shows_one _ (one_conflict_text coded states)
@@ -27,7 +27,7 @@ told_one Dot model states coded is = shows_one _ (one_dot_text model states code
 told_one Explain model states coded is = shows_one _ (one_explain_text coded states)
 
 pub told_some : (what : Report) (model : List ℕ) (states : List (List ℕ)) (coded : CodedGraph) → IsCoded coded
-    → HasResult (told what model states coded)
+    → HasResult (report_text what model states coded)
 told_some Summary model states coded is = gives_some (summary coded)
 told_some Regions model states coded is = shows_some _ (some_region_text coded states is)
 told_some Conflicts model states coded is = shows_some _ (some_conflict_text coded states)

@@ -4,16 +4,16 @@ use Rattle.si_base.specs.Codes.{CodedGraph}
 use Rattle.si_base.specs.GivenGraph.{Sg}
 use Rattle.si_base.specs.Graph.{StateGraph}
 use Rattle.si_base.specs.Proper.{IsProper}
-use Rattle.si_insert.specs.Lineage.{History, as_given}
+use Rattle.si_insert.specs.Lineage.{History, given_current}
 use Rattle.si_refusals.specs.Stages.{Passes, Refuses}
-use Rattle.si_resolve.specs.Trace.{ResolvesTo}
+use Rattle.si_resolve.specs.Trace.{EndsResolved}
 use Rattle.si_sg.specs.GivenGraph.{IsGivenBy}
 use Rattle.si_readings.specs.Checks.{IsSound}
 use Rattle.si_readings.specs.Laws.{AtMostOne, HasResult}
 use Rattle.si_stages.specs.Resolving.{EndsWithoutConflict, resolution}
 use Rattle.si_readings.proofs.CheckLemmas.{proper_one}
 use Rattle.si_stages.proofs.ResolvingLemmas.{lineage_one, lineage_some}
-use Rattle.si_readings.proofs.SomeLemmas.{proper_some}
+use Rattle.si_readings.proofs.ReadingsExist.{proper_some}
 use Rattle.si_readings.proofs.StageLemmas.{no_refusal, then_one, then_some}
 
 pub resolution_one : (graph : StateGraph) (states : List (List ℕ)) → AtMostOne (resolution graph states)
@@ -28,7 +28,7 @@ resolution_some text sg given = then_some _ _ (proper_some text sg given)
 -- the lineage begins with the graph, which is proper, and resolves its conflicts
 pub record IsResolution (graph : StateGraph) (l : History) : Type 0 where
   pub sound : IsSound graph l.given
-  pub resolves : ResolvesTo (as_given l.given) l.trace l.current
+  pub resolves : EndsResolved (given_current l.given) l.trace l.current
 
 pub resolution_is : (graph : StateGraph) (states : List (List ℕ)) (l : History) → resolution graph states (Ok l)
     → IsResolution graph l
@@ -37,7 +37,7 @@ resolution_is graph states l (Passes coded sound ends) =
     let given : coded ≡ l.given = sym ends.given_is in
     record {
       sound = subst (λ (c : CodedGraph). IsSound graph c) given sound;
-      resolves = subst (λ (c : CodedGraph). ResolvesTo (as_given c) l.trace l.current) given ends.resolves;
+      resolves = subst (λ (c : CodedGraph). EndsResolved (given_current c) l.trace l.current) given ends.resolves;
     }
 
 pub resolution_of : (graph : StateGraph) (states : List (List ℕ)) (l : History) → IsResolution graph l

@@ -11,17 +11,17 @@ use Rattle.si_base.specs.Proper.{IsProper, HasNoConflict}
 use Rattle.si_base.specs.System.{is_inserted}
 use Rattle.si_base.specs.Words.{is_signal_name}
 use Rattle.si_candidates.proofs.BlocksExist.{some_blocks}
-use Rattle.si_circuit.proofs.InsertedLemmas.{new_signals}
-use Rattle.si_conflicts.proofs.Counted.{none_is_none}
+use Rattle.si_circuit.proofs.SpelledInsertions.{new_signals}
+use Rattle.si_conflicts.proofs.OneConflictList.{none_is_none}
 use Rattle.si_insert.specs.declared.lineage.TraceStep.{TraceStep}
 use Rattle.si_insert.specs.Fresh.{IsFresh}
 use Rattle.si_insert.specs.Insertion.{new_signal}
-use Rattle.si_insert.specs.Lineage.{AllGiven, Current, History, Inserts, IsLineage, as_given}
-use Rattle.si_insert.proofs.Free.{next_free}
+use Rattle.si_insert.specs.Lineage.{AllGiven, Current, History, Inserts, IsLineage, given_current}
+use Rattle.si_insert.proofs.FreshNameExists.{next_free}
 use Rattle.si_insert.proofs.FreshNames.{stays_signal_name}
-use Rattle.si_resolve.specs.Trace.{IsResolving, ResolvesTo, EndsUnresolved}
+use Rattle.si_resolve.specs.Trace.{IsResolvingTrace, EndsResolved, EndsUnresolved}
 use Rattle.si_resolve.proofs.EndsExist.{resolving_ends}
-use Rattle.si_resolve.proofs.Traces.{resolved_is_unique, unresolved_is_unique, ends_exclude, traces_are_lineages}
+use Rattle.si_resolve.proofs.TraceLemmas.{resolved_is_unique, unresolved_is_unique, ends_exclude, traces_are_lineages}
 use Rattle.si_readings.specs.Laws.{AtMostOne, HasResult}
 use Rattle.si_stages.specs.Resolving.{conflict_refusal, lineage_of}
 
@@ -34,25 +34,28 @@ same_history l m given trace current =
 
 pub lineage_one : (coded : CodedGraph) (states : List (List ℕ)) → IsCoded coded → AtMostOne (lineage_of coded states)
 lineage_one coded states is (Ok l) (Ok m) one other =
-    let same = resolved_is_unique (as_given coded) l.trace m.trace l.current m.current is one.resolves other.resolves in
+    let same = resolved_is_unique (given_current coded) l.trace m.trace l.current m.current is one.resolves
+    other.resolves in
     ap Ok (same_history l m (one.given_is ∙ sym other.given_is) same.0 same.1)
 lineage_one coded states is (Ok l) (Err r) one (m, pair, other, at) =
     absurd
-    (ends_exclude (as_given coded) l.trace m.trace l.current m.current pair is one.resolves other.ends)
+    (ends_exclude (given_current coded) l.trace m.trace l.current m.current pair is one.resolves other.ends)
 lineage_one coded states is (Err r) (Ok m) (l, pair, one, at) other =
     absurd
-    (ends_exclude (as_given coded) m.trace l.trace m.current l.current pair is other.resolves one.ends)
+    (ends_exclude (given_current coded) m.trace l.trace m.current l.current pair is other.resolves one.ends)
 lineage_one coded states is (Err r) (Err q) (l, a, one, at) (m, b, other, by) =
-    let same = unresolved_is_unique (as_given coded) l.trace m.trace l.current m.current a b is one.ends other.ends in
+    let same = unresolved_is_unique (given_current coded) l.trace m.trace l.current m.current a b is one.ends
+    other.ends in
     let lineages = same_history l m (one.given_is ∙ sym other.given_is) same.0 same.1 in
     ap Err (at ∙ ap₂ (conflict_refusal states) lineages same.2 ∙ sym by)
 
 pub lineage_some : (coded : CodedGraph) (states : List (List ℕ)) → IsCoded coded → IsProper coded.graph
     → HasResult (lineage_of coded states)
-lineage_some coded states is proper = go (resolving_ends some_blocks (as_given coded) is proper)
+lineage_some coded states is proper = go (resolving_ends some_blocks (given_current coded) is proper)
   where
     go : (trace : List TraceStep) × (w : Current)
-        × (ResolvesTo (as_given coded) trace w ⊎ ((pair : ℕ × ℕ) × EndsUnresolved (as_given coded) trace w pair))
+        × (EndsResolved (given_current coded) trace w
+        ⊎ ((pair : ℕ × ℕ) × EndsUnresolved (given_current coded) trace w pair))
         → HasResult (lineage_of coded states)
     go (trace, w, inl ends) =
         (Ok (record { given = coded; trace = trace; current = w }), record { given_is = refl; resolves = ends })
@@ -61,7 +64,8 @@ lineage_some coded states is proper = go (resolving_ends some_blocks (as_given c
         (Err (conflict_refusal states l pair), (l, pair, record { given_is = refl; ends = ends }, refl))
 
 -- a graph without conflicts needs no insertion
-pub none_needed : (v : Current) (trace : List TraceStep) (w : Current) → HasNoConflict v.coded → IsResolving v trace w
+pub none_needed : (v : Current) (trace : List TraceStep) (w : Current) → HasNoConflict v.coded
+    → IsResolvingTrace v trace w
     → trace ≡ []
 none_needed v [] w free goes = refl
 none_needed v (p ∷ trace) w free (u, step, rest) =
@@ -70,11 +74,11 @@ none_needed v (p ∷ trace) w free (u, step, rest) =
 
 -- ---- what insertions keep
 pub resolved_lineage : (c : CodedGraph) (trace : List TraceStep) (w : Current) → IsCoded c → IsProper c.graph
-    → AllGiven c.graph.signals → IsResolving (as_given c) trace w → IsLineage c trace w
+    → AllGiven c.graph.signals → IsResolvingTrace (given_current c) trace w → IsLineage c trace w
 resolved_lineage c trace w coded proper clean goes =
-    let none : IsLineage c [] (as_given c) =
+    let none : IsLineage c [] (given_current c) =
     record { coded = coded; proper = proper; none_inserted = clean; grown = refl } in
-    traces_are_lineages c [] trace (as_given c) w none goes
+    traces_are_lineages c [] trace (given_current c) w none goes
 
 -- the names of the inserted signals are signal names
 pub fresh_named : (signals : List Signal) (stem name : List ℕ) → IsTrue (is_signal_name stem)
@@ -97,7 +101,7 @@ named_after v p u ins name named =
     ap (λ (x : Current). x.coded.graph.signals) ins.makes ∙ ins.insertion.signals in
     subst (All P) (sym signals) (All-push P v.coded.graph.signals (new_signal p.name) named name)
 
-pub named_along : (v : Current) (trace : List TraceStep) (w : Current) → IsResolving v trace w → AreNamed v
+pub named_along : (v : Current) (trace : List TraceStep) (w : Current) → IsResolvingTrace v trace w → AreNamed v
     → AreNamed w
 named_along v [] w same named = subst (λ (x : Current). AreNamed x) same named
 named_along v (p ∷ trace) w (u, step, rest) named =

@@ -11,7 +11,7 @@ use Rattle.si_stages.specs.WaveLaws.{ShowsReplay, ShowsRun}
 use Rattle.si_stages.specs.declared.replay_kind.ReplayReport.TheVariants.{Wave}
 use Rattle.si_readings.proofs.ReadingLemmas.{replay_readings_are}
 use Rattle.si_readings.proofs.StageLemmas.{passed}
-use Rattle.si_wave.proofs.ShownLemmas.{shows_runs}
+use Rattle.si_wave.proofs.ReadingLemmas.{shows_runs}
 
 -- events whose verdicts are done are a run, and so are the first of them
 run_until : (g : StateGraph) (n : Netlist) (x : State) (es : List Event) (y : State) → PassesAll g n x es y

@@ -16,9 +16,9 @@ use Rattle.si_circuit.specs.Gates.{netlist_of}
 use Rattle.si_circuit.specs.Spelled.{AreInserted}
 use Rattle.si_circuit.specs.Spelling.{insertions_from, insertions_of, given_descents}
 use Rattle.si_circuit.proofs.CircuitLemmas.{gates_circuit}
-use Rattle.si_circuit.proofs.InsertedLemmas.{are_inserted, signals_grow}
-use Rattle.si_insert.specs.Lineage.{AllGiven, History, IsLineage, as_given}
-use Rattle.si_insert.proofs.Kept.{keeps}
+use Rattle.si_circuit.proofs.SpelledInsertions.{are_inserted, signals_grow}
+use Rattle.si_insert.specs.Lineage.{AllGiven, History, IsLineage, given_current}
+use Rattle.si_insert.proofs.InsertionKeeps.{keeps}
 use Rattle.si_stages.specs.Written.{IsWritten}
 use Rattle.si_stages.proofs.GivenLineages.{IsGivenLineage}
 use Rattle.si_stages.proofs.ResolvingLemmas.{given_kept}
@@ -54,7 +54,7 @@ module _ (gate : ℕ → Gate) (sg : Sg) (l : History) where
       let there : first < v.coded.graph.states = kept.coded.graph_is.starts in
       record {
         signals = ap (filter (λ (x : Signal). not (is_inserted x.kind)))
-            (signals_grow (as_given c) l.trace v line.grown)
+            (signals_grow (given_current c) l.trace v line.grown)
             ∙ given_kept c.graph.signals l.trace (all_kept c.graph.signals line.none_inserted);
         values = λ a within. kept.values first a there within
             ∙ ap (λ (s : ℕ). bit (code c s) a) kept.start;

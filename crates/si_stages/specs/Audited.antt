@@ -67,9 +67,10 @@ pub record IsRejection (states : List (List ℕ)) (coded : CodedGraph) (n : Netl
 
 -- the netlist is certified for the graph, whose states have these names: else the first reason
 -- against it
-abbrev pub audited : (states : List (List ℕ)) → CodedGraph → Netlist → Stage TextRefusal (List ℕ)
-audited states coded n (Ok output) = IsAudit states coded n output
-audited states coded n (Err refusal) = IsRejection states coded n refusal
+abbrev pub certification : (states : List (List ℕ)) → CodedGraph → Netlist
+    → Stage TextRefusal (List ℕ)
+certification states coded n (Ok output) = IsAudit states coded n output
+certification states coded n (Err refusal) = IsRejection states coded n refusal
 
 -- the call stops with the fault by its names, or memory ran out
 abbrev pub TellsRejection : List Signal → AuditFault → Ending → Type 0

@@ -9,7 +9,7 @@ use Rattle.si_base.specs.Words.{text_of}
 use Rattle.si_circuit.specs.Circuits.{circuit_of}
 use Rattle.si_circuit.specs.declared.style.Style.TheVariants.{Complex}
 use Rattle.si_handshakes.specs.Handshakes.{IsHandshakes}
-use Rattle.si_insert.specs.Lineage.{History, as_given}
+use Rattle.si_insert.specs.Lineage.{History, given_current}
 use Rattle.si_refusals.specs.Refusal.{TextRefusal}
 use Rattle.si_refusals.specs.Stages.{Stage, shows}
 use Rattle.si_readings.specs.Checks.{IsSound}
@@ -27,7 +27,7 @@ literals_of netlist = sum_by gate_literals netlist.gates
 
 -- the lineage of a graph into which nothing is inserted
 abbrev pub as_it_is : CodedGraph → History
-as_it_is coded = record { given = coded; trace = []; current = as_given coded }
+as_it_is coded = record { given = coded; trace = []; current = given_current coded }
 
 -- how many handshakes; how many states and arcs their graph has; how many gates and literals its
 -- netlist has

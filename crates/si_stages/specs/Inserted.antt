@@ -1,7 +1,7 @@
 -- (command) What `resolve` and `insert` mean over the texts of their files: the graph after the
 -- insertions that resolve its conflicts, or after those of a netlist, as a text.
 use Rattle.std.specs.Prelude.{◌≡◌, ℕ, List, Ok, Err}
-use Rattle.si_audit.specs.Audit.{TakesAll, begun}
+use Rattle.si_audit.specs.Audit.{TakesAll, start_lineage}
 use Rattle.si_audit.specs.Faults.{ShowsRejection}
 use Rattle.si_audit.specs.declared.fault.AuditFault.{AuditFault}
 use Rattle.si_base.specs.Codes.{CodedGraph}
@@ -40,9 +40,10 @@ pub record IsInsertRejection (states : List (List ℕ)) (coded : CodedGraph) (n 
 
 -- the lineage of the graph, whose states have these names, that takes all insertions of the
 -- netlist: else the first reason against one
-abbrev pub taken : (states : List (List ℕ)) → CodedGraph → Netlist → Stage TextRefusal History
-taken states coded n (Ok l) = TakesAll states (begun coded) n.inserts l
-taken states coded n (Err refusal) = IsInsertRejection states coded n refusal
+abbrev pub lineage_with_insertions : (states : List (List ℕ)) → CodedGraph → Netlist
+    → Stage TextRefusal History
+lineage_with_insertions states coded n (Ok l) = TakesAll states (start_lineage coded) n.inserts l
+lineage_with_insertions states coded n (Err refusal) = IsInsertRejection states coded n refusal
 
 -- the gates of the netlist aren't looked at
 abbrev pub insert : (graph graph_text netlist netlist_text : List ℕ) → Stage TextRefusal (List ℕ)
@@ -50,5 +51,5 @@ insert graph graph_text netlist netlist_text = do
   readings ← audit_readings graph graph_text netlist netlist_text
   coded ← proper readings.given.graph readings.given.states
   _ ← match_lists netlist coded readings.netlist
-  lineage ← taken readings.given.states coded readings.netlist
+  lineage ← lineage_with_insertions readings.given.states coded readings.netlist
   current_text readings.given lineage

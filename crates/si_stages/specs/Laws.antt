@@ -15,8 +15,8 @@ use Rattle.si_readings.specs.Readings.{fault_in, library_from}
 use Rattle.si_readings.specs.declared.library_format.LibraryFormat.{LibraryFormat}
 
 -- the stage gives an output, or shows the first event of a replay whose verdict isn't `Done`
-abbrev pub EndsOrDeparts : Stage TextRefusal (List ℕ) → Type 0
-EndsOrDeparts stage = ((output : List ℕ) × stage (Ok output))
+abbrev pub EndsOrDiffers : Stage TextRefusal (List ℕ) → Type 0
+EndsOrDiffers stage = ((output : List ℕ) × stage (Ok output))
     ⊎ ((step : ℕ) × (signal : List ℕ) × (verdict : Verdict)
     × stage (Err (Differs step signal verdict)))
 

@@ -7,10 +7,10 @@ use Rattle.si_cell.specs.Library.{Library}
 use Rattle.si_circuit.specs.Cells.{AllFit, mapped_netlist}
 use Rattle.si_circuit.specs.Spelling.{insertions_of}
 use Rattle.si_insert.specs.declared.lineage.TraceStep.{TraceStep}
-use Rattle.si_insert.specs.Lineage.{GoesOn, History}
+use Rattle.si_insert.specs.Lineage.{ExtendsBy, History}
 use Rattle.si_map.specs.declared.map.MapStuck.{MapStuck}
 use Rattle.si_map.specs.declared.map.MapStuck.TheVariants.{NoMemory, Signal}
-use Rattle.si_map.specs.Trace.{MapsTo, EndsUnmapped}
+use Rattle.si_map.specs.Trace.{EndsMapped, EndsUnmapped}
 use Rattle.si_refusals.specs.Ending.{Ending, Answered}
 use Rattle.si_refusals.specs.Refusal.{TextRefusal, Unmapped, TextRefused}
 use Rattle.si_refusals.specs.Stages.{Stage}
@@ -20,13 +20,13 @@ use Rattle.si_stages.specs.Written.{IsWritten}
 -- their end each signal that the circuit drives fits a cell
 pub record EndsInCells (library : Library) (l m : History) : Type 0 where
   pub trace : List TraceStep
-  pub goes : GoesOn l trace m
-  pub maps : MapsTo library l.current trace m.current
+  pub goes : ExtendsBy l trace m
+  pub maps : EndsMapped library l.current trace m.current
 
 -- the same as far as divisors serve, where z is the first signal that fits no cell
 pub record EndsUnfit (library : Library) (l m : History) (z : ℕ) : Type 0 where
   pub trace : List TraceStep
-  pub goes : GoesOn l trace m
+  pub goes : ExtendsBy l trace m
   pub ends : EndsUnmapped library l.current trace m.current z
 
 -- the output is the text of a netlist that is written for the given graph, over the lineage that

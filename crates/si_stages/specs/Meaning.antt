@@ -3,13 +3,13 @@ use Rattle.std.specs.Prelude.{ℕ, List}
 use Rattle.si_circuit.specs.declared.style.Style.{Style}
 use Rattle.si_refusals.specs.Refusal.{TextRefusal}
 use Rattle.si_refusals.specs.Stages.{Stage, ◌>>=◌}
-use Rattle.si_stages.specs.Audited.{audited}
+use Rattle.si_stages.specs.Audited.{certification}
 use Rattle.si_readings.specs.Checks.{proper, match_lists}
 use Rattle.si_stages.specs.Mapping.{cells_text}
 use Rattle.si_readings.specs.Readings.{graph_in, mapping_readings}
 use Rattle.si_readings.specs.Readings.{audit_readings, replay_readings}
 use Rattle.si_stages.specs.Replayed.{replay_end}
-use Rattle.si_stages.specs.Reports.{told}
+use Rattle.si_stages.specs.Reports.{report_text}
 use Rattle.si_stages.specs.Resolving.{resolution}
 use Rattle.si_stages.specs.Synthesis.{synthesis}
 use Rattle.si_readings.specs.declared.library_format.LibraryFormat.{LibraryFormat}
@@ -20,7 +20,7 @@ abbrev pub report : Report → (file text : List ℕ) → Stage TextRefusal (Lis
 report what file text = do
   given ← graph_in file text
   coded ← proper given.graph given.states
-  told what given.model given.states coded
+  report_text what given.model given.states coded
 
 abbrev pub synth : Style → (file text : List ℕ) → Stage TextRefusal (List ℕ)
 synth style file text = do
@@ -50,4 +50,4 @@ audit graph graph_text netlist netlist_text = do
   readings ← audit_readings graph graph_text netlist netlist_text
   coded ← proper readings.given.graph readings.given.states
   _ ← match_lists netlist coded readings.netlist
-  audited readings.given.states coded readings.netlist
+  certification readings.given.states coded readings.netlist

@@ -14,10 +14,11 @@ use Rattle.si_stages.specs.declared.replay_kind.ReplayReport.{ReplayReport}
 
 -- the replay departs from the graph at this event, with the signal shown and the verdict, or memory
 -- ran out
-abbrev pub Departs : ℕ → List ℕ → Verdict → Ending → Type 0
-Departs step signal verdict NoMemory = Unit {0}
-Departs step signal verdict (Answered (TextRefused refusal)) = refusal ≡ Differs step signal verdict
-Departs step signal verdict ending = ⊥
+abbrev pub EndsDiffering : ℕ → List ℕ → Verdict → Ending → Type 0
+EndsDiffering step signal verdict NoMemory = Unit {0}
+EndsDiffering step signal verdict (Answered (TextRefused refusal)) = refusal
+    ≡ Differs step signal verdict
+EndsDiffering step signal verdict ending = ⊥
 
 -- an outcome that ends at a state has a name for it
 abbrev pub HasName : List (List ℕ) → Outcome → Type 0
@@ -32,8 +33,8 @@ TellsEnd what netlist events states (outcome.Done values state) text = (name : L
 TellsEnd what netlist events states (outcome.Differs step event verdict) text = ⊥
 
 -- the call stops with the event that departs from the graph
-abbrev pub TellsDeparture : List Signal → Outcome → Ending → Type 0
-TellsDeparture signals (outcome.Done values state) NoMemory = Unit {0}
-TellsDeparture signals (outcome.Done values state) ending = ⊥
-TellsDeparture signals (outcome.Differs step event verdict) ending =
-    Departs step (name_of signals (shown_signal event verdict)) verdict ending
+abbrev pub TellsDifference : List Signal → Outcome → Ending → Type 0
+TellsDifference signals (outcome.Done values state) NoMemory = Unit {0}
+TellsDifference signals (outcome.Done values state) ending = ⊥
+TellsDifference signals (outcome.Differs step event verdict) ending =
+    EndsDiffering step (name_of signals (shown_signal event verdict)) verdict ending

@@ -51,7 +51,7 @@ pub record IsReplay (what : ReplayReport) (graph : StateGraph) (states : List (L
   pub output_is : output ≡ output_of what netlist events values name
 
 -- the refusal shows the first event, counted from 1, whose verdict isn't `Done`
-pub record IsDeparture (graph : StateGraph) (netlist : Netlist) (events : List Event)
+pub record IsDifference (graph : StateGraph) (netlist : Netlist) (events : List Event)
     (refusal : TextRefusal) : Type 0 where
   pub step : ℕ
   pub event : Event
@@ -66,4 +66,5 @@ abbrev pub replay_end : ReplayReport → StateGraph → (states : List (List ℕ
     → List Event → Stage TextRefusal (List ℕ)
 replay_end what graph states netlist events (Ok output) =
     IsReplay what graph states netlist events output
-replay_end what graph states netlist events (Err refusal) = IsDeparture graph netlist events refusal
+replay_end what graph states netlist events (Err refusal) =
+    IsDifference graph netlist events refusal

@@ -34,13 +34,13 @@ summary coded = text_of ((codes "proper" ∷ [])
 -- of a graph with this model and these names of its states: its summary; the text of its regions;
 -- the text of its conflicts; the text of its covers; the text of its folded graph; the text of its
 -- states; the text that explains its conflicts; the text of its picture
-abbrev pub told : Report → (model : List ℕ) → (states : List (List ℕ)) → CodedGraph
+abbrev pub report_text : Report → (model : List ℕ) → (states : List (List ℕ)) → CodedGraph
     → Stage TextRefusal (List ℕ)
-told Summary model states coded = gives (summary coded)
-told Regions model states coded = shows (IsRegionText coded states)
-told Conflicts model states coded = shows (IsConflictText coded states)
-told Covers model states coded = shows (IsCoverText coded states)
-told Fold model states coded = shows (IsFoldText model states coded)
-told States model states coded = gives (states_text coded states)
-told Explain model states coded = shows (IsExplainText coded states)
-told Dot model states coded = shows (IsDotText model states coded)
+report_text Summary model states coded = gives (summary coded)
+report_text Regions model states coded = shows (IsRegionText coded states)
+report_text Conflicts model states coded = shows (IsConflictText coded states)
+report_text Covers model states coded = shows (IsCoverText coded states)
+report_text Fold model states coded = shows (IsFoldText model states coded)
+report_text States model states coded = gives (states_text coded states)
+report_text Explain model states coded = shows (IsExplainText coded states)
+report_text Dot model states coded = shows (IsDotText model states coded)

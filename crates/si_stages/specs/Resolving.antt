@@ -3,8 +3,8 @@ use Rattle.std.specs.Prelude.{◌≡◌, ℕ, List, Ok, Err}
 use Rattle.si_base.specs.Codes.{CodedGraph}
 use Rattle.si_base.specs.Graph.{StateGraph}
 use Rattle.si_circuit.specs.Spelling.{current_word, insertions_of}
-use Rattle.si_insert.specs.Lineage.{History, as_given}
-use Rattle.si_resolve.specs.Trace.{ResolvesTo, EndsUnresolved}
+use Rattle.si_insert.specs.Lineage.{History, given_current}
+use Rattle.si_resolve.specs.Trace.{EndsResolved, EndsUnresolved}
 use Rattle.si_refusals.specs.Refusal.{TextRefusal, Unresolved}
 use Rattle.si_refusals.specs.Stages.{Stage, ◌>>=◌}
 use Rattle.si_readings.specs.Checks.{proper}
@@ -13,13 +13,13 @@ use Rattle.si_readings.specs.Checks.{proper}
 -- the graph before it, and at their end no conflict is left
 pub record EndsWithoutConflict (coded : CodedGraph) (l : History) : Type 0 where
   pub given_is : l.given ≡ coded
-  pub resolves : ResolvesTo (as_given coded) l.trace l.current
+  pub resolves : EndsResolved (given_current coded) l.trace l.current
 
 -- the same as far as insertions lower the number of conflicts, where some are left, of which the
 -- pair is the first
 pub record EndsInConflict (coded : CodedGraph) (l : History) (pair : ℕ × ℕ) : Type 0 where
   pub given_is : l.given ≡ coded
-  pub ends : EndsUnresolved (as_given coded) l.trace l.current pair
+  pub ends : EndsUnresolved (given_current coded) l.trace l.current pair
 
 -- the refusal that shows the words of two states of a lineage's current graph, and the insertions
 abbrev pub conflict_refusal : (states : List (List ℕ)) → History → ℕ × ℕ → TextRefusal

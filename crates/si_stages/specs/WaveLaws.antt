@@ -10,7 +10,7 @@ use Rattle.si_netlist_reader.specs.NetlistFault.{netlist_fault}
 use Rattle.si_netlist_reader.specs.NetlistValue.{netlist_of}
 use Rattle.si_sg.specs.GivenGraph.{IsGivenBy}
 use Rattle.si_system.specs.ScheduleText.{schedule_fault, schedule_of, signal_names}
-use Rattle.si_wave.specs.Reading.{shown}
+use Rattle.si_wave.specs.Reading.{shown_value}
 use Rattle.si_wave.specs.Wave.{wave_of, wave_text, wire_code}
 
 -- the output is the wave of the events; and at each time up to the last of them, the system of the
@@ -21,7 +21,7 @@ pub record ShowsRun (graph : StateGraph) (netlist : Netlist) (events : List Even
   pub shows : (time : ℕ) → time ≤ length events → (x : State)
       × Runs graph netlist (start graph netlist) (take time events) x
       × ((sig : ℕ) → sig < length netlist.signals
-      → shown (wave_of netlist events) time (wire_code sig) ≡ bit x.values sig)
+      → shown_value (wave_of netlist events) time (wire_code sig) ≡ bit x.values sig)
 
 -- the same of the graph, the netlist and the schedule that texts give
 pub record ShowsReplay (graph netlist schedule output : List ℕ) : Type 0 where

@@ -1,7 +1,7 @@
 //! From the texts of a graph and a netlist to whether the netlist is certified for the graph.
 
 ghost use Rattle.std.specs.Prelude.{◌≡◌, ℕ, ◌↔◌, List, IfOk, IfErr, Ok, length};
-ghost use Rattle.si_audit.specs.Told.{AreAmong, TellsOf};
+ghost use Rattle.si_audit.specs.FaultSignals.{AreAmong, TellsOf};
 ghost use Rattle.si_audit.specs.declared.fault.AuditFault.TheVariants.{Refused};
 ghost use Rattle.si_base.specs.System.{IsFor};
 ghost use Rattle.si_refusals.specs.Ending.{MayStop, ending_of};
@@ -68,7 +68,7 @@ fn audited_text(
     requires fits { IsFor graph netlist }
     ensures ok { IfOk result (IsAudit states.now graph netlist) }
     ensures err { IfErr result (λ r.
-        MayStop (stage.audited states.now graph netlist) (ending_of r)) }
+        MayStop (stage.certification states.now graph netlist) (ending_of r)) }
 {
     match audit(alloc, graph, states, netlist) {
         Ok(circuit) => Ok(audit_text(alloc, &circuit)?),
@@ -124,7 +124,7 @@ fn reason_of(
         AuditFault::NoMemory => Err(NoMemory),
         AuditFault::States { k } => Ok(NamedRejection::States { k }),
         AuditFault::Classes { k } => Ok(NamedRejection::Classes { k }),
-        AuditFault::Refused { k, state, why } => refused(alloc, signals, k, state, &why),
+        AuditFault::Refused { k, state, why } => refused_insertion(alloc, signals, k, state, &why),
         AuditFault::Start { sig } => Ok(NamedRejection::Start {
             signal: name_of_signal(alloc, signals, sig)?,
         }),
@@ -136,7 +136,7 @@ fn reason_of(
 }
 
 /// The reason against the partition of insertion number `k`.
-fn refused(
+fn refused_insertion(
     alloc: Global,
     signals: &[Signal],
     k: u32,

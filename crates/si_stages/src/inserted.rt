@@ -74,13 +74,13 @@ pub fn insert<'w>(
     } = given;
     let proper = proper_of(alloc, graph, &states)?;
     match_lists(netlist_file, proper.coded(), &netlist)?;
-    let lineage = taken(alloc, proper, &states, &netlist)?;
+    let lineage = lineage_with_insertions(alloc, proper, &states, &netlist)?;
     let output = current_text(alloc, &lineage, &model, &states)?;
     Ok(output)
 }
 
 /// The lineage of the graph with the insertions of the netlist, or the first reason against one.
-fn taken(
+fn lineage_with_insertions(
     alloc: Global,
     graph: Proper,
     states: &Names,
@@ -88,9 +88,10 @@ fn taken(
 ) -> Result<Lineage, Refusal<'static>>
     requires names { length states.now ≡ graph.graph.states }
     requires fits { IsFor graph netlist.now }
-    ensures ok { IfOk result (λ l. stage.taken states.now graph netlist.now (Ok l)) }
+    ensures ok { IfOk result (λ l. stage.lineage_with_insertions states.now graph netlist.now
+        (Ok l)) }
     ensures err { IfErr result (λ r.
-        MayStop (stage.taken states.now graph netlist.now) (ending_of r)) }
+        MayStop (stage.lineage_with_insertions states.now graph netlist.now) (ending_of r)) }
 {
     match lineage_of(alloc, graph, states, netlist) {
         Ok(lineage) => Ok(lineage),

@@ -6,7 +6,7 @@ ghost use Rattle.si_base.specs.NetlistText.{name_of};
 ghost use Rattle.si_base.specs.System.{IsFor};
 ghost use Rattle.si_stages.specs.Meaning as meaning;
 ghost use Rattle.si_refusals.specs.Ending.{MayStop, ending_of};
-ghost use Rattle.si_stages.specs.Outcomes.{Departs, HasName, TellsEnd, TellsDeparture};
+ghost use Rattle.si_stages.specs.Outcomes.{EndsDiffering, HasName, TellsEnd, TellsDifference};
 ghost use Rattle.si_stages.specs.Replayed as stage;
 ghost use Rattle.si_stages.specs.Replayed.{output_of, replay_text};
 ghost use Rattle.si_stages.specs.Replayed.{shown_signal as signal_at_fault};
@@ -113,7 +113,7 @@ fn outcome_text(
     requires state { HasName states.now outcome.now }
     ensures ok { IfOk result
         (TellsEnd what netlist.now events.now.items states.now outcome.now) }
-    ensures err { IfErr result (λ r. TellsDeparture netlist.now.signals outcome.now (ending_of r)) }
+    ensures err { IfErr result (λ r. TellsDifference netlist.now.signals outcome.now (ending_of r)) }
 {
     match outcome {
         Outcome::Done { values, state } => {
@@ -124,19 +124,20 @@ fn outcome_text(
             step,
             event,
             verdict,
-        } => Err(departure(alloc, netlist, *step, event, verdict)),
+        } => Err(difference(alloc, netlist, *step, event, verdict)),
     }
 }
 
 /// The refusal of a replay that leaves the graph, loses an excitation or is blocked.
-fn departure(
+fn difference(
     alloc: Global,
     netlist: &Netlist,
     step: u64,
     event: &Event,
     verdict: &Verdict,
 ) -> Refusal<'static>
-    ensures { Departs step (name_of netlist.now.signals (signal_at_fault event.now verdict.now))
+    ensures { EndsDiffering step (name_of netlist.now.signals
+        (signal_at_fault event.now verdict.now))
         verdict.now (ending_of result) }
 {
     let shown = shown_signal(event, verdict);

@@ -51,14 +51,14 @@ pub fn report<'w>(
         states,
     } = graph_in(alloc, file, text)?;
     let proper = proper_of(alloc, graph, &states)?;
-    match told(alloc, what, &proper, &model, &states) {
+    match report_text(alloc, what, &proper, &model, &states) {
         Ok(text) => Ok(text),
         Err(_) => Err(Refusal::NoMemory),
     }
 }
 
 /// What is told of a proper graph with this model and these names of its states.
-fn told(
+fn report_text(
     alloc: Global,
     what: Report,
     graph: &Proper,
@@ -66,7 +66,8 @@ fn told(
     states: &Names,
 ) -> Result<Text, NoMemory>
     requires { length states.now ≡ graph.now.graph.states }
-    ensures { IfOk result (λ text. reports.told what model.now states.now graph.now (Ok text)) }
+    ensures { IfOk result (λ text. reports.report_text what model.now states.now graph.now
+        (Ok text)) }
 {
     match what {
         Report::Summary => summary_of(alloc, graph.coded()),

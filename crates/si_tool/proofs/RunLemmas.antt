@@ -18,10 +18,10 @@ use Rattle.si_refusals.specs.declared.refusals.Refusal.{Refusal}
 use Rattle.si_refusals.specs.declared.refusals.Refusal.TheVariants as made
 use Rattle.si_refusals.specs.declared.status.Status.{Status}
 use Rattle.si_refusals.specs.declared.status.Status.TheVariants as status
-use Rattle.si_tool.proofs.AnswerLemmas.{command_one, command_or_fault, IsReadFault}
+use Rattle.si_tool.proofs.MeaningAnswers.{command_one, command_or_fault, IsReadFault}
 use Rattle.si_tool.proofs.LoadLemmas.{read_rose, long_without_fault}
-use Rattle.si_tool.proofs.OverlapLemmas.{one_request}
-use Rattle.si_tool.proofs.SinkLemmas.{nothing_put, put_nothing}
+use Rattle.si_tool.proofs.FormOverlap.{one_request}
+use Rattle.si_tool.proofs.RunSinks.{nothing_put, put_nothing}
 
 -- ---- what a run was told comes to one answer, faults of loads aside
 comes_as : (words : List (String Global)) (content : Contents) (before now : Counts) (a b : Answer)

@@ -15,7 +15,7 @@ use Rattle.si_checks.proofs.DecisionLemmas.{Decided, both, first_candidate}
 use Rattle.si_walks.specs.declared.arcs.Arcs.{Arcs}
 use Rattle.si_walks.specs.declared.arcs.Arcs.TheVariants.{All}
 use Rattle.si_walks.specs.Walks.{Takes, WalkAlong, LeadsAlong, walk_place, IsFirstWalk}
-use Rattle.si_walks.proofs.Takings.{taken}
+use Rattle.si_walks.proofs.WalkEvents.{taken}
 
 -- ---- walks along all arcs
 pub along_all : (g : StateGraph) (s : ℕ) (es : List Event) (t : ℕ) → Walk g s es t → WalkAlong g All s es t

@@ -15,7 +15,7 @@ use Rattle.si_base.proofs.StepFacts.{step_within, code_of_step}
 use Rattle.si_base.proofs.Steps.{enables-step, step_from_enables}
 use Rattle.si_insert.specs.declared.lineage.TraceStep.{TraceStep}
 use Rattle.si_insert.specs.Lineage.{Current, origin, IsLineage, Silently, Keeps}
-use Rattle.si_insert.proofs.Kept.{keeps}
+use Rattle.si_insert.proofs.InsertionKeeps.{keeps}
 use Rattle.si_walks.specs.declared.arcs.Arcs.TheVariants.{OfInputs}
 use Rattle.si_walks.specs.Walks.{WalkAlong, InputsLead}
 use Rattle.si_walks.specs.Joined.{IsJoinedConflict, HasConflictFrom}

@@ -1,7 +1,7 @@
-pub mod Takings
-pub mod Finding
-pub mod Layers
-pub mod Nearest
+pub mod WalkEvents
+pub mod DistanceSearch
+pub mod DistanceLayers
+pub mod SourceNearest
 pub mod FirstWalks
 pub mod WalkSteps
 pub mod SourceLemmas

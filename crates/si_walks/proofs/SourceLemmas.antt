@@ -22,10 +22,10 @@ use Rattle.si_walks.specs.declared.arcs.Arcs.{Arcs}
 use Rattle.si_walks.specs.declared.arcs.Arcs.TheVariants.{OfInputs}
 use Rattle.si_walks.specs.Walks.{Takes, WalkAlong, LeadsAlong, InputsLead, IsFirstWalk}
 use Rattle.si_walks.specs.Distances.{at, IsDistance, AreDistances}
-use Rattle.si_walks.specs.Sources.{together, from, IsNearestBelow, IsNearestOrNone}
+use Rattle.si_walks.specs.Sources.{distance_sum, arcs_to_both, IsNearestBelow, IsNearestOrNone}
 use Rattle.si_walks.specs.Joined.{Source, source_place, IsSource, IsFirstSource, IsSourceOrNone}
-use Rattle.si_walks.proofs.Takings.{taken}
-use Rattle.si_walks.proofs.Nearest.{some_nearest}
+use Rattle.si_walks.proofs.WalkEvents.{taken}
+use Rattle.si_walks.proofs.SourceNearest.{some_nearest}
 use Rattle.si_walks.proofs.FirstWalks.{shortest, at_least, some_first_walk, one_first_walk}
 use Rattle.si_walks.proofs.WalkSteps.{distance_of, walk_of, first_as_long}
 
@@ -36,7 +36,7 @@ begins_within g arcs s [] t is within walk = subst (λ (x : ℕ). x < g.states) 
 begins_within g arcs s (e ∷ es) t is within (u, takes, step, walk) = (step_within g s e u is step).0
 
 -- both distances of which there are so many arcs together
-both_of : (x y : Option ℕ) (n : ℕ) → together x y ≡ Some n
+both_of : (x y : Option ℕ) (n : ℕ) → distance_sum x y ≡ Some n
     → (k : ℕ) × (m : ℕ) × (x ≡ Some k) × (y ≡ Some m) × (n ≡ k + m)
 both_of None y n is = absurd (none is)
   where
@@ -53,14 +53,14 @@ module _ (c : CodedGraph) (p q : ℕ) (first second : List (Option ℕ)) (is_gra
     (to_q : AreDistances c.graph OfInputs q second) where
   -- a source is as far as its walks are long at most
   far_of : (x : Source) → IsSource c (p, q) x → (n : ℕ) × (x.state < c.graph.states)
-      × (from first second x.state ≡ Some n) × (n ≤ length x.first + length x.second)
+      × (arcs_to_both first second x.state ≡ Some n) × (n ≤ length x.first + length x.second)
   far_of x is =
       let within = begins_within c.graph OfInputs x.state x.first p is_graph p_within is.to_first in
       let one = distance_of c.graph OfInputs p first is_graph to_p x.state x.first within is.to_first in
       let other = distance_of c.graph OfInputs q second is_graph to_q x.state x.second within is.to_second in (
         one.0 + other.0,
         within,
-        ap₂ together one.1 other.1,
+        ap₂ distance_sum one.1 other.1,
         omega (arith, one.2, other.2),
       )
 

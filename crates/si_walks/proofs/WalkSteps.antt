@@ -11,7 +11,7 @@ use Rattle.si_base.proofs.StepFacts.{step_within}
 use Rattle.si_walks.specs.declared.arcs.Arcs.{Arcs}
 use Rattle.si_walks.specs.Walks.{Takes, WalkAlong, LeadsAlong, IsFirstWalk}
 use Rattle.si_walks.specs.Distances.{at, IsDistance, AreDistances, BringsNearer, IsNearer, IsFirstNearer}
-use Rattle.si_walks.proofs.Finding.{not_both}
+use Rattle.si_walks.proofs.DistanceSearch.{not_both}
 use Rattle.si_walks.proofs.FirstWalks.{HasLength, first_stay, first_step}
 
 pub step_of : (g : StateGraph) (s : ℕ) (a : Edge) → a.from ≡ s → Contains g.edges a → Step g s a.event a.to

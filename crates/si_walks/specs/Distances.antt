@@ -32,8 +32,8 @@ is_none None = true
 is_none (Some n) = false
 
 -- how many states have no distance yet
-abbrev pub unfound : List (Option ℕ) → ℕ
-unfound distances = count_by is_none distances
+abbrev pub unfound_count : List (Option ℕ) → ℕ
+unfound_count distances = count_by is_none distances
 
 -- of the states that had no distance those with Q, and no others, get the distance n, and stand
 -- then in the list of new ones
@@ -45,7 +45,7 @@ pub record Finds (Q : ℕ → Type 0) (n : ℕ) (old : List (Option ℕ)) (befor
       → (at old s ≡ Some m) ⊎ ((m ≡ n) × Q s × Contains after s)
   pub waits : (s : ℕ) → Contains before s → Contains after s
   pub listed : (s : ℕ) → Contains after s → Contains before s ⊎ (at new s ≡ Some n)
-  pub counted : unfound new + length after ≡ unfound old + length before
+  pub counted : unfound_count new + length after ≡ unfound_count old + length before
 
 -- and each state with Q has a distance then
 pub record FindsAll (Q : ℕ → Type 0) (n : ℕ) (old : List (Option ℕ)) (before : List ℕ)

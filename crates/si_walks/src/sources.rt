@@ -2,7 +2,7 @@
 
 ghost use Rattle.std.specs.Prelude.{◌≡◌, ◌↔◌, ℕ, ◌<◌, ◌^◌, IsTrue, length};
 ghost use Rattle.si_walks.specs.Distances.{at};
-ghost use Rattle.si_walks.specs.Sources.{IsNearestOrNone, IsFewer, from};
+ghost use Rattle.si_walks.specs.Sources.{IsNearestOrNone, IsFewer, arcs_to_both};
 
 use si_base::ids::StateId;
 
@@ -50,7 +50,7 @@ fn has_fewer(
 fn arcs_from(first: &[Option<u32>], second: &[Option<u32>], s: StateId) -> Option<u64>
     requires first { s < length first.now }
     requires second { length second.now ≡ length first.now }
-    ensures { result ≡ from first.now second.now s }
+    ensures { result ≡ arcs_to_both first.now second.now s }
 {
     let to_first = first[s.0 as usize]?;
     let to_second = second[s.0 as usize]?;

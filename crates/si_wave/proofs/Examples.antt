@@ -6,7 +6,7 @@ use Rattle.si_base.specs.declared.ids.Event.{Event}
 use Rattle.si_base.specs.Netlist.{Netlist}
 use Rattle.si_base.specs.Words.{line}
 use Rattle.si_wave.specs.Dump.{change_line, wire_line}
-use Rattle.si_wave.specs.Reading.{shown}
+use Rattle.si_wave.specs.Reading.{shown_value}
 use Rattle.si_wave.specs.Wave.{change_of, scope_name, wave_of, wave_text, wire_code}
 
 -- ---- codes and names
@@ -48,13 +48,13 @@ buffer = record {
 abbrev rise : List Event
 rise = record { sig = 0; up = true } ∷ []
 
-low_at_start : shown (wave_of buffer rise) 0 (codes "!") ≡ false
+low_at_start : shown_value (wave_of buffer rise) 0 (codes "!") ≡ false
 low_at_start = refl
 
-high_after : shown (wave_of buffer rise) 1 (codes "!") ≡ true
+high_after : shown_value (wave_of buffer rise) 1 (codes "!") ≡ true
 high_after = refl
 
-other_stays : shown (wave_of buffer rise) 1 (codes "\"") ≡ false
+other_stays : shown_value (wave_of buffer rise) 1 (codes "\"") ≡ false
 other_stays = refl
 
 -- with no event there are the start values, and time 1

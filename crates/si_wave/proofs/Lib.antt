@@ -1,7 +1,7 @@
-pub mod WritingLemmas
-pub mod CodeLemmas
-pub mod ShownLemmas
-pub mod Parts
-pub mod WordLemmas
+pub mod WriteLemmas
+pub mod WaveCodes
+pub mod ReadingLemmas
+pub mod WriteParts
+pub mod DumpWords
 pub mod OneDump
 pub mod Examples

@@ -7,7 +7,7 @@ use Rattle.std.proofs.lemmas.Grind.{flat_map-append}
 use Rattle.si_wave.specs.Dump.{Change, Dump, Moment, Wire, change_line, change_word, dump_lines, moment_lines}
 use Rattle.si_wave.specs.Dump.{wire_line}
 use Rattle.si_wave.specs.Reading.{HasShortTimes, Spells}
-use Rattle.si_wave.proofs.Parts.{back, front, middle}
+use Rattle.si_wave.proofs.WriteParts.{back, front, middle}
 
 -- the words of lines, one after another
 abbrev joined : List (List (List ℕ)) → List (List ℕ)

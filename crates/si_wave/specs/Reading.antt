@@ -40,8 +40,8 @@ changes_until time d =
     d.starts ++ flat_map (λ m. m.changes) (filter (λ m. nat_le m.time time) d.moments)
 
 -- the value that is shown of the wire with the code at a time
-abbrev pub shown : Dump → (time : ℕ) → (code : List ℕ) → Bool
-shown d time code = value_after code false (changes_until time d)
+abbrev pub shown_value : Dump → (time : ℕ) → (code : List ℕ) → Bool
+shown_value d time code = value_after code false (changes_until time d)
 
 -- at each time up to the last event, each signal is shown with the value that it has after so many
 -- events of a run from the start
@@ -49,4 +49,4 @@ abbrev pub ShowsRuns : Netlist → List Event → Type 0
 ShowsRuns n events = (g : StateGraph) (time : ℕ) (x : State) → time ≤ length events
     → Runs g n (start g n) (take time events) x
     → (sig : ℕ) → sig < length n.signals
-    → shown (wave_of n events) time (wire_code sig) ≡ bit x.values sig
+    → shown_value (wave_of n events) time (wire_code sig) ≡ bit x.values sig

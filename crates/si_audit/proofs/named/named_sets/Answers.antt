@@ -1,7 +1,7 @@
 use Rattle.std.proofs.Common.{◌≡◌, sym, ◌∙◌}
 use Rattle.std.proofs.lemmas.Bool.{true≢false}
 use Rattle.si_audit.proofs.StateWords.{HasStateNames}
-use Rattle.si_audit.proofs.SetWords.{none_if_met}
+use Rattle.si_audit.proofs.NamedSetWords.{none_if_met}
 use Rattle.si_audit.proofs.named.named_sets.Goals as goal
 
 pub returns-else-are_disjoint : goal.returns-else-are_disjoint

@@ -3,7 +3,7 @@ use Rattle.std.proofs.lemmas.Bool.{true≢false}
 use Rattle.si_base.specs.Codes.{CodedGraph}
 use Rattle.si_base.specs.Graph.{StateGraph}
 use Rattle.si_audit.proofs.StateWords.{HasStateNames}
-use Rattle.si_audit.proofs.Reading.{IsReadTo, some_left, word_passed, word_taken}
+use Rattle.si_audit.proofs.NamedReading.{IsReadTo, some_left, word_passed, word_taken}
 use Rattle.si_audit.proofs.named.named_states.Goals as goal
 use Rattle.si_audit.proofs.named.named_states.Goals.{then-is_next, else-is_next}
 

@@ -4,7 +4,7 @@ use Rattle.si_base.specs.Limits.{code_width}
 use Rattle.si_insert.specs.declared.lineage.TraceStep.{TraceStep}
 use Rattle.si_insert.specs.Lineage.{origin}
 use Rattle.si_circuit.specs.Spelling.{current_word, mark}
-use Rattle.si_circuit.proofs.CurrentLemmas.{few_insertions}
+use Rattle.si_circuit.proofs.SpellingWord.{few_insertions}
 use Rattle.si_audit.proofs.StateWords.{made_of}
 use Rattle.si_audit.proofs.words.is_current_word.Goals as goal
 

@@ -1,6 +1,6 @@
 use Rattle.std.proofs.Common.{◌∙◌, Bool, List, length, sym}
 use Rattle.std.proofs.lemmas.Bool.{true≢false, eqb-true}
-use Rattle.si_candidates.proofs.SetTests.{same_set-not, same_if_back, not_same}
+use Rattle.si_candidates.proofs.BlockSameSets.{same_set-not, same_if_back, not_same}
 use Rattle.si_candidates.proofs.block.have_same_states.Goals as goal
 use Rattle.si_candidates.proofs.block.have_same_states.Goals.{then-size, else-size}
 

@@ -3,7 +3,7 @@ use Rattle.si_base.specs.Graph.{StateGraph}
 use Rattle.si_base.specs.Codes.{CodedGraph, IsCoded}
 use Rattle.si_regions.specs.declared.regions.Region.{Region}
 use Rattle.si_regions.proofs.StateLists.{all_below}
-use Rattle.si_candidates.specs.Blocks.{marked}
+use Rattle.si_candidates.specs.Blocks.{state_set}
 use Rattle.si_candidates.proofs.AddingLemmas.{excited_below}
 use Rattle.si_candidates.proofs.BlockLists.{mapped_more}
 use Rattle.si_candidates.proofs.blocks.add_excited.Goals as goal
@@ -23,6 +23,7 @@ loop-r-preserved c =
     let d = c.args.graph.now in
     let states = c.states.ensures ∙ ap (λ (g : StateGraph). g.states) c.graph-g.ensures.same
     ∙ ap (λ (d : CodedGraph). d.graph.states) c.coded.ensures.same in
-    mapped_more (λ (r : Region). marked d.graph.states r.er) c.args.regions.now c.loop-r.r-index c.r-item.result _ _ _
+    mapped_more (λ (r : Region). state_set d.graph.states r.er) c.args.regions.now c.loop-r.r-index c.r-item.result _ _
+    _
     c.loop-r-test.true c.r-item.is c.loop-r.invariant
     (rw (states, c.as_slice.ensures.states) at c.in_ok-add_states.ensures)

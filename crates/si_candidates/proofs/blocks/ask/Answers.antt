@@ -2,7 +2,7 @@ use Rattle.std.proofs.Common.{ℕ, ◌<◌, ◌++◌, ◌∙◌, All, List, leng
 use Rattle.std.proofs.lemmas.List.Elements.{All-append}
 use Rattle.si_base.specs.declared.ids.Event.{Event}
 use Rattle.si_candidates.specs.Asked.{asked_for, asks_from, AreReady}
-use Rattle.si_candidates.specs.Blocks.{marked}
+use Rattle.si_candidates.specs.Blocks.{state_set}
 use Rattle.si_candidates.proofs.AddingLemmas.{all_taken, all_dropped}
 use Rattle.si_candidates.proofs.AskLemmas.{next_wait}
 use Rattle.si_candidates.proofs.blocks.ask.Goals as goal
@@ -26,7 +26,7 @@ loop-at-preserved c =
       ready = subst (λ n. AreReady n seeds c.add.new.self.stops.items) room.ready.size c.in_ok-add.ensures.ready;
       known = subst (λ es. All (λ (e : Event). e.sig < signals) es) (sym c.in_ok-add.ensures.stops)
           (All-append (λ (e : Event). e.sig < signals) before.stops.items _ room.within known);
-      adds = next_wait g (marked g.states from) stops at count _ _ _ _ _ _ c.loop-at.invariant.adds room.adds _
+      adds = next_wait g (state_set g.states from) stops at count _ _ _ _ _ _ c.loop-at.invariant.adds room.adds _
           (c.in_ok-add.ensures.asks ∙ ap₂ (λ (n : ℕ) (es : List Event).
-          asked_for before.seeds.items before.stops.items ++ asks_from (marked n from) es) room.ready.size next);
+          asked_for before.seeds.items before.stops.items ++ asks_from (state_set n from) es) room.ready.size next);
     }

@@ -1,6 +1,6 @@
 use Rattle.std.proofs.Common.{◌∙◌, map}
 use Rattle.si_regions.specs.declared.regions.Region.{Region}
-use Rattle.si_candidates.specs.Blocks.{marked}
+use Rattle.si_candidates.specs.Blocks.{state_set}
 use Rattle.si_candidates.proofs.BlockLists.{all_parts}
 use Rattle.si_candidates.proofs.blocks.blocks.Goals as goal
 
@@ -16,6 +16,6 @@ returns c =
       are = c.requires;
       intervals = adds.sets;
       intervals_are = adds.are;
-      blocks_are = c.in_ok-sets.ensures ∙ all_parts (map (λ (r : Region). marked states r.er) regions)
-          (map (λ (r : Region). marked states r.sr) regions) adds.sets _ _ _ excited switched adds.added;
+      blocks_are = c.in_ok-sets.ensures ∙ all_parts (map (λ (r : Region). state_set states r.er) regions)
+          (map (λ (r : Region). state_set states r.sr) regions) adds.sets _ _ _ excited switched adds.added;
     }

@@ -1,4 +1,4 @@
-use Rattle.si_candidates.proofs.MarkedSets.{listed_more, all_listed}
+use Rattle.si_candidates.proofs.BlockMarks.{listed_more, all_listed}
 use Rattle.si_candidates.proofs.blocks.marked_set.Goals as goal
 
 pub loop-s-preserved : goal.loop-s-preserved

@@ -1,5 +1,5 @@
 use Rattle.si_regions.proofs.RegionLemmas.{MadeTo}
-use Rattle.si_candidates.proofs.MarkedSets.{IsListed}
+use Rattle.si_candidates.proofs.BlockMarks.{IsListed}
 use Rattle.si_candidates.proofs.blocks.marked_set.Given as goal
 
 abbrev pub invariant-loop-s : goal.invariant-loop-s

@@ -1,6 +1,6 @@
 use Rattle.std.proofs.Common.{◌∙◌, ap, subst}
 use Rattle.si_base.specs.Codes.{CodedGraph, IsCoded}
-use Rattle.si_candidates.proofs.Flooding.{first_torn, raised_are_classes, raised_are_lawful}
+use Rattle.si_candidates.proofs.RaisingSpread.{first_torn, raised_are_classes, raised_are_lawful}
 use Rattle.si_candidates.proofs.classes.classes.Goals as goal
 
 pub returns-in-Some-clause-fault : goal.returns-in-Some-clause-fault

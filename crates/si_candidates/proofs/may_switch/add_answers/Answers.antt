@@ -5,7 +5,7 @@ use Rattle.si_base.specs.Codes.{CodedGraph, IsDeterministic}
 use Rattle.si_base.specs.Sets.{IsIn}
 use Rattle.si_candidates.specs.Blocks.{block_at}
 use Rattle.si_candidates.specs.Blocking.{MaySwitch}
-use Rattle.si_candidates.proofs.WordTests.{told_of_block, told_more}
+use Rattle.si_candidates.proofs.MaySwitchWords.{told_of_block, told_more}
 use Rattle.si_candidates.proofs.may_switch.add_answers.Goals as goal
 
 pub which_sets_may_switch-sets-requires-clause-deterministic :

@@ -1,5 +1,5 @@
 use Rattle.std.proofs.Common.{◌<◌, ◌∙◌, length, get_or, refl, sym, arith}
-use Rattle.si_candidates.proofs.WordTests.{put_one, put_none}
+use Rattle.si_candidates.proofs.MaySwitchWords.{put_one, put_none}
 use Rattle.si_candidates.proofs.may_switch.put_set.Goals as goal
 use Rattle.si_candidates.proofs.may_switch.put_set.Goals.{then-has, else-has}
 

@@ -1,4 +1,4 @@
-use Rattle.si_candidates.proofs.WordTests.{ArePut}
+use Rattle.si_candidates.proofs.MaySwitchWords.{ArePut}
 use Rattle.si_candidates.proofs.may_switch.put_set.Given as goal
 
 abbrev pub invariant-loop-s : goal.invariant-loop-s

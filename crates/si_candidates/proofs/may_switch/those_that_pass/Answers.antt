@@ -1,6 +1,6 @@
 use Rattle.std.proofs.Common.{ap, get_or}
 use Rattle.si_base.specs.declared.graph.Edge.{Edge}
-use Rattle.si_candidates.proofs.WordTests.{all_stay, stay_or_leave}
+use Rattle.si_candidates.proofs.MaySwitchWords.{all_stay, stay_or_leave}
 use Rattle.si_candidates.proofs.may_switch.those_that_pass.Goals as goal
 
 pub returns-then-stays-given : goal.returns-then-stays-given

@@ -5,7 +5,7 @@ use Rattle.si_graph.specs.Arcs.{IsFirstPlace, IsInto}
 use Rattle.si_graph.proofs.ClosureLemmas.{stands_first}
 use Rattle.si_candidates.specs.Blocking.{KeepsExit}
 use Rattle.si_candidates.specs.ManySets.{Tells}
-use Rattle.si_candidates.proofs.WordTests.{none_kept_yet, one_kept_more, may_leave_by}
+use Rattle.si_candidates.proofs.MaySwitchWords.{none_kept_yet, one_kept_more, may_leave_by}
 use Rattle.si_candidates.proofs.may_switch.those_to_leave.Goals as goal
 
 pub loop-at-init : goal.loop-at-init

@@ -1,7 +1,7 @@
 use Rattle.std.proofs.Common.{◌-◌, length}
 use Rattle.si_graph.proofs.ClosureLemmas.{Stands, place_in_walk}
 use Rattle.si_candidates.specs.ManySets.{Tells}
-use Rattle.si_candidates.proofs.WordTests.{KeptBelow}
+use Rattle.si_candidates.proofs.MaySwitchWords.{KeptBelow}
 use Rattle.si_candidates.proofs.may_switch.those_to_leave.Given as goal
 
 abbrev pub invariant-loop-at : goal.invariant-loop-at

@@ -1,5 +1,5 @@
 use Rattle.std.proofs.Common.{◌<◌, length, ap, arith}
-use Rattle.si_candidates.proofs.WordTests.{item_at, no_arc_yet, one_arc_more, all_arcs}
+use Rattle.si_candidates.proofs.MaySwitchWords.{item_at, no_arc_yet, one_arc_more, all_arcs}
 use Rattle.si_candidates.proofs.may_switch.which_sets_may_switch.Goals as goal
 
 pub loop-arc-init : goal.loop-arc-init

@@ -1,5 +1,5 @@
 use Rattle.si_candidates.specs.ManySets.{Tells}
-use Rattle.si_candidates.proofs.WordTests.{PassBelow}
+use Rattle.si_candidates.proofs.MaySwitchWords.{PassBelow}
 use Rattle.si_candidates.proofs.may_switch.which_sets_may_switch.Given as goal
 
 abbrev pub invariant-loop-arc : goal.invariant-loop-arc

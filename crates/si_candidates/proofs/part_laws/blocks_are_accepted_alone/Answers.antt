@@ -1,5 +1,5 @@
-use Rattle.si_candidates.proofs.Separable.{inputs_by_block, losses_by_block, accepted_by_blocks}
-use Rattle.si_candidates.proofs.CopyCount.{copies_by_blocks}
+use Rattle.si_candidates.proofs.BlockingLemmas.{inputs_by_block, losses_by_block, accepted_by_blocks}
+use Rattle.si_candidates.proofs.BlockCopyCount.{copies_by_blocks}
 use Rattle.si_candidates.proofs.part_laws.blocks_are_accepted_alone.Goals as goal
 
 pub returns-clause-inputs : goal.returns-clause-inputs

@@ -1,4 +1,4 @@
-use Rattle.si_candidates.proofs.Flooding.{begun}
+use Rattle.si_candidates.proofs.RaisingSpread.{begun}
 use Rattle.si_candidates.proofs.raising.begin_classes.Goals as goal
 
 pub returns-clause-begun : goal.returns-clause-begun

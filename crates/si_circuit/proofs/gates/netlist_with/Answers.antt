@@ -5,7 +5,7 @@ use Rattle.si_checks.specs.Lent.{lent_graph}
 use Rattle.si_circuit.specs.Covered.{HasPrimeGates}
 use Rattle.si_circuit.specs.Gates.{gate_of}
 use Rattle.si_circuit.proofs.GateLemmas.{made, chosen_is_netlist}
-use Rattle.si_circuit.proofs.RightLemmas.{chosen_are_prime}
+use Rattle.si_circuit.proofs.CoveredGates.{chosen_are_prime}
 use Rattle.si_circuit.proofs.gates.netlist_with.Goals as goal
 
 pub make-requires : goal.make-requires

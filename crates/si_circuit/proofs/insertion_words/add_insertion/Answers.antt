@@ -1,7 +1,7 @@
 use Rattle.std.proofs.Common.{◌≡◌, ap, ◌∙◌}
 use Rattle.si_base.specs.Netlist.{Insertion}
 use Rattle.si_words.proofs.WritingLemmas.{left_as}
-use Rattle.si_circuit.proofs.LineLemmas.{insertion_by_calls}
+use Rattle.si_circuit.proofs.InsertionWordsLemmas.{insertion_by_calls}
 use Rattle.si_circuit.proofs.insertion_words.add_insertion.Goals as goal
 
 pub returns : goal.returns

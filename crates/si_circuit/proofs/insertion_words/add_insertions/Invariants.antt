@@ -1,5 +1,5 @@
 use Rattle.std.proofs.Common.{◌≡◌, ◌++◌}
-use Rattle.si_circuit.proofs.LineLemmas.{inserts_left}
+use Rattle.si_circuit.proofs.InsertionWordsLemmas.{inserts_left}
 use Rattle.si_circuit.proofs.insertion_words.add_insertions.Given as goal
 
 abbrev pub invariant-loop-insert : goal.invariant-loop-insert

@@ -1,4 +1,4 @@
-use Rattle.si_circuit.proofs.RightLemmas.{chosen_are_right}
+use Rattle.si_circuit.proofs.CoveredGates.{chosen_are_right}
 use Rattle.si_circuit.proofs.laws.chosen_gates_are_right.Goals as goal
 
 pub returns : goal.returns

@@ -1,4 +1,4 @@
-use Rattle.si_circuit.proofs.RightLemmas.{chosen_implement}
+use Rattle.si_circuit.proofs.CoveredGates.{chosen_implement}
 use Rattle.si_circuit.proofs.laws.chosen_netlists_implement.Goals as goal
 
 pub returns : goal.returns

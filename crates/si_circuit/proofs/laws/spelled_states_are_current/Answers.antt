@@ -1,4 +1,4 @@
-use Rattle.si_circuit.proofs.DescentLemmas.{descents_are}
+use Rattle.si_circuit.proofs.SpellingDescents.{descents_are}
 use Rattle.si_circuit.proofs.laws.spelled_states_are_current.Goals as goal
 
 pub returns : goal.returns

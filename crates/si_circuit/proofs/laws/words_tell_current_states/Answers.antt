@@ -1,4 +1,4 @@
-use Rattle.si_circuit.proofs.CurrentWords.{one_word}
+use Rattle.si_circuit.proofs.SpellingTellsStates.{one_word}
 use Rattle.si_circuit.proofs.laws.words_tell_current_states.Goals as goal
 
 pub returns : goal.returns

@@ -1,5 +1,5 @@
 use Rattle.std.proofs.Common.{arith}
-use Rattle.si_circuit.proofs.WordLemmas.{digit_more, marked}
+use Rattle.si_circuit.proofs.SpellingWords.{digit_more, marked}
 use Rattle.si_circuit.proofs.spelling.add_mark.Goals as goal
 
 pub loop-i-preserved : goal.loop-i-preserved

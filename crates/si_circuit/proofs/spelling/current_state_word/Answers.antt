@@ -3,7 +3,7 @@ use Rattle.std.proofs.lemmas.Result.{IfOk-weaker}
 use Rattle.si_base.specs.Limits.{code_width}
 use Rattle.si_insert.specs.declared.lineage.TraceStep.{TraceStep}
 use Rattle.si_circuit.specs.Spelling.{current_word}
-use Rattle.si_circuit.proofs.CurrentLemmas.{few_insertions, current_word_made}
+use Rattle.si_circuit.proofs.SpellingWord.{few_insertions, current_word_made}
 use Rattle.si_circuit.proofs.spelling.current_state_word.Goals as goal
 
 pub state_word-requires-clause-room : goal.state_word-requires-clause-room

@@ -3,4 +3,4 @@ use Rattle.si_circuit.specs.Spelling as spelled
 use Rattle.si_circuit.proofs.spelling.descents_after.Given as goal
 
 abbrev pub invariant-loop-x : goal.invariant-loop-x
-invariant-loop-x l = l.after.items ≡ map (spelled.copied l.k l.descents) (take l.x-index l.x-items)
+invariant-loop-x l = l.after.items ≡ map (spelled.copy_descent l.k l.descents) (take l.x-index l.x-items)

@@ -1,4 +1,4 @@
-use Rattle.si_circuit.proofs.WordLemmas.{given_more}
+use Rattle.si_circuit.proofs.SpellingWords.{given_more}
 use Rattle.si_circuit.proofs.spelling.given_descents.Goals as goal
 
 pub loop-s-preserved : goal.loop-s-preserved

@@ -4,7 +4,7 @@ use Rattle.si_base.specs.Codes.{CodedGraph}
 use Rattle.si_base.specs.Netlist.{Insertion}
 use Rattle.si_circuit.specs.declared.spelling.Descent.{Descent}
 use Rattle.si_circuit.specs.Spelling.{given_descents}
-use Rattle.si_circuit.proofs.TraceLemmas.{IsSpelledTo, none_spelled, step_spelled}
+use Rattle.si_circuit.proofs.SpellingTraces.{IsSpelledTo, none_spelled, step_spelled}
 use Rattle.si_circuit.proofs.spelling.insertions.Goals as goal
 
 pub loop-k-init : goal.loop-k-init

@@ -1,4 +1,4 @@
-use Rattle.si_circuit.proofs.TraceLemmas.{IsSpelledTo}
+use Rattle.si_circuit.proofs.SpellingTraces.{IsSpelledTo}
 use Rattle.si_circuit.proofs.spelling.insertions.Given as goal
 
 abbrev pub invariant-loop-k : goal.invariant-loop-k

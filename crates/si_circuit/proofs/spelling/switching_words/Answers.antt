@@ -1,7 +1,7 @@
 use Rattle.std.proofs.Common.{◌∙◌, ◌≡◌, ◌++◌, ◌∷◌, [], ap, sym, arith, List, ℕ}
 use Rattle.std.proofs.lemmas.List.{get_or_default}
 use Rattle.si_circuit.specs.Spelling.{descent, state_word}
-use Rattle.si_circuit.proofs.WordLemmas.{word_more, word_passed}
+use Rattle.si_circuit.proofs.SpellingWords.{word_more, word_passed}
 use Rattle.si_circuit.proofs.spelling.switching_words.Goals as goal
 use Rattle.si_circuit.proofs.spelling.switching_words.Goals.{then-switches+in_ok-word+in_ok-push, else-switches}
 

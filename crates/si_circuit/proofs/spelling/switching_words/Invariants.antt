@@ -1,5 +1,5 @@
 use Rattle.std.proofs.Common.{◌≡◌}
-use Rattle.si_circuit.proofs.WordLemmas.{words_below}
+use Rattle.si_circuit.proofs.SpellingWords.{words_below}
 use Rattle.si_circuit.proofs.spelling.switching_words.Given as goal
 
 abbrev pub invariant-loop-s : goal.invariant-loop-s

@@ -5,7 +5,7 @@ use Rattle.si_conflicts.specs.declared.conflicts.Pair.{Pair}
 use Rattle.si_conflicts.specs.Conflicts.{pairs_of}
 use Rattle.si_conflicts.specs.Links.{IsFirstClash}
 use Rattle.si_conflicts.specs.Search.{AreBelow}
-use Rattle.si_conflicts.proofs.BelowLemmas.{at_first, walk_starts, walk_goes_on, below_take, below_row, first_full}
+use Rattle.si_conflicts.proofs.SearchLemmas.{at_first, walk_starts, walk_goes_on, below_take, below_row, first_full}
 use Rattle.si_conflicts.proofs.conflicts.add_conflicts.Goals as goal
 
 abbrev pair_of : Pair → ℕ × ℕ

@@ -1,7 +1,7 @@
 use Rattle.std.proofs.Common.{◌<◌, length}
 use Rattle.si_conflicts.specs.Conflicts.{pairs_of}
 use Rattle.si_conflicts.specs.Search.{AreBelow}
-use Rattle.si_conflicts.proofs.BelowLemmas.{low, left, IsAt}
+use Rattle.si_conflicts.proofs.SearchLemmas.{low, left, IsAt}
 use Rattle.si_conflicts.proofs.conflicts.add_conflicts.Given as goal
 
 abbrev pub invariant-loop-at : goal.invariant-loop-at

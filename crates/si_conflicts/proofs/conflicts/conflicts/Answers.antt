@@ -3,7 +3,7 @@ use Rattle.std.proofs.lemmas.List.{length-map}
 use Rattle.si_base.specs.Graph.{StateGraph}
 use Rattle.si_conflicts.specs.declared.conflicts.Pair.{Pair}
 use Rattle.si_conflicts.specs.Conflicts.{pairs_of}
-use Rattle.si_conflicts.proofs.BelowLemmas.{first_all, first_full}
+use Rattle.si_conflicts.proofs.SearchLemmas.{first_all, first_full}
 use Rattle.si_conflicts.proofs.conflicts.conflicts.Goals as goal
 
 same_length : (xs : List Pair) → length (pairs_of xs) ≡ length xs

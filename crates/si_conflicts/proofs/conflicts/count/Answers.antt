@@ -1,4 +1,4 @@
-use Rattle.si_conflicts.proofs.PairLemmas.{as_many}
+use Rattle.si_conflicts.proofs.KeyPairs.{as_many}
 use Rattle.si_conflicts.proofs.conflicts.count.Goals as goal
 
 pub returns : goal.returns

@@ -1,5 +1,5 @@
 use Rattle.si_conflicts.proofs.KeyLemmas.{ExcitedTo}
-use Rattle.si_conflicts.proofs.StayLemmas.{IsStayingArc}
+use Rattle.si_conflicts.proofs.ApartStayLemmas.{IsStayingArc}
 use Rattle.si_conflicts.proofs.trial.staying.Given as goal
 
 abbrev pub invariant-loop-arc : goal.invariant-loop-arc

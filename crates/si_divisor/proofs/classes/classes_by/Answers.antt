@@ -1,9 +1,9 @@
 use Rattle.std.proofs.Common.{◌∙◌, sym}
 use Rattle.std.proofs.lemmas.Bool.{true≢false}
 use Rattle.si_divisor.specs.Targets.{forced_in}
-use Rattle.si_divisor.proofs.AnswerLemmas.{are_sets, is_partition}
-use Rattle.si_divisor.proofs.OutsideLemmas.{none_if_strays_up, none_if_strays_down}
-use Rattle.si_divisor.proofs.OutsideLemmas.{none_if_never_up, none_if_never_down, stays_within}
+use Rattle.si_divisor.proofs.PartitionForAnswers.{are_sets, is_partition}
+use Rattle.si_divisor.proofs.SwitchingOutside.{none_if_strays_up, none_if_strays_down}
+use Rattle.si_divisor.proofs.SwitchingOutside.{none_if_never_up, none_if_never_down, stays_within}
 use Rattle.si_divisor.proofs.classes.classes_by.Goals as goal
 use Rattle.si_divisor.proofs.classes.classes_by.Goals.{then-not-has_some-via-then-not-has_some}
 use Rattle.si_divisor.proofs.classes.classes_by.Goals.{then-not-has_some-via-else-not-has_some+then-not-has_some-2}

@@ -1,7 +1,7 @@
 use Rattle.std.proofs.Common.{◌∙◌, sym, inl, inr}
 use Rattle.std.proofs.lemmas.Bool.{true≢false}
 use Rattle.si_divisor.specs.Targets.{forced_in}
-use Rattle.si_divisor.proofs.AnswerLemmas.{sets_of, are_sets, is_partition}
+use Rattle.si_divisor.proofs.PartitionForAnswers.{sets_of, are_sets, is_partition}
 use Rattle.si_divisor.proofs.classes.classes_for.Goals as goal
 use Rattle.si_divisor.proofs.classes.classes_for.Goals.{then-not-has_some-via-then-not-has_some}
 use Rattle.si_divisor.proofs.classes.classes_for.Goals.{then-not-has_some-via-else-not-has_some+then-not-has_some-2}
@@ -12,7 +12,7 @@ returns-in-Some-first_leaving-clause-fault c =
       sets,
       are_sets c.args.graph.now (forced_in c.args.up.now c.args.down.now) c.in_ok-ones.field-0.ones
           c.in_ok-ones.field-0.zeros c.in_ok-plus.plus c.in_ok-minus.minus c.in_ok-ones.ensures c.in_default.ensures
-          c.in_default-first_torn.ensures c.in_ok-plus.ensures c.in_ok-minus.ensures,
+          c.in_default-first_settled_at_both.ensures c.in_ok-plus.ensures c.in_ok-minus.ensures,
       c.in-Some-first_leaving.ensures,
     )
 
@@ -22,7 +22,7 @@ returns-then-not-has_some-clause-fault c =
       sets,
       are_sets c.args.graph.now (forced_in c.args.up.now c.args.down.now) c.in_ok-ones.field-0.ones
           c.in_ok-ones.field-0.zeros c.in_ok-plus.plus c.in_ok-minus.minus c.in_ok-ones.ensures c.in_default.ensures
-          c.in_default-first_torn.ensures c.in_ok-plus.ensures c.in_ok-minus.ensures,
+          c.in_default-first_settled_at_both.ensures c.in_ok-plus.ensures c.in_ok-minus.ensures,
       c.in_default-first_leaving.ensures,
       elim c.then-not-has_some.branch [
         | then-not-has_some-via-then-not-has_some w ↦
@@ -38,7 +38,7 @@ returns-clause-partition c =
     let forced = forced_in c.args.up.now c.args.down.now in
     let are =
     are_sets g forced c.in_ok-ones.field-0.ones c.in_ok-ones.field-0.zeros c.in_ok-plus.plus c.in_ok-minus.minus
-    c.in_ok-ones.ensures c.in_default.ensures c.in_default-first_torn.ensures c.in_ok-plus.ensures
+    c.in_ok-ones.ensures c.in_default.ensures c.in_default-first_settled_at_both.ensures c.in_ok-plus.ensures
     c.in_ok-minus.ensures in
     is_partition g forced c.in_ok-ones.field-0.ones c.in_ok-ones.field-0.zeros c.in_ok-plus.plus c.in_ok-minus.minus
     c.in_ok-list.list.items are c.in_default-first_leaving.ensures (c.has_some.ensures.0 c.if-not-has_some.false)

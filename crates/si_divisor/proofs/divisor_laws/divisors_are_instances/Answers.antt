@@ -1,4 +1,4 @@
-use Rattle.si_divisor.proofs.ChoiceLemmas.{choices_are_all, are_instances, are_all, are_few}
+use Rattle.si_divisor.proofs.DivisorChoices.{choices_are_all, are_instances, are_all, are_few}
 use Rattle.si_divisor.proofs.divisor_laws.divisors_are_instances.Goals as goal
 
 pub returns : goal.returns

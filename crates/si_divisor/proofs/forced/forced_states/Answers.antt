@@ -4,7 +4,7 @@ use Rattle.si_base.specs.Codes.{code}
 use Rattle.si_cell.specs.Library.{instance_value}
 use Rattle.si_divisor.specs.Functions.{function_value}
 use Rattle.si_divisor.specs.Targets.{forced_by}
-use Rattle.si_divisor.proofs.FillLemmas.{filled_added, filled_passed}
+use Rattle.si_divisor.proofs.ForcedFill.{filled_added, filled_passed}
 use Rattle.si_divisor.proofs.FunctionLemmas.{signals_within}
 use Rattle.si_divisor.proofs.forced.forced_states.Goals as goal
 use Rattle.si_divisor.proofs.forced.forced_states.Goals.{then-is_forced, else-is_forced, then-is_forced-2}

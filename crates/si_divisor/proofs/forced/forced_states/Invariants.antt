@@ -1,7 +1,7 @@
 use Rattle.std.proofs.Common.{true, false}
 use Rattle.si_cell.specs.Library.{instance_value}
 use Rattle.si_divisor.specs.Targets.{forced_by}
-use Rattle.si_divisor.proofs.FillLemmas.{FilledTo}
+use Rattle.si_divisor.proofs.ForcedFill.{FilledTo}
 use Rattle.si_divisor.proofs.forced.forced_states.Given as goal
 
 abbrev pub invariant-loop-s : goal.invariant-loop-s

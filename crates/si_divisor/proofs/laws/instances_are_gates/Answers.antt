@@ -1,4 +1,4 @@
-use Rattle.si_divisor.proofs.InstanceLemmas.{instances_are_unate, new_signal_fits}
+use Rattle.si_divisor.proofs.InstanceLaws.{instances_are_unate, new_signal_fits}
 use Rattle.si_divisor.proofs.PartitionLemmas.{fits}
 use Rattle.si_divisor.proofs.laws.instances_are_gates.Goals as goal
 

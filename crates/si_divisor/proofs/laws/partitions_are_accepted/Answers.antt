@@ -1,4 +1,4 @@
-use Rattle.si_divisor.proofs.RuleLemmas.{rules_are_acceptance}
+use Rattle.si_divisor.proofs.SwitchingRules.{rules_are_acceptance}
 use Rattle.si_divisor.proofs.PartitionLemmas.{lawful, accepted, least}
 use Rattle.si_divisor.proofs.laws.partitions_are_accepted.Goals as goal
 

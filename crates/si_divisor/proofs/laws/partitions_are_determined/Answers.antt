@@ -1,4 +1,4 @@
-use Rattle.si_divisor.proofs.UniqueAnswers.{one_partition, reasons_are_unique, reasons_exclude}
+use Rattle.si_divisor.proofs.OnePartitionFor.{one_partition, reasons_are_unique, reasons_exclude}
 use Rattle.si_divisor.proofs.PartitionExists.{partitions_exist}
 use Rattle.si_divisor.proofs.laws.partitions_are_determined.Goals as goal
 

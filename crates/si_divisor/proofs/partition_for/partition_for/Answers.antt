@@ -1,6 +1,6 @@
 use Rattle.std.proofs.lemmas.Result.{err_from_is_err_and}
 use Rattle.si_cell.specs.Library.{instance_value}
-use Rattle.si_divisor.proofs.AnswerLemmas.{partition_carried, lawful_carried, reason_carried}
+use Rattle.si_divisor.proofs.PartitionForAnswers.{partition_carried, lawful_carried, reason_carried}
 use Rattle.si_divisor.proofs.partition_for.partition_for.Goals as goal
 
 pub returns-in_err-classes-clause-fault : goal.returns-in_err-classes-clause-fault

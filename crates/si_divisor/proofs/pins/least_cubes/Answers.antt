@@ -5,7 +5,7 @@ use Rattle.si_checks.specs.Lent.{lent_graph}
 use Rattle.si_regions.specs.declared.regions.Region.{Region}
 use Rattle.si_regions.specs.Regions.{IsRegion, AreRegions}
 use Rattle.si_divisor.specs.PinTests.{AreCubesFor}
-use Rattle.si_divisor.proofs.RegionCubes.{with_cube, without_cube, all_found}
+use Rattle.si_divisor.proofs.PinRegionCubes.{with_cube, without_cube, all_found}
 use Rattle.si_divisor.proofs.pins.least_cubes.Goals as goal
 use Rattle.si_divisor.proofs.pins.least_cubes.Goals.{in-Some+in_ok-push, in_default}
 

@@ -1,6 +1,6 @@
 use Rattle.std.proofs.Common.{length}
 use Rattle.si_divisor.specs.Targets.{holds, forced_in}
-use Rattle.si_divisor.proofs.FillLemmas.{FilledTo}
+use Rattle.si_divisor.proofs.ForcedFill.{FilledTo}
 use Rattle.si_divisor.proofs.settled.holding.Given as goal
 
 abbrev pub invariant-loop-s : goal.invariant-loop-s

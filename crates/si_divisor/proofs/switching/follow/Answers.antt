@@ -1,7 +1,7 @@
 use Rattle.std.proofs.Common.{ℕ}
 use Rattle.std.proofs.lemmas.List.Elements.{Contains-push}
 use Rattle.si_divisor.specs.WorkList.{Belongs, IsAfterInput}
-use Rattle.si_divisor.proofs.TurnLemmas.{search_goes_on, marks_on, marks_weaken, input_belongs}
+use Rattle.si_divisor.proofs.SwitchingTurns.{search_goes_on, marks_on, marks_weaken, input_belongs}
 use Rattle.si_divisor.proofs.switching.follow.Goals as goal
 
 pub returns-clause-works : goal.returns-clause-works

@@ -5,7 +5,7 @@ use Rattle.si_graph.specs.Reach.{IsIn}
 use Rattle.si_graph.proofs.ClosureLemmas.{stands_first}
 use Rattle.si_divisor.specs.Targets.{target}
 use Rattle.si_divisor.specs.WorkList.{Belongs, FollowsInto}
-use Rattle.si_divisor.proofs.TurnLemmas.{marks_on, walk_goes_on, walk_ends, follows_on}
+use Rattle.si_divisor.proofs.SwitchingTurns.{marks_on, walk_goes_on, walk_ends, follows_on}
 use Rattle.si_divisor.proofs.switching.reach_all_into.Goals as goal
 
 pub loop-at-preserved : goal.loop-at-preserved

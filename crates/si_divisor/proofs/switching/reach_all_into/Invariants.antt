@@ -3,7 +3,7 @@ use Rattle.si_graph.specs.Reach.{Marks}
 use Rattle.si_graph.proofs.ClosureLemmas.{Stands, place_in_walk}
 use Rattle.si_divisor.specs.Targets.{target}
 use Rattle.si_divisor.specs.WorkList.{Belongs, FollowsInto}
-use Rattle.si_divisor.proofs.TurnLemmas.{PassedTo}
+use Rattle.si_divisor.proofs.SwitchingTurns.{PassedTo}
 use Rattle.si_divisor.proofs.switching.reach_all_into.Given as goal
 
 abbrev pub invariant-loop-at : goal.invariant-loop-at

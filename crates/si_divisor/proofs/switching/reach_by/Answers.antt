@@ -1,7 +1,7 @@
 use Rattle.std.proofs.Common.{◌≡◌, ◌<◌, ◌≤◌, ℕ, length, sym, subst, arith}
 use Rattle.si_base.specs.declared.graph.Edge.{Edge}
 use Rattle.si_divisor.specs.WorkList.{IsTargetBy}
-use Rattle.si_divisor.proofs.TurnLemmas.{reach_step, done_all}
+use Rattle.si_divisor.proofs.SwitchingTurns.{reach_step, done_all}
 use Rattle.si_divisor.proofs.switching.reach_by.Goals as goal
 
 pub reach_if-requires : goal.reach_if-requires

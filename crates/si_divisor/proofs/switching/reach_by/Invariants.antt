@@ -1,7 +1,7 @@
 use Rattle.std.proofs.Common.{◌≡◌}
 use Rattle.si_graph.specs.Reach.{Marks}
 use Rattle.si_divisor.specs.WorkList.{IsTargetBy}
-use Rattle.si_divisor.proofs.TurnLemmas.{DoneTo}
+use Rattle.si_divisor.proofs.SwitchingTurns.{DoneTo}
 use Rattle.si_divisor.proofs.switching.reach_by.Given as goal
 
 abbrev pub invariant-loop-a : goal.invariant-loop-a

@@ -3,7 +3,7 @@ use Rattle.si_base.specs.declared.graph.Edge.{Edge}
 use Rattle.si_base.specs.Graph.{arc}
 use Rattle.si_divisor.specs.Targets.{target}
 use Rattle.si_divisor.specs.WorkList.{IsCrossed}
-use Rattle.si_divisor.proofs.TurnLemmas.{reach_step, done_all, listed_arc, arc_within}
+use Rattle.si_divisor.proofs.SwitchingTurns.{reach_step, done_all, listed_arc, arc_within}
 use Rattle.si_divisor.proofs.switching.reach_crossed.Goals as goal
 
 pub is_crossing-requires-clause-from : goal.is_crossing-requires-clause-from

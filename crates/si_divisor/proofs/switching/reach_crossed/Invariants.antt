@@ -2,7 +2,7 @@ use Rattle.std.proofs.Common.{◌≡◌, not}
 use Rattle.si_graph.specs.Reach.{Marks}
 use Rattle.si_divisor.specs.Targets.{target}
 use Rattle.si_divisor.specs.WorkList.{IsCrossed}
-use Rattle.si_divisor.proofs.TurnLemmas.{DoneTo}
+use Rattle.si_divisor.proofs.SwitchingTurns.{DoneTo}
 use Rattle.si_divisor.proofs.switching.reach_crossed.Given as goal
 
 abbrev pub invariant-loop-a : goal.invariant-loop-a

@@ -1,5 +1,5 @@
 use Rattle.si_divisor.specs.WorkList.{IsTargetBy, Belongs}
-use Rattle.si_divisor.proofs.TurnLemmas.{marks_weaken, by_belongs, by_step, targets_within}
+use Rattle.si_divisor.proofs.SwitchingTurns.{marks_weaken, by_belongs, by_step, targets_within}
 use Rattle.si_divisor.proofs.switching.reach_exit.Goals as goal
 
 pub reach_by-requires : goal.reach_by-requires

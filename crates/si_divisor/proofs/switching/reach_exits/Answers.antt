@@ -2,7 +2,7 @@ use Rattle.std.proofs.Common.{◌≤◌, ℕ, length, sym, arith, inl, inr}
 use Rattle.si_base.specs.declared.graph.Edge.{Edge}
 use Rattle.si_divisor.specs.Targets.{target}
 use Rattle.si_divisor.specs.WorkList.{Belongs}
-use Rattle.si_divisor.proofs.TurnLemmas.{loop_step, done_all, marks_on, out_arc, LeavesEither, either_done}
+use Rattle.si_divisor.proofs.SwitchingTurns.{loop_step, done_all, marks_on, out_arc, LeavesEither, either_done}
 use Rattle.si_divisor.proofs.switching.reach_exits.Goals as goal
 
 pub reach_exit-requires-clause-first : goal.reach_exit-requires-clause-first

@@ -1,7 +1,7 @@
 use Rattle.si_graph.specs.Reach.{Marks}
 use Rattle.si_divisor.specs.Targets.{target}
 use Rattle.si_divisor.specs.WorkList.{Belongs}
-use Rattle.si_divisor.proofs.TurnLemmas.{DoneTo, LeavesEither}
+use Rattle.si_divisor.proofs.SwitchingTurns.{DoneTo, LeavesEither}
 use Rattle.si_divisor.proofs.switching.reach_exits.Given as goal
 
 abbrev pub invariant-loop-beside : goal.invariant-loop-beside

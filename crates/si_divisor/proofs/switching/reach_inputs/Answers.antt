@@ -3,7 +3,7 @@ use Rattle.si_base.specs.declared.graph.Edge.{Edge}
 use Rattle.si_base.specs.Graph.{arc}
 use Rattle.si_insert.specs.Accepted.{IsInput}
 use Rattle.si_divisor.specs.WorkList.{IsAfterInput}
-use Rattle.si_divisor.proofs.TurnLemmas.{reach_step, done_all, out_arc, arc_within, input_by}
+use Rattle.si_divisor.proofs.SwitchingTurns.{reach_step, done_all, out_arc, arc_within, input_by}
 use Rattle.si_divisor.proofs.switching.reach_inputs.Goals as goal
 
 pub is_input-requires : goal.is_input-requires

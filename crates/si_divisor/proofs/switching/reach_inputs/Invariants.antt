@@ -2,7 +2,7 @@ use Rattle.std.proofs.Common.{◌≡◌}
 use Rattle.si_graph.specs.Reach.{Marks}
 use Rattle.si_insert.specs.Accepted.{IsInput}
 use Rattle.si_divisor.specs.WorkList.{IsAfterInput}
-use Rattle.si_divisor.proofs.TurnLemmas.{DoneTo}
+use Rattle.si_divisor.proofs.SwitchingTurns.{DoneTo}
 use Rattle.si_divisor.proofs.switching.reach_inputs.Given as goal
 
 abbrev pub invariant-loop-a : goal.invariant-loop-a

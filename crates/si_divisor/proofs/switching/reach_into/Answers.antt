@@ -1,6 +1,6 @@
 use Rattle.si_divisor.specs.Targets.{target}
 use Rattle.si_divisor.specs.WorkList.{Belongs, Source, After, Beside}
-use Rattle.si_divisor.proofs.TurnLemmas.{marks_on, may_on, belong_on, source_marks}
+use Rattle.si_divisor.proofs.SwitchingTurns.{marks_on, may_on, belong_on, source_marks}
 use Rattle.si_divisor.proofs.switching.reach_into.Goals as goal
 
 pub reach_exits-requires-clause-belong : goal.reach_exits-requires-clause-belong

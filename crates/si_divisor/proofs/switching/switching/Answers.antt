@@ -3,8 +3,8 @@ use Rattle.si_graph.specs.Reach.{MarksAll}
 use Rattle.si_graph.specs.Search.{Progress}
 use Rattle.si_divisor.specs.Targets.{target}
 use Rattle.si_divisor.specs.WorkList.{IsCrossed}
-use Rattle.si_divisor.proofs.TurnLemmas.{search_begins}
-use Rattle.si_divisor.proofs.WorkLemmas.{least_switches}
+use Rattle.si_divisor.proofs.SwitchingTurns.{search_begins}
+use Rattle.si_divisor.proofs.WorkListLemmas.{least_switches}
 use Rattle.si_divisor.proofs.switching.switching.Goals as goal
 
 pub loop-x-init : goal.loop-x-init

@@ -5,9 +5,9 @@ use Rattle.si_graph.specs.Search.{Progress}
 use Rattle.si_graph.proofs.MarkLemmas.{in_below}
 use Rattle.si_divisor.specs.Targets.{target}
 use Rattle.si_divisor.specs.WorkList.{IsCrossed, Belongs}
-use Rattle.si_divisor.proofs.TurnLemmas.{search_begins}
-use Rattle.si_divisor.proofs.WorkLemmas.{least_switches}
-use Rattle.si_divisor.proofs.OutsideLemmas.{within_first, within_on, within_last}
+use Rattle.si_divisor.proofs.SwitchingTurns.{search_begins}
+use Rattle.si_divisor.proofs.WorkListLemmas.{least_switches}
+use Rattle.si_divisor.proofs.SwitchingOutside.{within_first, within_on, within_last}
 use Rattle.si_divisor.proofs.switching.switching_within.Goals as goal
 
 pub loop-x-init : goal.loop-x-init

@@ -2,7 +2,7 @@ use Rattle.std.proofs.Common.{◌+◌, length}
 use Rattle.si_graph.specs.Reach.{unmarked}
 use Rattle.si_divisor.specs.Targets.{target}
 use Rattle.si_divisor.specs.WorkList.{Works, SwitchRule}
-use Rattle.si_divisor.proofs.OutsideLemmas.{AreWithin}
+use Rattle.si_divisor.proofs.SwitchingOutside.{AreWithin}
 use Rattle.si_divisor.proofs.switching.switching_within.Given as goal
 
 abbrev pub invariant-loop-x : goal.invariant-loop-x

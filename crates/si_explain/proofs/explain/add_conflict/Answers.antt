@@ -4,7 +4,7 @@ use Rattle.si_walks.specs.declared.arcs.Arcs.TheVariants.{All}
 use Rattle.si_walks.specs.Joined.{source_of}
 use Rattle.si_explain.specs.ExplainText.{Explained}
 use Rattle.si_explain.proofs.EventLemmas.{start_leads, walk_signals, events_line_as, code_line_as}
-use Rattle.si_explain.proofs.TextLemmas.{conflict_by_calls}
+use Rattle.si_explain.proofs.ExplainLines.{conflict_by_calls}
 use Rattle.si_explain.proofs.explain.add_conflict.Goals as goal
 
 pub shortest_walk-requires-clause-leads : goal.shortest_walk-requires-clause-leads

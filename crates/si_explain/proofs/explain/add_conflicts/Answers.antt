@@ -1,5 +1,5 @@
 use Rattle.si_explain.specs.ExplainText.{max_explained}
-use Rattle.si_explain.proofs.TextLemmas.{pair_within, none_explained, one_more_explained, all_explained}
+use Rattle.si_explain.proofs.ExplainLines.{pair_within, none_explained, one_more_explained, all_explained}
 use Rattle.si_explain.proofs.explain.add_conflicts.Goals as goal
 
 pub loop-pair-init : goal.loop-pair-init

@@ -4,7 +4,7 @@ use Rattle.si_walks.specs.declared.arcs.Arcs.TheVariants.{OfInputs}
 use Rattle.si_walks.specs.Joined.{source_of}
 use Rattle.si_walks.proofs.SourceLemmas.{begins_within}
 use Rattle.si_explain.proofs.EventLemmas.{walk_signals, inputs_line_as}
-use Rattle.si_explain.proofs.TextLemmas.{source_by_calls}
+use Rattle.si_explain.proofs.ExplainLines.{source_by_calls}
 use Rattle.si_explain.proofs.explain.add_source.Goals as goal
 
 pub add_inputs_line-requires-clause-s : goal.add_inputs_line-requires-clause-s

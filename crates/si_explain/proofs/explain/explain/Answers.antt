@@ -1,5 +1,5 @@
 use Rattle.std.proofs.Common.{◌∙◌}
-use Rattle.si_explain.proofs.TextLemmas.{text_by_calls}
+use Rattle.si_explain.proofs.ExplainLines.{text_by_calls}
 use Rattle.si_explain.proofs.explain.explain.Goals as goal
 
 pub returns : goal.returns

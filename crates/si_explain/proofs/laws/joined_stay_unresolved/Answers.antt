@@ -1,4 +1,4 @@
-use Rattle.si_explain.proofs.Unresolved.{joined_never_resolve, joined_end_unresolved}
+use Rattle.si_explain.proofs.ExplainUnresolved.{joined_never_resolve, joined_end_unresolved}
 use Rattle.si_explain.proofs.laws.joined_stay_unresolved.Goals as goal
 
 pub returns-clause-never : goal.returns-clause-never

@@ -1,4 +1,4 @@
-use Rattle.si_insert.proofs.Verdict.{delay_is, none_delayed, loss_is, none_lost, one_way}
+use Rattle.si_insert.proofs.AcceptAnswers.{delay_is, none_delayed, loss_is, none_lost, one_way}
 use Rattle.si_insert.proofs.accept.accept.Goals as goal
 
 pub returns-in-Some-clause-fault : goal.returns-in-Some-clause-fault

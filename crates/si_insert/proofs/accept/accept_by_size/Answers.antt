@@ -3,7 +3,7 @@ use Rattle.si_base.specs.declared.graph.Signal.{Signal}
 use Rattle.si_base.specs.Graph.{StateGraph}
 use Rattle.si_base.specs.Codes.{CodedGraph}
 use Rattle.si_insert.specs.Accepted.{copy_count}
-use Rattle.si_insert.proofs.Verdict.{few_classes}
+use Rattle.si_insert.proofs.AcceptAnswers.{few_classes}
 use Rattle.si_insert.proofs.accept.accept_by_size.Goals as goal
 
 pub count_copies-states-requires : goal.count_copies-states-requires

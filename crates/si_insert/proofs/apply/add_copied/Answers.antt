@@ -4,29 +4,29 @@ use Rattle.si_insert.specs.Insertion.{Copy}
 use Rattle.si_insert.proofs.CopyArcs.{out_within, all_copied}
 use Rattle.si_insert.proofs.apply.add_copied.Goals as goal
 
-pub goes-requires-clause-from : goal.goes-requires-clause-from
-goes-requires-clause-from c =
+pub edge_has_copy-requires-clause-from : goal.edge_has_copy-requires-clause-from
+edge_has_copy-requires-clause-from c =
     let within =
     out_within c.args.graph.now c.x.inside.state c.arcs_out-arcs.result.now c.loop-a.a-index c.a-item.result
     c.arcs_out-arcs.ensures c.loop-a-test.true c.a-item.is in
     omega (arith, within.0, c.requires.count)
 
-pub goes-requires-clause-to : goal.goes-requires-clause-to
-goes-requires-clause-to c =
+pub edge_has_copy-requires-clause-to : goal.edge_has_copy-requires-clause-to
+edge_has_copy-requires-clause-to c =
     let within =
     out_within c.args.graph.now c.x.inside.state c.arcs_out-arcs.result.now c.loop-a.a-index c.a-item.result
     c.arcs_out-arcs.ensures c.loop-a-test.true c.a-item.is in
     omega (arith, within.1, c.requires.count)
 
-pub moved-requires-clause-from : goal.moved-requires-clause-from
-moved-requires-clause-from c =
+pub copied_edge-requires-clause-from : goal.copied_edge-requires-clause-from
+copied_edge-requires-clause-from c =
     let within =
     out_within c.args.graph.now c.x.inside.state c.arcs_out-arcs.result.now c.loop-a.a-index c.a-item.result
     c.arcs_out-arcs.ensures c.loop-a-test.true c.a-item.is in
     omega (arith, within.0, c.requires.count)
 
-pub moved-requires-clause-to : goal.moved-requires-clause-to
-moved-requires-clause-to c =
+pub copied_edge-requires-clause-to : goal.copied_edge-requires-clause-to
+copied_edge-requires-clause-to c =
     let within =
     out_within c.args.graph.now c.x.inside.state c.arcs_out-arcs.result.now c.loop-a.a-index c.a-item.result
     c.arcs_out-arcs.ensures c.loop-a-test.true c.a-item.is in

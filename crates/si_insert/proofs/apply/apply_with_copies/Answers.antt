@@ -2,11 +2,11 @@ use Rattle.std.proofs.Common.{◌∙◌, sym, subst}
 use Rattle.si_base.specs.Codes.{CodedGraph}
 use Rattle.si_base.specs.Proper.{IsProper}
 use Rattle.si_insert.specs.Applied.{IsApplied}
-use Rattle.si_insert.proofs.Applying.{conditions, copies_inside, put_together}
+use Rattle.si_insert.proofs.ApplyLemmas.{conditions, copies_inside, put_together}
 use Rattle.si_insert.proofs.apply.apply_with_copies.Goals as goal
 
-pub made_graph-requires-clause-conditions : goal.made_graph-requires-clause-conditions
-made_graph-requires-clause-conditions c =
+pub graph_of_copies-requires-clause-conditions : goal.graph_of_copies-requires-clause-conditions
+graph_of_copies-requires-clause-conditions c =
     conditions c.args.graph.now c.coded-coded.result.now c.graph-given.result.now c.args.accepted.now
     c.classes-classes.result.now c.args.name.now
     (record {

@@ -4,8 +4,8 @@ use Rattle.std.specs.List.{flat_map}
 use Rattle.std.specs.List.Sorted.{IsStrictlySortedBy}
 use Rattle.si_base.specs.EdgeOrder.{edge_cmp}
 use Rattle.si_insert.specs.Insertion.{Copy}
-use Rattle.si_insert.specs.Made.{edges_from, new_edges}
-use Rattle.si_insert.proofs.FirstPlaces.{copies_within}
+use Rattle.si_insert.specs.GraphOfCopies.{edges_from, new_edges}
+use Rattle.si_insert.proofs.StateCopyPlaces.{copies_within}
 use Rattle.si_insert.proofs.NewArcOrder.{new_edges_sorted}
 use Rattle.si_insert.proofs.apply.edges_of.Goals as goal
 

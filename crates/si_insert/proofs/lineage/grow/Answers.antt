@@ -1,5 +1,5 @@
 use Rattle.std.proofs.Common.{◌∙◌}
-use Rattle.si_insert.proofs.Growing.{have_origins, inserts}
+use Rattle.si_insert.proofs.LineageGrowth.{have_origins, inserts}
 use Rattle.si_insert.proofs.lineage.grow.Goals as goal
 
 pub origins_of-requires : goal.origins_of-requires

@@ -3,7 +3,7 @@ use Rattle.std.proofs.lemmas.Result.{IfOk-weaker}
 use Rattle.si_base.specs.declared.graph.Signal.{Signal}
 use Rattle.si_base.specs.Graph.{IsMadeOf, StateGraph, kind_place}
 use Rattle.si_inserted.specs.Current as current
-use Rattle.si_inserted.proofs.InternalLemmas.{internal_is_graph, made_internal}
+use Rattle.si_inserted.proofs.InternalGraphLemmas.{internal_is_graph, made_internal}
 use Rattle.si_inserted.proofs.graph.internal_graph.Goals as goal
 
 pub make-requires-clause-names : goal.make-requires-clause-names

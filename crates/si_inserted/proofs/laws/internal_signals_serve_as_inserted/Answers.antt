@@ -1,5 +1,5 @@
-use Rattle.si_inserted.proofs.InternalGates.{same_netlist}
-use Rattle.si_inserted.proofs.InternalLemmas.{internal_is_coded, internal_is_distinct, internal_is_proper}
+use Rattle.si_inserted.proofs.InternalGraphGates.{same_netlist}
+use Rattle.si_inserted.proofs.InternalGraphLemmas.{internal_is_coded, internal_is_distinct, internal_is_proper}
 use Rattle.si_inserted.proofs.laws.internal_signals_serve_as_inserted.Goals as goal
 
 pub returns : goal.returns

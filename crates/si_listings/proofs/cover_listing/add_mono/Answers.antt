@@ -27,5 +27,5 @@ returns c =
     let event = rw signals at c.in_ok-add_event.ensures in
     on_ok c.add-2.result (λ last told is. mono_by_calls c.args.text.now k.graph.signals c.args.states.now c.args.number
     c.args.region.now told c.as_bytes.result.now _ _ _ _ _ (c.as_bytes.ensures.value ∙ c.in-Ok.ensures.ok)
-    c.in_ok-add.ensures.added event c.in_ok-add_word.ensures (c.in_ok-add_told.ensures told is) last)
+    c.in_ok-add.ensures.added event c.in_ok-add_word.ensures (c.in_ok-add_region_cube.ensures told is) last)
     c.add-2.ensures.added

@@ -5,7 +5,7 @@ use Rattle.si_listings.specs.RegionText.{number_after}
 use Rattle.si_listings.proofs.CoverLemmas.{mono_step, monos_written, component_count}
 use Rattle.si_listings.proofs.NumberLemmas.{goes_on_number, first_number, number_next}
 use Rattle.si_listings.proofs.cover_listing.add_monos.Goals as goal
-use Rattle.si_listings.proofs.cover_listing.add_monos.Goals.{then-goes_on, else-goes_on}
+use Rattle.si_listings.proofs.cover_listing.add_monos.Goals.{then-repeats, else-repeats}
 
 pub add_if_of-requires-clause-region : goal.add_if_of-requires-clause-region
 add_if_of-requires-clause-region c = c.requires.regions.each c.index-regions-k.result
@@ -19,16 +19,16 @@ loop-k-preserved c =
     let r = c.index-regions-k.result in
     let inside = c.loop-k-test.true in
     let at = c.index-regions-k.is in
-    let number = c.if-goes_on.number in
-    let right : number ≡ number_after (take k regions) r = elim c.if-goes_on.branch [
-      | then-goes_on w ↦ w.number-is ∙ goes_on_number regions k r inside at c.loop-k.number c.loop-k.invariant.number
-          (c.goes_on.ensures.0 w.if-goes_on.true)
-      | else-goes_on w ↦ w.number-is ∙ first_number regions k r inside at all.in_order
-          (λ on. true≢false (sym (c.goes_on.ensures.1 on) ∙ w.if-goes_on.false))
+    let number = c.if-repeats.number in
+    let right : number ≡ number_after (take k regions) r = elim c.if-repeats.branch [
+      | then-repeats w ↦ w.number-is ∙ goes_on_number regions k r inside at c.loop-k.number c.loop-k.invariant.number
+          (c.repeats.ensures.0 w.if-repeats.true)
+      | else-repeats w ↦ w.number-is ∙ first_number regions k r inside at all.in_order
+          (λ on. true≢false (sym (c.repeats.ensures.1 on) ∙ w.if-repeats.false))
     ] in
-    let few : number ≤ k + 1 = elim c.if-goes_on.branch [
-      | then-goes_on w ↦ omega (arith, w.number-is, c.loop-k.invariant.few)
-      | else-goes_on w ↦ omega (arith, w.number-is)
+    let few : number ≤ k + 1 = elim c.if-repeats.branch [
+      | then-repeats w ↦ omega (arith, w.number-is, c.loop-k.invariant.few)
+      | else-repeats w ↦ omega (arith, w.number-is)
     ] in
     record {
       text = λ xs are. mono_step (lent_graph c.args.graph) c.args.states.now c.args.z xs regions k number r _

@@ -1,5 +1,5 @@
-use Rattle.si_map.proofs.MapTraces.{traces_are_short, traces_leave_no_conflict, fitted_is_mapped, mapped_is_unique}
-use Rattle.si_map.proofs.MapTraces.{unmapped_is_unique, ends_exclude}
+use Rattle.si_map.proofs.TraceLemmas.{traces_are_short, traces_leave_no_conflict, fitted_is_mapped, mapped_is_unique}
+use Rattle.si_map.proofs.TraceLemmas.{unmapped_is_unique, ends_exclude}
 use Rattle.si_map.proofs.OneBest.{one_best}
 use Rattle.si_map.proofs.laws.traces_are_determined.Goals as goal
 

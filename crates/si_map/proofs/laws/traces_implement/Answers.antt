@@ -1,4 +1,4 @@
-use Rattle.si_map.proofs.MapTraces.{traces_are_lineages, traces_implement}
+use Rattle.si_map.proofs.TraceLemmas.{traces_are_lineages, traces_implement}
 use Rattle.si_map.proofs.laws.traces_implement.Goals as goal
 
 pub returns-clause-lineages : goal.returns-clause-lineages

@@ -1,6 +1,6 @@
 use Rattle.std.proofs.Common.{sym, subst}
-use Rattle.si_insert.proofs.LeadingTraces.{Leads, leads_on}
-use Rattle.si_map.specs.Trace.{Maps}
+use Rattle.si_insert.proofs.LineageTraceLength.{Leads, leads_on}
+use Rattle.si_map.specs.Trace.{InsertsDivisor}
 use Rattle.si_map.proofs.map.map_cells.Goals as goal
 
 pub loop-circuit-preserved : goal.loop-circuit-preserved
@@ -9,6 +9,6 @@ loop-circuit-preserved c =
     let start = c.args.resolved in
     let now = c.in-Err.rest in
     let next = c.in_ok-resolved-in-Err.ensures.extended in
-    let so : Leads (Maps library) start now =
-    subst (Leads (Maps library) start) (sym c.in-Err.ensures.back) c.loop-circuit.invariant in
-    leads_on (Maps library) start now c.in_ok-resolved-in-Err.resolved next.0 so next.1 next.2 next.3
+    let so : Leads (InsertsDivisor library) start now =
+    subst (Leads (InsertsDivisor library) start) (sym c.in-Err.ensures.back) c.loop-circuit.invariant in
+    leads_on (InsertsDivisor library) start now c.in_ok-resolved-in-Err.resolved next.0 so next.1 next.2 next.3

@@ -3,7 +3,7 @@ use Rattle.si_base.specs.Graph.{StateGraph}
 use Rattle.si_base.specs.Codes.{CodedGraph}
 use Rattle.si_cell.specs.Library.{Instance}
 use Rattle.si_checks.specs.Lent.{lent_graph}
-use Rattle.si_map.proofs.FittedLemmas.{none_before, input_passed, signal_added, all_fitted}
+use Rattle.si_map.proofs.SearchFitted.{none_before, input_passed, signal_added, all_fitted}
 use Rattle.si_map.proofs.search.fitted_signals.Goals as goal
 
 pub loop-i-init : goal.loop-i-init

@@ -1,5 +1,5 @@
 use Rattle.si_checks.specs.Lent.{lent_graph}
-use Rattle.si_map.proofs.FittedLemmas.{AreFittedBefore}
+use Rattle.si_map.proofs.SearchFitted.{AreFittedBefore}
 use Rattle.si_map.proofs.search.fitted_signals.Given as goal
 
 abbrev pub invariant-loop-i : goal.invariant-loop-i

@@ -1,6 +1,6 @@
 use Rattle.std.proofs.Common.{◌≡◌, length, ap, sym, ◌∙◌, rules}
 use Rattle.si_base.specs.declared.graph.Signal.{Signal}
-use Rattle.si_map.proofs.KeptFits.{known_unknown}
+use Rattle.si_map.proofs.WaitingFits.{known_unknown}
 use Rattle.si_map.proofs.search.known_fits.Goals as goal
 
 pub returns-clause-unknown : goal.returns-clause-unknown

@@ -3,7 +3,7 @@ use Rattle.si_base.specs.Bits.{bit}
 use Rattle.si_base.specs.Graph.{StateGraph}
 use Rattle.si_pictures.specs.CodeWord.{marked_digit, code_word}
 use Rattle.si_pictures.proofs.CodeLemmas.{digit_at}
-use Rattle.si_pictures.proofs.PartLemmas.{part_more, parts_done}
+use Rattle.si_pictures.proofs.WritingParts.{part_more, parts_done}
 use Rattle.si_pictures.proofs.code_word.add_code.Goals as goal
 
 pub loop-i-preserved : goal.loop-i-preserved

@@ -3,7 +3,7 @@ use Rattle.std.specs.BTreeMap.{get}
 use Rattle.std.specs.Ordering.{nat_cmp}
 use Rattle.si_base.specs.Graph.{StateGraph}
 use Rattle.si_checks.proofs.ConflictLemmas.{other_key}
-use Rattle.si_pictures.proofs.MarkLemmas.{by_code_more}
+use Rattle.si_pictures.proofs.InConflictMarks.{by_code_more}
 use Rattle.si_pictures.proofs.conflict_states.last_states.Goals as goal
 
 pub loop-k-preserved : goal.loop-k-preserved

@@ -1,5 +1,5 @@
 use Rattle.std.proofs.Common.{◌≡◌, ◌≤◌, ℕ, ◌<◌, ◌↔◌, false, length, get_or, IsTrue}
-use Rattle.si_pictures.proofs.MarkLemmas.{MixedTo}
+use Rattle.si_pictures.proofs.InConflictMarks.{MixedTo}
 use Rattle.si_pictures.proofs.conflict_states.mixed_codes.Given as goal
 
 abbrev pub invariant-loop-k : goal.invariant-loop-k

@@ -3,7 +3,7 @@ use Rattle.std.specs.BTreeMap.{get}
 use Rattle.std.specs.Ordering.{nat_cmp}
 use Rattle.si_base.specs.Codes.{code}
 use Rattle.si_base.specs.Graph.{StateGraph}
-use Rattle.si_pictures.proofs.MarkLemmas.{one_more, chosen_all, chosen_is}
+use Rattle.si_pictures.proofs.InConflictMarks.{one_more, chosen_all, chosen_is}
 use Rattle.si_pictures.proofs.conflict_states.representatives.Goals as goal
 
 pub loop-k-preserved : goal.loop-k-preserved

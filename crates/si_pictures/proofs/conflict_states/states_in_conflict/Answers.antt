@@ -1,6 +1,6 @@
 use Rattle.std.proofs.Common.{◌∙◌, ap, arith}
 use Rattle.si_base.specs.Graph.{StateGraph}
-use Rattle.si_pictures.proofs.MarkLemmas.{marks_all}
+use Rattle.si_pictures.proofs.InConflictMarks.{marks_all}
 use Rattle.si_pictures.proofs.conflict_states.states_in_conflict.Goals as goal
 
 pub returns : goal.returns

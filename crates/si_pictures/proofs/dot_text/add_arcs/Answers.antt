@@ -2,7 +2,7 @@ use Rattle.std.proofs.Common.{◌≤◌, ◌∙◌, ◌++◌, ℕ, List, length,
 use Rattle.si_pictures.specs.Picture.{arc_link}
 use Rattle.si_pictures.specs.Writing.{statement_text}
 use Rattle.si_pictures.proofs.PictureLemmas.{link_at}
-use Rattle.si_pictures.proofs.PartLemmas.{items_done, mapped_parts}
+use Rattle.si_pictures.proofs.WritingParts.{items_done, mapped_parts}
 use Rattle.si_pictures.proofs.dot_text.add_arcs.Goals as goal
 
 pub returns : goal.returns

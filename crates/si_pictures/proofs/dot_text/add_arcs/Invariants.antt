@@ -1,5 +1,5 @@
 use Rattle.std.proofs.Common.{◌≡◌, ◌++◌}
-use Rattle.si_pictures.proofs.PartLemmas.{items_from}
+use Rattle.si_pictures.proofs.WritingParts.{items_from}
 use Rattle.si_pictures.proofs.PictureLemmas.{link_at}
 use Rattle.si_pictures.proofs.dot_text.add_arcs.Given as goal
 

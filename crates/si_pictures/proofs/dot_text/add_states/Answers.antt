@@ -3,7 +3,7 @@ use Rattle.si_base.specs.Graph.{StateGraph}
 use Rattle.si_pictures.specs.CodeWord.{first}
 use Rattle.si_pictures.specs.Writing.{statement_text}
 use Rattle.si_pictures.proofs.PictureLemmas.{node_at, node_of}
-use Rattle.si_pictures.proofs.PartLemmas.{part_more, parts_done, mapped_parts}
+use Rattle.si_pictures.proofs.WritingParts.{part_more, parts_done, mapped_parts}
 use Rattle.si_pictures.proofs.dot_text.add_states.Goals as goal
 
 pub loop-k-preserved : goal.loop-k-preserved

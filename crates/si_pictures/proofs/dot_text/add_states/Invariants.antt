@@ -1,5 +1,5 @@
 use Rattle.std.proofs.Common.{◌≡◌, ◌++◌}
-use Rattle.si_pictures.proofs.PartLemmas.{parts_from}
+use Rattle.si_pictures.proofs.WritingParts.{parts_from}
 use Rattle.si_pictures.proofs.PictureLemmas.{node_at}
 use Rattle.si_pictures.proofs.dot_text.add_states.Given as goal
 

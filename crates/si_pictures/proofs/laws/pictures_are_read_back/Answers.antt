@@ -1,4 +1,4 @@
-use Rattle.si_pictures.proofs.OneReading.{one_reading}
+use Rattle.si_pictures.proofs.OneTokenReading.{one_reading}
 use Rattle.si_pictures.proofs.PictureLaws.{read_back}
 use Rattle.si_pictures.proofs.laws.pictures_are_read_back.Goals as goal
 

@@ -1,7 +1,7 @@
 use Rattle.std.proofs.Common.{◌≡◌, ◌<◌, ◌≤◌, ◌∙◌, ◌++◌, List, ℕ, ap, length}
 use Rattle.si_base.specs.Graph.{StateGraph}
 use Rattle.si_pictures.proofs.CodeLemmas.{events_at, all_events}
-use Rattle.si_pictures.proofs.PartLemmas.{part_more, parts_done}
+use Rattle.si_pictures.proofs.WritingParts.{part_more, parts_done}
 use Rattle.si_pictures.proofs.states_text.add_events.Goals as goal
 
 pub add_events_of-requires-clause-signal : goal.add_events_of-requires-clause-signal

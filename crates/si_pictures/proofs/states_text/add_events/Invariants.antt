@@ -1,5 +1,5 @@
 use Rattle.std.proofs.Common.{◌≡◌, ◌++◌, length}
-use Rattle.si_pictures.proofs.PartLemmas.{parts_from}
+use Rattle.si_pictures.proofs.WritingParts.{parts_from}
 use Rattle.si_pictures.proofs.CodeLemmas.{events_at}
 use Rattle.si_pictures.proofs.states_text.add_events.Given as goal
 

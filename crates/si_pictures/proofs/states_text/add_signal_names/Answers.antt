@@ -1,7 +1,7 @@
 use Rattle.std.proofs.Common.{◌∙◌, ◌++◌, ◌∷◌, List, ℕ, ap, sym}
 use Rattle.si_base.specs.declared.graph.Signal.{Signal}
 use Rattle.si_pictures.proofs.CodeLemmas.{spaced_name}
-use Rattle.si_pictures.proofs.PartLemmas.{item_more, items_done, mapped_parts}
+use Rattle.si_pictures.proofs.WritingParts.{item_more, items_done, mapped_parts}
 use Rattle.si_pictures.proofs.states_text.add_signal_names.Goals as goal
 
 pub loop-signal-preserved : goal.loop-signal-preserved

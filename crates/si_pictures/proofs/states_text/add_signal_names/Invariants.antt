@@ -1,5 +1,5 @@
 use Rattle.std.proofs.Common.{◌≡◌, ◌++◌}
-use Rattle.si_pictures.proofs.PartLemmas.{items_from}
+use Rattle.si_pictures.proofs.WritingParts.{items_from}
 use Rattle.si_pictures.proofs.CodeLemmas.{spaced_name}
 use Rattle.si_pictures.proofs.states_text.add_signal_names.Given as goal
 

@@ -2,7 +2,7 @@ use Rattle.std.proofs.Common.{◌<◌, ◌≤◌, ◌∙◌, ap, arith}
 use Rattle.si_base.specs.Graph.{StateGraph}
 use Rattle.si_pictures.specs.StatesText.{states_text}
 use Rattle.si_pictures.proofs.CodeLemmas.{line_at, signals_line}
-use Rattle.si_pictures.proofs.PartLemmas.{part_more, parts_done}
+use Rattle.si_pictures.proofs.WritingParts.{part_more, parts_done}
 use Rattle.si_pictures.proofs.states_text.list_states.Goals as goal
 
 pub loop-k-preserved : goal.loop-k-preserved

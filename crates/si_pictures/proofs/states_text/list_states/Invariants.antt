@@ -1,5 +1,5 @@
 use Rattle.std.proofs.Common.{◌≡◌, ◌++◌}
-use Rattle.si_pictures.proofs.PartLemmas.{parts_from}
+use Rattle.si_pictures.proofs.WritingParts.{parts_from}
 use Rattle.si_pictures.proofs.CodeLemmas.{line_at, signals_line}
 use Rattle.si_pictures.proofs.states_text.list_states.Given as goal
 

@@ -1,5 +1,5 @@
 use Rattle.si_base.specs.Proper.{Fork, Loss}
-use Rattle.si_readings.proofs.Breaches.{fork_shown, loss_shown}
+use Rattle.si_readings.proofs.CheckBreaches.{fork_shown, loss_shown}
 use Rattle.si_readings.proofs.CheckLemmas.{coded_consistent}
 use Rattle.si_readings.proofs.checks.breach_with_codes.Goals as goal
 

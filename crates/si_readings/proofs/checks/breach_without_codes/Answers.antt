@@ -1,5 +1,5 @@
 use Rattle.si_base.specs.Proper.{Split}
-use Rattle.si_readings.proofs.Breaches.{split_shown, values_shown}
+use Rattle.si_readings.proofs.CheckBreaches.{split_shown, values_shown}
 use Rattle.si_readings.proofs.checks.breach_without_codes.Goals as goal
 
 pub returns-in_ok-state_name-in-Nondeterministic-3 : goal.returns-in_ok-state_name-in-Nondeterministic-3

@@ -2,7 +2,7 @@ use Rattle.std.proofs.Common.{refl}
 use Rattle.si_refusals.specs.Stages.{Passes}
 use Rattle.si_sg.specs.GivenGraph.{sg_now}
 use Rattle.si_readings.specs.Readings.{replay_readings}
-use Rattle.si_readings.proofs.HandedOn.{stops}
+use Rattle.si_readings.proofs.ReadingRefusals.{stops}
 use Rattle.si_readings.proofs.StageLemmas.{stop_first, stop_next}
 use Rattle.si_readings.proofs.readings.replay_readings.Goals as goal
 

@@ -1,6 +1,6 @@
 use Rattle.std.proofs.Common.{◌≤◌, arith, sym}
 use Rattle.std.proofs.lemmas.Bool.{true≢false}
-use Rattle.si_resolve.specs.Aspects.{unparted}
+use Rattle.si_resolve.specs.Aspects.{unparted_count}
 use Rattle.si_resolve.proofs.AspectLemmas.{unparted_parts}
 use Rattle.si_resolve.proofs.aspects.are_below.Goals as goal
 
@@ -11,8 +11,8 @@ returns-then-left-room c =
     let parts = unparted_parts 64 c.loop-plus.plus.now c.loop-plus.minus.now _ _ _ _
     one.ensures.front one.ensures.back other.ensures.front other.ensures.back in
     let rest = c.loop-plus.invariant.rest in
-    let enough : c.args.bar ≤ unparted c.args.plus.now c.args.minus.now =
-    omega (arith, parts, rest, c.unparted-left.ensures, c.if-left-room.true) in
+    let enough : c.args.bar ≤ unparted_count c.args.plus.now c.args.minus.now =
+    omega (arith, parts, rest, c.unparted_count-left.ensures, c.if-left-room.true) in
     ((λ no. absurd (true≢false (sym no))), (λ few. absurd (omega (arith, enough, few))))
 
 pub loop-plus-preserved : goal.loop-plus-preserved
@@ -24,5 +24,5 @@ loop-plus-preserved c =
     let rest = c.loop-plus.invariant.rest in
     record {
       count = omega (arith, c.loop-plus.invariant.count, one.ensures.back_len, other.ensures.back_len);
-      rest = omega (arith, parts, rest, c.unparted-left.ensures, c.if-left-room.false);
+      rest = omega (arith, parts, rest, c.unparted_count-left.ensures, c.if-left-room.false);
     }

@@ -3,10 +3,10 @@ use Rattle.si_base.specs.Codes.{CodedGraph}
 use Rattle.si_base.specs.System.{IsFor}
 use Rattle.si_refusals.specs.Ending.{MayStop}
 use Rattle.si_refusals.specs.Stages.{Passes}
-use Rattle.si_stages.specs.Audited.{IsAudit, audited}
+use Rattle.si_stages.specs.Audited.{IsAudit, certification}
 use Rattle.si_stages.specs.Meaning.{audit}
 use Rattle.si_readings.specs.Readings.{audit_readings_now}
-use Rattle.si_readings.proofs.HandedOn.{err_map, ok_map, stops}
+use Rattle.si_readings.proofs.ReadingRefusals.{err_map, ok_map, stops}
 use Rattle.si_readings.proofs.CheckLemmas.{match_over}
 use Rattle.si_readings.proofs.StageLemmas.{stop_first, stop_next}
 use Rattle.si_stages.proofs.audited.audit_texts.Goals as goal
@@ -56,7 +56,7 @@ returns-clause-err c =
     let read = audit_readings_now c.in_ok-readings.readings in
     let proper = c.in_ok-proper.proper in
     let fits = subst (λ (k : CodedGraph). IsFor k read.netlist) c.coded.ensures.same c.in_ok-match_lists.ensures.ok in
-    err_map c.audited_text.result (MayStop (audited read.given.states proper read.netlist))
+    err_map c.audited_text.result (MayStop (certification read.given.states proper read.netlist))
     (MayStop (audit a.graph_file.now a.graph.now a.netlist_file.now a.netlist.now))
     (λ e may. stop_next _ _ read e c.in_ok-readings.ensures.ok (stop_next _ _ proper e c.in_ok-proper.ensures.ok
     (stop_next _ _ tt e fits may)))

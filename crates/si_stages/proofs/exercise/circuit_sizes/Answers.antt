@@ -6,7 +6,7 @@ use Rattle.si_insert.specs.Lineage.{History}
 use Rattle.si_sg.specs.GivenGraph.{sg_now}
 use Rattle.si_stages.specs.Exercise.{IsExercise, exercise_text}
 use Rattle.si_stages.proofs.ExerciseLemmas.{counted, free, named, none_inserted, spelled}
-use Rattle.si_readings.proofs.HandedOn.{ok_map}
+use Rattle.si_readings.proofs.ReadingRefusals.{ok_map}
 use Rattle.si_stages.proofs.exercise.circuit_sizes.Goals as goal
 
 pub proper_graph-requires-clause-proper : goal.proper_graph-requires-clause-proper

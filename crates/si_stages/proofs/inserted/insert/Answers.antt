@@ -2,7 +2,7 @@ use Rattle.std.proofs.Common.{List, Ok, ℕ, ap, subst}
 use Rattle.si_base.specs.Codes.{CodedGraph}
 use Rattle.si_base.specs.System.{IsFor}
 use Rattle.si_readings.proofs.CheckLemmas.{match_over}
-use Rattle.si_readings.proofs.HandedOn.{stops}
+use Rattle.si_readings.proofs.ReadingRefusals.{stops}
 use Rattle.si_readings.proofs.ReadingLemmas.{audit_readings_are}
 use Rattle.si_readings.proofs.StageLemmas.{stop_first, stop_next}
 use Rattle.si_readings.specs.Readings.{audit_readings_now}

@@ -2,7 +2,7 @@ use Rattle.std.proofs.Common.{◌≡◌, ◌∙◌, ℕ, List, Ok, ap, sym, subs
 use Rattle.si_circuit.specs.Circuits.{AreStateNames}
 use Rattle.si_insert.specs.Lineage.{History}
 use Rattle.si_inserted.specs.Current.{current_sg}
-use Rattle.si_readings.proofs.HandedOn.{stops}
+use Rattle.si_readings.proofs.ReadingRefusals.{stops}
 use Rattle.si_readings.proofs.StageLemmas.{stop_first, stop_next}
 use Rattle.si_refusals.specs.Stages.{Passes}
 use Rattle.si_refusals.specs.declared.refusals.Refusal.TheVariants.{NoMemory}

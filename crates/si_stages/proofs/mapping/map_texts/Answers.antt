@@ -2,7 +2,7 @@ use Rattle.si_refusals.specs.Stages.{Passes}
 use Rattle.si_stages.specs.Meaning.{mapping}
 use Rattle.si_readings.specs.Readings.{mapping_readings_now}
 use Rattle.si_stages.proofs.GivenLineages.{given_lineage, given_signals}
-use Rattle.si_readings.proofs.HandedOn.{stops}
+use Rattle.si_readings.proofs.ReadingRefusals.{stops}
 use Rattle.si_stages.proofs.MappingLemmas.{cells_stop, is_library, is_mapping}
 use Rattle.si_readings.proofs.ReadingLemmas.{mapping_readings_are}
 use Rattle.si_stages.proofs.ResolutionLemmas.{resolution_is}

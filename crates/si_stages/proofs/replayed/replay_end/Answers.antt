@@ -1,9 +1,9 @@
 use Rattle.std.proofs.Common.{Ok}
 use Rattle.si_refusals.specs.Ending.{MayStop}
-use Rattle.si_stages.specs.Outcomes.{TellsEnd, TellsDeparture}
+use Rattle.si_stages.specs.Outcomes.{TellsEnd, TellsDifference}
 use Rattle.si_stages.specs.Replayed.{replay_end}
 use Rattle.si_system.proofs.UniqueOutcome.{for_not_different}
-use Rattle.si_readings.proofs.HandedOn.{err_map, ok_map}
+use Rattle.si_readings.proofs.ReadingRefusals.{err_map, ok_map}
 use Rattle.si_stages.proofs.ReplayLemmas.{has_name, told_end, told_departure}
 use Rattle.si_stages.proofs.replayed.replay_end.Goals as goal
 
@@ -36,7 +36,7 @@ returns-clause-err c =
     let states = c.args.states.now in
     let net = c.args.netlist.now in
     let events = c.args.events.now.items in
-    err_map c.outcome_text.result (TellsDeparture net.signals c.in-Ok.outcome)
+    err_map c.outcome_text.result (TellsDifference net.signals c.in-Ok.outcome)
     (MayStop (replay_end what graph states net events))
     (λ e tells. told_departure what graph states net events c.in-Ok.outcome e c.in-Ok.ensures.outcome tells)
     c.outcome_text.ensures.err

@@ -7,7 +7,7 @@ use Rattle.si_refusals.specs.Stages.{Passes}
 use Rattle.si_stages.specs.Meaning.{replay}
 use Rattle.si_readings.specs.Readings.{replay_readings_now}
 use Rattle.si_stages.specs.Replayed.{replay_end}
-use Rattle.si_readings.proofs.HandedOn.{err_map, ok_map, stops}
+use Rattle.si_readings.proofs.ReadingRefusals.{err_map, ok_map, stops}
 use Rattle.si_readings.proofs.CheckLemmas.{match_over}
 use Rattle.si_readings.proofs.StageLemmas.{stop_first, stop_next}
 use Rattle.si_stages.proofs.replayed.replay_texts.Goals as goal

@@ -1,7 +1,7 @@
 use Rattle.si_sg.specs.GivenGraph.{sg_now}
 use Rattle.si_stages.specs.Meaning.{report}
 use Rattle.si_refusals.specs.Stages.{Passes}
-use Rattle.si_readings.proofs.HandedOn.{stops}
+use Rattle.si_readings.proofs.ReadingRefusals.{stops}
 use Rattle.si_readings.proofs.StageLemmas.{stop_first, stop_next}
 use Rattle.si_stages.proofs.report.report.Goals as goal
 

@@ -4,7 +4,7 @@ use Rattle.si_insert.specs.Lineage.{AllGiven}
 use Rattle.si_refusals.specs.Ending.{MayStop}
 use Rattle.si_refusals.specs.Stages.{Passes}
 use Rattle.si_stages.specs.Resolving.{lineage_of, resolution}
-use Rattle.si_readings.proofs.HandedOn.{err_map, ok_map, stops}
+use Rattle.si_readings.proofs.ReadingRefusals.{err_map, ok_map, stops}
 use Rattle.si_readings.proofs.StageLemmas.{stop_first, stop_next}
 use Rattle.si_stages.proofs.resolving.resolution.Goals as goal
 

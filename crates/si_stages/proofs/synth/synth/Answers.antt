@@ -7,10 +7,10 @@ use Rattle.si_refusals.specs.declared.refusals.Refusal.TheVariants.{NoMemory}
 use Rattle.si_sg.specs.GivenGraph.{sg_now}
 use Rattle.si_stages.specs.Meaning.{synth}
 use Rattle.si_stages.proofs.GivenLineages.{given_lineage, given_signals}
-use Rattle.si_readings.proofs.HandedOn.{stops}
+use Rattle.si_readings.proofs.ReadingRefusals.{stops}
 use Rattle.si_stages.proofs.ResolutionLemmas.{resolution_is}
 use Rattle.si_readings.proofs.StageLemmas.{stop_first, stop_next}
-use Rattle.si_stages.proofs.Synthesis.{is_synthesis}
+use Rattle.si_stages.proofs.SynthesisLemmas.{is_synthesis}
 use Rattle.si_stages.proofs.synth.synth.Goals as goal
 
 -- ---- where a stage refuses

@@ -1,4 +1,4 @@
-use Rattle.si_stages.proofs.Unresolved.{synth_ends, map_ends}
+use Rattle.si_stages.proofs.UnresolvedEnds.{synth_ends, map_ends}
 use Rattle.si_stages.proofs.unresolved_laws.joined_conflicts_end_unresolved.Goals as goal
 
 pub returns-clause-synth : goal.returns-clause-synth

@@ -2,7 +2,7 @@ use Rattle.std.proofs.Common.{ℕ, List, Ok, ap}
 use Rattle.si_refusals.specs.Stages.{Passes}
 use Rattle.si_refusals.specs.declared.refusals.Refusal.TheVariants.{NoMemory}
 use Rattle.si_stages.specs.Verilog.{verilog}
-use Rattle.si_readings.proofs.HandedOn.{stops}
+use Rattle.si_readings.proofs.ReadingRefusals.{stops}
 use Rattle.si_readings.proofs.StageLemmas.{stop_first}
 use Rattle.si_stages.proofs.verilog.verilog.Goals as goal
 

@@ -1,4 +1,4 @@
-use Rattle.si_tool.proofs.TaskLemmas.{AsksNoneBefore}
+use Rattle.si_tool.proofs.CommandTasks.{AsksNoneBefore}
 use Rattle.si_tool.proofs.command.command_of.Given as goal
 
 -- the words ask for none of the tasks so far

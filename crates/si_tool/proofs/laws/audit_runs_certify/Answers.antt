@@ -1,4 +1,4 @@
-use Rattle.si_tool.proofs.AuditLemmas.{audit_puts}
+use Rattle.si_tool.proofs.RunAudit.{audit_puts}
 use Rattle.si_tool.proofs.laws.audit_runs_certify.Goals as goal
 
 pub returns : goal.returns

@@ -1,4 +1,4 @@
-use Rattle.si_tool.proofs.ExerciseLemmas.{exercise_unrefused}
+use Rattle.si_tool.proofs.RunExercise.{exercise_unrefused}
 use Rattle.si_tool.proofs.laws.exercises_are_never_refused.Goals as goal
 
 pub returns : goal.returns

@@ -1,4 +1,4 @@
-use Rattle.si_tool.proofs.GenlibLemmas.{genlib_puts}
+use Rattle.si_tool.proofs.RunGenlib.{genlib_puts}
 use Rattle.si_tool.proofs.laws.genlib_runs_put_their_libraries.Goals as goal
 
 pub returns : goal.returns

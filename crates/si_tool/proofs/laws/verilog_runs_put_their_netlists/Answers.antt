@@ -1,4 +1,4 @@
-use Rattle.si_tool.proofs.VerilogLemmas.{verilog_puts}
+use Rattle.si_tool.proofs.RunVerilog.{verilog_puts}
 use Rattle.si_tool.proofs.laws.verilog_runs_put_their_netlists.Goals as goal
 
 pub returns : goal.returns

@@ -3,8 +3,8 @@ use Rattle.std.proofs.lemmas.List.{length-map, map-append}
 use Rattle.std.proofs.Math.Seq.{take-length}
 use Rattle.si_tool.specs.Loads.{loads}
 use Rattle.si_tool.specs.Reads.{names_now, texts_now}
-use Rattle.si_tool.proofs.CallLemmas.{next_loaded, stops_there, first_loaded, all_are, stops_loading}
-use Rattle.si_tool.proofs.ItemLemmas.{cut_at, one_more_name}
+use Rattle.si_tool.proofs.OutputCalls.{next_loaded, stops_there, first_loaded, all_are, stops_loading}
+use Rattle.si_tool.proofs.ReadsLemmas.{cut_at, one_more_name}
 use Rattle.si_tool.proofs.output.load_all.Goals as goal
 
 pub returns-in_err-text-clause-err : goal.returns-in_err-text-clause-err

@@ -1,5 +1,5 @@
 use Rattle.si_tool.specs.Reads.{names_now, texts_now}
-use Rattle.si_tool.proofs.CallLemmas.{IsLoadedTo}
+use Rattle.si_tool.proofs.OutputCalls.{IsLoadedTo}
 use Rattle.si_tool.proofs.output.load_all.Given as goal
 
 -- the files so far were loaded

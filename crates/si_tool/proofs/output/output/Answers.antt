@@ -3,7 +3,7 @@ use Rattle.std.proofs.lemmas.List.{length-map}
 use Rattle.si_tool.specs.Loads.{loads}
 use Rattle.si_tool.specs.Reads.{names_now, request_of, texts_now}
 use Rattle.si_tool.proofs.LoadLemmas.{loads_as_many}
-use Rattle.si_tool.proofs.CallLemmas.{not_loaded, stops_command, came_ok, came_err}
+use Rattle.si_tool.proofs.OutputCalls.{not_loaded, stops_command, came_ok, came_err}
 use Rattle.si_tool.proofs.output.output.Goals as goal
 
 pub returns-in_err-texts-clause-err : goal.returns-in_err-texts-clause-err

@@ -1,6 +1,6 @@
 use Rattle.std.proofs.Common.{◌≡◌, ◌∙◌, length}
-use Rattle.si_tool.proofs.ItemLemmas.{one_name, two_names, three_names, one_text, two_texts, three_texts}
-use Rattle.si_tool.proofs.TaskLemmas.{two_files}
+use Rattle.si_tool.proofs.ReadsLemmas.{one_name, two_names, three_names, one_text, two_texts, three_texts}
+use Rattle.si_tool.proofs.CommandTasks.{two_files}
 use Rattle.si_tool.proofs.output.output_of_texts.Goals as goal
 
 pub returns-in-Tell-clause-ok : goal.returns-in-Tell-clause-ok

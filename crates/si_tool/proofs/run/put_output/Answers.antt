@@ -1,5 +1,5 @@
 use Rattle.std.proofs.Common.{refl}
-use Rattle.si_readings.proofs.HandedOn.{handed_on}
+use Rattle.si_readings.proofs.ReadingRefusals.{handed_on}
 use Rattle.si_tool.specs.Loads.{loads}
 use Rattle.si_tool.specs.Reads.{request_of}
 use Rattle.si_tool.specs.Run.{change, MayEnd, NoneLoaded, FirstLoaded}

@@ -1,4 +1,4 @@
-use Rattle.si_walks.proofs.Takings.{takes_inputs}
+use Rattle.si_walks.proofs.WalkEvents.{takes_inputs}
 use Rattle.si_walks.proofs.arcs.takes.Goals as goal
 
 pub returns-in-OfInputs : goal.returns-in-OfInputs

@@ -1,7 +1,7 @@
 use Rattle.std.proofs.Common.{◌≡◌, ℕ, ◌∙◌, sym, subst, arith, length}
 use Rattle.std.proofs.lemmas.Bool.{true≢false}
 use Rattle.si_walks.specs.Sources.{IsNearestOrNone}
-use Rattle.si_walks.proofs.Nearest.{none_yet, better, no_better}
+use Rattle.si_walks.proofs.SourceNearest.{none_yet, better, no_better}
 use Rattle.si_walks.proofs.sources.nearest.Goals as goal
 use Rattle.si_walks.proofs.sources.nearest.Goals.{then-has_fewer, else-has_fewer}
 

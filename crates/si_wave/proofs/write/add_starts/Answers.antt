@@ -2,7 +2,7 @@ use Rattle.std.proofs.Common.{ℕ, Bool, List, ◌++◌, ap, ◌∙◌}
 use Rattle.si_base.specs.Words.{line}
 use Rattle.si_wave.specs.Dump.{change_line}
 use Rattle.si_wave.specs.Wave.{change_of}
-use Rattle.si_wave.proofs.WritingLemmas.{starts_more}
+use Rattle.si_wave.proofs.WriteLemmas.{starts_more}
 use Rattle.si_wave.proofs.write.add_starts.Goals as goal
 
 pub loop-i-preserved : goal.loop-i-preserved

@@ -1,7 +1,7 @@
 use Rattle.std.proofs.Common.{codes}
 use Rattle.si_words.proofs.WritingLemmas.{left_as}
 use Rattle.si_wave.specs.Wave.{wire_code}
-use Rattle.si_wave.proofs.WritingLemmas.{wire_parts}
+use Rattle.si_wave.proofs.WriteLemmas.{wire_parts}
 use Rattle.si_wave.proofs.write.add_wire.Goals as goal
 
 pub returns : goal.returns

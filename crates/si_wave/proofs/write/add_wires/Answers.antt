@@ -2,7 +2,7 @@ use Rattle.std.proofs.Common.{ℕ, List, ◌++◌, ap, ◌∙◌}
 use Rattle.si_base.specs.Words.{line}
 use Rattle.si_wave.specs.Dump.{wire_line}
 use Rattle.si_wave.specs.Wave.{wire_code}
-use Rattle.si_wave.proofs.WritingLemmas.{wires_more}
+use Rattle.si_wave.proofs.WriteLemmas.{wires_more}
 use Rattle.si_wave.proofs.write.add_wires.Goals as goal
 
 pub loop-i-preserved : goal.loop-i-preserved

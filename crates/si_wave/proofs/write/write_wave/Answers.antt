@@ -1,4 +1,4 @@
-use Rattle.si_wave.proofs.WritingLemmas.{text_by_calls}
+use Rattle.si_wave.proofs.WriteLemmas.{text_by_calls}
 use Rattle.si_wave.proofs.write.write_wave.Goals as goal
 
 pub returns : goal.returns

@@ -1,5 +1,5 @@
 use Rattle.std.proofs.Common.{◌∙◌, Bool, count_by, sym, ap}
-use Rattle.si_candidates.proofs.SetTests.{same_set-not}
+use Rattle.si_candidates.proofs.BlockSameSets.{same_set-not}
 use Rattle.si_candidates.proofs.block.Block.is_same.Goals as goal
 
 pub returns-then-self-other : goal.returns-then-self-other

@@ -2,10 +2,10 @@ use Rattle.std.proofs.Common.{◌∙◌, [], length, map, ap, subst, sym, arith}
 use Rattle.std.proofs.lemmas.List.{nil_from_length, length_push}
 use Rattle.si_base.specs.Graph.{StateGraph}
 use Rattle.si_graph.specs.Reach.{unmarked}
-use Rattle.si_candidates.specs.Parts.{IsTorn}
+use Rattle.si_candidates.specs.Parts.{HasBothLevels}
 use Rattle.si_candidates.specs.Raising.{is_high}
 use Rattle.si_candidates.proofs.BlockStates.{states_below}
-use Rattle.si_candidates.proofs.Flooding.{Floods, flood_starts, flood_more, flood_torn, flood_ends, less_left}
+use Rattle.si_candidates.proofs.RaisingSpread.{Floods, flood_starts, flood_more, flood_torn, flood_ends, less_left}
 use Rattle.si_candidates.proofs.raising.Raising.part.Goals as goal
 
 pub begin-requires-clause-rising : goal.begin-requires-clause-rising
@@ -51,7 +51,7 @@ returns-then-not-branch-clause-torn c =
     let waiting = rw c.in-Some.ensures.items at c.loop-s.invariant in
     let torn = flood_torn c.graph-g.result.now plus minus s c.loop-s.self.classes.items c.pop.new.self.items waiting
     (c.in_ok-follow.ensures.torn c.if-not-branch.true) in
-    λ _. (s, subst (λ (h : StateGraph). IsTorn h plus minus s) c.graph-g.ensures.same torn)
+    λ _. (s, subst (λ (h : StateGraph). HasBothLevels h plus minus s) c.graph-g.ensures.same torn)
 
 pub returns-clause-parted : goal.returns-clause-parted
 returns-clause-parted c =

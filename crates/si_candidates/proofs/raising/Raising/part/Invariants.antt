@@ -1,7 +1,7 @@
 use Rattle.std.proofs.Common.{◌+◌, length, map}
 use Rattle.si_graph.specs.Reach.{unmarked}
 use Rattle.si_candidates.specs.Raising.{is_high}
-use Rattle.si_candidates.proofs.Flooding.{Floods}
+use Rattle.si_candidates.proofs.RaisingSpread.{Floods}
 use Rattle.si_candidates.proofs.raising.Raising.part.Given as goal
 
 abbrev pub invariant-loop-s : goal.invariant-loop-s

@@ -6,7 +6,7 @@ use Rattle.si_regions.specs.Connected.{Adjoins}
 use Rattle.si_candidates.specs.Raising.{is_high}
 use Rattle.si_candidates.proofs.RaisingLemmas.{raises_both, not_torn}
 use Rattle.si_candidates.proofs.BlockStates.{states_below}
-use Rattle.si_candidates.proofs.Flooding.{flood_starts, spread_more, spread_ends, less_left}
+use Rattle.si_candidates.proofs.RaisingSpread.{flood_starts, spread_more, spread_ends, less_left}
 use Rattle.si_candidates.proofs.raising.Raising.raise_all.Goals as goal
 
 pub begin-requires-clause-rising : goal.begin-requires-clause-rising

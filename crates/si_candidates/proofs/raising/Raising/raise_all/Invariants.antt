@@ -1,7 +1,7 @@
 use Rattle.std.proofs.Common.{◌+◌, length, map}
 use Rattle.si_graph.specs.Reach.{unmarked}
 use Rattle.si_candidates.specs.Raising.{is_high}
-use Rattle.si_candidates.proofs.Flooding.{Spreads}
+use Rattle.si_candidates.proofs.RaisingSpread.{Spreads}
 use Rattle.si_candidates.proofs.raising.Raising.raise_all.Given as goal
 
 abbrev pub invariant-loop-s : goal.invariant-loop-s

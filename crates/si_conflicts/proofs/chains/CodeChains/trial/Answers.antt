@@ -4,8 +4,8 @@ use Rattle.si_conflicts.proofs.RingLemmas.{few_given}
 use Rattle.si_conflicts.proofs.LeftCount.{trial_found}
 use Rattle.si_conflicts.proofs.chains.CodeChains.trial.Goals as goal
 
-pub told_apart-told-requires-clause-few : goal.told_apart-told-requires-clause-few
-told_apart-told-requires-clause-few c = few_given c.args.graph.now c.coded.result.now c.args.self.now.next
+pub count_stable-told-requires-clause-few : goal.count_stable-told-requires-clause-few
+count_stable-told-requires-clause-few c = few_given c.args.graph.now c.coded.result.now c.args.self.now.next
     c.args.self.now.members c.as_slice-members.result.now c.requires.chains.members_are c.coded.ensures.same
     c.graph-given.ensures.coded (c.as_slice-members.ensures.value ∙ ap (λ (x : Chains). x.members) c.self.view_is)
 
@@ -16,11 +16,11 @@ count_switching-requires-clause-few c = few_given c.args.graph.now c.coded.resul
 
 pub returns-clause-conflicts : goal.returns-clause-conflicts
 returns-clause-conflicts c =
-    let few = c.told_apart-told.ensures.few in
-    let told = c.told_apart-told.ensures.all (omega (arith, few)) in
+    let few = c.count_stable-told.ensures.few in
+    let told = c.count_stable-told.ensures.all (omega (arith, few)) in
     let members_are = c.as_slice-members.ensures.value ∙ ap (λ (x : Chains). x.members) c.self.view_is in
     trial_found c.args.graph.now c.args.accepted.now c.args.self.now.next c.args.self.now.members
     c.coded.result.now c.graph-given.result.now c.classes-classes.result.now c.as_slice-members.result.now
-    c.told_apart-told.result c.in_ok-rest.rest c.coded.ensures.same c.graph-given.ensures.same
+    c.count_stable-told.result c.in_ok-rest.rest c.coded.ensures.same c.graph-given.ensures.same
     (c.classes-classes.ensures ∙ c.partition.ensures) members_are c.graph-given.ensures.coded
     c.requires.accepted.lawful c.requires.chains.rings c.requires.chains.members_are told c.in_ok-rest.ensures.count

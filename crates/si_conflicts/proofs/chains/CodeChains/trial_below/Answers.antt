@@ -4,8 +4,8 @@ use Rattle.si_conflicts.proofs.RingLemmas.{few_given}
 use Rattle.si_conflicts.proofs.LeftCount.{trial_found, none_below, below_is, below_none}
 use Rattle.si_conflicts.proofs.chains.CodeChains.trial_below.Goals as goal
 
-pub told_apart-told-requires-clause-few : goal.told_apart-told-requires-clause-few
-told_apart-told-requires-clause-few c = few_given c.args.graph.now c.coded.result.now c.args.self.now.next
+pub count_stable-told-requires-clause-few : goal.count_stable-told-requires-clause-few
+count_stable-told-requires-clause-few c = few_given c.args.graph.now c.coded.result.now c.args.self.now.next
     c.args.self.now.members c.as_slice-members.result.now c.requires.chains.members_are c.coded.ensures.same
     c.graph-given.ensures.coded (c.as_slice-members.ensures.value ∙ ap (λ (x : Chains). x.members) c.self.view_is)
 
@@ -20,28 +20,29 @@ returns-then-told-bar-clause-none c =
     none_below c.args.graph.now c.args.classes.now c.args.self.now.next c.args.self.now.members c.coded.result.now
     c.as_slice-members.result.now c.args.bar c.coded.ensures.same members_are c.graph-given.ensures.coded
     c.requires.lawful c.requires.chains.rings c.requires.chains.members_are
-    (c.told_apart-told.ensures.more c.if-told-bar.true)
+    (c.count_stable-told.ensures.more c.if-told-bar.true)
 
 pub returns-clause-fewer : goal.returns-clause-fewer
 returns-clause-fewer c =
     let members_are = c.as_slice-members.ensures.value ∙ ap (λ (x : Chains). x.members) c.self.view_is in
-    let told = c.told_apart-told.ensures.all c.if-told-bar.false in
+    let told = c.count_stable-told.ensures.all c.if-told-bar.false in
     let left = trial_found c.args.graph.now c.args.classes.now c.args.self.now.next c.args.self.now.members
     c.coded.result.now c.graph-given.result.now c.args.classes.now c.as_slice-members.result.now
-    c.told_apart-told.result c.in_ok-rest.rest c.coded.ensures.same c.graph-given.ensures.same refl members_are
+    c.count_stable-told.result c.in_ok-rest.rest c.coded.ensures.same c.graph-given.ensures.same refl members_are
     c.graph-given.ensures.coded c.requires.lawful c.requires.chains.rings c.requires.chains.members_are told
     c.in_ok-rest.ensures.count in
-    below_is c.args.graph.now c.args.classes.now (c.told_apart-told.result + c.in_ok-rest.rest) c.args.bar
+    below_is c.args.graph.now c.args.classes.now (c.count_stable-told.result + c.in_ok-rest.rest) c.args.bar
     c.below.result left c.below.ensures.some
 
 pub returns-clause-none : goal.returns-clause-none
 returns-clause-none c =
     let members_are = c.as_slice-members.ensures.value ∙ ap (λ (x : Chains). x.members) c.self.view_is in
-    let told = c.told_apart-told.ensures.all c.if-told-bar.false in
+    let told = c.count_stable-told.ensures.all c.if-told-bar.false in
     let left = trial_found c.args.graph.now c.args.classes.now c.args.self.now.next c.args.self.now.members
     c.coded.result.now c.graph-given.result.now c.args.classes.now c.as_slice-members.result.now
-    c.told_apart-told.result c.in_ok-rest.rest c.coded.ensures.same c.graph-given.ensures.same refl members_are
+    c.count_stable-told.result c.in_ok-rest.rest c.coded.ensures.same c.graph-given.ensures.same refl members_are
     c.graph-given.ensures.coded c.requires.lawful c.requires.chains.rings c.requires.chains.members_are told
     c.in_ok-rest.ensures.count in
     below_none c.args.graph.now c.coded.result.now c.coded.ensures.same c.graph-given.ensures.coded c.args.classes.now
-    c.requires.lawful (c.told_apart-told.result + c.in_ok-rest.rest) c.args.bar c.below.result left c.below.ensures.none
+    c.requires.lawful (c.count_stable-told.result + c.in_ok-rest.rest) c.args.bar c.below.result left
+    c.below.ensures.none

@@ -4,7 +4,7 @@ use Rattle.si_base.specs.Bits.{bit}
 use Rattle.si_base.specs.Graph.{StateGraph}
 use Rattle.si_base.specs.Codes.{CodedGraph, code}
 use Rattle.si_insert.specs.Lineage.{History}
-use Rattle.si_insert.proofs.Growing.{code_small, few_now}
+use Rattle.si_insert.proofs.LineageGrowth.{code_small, few_now}
 use Rattle.si_insert.proofs.lineage.Lineage.bits.Goals as goal
 
 pub from_bit-requires-clause-fits : goal.from_bit-requires-clause-fits

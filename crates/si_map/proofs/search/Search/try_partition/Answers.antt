@@ -1,4 +1,4 @@
-use Rattle.si_insert.proofs.Accepting.{rejected_is_not}
+use Rattle.si_insert.proofs.AcceptedByTests.{rejected_is_not}
 use Rattle.si_map.proofs.SearchLemmas.{refused, known, kept_tried, kept_best}
 use Rattle.si_map.proofs.search.Search.try_partition.Goals as goal
 

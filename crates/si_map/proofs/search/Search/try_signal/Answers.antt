@@ -4,7 +4,7 @@ use Rattle.si_cell.specs.Library.{Instance, IsInstance}
 use Rattle.si_checks.specs.Lent.{lent_graph}
 use Rattle.si_map.specs.Progress.{AreKnown, IsSearching}
 use Rattle.si_map.proofs.SearchSignals.{unfit_by, next_divisor, end_signal, pass_fitted}
-use Rattle.si_map.proofs.DivisorFacts.{all_instances, is_instance}
+use Rattle.si_map.proofs.BestDivisors.{all_instances, is_instance}
 use Rattle.si_map.proofs.search.Search.try_signal.Goals as goal
 
 pub returns-then-is_some-clause-after : goal.returns-then-is_some-clause-after

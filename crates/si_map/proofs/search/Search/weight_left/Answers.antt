@@ -1,6 +1,6 @@
 use Rattle.std.proofs.Common.{◌∙◌, ap}
 use Rattle.si_base.specs.Codes.{CodedGraph}
-use Rattle.si_map.proofs.KeptFits.{kept_known}
+use Rattle.si_map.proofs.WaitingFits.{kept_known}
 use Rattle.si_map.proofs.SearchLemmas.{below_left, conflict_left, free_left, inserted_free, none_below_left}
 use Rattle.si_map.proofs.search.Search.weight_left.Goals as goal
 

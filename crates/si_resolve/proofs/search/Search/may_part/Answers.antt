@@ -1,6 +1,6 @@
 use Rattle.std.proofs.Common.{◌≤◌, ◌∙◌, ℕ, arith, sym, inl, inr}
 use Rattle.std.proofs.lemmas.Bool.{cases_lt, true≢false}
-use Rattle.si_resolve.specs.Aspects.{column_at, unparted}
+use Rattle.si_resolve.specs.Aspects.{column_at, unparted_count}
 use Rattle.si_resolve.specs.Progress.{bar_of}
 use Rattle.si_resolve.proofs.SearchLemmas.{none_by_aspects, one_flag, other_flag, same_lengths}
 use Rattle.si_resolve.proofs.search.Search.may_part.Goals as goal
@@ -25,7 +25,7 @@ pub returns : goal.returns
 returns c = λ refused.
     let r = c.requires in
     let list = c.args.list.now in
-    let left : ℕ = unparted (column_at list.columns.items c.args.i) (column_at list.columns.items c.args.j) in
+    let left : ℕ = unparted_count (column_at list.columns.items c.args.i) (column_at list.columns.items c.args.j) in
     let enough : bar_of c.args.self.now ≤ left =
     elim (cases_lt left c.bar.result) [
       | inl fewer ↦ absurd (true≢false (sym (c.leaves_below.ensures.1 fewer) ∙ refused))

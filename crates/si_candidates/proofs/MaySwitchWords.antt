@@ -1,0 +1,387 @@
+-- Where a new signal may switch, for many sets at once: what the bits of words say.
+use Rattle.std.proofs.Common.{◌≡◌, ◌≢◌, ℕ, ◌+◌, ◌-◌, ◌*◌, ◌%◌, ◌^◌, ◌<◌, ◌≤◌, ◌==◌, ◌&&◌, ◌||◌, min, not}
+use Rattle.std.proofs.Common.{Bool, true, false, List, [], ◌∷◌, ◌++◌, length, get_or, set, Contains, Option}
+use Rattle.std.proofs.Common.{refl, sym, ap, subst, ◌∙◌, arith, inl, inr, ◌⊎◌, ◌↔◌, bit_and, bit_or}
+use Rattle.std.proofs.Common.{get_or-set_same, get_or-set_other}
+use Rattle.std.proofs.lemmas.Bool.{cases_eq, cases_Bool, true≢false, and_parts, and_from}
+use Rattle.std.proofs.lemmas.List.{get_or_default, length-map}
+use Rattle.std.proofs.lemmas.List.{get_or_push, get_or_append_left, length_push}
+use Rattle.std.proofs.lemmas.Nat.Bits.{bit_at_and, bit_at-lt, bit_at_not, bit_at_set_same, bit_at_set_other}
+use Rattle.std.specs.Int.{bit_at, w128}
+use Rattle.si_base.specs.declared.graph.Edge.{Edge}
+use Rattle.si_base.specs.Bits.{bit}
+use Rattle.si_base.specs.Codes.{IsDeterministic}
+use Rattle.si_base.specs.Graph.{StateGraph, IsGraph, IsNonInput, Step}
+use Rattle.si_base.specs.Sets.{IsIn}
+use Rattle.si_graph.specs.Arcs.{edge_at, no_edge, IsFirstPlace, IsInto}
+use Rattle.si_graph.proofs.ClosureLemmas.{place_in_walk, later_place}
+use Rattle.si_graph.proofs.ValueLemmas.{bit-or}
+use Rattle.si_closures.specs.WordSearch.{column, HasBit}
+use Rattle.si_closures.proofs.WordSearchLemmas.{in_column}
+use Rattle.si_closures.proofs.WordLemmas.{full_bit}
+use Rattle.si_candidates.specs.Blocks.{block_at}
+use Rattle.si_candidates.specs.Blocking.{MaySwitch, MayPass, MayLeave, KeepsExit}
+use Rattle.si_candidates.specs.ManySets.{AreToldBelow, ArePacked, Tells, TellsOf}
+use Rattle.si_candidates.proofs.BlockStates.{same_sets}
+use Rattle.si_candidates.proofs.MaySwitchArcs.{AreKept, kept_none, kept_more, kept_all, switch_passes, passes_switch}
+use Rattle.si_candidates.proofs.MaySwitchArcs.{keeps_at}
+
+-- ---- bits
+below_two : (n : ℕ) → n < 2 → (n ≡ 0) ⊎ (n ≡ 1)
+below_two n h = grind arith
+
+least_bit : (x y : ℕ) → x < 2 → y < 2 → (min x y == 1) ≡ ((x == 1) && (y == 1))
+least_bit x y lx ly = elim (below_two x lx) [
+  | inl x0 ↦ elim (below_two y ly) [ inl y0 ↦ rw (x0, y0) refl | inr y1 ↦ rw (x0, y1) refl ]
+  | inr x1 ↦ elim (below_two y ly) [ inl y0 ↦ rw (x1, y0) refl | inr y1 ↦ rw (x1, y1) refl ]
+]
+
+other_bit : (x : ℕ) → x < 2 → (1 - x == 1) ≡ not (x == 1)
+other_bit x l = elim (below_two x l) [ inl zero ↦ rw zero refl | inr one ↦ rw one refl ]
+
+and_bits : (x y k : ℕ) → bit (bit_and x y) k ≡ (bit x k && bit y k)
+and_bits x y k =
+    rw (bit_at_and x y k) (least_bit (bit_at x k) (bit_at y k) (bit_at-lt x k) (bit_at-lt y k))
+
+pub and_is : (x y k : ℕ) → (bit (bit_and x y) k ≡ true) ↔ ((bit x k ≡ true) × (bit y k ≡ true))
+and_is x y k = (
+  λ h. and_parts (bit x k) (bit y k) (sym (and_bits x y k) ∙ h),
+  λ (one, other). and_bits x y k ∙ and_from (bit x k) (bit y k) one other,
+)
+
+or_cases : (a b : Bool) → (a || b) ≡ true → (a ≡ true) ⊎ (b ≡ true)
+or_cases true b h = inl refl
+or_cases false b h = inr h
+
+or_from : (a b : Bool) → (a ≡ true) ⊎ (b ≡ true) → (a || b) ≡ true
+or_from true b h = refl
+or_from false b (inl h) = absurd (true≢false (sym h))
+or_from false b (inr h) = h
+
+pub or_is : (x y k : ℕ) → (bit (bit_or x y) k ≡ true) ↔ ((bit x k ≡ true) ⊎ (bit y k ≡ true))
+or_is x y k = (
+  λ h. or_cases (bit x k) (bit y k) (sym (bit-or x y k) ∙ h),
+  λ h. bit-or x y k ∙ or_from (bit x k) (bit y k) h,
+)
+
+not_from : (b : Bool) → (b ≡ true → ⊥) → not b ≡ true
+not_from true h = absurd (h refl)
+not_from false h = refl
+
+not_true : (b : Bool) → not b ≡ true → b ≡ true → ⊥
+not_true true h is = true≢false (sym h)
+not_true false h is = true≢false (sym is)
+
+pub not_is : (x k : ℕ) → x < 2 ^ 128 → k < 128
+    → (bit (2 ^ 128 - 1 - x) k ≡ true) ↔ (bit x k ≡ true → ⊥)
+not_is x k fits few = (
+  λ h. not_true (bit x k) (sym flipped ∙ h),
+  λ h. flipped ∙ not_from (bit x k) h,
+)
+  where
+    flipped : bit (2 ^ 128 - 1 - x) k ≡ not (bit x k)
+    flipped = ap (λ b. b == 1) (bit_at_not w128 x k fits few) ∙ other_bit (bit_at x k) (bit_at-lt x k)
+
+-- ---- one arc
+module _ (g : StateGraph) (words : List ℕ) (a : Edge) (given x y : ℕ) (x_fits : x < 2 ^ 128)
+    (x_is : x ≡ get_or words a.from 0) (y_is : y ≡ get_or words a.to 0) where
+  abbrev pub stays : ℕ
+  stays = bit_and given (bit_or (2 ^ 128 - 1 - x) y)
+
+  abbrev Passes : ℕ → Type 0
+  Passes k = IsIn (column k words) a.from → MayPass g (IsIn (column k words)) a
+
+  begins : (k : ℕ) → (bit x k ≡ true) ↔ IsIn (column k words) a.from
+  begins k = (
+    λ h. (in_column k words a.from).1 (ap (λ w. bit w k) (sym x_is) ∙ h),
+    λ here. ap (λ w. bit w k) x_is ∙ (in_column k words a.from).0 here,
+  )
+
+  ends : (k : ℕ) → (bit y k ≡ true) ↔ IsIn (column k words) a.to
+  ends k = (
+    λ h. (in_column k words a.to).1 (ap (λ w. bit w k) (sym y_is) ∙ h),
+    λ here. ap (λ w. bit w k) y_is ∙ (in_column k words a.to).0 here,
+  )
+
+  -- a set from which the arc doesn't lead out
+  stay_passes : (k : ℕ) → k < 128 → bit stays k ≡ true → (bit given k ≡ true) × Passes k
+  stay_passes k few h =
+      let parts = (and_is given (bit_or (2 ^ 128 - 1 - x) y) k).0 h in (
+        parts.0,
+        λ here out. absurd (elim ((or_is (2 ^ 128 - 1 - x) y k).0 parts.1) [
+          | inl not_here ↦ (not_is x k x_fits few).0 not_here ((begins k).1 here)
+          | inr there ↦ out ((ends k).0 there)
+        ]),
+      )
+
+  pub all_stay : stays ≡ given → TellsOf given words (λ set. IsIn set a.from → MayPass g (IsIn set) a) given
+  all_stay same k few = (λ h. stay_passes k few (ap (λ w. bit w k) same ∙ h), λ (h, passes). h)
+
+  module _ (leave : ℕ) (tells : Tells words (λ set. MayLeave g (IsIn set) a) leave) where
+    abbrev left : ℕ
+    left = bit_or stays (bit_and given leave)
+
+    leaves : (k : ℕ) → k < 128 → bit (bit_and given leave) k ≡ true → (bit given k ≡ true) × Passes k
+    leaves k few h =
+        let parts = (and_is given leave k).0 h in (parts.0, λ here out. (tells k few).0 parts.1)
+
+    by_stay : (k : ℕ) → bit given k ≡ true → bit (bit_or (2 ^ 128 - 1 - x) y) k ≡ true → bit left k ≡ true
+    by_stay k has stay =
+        (or_is stays (bit_and given leave) k).1 (inl ((and_is given (bit_or (2 ^ 128 - 1 - x) y) k).1 (has, stay)))
+
+    back : (k : ℕ) → k < 128 → bit given k ≡ true → Passes k → bit left k ≡ true
+    back k few has passes = elim (cases_Bool (bit y k)) [
+      | inl there ↦ by_stay k has ((or_is (2 ^ 128 - 1 - x) y k).1 (inr there))
+      | inr out ↦ elim (cases_Bool (bit x k)) [
+        | inl here ↦ (or_is stays (bit_and given leave) k).1 (inr ((and_is given leave k).1
+            (has, (tells k few).1 (passes ((begins k).0 here) (λ there. true≢false (sym ((ends k).1 there) ∙ out))))))
+        | inr elsewhere ↦ by_stay k has ((or_is (2 ^ 128 - 1 - x) y k).1
+            (inl ((not_is x k x_fits few).1 (λ here. true≢false (sym here ∙ elsewhere)))))
+      ]
+    ]
+
+    pub stay_or_leave : TellsOf given words (λ set. IsIn set a.from → MayPass g (IsIn set) a) left
+    stay_or_leave k few = (
+      λ h. elim ((or_is stays (bit_and given leave) k).0 h) [
+        | inl stay ↦ stay_passes k few stay
+        | inr leave_it ↦ leaves k few leave_it
+      ],
+      λ (has, passes). back k few has passes,
+    )
+
+-- ---- all arcs
+-- the first n arcs pass
+abbrev pub PassBelow : StateGraph → List Bool → ℕ → Type 0
+PassBelow g set n = (j : ℕ) → j < n → j < length g.edges → IsIn set (edge_at g.edges j).from
+    → MayPass g (IsIn set) (edge_at g.edges j)
+
+pub item_at : (g : StateGraph) (arcs : List Edge) (n : ℕ) (a : Edge) → arcs ≡ g.edges → n < length arcs
+    → a ≡ get_or arcs n a → a ≡ edge_at g.edges n
+item_at g arcs n a same inside at = at ∙ ap (λ (es : List Edge). get_or es n a) same
+    ∙ sym (get_or_default g.edges n no_edge a (omega (arith, inside, ap length same)))
+
+module _ (g : StateGraph) (words : List ℕ) where
+  pub no_arc_yet : Tells words (λ set. PassBelow g set 0) (2 ^ 128 - 1)
+  no_arc_yet k few = (λ h j early. absurd (omega arith), λ passes. full_bit k few)
+
+  pub one_arc_more : (n may next : ℕ) (a : Edge) → n < length g.edges → a ≡ edge_at g.edges n
+      → Tells words (λ set. PassBelow g set n) may
+      → TellsOf may words (λ set. IsIn set a.from → MayPass g (IsIn set) a) next
+      → Tells words (λ set. PassBelow g set (n + 1)) next
+  one_arc_more n may next a there is before one k few = (
+    λ h j early inside. elim (cases_eq j n) [
+      | inl same ↦ subst At (is ∙ ap (edge_at g.edges) (sym same)) ((one k few).0 h).1
+      | inr other ↦ (before k few).0 ((one k few).0 h).0 j (omega arith) inside
+    ],
+    λ passes. (one k few).1 (
+      (before k few).1 (λ j early inside. passes j (omega arith) inside),
+      subst At (sym is) (passes n (omega arith) there),
+    ),
+  )
+    where
+      At : Edge → Type 0
+      At b = IsIn (column k words) b.from → MayPass g (IsIn (column k words)) b
+
+  pub all_arcs : (n may : ℕ) → IsGraph g → length g.edges ≤ n → Tells words (λ set. PassBelow g set n) may
+      → Tells words (λ set. MaySwitch g (IsIn set)) may
+  all_arcs n may graph all tells k few = (
+    λ h. passes_switch g (column k words) (λ a there from.
+        subst (λ (b : Edge). MayPass g (IsIn (column k words)) b) (at a there)
+        ((tells k few).0 h there.0 (omega (arith, there.1)) there.1
+        (subst (λ (b : Edge). IsIn (column k words) b.from) (sym (at a there)) from))),
+    λ may_switch. (tells k few).1 (λ j early inside from.
+        switch_passes g (column k words) (edge_at g.edges j) graph may_switch (j, inside, same_at j inside) from),
+  )
+    where
+      at : (a : Edge) → (there : Contains g.edges a) → edge_at g.edges there.0 ≡ a
+      at a there = get_or_default g.edges there.0 no_edge a there.1 ∙ there.2
+
+      same_at : (j : ℕ) → j < length g.edges → get_or g.edges j (edge_at g.edges j) ≡ edge_at g.edges j
+      same_at j inside = get_or_default g.edges j (edge_at g.edges j) no_edge inside
+
+-- ---- the arcs into the source of an exit
+module _ (g : StateGraph) (words : List ℕ) (exit : Edge) where
+  abbrev pub KeptBelow : ℕ → List Bool → Type 0
+  KeptBelow n set = AreKept g set exit n
+
+  pub none_kept_yet : (at : Option ℕ) → IsFirstPlace (IsInto g.edges exit.from) 0 (length g.edges) at
+      → Tells words (KeptBelow (place_in_walk g at)) (2 ^ 128 - 1)
+  none_kept_yet at first k few = (λ h. kept_none g (column k words) exit at first, λ kept. full_bit k few)
+
+  pub one_kept_more : (m kept keep : ℕ) (next : Option ℕ) → (m < length g.edges) × IsInto g.edges exit.from m
+      → IsFirstPlace (IsInto g.edges exit.from) (m + 1) (length g.edges) next → Tells words (KeptBelow m) kept
+      → Tells words (λ set. KeepsExit g (IsIn set) exit (edge_at g.edges m)) keep
+      → Tells words (KeptBelow (place_in_walk g next)) (bit_and kept keep)
+  one_kept_more m kept keep next stands first before here k few = (
+    λ h. (
+        let parts = (and_is kept keep k).0 h in
+        kept_more g (column k words) exit m next first ((here k few).0 parts.1) ((before k few).0 parts.0)),
+    λ all. (
+        let later = later_place g (column k words) exit.from m next stands.0 first in
+        (and_is kept keep k).1 (
+          (before k few).1 (λ j early. all j (omega (arith, early, later))),
+          (here k few).1 (all m later stands.0 stands.1),
+        )),
+  )
+
+  pub may_leave_by : (kept : ℕ) → IsNonInput g.signals exit.event.sig → Tells words (KeptBelow (length g.edges)) kept
+      → Tells words (λ set. MayLeave g (IsIn set) exit) kept
+  may_leave_by kept non_input tells k few = (
+    λ h. record { non_input = non_input; keeps = kept_all g (column k words) exit ((tells k few).0 h) },
+    λ may. (tells k few).1 (λ j early inside into. may.keeps (edge_at g.edges j)
+        (j, inside, get_or_default g.edges j (edge_at g.edges j) no_edge inside) into),
+  )
+
+pub each_keeps : (g : StateGraph) (words : List ℕ) (exit before : Edge)
+    → ((set : List Bool) → KeepsExit g (IsIn set) exit before)
+    → Tells words (λ set. KeepsExit g (IsIn set) exit before) (2 ^ 128 - 1)
+each_keeps g words exit before keeps k few = (λ h. keeps (column k words), λ _. full_bit k few)
+
+module _ (g : StateGraph) (words : List ℕ) (exit before : Edge) (t x y : ℕ) (y_fits : y < 2 ^ 128)
+    (x_is : x ≡ get_or words before.from 0) (y_is : y ≡ get_or words t 0) (one : IsDeterministic g)
+    (step : Step g before.from exit.event t) (apart : before.event ≢ exit.event) where
+  pub keeps_by_bits : Tells words (λ set. KeepsExit g (IsIn set) exit before) (bit_and x (2 ^ 128 - 1 - y))
+  keeps_by_bits k few = (
+    λ h. (
+        let parts = (and_is x (2 ^ 128 - 1 - y) k).0 h in
+        keeps_at g (IsIn (column k words)) exit before t one step
+        ((in_column k words before.from).1 (ap (λ w. bit w k) (sym x_is) ∙ parts.0))
+        (λ there. (not_is y k y_fits few).0 parts.1 (ap (λ w. bit w k) y_is ∙ (in_column k words t).0 there))),
+    λ keeps. (
+        let both = keeps apart t step in
+        (and_is x (2 ^ 128 - 1 - y) k).1 (
+          ap (λ w. bit w k) x_is ∙ (in_column k words before.from).0 both.0,
+          (not_is y k y_fits few).1
+              (λ has. both.1 ((in_column k words t).1 (ap (λ w. bit w k) (sym y_is) ∙ has))),
+        )),
+  )
+
+-- ---- blocks as words
+-- the first n states of the set have bit k, too
+abbrev pub ArePut : List ℕ → ℕ → List Bool → ℕ → List ℕ → Type 0
+ArePut old k set n words = (j s : ℕ) → HasBit words j s ↔ (HasBit old j s ⊎ ((j ≡ k) × (s < n) × IsIn set s))
+
+module _ (words : List ℕ) (k n w : ℕ) (few : k < 128) (inside : n < length words) (is : w ≡ get_or words n 0) where
+  abbrev put_word : ℕ
+  put_word = bit_or w (1 * 2 ^ k % 2 ^ 128)
+
+  abbrev put_words : List ℕ
+  put_words = set words n put_word
+
+  at_place : (j s : ℕ) → s ≡ n → bit (get_or put_words s 0) j ≡ bit put_word j
+  at_place j s same = ap (λ t. bit (get_or put_words t 0) j) same
+      ∙ ap (λ v. bit v j) (get_or-set_same words n put_word 0 inside)
+
+  was_there : (j s : ℕ) → s ≡ n → bit w j ≡ bit (get_or words s 0) j
+  was_there j s same = ap (λ v. bit v j) is ∙ ap (λ t. bit (get_or words t 0) j) (sym same)
+
+  bit_there : (j s : ℕ) → s ≡ n → HasBit put_words j s ↔ (HasBit words j s ⊎ ((j ≡ k) × (s ≡ n)))
+  bit_there j s same = elim (cases_eq j k) [
+    | inl new ↦ (λ h. inr (new, same), λ h. at_place j s same ∙ ap (bit put_word) new ∙ put_there)
+    | inr old ↦ (
+      λ h. inl (sym (was_there j s same) ∙ sym (kept j old) ∙ sym (at_place j s same) ∙ h),
+      λ h. elim h [
+        | inl was ↦ at_place j s same ∙ kept j old ∙ was_there j s same ∙ was
+        | inr (new, there) ↦ absurd (old new)
+      ],
+    )
+  ]
+    where
+      put_there : bit put_word k ≡ true
+      put_there = ap (λ b. b == 1) (bit_at_set_same w128 w k few)
+
+      kept : (i : ℕ) → i ≢ k → bit put_word i ≡ bit w i
+      kept i other = ap (λ b. b == 1) (bit_at_set_other w128 w k few i other)
+
+  bit_elsewhere : (j s : ℕ) → s ≢ n → HasBit put_words j s ↔ (HasBit words j s ⊎ ((j ≡ k) × (s ≡ n)))
+  bit_elsewhere j s other = (
+    λ h. inl (sym same ∙ h),
+    λ h. elim h [ inl was ↦ same ∙ was | inr (new, there) ↦ absurd (other there) ],
+  )
+    where
+      same : bit (get_or put_words s 0) j ≡ bit (get_or words s 0) j
+      same = ap (λ v. bit v j) (get_or-set_other words n s put_word 0 other)
+
+  new_bit : (j s : ℕ) → HasBit put_words j s ↔ (HasBit words j s ⊎ ((j ≡ k) × (s ≡ n)))
+  new_bit j s = elim (cases_eq s n) [ inl same ↦ bit_there j s same | inr other ↦ bit_elsewhere j s other ]
+
+  pub put_one : (old : List ℕ) (set_k : List Bool) → IsIn set_k n → ArePut old k set_k n words
+      → ArePut old k set_k (n + 1) put_words
+  put_one old set_k has before j s = (
+    λ h. elim ((new_bit j s).0 h) [
+      | inl was ↦ elim ((before j s).0 was) [
+        | inl first ↦ inl first
+        | inr (same, early, here) ↦ inr (same, omega (arith, early), here)
+      ]
+      | inr (same, there) ↦ inr (same, omega (arith, there), subst (λ t. IsIn set_k t) (sym there) has)
+    ],
+    λ h. elim h [
+      | inl first ↦ (new_bit j s).1 (inl ((before j s).1 (inl first)))
+      | inr (same, early, here) ↦ (new_bit j s).1 (elim (cases_eq s n) [
+        | inl there ↦ inr (same, there)
+        | inr other ↦ inl ((before j s).1 (inr (same, omega (arith, early, other), here)))
+      ])
+    ],
+  )
+
+pub put_none : (old words : List ℕ) (k n : ℕ) (set : List Bool) → get_or set n false ≡ false
+    → ArePut old k set n words → ArePut old k set (n + 1) words
+put_none old words k n set out before j s = (
+  λ h. elim ((before j s).0 h) [
+    | inl first ↦ inl first
+    | inr (same, early, here) ↦ inr (same, omega (arith, early), here)
+  ],
+  λ h. (before j s).1 (elim h [
+    | inl first ↦ inl first
+    | inr (same, early, here) ↦ elim (cases_eq s n) [
+      | inl there ↦ absurd (true≢false (sym here ∙ ap (λ t. get_or set t false) there ∙ out))
+      | inr other ↦ inr (same, omega (arith, early, other), here)
+    ]
+  ]),
+)
+
+-- ---- block after block
+module _ (states : ℕ) (blocks : List (List Bool)) (first : ℕ) where
+  packed_column : (words : List ℕ) (k : ℕ) → k < 128 → first + k < length blocks
+      → length (block_at blocks (first + k)) ≡ states → ArePacked states blocks first 128 words
+      → column k words ≡ block_at blocks (first + k)
+  packed_column words k few inside size are = same_sets (column k words) (block_at blocks (first + k))
+      (length-map words (λ (w : ℕ). bit w k) ∙ are.size ∙ sym size) (λ s. (
+        λ h. ((are.each k s few).0 ((in_column k words s).0 h)).2,
+        λ here. (in_column k words s).1 ((are.each k s few).1 (few, inside, here)),
+      ))
+
+  pub told_of_block : (g : StateGraph) (words : List ℕ) (word k : ℕ) → k < 128 → first + k < length blocks
+      → length (block_at blocks (first + k)) ≡ states → ArePacked states blocks first 128 words
+      → Tells words (λ set. MaySwitch g (IsIn set)) word
+      → (bit word k ≡ true) ↔ MaySwitch g (IsIn (block_at blocks (first + k)))
+  told_of_block g words word k few inside size are tells =
+      subst (λ (x : List Bool). (bit word k ≡ true) ↔ MaySwitch g (IsIn x))
+      (packed_column words k few inside size are) (tells k few)
+
+-- ---- one flag more
+pub told_more : (g : StateGraph) (blocks : List (List Bool)) (flags : List Bool) (flag : Bool) (m : ℕ)
+    → length flags ≡ m → (flag ≡ true) ↔ MaySwitch g (IsIn (block_at blocks m)) → AreToldBelow g blocks flags
+    → AreToldBelow g blocks (flags ++ flag ∷ [])
+told_more g blocks flags flag m count told before k inside = elim (cases_eq k m) [
+  | inl same ↦ subst At (sym same) (
+    λ h. told.0 (sym last ∙ h),
+    λ may. last ∙ told.1 may,
+  )
+  | inr other ↦ (
+    λ h. (before k (below other)).0 (sym (kept other) ∙ h),
+    λ may. kept other ∙ (before k (below other)).1 may,
+  )
+]
+  where
+    At : ℕ → Type 0
+    At j = (get_or (flags ++ flag ∷ []) j false ≡ true) ↔ MaySwitch g (IsIn (block_at blocks j))
+
+    last : get_or (flags ++ flag ∷ []) m false ≡ flag
+    last = get_or_push flags flag false m count
+
+    below : k ≢ m → k < length flags
+    below other = omega (arith, inside, length_push flags flag, count, other)
+
+    kept : k ≢ m → get_or (flags ++ flag ∷ []) k false ≡ get_or flags k false
+    kept other = get_or_append_left flags (flag ∷ []) false k (below other)

@@ -1,5 +1,0 @@
-use Rattle.si_candidates.specs.ManySets.{ArePacked}
-use Rattle.si_candidates.proofs.may_switch.packed.Given as goal
-
-abbrev pub invariant-loop-k : goal.invariant-loop-k
-invariant-loop-k l = ArePacked l.states l.blocks l.first l.k l.words.items

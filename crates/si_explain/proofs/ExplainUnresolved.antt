@@ -1,0 +1,22 @@
+-- Where input events join a conflict, resolving ends unresolved.
+use Rattle.std.proofs.Common.{◌++◌, inl, inr}
+use Rattle.si_candidates.proofs.BlocksExist.{some_blocks}
+use Rattle.si_insert.proofs.InsertionKeeps.{keeps}
+use Rattle.si_resolve.proofs.EndsExist.{resolving_ends}
+use Rattle.si_resolve.proofs.TraceLemmas.{traces_are_lineages}
+use Rattle.si_walks.proofs.Joined.{never_resolved}
+use Rattle.si_explain.specs.Laws.{JoinedNeverResolve, JoinedEndUnresolved}
+
+pub joined_never_resolve : JoinedNeverResolve
+joined_never_resolve given before trace v w pair lineage joined resolves =
+    never_resolved given (before ++ trace) w pair (traces_are_lineages given before trace v w lineage resolves.goes)
+    joined resolves.done
+
+pub joined_end_unresolved : JoinedEndUnresolved
+joined_end_unresolved given before v pair lineage joined =
+    let kept = keeps given before v lineage in
+    let ends = resolving_ends some_blocks v kept.coded kept.proper in
+    elim ends.2 [
+      | inl resolved ↦ absurd (joined_never_resolve given before ends.0 v ends.1 pair lineage joined resolved)
+      | inr stuck ↦ (ends.0, ends.1, stuck.0, stuck.1)
+    ]

@@ -1,9 +1,0 @@
-use Rattle.std.proofs.Common.{◌≡◌, ◌≤◌, take}
-use Rattle.si_resolve.specs.Aspects.{unparted}
-use Rattle.si_resolve.proofs.aspects.unparted.Given as goal
-
-abbrev pub invariant-loop-k : goal.invariant-loop-k
-invariant-loop-k l = record {
-  left : l.left ≡ unparted (take l.k l.plus) (take l.k l.minus);
-  few : l.left ≤ l.k;
-}

@@ -1,0 +1,133 @@
+-- A command comes to one answer: by its texts, and by its files where they are told.
+use Rattle.std.proofs.Common.{◌≡◌, ℕ, List, [], ◌∷◌, length, Result, Ok, Err, Contains, ap, subst, arith}
+use Rattle.std.proofs.Common.{◌⊎◌, inl, inr}
+use Rattle.si_io.specs.Outside.{Rose}
+use Rattle.si_tool.specs.About.{about_text}
+use Rattle.si_tool.specs.Command.{Request, file_count, form_of, number_of}
+use Rattle.si_tool.specs.Loads.{Contents, Counts, loads, load_well, loads_well, AreTold}
+use Rattle.si_tool.specs.Meaning.{meaning, ComesTo}
+use Rattle.si_refusals.specs.Refusal.{TextRefusal, ReadFault, Answer, Output, FileRefused, TextRefused}
+use Rattle.si_tool.specs.declared.command.Task.{Task}
+use Rattle.si_tool.specs.declared.command.Task.TheVariants.{About, Tell, Synth, Map, FromGenlib, Verilog, Replay, Audit}
+use Rattle.si_tool.specs.declared.command.Task.TheVariants.{Exercise}
+use Rattle.si_tool.specs.declared.command.Task.TheVariants.{Resolve, Insert}
+use Rattle.si_readings.specs.Laws.{AtMostOne, HasResult}
+use Rattle.si_readings.specs.declared.library_format.LibraryFormat.TheVariants.{Own, Genlib}
+use Rattle.si_stages.proofs.AuditLemmas.{audit_one, audit_some}
+use Rattle.si_stages.proofs.ExerciseLemmas.{exercise_one, exercise_some}
+use Rattle.si_stages.proofs.GenlibLemmas.{genlib_one, genlib_some}
+use Rattle.si_stages.proofs.InsertedTexts.{insert_one, insert_some, resolve_one, resolve_some}
+use Rattle.si_stages.proofs.MeaningLemmas.{report_one, synth_one, mapping_one, replay_one}
+use Rattle.si_stages.proofs.MeaningLemmas.{report_some, synth_some, mapping_some, replay_some}
+use Rattle.si_readings.proofs.StageLemmas.{gives_one, gives_some}
+use Rattle.si_stages.proofs.VerilogLemmas.{verilog_one, verilog_some}
+use Rattle.si_tool.proofs.LoadLemmas.{all_one, all_some, all_or_fault, as_many}
+use Rattle.si_tool.proofs.CommandTasks.{few_handshakes}
+
+-- ---- by their texts: to one answer at most
+pub meaning_one : (task : Task) (files texts : List (List ℕ)) → AtMostOne (meaning task files texts)
+meaning_one (About topic) [] [] = gives_one (about_text topic)
+meaning_one (Tell what) (file ∷ []) (text ∷ []) = report_one what file text
+meaning_one (Synth style) (file ∷ []) (text ∷ []) = synth_one style file text
+meaning_one (Map format) (g ∷ l ∷ []) (a ∷ b ∷ []) = mapping_one format g a l b
+meaning_one FromGenlib (file ∷ []) (text ∷ []) = genlib_one file text
+meaning_one Verilog (file ∷ []) (text ∷ []) = verilog_one file text
+meaning_one (Replay what) (g ∷ n ∷ s ∷ []) (a ∷ b ∷ c ∷ []) = replay_one what g a n b s c
+meaning_one Audit (g ∷ n ∷ []) (a ∷ b ∷ []) = audit_one g a n b
+meaning_one Resolve (file ∷ []) (text ∷ []) = resolve_one file text
+meaning_one Insert (g ∷ n ∷ []) (a ∷ b ∷ []) = insert_one g a n b
+meaning_one (Exercise count) [] [] = exercise_one (number_of count)
+meaning_one task files texts = λ a b one other. absurd one
+
+-- ---- and to some answer, where a task has as many files as its form, and each its text
+pub meaning_some : (task : Task) (files texts : List (List ℕ)) → length files ≡ file_count (form_of task)
+    → length texts ≡ length files → HasResult (meaning task files texts)
+meaning_some (About topic) [] [] many each = gives_some (about_text topic)
+meaning_some (Tell what) (file ∷ []) (text ∷ []) many each = report_some what file text
+meaning_some (Synth style) (file ∷ []) (text ∷ []) many each = synth_some style file text
+meaning_some (Map Own) (g ∷ l ∷ []) (a ∷ b ∷ []) many each = mapping_some Own g a l b
+meaning_some (Map Genlib) (g ∷ l ∷ []) (a ∷ b ∷ []) many each = mapping_some Genlib g a l b
+meaning_some FromGenlib (file ∷ []) (text ∷ []) many each = genlib_some file text
+meaning_some Verilog (file ∷ []) (text ∷ []) many each = verilog_some file text
+meaning_some (Replay what) (g ∷ n ∷ s ∷ []) (a ∷ b ∷ c ∷ []) many each = replay_some what g a n b s c
+meaning_some Audit (g ∷ n ∷ []) (a ∷ b ∷ []) many each = audit_some g a n b
+meaning_some Resolve (file ∷ []) (text ∷ []) many each = resolve_some file text
+meaning_some Insert (g ∷ n ∷ []) (a ∷ b ∷ []) many each = insert_some g a n b
+meaning_some (Exercise count) [] [] many each = exercise_some (number_of count) (few_handshakes count)
+meaning_some task files texts many each = absurd (omega (arith, many, each))
+
+-- ---- by their files: to one answer at most
+pub command_one : (content : Contents) (asked : Request) (a b : Answer) → AreTold content asked.files
+    → ComesTo (loads_well content) asked a → ComesTo (loads_well content) asked b → a ≡ b
+command_one content asked a b told = by a b
+  where
+    loaded_one : AtMostOne (loads_well content asked.files)
+    loaded_one = all_one content asked.files told
+
+    texts_one : (texts others : List (List ℕ)) (r q : Result (List ℕ) TextRefusal)
+        → loads_well content asked.files (Ok texts) → loads_well content asked.files (Ok others)
+        → meaning asked.task asked.files texts r → meaning asked.task asked.files others q → r ≡ q
+    texts_one texts others r q one other means also =
+        let same = loaded_one (Ok texts) (Ok others) one other in
+        let same_texts : texts ≡ others = cc in
+        let Means : List (List ℕ) → Type 0 = λ ts. meaning asked.task asked.files ts r in
+        meaning_one asked.task asked.files others r q (subst Means same_texts means) also
+
+    by : (a b : Answer) → ComesTo (loads_well content) asked a → ComesTo (loads_well content) asked b → a ≡ b
+    by (Output t) (Output u) x y = (let same = texts_one x.0 y.0 (Ok t) (Ok u) x.1 y.1 x.2 y.2 in cc)
+    by (Output t) (TextRefused q) x y = (let same = texts_one x.0 y.0 (Ok t) (Err q) x.1 y.1 x.2 y.2 in cc)
+    by (TextRefused r) (Output u) x y = (let same = texts_one x.0 y.0 (Err r) (Ok u) x.1 y.1 x.2 y.2 in cc)
+    by (TextRefused r) (TextRefused q) x y = (let same = texts_one x.0 y.0 (Err r) (Err q) x.1 y.1 x.2 y.2 in cc)
+    by (FileRefused r) (FileRefused q) x y = (let same = loaded_one (Err r) (Err q) x y in cc)
+    by (FileRefused r) (Output u) x y = (let same = loaded_one (Err r) (Ok y.0) x y.1 in cc)
+    by (FileRefused r) (TextRefused q) x y = (let same = loaded_one (Err r) (Ok y.0) x y.1 in cc)
+    by (Output t) (FileRefused q) x y = (let same = loaded_one (Ok x.0) (Err q) x.1 y in cc)
+    by (TextRefused r) (FileRefused q) x y = (let same = loaded_one (Ok x.0) (Err q) x.1 y in cc)
+
+-- where loads may meet faults: to what it comes to without them, or to a fault that was counted
+pub record IsReadFault (before now : Counts) (files : List (List ℕ)) (a : Answer) : Type 0 where
+  pub file : List ℕ
+  pub named : Contains files file
+  pub rose : Rose (before file) (now file)
+  pub is : a ≡ FileRefused (ReadFault file)
+
+texts_well : (content : Contents) (before now : Counts) (files texts : List (List ℕ))
+    → loads content before now files (Ok texts) → loads_well content files (Ok texts)
+texts_well content before now files texts is = elim (all_or_fault content before now files (Ok texts) is) [
+  | inl well ↦ well
+  | inr fault ↦ (let fault_is = fault.is in cc)
+]
+
+pub command_or_fault : (content : Contents) (before now : Counts) (asked : Request) (a : Answer)
+    → ComesTo (loads content before now) asked a
+    → ComesTo (loads_well content) asked a ⊎ IsReadFault before now asked.files a
+command_or_fault content before now asked (Output t) is =
+    inl (is.0, texts_well content before now asked.files is.0 is.1, is.2)
+command_or_fault content before now asked (TextRefused r) is =
+    inl (is.0, texts_well content before now asked.files is.0 is.1, is.2)
+command_or_fault content before now asked (FileRefused r) is =
+    elim (all_or_fault content before now asked.files (Err r) is) [
+      | inl well ↦ inl well
+      | inr fault ↦ (
+          let fault_is = fault.is in
+          let same : r ≡ ReadFault fault.file = cc in
+          inr (record { file = fault.file; named = fault.named; rose = fault.rose; is = ap FileRefused same })
+          )
+    ]
+
+-- ---- told files come to some answer
+pub command_some : (content : Contents) (asked : Request)
+    → length asked.files ≡ file_count (form_of asked.task) → AreTold content asked.files
+    → (a : Answer) × ComesTo (loads_well content) asked a
+command_some content asked many told = go (all_some content asked.files told)
+  where
+    answered : (texts : List (List ℕ)) → loads_well content asked.files (Ok texts)
+        → HasResult (meaning asked.task asked.files texts) → (a : Answer) × ComesTo (loads_well content) asked a
+    answered texts are (Ok output, means) = (Output output, (texts, are, means))
+    answered texts are (Err refusal, means) = (TextRefused refusal, (texts, are, means))
+
+    go : HasResult (loads_well content asked.files) → (a : Answer) × ComesTo (loads_well content) asked a
+    go (Err refusal, is) = (FileRefused refusal, is)
+    go (Ok texts, is) =
+        answered texts is (meaning_some asked.task asked.files texts many
+        (as_many (load_well content) asked.files texts is))

@@ -1,0 +1,46 @@
+-- What a run of `audit` puts on `out`.
+use Rattle.std.proofs.Common.{◌≡◌, ℕ, List, [], ◌∷◌, Ok, String, Global, subst}
+use Rattle.si_io.specs.Outside.{Appends}
+use Rattle.si_refusals.specs.Refusal.{Output}
+use Rattle.si_refusals.specs.declared.status.Status.{Status}
+use Rattle.si_refusals.specs.declared.status.Status.TheVariants as status
+use Rattle.si_stages.proofs.AuditLemmas.{output_certified}
+use Rattle.si_tool.specs.Command.{Request, Asks}
+use Rattle.si_tool.specs.Laws.{PutsAudit}
+use Rattle.si_tool.specs.Loads.{Contents, Counts, loads}
+use Rattle.si_tool.specs.Meaning.{ComesTo, meaning}
+use Rattle.si_tool.specs.Run.{SinkChange, Ends}
+use Rattle.si_tool.specs.declared.command.Task.TheVariants.{Audit}
+use Rattle.si_tool.proofs.FormOverlap.{one_request}
+use Rattle.si_tool.proofs.RunLemmas.{ends_done}
+
+abbrev audit_of : (graph netlist : List ℕ) → Request
+audit_of graph netlist = record { task = Audit; files = graph ∷ netlist ∷ [] }
+
+-- each of the two files has one text
+puts_audit : (content : Contents) (before now : Counts) (graph netlist : List ℕ) (out : SinkChange)
+    (output : List ℕ) (texts : List (List ℕ)) → loads content before now (graph ∷ netlist ∷ []) (Ok texts)
+    → meaning Audit (graph ∷ netlist ∷ []) texts (Ok output) → Appends out.old output out.new
+    → PutsAudit content before now graph netlist out
+puts_audit content before now graph netlist out output [] loaded means written = absurd means
+puts_audit content before now graph netlist out output (a ∷ []) loaded means written = absurd means
+puts_audit content before now graph netlist out output (a ∷ b ∷ []) loaded means written = record {
+  graph_text = a;
+  netlist_text = b;
+  loaded = loaded;
+  output = output;
+  certified = output_certified graph a netlist b output means;
+  written = written;
+}
+puts_audit content before now graph netlist out output (a ∷ b ∷ c ∷ texts) loaded means written = absurd means
+
+pub audit_puts : (words : List (String Global)) (content : Contents) (before now : Counts) (out err : SinkChange)
+    (result : Status) (graph netlist : List ℕ) → Asks words (audit_of graph netlist)
+    → Ends words (loads content before now) out err result → result ≡ status.Done
+    → PutsAudit content before now graph netlist out
+audit_puts words content before now out err result graph netlist asks ends is =
+    let done = ends_done words (loads content before now) out err result ends is in
+    let same = one_request words done.comes.asked (audit_of graph netlist) done.comes.asks asks in
+    let comes = subst (λ (a : Request). ComesTo (loads content before now) a (Output done.output)) same
+    done.comes.comes in
+    puts_audit content before now graph netlist out done.output comes.0 comes.1 comes.2 done.written
