@@ -157,7 +157,8 @@ module _ (stops : List Event) (n : ℕ) (x : Event) (inside : n < length stops) 
       ];
       barred = λ k p has b. elim (apart_or_there k p) [
         | inl apart ↦ before.barred k p
-            (sym (same_bit k p (let early = b.early in omega (arith, early, few)) apart) ∙ has) (barred_before k p apart b)
+            (sym (same_bit k p (let early = b.early in omega (arith, early, few)) apart) ∙ has)
+            (barred_before k p apart b)
         | inr (equal, same) ↦ cleared_at k p equal same has
       ];
     }
