@@ -8,8 +8,8 @@ use Rattle.si_base.specs.Bits.{bit}
 use Rattle.si_base.specs.Codes.{CodedGraph, code, next_value}
 use Rattle.si_base.specs.Netlist.{Insertion, Netlist, gate_value}
 use Rattle.si_base.specs.WellFormed.{IsInsertion}
-use Rattle.si_checks.proofs.DecisionLemmas as decide
-use Rattle.si_checks.proofs.DecisionLemmas.{Decided, both, driven, less, same_value}
+use Rattle.si_checks.proofs.SearchDecisions as decide
+use Rattle.si_checks.proofs.SearchDecisions.{Decided, both, driven, less, same_value}
 use Rattle.si_insert.specs.declared.lineage.TraceStep.{TraceStep}
 use Rattle.si_insert.specs.declared.partition.Class.{Class}
 use Rattle.si_insert.specs.Fresh.{IsTaken}

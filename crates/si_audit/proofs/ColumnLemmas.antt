@@ -11,7 +11,7 @@ use Rattle.si_base.specs.Bits.{bit}
 use Rattle.si_base.specs.Limits.{code_width}
 use Rattle.si_base.specs.Netlist.{literal_value, sum_value}
 use Rattle.si_base.specs.Sets.{flag}
-use Rattle.si_base.proofs.WordSets.{bit_of_and, bit_of_or}
+use Rattle.si_base.proofs.SetsAsWords.{bit_of_and, bit_of_or}
 use Rattle.si_cube.specs.Literals.{literals_from, literals_of}
 use Rattle.si_cube.proofs.LiteralLemmas.{bit-xor}
 use Rattle.si_audit.specs.Columns.{is_value}

@@ -9,9 +9,9 @@ use Rattle.si_base.specs.Graph.{StateGraph, IsNonInput, Step, arc}
 use Rattle.si_base.specs.Limits.{max_signals, max_states}
 use Rattle.si_base.specs.Proper.{IsProper, Loss, loss_place}
 use Rattle.si_checks.specs.Searches.{IsFirstOrNone}
-use Rattle.si_checks.proofs.DecisionLemmas as decide
-use Rattle.si_checks.proofs.DecisionLemmas.{Decided, both, driven, equal_events, first_candidate, in_pairs, of_pairs}
-use Rattle.si_checks.proofs.DecisionLemmas.{pairs, same_value}
+use Rattle.si_checks.proofs.SearchDecisions as decide
+use Rattle.si_checks.proofs.SearchDecisions.{Decided, both, driven, equal_events, first_candidate, in_pairs, of_pairs}
+use Rattle.si_checks.proofs.SearchDecisions.{pairs, same_value}
 use Rattle.si_insert.specs.declared.partition.Class.{Class}
 use Rattle.si_insert.specs.declared.accept.Rejected.{Rejected}
 use Rattle.si_insert.specs.declared.accept.Rejected.TheVariants.{DelaysInput, BreaksPersistency, TooLarge, NoCodeBit}

@@ -14,8 +14,8 @@ use Rattle.si_base.specs.RightGates.{GivesNextValues}
 use Rattle.si_base.specs.System.{IsFor}
 use Rattle.si_base.specs.WellFormed.{IsNetlist}
 use Rattle.si_base.proofs.BitFacts.{same_codes}
-use Rattle.si_base.proofs.StepFacts.{code_fits}
-use Rattle.si_base.proofs.Steps.{step_from_enables}
+use Rattle.si_base.proofs.StepCodes.{code_fits}
+use Rattle.si_base.proofs.GraphSteps.{step_from_enables}
 use Rattle.si_netlist.specs.declared.gate.Gate.{Gate}
 use Rattle.si_netlist.specs.Parts.{gate_seen}
 use Rattle.si_netlist.proofs.GateLemmas.{StandsBehind, stands_behind}

@@ -5,7 +5,7 @@ use Rattle.std.proofs.lemmas.Bool.{cases_Bool, true≢false}
 use Rattle.std.proofs.lemmas.List.{get_or_at, length_push}
 use Rattle.std.proofs.lemmas.Slice.Eq.{bytes_eq-Decides}
 use Rattle.si_base.specs.Netlist.{Insertion}
-use Rattle.si_checks.proofs.DecisionLemmas.{Decided, both}
+use Rattle.si_checks.proofs.SearchDecisions.{Decided, both}
 use Rattle.si_insert.specs.Lineage.{History}
 use Rattle.si_candidates.specs.Blocks.{AreDisjoint}
 use Rattle.si_candidates.proofs.BlockDecisions.{disjoint_or_not}

@@ -9,7 +9,7 @@ use Rattle.si_base.specs.Codes.{CodedGraph}
 use Rattle.si_base.specs.Netlist.{Insertion, Netlist}
 use Rattle.si_base.specs.Order.{IsFirst}
 use Rattle.si_base.specs.WellFormed.{IsInsertion}
-use Rattle.si_checks.proofs.FirstLemmas.{firsts_at_one_place}
+use Rattle.si_checks.proofs.SearchFirst.{firsts_at_one_place}
 use Rattle.si_insert.specs.Built.{IsBuilt}
 use Rattle.si_insert.specs.Lineage.{History}
 use Rattle.si_insert.proofs.LineageChain.{implements}

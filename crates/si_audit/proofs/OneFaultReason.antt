@@ -3,7 +3,7 @@ use Rattle.std.proofs.Common.{◌≡◌, ℕ, List, refl, sym, ap, ◌∙◌, ar
 use Rattle.si_base.specs.Codes.{CodedGraph, IsCoded}
 use Rattle.si_base.specs.Graph.{event_place}
 use Rattle.si_base.specs.Proper.{IsProper, Loss, loss_place}
-use Rattle.si_checks.proofs.FirstLemmas.{firsts_at_one_place}
+use Rattle.si_checks.proofs.SearchFirst.{firsts_at_one_place}
 use Rattle.si_graph.proofs.OrderLemmas.{event_from_place}
 use Rattle.si_insert.specs.declared.partition.Class.{Class}
 use Rattle.si_insert.specs.declared.accept.Rejected.{Rejected}

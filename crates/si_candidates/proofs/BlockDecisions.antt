@@ -10,8 +10,8 @@ use Rattle.si_base.specs.declared.graph.SigKind.{SigKind}
 use Rattle.si_base.specs.declared.graph.SigKind.TheVariants.{Input, Output, Internal, Inserted}
 use Rattle.si_base.specs.Graph.{StateGraph, Step, arc, IsNonInput}
 use Rattle.si_base.specs.Sets.{IsIn}
-use Rattle.si_checks.proofs.DecisionLemmas as decide
-use Rattle.si_checks.proofs.DecisionLemmas.{Decided, both, all_of, same_value, equal_events, driven}
+use Rattle.si_checks.proofs.SearchDecisions as decide
+use Rattle.si_checks.proofs.SearchDecisions.{Decided, both, all_of, same_value, equal_events, driven}
 use Rattle.si_insert.specs.Accepted.{IsInput}
 use Rattle.si_candidates.specs.Blocks.{AreDisjoint}
 use Rattle.si_insert.specs.Diamond.{Diamond}

@@ -10,8 +10,8 @@ use Rattle.si_base.specs.declared.graph.SigKind.TheVariants.{Input, Output}
 use Rattle.si_base.specs.Bits.{bit}
 use Rattle.si_base.specs.Graph.{StateGraph, Step, arc, rise, fall, same_event, IsNonInput}
 use Rattle.si_base.specs.Sets.{IsIn}
-use Rattle.si_base.proofs.Steps.{all_arcs, same_event-true}
-use Rattle.si_graph.proofs.MemberLemmas.{Contains-cons_cases}
+use Rattle.si_base.proofs.GraphSteps.{all_arcs, same_event-true}
+use Rattle.si_graph.proofs.ListMembers.{Contains-cons_cases}
 use Rattle.si_graph.proofs.ValueLemmas.{bit-zero}
 use Rattle.si_closures.specs.WordSearch.{column, HasBit}
 use Rattle.si_closures.proofs.WordSearchLemmas.{in_column}

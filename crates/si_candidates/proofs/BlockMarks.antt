@@ -6,7 +6,7 @@ use Rattle.std.proofs.lemmas.List.Folds.{list_any_at, Any-from_list_any}
 use Rattle.std.proofs.lemmas.List.FromFn.{length-map-range_with_len, get_or-map-range_with_len}
 use Rattle.std.specs.List.{list_any}
 use Rattle.si_base.specs.Sets.{IsIn}
-use Rattle.si_graph.proofs.MarkLemmas.{in_below}
+use Rattle.si_graph.proofs.SearchLemmas.{in_below}
 use Rattle.si_regions.proofs.RegionLemmas.{MadeTo, made_more}
 use Rattle.si_candidates.specs.Blocks.{state_set}
 use Rattle.si_candidates.proofs.BlockSameSets.{same_states}

@@ -5,7 +5,7 @@ use Rattle.std.proofs.Common.{IsTrue, ◌↔◌}
 use mathlib.Core.Bool.{beq}
 use Rattle.std.proofs.lemmas.Bool.{true≢false, and_parts}
 use Rattle.si_base.specs.Sets.{IsIn, IsSubset}
-use Rattle.si_base.proofs.Steps.{beq-refl, beq-true}
+use Rattle.si_base.proofs.GraphSteps.{beq-refl, beq-true}
 use Rattle.si_candidates.specs.Blocks.{same_set}
 
 -- ---- the test

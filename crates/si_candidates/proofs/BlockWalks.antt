@@ -4,7 +4,7 @@ use Rattle.std.proofs.Common.{Some, None, MatchOption, sym, subst, arith, inl, i
 use Rattle.std.proofs.lemmas.Bool.{cases_order}
 use Rattle.std.proofs.lemmas.List.Elements.{Contains-push, Contains-push_cases, Contains-append_left}
 use Rattle.si_base.specs.Sets.{IsIn, IsFirstFrom, HasNoneFrom}
-use Rattle.si_graph.proofs.MarkLemmas.{in_below}
+use Rattle.si_graph.proofs.SearchLemmas.{in_below}
 
 -- where a walk stands: at a state of the set, or at its end
 abbrev pub Stands : List Bool → Option ℕ → Type 0

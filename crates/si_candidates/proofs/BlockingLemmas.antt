@@ -5,7 +5,7 @@ use Rattle.si_base.specs.Graph.{StateGraph, IsGraph}
 use Rattle.si_base.specs.Limits.{max_signals, max_states}
 use Rattle.si_base.specs.Codes.{CodedGraph, IsCoded}
 use Rattle.si_base.specs.Proper.{IsProper, Loss}
-use Rattle.si_base.proofs.Circuit.{step_within}
+use Rattle.si_base.proofs.RightGateLemmas.{step_within}
 use Rattle.si_base.specs.Sets.{IsIn}
 use Rattle.si_insert.specs.declared.partition.Class.{Class}
 use Rattle.si_insert.specs.declared.partition.Class.TheVariants.{Rising, Falling}

@@ -7,7 +7,7 @@ use Rattle.si_base.specs.Limits.{max_signals, max_states}
 use Rattle.si_base.specs.Proper.{IsProper}
 use Rattle.si_base.specs.Sets.{IsIn}
 use Rattle.si_regions.proofs.SetsExist.{some_set}
-use Rattle.si_checks.proofs.DecisionLemmas.{Decided, both, less}
+use Rattle.si_checks.proofs.SearchDecisions.{Decided, both, less}
 use Rattle.si_insert.specs.declared.partition.Class.{Class}
 use Rattle.si_insert.specs.Partition.{IsLawful}
 use Rattle.si_insert.specs.Accepted.{IsAccepted, copy_count}

@@ -10,15 +10,15 @@ use Rattle.si_base.specs.Codes.{IsConnected}
 use Rattle.si_base.specs.Sets.{IsIn}
 use Rattle.si_graph.specs.declared.closure.Along.TheVariants.{Both}
 use Rattle.si_graph.specs.Closure.{IsNext, Path}
-use Rattle.si_graph.proofs.MarkLemmas.{in_below}
-use Rattle.si_graph.proofs.MemberLemmas.{Contains-here, Contains-nil}
+use Rattle.si_graph.proofs.SearchLemmas.{in_below}
+use Rattle.si_graph.proofs.ListMembers.{Contains-here, Contains-nil}
 use Rattle.si_regions.specs.Connected.{Adjoins, PathOf}
 use Rattle.si_regions.specs.Regions.{IsSetOf}
 use Rattle.si_regions.specs.Searching.{AreMarksOf, IsReachedIn, IsSeed}
 use Rattle.si_graph.proofs.ClosureLemmas.{reached_on, reached_seed}
 use Rattle.si_regions.proofs.SetsExist.{listed, some_set, some_marks, some_reached}
-use Rattle.si_checks.proofs.DecisionLemmas as decide
-use Rattle.si_checks.proofs.DecisionLemmas.{Decided, both, some_of, less}
+use Rattle.si_checks.proofs.SearchDecisions as decide
+use Rattle.si_checks.proofs.SearchDecisions.{Decided, both, some_of, less}
 use Rattle.si_insert.specs.declared.partition.Class.{Class}
 use Rattle.si_insert.specs.declared.partition.Class.TheVariants.{Low, Rising, High, Falling}
 use Rattle.si_insert.specs.Partition.{class_of}

@@ -3,7 +3,7 @@ use Rattle.std.proofs.Common.{◌≡◌, ◌≢◌, ℕ, ◌<◌, ◌≤◌, ◌
 use Rattle.si_base.specs.declared.ids.Event.{Event}
 use Rattle.si_base.specs.Graph.{StateGraph, IsGraph}
 use Rattle.si_base.specs.Sets.{IsIn}
-use Rattle.si_base.proofs.StepFacts.{step_within}
+use Rattle.si_base.proofs.StepCodes.{step_within}
 use Rattle.si_graph.specs.declared.closure.Along.TheVariants.{OutWithout}
 use Rattle.si_graph.specs.Closure.{IsBeside, Path, PathBy, IsClosure}
 use Rattle.si_closures.specs.WordSearch.{column, Passes, IsNextBy, IsClosureBy}

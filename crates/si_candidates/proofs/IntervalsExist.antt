@@ -4,10 +4,10 @@ use Rattle.std.proofs.lemmas.List.{length-replicate, get_or-replicate}
 use Rattle.si_base.specs.declared.ids.Event.{Event}
 use Rattle.si_base.specs.Graph.{StateGraph, IsGraph}
 use Rattle.si_base.specs.Sets.{IsIn}
-use Rattle.si_base.proofs.StepFacts.{step_within}
+use Rattle.si_base.proofs.StepCodes.{step_within}
 use Rattle.si_graph.specs.declared.closure.Along.TheVariants.{OutWithout}
 use Rattle.si_graph.specs.Closure.{IsNext}
-use Rattle.si_graph.proofs.MarkLemmas.{in_below}
+use Rattle.si_graph.proofs.SearchLemmas.{in_below}
 use Rattle.si_regions.specs.Searching.{IsReachedIn, IsSeed}
 use Rattle.si_regions.proofs.SetsExist.{same_bit, listed, some_set, some_marks, some_reached}
 use Rattle.si_graph.proofs.ClosureLemmas.{reached_on, reached_seed}

@@ -5,7 +5,7 @@ use Rattle.std.proofs.lemmas.Bool.{true≢false}
 use Rattle.si_base.specs.declared.ids.Event.{Event}
 use Rattle.si_base.specs.Graph.{StateGraph, Walk, IsGraph}
 use Rattle.si_base.specs.Codes.{IsConnected}
-use Rattle.si_base.proofs.Circuit.{step_within}
+use Rattle.si_base.proofs.RightGateLemmas.{step_within}
 use Rattle.si_base.specs.Sets.{IsIn}
 use Rattle.si_regions.specs.Connected.{Adjoins, PathOf}
 use Rattle.si_insert.specs.declared.partition.Class.{Class}

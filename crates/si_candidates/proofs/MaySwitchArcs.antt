@@ -12,10 +12,10 @@ use Rattle.si_base.specs.declared.graph.SigKind.TheVariants.{Input, Output, Inte
 use Rattle.si_base.specs.Graph.{StateGraph, Step, IsGraph, IsNonInput, is_driven, arc, same_event}
 use Rattle.si_base.specs.Codes.{IsDeterministic}
 use Rattle.si_base.specs.Sets.{IsIn}
-use Rattle.si_base.proofs.StepFacts.{step_within}
+use Rattle.si_base.proofs.StepCodes.{step_within}
 use Rattle.si_graph.specs.Arcs.{edge_at, no_edge, IsFirstPlace, IsInto}
 use Rattle.si_graph.proofs.ClosureLemmas.{place_in_walk, none_between}
-use Rattle.si_base.proofs.Steps.{same_event-refl}
+use Rattle.si_base.proofs.GraphSteps.{same_event-refl}
 use Rattle.si_insert.specs.Accepted.{IsInput}
 use Rattle.si_candidates.specs.Blocking.{MaySwitch, MayPass, KeepsExit}
 

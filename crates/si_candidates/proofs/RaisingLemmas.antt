@@ -7,7 +7,7 @@ use Rattle.std.proofs.Math.Seq.{map-set_same}
 use Rattle.si_base.specs.Graph.{StateGraph}
 use Rattle.si_base.specs.Sets.{IsIn}
 use Rattle.si_graph.specs.Reach.{MarksAll}
-use Rattle.si_graph.proofs.MarkLemmas.{marks_same, marks_both, one_taken, one_left, in_below}
+use Rattle.si_graph.proofs.SearchLemmas.{marks_same, marks_both, one_taken, one_left, in_below}
 use Rattle.si_insert.specs.declared.partition.Class.{Class}
 use Rattle.si_insert.specs.declared.partition.Class.TheVariants.{Low, Rising, High, Falling}
 use Rattle.si_insert.specs.Partition.{class_of}

@@ -8,10 +8,10 @@ use Rattle.si_base.specs.Graph.{StateGraph, Step, IsGraph}
 use Rattle.si_base.specs.Codes.{IsConnected}
 use Rattle.si_base.specs.Order.{IsFirst}
 use Rattle.si_base.specs.Sets.{IsIn}
-use Rattle.si_base.proofs.StepFacts.{step_within}
+use Rattle.si_base.proofs.StepCodes.{step_within}
 use Rattle.si_graph.specs.Reach.{MarksAll}
-use Rattle.si_graph.proofs.MarkLemmas.{Explores, explores_more, in_below}
-use Rattle.si_graph.proofs.MemberLemmas.{Contains-nil}
+use Rattle.si_graph.proofs.SearchLemmas.{Explores, explores_more, in_below}
+use Rattle.si_graph.proofs.ListMembers.{Contains-nil}
 use Rattle.si_regions.specs.Connected.{Adjoins, PathOf}
 use Rattle.si_regions.specs.Regions.{IsSetOf}
 use Rattle.si_insert.specs.declared.partition.Class.{Class}

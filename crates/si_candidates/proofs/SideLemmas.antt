@@ -6,8 +6,8 @@ use Rattle.std.proofs.lemmas.Bool.{cases_eq, cases_Bool, true≢false}
 use Rattle.std.proofs.lemmas.List.{get_or_default, ext_get_or, length-replicate}
 use Rattle.si_base.specs.declared.ids.Event.{Event}
 use Rattle.si_base.specs.Graph.{StateGraph, Step, IsGraph}
-use Rattle.si_base.proofs.StepFacts.{step_within}
-use Rattle.si_graph.proofs.MarkLemmas.{in_none}
+use Rattle.si_base.proofs.StepCodes.{step_within}
+use Rattle.si_graph.proofs.SearchLemmas.{in_none}
 use Rattle.si_insert.specs.declared.partition.Class.{Class}
 use Rattle.si_insert.specs.declared.partition.Class.TheVariants.{Low, Rising, High, Falling}
 use Rattle.si_insert.specs.Partition.{class_of, may_lead}

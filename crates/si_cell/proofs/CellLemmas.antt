@@ -27,7 +27,7 @@ use Rattle.si_cell.specs.Library.{Cell, IsCell, AreCells, IsPinName, own}
 use Rattle.si_cell.specs.Limits.{max_cells, max_pins}
 use Rattle.si_cell.specs.Literals.{has_literal, same_literal, in_literal_order, both_from, IsRising}
 use Rattle.si_base.proofs.BitFacts.{set_same, set_flip, beq_false}
-use Rattle.si_base.proofs.Steps.{beq-true}
+use Rattle.si_base.proofs.GraphSteps.{beq-true}
 use Rattle.si_base.specs.Bits.{bit, flip, IsSet}
 use mathlib.Core.Bool.{beq}
 use Rattle.si_cell.proofs.OrderLemmas.{rising_of, makes_in_order}

@@ -8,11 +8,11 @@ use Rattle.si_base.specs.Graph.{StateGraph, Step, IsGraph, IsNonInput, arc, enab
 use Rattle.si_base.specs.Codes.{IsConnected, IsConsistent, IsDeterministic}
 use Rattle.si_base.specs.Proper.{IsCommutative, Split, Splits, split_place, Fork, Forks, fork_place, Loss, Loses}
 use Rattle.si_base.specs.Proper.{loss_place}
-use Rattle.si_base.proofs.Steps.{enables-step, step_from_enables}
+use Rattle.si_base.proofs.GraphSteps.{enables-step, step_from_enables}
 use Rattle.si_checks.specs.Laws.{ProperOrBreach, AllHold, HasSplit, HasNoValues, HasFork, HasLoss}
 use Rattle.si_checks.specs.Searches.{IsFirstOrNone}
-use Rattle.si_checks.proofs.DecisionLemmas as decide
-use Rattle.si_checks.proofs.DecisionLemmas.{Decided, pairs, in_pairs, of_pairs, first_candidate}
+use Rattle.si_checks.proofs.SearchDecisions as decide
+use Rattle.si_checks.proofs.SearchDecisions.{Decided, pairs, in_pairs, of_pairs, first_candidate}
 use Rattle.si_checks.proofs.ForkLemmas.{no_fork_commutes}
 use Rattle.si_checks.proofs.LossLemmas.{no_loss_persists}
 use Rattle.si_checks.proofs.ValuesDecided.{consistent_or_first}

@@ -12,9 +12,9 @@ use Rattle.si_base.specs.Codes.{CodedGraph, IsCoded, code}
 use Rattle.si_base.specs.Graph.{arc, enables, rise, fall, IsNonInput}
 use Rattle.si_base.specs.Proper.{IsCommutative, IsPersistent, IsProper}
 use Rattle.si_base.proofs.BitFacts.{same_codes}
-use Rattle.si_base.proofs.Parity.{turn}
-use Rattle.si_base.proofs.StepFacts.{step_within, old_value, code_of_step, code_fits, no_bit}
-use Rattle.si_base.proofs.Steps.{enables-step, step_from_enables}
+use Rattle.si_base.proofs.CodeParity.{turn}
+use Rattle.si_base.proofs.StepCodes.{step_within, old_value, code_of_step, code_fits, no_bit}
+use Rattle.si_base.proofs.GraphSteps.{enables-step, step_from_enables}
 use Rattle.si_graph.specs.NextCodes.{IsNextCode}
 use Rattle.si_graph.proofs.ValueLemmas.{bit-xor, bit-or, bit-zero}
 use Rattle.si_checks.specs.ByCodes.{HasUniqueCodes, MaySwitch, LeavesOthers, AreInputs, IsProperByCodes}

@@ -6,7 +6,7 @@ use Rattle.si_base.specs.declared.ids.Event.{Event}
 use Rattle.si_base.specs.Graph.{enables, rise, fall, IsNonInput}
 use Rattle.si_base.specs.Codes.{CodedGraph, code, next_value}
 use Rattle.si_base.specs.Proper.{HasNoConflict}
-use Rattle.si_base.proofs.Steps.{beq-true}
+use Rattle.si_base.proofs.GraphSteps.{beq-true}
 use Rattle.si_base.proofs.BitFacts.{beq_false}
 
 pub same_enables : (c : CodedGraph) (p q : ℕ) (e : Event) → HasNoConflict c → p < c.graph.states → q < c.graph.states

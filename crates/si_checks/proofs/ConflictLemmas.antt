@@ -9,9 +9,9 @@ use Rattle.si_base.specs.declared.ids.Event.{Event}
 use Rattle.si_base.specs.Order.{IsFirst}
 use Rattle.si_base.specs.declared.graph.Edge.{Edge}
 use Rattle.si_base.specs.Graph.{StateGraph, enables, IsNonInput, arc}
-use Rattle.si_base.proofs.Steps.{enables-step, step_from_enables}
+use Rattle.si_base.proofs.GraphSteps.{enables-step, step_from_enables}
 use Rattle.si_graph.specs.Arcs.{AreOut}
-use Rattle.si_checks.proofs.OutLemmas.{out_item, out_place}
+use Rattle.si_checks.proofs.ForkOrder.{out_item, out_place}
 use Rattle.si_base.specs.Codes.{CodedGraph, code}
 use Rattle.si_base.specs.Proper.{IsConflict, pair_place}
 use Rattle.si_checks.specs.Searches.{IsFirstOrNone, EnablesMore, Differ, Keeps}

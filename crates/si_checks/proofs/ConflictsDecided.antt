@@ -9,11 +9,11 @@ use Rattle.si_base.specs.Codes.{CodedGraph, code}
 use Rattle.si_base.specs.Graph.{StateGraph, IsNonInput, arc, enables}
 use Rattle.si_base.specs.Order.{IsFirst}
 use Rattle.si_base.specs.Proper.{HasNoConflict, IsConflict, pair_place}
-use Rattle.si_base.proofs.Steps.{enables-step, step_from_enables}
+use Rattle.si_base.proofs.GraphSteps.{enables-step, step_from_enables}
 use Rattle.si_checks.specs.Searches.{IsFirstOrNone, EnablesMore, Differ}
 use Rattle.si_checks.proofs.ConflictLemmas.{more_differs, less_differs, none_differ}
-use Rattle.si_checks.proofs.DecisionLemmas as decide
-use Rattle.si_checks.proofs.DecisionLemmas.{Decided, pairs, in_pairs, of_pairs, first_candidate}
+use Rattle.si_checks.proofs.SearchDecisions as decide
+use Rattle.si_checks.proofs.SearchDecisions.{Decided, pairs, in_pairs, of_pairs, first_candidate}
 
 -- ---- two states
 -- an arc out of p by a non-input event that q doesn't enable

@@ -6,9 +6,9 @@ use Rattle.si_base.specs.Graph.{StateGraph, Step, event_place, IsGraph}
 use Rattle.si_base.specs.Codes.{IsDeterministic}
 use Rattle.si_base.specs.Proper.{IsCommutative, Fork, Forks}
 use Rattle.si_base.specs.System.{IsLeastTarget}
-use Rattle.si_base.proofs.StepFacts.{step_within}
+use Rattle.si_base.proofs.StepCodes.{step_within}
 use Rattle.si_checks.specs.Searches.{EndsApart, ForksAt, ForksBy}
-use Rattle.si_checks.proofs.OutLemmas.{event_same}
+use Rattle.si_checks.proofs.ForkOrder.{event_same}
 
 -- ---- forks and the ends that they have
 pub by_step : (g : StateGraph) (s : ℕ) (a : Event) (b : Fork) → ForksBy g s a b → (t : ℕ) × Step g s b.c t

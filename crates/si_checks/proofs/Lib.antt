@@ -1,4 +1,4 @@
-pub mod OutLemmas
+pub mod ForkOrder
 pub mod SearchLemmas
 pub mod ForkLemmas
 pub mod LossLemmas
@@ -7,9 +7,9 @@ pub mod ProperLemmas
 pub mod ConflictLemmas
 mod ByCodesLemmas
 pub mod ConflictFree
-pub mod CodesExist
-pub mod FirstLemmas
-pub mod DecisionLemmas
+pub mod ByCodesExist
+pub mod SearchFirst
+pub mod SearchDecisions
 pub mod ValuesDecided
 pub mod BreachesDecided
 pub mod ConflictsDecided

@@ -5,8 +5,8 @@ use Rattle.si_base.specs.declared.ids.Event.{Event}
 use Rattle.si_base.specs.Graph.{StateGraph, Step, IsGraph, IsNonInput, enables, same_event}
 use Rattle.si_base.specs.Codes.{IsDeterministic}
 use Rattle.si_base.specs.Proper.{IsPersistent, Loss, Loses}
-use Rattle.si_base.proofs.StepFacts.{step_within}
-use Rattle.si_base.proofs.Steps.{step_from_enables, same_event-refl}
+use Rattle.si_base.proofs.StepCodes.{step_within}
+use Rattle.si_base.proofs.GraphSteps.{step_from_enables, same_event-refl}
 use Rattle.si_checks.specs.Searches.{LosesAt, LosesOf}
 
 -- ---- losses and the steps that they have

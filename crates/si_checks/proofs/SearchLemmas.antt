@@ -8,7 +8,7 @@ use Rattle.si_base.specs.Order.{IsFirst}
 use Rattle.si_base.specs.Graph.{StateGraph, Step, event_place}
 use Rattle.si_graph.specs.Arcs.{AreOut}
 use Rattle.si_checks.specs.Searches.{IsFirstOrNone, IsAt, IsBy, IsBelow}
-use Rattle.si_checks.proofs.OutLemmas.{event_same, NoneWithin, none_before}
+use Rattle.si_checks.proofs.ForkOrder.{event_same, NoneWithin, none_before}
 
 module _ {B : Type 0} (P : B → Type 0) (state : B → ℕ) (one two : B → Event) where
   abbrev pub place : B → List ℕ

@@ -10,13 +10,13 @@ use Rattle.si_base.specs.Graph.{StateGraph, Step, arc, enables, IsNonInput, even
 use Rattle.si_base.specs.Codes.{IsDeterministic}
 use Rattle.si_base.specs.Proper.{Fork, Loss}
 use Rattle.si_base.specs.System.{IsLeastTarget}
-use Rattle.si_base.proofs.Sorted.{sorted_at}
-use Rattle.si_base.proofs.Steps.{enables-step, step_from_enables}
+use Rattle.si_base.proofs.OrderAscending.{sorted_at}
+use Rattle.si_base.proofs.GraphSteps.{enables-step, step_from_enables}
 use Rattle.si_graph.specs.Arcs.{AreOut}
 use Rattle.si_graph.proofs.OrderLemmas.{to_lt}
 use Rattle.si_checks.specs.Searches.{ForksAt, LosesAt}
 use Rattle.si_checks.specs.Squares.{ClosesSquare, ClosesSquares}
-use Rattle.si_checks.proofs.OutLemmas.{event_same, out_from, out_arc, out_rises, out_item, out_signal}
+use Rattle.si_checks.proofs.ForkOrder.{event_same, out_from, out_arc, out_rises, out_item, out_signal}
 
 -- ---- one pair
 module _ (g : StateGraph) (x y : Edge) where

@@ -8,7 +8,7 @@ use Rattle.si_base.specs.Codes.{CodedGraph, IsConsistent, IsDeterministic}
 use Rattle.si_base.specs.Proper.{IsCommutative, IsPersistent, IsConflict, pair_place, Split, Splits, split_place, Fork}
 use Rattle.si_base.specs.Proper.{Forks, fork_place, Loss, Loses, loss_place, IsFirstWithoutValues}
 use Rattle.si_graph.proofs.OrderLemmas.{event_from_place}
-use Rattle.si_checks.proofs.FirstLemmas.{firsts_at_one_place}
+use Rattle.si_checks.proofs.SearchFirst.{firsts_at_one_place}
 
 -- ---- the first is one
 pub one_split : (g : StateGraph) (a b : Split) → IsFirst split_place (Splits g) a → IsFirst split_place (Splits g) b

@@ -7,11 +7,11 @@ use Rattle.si_base.specs.Bits.{bit}
 use Rattle.si_base.specs.Graph.{StateGraph, Step, IsGraph, arc, rise, fall}
 use Rattle.si_base.specs.Codes.{AreValues, HasValues, IsIdle, IsConnected, IsConsistent}
 use Rattle.si_base.specs.Proper.{IsFirstWithoutValues}
-use Rattle.si_base.proofs.Circuit.{turns, old_value}
-use Rattle.si_base.proofs.Parity.{parity, turn, values_along}
-use Rattle.si_checks.proofs.CodesExist.{values_as}
-use Rattle.si_checks.proofs.DecisionLemmas as decide
-use Rattle.si_checks.proofs.DecisionLemmas.{Decided}
+use Rattle.si_base.proofs.RightGateLemmas.{turns, old_value}
+use Rattle.si_base.proofs.CodeParity.{parity, turn, values_along}
+use Rattle.si_checks.proofs.ByCodesExist.{values_as}
+use Rattle.si_checks.proofs.SearchDecisions as decide
+use Rattle.si_checks.proofs.SearchDecisions.{Decided}
 
 -- ---- whether these are values
 module _ (g : StateGraph) (a : ℕ) (w : ℕ → Bool) where

@@ -17,7 +17,7 @@ use Rattle.si_base.specs.NetlistText.{same_kind, names_of}
 use Rattle.si_base.specs.System.{is_inserted}
 use Rattle.si_base.specs.WellFormed.{IsWord, IsGate, IsInsertion, IsNetlist}
 use Rattle.si_base.specs.Words.{is_between, is_word_byte, is_model_name}
-use Rattle.si_base.proofs.StepFacts.{code_fits}
+use Rattle.si_base.proofs.StepCodes.{code_fits}
 use Rattle.si_cover.specs.declared.kind.SumKind.TheVariants.{Next, Set, Reset}
 use Rattle.si_cover.proofs.DemandLemmas.{chosen_sum_is_sum}
 use Rattle.si_circuit.specs.declared.style.Style.{Style}

@@ -20,7 +20,7 @@ use Rattle.si_base.specs.WellFormed.{IsWord, IsInsertion}
 use Rattle.si_base.specs.Words.{is_between, is_word_byte, IsStateName}
 use Rattle.si_insert.specs.declared.lineage.TraceStep.{TraceStep}
 use Rattle.si_insert.specs.declared.partition.Class.{Class}
-use Rattle.si_graph.proofs.MemberLemmas.{Contains-filter}
+use Rattle.si_graph.proofs.ListMembers.{Contains-filter}
 use Rattle.si_insert.specs.Partition.{class_of, IsLawful}
 use Rattle.si_insert.specs.Insertion.{new_signal}
 use Rattle.si_insert.specs.GraphOfCopies.{switches}

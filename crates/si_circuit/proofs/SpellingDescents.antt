@@ -13,7 +13,7 @@ use Rattle.si_base.specs.Bits.{bit, flip}
 use Rattle.si_base.specs.Limits.{code_width, max_states}
 use Rattle.si_base.specs.Codes.{CodedGraph, code, IsCoded}
 use Rattle.si_base.proofs.BitFacts.{flip-same, flip-other}
-use Rattle.si_base.proofs.StepFacts.{code_fits}
+use Rattle.si_base.proofs.StepCodes.{code_fits}
 use Rattle.si_insert.specs.declared.lineage.TraceStep.{TraceStep}
 use Rattle.si_insert.specs.Insertion.{Copy, new_signal}
 use Rattle.si_insert.specs.GraphOfCopies.{copies_of}

@@ -7,7 +7,7 @@ use Rattle.std.specs.List.{slice_index_or}
 use Rattle.si_base.specs.declared.graph.Signal.{Signal}
 use Rattle.si_base.specs.Bits.{bit}
 use Rattle.si_base.specs.Codes.{code}
-use Rattle.si_base.proofs.StepFacts.{code_fits}
+use Rattle.si_base.proofs.StepCodes.{code_fits}
 use Rattle.si_insert.specs.declared.lineage.TraceStep.{TraceStep}
 use Rattle.si_insert.specs.Insertion.{new_signal}
 use Rattle.si_insert.specs.Lineage.{History, IsLineage, given_current, origin}

@@ -5,7 +5,7 @@ use Rattle.std.proofs.lemmas.Bool.{cases_eq, true≢false}
 use Rattle.si_base.specs.Bits.{bit, flip}
 use Rattle.si_base.specs.Codes.{CodedGraph, IsCoded, code}
 use Rattle.si_base.proofs.BitFacts.{flip-same, flip-other, same_codes}
-use Rattle.si_base.proofs.StepFacts.{code_fits, no_bit}
+use Rattle.si_base.proofs.StepCodes.{code_fits, no_bit}
 use Rattle.si_insert.specs.Insertion.{copy_code}
 use Rattle.si_insert.proofs.InsertionCopies.{copy}
 use Rattle.si_insert.proofs.InsertionProper.{old_bit, new_bit}

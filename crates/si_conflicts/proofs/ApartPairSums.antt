@@ -5,8 +5,8 @@ use Rattle.std.proofs.lemmas.Bool.{cases_Bool}
 use Rattle.std.proofs.lemmas.List.Elements.{All-contains}
 use Rattle.std.proofs.lemmas.List.Sums.{sum_by-cons, sum_by_push}
 use Rattle.std.specs.List.{sum_by}
-use Rattle.si_base.proofs.Sorted.{In}
-use Rattle.si_base.proofs.Unique.{contains_from_in}
+use Rattle.si_base.proofs.OrderAscending.{In}
+use Rattle.si_base.proofs.GivenGraphUnique.{contains_from_in}
 use Rattle.si_conflicts.specs.declared.keys.Key.{Key}
 use Rattle.si_conflicts.specs.Keys.{clashes, clash_count}
 use Rattle.si_conflicts.specs.Apart.{pair_sum}

@@ -9,9 +9,9 @@ use Rattle.si_base.specs.Graph.{StateGraph, IsNonInput, arc, enables}
 use Rattle.si_base.specs.Order.{Before}
 use Rattle.si_base.specs.Codes.{CodedGraph, code}
 use Rattle.si_base.specs.Proper.{IsConflict, pair_place}
-use Rattle.si_base.proofs.Steps.{step_from_enables}
-use Rattle.si_checks.proofs.DecisionLemmas as decide
-use Rattle.si_checks.proofs.DecisionLemmas.{Decided}
+use Rattle.si_base.proofs.GraphSteps.{step_from_enables}
+use Rattle.si_checks.proofs.SearchDecisions as decide
+use Rattle.si_checks.proofs.SearchDecisions.{Decided}
 use Rattle.si_conflicts.specs.Conflicts.{AreConflicts, HasConflicts, AreFirstConflicts}
 use Rattle.si_conflicts.specs.Search.{AreBelow}
 use Rattle.si_conflicts.proofs.SearchLemmas.{below_none, below_gap, below_take, below_row, below_all}

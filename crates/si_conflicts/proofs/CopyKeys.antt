@@ -11,8 +11,8 @@ use Rattle.si_base.specs.Bits.{bit, flip}
 use Rattle.si_base.specs.Graph.{StateGraph, Step, IsNonInput, enables}
 use Rattle.si_base.specs.Codes.{CodedGraph, IsCoded}
 use Rattle.si_base.proofs.BitFacts.{flip-same, flip-other}
-use Rattle.si_base.proofs.StepFacts.{step_within}
-use Rattle.si_base.proofs.Steps.{enables-step, step_from_enables}
+use Rattle.si_base.proofs.StepCodes.{step_within}
+use Rattle.si_base.proofs.GraphSteps.{enables-step, step_from_enables}
 use Rattle.si_insert.specs.declared.partition.Class.{Class}
 use Rattle.si_insert.specs.declared.partition.Class.TheVariants.{Low, Rising, High, Falling}
 use Rattle.si_insert.specs.Partition.{class_of, IsLawful}

@@ -12,8 +12,8 @@ use Rattle.si_base.specs.Graph.{StateGraph, Step, IsNonInput, arc, enables}
 use Rattle.si_base.specs.Codes.{CodedGraph, AreValues, code}
 use Rattle.si_base.specs.Proper.{IsConflict}
 use Rattle.si_base.proofs.BitFacts.{same_codes}
-use Rattle.si_base.proofs.StepFacts.{no_bit, old_value}
-use Rattle.si_base.proofs.Steps.{enables-step, step_from_enables}
+use Rattle.si_base.proofs.StepCodes.{no_bit, old_value}
+use Rattle.si_base.proofs.GraphSteps.{enables-step, step_from_enables}
 use Rattle.si_graph.specs.Arcs.{AreOut}
 use Rattle.si_checks.specs.Searches.{Differ}
 use Rattle.si_conflicts.specs.declared.keys.Key.{Key}

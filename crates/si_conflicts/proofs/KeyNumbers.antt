@@ -9,9 +9,9 @@ use Rattle.si_base.specs.Bits.{bit, flip}
 use Rattle.si_base.specs.Graph.{StateGraph, IsNonInput, arc, enables}
 use Rattle.si_base.specs.Codes.{CodedGraph, code}
 use Rattle.si_base.proofs.BitFacts.{flip-same, flip-other, same_codes}
-use Rattle.si_base.proofs.StepFacts.{no_bit}
-use Rattle.si_checks.proofs.DecisionLemmas as decide
-use Rattle.si_checks.proofs.DecisionLemmas.{Decided}
+use Rattle.si_base.proofs.StepCodes.{no_bit}
+use Rattle.si_checks.proofs.SearchDecisions as decide
+use Rattle.si_checks.proofs.SearchDecisions.{Decided}
 use Rattle.si_insert.specs.declared.partition.Class.{Class}
 use Rattle.si_insert.specs.declared.partition.Class.TheVariants.{Low, Rising, High, Falling}
 use Rattle.si_insert.specs.Partition.{class_of}

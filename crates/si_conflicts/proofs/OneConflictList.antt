@@ -4,12 +4,12 @@ use Rattle.std.proofs.Common.{inl, inr}
 use Rattle.si_base.specs.Order.{Before, IsFirst}
 use Rattle.si_base.specs.Codes.{CodedGraph}
 use Rattle.si_base.specs.Proper.{IsConflict, HasNoConflict, pair_place}
-use Rattle.si_base.proofs.Sorted.{In}
-use Rattle.si_base.proofs.Unique.{contains_from_in}
+use Rattle.si_base.proofs.OrderAscending.{In}
+use Rattle.si_base.proofs.GivenGraphUnique.{contains_from_in}
 use Rattle.si_conflicts.specs.Conflicts.{AreConflicts, HasConflicts, AreFirstConflicts}
-use Rattle.si_base.proofs.InOrder.{InOrder, in_contains, same_in_order, before_apart, before_itself, order_head}
-use Rattle.si_base.proofs.InOrder.{order_tail}
-use Rattle.si_base.proofs.Fewer.{Once, at_most}
+use Rattle.si_base.proofs.OrderLemmas.{InOrder, in_contains, same_in_order, before_apart, before_itself, order_head}
+use Rattle.si_base.proofs.OrderLemmas.{order_tail}
+use Rattle.si_base.proofs.ListLemmas.{Once, at_most}
 
 pub one_list : (c : CodedGraph) (xs ys : List (ℕ × ℕ)) → AreConflicts c xs → AreConflicts c ys → xs ≡ ys
 one_list c xs ys a b = same_in_order pair_place xs ys a.in_order b.in_order

@@ -10,7 +10,7 @@ use Rattle.std.specs.List.{sum_by}
 use Rattle.std.specs.List.Sorted.{IsSorted}
 use Rattle.std.specs.Ordering.{nat_cmp, is_lt}
 use Rattle.si_base.specs.Limits.{max_states}
-use Rattle.si_base.proofs.Sorted.{nat_same}
+use Rattle.si_base.proofs.OrderAscending.{nat_same}
 use Rattle.si_insert.specs.declared.partition.Class.{Class}
 use Rattle.si_insert.specs.Partition.{class_of}
 use Rattle.si_conflicts.specs.declared.keys.Key.{Key}

@@ -7,11 +7,11 @@ use Rattle.si_base.specs.Bits.{bit}
 use Rattle.si_base.specs.Graph.{enables, rise, fall, IsNonInput}
 use Rattle.si_base.specs.Codes.{CodedGraph, IsCoded, code}
 use Rattle.si_base.specs.Proper.{HasNoConflict}
-use Rattle.si_base.proofs.Steps.{step_from_enables}
+use Rattle.si_base.proofs.GraphSteps.{step_from_enables}
 use Rattle.std.proofs.lemmas.List.Elements.{Contains-get_or}
 use Rattle.si_base.specs.WellFormed.{IsSum}
-use Rattle.si_base.proofs.StepFacts.{code_fits, step_within, old_value}
-use Rattle.si_base.proofs.Sorted.{In}
+use Rattle.si_base.proofs.StepCodes.{code_fits, step_within, old_value}
+use Rattle.si_base.proofs.OrderAscending.{In}
 use Rattle.si_checks.proofs.ConflictFree.{same_enables, same_next}
 use Rattle.si_cover.specs.declared.kind.SumKind.{SumKind}
 use Rattle.si_cover.specs.declared.kind.SumKind.TheVariants.{Next, Set, Reset}

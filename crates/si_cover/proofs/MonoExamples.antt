@@ -13,9 +13,9 @@ use Rattle.si_base.specs.Bits.{bit}
 use Rattle.si_base.specs.Graph.{Step, arc, rise}
 use Rattle.si_base.specs.Codes.{CodedGraph, code}
 use Rattle.si_base.specs.Netlist.{literal_value}
-use Rattle.si_base.proofs.Sorted.{In}
-use Rattle.si_base.proofs.Steps.{all_arcs, beq-true}
-use Rattle.si_base.proofs.Unique.{contains_from_in, in_from_contains}
+use Rattle.si_base.proofs.OrderAscending.{In}
+use Rattle.si_base.proofs.GraphSteps.{all_arcs, beq-true}
+use Rattle.si_base.proofs.GivenGraphUnique.{contains_from_in, in_from_contains}
 use Rattle.si_cube.specs.Cubes.{Covers}
 use Rattle.si_cube.specs.Literals.{literals_of}
 use Rattle.si_cube.proofs.LeastLemmas.{supercube_least}

@@ -11,9 +11,9 @@ use Rattle.si_base.specs.Bits.{bit, flip}
 use Rattle.si_base.specs.Codes.{CodedGraph, code}
 use Rattle.si_base.specs.Netlist.{literal_value}
 use Rattle.si_base.proofs.BitFacts.{flip-same, flip-other}
-use Rattle.si_base.proofs.Sorted.{In}
-use Rattle.si_base.proofs.Steps.{beq-true}
-use Rattle.si_base.proofs.Unique.{contains_from_in, in_from_contains}
+use Rattle.si_base.proofs.OrderAscending.{In}
+use Rattle.si_base.proofs.GraphSteps.{beq-true}
+use Rattle.si_base.proofs.GivenGraphUnique.{contains_from_in, in_from_contains}
 use Rattle.si_cube.specs.Cubes.{Covers}
 use Rattle.si_cover.specs.Mono.{IsDrawn, Strays, IsMono, IsLeastCube, IsLeastMono, ShowsNoMono}
 use Rattle.si_cube.proofs.NeededLemmas.{all_in}

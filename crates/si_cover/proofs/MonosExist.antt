@@ -12,11 +12,11 @@ use Rattle.si_base.specs.Graph.{arc}
 use Rattle.si_base.specs.Order.{IsFirst}
 use Rattle.si_base.specs.Codes.{CodedGraph, code}
 use Rattle.si_base.specs.Netlist.{literal_value}
-use Rattle.si_base.proofs.InOrder.{in_contains}
-use Rattle.si_base.proofs.Sorted.{In}
-use Rattle.si_base.proofs.Unique.{contains_from_in}
-use Rattle.si_base.proofs.Steps.{beq-refl}
-use Rattle.si_graph.proofs.MemberLemmas.{Contains-cons_cases, Contains-here, Contains-there, Contains-nil}
+use Rattle.si_base.proofs.OrderLemmas.{in_contains}
+use Rattle.si_base.proofs.OrderAscending.{In}
+use Rattle.si_base.proofs.GivenGraphUnique.{contains_from_in}
+use Rattle.si_base.proofs.GraphSteps.{beq-refl}
+use Rattle.si_graph.proofs.ListMembers.{Contains-cons_cases, Contains-here, Contains-there, Contains-nil}
 use Rattle.si_cube.specs.Cubes.{Covers, IsLeastAbove}
 use Rattle.si_cube.specs.Literals.{full_literals}
 use Rattle.si_regions.proofs.SetsExist.{Decided, both, same_bit, some_of, listed}

@@ -7,8 +7,8 @@ use Rattle.si_base.specs.declared.ids.Literal.{Literal}
 use Rattle.si_base.specs.Bits.{bit}
 use Rattle.si_base.specs.Netlist.{literal_value}
 use Rattle.si_base.proofs.BitFacts.{same_codes}
-use Rattle.si_base.proofs.Steps.{beq-refl, beq-true}
-use Rattle.si_base.proofs.Sorted.{In}
+use Rattle.si_base.proofs.GraphSteps.{beq-refl, beq-true}
+use Rattle.si_base.proofs.OrderAscending.{In}
 use Rattle.si_cube.specs.Literals.{full_literals}
 use Rattle.si_cube.specs.Covers.{without}
 use Rattle.si_cube.specs.Rule.{covers, covers_any}

@@ -11,7 +11,7 @@ use Rattle.si_base.specs.declared.ids.Literal.{Literal}
 use Rattle.si_base.specs.Bits.{bit, flip}
 use Rattle.si_base.specs.Netlist.{literal_value}
 use Rattle.si_base.proofs.BitFacts.{flip-same, flip-other}
-use Rattle.si_base.proofs.Steps.{beq-refl, beq-true}
+use Rattle.si_base.proofs.GraphSteps.{beq-refl, beq-true}
 use Rattle.si_base.specs.Limits.{code_width}
 use Rattle.si_cube.specs.Literals.{literals_of}
 use Rattle.si_cube.specs.Cubes.{Covers, IsLeastAbove}

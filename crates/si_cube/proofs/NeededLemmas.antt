@@ -3,7 +3,7 @@ use Rattle.std.proofs.Common.{◌≡◌, ◌≢◌, ℕ, zero, suc, ◌<◌, ◌
 use Rattle.std.proofs.Common.{subst, ◌∙◌, arith, inl, inr, length, get_or, Contains, append_assoc}
 use Rattle.std.specs.List.{list_any, list_all}
 use Rattle.std.proofs.lemmas.Bool.{cases_Bool, true≢false, false_from_ne_true, and_parts, and_from}
-use Rattle.si_base.proofs.Sorted.{In}
+use Rattle.si_base.proofs.OrderAscending.{In}
 use Rattle.si_cube.specs.Needed.{needed_from}
 
 -- a test of an item beside the others

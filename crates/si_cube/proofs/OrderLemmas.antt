@@ -16,8 +16,8 @@ use Rattle.si_base.specs.declared.ids.Literal.{Literal}
 use Rattle.si_base.specs.Bits.{bit, flip}
 use Rattle.si_base.specs.Netlist.{Sum, sum_value, literal_value}
 use Rattle.si_base.proofs.BitFacts.{same_codes, flip-same, flip-other}
-use Rattle.si_base.proofs.Steps.{beq-refl}
-use Rattle.si_base.proofs.Sorted.{In}
+use Rattle.si_base.proofs.GraphSteps.{beq-refl}
+use Rattle.si_base.proofs.OrderAscending.{In}
 use Rattle.si_cube.specs.Literals.{full_literals}
 use Rattle.si_cube.specs.Order.{values_from, DifferLastAt, HaveSame}
 use Rattle.si_cube.specs.Covers.{without}

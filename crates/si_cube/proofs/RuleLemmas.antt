@@ -7,7 +7,7 @@ use Rattle.std.proofs.lemmas.Bool.{or_left, or_right}
 use Rattle.std.proofs.lemmas.List.Elements.{All-contains}
 use Rattle.si_base.specs.declared.ids.Literal.{Literal}
 use Rattle.si_base.specs.Netlist.{Sum, sum_value}
-use Rattle.si_base.proofs.Sorted.{In}
+use Rattle.si_base.proofs.OrderAscending.{In}
 use Rattle.si_cube.specs.Literals.{full_literals}
 use Rattle.si_cube.specs.Covers.{Demand}
 use Rattle.si_cube.specs.Covers.{IsMeetable, IsCover, IsPrime, IsIrredundant, IsPrimeCover, without}

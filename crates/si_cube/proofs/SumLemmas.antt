@@ -7,7 +7,7 @@ use Rattle.std.proofs.lemmas.List.Kept.{AllPairs-cons}
 use Rattle.si_base.specs.declared.ids.Literal.{Literal}
 use Rattle.si_base.specs.Bits.{bit}
 use Rattle.si_base.specs.WellFormed.{IsCube, IsSum}
-use Rattle.si_base.proofs.Sorted.{In}
+use Rattle.si_base.proofs.OrderAscending.{In}
 use Rattle.si_cube.specs.Literals.{full_literals}
 use Rattle.si_cube.specs.Covers.{Demand}
 use Rattle.si_cube.specs.Needed.{needed_from}

@@ -10,11 +10,11 @@ use Rattle.std.proofs.lemmas.List.Elements.{All-nil, All-cons, Contains-get_or}
 use Rattle.std.proofs.lemmas.List.Kept.{AllPairs-cons}
 use Rattle.si_base.specs.Codes.{CodedGraph, IsCoded}
 use Rattle.si_base.specs.declared.ids.Literal.{Literal}
-use Rattle.si_base.proofs.InOrder.{in_contains}
-use Rattle.si_base.proofs.Sorted.{In}
-use Rattle.si_base.proofs.Unique.{contains_from_in}
+use Rattle.si_base.proofs.OrderLemmas.{in_contains}
+use Rattle.si_base.proofs.OrderAscending.{In}
+use Rattle.si_base.proofs.GivenGraphUnique.{contains_from_in}
 use Rattle.si_cube.proofs.LiteralLemmas.{and_parts, and_both}
-use Rattle.si_graph.proofs.MemberLemmas.{Contains-filter, Contains-from_filter}
+use Rattle.si_graph.proofs.ListMembers.{Contains-filter, Contains-from_filter}
 use Rattle.si_cell.specs.Library.{Library, Instance}
 use Rattle.si_cell.specs.Literals.{has_literal}
 use Rattle.si_match.specs.Fit.{instances, lists_of}

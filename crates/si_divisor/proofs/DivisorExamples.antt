@@ -6,7 +6,7 @@ use Rattle.si_base.specs.Codes.{CodedGraph}
 use Rattle.si_base.specs.Graph.{arc, rise, fall}
 use Rattle.si_base.specs.declared.graph.SigKind.TheVariants.{Input, Output}
 use Rattle.si_base.specs.declared.ids.Literal.{Literal}
-use Rattle.si_base.proofs.Unique.{contains_from_in}
+use Rattle.si_base.proofs.GivenGraphUnique.{contains_from_in}
 use Rattle.si_cell.specs.Library.{Cell, Library, Instance}
 use Rattle.si_match.specs.Fit.{literals_of_signals}
 use Rattle.si_match.specs.Support.{support_of}

@@ -11,10 +11,10 @@ use Rattle.si_base.specs.declared.ids.Event.{Event}
 use Rattle.si_base.specs.Bits.{bit}
 use Rattle.si_base.specs.Codes.{CodedGraph, IsCoded}
 use Rattle.si_base.specs.Graph.{StateGraph, IsGraph, event_place}
-use Rattle.si_base.proofs.StepFacts.{step_within}
+use Rattle.si_base.proofs.StepCodes.{step_within}
 use Rattle.si_graph.specs.Closure.{IsNext, IsClosure, PathBy}
 use Rattle.si_graph.specs.declared.closure.Along.TheVariants.{Out}
-use Rattle.si_graph.proofs.MarkLemmas.{in_below}
+use Rattle.si_graph.proofs.SearchLemmas.{in_below}
 use Rattle.si_graph.proofs.ValueLemmas.{bit-or, bit-zero}
 use Rattle.si_closures.specs.WordSearch.{column, Passes, IsNextBy, IsClosureBy}
 use Rattle.si_closures.specs.Words.{HasAll}

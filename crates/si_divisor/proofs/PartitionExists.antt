@@ -5,8 +5,8 @@ use Rattle.std.proofs.lemmas.List.FromFn.{length-map-range_with_len, get_or-map-
 use Rattle.si_base.specs.Order.{IsFirst}
 use Rattle.si_base.specs.Graph.{StateGraph, IsGraph}
 use Rattle.si_graph.specs.Reach.{IsIn}
-use Rattle.si_checks.proofs.DecisionLemmas as decide
-use Rattle.si_checks.proofs.DecisionLemmas.{Decided}
+use Rattle.si_checks.proofs.SearchDecisions as decide
+use Rattle.si_checks.proofs.SearchDecisions.{Decided}
 use Rattle.si_insert.specs.declared.partition.Class.{Class}
 use Rattle.si_insert.specs.declared.partition.Class.TheVariants.{Low}
 use Rattle.si_divisor.specs.declared.fault.NoPartition.{NoPartition}

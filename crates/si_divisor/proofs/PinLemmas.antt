@@ -12,9 +12,9 @@ use Rattle.si_base.specs.Bits.{bit}
 use Rattle.si_base.specs.Limits.{code_width}
 use Rattle.si_base.specs.Codes.{CodedGraph}
 use Rattle.si_base.specs.declared.ids.Literal.{Literal}
-use Rattle.si_base.proofs.Sorted.{In}
-use Rattle.si_base.proofs.InOrder.{in_contains}
-use Rattle.si_base.proofs.Unique.{contains_from_in}
+use Rattle.si_base.proofs.OrderAscending.{In}
+use Rattle.si_base.proofs.OrderLemmas.{in_contains}
+use Rattle.si_base.proofs.GivenGraphUnique.{contains_from_in}
 use Rattle.si_cube.specs.Literals.{literals_from, literals_of}
 use Rattle.si_cell.specs.Literals.{same_literal, has_literal}
 use Rattle.si_cell.proofs.CubeLemmas.{same_is, same_self}

@@ -3,7 +3,7 @@ use Rattle.std.proofs.Common.{◌≡◌, ℕ, ◌+◌, ◌<◌, List, [], ◌∷
 use Rattle.std.proofs.Common.{◌∙◌, inl, inr}
 use Rattle.std.proofs.lemmas.List.{take_more}
 use Rattle.std.proofs.lemmas.List.Elements.{Contains-append_left, Contains-push, Contains-push_cases}
-use Rattle.si_graph.proofs.MemberLemmas.{Contains-nil}
+use Rattle.si_graph.proofs.ListMembers.{Contains-nil}
 use Rattle.si_base.specs.Codes.{CodedGraph}
 use Rattle.si_base.specs.declared.ids.Literal.{Literal}
 use Rattle.si_regions.specs.declared.regions.Region.{Region}

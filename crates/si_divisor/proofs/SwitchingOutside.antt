@@ -6,7 +6,7 @@ use Rattle.std.proofs.lemmas.List.Elements.{Contains-push_cases}
 use Rattle.si_base.specs.Sets.{IsSubset}
 use Rattle.si_base.specs.Graph.{StateGraph}
 use Rattle.si_graph.specs.Reach.{IsIn, Marks}
-use Rattle.si_graph.proofs.MarkLemmas.{in_none}
+use Rattle.si_graph.proofs.SearchLemmas.{in_none}
 use Rattle.si_insert.specs.declared.partition.Class.{Class}
 use Rattle.si_divisor.specs.Targets.{IsLeast, AreSettled, HaveTargets, forced_in, target}
 use Rattle.si_divisor.specs.Switching.{Switches}

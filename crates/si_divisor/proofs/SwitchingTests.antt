@@ -12,7 +12,7 @@ use Rattle.si_base.specs.declared.graph.Edge.{Edge}
 use Rattle.si_base.specs.declared.graph.Signal.{Signal}
 use Rattle.si_base.specs.declared.graph.SigKind.TheVariants.{Input}
 use Rattle.si_base.specs.Graph.{StateGraph, arc, same_event, is_driven}
-use Rattle.si_base.proofs.Steps.{beq-refl, same_event-refl, same_event-true}
+use Rattle.si_base.proofs.GraphSteps.{beq-refl, same_event-refl, same_event-true}
 use Rattle.si_graph.specs.Reach.{IsIn}
 use Rattle.si_divisor.specs.Targets.{Settles, HaveTargets, holds}
 use Rattle.si_divisor.proofs.TargetSets.{in_within}

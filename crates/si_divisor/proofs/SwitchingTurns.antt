@@ -7,13 +7,13 @@ use Rattle.std.proofs.lemmas.List.Elements.{Contains-push}
 use Rattle.si_base.specs.declared.ids.Event.{Event}
 use Rattle.si_base.specs.declared.graph.Edge.{Edge}
 use Rattle.si_base.specs.Graph.{StateGraph, Step, IsGraph, arc}
-use Rattle.si_base.proofs.StepFacts.{step_within}
+use Rattle.si_base.proofs.StepCodes.{step_within}
 use Rattle.si_graph.specs.Reach.{IsIn, Marks, MarksAll}
 use Rattle.si_graph.specs.Arcs.{AreOut, edge_at, no_edge, IsFirstPlace, IsInto}
 use Rattle.si_graph.specs.declared.closure.Along.TheVariants.{Out}
 use Rattle.si_graph.specs.Closure.{IsClosure}
 use Rattle.si_graph.proofs.ClosureLemmas.{closure_is_least, place_in_walk, none_between}
-use Rattle.si_graph.proofs.MarkLemmas.{marks_same, marks_both, in_none, in_below}
+use Rattle.si_graph.proofs.SearchLemmas.{marks_same, marks_both, in_none, in_below}
 use Rattle.si_insert.specs.Accepted.{IsInput}
 use Rattle.si_divisor.specs.Targets.{IsLeast, Settles, holds, target}
 use Rattle.si_divisor.specs.WorkList.{Works, SwitchRule, Crossed, Preceding, ByInput, Low, Both, FollowsByRule}

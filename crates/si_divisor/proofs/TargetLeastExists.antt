@@ -12,11 +12,11 @@ use Rattle.si_base.specs.declared.graph.Signal.{Signal}
 use Rattle.si_base.specs.declared.graph.SigKind.{SigKind}
 use Rattle.si_base.specs.declared.graph.SigKind.TheVariants.{Input, Output, Internal, Inserted}
 use Rattle.si_base.specs.Graph.{StateGraph, Step, IsGraph, IsNonInput, arc}
-use Rattle.si_base.proofs.StepFacts.{step_within}
+use Rattle.si_base.proofs.StepCodes.{step_within}
 use Rattle.si_graph.specs.Reach.{IsIn, Marks, unmarked}
-use Rattle.si_graph.proofs.MarkLemmas.{in_cases, in_none, one_taken}
-use Rattle.si_checks.proofs.DecisionLemmas as decide
-use Rattle.si_checks.proofs.DecisionLemmas.{Decided, some_of, pairs, in_pairs, of_pairs}
+use Rattle.si_graph.proofs.SearchLemmas.{in_cases, in_none, one_taken}
+use Rattle.si_checks.proofs.SearchDecisions as decide
+use Rattle.si_checks.proofs.SearchDecisions.{Decided, some_of, pairs, in_pairs, of_pairs}
 use Rattle.si_insert.specs.Accepted.{IsInput}
 use Rattle.si_divisor.specs.Targets.{IsLeast, Settles, holds}
 use Rattle.si_insert.specs.Diamond.{Diamond}

@@ -19,7 +19,7 @@ use Rattle.si_base.specs.Behaviour.{IsBisimilar}
 use Rattle.si_base.specs.NetlistText.{Version1, netlist_text, netlist_text_in}
 use mathlib.Core.Bool.{beq}
 use Rattle.std.proofs.lemmas.Bool.{and_parts, or_cases}
-use Rattle.si_base.proofs.Steps.{all_arcs, beq-true}
+use Rattle.si_base.proofs.GraphSteps.{all_arcs, beq-true}
 
 abbrev signals : List Signal
 signals = record { name = codes "a"; kind = Input } ∷ record { name = codes "b"; kind = Input }

@@ -7,7 +7,7 @@ use Rattle.si_base.specs.declared.fault.TextKind.TheVariants.{BadEvent, Toggle, 
 use Rattle.si_base.specs.Graph.{StateGraph, Step, arc, rise, fall, same_event}
 use Rattle.si_base.specs.Netlist.{SumGate, Netlist}
 use Rattle.si_base.specs.System.{State, Fires}
-use Rattle.si_base.proofs.Steps.{all_arcs}
+use Rattle.si_base.proofs.GraphSteps.{all_arcs}
 use Rattle.si_words.specs.Events.{event_fault, event_of}
 use Rattle.si_system.specs.Outcome.{IsOutcome}
 use Rattle.si_system.specs.Verdict.{IsVerdict, Loses}

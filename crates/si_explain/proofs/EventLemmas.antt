@@ -16,10 +16,10 @@ use Rattle.si_base.specs.EdgeOrder.{edge_cmp}
 use Rattle.si_base.specs.Graph.{StateGraph, IsGraph}
 use Rattle.si_base.specs.NetlistText.{bits_from, word_if_any}
 use Rattle.si_base.specs.Words.{line}
-use Rattle.si_base.proofs.StepFacts.{step_within}
-use Rattle.si_base.proofs.Unique.{same_edges}
+use Rattle.si_base.proofs.StepCodes.{step_within}
+use Rattle.si_base.proofs.GivenGraphUnique.{same_edges}
 use Rattle.si_graph.specs.Arcs.{AreOut}
-use Rattle.si_graph.proofs.MemberLemmas.{Contains-filter, Contains-from_filter, Contains-from_map}
+use Rattle.si_graph.proofs.ListMembers.{Contains-filter, Contains-from_filter, Contains-from_map}
 use Rattle.si_words.specs.Writing.{spaced}
 use Rattle.si_words.proofs.WritingLemmas.{whole_line}
 use Rattle.si_sg.specs.CanonicalText.{state_at, event_word}

@@ -10,7 +10,7 @@ use Rattle.si_base.specs.NetlistText.{bits_from, word_if_any}
 use Rattle.si_base.specs.Words.{line, text_of}
 use Rattle.si_conflicts.specs.declared.conflicts.Pair.{Pair}
 use Rattle.si_conflicts.specs.Conflicts.{HasConflicts, AreFirstConflicts, pairs_of}
-use Rattle.si_graph.proofs.MemberLemmas.{Contains-nil}
+use Rattle.si_graph.proofs.ListMembers.{Contains-nil}
 use Rattle.si_sg.specs.CanonicalText.{state_at}
 use Rattle.si_walks.specs.Joined.{Source}
 use Rattle.si_explain.specs.ExplainText.{max_explained, enabled_events, Explained, IsExplained, events_line}

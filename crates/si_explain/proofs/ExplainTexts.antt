@@ -6,7 +6,7 @@ use Rattle.si_base.specs.Proper.{IsConflict}
 use Rattle.si_conflicts.specs.Conflicts.{AreFirstConflicts}
 use Rattle.si_conflicts.proofs.ConflictsExist.{some_count, some_first}
 use Rattle.si_conflicts.proofs.OneConflictList.{one_count, first_unique}
-use Rattle.si_graph.proofs.MemberLemmas.{Contains-cons_cases, Contains-here, Contains-there, Contains-nil}
+use Rattle.si_graph.proofs.ListMembers.{Contains-cons_cases, Contains-here, Contains-there, Contains-nil}
 use Rattle.si_walks.specs.declared.arcs.Arcs.TheVariants.{All}
 use Rattle.si_walks.specs.Joined.{Source, IsSourceOrNone, IsJoinedConflict}
 use Rattle.si_walks.proofs.FirstWalks.{along_all, one_first_walk, some_first_walk}

@@ -9,8 +9,8 @@ use Rattle.si_base.specs.declared.ids.Event.{Event}
 use Rattle.si_base.specs.Graph.{Step, enables}
 use Rattle.si_base.specs.Codes.{CodedGraph, IsDeterministic, code}
 use Rattle.si_base.specs.Graph.{IsGraph}
-use Rattle.si_base.proofs.Steps.{enables-step, step_from_enables}
-use Rattle.si_base.proofs.Circuit.{step_within}
+use Rattle.si_base.proofs.GraphSteps.{enables-step, step_from_enables}
+use Rattle.si_base.proofs.RightGateLemmas.{step_within}
 use Rattle.si_fold.specs.Alike.{IsBisimulation, AreAlike, IsLeastAlike}
 
 -- some number below n passes

@@ -6,7 +6,7 @@ use Rattle.si_base.specs.declared.graph.SigKind.TheVariants.{Input}
 use Rattle.si_base.specs.declared.ids.Event.{Event}
 use Rattle.si_base.specs.Codes.{CodedGraph, code}
 use Rattle.si_base.specs.Graph.{Step, arc, enables, rise, fall}
-use Rattle.si_base.proofs.Steps.{all_arcs}
+use Rattle.si_base.proofs.GraphSteps.{all_arcs}
 use Rattle.si_fold.specs.Alike.{AreAlike, IsLeastAlike}
 use Rattle.si_fold.specs.Folded.{LeadsBetween}
 

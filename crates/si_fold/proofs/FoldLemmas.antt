@@ -11,12 +11,12 @@ use Rattle.si_base.specs.Bits.{bit}
 use Rattle.si_base.specs.Graph.{Step, Walk, IsNonInput, rise, fall, enables}
 use Rattle.si_base.specs.Codes.{CodedGraph, IsCoded, IsConnected, IsDeterministic, AreValues, code}
 use Rattle.si_base.specs.Proper.{IsProper, IsCommutative, IsPersistent}
-use Rattle.si_base.proofs.Circuit.{step_within, code_fits}
-use Rattle.si_base.proofs.Unique.{one_place}
+use Rattle.si_base.proofs.RightGateLemmas.{step_within, code_fits}
+use Rattle.si_base.proofs.GivenGraphUnique.{one_place}
 use Rattle.si_fold.specs.Alike.{IsBisimulation, AreAlike, IsLeastAlike}
 use Rattle.si_fold.specs.Folded.{IsFolded}
 use Rattle.si_fold.proofs.AlikeLemmas.{alike_itself, alike_back, alike_through, alike_after, least_same, least_itself}
-use Rattle.si_fold.proofs.Quotient.{IsQuotient, enables_same}
+use Rattle.si_fold.proofs.FoldedQuotient.{IsQuotient, enables_same}
 
 module _ (c d : CodedGraph) (kept class : List ℕ) (is : IsCoded c) (f : IsFolded c kept class d) where
   -- ---- states and their classes

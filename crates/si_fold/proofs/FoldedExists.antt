@@ -13,10 +13,10 @@ use Rattle.si_fold.specs.declared.numbering.Key.{Key}
 use Rattle.si_fold.specs.Folded.{IsFolded}
 use Rattle.si_fold.specs.Partition.{Shape}
 use Rattle.si_fold.specs.Numbered.{key_of}
-use Rattle.si_fold.proofs.ClassLemmas.{numbered_classes}
+use Rattle.si_fold.proofs.NumberedClasses.{numbered_classes}
 use Rattle.si_fold.proofs.FoldedGraph.{start_inside, arcs_inside, made_is_folded}
 use Rattle.si_fold.proofs.NumberLemmas.{ArePlaced, none_placed, one_more_placed, cases_key}
-use Rattle.si_fold.proofs.CoarsestExist.{refined_shape, shape_is_refined}
+use Rattle.si_fold.proofs.RefinedCoarsest.{refined_shape, shape_is_refined}
 
 -- ---- numbers for the classes
 module _ (places : Key → Option ℕ) (key : Key) (place : ℕ) where

@@ -12,7 +12,7 @@ use Rattle.si_base.specs.Graph.{StateGraph, Step, IsMadeOf, arc, kind_place}
 use Rattle.si_base.specs.Codes.{CodedGraph, IsCoded, code}
 use Rattle.si_graph.specs.Renaming.{renamed}
 use Rattle.si_graph.proofs.CutLemmas.{place_read}
-use Rattle.si_graph.proofs.MemberLemmas.{Contains-map, Contains-from_map}
+use Rattle.si_graph.proofs.ListMembers.{Contains-map, Contains-from_map}
 use Rattle.si_fold.specs.Folded.{AreClasses, IsFolded}
 
 -- the arcs are among so many states and signals

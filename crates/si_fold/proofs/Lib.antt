@@ -1,23 +1,23 @@
-pub mod Quotient
+pub mod FoldedQuotient
 pub mod SameBehaviour
 pub mod AlikeLemmas
 pub mod FoldLemmas
 pub mod FoldedBehaviour
 pub mod UniqueFolded
-mod MarkLemmas
-mod ClassRoom
-mod SplitLemmas
-mod WholeClass
-mod SplitParts
-mod MemberLemmas
-mod LoopLemmas
-mod RefineLemmas
+mod PartitionMarks
+mod PartitionRoom
+mod PartitionSplits
+mod PartitionWhole
+mod PartitionSplitParts
+mod PartitionMembers
+mod RefinementLoop
+mod RefinementLemmas
 mod EventLemmas
 mod NumberLemmas
-mod ClassLemmas
+mod NumberedClasses
 pub mod FoldedGraph
-pub mod FewerArcs
-mod SearchLemmas
-mod CoarsestExist
+pub mod FoldedFewerArcs
+mod NumberSearch
+mod RefinedCoarsest
 pub mod FoldedExists
 mod Examples

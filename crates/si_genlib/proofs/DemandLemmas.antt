@@ -15,7 +15,7 @@ use Rattle.si_base.specs.declared.ids.Literal.{Literal}
 use Rattle.si_base.specs.Bits.{bit}
 use Rattle.si_base.specs.Netlist.{Sum, literal_value, sum_value}
 use Rattle.si_base.specs.WellFormed.{IsCube, IsSum}
-use Rattle.si_base.proofs.Sorted.{In}
+use Rattle.si_base.proofs.OrderAscending.{In}
 use Rattle.si_cube.specs.Covers.{IsMeetable, IsPrimeCover, without}
 use Rattle.si_cube.specs.Rule.{covers}
 use Rattle.si_cube.proofs.CubeFacts.{no_bit}

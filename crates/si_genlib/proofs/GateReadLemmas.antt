@@ -11,7 +11,7 @@ use Rattle.si_genlib.specs.Expression.{Tree, trees, start, read}
 use Rattle.si_genlib.specs.Statements.{quoted_len, quoted, name_of_word, name_at, decimal_at, out_at, equals_at}
 use Rattle.si_genlib.specs.Statements.{body_at, gate_at}
 use Rattle.si_genlib.proofs.GateCellLemmas.{IsReadGate, Holds}
-use Rattle.si_genlib.proofs.ReadLemmas.{pins_few}
+use Rattle.si_genlib.proofs.ExpressionReads.{pins_few}
 
 pub then_holds : {A B : Type 0} (P : A → Type 0) (Q : B → Type 0) (r : Result A Stop) (f : A → Result B Stop)
     → Holds P r → ((x : A) → P x → Holds Q (f x)) → Holds Q (r >>= f)

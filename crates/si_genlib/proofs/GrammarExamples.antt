@@ -5,7 +5,7 @@ use Rattle.si_tokens.specs.Unread.{Unread, Piece, tokens}
 use Rattle.si_genlib.specs.Expression.{Tree, Pin, Not, And, Or, step}
 use Rattle.si_genlib.specs.Grammar.{Syntax, Word, InParens, Primed, Complemented, Beside, Times, Plus, written, tree_of}
 use Rattle.si_genlib.specs.Grammar.{height, IsBeginning, IsSentence, CannotGoOn, GoesTooDeep, bytes_of}
-use Rattle.si_genlib.proofs.ViableLaws.{sentences, cuts, bad_expressions, deep_expressions}
+use Rattle.si_genlib.proofs.GrammarViableLaws.{sentences, cuts, bad_expressions, deep_expressions}
 
 -- what is left of a line, and its tokens
 abbrev left_of : List ℕ → Unread

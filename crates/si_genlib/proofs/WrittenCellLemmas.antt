@@ -10,7 +10,7 @@ use Rattle.std.proofs.lemmas.List.Elements.{All-push, recursion_from_All}
 use Rattle.std.proofs.lemmas.List.Folds.{list_all-append, list_any_none}
 use Rattle.std.proofs.lemmas.List.Quantifiers.{all_pairs_push}
 use Rattle.std.specs.List.{AllByRecursion, list_all, list_any}
-use Rattle.si_base.proofs.CleanWords.{excludes}
+use Rattle.si_base.proofs.WordLemmas.{excludes}
 use Rattle.si_base.specs.declared.graph.Signal.{Signal}
 use Rattle.si_base.specs.declared.graph.SigKind.TheVariants.{Input}
 use Rattle.si_base.specs.declared.ids.Literal.{Literal}

@@ -7,7 +7,7 @@ use Rattle.std.proofs.lemmas.List.{append-nil, take_all}
 use Rattle.si_base.specs.Lines.{lines_of, put_first, words_in, begins, is_plain, is_blank, before_comment, is_bad}
 use Rattle.si_base.specs.Lines.{has_bad_byte}
 use Rattle.si_base.specs.Words.{text_of, is_word_byte, is_model_name}
-use Rattle.si_base.proofs.CleanWords.{excludes}
+use Rattle.si_base.proofs.WordLemmas.{excludes}
 
 -- ---- bytes
 

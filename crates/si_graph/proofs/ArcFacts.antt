@@ -8,7 +8,7 @@ use Rattle.std.proofs.lemmas.Bool.{and_parts, eqb-true}
 use Rattle.std.proofs.lemmas.Bool.Decides.{nat_tests}
 use Rattle.si_base.specs.EdgeOrder.{edge_cmp}
 use Rattle.si_base.specs.declared.graph.Edge.{Edge}
-use Rattle.si_base.proofs.Steps.{beq-true}
+use Rattle.si_base.proofs.GraphSteps.{beq-true}
 use mathlib.Core.Bool.{beq}
 
 -- the arc stays within so many states and signals

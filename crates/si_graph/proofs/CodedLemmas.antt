@@ -10,7 +10,7 @@ use Rattle.si_base.specs.Bits.{bit}
 use Rattle.si_base.specs.Graph.{StateGraph, Step, IsGraph, arc, rise, fall}
 use Rattle.si_base.specs.Codes.{AreValues, HasValues, IsIdle, IsConnected, IsDeterministic, IsCoded}
 use Rattle.si_base.specs.Proper.{IsFirstWithoutValues}
-use Rattle.si_base.proofs.StepFacts.{step_within, turns, old_value}
+use Rattle.si_base.proofs.StepCodes.{step_within, turns, old_value}
 use Rattle.si_graph.specs.Values.{TellsValues, Suits, SuitAll, IsFirstUnsuited}
 use Rattle.si_graph.proofs.ValueLemmas.{fits_from_bits}
 

@@ -10,13 +10,13 @@ use Rattle.std.proofs.lemmas.List.Sums.{sum_by-set}
 use Rattle.si_base.specs.declared.ids.Event.{Event}
 use Rattle.si_base.specs.declared.graph.Edge.{Edge}
 use Rattle.si_base.specs.Graph.{Walk, StateGraph, IsReachable, IsGraph, IsMadeOf, IsCut, arc}
-use Rattle.si_base.proofs.Circuit.{step_within}
+use Rattle.si_base.proofs.RightGateLemmas.{step_within}
 use Rattle.si_graph.specs.Reach.{IsIn, unmarked}
 use Rattle.si_graph.specs.Renaming.{Renames}
 use Rattle.si_graph.proofs.ArcFacts.{IsInside}
 use Rattle.si_graph.proofs.CutLemmas.{new_arcs, new_arcs_few, new_arcs_inside, start_within, made_is_cut}
-use Rattle.si_graph.proofs.MarkLemmas.{stays_in, in_cases, is_set, reachable-step}
-use Rattle.si_graph.proofs.MemberLemmas.{Contains-cons_cases, Contains-here, Contains-there, Contains-nil}
+use Rattle.si_graph.proofs.SearchLemmas.{stays_in, in_cases, is_set, reachable-step}
+use Rattle.si_graph.proofs.ListMembers.{Contains-cons_cases, Contains-here, Contains-there, Contains-nil}
 use Rattle.si_graph.proofs.RenamingLemmas.{Renames-marked, Renames-unmarked}
 use Rattle.si_graph.proofs.ArcsInOrder.{arcs_in_order}
 

@@ -16,8 +16,8 @@ use Rattle.si_base.specs.Codes.{IsConnected}
 use Rattle.si_graph.specs.Reach.{IsIn}
 use Rattle.si_graph.specs.Renaming.{Renames, renamed, leaves_marked}
 use Rattle.si_graph.proofs.ArcFacts.{IsInside}
-use Rattle.si_graph.proofs.MarkLemmas.{in_below, reachable-step}
-use Rattle.si_graph.proofs.MemberLemmas.{Contains-filter, Contains-from_filter, Contains-map, Contains-from_map}
+use Rattle.si_graph.proofs.SearchLemmas.{in_below, reachable-step}
+use Rattle.si_graph.proofs.ListMembers.{Contains-filter, Contains-from_filter, Contains-map, Contains-from_map}
 
 -- in a list that ascends strictly a number stands at one place
 pub one_place : (kept : List ℕ) → IsStrictlySortedBy nat_cmp kept → (i j : ℕ) → i < length kept → j < length kept

@@ -11,14 +11,14 @@ use Rattle.std.proofs.lemmas.List.Kept.{Contains-dedup, Contains-from_dedup}
 use Rattle.std.proofs.lemmas.List.Sorted.{Contains-permutation, IsPermutation-sym}
 use Rattle.si_base.specs.declared.graph.Edge.{Edge}
 use Rattle.si_base.specs.EdgeOrder.{edge_cmp}
-use Rattle.si_base.proofs.Unique.{same_edges}
+use Rattle.si_base.proofs.GivenGraphUnique.{same_edges}
 use Rattle.si_graph.specs.Arcs.{edge_at, no_edge}
 use Rattle.si_graph.specs.Chains.{IsFirstOrEnd}
 use Rattle.si_graph.specs.Ends.{source}
 use Rattle.si_graph.specs.Groups.{IsGroup, AreGroups, HaveSameArcs}
 use Rattle.si_graph.proofs.ArcFacts.{edge_eq, edge_eq_equiv, edge_eq-true}
 use Rattle.si_graph.proofs.ArcsInOrder.{AreOrdered, arcs_in_order}
-use Rattle.si_graph.proofs.MemberLemmas.{Contains-nil}
+use Rattle.si_graph.proofs.ListMembers.{Contains-nil}
 
 -- ---- one group
 -- the arcs out of s that stand before k are gathered, and no others; one stands at k, unless k is

@@ -9,8 +9,8 @@ use Rattle.si_base.specs.declared.graph.Edge.{Edge}
 use Rattle.si_base.specs.Bits.{bit, IsSet}
 use Rattle.si_base.specs.Codes.{CodedGraph, IsCoded, code, next_value}
 use Rattle.si_base.specs.Graph.{Step, arc, enables, rise, fall}
-use Rattle.si_base.proofs.StepFacts.{step_within, old_value, code_fits, no_bit}
-use Rattle.si_base.proofs.Steps.{enables-step, step_from_enables}
+use Rattle.si_base.proofs.StepCodes.{step_within, old_value, code_fits, no_bit}
+use Rattle.si_base.proofs.GraphSteps.{enables-step, step_from_enables}
 use Rattle.si_graph.specs.Arcs.{AreOut}
 use Rattle.si_graph.specs.NextCodes.{IsNextCode}
 use Rattle.si_graph.proofs.ValueLemmas.{fits_from_bits}

@@ -19,7 +19,7 @@ use Rattle.si_base.specs.declared.graph.Edge.{Edge}
 use Rattle.si_base.specs.EdgeOrder.{event_cmp, edge_cmp}
 use Rattle.si_base.specs.Graph.{StateGraph, Step, arc, enables, event_place}
 use Rattle.si_base.specs.System.{IsLeastTarget}
-use Rattle.si_base.proofs.Steps.{step_from_enables}
+use Rattle.si_base.proofs.GraphSteps.{step_from_enables}
 use Rattle.si_graph.specs.Arcs.{AreOut}
 
 pub event_total : IsTotalOrder event_cmp

@@ -14,12 +14,12 @@ use Rattle.si_base.specs.declared.graph.Edge.{Edge}
 use Rattle.si_base.specs.Bits.{bit, flip}
 use Rattle.si_base.specs.Graph.{StateGraph, Step, Walk, arc}
 use Rattle.si_base.specs.Codes.{IsConnected, parity}
-use Rattle.si_base.proofs.Parity.{turn}
+use Rattle.si_base.proofs.CodeParity.{turn}
 use Rattle.si_base.proofs.BitFacts.{same_codes}
 use Rattle.si_graph.specs.Arcs.{AreOut}
 use Rattle.si_graph.specs.Changes.{IsChange, AreChanges, LeadsInto, AreSpread, left_to_do}
 use Rattle.si_graph.specs.Reach.{IsIn}
-use Rattle.si_graph.proofs.MarkLemmas.{stays_in, in_cases, is_set, in_none, Walk-push}
+use Rattle.si_graph.proofs.SearchLemmas.{stays_in, in_cases, is_set, in_none, Walk-push}
 use Rattle.si_graph.proofs.ValueLemmas.{bit-xor}
 
 -- ---- changes along walks

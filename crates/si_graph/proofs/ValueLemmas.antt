@@ -16,7 +16,7 @@ use Rattle.si_base.specs.declared.graph.Edge.{Edge}
 use Rattle.si_base.specs.Bits.{bit, IsSet}
 use Rattle.si_base.specs.Graph.{StateGraph, Step, IsGraph, arc}
 use Rattle.si_base.specs.Codes.{AreValues}
-use Rattle.si_base.proofs.Parity.{turn, values_along, start_shown}
+use Rattle.si_base.proofs.CodeParity.{turn, values_along, start_shown}
 use Rattle.si_graph.specs.Changes.{AreChanges}
 use Rattle.si_graph.specs.Values.{IsStartCode, TellsValues, Suits, SuitAll}
 

@@ -10,8 +10,8 @@ use Rattle.si_base.specs.EdgeOrder.{edge_cmp}
 use Rattle.si_base.specs.Graph.{arc, rise, fall, kind_place}
 use Rattle.si_base.specs.GivenGraph.{Sg}
 use Rattle.si_handshakes.specs.Handshakes.{phase, request, acknowledgement, GoesOn, IsHandshakes}
-use Rattle.si_handshakes.proofs.NumberedNames.{both_kinds, kinds_in_order, names_differ}
-use Rattle.si_handshakes.proofs.MadeArcs.{made, made_steps, all_steps}
+use Rattle.si_handshakes.proofs.NamesNumbered.{both_kinds, kinds_in_order, names_differ}
+use Rattle.si_handshakes.proofs.ArcsMade.{made, made_steps, all_steps}
 use Rattle.si_handshakes.proofs.DigitLemmas.{later}
 
 -- the arcs of one handshake, of which signal 0 is the request and signal 1 the acknowledgement

@@ -9,9 +9,9 @@ use Rattle.si_base.specs.Graph.{StateGraph, IsGraph, IsMadeOf}
 use Rattle.si_graph.proofs.ArcsInOrder.{arcs_in_order}
 use Rattle.si_handshakes.specs.Handshakes.{numbered, IsHandshakes, max_handshakes}
 use Rattle.si_handshakes.proofs.DigitLemmas.{at_most, power_pos}
-use Rattle.si_handshakes.proofs.MadeArcs.{made, length-made}
-use Rattle.si_handshakes.proofs.MadeGraph.{in_range, made_handshakes}
-use Rattle.si_handshakes.proofs.NumberedNames.{both_kinds, kinds_in_order, names_differ, twice_as_many}
+use Rattle.si_handshakes.proofs.ArcsMade.{made, length-made}
+use Rattle.si_handshakes.proofs.HandshakeGraph.{in_range, made_handshakes}
+use Rattle.si_handshakes.proofs.NamesNumbered.{both_kinds, kinds_in_order, names_differ, twice_as_many}
 
 module _ (n : ℕ) (few : n ≤ max_handshakes) where
   -- the arcs as they are made, and in order

@@ -1,11 +1,11 @@
 mod Examples
 pub mod DigitLemmas
-pub mod NumberedNames
-pub mod Phases
-pub mod MadeArcs
-pub mod ProperGraph
-pub mod Refusals
-pub mod Sizes
-pub mod MadeGraph
-pub mod WrittenNames
+pub mod NamesNumbered
+pub mod HandshakePhases
+pub mod ArcsMade
+pub mod HandshakeProper
+pub mod HandshakeRefusals
+pub mod HandshakeSizes
+pub mod HandshakeGraph
+pub mod NamesWritten
 pub mod HandshakesExist

@@ -10,7 +10,7 @@ use Rattle.si_base.specs.Limits.{max_signals, max_states}
 use Rattle.si_base.specs.Graph.{StateGraph, Step, IsGraph, IsNonInput, enables}
 use Rattle.si_base.specs.Codes.{CodedGraph, IsCoded, IsDeterministic}
 use Rattle.si_base.specs.Proper.{IsProper, Loss, Loses, loss_place}
-use Rattle.si_base.proofs.Steps.{enables-step, step_from_enables}
+use Rattle.si_base.proofs.GraphSteps.{enables-step, step_from_enables}
 use Rattle.si_insert.specs.declared.partition.Class.{Class}
 use Rattle.si_insert.specs.declared.accept.Rejected.{Rejected}
 use Rattle.si_insert.specs.declared.accept.Rejected.TheVariants.{DelaysInput, BreaksPersistency, TooLarge, NoCodeBit}

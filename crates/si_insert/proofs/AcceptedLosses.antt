@@ -9,8 +9,8 @@ use Rattle.si_base.specs.Order.{IsFirst}
 use Rattle.si_base.specs.Graph.{StateGraph, Step, IsGraph, IsNonInput, enables}
 use Rattle.si_base.specs.Codes.{CodedGraph, IsCoded, IsDeterministic}
 use Rattle.si_base.specs.Proper.{IsProper, IsPersistent, Loss, Loses}
-use Rattle.si_base.proofs.Circuit.{step_within}
-use Rattle.si_base.proofs.Steps.{enables-step, step_from_enables}
+use Rattle.si_base.proofs.RightGateLemmas.{step_within}
+use Rattle.si_base.proofs.GraphSteps.{enables-step, step_from_enables}
 use Rattle.si_insert.specs.declared.partition.Class.{Class}
 use Rattle.si_insert.specs.Partition.{class_of, IsLawful}
 use Rattle.si_insert.specs.Insertion.{Copy, IsCopy, IsCopied, Moves, waits, IsInsertedGraph}

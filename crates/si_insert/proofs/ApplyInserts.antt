@@ -12,8 +12,8 @@ use Rattle.si_base.specs.declared.graph.Edge.{Edge}
 use Rattle.si_base.specs.declared.graph.Signal.{Signal}
 use Rattle.si_base.specs.declared.graph.SigKind.TheVariants.{Inserted}
 use Rattle.si_base.specs.Graph.{StateGraph, Step, arc, IsGraph}
-use Rattle.si_base.proofs.Circuit.{step_within}
-use Rattle.si_base.proofs.Sorted.{nat_same}
+use Rattle.si_base.proofs.RightGateLemmas.{step_within}
+use Rattle.si_base.proofs.OrderAscending.{nat_same}
 use Rattle.si_insert.specs.declared.partition.Class.{Class}
 use Rattle.si_insert.specs.declared.partition.Class.TheVariants.{Low, Rising, High, Falling}
 use Rattle.si_insert.specs.Partition.{class_of, IsLawful}
@@ -26,8 +26,8 @@ use Rattle.si_insert.specs.GraphOfCopies.{switch_edge, switch_edges, edges_from,
 use Rattle.si_insert.proofs.PartitionClasses.{arrives, entry_there, switching_there}
 use Rattle.si_insert.proofs.InsertionCopies.{copy, one_place}
 use Rattle.si_insert.proofs.FlatMaps.{Contains-flat_map, Contains-from_flat_map}
-use Rattle.si_graph.proofs.MemberLemmas.{Contains-here, Contains-cons_cases, Contains-nil, Contains-filter}
-use Rattle.si_graph.proofs.MemberLemmas.{Contains-from_filter, Contains-map, Contains-from_map}
+use Rattle.si_graph.proofs.ListMembers.{Contains-here, Contains-cons_cases, Contains-nil, Contains-filter}
+use Rattle.si_graph.proofs.ListMembers.{Contains-from_filter, Contains-map, Contains-from_map}
 
 -- ---- the list of copies
 named : (i j : ℕ) (b : Bool) → i ≡ j → Some (copy i b) ≡ Some (copy j b)

@@ -11,7 +11,7 @@ use Rattle.si_base.specs.declared.graph.SigKind.{SigKind}
 use Rattle.si_base.specs.declared.graph.SigKind.TheVariants.{Input, Output, Internal, Inserted}
 use Rattle.si_base.specs.Graph.{StateGraph, IsGraph, IsMadeOf, kind_place}
 use Rattle.si_base.specs.Codes.{CodedGraph, IsCoded}
-use Rattle.si_base.proofs.Circuit.{step_within}
+use Rattle.si_base.proofs.RightGateLemmas.{step_within}
 use Rattle.si_insert.specs.declared.partition.Class.{Class}
 use Rattle.si_insert.specs.Partition.{IsLawful}
 use Rattle.si_insert.specs.Insertion.{IsInsertedGraph}

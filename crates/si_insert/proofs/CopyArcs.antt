@@ -10,10 +10,10 @@ use Rattle.std.specs.List.{flat_map}
 use Rattle.si_base.specs.declared.graph.Edge.{Edge}
 use Rattle.si_base.specs.EdgeOrder.{edge_cmp}
 use Rattle.si_base.specs.Graph.{StateGraph}
-use Rattle.si_base.proofs.Circuit.{step_within}
-use Rattle.si_base.proofs.Unique.{same_edges}
+use Rattle.si_base.proofs.RightGateLemmas.{step_within}
+use Rattle.si_base.proofs.GivenGraphUnique.{same_edges}
 use Rattle.si_graph.specs.Arcs.{AreOut}
-use Rattle.si_graph.proofs.MemberLemmas.{Contains-filter, Contains-from_filter}
+use Rattle.si_graph.proofs.ListMembers.{Contains-filter, Contains-from_filter}
 use Rattle.si_insert.specs.declared.partition.Class.{Class}
 use Rattle.si_insert.specs.declared.partition.Class.TheVariants.{Low, Rising, High, Falling}
 use Rattle.si_insert.specs.Partition.{class_of}

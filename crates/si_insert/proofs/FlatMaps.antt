@@ -2,7 +2,7 @@
 use Rattle.std.proofs.Common.{List, [], ◌∷◌, Contains, sym, subst, inl, inr}
 use Rattle.std.specs.List.{flat_map}
 use Rattle.std.proofs.lemmas.List.Elements.{Contains-append_left, Contains-append_right, Contains-append_cases}
-use Rattle.si_graph.proofs.MemberLemmas.{Contains-here, Contains-there, Contains-cons_cases, Contains-nil}
+use Rattle.si_graph.proofs.ListMembers.{Contains-here, Contains-there, Contains-cons_cases, Contains-nil}
 
 module _ {X Y : Type 0} (f : X → List Y) where
   pub Contains-flat_map : (xs : List X) (x : X) (y : Y) → Contains xs x → Contains (f x) y → Contains (flat_map f xs) y

@@ -9,8 +9,8 @@ use Rattle.si_base.specs.declared.graph.Signal.{Signal}
 use Rattle.si_base.specs.Graph.{StateGraph, Step, IsGraph}
 use Rattle.si_base.specs.Codes.{IsDeterministic}
 use Rattle.si_base.specs.Proper.{IsCommutative}
-use Rattle.si_base.proofs.Circuit.{step_within}
-use Rattle.si_base.proofs.Sorted.{sorted_at, nat_same, bool_same}
+use Rattle.si_base.proofs.RightGateLemmas.{step_within}
+use Rattle.si_base.proofs.OrderAscending.{sorted_at, nat_same, bool_same}
 use Rattle.si_insert.specs.declared.partition.Class.{Class}
 use Rattle.si_insert.specs.Partition.{class_of, IsLawful}
 use Rattle.si_insert.specs.Insertion.{Copy, IsCopy, IsCopied, IsSwitch, Moves, has_copy, waits, switching, copy_cmp}

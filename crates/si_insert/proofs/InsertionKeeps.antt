@@ -14,8 +14,8 @@ use Rattle.si_base.specs.Bits.{bit}
 use Rattle.si_base.specs.Graph.{StateGraph, Step, IsGraph, enables}
 use Rattle.si_base.specs.Codes.{CodedGraph, code, IsCoded}
 use Rattle.si_base.specs.Proper.{IsProper}
-use Rattle.si_base.proofs.Circuit.{step_within, code_fits}
-use Rattle.si_base.proofs.Steps.{enables-step, step_from_enables}
+use Rattle.si_base.proofs.RightGateLemmas.{step_within, code_fits}
+use Rattle.si_base.proofs.GraphSteps.{enables-step, step_from_enables}
 use Rattle.si_insert.specs.declared.partition.Class.{Class}
 use Rattle.si_insert.specs.Partition.{class_of, IsLawful}
 use Rattle.si_insert.specs.Insertion.{Copy, IsCopied, IsSwitch, Moves, entry, switching, IsInsertedGraph, copy_code}

@@ -8,7 +8,7 @@ use Rattle.si_base.specs.declared.graph.Edge.{Edge}
 use Rattle.si_base.specs.EdgeOrder.{edge_cmp}
 use Rattle.si_base.specs.Graph.{Step, arc, rise, fall}
 use Rattle.si_base.specs.Codes.{CodedGraph, IsCoded}
-use Rattle.si_base.proofs.Sorted.{sorted_at, nat_same, bool_same}
+use Rattle.si_base.proofs.OrderAscending.{sorted_at, nat_same, bool_same}
 
 -- ---- what comes before in the order of arcs
 pub not_less_from : (a b : Edge) → b.from < a.from → edge_cmp a b ≡ Less → ⊥

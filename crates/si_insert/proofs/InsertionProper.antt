@@ -12,7 +12,7 @@ use Rattle.si_base.specs.Bits.{bit}
 use Rattle.si_base.specs.Graph.{StateGraph, Step, Walk, IsReachable, IsGraph}
 use Rattle.si_base.specs.Codes.{CodedGraph, code, IsCoded, IsDeterministic, IsConnected}
 use Rattle.si_base.specs.Proper.{IsCommutative}
-use Rattle.si_base.proofs.Circuit.{step_within, code_fits}
+use Rattle.si_base.proofs.RightGateLemmas.{step_within, code_fits}
 use Rattle.si_base.proofs.BitFacts.{flip-same, flip-other}
 use Rattle.si_insert.specs.declared.partition.Class.{Class}
 use Rattle.si_insert.specs.Partition.{class_of, IsLawful}

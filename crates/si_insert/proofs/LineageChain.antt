@@ -18,8 +18,8 @@ use Rattle.si_base.specs.Netlist.{Netlist, IsExcited}
 use Rattle.si_base.specs.System.{State, Fires, Runs, IsReached, start, IsLeastTarget, Follows, May, is_inserted}
 use Rattle.si_base.specs.Behaviour.{IsBisimilar, IsInputEvent, IsHidden, LosesNoExcitation, HasNoSilentCycle}
 use Rattle.si_base.specs.Behaviour.{Implements}
-use Rattle.si_base.proofs.Circuit.{step_within, code_of_step, old_value, excited_enables, enabled_excites}
-use Rattle.si_base.proofs.Steps.{enables-step, step_from_enables}
+use Rattle.si_base.proofs.RightGateLemmas.{step_within, code_of_step, old_value, excited_enables, enabled_excites}
+use Rattle.si_base.proofs.GraphSteps.{enables-step, step_from_enables}
 use Rattle.si_insert.specs.Accepted.{IsInput}
 use Rattle.si_insert.specs.declared.lineage.TraceStep.{TraceStep}
 use Rattle.si_insert.specs.Lineage.{Current, given_current, origin, IsLineage, Silently, Keeps, AllGiven}

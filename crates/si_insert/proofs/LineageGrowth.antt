@@ -9,7 +9,7 @@ use Rattle.si_base.specs.Graph.{StateGraph}
 use Rattle.si_base.specs.declared.graph.Signal.{Signal}
 use Rattle.si_base.specs.Limits.{max_signals}
 use Rattle.si_base.specs.Codes.{CodedGraph, IsCoded, code}
-use Rattle.si_base.proofs.Circuit.{code_fits}
+use Rattle.si_base.proofs.RightGateLemmas.{code_fits}
 use Rattle.si_insert.specs.declared.partition.Class.{Class}
 use Rattle.si_insert.specs.declared.lineage.TraceStep.{TraceStep}
 use Rattle.si_insert.specs.Partition.{IsLawful}

@@ -14,11 +14,11 @@ use Rattle.std.specs.Ordering.{ordering_then}
 use Rattle.si_base.specs.declared.graph.Edge.{Edge}
 use Rattle.si_base.specs.EdgeOrder.{event_cmp, edge_cmp}
 use Rattle.si_base.specs.Graph.{StateGraph, IsGraph}
-use Rattle.si_base.proofs.Circuit.{step_within}
-use Rattle.si_base.proofs.Sorted.{after_head, nat_less, nat_same, sorted_at}
-use Rattle.si_base.proofs.Unique.{in_from_contains}
-use Rattle.si_graph.proofs.MemberLemmas.{Contains-here, Contains-there, Contains-cons_cases, Contains-nil}
-use Rattle.si_graph.proofs.MemberLemmas.{Contains-from_filter, Contains-from_map}
+use Rattle.si_base.proofs.RightGateLemmas.{step_within}
+use Rattle.si_base.proofs.OrderAscending.{after_head, nat_less, nat_same, sorted_at}
+use Rattle.si_base.proofs.GivenGraphUnique.{in_from_contains}
+use Rattle.si_graph.proofs.ListMembers.{Contains-here, Contains-there, Contains-cons_cases, Contains-nil}
+use Rattle.si_graph.proofs.ListMembers.{Contains-from_filter, Contains-from_map}
 use Rattle.si_graph.proofs.OrderLemmas.{then_Less}
 use Rattle.si_insert.specs.declared.partition.Class.{Class}
 use Rattle.si_insert.specs.declared.partition.Class.TheVariants.{Low, Rising, High, Falling}

@@ -5,7 +5,7 @@ use Rattle.std.proofs.lemmas.Bool.{cases_Bool, cases_lt, cases_order, true≢fal
 use Rattle.std.proofs.lemmas.Slice.Eq.{bytes_eq-Decides}
 use Rattle.si_base.specs.declared.graph.Signal.{Signal}
 use Rattle.si_base.specs.Limits.{max_signals}
-use Rattle.si_checks.proofs.DecisionLemmas.{Decided, some_of}
+use Rattle.si_checks.proofs.SearchDecisions.{Decided, some_of}
 use Rattle.si_insert.specs.Fresh.{IsTaken, IsFresh}
 use Rattle.si_insert.proofs.FreshNameExists.{last_fresh}
 

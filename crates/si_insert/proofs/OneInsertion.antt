@@ -6,8 +6,8 @@ use Rattle.std.specs.Ordering.{bool_cmp}
 use Rattle.si_base.specs.declared.graph.Signal.{Signal}
 use Rattle.si_base.specs.Graph.{StateGraph, IsGraph}
 use Rattle.si_base.specs.Codes.{CodedGraph}
-use Rattle.si_base.proofs.Sorted.{In, IsStrict, same_elements}
-use Rattle.si_base.proofs.Unique.{in_from_contains, contains_from_in, same_edges, same_graph}
+use Rattle.si_base.proofs.OrderAscending.{In, IsStrict, same_elements}
+use Rattle.si_base.proofs.GivenGraphUnique.{in_from_contains, contains_from_in, same_edges, same_graph}
 use Rattle.si_insert.specs.declared.partition.Class.{Class}
 use Rattle.si_insert.specs.Insertion.{Copy, copy_cmp, IsInsertedGraph, new_signal}
 use Rattle.si_insert.specs.declared.lineage.TraceStep.{TraceStep}

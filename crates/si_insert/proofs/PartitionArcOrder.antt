@@ -10,7 +10,7 @@ use Rattle.si_base.specs.EdgeOrder.{edge_cmp}
 use Rattle.std.specs.List.Sorted.{IsStrictlySortedBy}
 use Rattle.si_base.specs.Order.{Before, IsFirst}
 use Rattle.si_base.specs.Graph.{StateGraph, event_place, IsGraph}
-use Rattle.si_base.proofs.Sorted.{sorted_at, nat_same, bool_same}
+use Rattle.si_base.proofs.OrderAscending.{sorted_at, nat_same, bool_same}
 use Rattle.si_insert.specs.Partition.{edge_place}
 use Rattle.si_insert.proofs.InsertionLimits.{not_less_from, not_less_sig}
 

@@ -3,10 +3,10 @@ use Rattle.std.proofs.Common.{◌≡◌, ℕ, zero, suc, ◌+◌, ◌<◌, ◌�
 use Rattle.std.proofs.Common.{sym, ap, subst, subst₂, ◌∙◌, arith, inl, inr}
 use Rattle.std.proofs.lemmas.Bool.{cases_lt}
 use Rattle.si_base.specs.Order.{Before, IsFirst}
-use Rattle.si_base.proofs.InOrder.{before_apart, before_itself}
+use Rattle.si_base.proofs.OrderLemmas.{before_apart, before_itself}
 use Rattle.si_checks.specs.Searches.{IsFirstOrNone}
-use Rattle.si_checks.proofs.DecisionLemmas.{Decided}
-use Rattle.si_checks.proofs.FirstLemmas.{firsts_at_one_place}
+use Rattle.si_checks.proofs.SearchDecisions.{Decided}
+use Rattle.si_checks.proofs.SearchFirst.{firsts_at_one_place}
 use Rattle.si_insert.specs.RowSearch.{weight_order, IsSeen, IsLeastSeen, bar}
 
 -- ---- the order of places in rows

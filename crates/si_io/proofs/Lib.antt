@@ -1,2 +1,2 @@
-pub mod KnownLemmas
+pub mod ReadingLemmas
 mod Examples

@@ -19,14 +19,14 @@ use Rattle.si_base.specs.Netlist.{Sum}
 use Rattle.si_base.specs.NetlistText.{name_of, sum_words}
 use Rattle.si_base.specs.Order.{Before}
 use Rattle.si_base.specs.Words.{line, text_of}
-use Rattle.si_base.proofs.InOrder.{same_in_order}
+use Rattle.si_base.proofs.OrderLemmas.{same_in_order}
 use Rattle.si_checks.proofs.ConflictsDecided.{conflict_or_none}
 use Rattle.si_checks.proofs.UniqueBreaches.{one_conflict}
 use Rattle.si_cover.specs.Mono.{InSignalOrder}
 use Rattle.si_cover.proofs.MonoLemmas.{least_monos_have_same_literals, strayed_is_none, no_mono_is_unique}
 use Rattle.si_cover.proofs.MonosExist.{mono_or_none}
 use Rattle.si_cube.specs.Literals.{literals_from, literals_of}
-use Rattle.si_graph.proofs.MemberLemmas.{Contains-cons_cases, Contains-here, Contains-there, Contains-nil}
+use Rattle.si_graph.proofs.ListMembers.{Contains-cons_cases, Contains-here, Contains-there, Contains-nil}
 use Rattle.si_regions.specs.declared.regions.Region.{Region}
 use Rattle.si_regions.specs.Regions.{IsRegion, AreRegions}
 use Rattle.si_regions.proofs.RegionsExist.{some_regions}

@@ -8,8 +8,8 @@ use Rattle.si_base.specs.declared.ids.Event.{Event}
 use Rattle.si_base.specs.Order.{Before}
 use Rattle.si_base.specs.Graph.{StateGraph, IsGraph, event_place, same_event}
 use Rattle.si_base.specs.Codes.{CodedGraph, IsCoded}
-use Rattle.si_base.proofs.StepFacts.{step_within}
-use Rattle.si_base.proofs.Steps.{same_event-refl, same_event-true, step_from_enables}
+use Rattle.si_base.proofs.StepCodes.{step_within}
+use Rattle.si_base.proofs.GraphSteps.{same_event-refl, same_event-true, step_from_enables}
 use Rattle.si_graph.proofs.OrderLemmas.{event_from_place}
 use Rattle.si_regions.specs.declared.regions.Region.{Region}
 use Rattle.si_regions.specs.Regions.{IsRegion, WalkThrough, region_place}

@@ -10,7 +10,7 @@ use Rattle.si_base.specs.declared.graph.Signal.{Signal}
 use Rattle.si_base.specs.declared.graph.SigKind.TheVariants.{Inserted}
 use Rattle.si_base.specs.Graph.{StateGraph, Step, enables, rise, fall, is_driven}
 use Rattle.si_base.specs.Codes.{CodedGraph, code, next_value}
-use Rattle.si_base.proofs.Steps.{enables-step, step_from_enables}
+use Rattle.si_base.proofs.GraphSteps.{enables-step, step_from_enables}
 use Rattle.si_cell.specs.Library.{Library, Instance, cell_at, pin_values}
 use Rattle.si_insert.specs.declared.partition.Class.{Class}
 use Rattle.si_insert.specs.Insertion.{Copy, IsInsertedGraph, coded, copy_code}

@@ -10,7 +10,7 @@ use Rattle.si_base.specs.Netlist.{literal_value, sum_value}
 use Rattle.si_base.specs.declared.ids.Event.{Event}
 use Rattle.si_base.specs.declared.ids.Literal.{Literal}
 use Rattle.si_base.specs.declared.graph.Signal.{Signal}
-use Rattle.si_base.proofs.Steps.{enables-step, step_from_enables}
+use Rattle.si_base.proofs.GraphSteps.{enables-step, step_from_enables}
 use Rattle.si_cell.specs.Library.{Library, Instance, cell_at, code_of, instance_value}
 use Rattle.si_insert.specs.declared.partition.Class.{Class}
 use Rattle.si_insert.specs.Partition.{class_of, IsLawful}

@@ -10,7 +10,7 @@ use Rattle.std.proofs.lemmas.List.Sums.{list_all-from_AllPass}
 use Rattle.std.proofs.lemmas.Nat.{and_assoc}
 use mathlib.Core.Bool.{beq}
 use Rattle.si_base.proofs.BitFacts.{same_codes, flip-same, flip-other}
-use Rattle.si_base.proofs.Steps.{beq-refl}
+use Rattle.si_base.proofs.GraphSteps.{beq-refl}
 use Rattle.si_base.specs.Bits.{bit, flip}
 use Rattle.si_base.specs.Codes.{CodedGraph, code, next_value}
 use Rattle.si_cube.proofs.LiteralLemmas.{bit-and}
@@ -19,7 +19,7 @@ use Rattle.std.specs.List.Sorted.{IsBinarySearchResult, IsNonDecreasing}
 use Rattle.std.specs.Result.{is_ok}
 use Rattle.std.proofs.lemmas.List.Sorted.{searched}
 use Rattle.std.proofs.lemmas.List.{get_or_default, take_all}
-use Rattle.si_graph.proofs.MemberLemmas.{Contains-map, Contains-from_map}
+use Rattle.si_graph.proofs.ListMembers.{Contains-map, Contains-from_map}
 use Rattle.si_cube.specs.Order.{HaveSame}
 use Rattle.si_match.specs.Codes.{AreCodes, AreProjected}
 use Rattle.si_match.specs.Dropping.{AreTried}

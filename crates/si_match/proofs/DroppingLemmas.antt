@@ -8,8 +8,8 @@ use Rattle.std.proofs.lemmas.Bool.Decides.{eqb_tells, leb_tells}
 use Rattle.std.proofs.Math.Bool.{and-true, or-false}
 use mathlib.Core.Bool.{beq}
 use Rattle.si_base.proofs.BitFacts.{same_codes, flip-same, flip-other}
-use Rattle.si_base.proofs.StepFacts.{code_of_step, step_within}
-use Rattle.si_base.proofs.Steps.{beq-true, beq-refl}
+use Rattle.si_base.proofs.StepCodes.{code_of_step, step_within}
+use Rattle.si_base.proofs.GraphSteps.{beq-true, beq-refl}
 use Rattle.si_base.specs.Bits.{bit, flip, ones, IsSet}
 use Rattle.si_base.specs.Codes.{CodedGraph, IsCoded, code, next_value}
 use Rattle.si_cube.proofs.LiteralLemmas.{bit-and, bit-xor, bit-ones}

@@ -10,7 +10,7 @@ use Rattle.std.proofs.lemmas.List.FromFn.{length-enumerate_from, get_or-enumerat
 use Rattle.std.proofs.lemmas.List.Folds.{list_all_more, list_all_at}
 use Rattle.std.proofs.Math.Seq.{get_or-append_seam}
 use Rattle.si_base.proofs.BitFacts.{same_codes}
-use Rattle.si_base.proofs.Steps.{beq-true}
+use Rattle.si_base.proofs.GraphSteps.{beq-true}
 use Rattle.si_base.specs.Bits.{bit, IsSet}
 use Rattle.si_base.specs.Codes.{CodedGraph, code, next_value}
 use Rattle.si_base.specs.Netlist.{Sum, literal_value, sum_value}

@@ -5,7 +5,7 @@ use Rattle.std.proofs.lemmas.Bool.{cases_Bool, or_parts, and_parts, and_from, le
 use Rattle.std.proofs.lemmas.List.Splits.{join_with_byte-slice_split}
 use Rattle.std.specs.List.{AllByRecursion, join_with_byte, list_all, onto_first}
 use Rattle.si_base.specs.Words.{text_of, is_between}
-use Rattle.si_base.proofs.CleanWords.{NoEnd, no_end_join, LinesClean}
+use Rattle.si_base.proofs.WordLemmas.{NoEnd, no_end_join, LinesClean}
 use Rattle.si_words.specs.Sums.{is_empty}
 use Rattle.si_words.specs.Lines.{words_of, ended, tail_of, onto_head, has_bad_byte_here}
 

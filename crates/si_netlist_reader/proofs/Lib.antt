@@ -11,7 +11,7 @@ pub mod LawWrittenGateLemmas
 pub mod LawWrittenLineLemmas
 pub mod WriteLaw
 pub mod HeaderLemmas
-pub mod LoopLemmas
+pub mod RowLoopLemmas
 pub mod GateLineLemmas
 pub mod InsertLineLemmas
 pub mod OrderLemmas

@@ -16,8 +16,8 @@ use Rattle.si_base.specs.NetlistText.{netlist_lines, netlist_text_in, insert_lin
 use Rattle.si_base.specs.GivenGraph.{signals_of}
 use Rattle.si_base.specs.Words.{text_of, is_signal_name, is_between}
 use Rattle.si_base.specs.WellFormed.{IsGate, IsInsertion, IsNetlist}
-use Rattle.si_base.proofs.CleanWords.{AreClean, LinesClean, clean_word, words_without}
-use Rattle.si_base.proofs.Unsplit.{split-join}
+use Rattle.si_base.proofs.WordLemmas.{AreClean, LinesClean, clean_word, words_without}
+use Rattle.si_base.proofs.LinesUnsplit.{split-join}
 use Rattle.si_netlist_reader.specs.NetlistFault.{due, due_in, netlist_fault, version_of, after_version, insert_fault}
 use Rattle.si_netlist_reader.specs.NetlistFault.{word_fault}
 use Rattle.si_words.specs.Lines.{Form, words_of, rest_of, has_bad_byte_here}

@@ -11,8 +11,8 @@ use Rattle.si_base.specs.Bits.{bit}
 use Rattle.si_base.specs.Codes.{CodedGraph, IsCoded, code, next_value}
 use Rattle.si_base.specs.Graph.{enables, rise, fall}
 use Rattle.si_base.specs.Words.{line}
-use Rattle.si_base.proofs.StepFacts.{old_value}
-use Rattle.si_base.proofs.Steps.{step_from_enables}
+use Rattle.si_base.proofs.StepCodes.{old_value}
+use Rattle.si_base.proofs.GraphSteps.{step_from_enables}
 use Rattle.si_base.specs.Bytes.{sign}
 use Rattle.si_base.specs.NetlistText.{name_of}
 use Rattle.si_sg.specs.CanonicalText.{state_at, event_word}

@@ -1,7 +1,7 @@
 -- Written statements are read as these statements.
 use Rattle.std.proofs.Common.{ℕ, List, [], ◌∷◌, ◌++◌, flat_map, refl, ap, ◌∙◌, append_assoc, codes}
 use Rattle.std.proofs.Common.{Contains}
-use Rattle.si_graph.proofs.MemberLemmas.{Contains-here, Contains-there}
+use Rattle.si_graph.proofs.ListMembers.{Contains-here, Contains-there}
 use Rattle.si_pictures.specs.Tokens.{Token, Id, Keyword, Arrow, Mark, Between, tokens_from, tokens_of}
 use Rattle.si_pictures.specs.Grammar.{Attribute, Statement, Setting, Node, Link}
 use Rattle.si_pictures.specs.Grammar.{attribute_tokens, later_tokens, list_tokens, statement_tokens, IsReadAs}

@@ -12,7 +12,7 @@ use Rattle.std.proofs.lemmas.Str.Parse.{digit_from_value}
 use Rattle.si_base.specs.declared.graph.Edge.{Edge}
 use Rattle.si_base.specs.declared.graph.Signal.{Signal}
 use Rattle.si_base.specs.Codes.{CodedGraph, IsCoded}
-use Rattle.si_graph.proofs.MemberLemmas.{Contains-cons_cases, Contains-nil, Contains-from_map}
+use Rattle.si_graph.proofs.ListMembers.{Contains-cons_cases, Contains-nil, Contains-from_map}
 use Rattle.si_conflicts.specs.Conflicts.{AreConflicts}
 use Rattle.si_conflicts.proofs.OneConflictList.{one_list}
 use Rattle.si_conflicts.proofs.ConflictsExist.{some_conflicts}

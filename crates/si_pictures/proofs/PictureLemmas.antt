@@ -10,7 +10,7 @@ use Rattle.si_base.specs.declared.graph.Edge.{Edge}
 use Rattle.si_base.specs.declared.graph.Signal.{Signal}
 use Rattle.si_base.specs.Codes.{CodedGraph}
 use Rattle.si_base.specs.Proper.{IsConflict}
-use Rattle.si_graph.proofs.MemberLemmas.{Contains-here, Contains-there, Contains-cons_cases, Contains-nil}
+use Rattle.si_graph.proofs.ListMembers.{Contains-here, Contains-there, Contains-cons_cases, Contains-nil}
 use Rattle.si_conflicts.specs.Conflicts.{AreConflicts}
 use Rattle.si_conflicts.proofs.ConflictsExist.{some_conflicts}
 use Rattle.si_pictures.specs.CodeWord.{first}

@@ -5,7 +5,7 @@ use Rattle.si_base.specs.Bits.{bit}
 use Rattle.si_base.specs.Codes.{CodedGraph, IsCoded, IsConsistent, code}
 use Rattle.si_base.specs.Graph.{StateGraph}
 use Rattle.si_base.specs.Netlist.{Netlist}
-use Rattle.si_base.proofs.UniqueCodes.{code_unique}
+use Rattle.si_base.proofs.CodesUnique.{code_unique}
 use Rattle.si_sg.proofs.UniqueLemmas.{given_unique}
 use Rattle.si_system.proofs.UniqueOutcome.{one_difference, for_not_different}
 use Rattle.si_sg.specs.GraphText.{graph_fault}

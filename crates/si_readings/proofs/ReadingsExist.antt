@@ -15,7 +15,7 @@ use Rattle.si_base.specs.Graph.{kind_place}
 use Rattle.si_base.specs.Netlist.{Netlist}
 use Rattle.si_base.specs.System.{IsFor, start}
 use Rattle.si_checks.proofs.BreachesDecided.{proper_or_breach}
-use Rattle.si_checks.proofs.CodesExist.{some_codes}
+use Rattle.si_checks.proofs.ByCodesExist.{some_codes}
 use Rattle.si_checks.specs.Laws.{ProperOrBreach, AllHold, HasSplit, HasNoValues, HasFork, HasLoss}
 use Rattle.si_sg.proofs.GivenExists.{some_given}
 use Rattle.si_sg.specs.GivenGraph.{IsGivenBy}

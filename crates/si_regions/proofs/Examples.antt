@@ -10,7 +10,7 @@ use Rattle.si_base.specs.declared.graph.Edge.{Edge}
 use Rattle.si_base.specs.declared.graph.SigKind.TheVariants.{Input, Output}
 use Rattle.si_base.specs.Graph.{Step, arc, rise, fall, enables, same_event}
 use Rattle.si_base.specs.Codes.{CodedGraph}
-use Rattle.si_base.proofs.Steps.{all_arcs}
+use Rattle.si_base.proofs.GraphSteps.{all_arcs}
 use Rattle.si_regions.specs.declared.regions.Region.{Region}
 use Rattle.si_regions.specs.Connected.{Adjoins, IsComponent}
 use Rattle.si_regions.specs.Regions.{Enables, IsSetOf, IsEntered, IsQuiet, WalkThrough, IsReachedThrough, IsRegion}

@@ -12,10 +12,10 @@ use Rattle.si_base.specs.declared.graph.Edge.{Edge}
 use Rattle.si_base.specs.Order.{Before}
 use Rattle.si_base.specs.Graph.{StateGraph, Step, IsGraph, arc, enables, event_place, same_event}
 use Rattle.si_base.specs.Codes.{CodedGraph, IsDeterministic}
-use Rattle.si_base.proofs.StepFacts.{step_within}
-use Rattle.si_base.proofs.Steps.{step_from_enables, enables-step, same_event-refl, same_event-true}
+use Rattle.si_base.proofs.StepCodes.{step_within}
+use Rattle.si_base.proofs.GraphSteps.{step_from_enables, enables-step, same_event-refl, same_event-true}
 use Rattle.si_graph.specs.Reach.{IsIn}
-use Rattle.si_graph.proofs.MarkLemmas.{stays_in, in_cases, is_set, in_none}
+use Rattle.si_graph.proofs.SearchLemmas.{stays_in, in_cases, is_set, in_none}
 use Rattle.si_graph.proofs.OrderLemmas.{event_from_place}
 use Rattle.si_regions.specs.declared.regions.Region.{Region}
 use Rattle.si_regions.specs.Connected.{IsComponent}

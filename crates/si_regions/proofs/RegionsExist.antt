@@ -7,8 +7,8 @@ use Rattle.si_base.specs.declared.graph.Edge.{Edge}
 use Rattle.si_base.specs.Bits.{bit}
 use Rattle.si_base.specs.Graph.{arc, rise, fall, enables, event_place, same_event}
 use Rattle.si_base.specs.Codes.{CodedGraph, IsCoded, code}
-use Rattle.si_base.proofs.StepFacts.{step_within}
-use Rattle.si_base.proofs.Steps.{same_event-true, same_event-refl}
+use Rattle.si_base.proofs.StepCodes.{step_within}
+use Rattle.si_base.proofs.GraphSteps.{same_event-true, same_event-refl}
 use Rattle.si_graph.specs.declared.closure.Along.TheVariants.{Out, Both}
 use Rattle.si_graph.specs.Reach.{IsIn}
 use Rattle.si_regions.specs.declared.regions.Region.{Region}

@@ -10,7 +10,7 @@ use Rattle.si_graph.specs.declared.closure.Along.{Along}
 use Rattle.si_graph.specs.Closure.{IsNext}
 use Rattle.si_graph.specs.Reach.{IsIn, Marks, MarksAll}
 use Rattle.si_graph.proofs.ClosureLemmas.{along_path, reached_seed}
-use Rattle.si_graph.proofs.MarkLemmas.{Explores, marks_both}
+use Rattle.si_graph.proofs.SearchLemmas.{Explores, marks_both}
 use Rattle.si_regions.specs.Regions.{IsSetOf}
 use Rattle.si_regions.specs.Searching.{IsSeed, IsReachedIn}
 

@@ -14,14 +14,14 @@ use Rattle.std.proofs.lemmas.Map.Keys.{sorted_from_strictly_increasing}
 use Rattle.si_base.specs.declared.ids.Event.{Event}
 use Rattle.si_base.specs.declared.graph.Edge.{Edge}
 use Rattle.si_base.specs.Graph.{StateGraph, Step, arc, same_event}
-use Rattle.si_base.proofs.Steps.{same_event-true, same_event-refl}
+use Rattle.si_base.proofs.GraphSteps.{same_event-true, same_event-refl}
 use Rattle.si_graph.specs.declared.closure.Along.{Along}
 use Rattle.si_graph.specs.declared.closure.Along.TheVariants.{Out, OutWithout, In, Both}
 use Rattle.si_graph.specs.Closure.{IsBeside, IsNext, Leads}
 use Rattle.si_graph.specs.Reach.{IsIn, unmarked}
-use Rattle.si_graph.proofs.MarkLemmas.{stays_in, in_cases, in_below}
-use Rattle.si_graph.proofs.MemberLemmas.{Contains-cons_cases, Contains-here, Contains-there, Contains-nil, Contains-map}
-use Rattle.si_graph.proofs.MemberLemmas.{Contains-from_map, Contains-filter, Contains-from_filter}
+use Rattle.si_graph.proofs.SearchLemmas.{stays_in, in_cases, in_below}
+use Rattle.si_graph.proofs.ListMembers.{Contains-cons_cases, Contains-here, Contains-there, Contains-nil, Contains-map}
+use Rattle.si_graph.proofs.ListMembers.{Contains-from_map, Contains-filter, Contains-from_filter}
 use Rattle.si_regions.specs.Regions.{IsSetOf}
 use Rattle.si_regions.specs.Searching.{AreMarksOf, IsReachedIn, IsSeed}
 use Rattle.si_graph.proofs.ClosureLemmas.{reached_on, reached_seed}

@@ -3,8 +3,8 @@ use Rattle.std.proofs.Common.{◌≡◌, ℕ, suc, ◌<◌, List, [], ◌∷◌,
 use Rattle.std.proofs.Common.{nat_cmp}
 use Rattle.std.proofs.lemmas.List.Elements.{Contains-get_or}
 use Rattle.std.specs.List.Sorted.{IsStrictlySortedBy}
-use Rattle.si_base.proofs.Sorted.{In, nat_less, sorted_at}
-use Rattle.si_base.proofs.Unique.{contains_from_in, in_from_contains, same_numbers}
+use Rattle.si_base.proofs.OrderAscending.{In, nat_less, sorted_at}
+use Rattle.si_base.proofs.GivenGraphUnique.{contains_from_in, in_from_contains, same_numbers}
 use Rattle.si_regions.specs.Regions.{IsSetOf, least}
 
 pub contains_in : {A : Type 0} (xs : List A) (x : A) → Contains xs x → In x xs

@@ -7,8 +7,8 @@ use Rattle.si_regions.specs.declared.regions.Region.{Region}
 use Rattle.si_regions.specs.Connected.{PathOf, IsComponent}
 use Rattle.si_regions.specs.Regions.{Enables, IsSetOf, IsEntered, IsReachedThrough, IsQuiet, IsRegion, AreRegions}
 use Rattle.si_regions.specs.Regions.{region_place}
-use Rattle.si_base.proofs.InOrder.{same_in_order}
-use Rattle.si_base.proofs.Unique.{same_numbers}
+use Rattle.si_base.proofs.OrderLemmas.{same_in_order}
+use Rattle.si_base.proofs.GivenGraphUnique.{same_numbers}
 use Rattle.si_regions.proofs.StateLists.{one_set}
 
 -- a path through the one set stays in a component that it begins in

@@ -4,7 +4,7 @@ use Rattle.std.proofs.Common.{arith, inl, inr}
 use Rattle.si_base.specs.Codes.{CodedGraph, IsCoded}
 use Rattle.si_base.specs.Proper.{IsProper}
 use Rattle.si_checks.specs.Searches.{IsFirstOrNone}
-use Rattle.si_checks.proofs.DecisionLemmas.{Decided, both, less}
+use Rattle.si_checks.proofs.SearchDecisions.{Decided, both, less}
 use Rattle.si_conflicts.specs.Conflicts.{HasConflicts}
 use Rattle.si_conflicts.proofs.ConflictsExist.{some_count}
 use Rattle.si_conflicts.proofs.LeftCount.{some_left}

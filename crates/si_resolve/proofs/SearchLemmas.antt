@@ -8,9 +8,9 @@ use Rattle.si_base.specs.Limits.{max_signals}
 use Rattle.si_base.specs.Codes.{CodedGraph, IsCoded}
 use Rattle.si_base.specs.Proper.{IsProper}
 use Rattle.si_base.specs.Sets.{IsIn}
-use Rattle.si_base.proofs.Sorted.{In}
-use Rattle.si_base.proofs.Unique.{contains_from_in}
-use Rattle.si_graph.proofs.MarkLemmas.{in_below}
+use Rattle.si_base.proofs.OrderAscending.{In}
+use Rattle.si_base.proofs.GivenGraphUnique.{contains_from_in}
+use Rattle.si_graph.proofs.SearchLemmas.{in_below}
 use Rattle.si_insert.specs.declared.partition.Class.{Class}
 use Rattle.si_insert.specs.Partition.{IsLawful}
 use Rattle.si_candidates.specs.Sides.{AreSides, IsPartitionOfBlocks, between}

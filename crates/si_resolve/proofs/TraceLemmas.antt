@@ -3,7 +3,7 @@ use Rattle.std.proofs.Common.{◌≡◌, ℕ, ◌<◌, ◌⊎◌, List, get_or, 
 use Rattle.si_base.specs.Order.{IsFirst}
 use Rattle.si_base.specs.Codes.{CodedGraph, IsCoded}
 use Rattle.si_base.specs.Proper.{IsConflict, HasNoConflict, pair_place}
-use Rattle.si_checks.proofs.FirstLemmas.{firsts_at_one_place}
+use Rattle.si_checks.proofs.SearchFirst.{firsts_at_one_place}
 use Rattle.si_conflicts.specs.Conflicts.{HasConflicts}
 use Rattle.si_conflicts.specs.Left.{LeavesConflicts}
 use Rattle.si_conflicts.proofs.OneConflictList.{one_count, none_is_none}

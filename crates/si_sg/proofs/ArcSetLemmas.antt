@@ -11,8 +11,8 @@ use Rattle.std.proofs.lemmas.Map.Views.{Contains-from_any}
 use mathlib.Core.Bool.{beq}
 use Rattle.si_base.specs.Limits.{max_arcs_read}
 use Rattle.si_base.specs.declared.graph.Edge.{Edge}
-use Rattle.si_base.proofs.Steps.{beq-true}
-use Rattle.si_graph.proofs.MemberLemmas.{Contains-map, Contains-cons_cases, Contains-there}
+use Rattle.si_base.proofs.GraphSteps.{beq-true}
+use Rattle.si_graph.proofs.ListMembers.{Contains-map, Contains-cons_cases, Contains-there}
 use Rattle.si_sg.specs.declared.arc_set.Arc.{Arc}
 use Rattle.si_sg.specs.GivenGraph.{edge_of}
 use Rattle.si_sg.specs.Section.{with_arc, same_arc}

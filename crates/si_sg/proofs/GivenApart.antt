@@ -9,7 +9,7 @@ use Rattle.std.proofs.lemmas.List.Kept.{AllPairs-cons}
 use Rattle.std.proofs.lemmas.Slice.Eq.{bytes_eq-Decides}
 use Rattle.si_base.specs.GivenGraph.{Sg as SgValue}
 use Rattle.si_base.specs.Lines.{Line, numbered}
-use Rattle.si_base.proofs.Sorted.{sorted_at, nat_less}
+use Rattle.si_base.proofs.OrderAscending.{sorted_at, nat_less}
 use Rattle.si_words.specs.Names.{stands_in}
 use Rattle.si_sg.specs.declared.heads.Head.{Head}
 use Rattle.si_sg.specs.declared.heads.Head.TheVariants.{Model, Inputs, Outputs, Internals, Dummy, State, Marking, End}

@@ -7,15 +7,15 @@ use Rattle.si_base.specs.Graph.{StateGraph}
 use Rattle.si_base.specs.Netlist.{Netlist}
 use Rattle.si_base.specs.NetlistText.{netlist_text}
 use Rattle.si_base.specs.Proper.{HasNoConflict}
-use Rattle.si_checks.proofs.CodesExist.{some_codes}
+use Rattle.si_checks.proofs.ByCodesExist.{some_codes}
 use Rattle.si_circuit.specs.Circuits.{AreStateNames, circuit_of}
 use Rattle.si_circuit.specs.Spelled.{AreSpelled}
 use Rattle.si_circuit.specs.declared.style.Style.TheVariants.{Complex}
 use Rattle.si_handshakes.specs.Handshakes.{IsHandshakes, max_handshakes}
 use Rattle.si_handshakes.proofs.HandshakesExist.{some_handshakes}
-use Rattle.si_handshakes.proofs.ProperGraph.{connected, no_conflict, proper}
-use Rattle.si_handshakes.proofs.Sizes.{one_graph}
-use Rattle.si_handshakes.proofs.WrittenNames.{writable}
+use Rattle.si_handshakes.proofs.HandshakeProper.{connected, no_conflict, proper}
+use Rattle.si_handshakes.proofs.HandshakeSizes.{one_graph}
+use Rattle.si_handshakes.proofs.NamesWritten.{writable}
 use Rattle.si_insert.specs.Lineage.{AllGiven, History}
 use Rattle.si_sg.proofs.WholeLaw.{read_back}
 use Rattle.si_sg.specs.CanonicalText.{sg_text}

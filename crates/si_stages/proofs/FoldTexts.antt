@@ -16,8 +16,8 @@ use Rattle.si_base.specs.Limits.{max_states_read, max_arcs_read}
 use Rattle.si_base.specs.Lines.{numbered}
 use Rattle.si_base.specs.System.{is_inserted}
 use Rattle.si_base.specs.Words.{IsStateName, is_model_name, is_signal_name}
-use Rattle.si_base.proofs.Sorted.{nat_less, sorted_at}
-use Rattle.si_fold.proofs.FewerArcs.{fewer_arcs, fewer_numbers, folded_no_larger}
+use Rattle.si_base.proofs.OrderAscending.{nat_less, sorted_at}
+use Rattle.si_fold.proofs.FoldedFewerArcs.{fewer_arcs, fewer_numbers, folded_no_larger}
 use Rattle.si_fold.proofs.FoldLemmas.{folded_is_coded}
 use Rattle.si_fold.proofs.FoldedGraph.{kept_within}
 use Rattle.si_graph.proofs.CutLemmas as cut

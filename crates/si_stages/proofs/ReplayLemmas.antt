@@ -6,7 +6,7 @@ use Rattle.si_base.specs.declared.graph.SigKind.TheVariants.{Input, Output, Inte
 use Rattle.si_base.specs.Graph.{StateGraph, IsGraph}
 use Rattle.si_base.specs.Netlist.{Netlist}
 use Rattle.si_base.specs.System.{State, May, Fires, start}
-use Rattle.si_base.proofs.Circuit.{step_within}
+use Rattle.si_base.proofs.RightGateLemmas.{step_within}
 use Rattle.si_system.specs.Outcome.{Passes as PassesAll, IsOutcome}
 use Rattle.si_system.specs.declared.replay.Outcome.{Outcome}
 use Rattle.si_system.specs.declared.replay.Outcome.TheVariants as outcome

@@ -15,7 +15,7 @@ use Rattle.si_base.specs.Bits.{bit, flip}
 use Rattle.si_base.specs.Graph.{StateGraph, Step, arc, enables, same_event, is_driven}
 use Rattle.si_base.specs.Netlist.{Netlist, IsExcited, gate_value}
 use Rattle.si_base.specs.System.{State, IsLeastTarget, Follows, May}
-use Rattle.si_base.proofs.Steps.{step_from_enables, same_event-refl, same_event-true}
+use Rattle.si_base.proofs.GraphSteps.{step_from_enables, same_event-refl, same_event-true}
 use Rattle.si_system.specs.Outcome.{IsOutcome}
 use Rattle.si_system.specs.Verdict.{IsStep, Loses, IsVerdict}
 use Rattle.si_system.specs.declared.replay.Outcome.{Outcome}

@@ -19,10 +19,10 @@ use Rattle.si_verilog.proofs.NameLemmas.{IsWritable, word_is_writable}
 use Rattle.si_verilog.proofs.SymbolLemmas.{Reads, ReadsBefore, both_read, read_then, parted_read, parted_then}
 use Rattle.si_verilog.proofs.SymbolLemmas.{module_read, opening_read, header_end_read, input_read, output_read}
 use Rattle.si_verilog.proofs.SymbolLemmas.{wire_read, comma_read, line_end_read, semicolon_read, end_read, written_read}
-use Rattle.si_verilog.proofs.OneModule.{one_module}
+use Rattle.si_verilog.proofs.GrammarOneModule.{one_module}
 use Rattle.si_verilog.proofs.NetlistLemmas.{Writable, netlist_writable, netlist_named, netlist_there, kind_writable}
 use Rattle.si_verilog.proofs.NetlistLemmas.{all_append}
-use Rattle.si_verilog.proofs.AssignLemmas.{SaysAssigns, AreFrom, says_assigns}
+use Rattle.si_verilog.proofs.WritingAssigns.{SaysAssigns, AreFrom, says_assigns}
 
 -- ---- ports
 

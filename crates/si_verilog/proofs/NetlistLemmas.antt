@@ -16,7 +16,7 @@ use Rattle.si_base.specs.WellFormed.{IsCube, IsSum, IsGate, IsNetlist}
 use Rattle.si_base.specs.Words.{is_signal_name}
 use Rattle.si_verilog.specs.Meaning.{named_from}
 use Rattle.si_verilog.proofs.NameLemmas.{IsWritable, signal_is_writable}
-use Rattle.si_verilog.proofs.SayLemmas.{AreNamed, AreThere, HasThere}
+use Rattle.si_verilog.proofs.MeaningLemmas.{AreNamed, AreThere, HasThere}
 
 -- ---- names
 

@@ -9,9 +9,9 @@ use Rattle.si_base.specs.Graph.{StateGraph, Step, arc, event_place, Walk}
 use Rattle.si_base.specs.Codes.{IsDeterministic}
 use Rattle.si_base.specs.Order.{Before}
 use Rattle.si_checks.specs.Searches.{IsFirstOrNone}
-use Rattle.si_checks.proofs.OutLemmas.{event_same}
-use Rattle.si_checks.proofs.FirstLemmas.{firsts_at_one_place}
-use Rattle.si_checks.proofs.DecisionLemmas.{Decided, both, first_candidate}
+use Rattle.si_checks.proofs.ForkOrder.{event_same}
+use Rattle.si_checks.proofs.SearchFirst.{firsts_at_one_place}
+use Rattle.si_checks.proofs.SearchDecisions.{Decided, both, first_candidate}
 use Rattle.si_walks.specs.declared.arcs.Arcs.{Arcs}
 use Rattle.si_walks.specs.declared.arcs.Arcs.TheVariants.{All}
 use Rattle.si_walks.specs.Walks.{Takes, WalkAlong, LeadsAlong, walk_place, IsFirstWalk}

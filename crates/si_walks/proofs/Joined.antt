@@ -11,8 +11,8 @@ use Rattle.si_base.specs.Graph.{StateGraph, Step, Walk, IsGraph, enables, is_dri
 use Rattle.si_base.specs.Codes.{CodedGraph, code, IsCoded}
 use Rattle.si_base.specs.Proper.{IsConflict, HasNoConflict}
 use Rattle.si_base.proofs.BitFacts.{flip-other, same_codes}
-use Rattle.si_base.proofs.StepFacts.{step_within, code_of_step}
-use Rattle.si_base.proofs.Steps.{enables-step, step_from_enables}
+use Rattle.si_base.proofs.StepCodes.{step_within, code_of_step}
+use Rattle.si_base.proofs.GraphSteps.{enables-step, step_from_enables}
 use Rattle.si_insert.specs.declared.lineage.TraceStep.{TraceStep}
 use Rattle.si_insert.specs.Lineage.{Current, origin, IsLineage, Silently, Keeps}
 use Rattle.si_insert.proofs.InsertionKeeps.{keeps}

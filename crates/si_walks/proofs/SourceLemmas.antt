@@ -13,11 +13,11 @@ use Rattle.si_base.specs.declared.graph.Edge.{Edge}
 use Rattle.si_base.specs.Graph.{StateGraph, IsGraph, arc}
 use Rattle.si_base.specs.Codes.{CodedGraph, IsCoded}
 use Rattle.si_base.specs.Order.{Before}
-use Rattle.si_base.proofs.StepFacts.{step_within}
-use Rattle.si_checks.proofs.DecisionLemmas.{Decided, both, some_of, same_value}
-use Rattle.si_checks.proofs.FirstLemmas.{firsts_at_one_place}
+use Rattle.si_base.proofs.StepCodes.{step_within}
+use Rattle.si_checks.proofs.SearchDecisions.{Decided, both, some_of, same_value}
+use Rattle.si_checks.proofs.SearchFirst.{firsts_at_one_place}
 use Rattle.si_graph.specs.Reach.{IsIn, unmarked}
-use Rattle.si_graph.proofs.MarkLemmas.{stays_in, in_cases, is_set, in_none}
+use Rattle.si_graph.proofs.SearchLemmas.{stays_in, in_cases, is_set, in_none}
 use Rattle.si_walks.specs.declared.arcs.Arcs.{Arcs}
 use Rattle.si_walks.specs.declared.arcs.Arcs.TheVariants.{OfInputs}
 use Rattle.si_walks.specs.Walks.{Takes, WalkAlong, LeadsAlong, InputsLead, IsFirstWalk}

@@ -9,7 +9,7 @@ use Rattle.si_base.specs.declared.graph.SigKind.{SigKind}
 use Rattle.si_base.specs.declared.graph.SigKind.TheVariants.{Input, Output, Internal, Inserted}
 use Rattle.si_base.specs.Graph.{StateGraph, IsNonInput, is_driven}
 use Rattle.si_insert.specs.Accepted.{IsInput}
-use Rattle.si_checks.proofs.DecisionLemmas.{Decided, driven}
+use Rattle.si_checks.proofs.SearchDecisions.{Decided, driven}
 use Rattle.si_walks.specs.declared.arcs.Arcs.{Arcs}
 use Rattle.si_walks.specs.declared.arcs.Arcs.TheVariants.{All, OfInputs}
 use Rattle.si_walks.specs.Walks.{Takes}

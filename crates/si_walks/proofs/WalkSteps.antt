@@ -7,7 +7,7 @@ use Rattle.si_base.specs.declared.ids.Event.{Event}
 use Rattle.si_base.specs.declared.graph.Edge.{Edge}
 use Rattle.si_base.specs.Graph.{StateGraph, Step, IsGraph, arc}
 use Rattle.si_base.specs.Codes.{IsDeterministic}
-use Rattle.si_base.proofs.StepFacts.{step_within}
+use Rattle.si_base.proofs.StepCodes.{step_within}
 use Rattle.si_walks.specs.declared.arcs.Arcs.{Arcs}
 use Rattle.si_walks.specs.Walks.{Takes, WalkAlong, LeadsAlong, IsFirstWalk}
 use Rattle.si_walks.specs.Distances.{at, IsDistance, AreDistances, BringsNearer, IsNearer, IsFirstNearer}

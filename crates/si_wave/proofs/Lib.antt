@@ -1,7 +1,7 @@
 pub mod WriteLemmas
-pub mod WaveCodes
+pub mod CodesOfWires
 pub mod ReadingLemmas
 pub mod WriteParts
-pub mod DumpWords
-pub mod OneDump
+pub mod WriteDumpWords
+pub mod DumpUnique
 pub mod Examples

@@ -12,7 +12,7 @@ use Rattle.si_base.proofs.BitFacts.{flip-same, flip-other}
 use Rattle.si_wave.specs.Dump.{Change, Moment}
 use Rattle.si_wave.specs.Wave.{change_of, moments_from, starts_from, wire_code}
 use Rattle.si_wave.specs.Reading.{ShowsRuns, value_after}
-use Rattle.si_wave.proofs.WaveCodes.{other_code, same_code}
+use Rattle.si_wave.proofs.CodesOfWires.{other_code, same_code}
 
 -- what changes at events
 abbrev changes_of : List Event → List Change

@@ -1,6 +1,6 @@
 use Rattle.std.proofs.Common.{refl, sym}
 use Rattle.std.proofs.lemmas.Bool.{true≢false}
-use Rattle.si_base.proofs.WordSets.{flags_apart, words_apart, all_apart}
+use Rattle.si_base.proofs.SetsAsWords.{flags_apart, words_apart, all_apart}
 use Rattle.si_base.proofs.sets.are_apart.Goals as goal
 
 pub returns-then-words-k-ne0 : goal.returns-then-words-k-ne0

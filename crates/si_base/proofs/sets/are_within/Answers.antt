@@ -1,6 +1,6 @@
 use Rattle.std.proofs.Common.{refl, sym}
 use Rattle.std.proofs.lemmas.Bool.{true≢false}
-use Rattle.si_base.proofs.WordSets.{flags_within, words_within, all_within}
+use Rattle.si_base.proofs.SetsAsWords.{flags_within, words_within, all_within}
 use Rattle.si_base.proofs.sets.are_within.Goals as goal
 
 pub returns-then-words-k : goal.returns-then-words-k

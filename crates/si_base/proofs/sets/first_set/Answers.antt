@@ -1,5 +1,5 @@
 use Rattle.std.proofs.Common.{arith}
-use Rattle.si_base.proofs.WordSets.{no_flag_in_rest, first_in_rest}
+use Rattle.si_base.proofs.SetsAsWords.{no_flag_in_rest, first_in_rest}
 use Rattle.si_base.proofs.sets.first_set.Goals as goal
 
 pub returns-then-rest-ne0 : goal.returns-then-rest-ne0

@@ -1,6 +1,6 @@
 use Rattle.std.proofs.Common.{◌*◌, ◌+◌, ◌∙◌, arith, ap, refl, sym, get_or, count_ones}
 use Rattle.std.proofs.lemmas.Nat.{ones-le}
-use Rattle.si_base.proofs.WordSets.{word_counted, count_within}
+use Rattle.si_base.proofs.SetsAsWords.{word_counted, count_within}
 use Rattle.si_base.proofs.sets.ones_in.Goals as goal
 
 pub overflow_add-total : goal.overflow_add-total

@@ -1,6 +1,6 @@
 use Rattle.std.proofs.Common.{sym, refl}
 use Rattle.std.proofs.lemmas.Bool.{true≢false}
-use Rattle.si_checks.proofs.OutLemmas.{out_signal}
+use Rattle.si_checks.proofs.ForkOrder.{out_signal}
 use Rattle.si_checks.proofs.ConflictLemmas.{more_found, none_more}
 use Rattle.si_checks.proofs.conflicts.enables_more.Goals as goal
 

@@ -1,5 +1,5 @@
 use Rattle.std.proofs.Common.{refl}
-use Rattle.si_checks.proofs.OutLemmas.{out_item, one_more, none_at_all, later_event}
+use Rattle.si_checks.proofs.ForkOrder.{out_item, one_more, none_at_all, later_event}
 use Rattle.si_base.specs.Proper.{Forks}
 use Rattle.si_checks.specs.Searches.{ForksBy}
 use Rattle.si_checks.proofs.ForkLemmas.{by_step, fork_from, ends_from}

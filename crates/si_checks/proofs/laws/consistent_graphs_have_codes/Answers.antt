@@ -1,4 +1,4 @@
-use Rattle.si_checks.proofs.CodesExist.{some_codes}
+use Rattle.si_checks.proofs.ByCodesExist.{some_codes}
 use Rattle.si_checks.proofs.laws.consistent_graphs_have_codes.Goals as goal
 
 pub returns : goal.returns

@@ -1,5 +1,5 @@
 use Rattle.si_checks.specs.Searches.{LosesAt}
-use Rattle.si_checks.proofs.OutLemmas.{NoneWithin}
+use Rattle.si_checks.proofs.ForkOrder.{NoneWithin}
 use Rattle.si_checks.proofs.losses.first_loss_at.Given as goal
 
 abbrev pub invariant-loop-x : goal.invariant-loop-x

@@ -1,5 +1,5 @@
 use Rattle.si_checks.specs.Searches.{LosesOf}
-use Rattle.si_checks.proofs.OutLemmas.{NoneWithin}
+use Rattle.si_checks.proofs.ForkOrder.{NoneWithin}
 use Rattle.si_checks.proofs.losses.first_loss_of.Given as goal
 
 abbrev pub invariant-loop-y : goal.invariant-loop-y

@@ -1,6 +1,6 @@
 use Rattle.std.proofs.Common.{◌+◌, refl, sym}
 use Rattle.std.proofs.lemmas.Bool.{true≢false}
-use Rattle.si_checks.proofs.OutLemmas.{out_signal}
+use Rattle.si_checks.proofs.ForkOrder.{out_signal}
 use Rattle.si_checks.proofs.SquareLemmas.{close_more, all_close, each_closes, later_signals}
 use Rattle.si_checks.proofs.squares.close_squares.Goals as goal
 

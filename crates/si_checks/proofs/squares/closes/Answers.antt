@@ -1,5 +1,5 @@
 use Rattle.std.proofs.Common.{◌∙◌, sym, eqb-true, eq-eqb}
-use Rattle.si_base.proofs.Steps.{enables-step}
+use Rattle.si_base.proofs.GraphSteps.{enables-step}
 use Rattle.si_checks.proofs.SquareLemmas.{both_stay, one_gone, other_gone}
 use Rattle.si_checks.proofs.squares.closes.Goals as goal
 

@@ -1,7 +1,7 @@
 use Rattle.std.proofs.Common.{◌∙◌, arith, sym, subst}
 use Rattle.std.proofs.lemmas.Bool.{true≢false}
 use Rattle.si_base.specs.Graph.{StateGraph, IsNonInput}
-use Rattle.si_checks.proofs.OutLemmas.{out_signal}
+use Rattle.si_checks.proofs.ForkOrder.{out_signal}
 use Rattle.si_conflicts.proofs.KeyLemmas.{IsDrivenArc, excited_more, excited_pass, excited_all}
 use Rattle.si_conflicts.proofs.keys.excited.Goals as goal
 use Rattle.si_conflicts.proofs.keys.excited.Goals.{then-is_driven, else-is_driven}

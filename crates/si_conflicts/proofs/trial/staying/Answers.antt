@@ -1,7 +1,7 @@
 use Rattle.std.proofs.Common.{◌∙◌, arith, sym}
 use Rattle.std.proofs.lemmas.Bool.{true≢false}
-use Rattle.si_base.proofs.StepFacts.{step_within}
-use Rattle.si_checks.proofs.OutLemmas.{out_item, out_source}
+use Rattle.si_base.proofs.StepCodes.{step_within}
+use Rattle.si_checks.proofs.ForkOrder.{out_item, out_source}
 use Rattle.si_conflicts.proofs.KeyLemmas.{excited_more, excited_pass}
 use Rattle.si_conflicts.proofs.ApartStayLemmas.{IsStayingArc, staying_all}
 use Rattle.si_conflicts.proofs.trial.staying.Goals as goal

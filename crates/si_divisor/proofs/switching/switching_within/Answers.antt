@@ -2,7 +2,7 @@ use Rattle.std.proofs.Common.{subst, sym, ◌∙◌, arith}
 use Rattle.std.proofs.lemmas.List.Elements.{Contains-push}
 use Rattle.si_graph.specs.Reach.{MarksAll}
 use Rattle.si_graph.specs.Search.{Progress}
-use Rattle.si_graph.proofs.MarkLemmas.{in_below}
+use Rattle.si_graph.proofs.SearchLemmas.{in_below}
 use Rattle.si_divisor.specs.Targets.{target}
 use Rattle.si_divisor.specs.WorkList.{IsCrossed, Belongs}
 use Rattle.si_divisor.proofs.SwitchingTurns.{search_begins}

@@ -4,7 +4,7 @@ use Rattle.si_base.specs.Graph.{StateGraph}
 use Rattle.si_fold.specs.declared.numbering.Key.{Key}
 use Rattle.si_fold.specs.Partition.{shape}
 use Rattle.si_fold.specs.Numbered.{AreNumbered, key_cmp, key_of}
-use Rattle.si_fold.proofs.ClassLemmas.{numbered_classes}
+use Rattle.si_fold.proofs.NumberedClasses.{numbered_classes}
 use Rattle.si_fold.proofs.NumberLemmas.{one_more_placed}
 use Rattle.si_fold.proofs.numbering.numbered.Goals as goal
 

@@ -12,7 +12,7 @@ use Rattle.si_genlib.specs.Expression.{State, Outcome, Goes, Ends, Stops}
 use Rattle.si_tokens.specs.Parts.{left, piece, Shows}
 use Rattle.si_genlib.specs.Held.{pins_now, state_now, LeadsOn, StopsWith, ToldAt}
 use Rattle.si_tokens.proofs.SourceLemmas.{token_smaller}
-use Rattle.si_genlib.proofs.ReadLemmas.{Taken, goes_on, ends_there, stops_there, pins_few}
+use Rattle.si_genlib.proofs.ExpressionReads.{Taken, goes_on, ends_there, stops_there, pins_few}
 use Rattle.si_genlib.proofs.gate.read_expression.Goals as goal
 
 goes_so : (o : Option ℕ) (t : State ℕ) (c : Outcome ℕ) → o ≡ None → LeadsOn o t c → c ≡ Goes t

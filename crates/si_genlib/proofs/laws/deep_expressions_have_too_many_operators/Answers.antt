@@ -1,4 +1,4 @@
-use Rattle.si_genlib.proofs.ViableLaws.{deep_expressions}
+use Rattle.si_genlib.proofs.GrammarViableLaws.{deep_expressions}
 use Rattle.si_genlib.proofs.laws.deep_expressions_have_too_many_operators.Goals as goal
 
 pub returns : goal.returns

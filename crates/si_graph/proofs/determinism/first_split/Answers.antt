@@ -1,5 +1,5 @@
 use Rattle.std.proofs.Common.{◌∙◌, sym, ap, length, arith}
-use Rattle.si_graph.proofs.SplitLemmas.{deterministic, found_first}
+use Rattle.si_graph.proofs.ArcSplits.{deterministic, found_first}
 use Rattle.si_graph.proofs.determinism.first_split.Goals as goal
 
 pub returns-then-eq-2 : goal.returns-then-eq-2

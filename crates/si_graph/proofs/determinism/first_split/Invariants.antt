@@ -1,6 +1,6 @@
 use Rattle.std.proofs.Common.{ℕ, ◌+◌, ◌<◌}
 use Rattle.si_graph.specs.Arcs.{edge_at}
-use Rattle.si_graph.proofs.SplitLemmas.{IsSameStep}
+use Rattle.si_graph.proofs.ArcSplits.{IsSameStep}
 use Rattle.si_graph.proofs.determinism.first_split.Given as goal
 
 abbrev pub invariant-loop-k : goal.invariant-loop-k

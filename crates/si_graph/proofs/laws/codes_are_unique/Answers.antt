@@ -1,7 +1,7 @@
 use Rattle.std.proofs.Common.{◌∙◌, ap, arith, sym}
 use Rattle.std.proofs.lemmas.Grind.{same_number_lists}
 use Rattle.si_base.specs.Graph.{StateGraph}
-use Rattle.si_base.proofs.UniqueCodes.{code_unique}
+use Rattle.si_base.proofs.CodesUnique.{code_unique}
 use Rattle.si_graph.proofs.laws.codes_are_unique.Goals as goal
 
 pub returns : goal.returns

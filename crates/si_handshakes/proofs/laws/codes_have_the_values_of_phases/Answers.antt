@@ -1,4 +1,4 @@
-use Rattle.si_handshakes.proofs.ProperGraph.{values_of_phases}
+use Rattle.si_handshakes.proofs.HandshakeProper.{values_of_phases}
 use Rattle.si_handshakes.proofs.laws.codes_have_the_values_of_phases.Goals as goal
 
 pub returns : goal.returns

@@ -1,5 +1,5 @@
-use Rattle.si_handshakes.proofs.ProperGraph.{proper, no_conflict}
-use Rattle.si_handshakes.proofs.Refusals.{never_uncoded, never_improper, never_in_conflict}
+use Rattle.si_handshakes.proofs.HandshakeProper.{proper, no_conflict}
+use Rattle.si_handshakes.proofs.HandshakeRefusals.{never_uncoded, never_improper, never_in_conflict}
 use Rattle.si_handshakes.proofs.laws.handshakes_are_never_refused.Goals as goal
 
 pub returns-clause-coded : goal.returns-clause-coded

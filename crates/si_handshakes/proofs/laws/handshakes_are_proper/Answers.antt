@@ -1,4 +1,4 @@
-use Rattle.si_handshakes.proofs.ProperGraph.{proper}
+use Rattle.si_handshakes.proofs.HandshakeProper.{proper}
 use Rattle.si_handshakes.proofs.laws.handshakes_are_proper.Goals as goal
 
 pub returns : goal.returns

@@ -1,4 +1,4 @@
-use Rattle.si_handshakes.proofs.Sizes.{one_graph}
+use Rattle.si_handshakes.proofs.HandshakeSizes.{one_graph}
 use Rattle.si_handshakes.proofs.laws.handshakes_are_unique.Goals as goal
 
 pub returns : goal.returns

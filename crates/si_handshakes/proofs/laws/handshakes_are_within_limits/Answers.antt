@@ -1,4 +1,4 @@
-use Rattle.si_handshakes.proofs.Sizes.{within_limits}
+use Rattle.si_handshakes.proofs.HandshakeSizes.{within_limits}
 use Rattle.si_handshakes.proofs.laws.handshakes_are_within_limits.Goals as goal
 
 pub returns : goal.returns

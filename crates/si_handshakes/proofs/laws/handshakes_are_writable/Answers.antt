@@ -1,4 +1,4 @@
-use Rattle.si_handshakes.proofs.WrittenNames.{writable}
+use Rattle.si_handshakes.proofs.NamesWritten.{writable}
 use Rattle.si_handshakes.proofs.laws.handshakes_are_writable.Goals as goal
 
 pub returns : goal.returns

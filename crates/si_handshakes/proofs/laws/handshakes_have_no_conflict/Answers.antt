@@ -1,4 +1,4 @@
-use Rattle.si_handshakes.proofs.ProperGraph.{no_conflict}
+use Rattle.si_handshakes.proofs.HandshakeProper.{no_conflict}
 use Rattle.si_handshakes.proofs.laws.handshakes_have_no_conflict.Goals as goal
 
 pub returns : goal.returns

@@ -1,4 +1,4 @@
-use Rattle.si_handshakes.proofs.NumberedNames.{signal_added}
+use Rattle.si_handshakes.proofs.NamesNumbered.{signal_added}
 use Rattle.si_handshakes.proofs.names.add_signals.Goals as goal
 
 pub loop-k-preserved : goal.loop-k-preserved

@@ -1,5 +1,5 @@
 use Rattle.std.proofs.Common.{codes, length, ap, Err, ◌∙◌, arith}
-use Rattle.si_handshakes.proofs.NumberedNames.{name_added, length-numbered}
+use Rattle.si_handshakes.proofs.NamesNumbered.{name_added, length-numbered}
 use Rattle.si_handshakes.proofs.names.state_names.Goals as goal
 
 pub unreachable-requires : goal.unreachable-requires

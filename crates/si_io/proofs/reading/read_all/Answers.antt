@@ -1,6 +1,6 @@
 use Rattle.std.proofs.Common.{◌≡◌, ℕ, is_ok, length-append, length-take, rules, arith}
 use Rattle.std.proofs.KnownBytes.{Consumes-nil, Consumes-trans, Consumes-kept}
-use Rattle.si_io.proofs.KnownLemmas.{appended, still_within, content_at_end, content_beyond, consumed_same}
+use Rattle.si_io.proofs.ReadingLemmas.{appended, still_within, content_at_end, content_beyond, consumed_same}
 use Rattle.si_io.proofs.reading.read_all.Goals as goal
 
 pub loop-chunk-init : goal.loop-chunk-init

@@ -1,7 +1,7 @@
 use Rattle.std.proofs.Common.{◌≡◌, ◌∙◌, List, ap, sym, subst, Contains}
 use Rattle.si_base.specs.Graph.{StateGraph}
 use Rattle.si_base.specs.declared.graph.Edge.{Edge}
-use Rattle.si_base.proofs.StepFacts.{step_within}
+use Rattle.si_base.proofs.StepCodes.{step_within}
 use Rattle.si_match.proofs.TriggerLemmas.{arc_trigger, one_more_trigger}
 use Rattle.si_match.proofs.triggers.triggers_of.Goals as goal
 

@@ -4,7 +4,7 @@ use Rattle.si_words.specs.GateLines.{gate_fault}
 use Rattle.si_netlist_reader.specs.Headers.{gate_in}
 use Rattle.si_netlist.specs.Parts.{gate_seen}
 use Rattle.std.proofs.lemmas.List.{map_push}
-use Rattle.si_netlist_reader.proofs.LoopLemmas.{failed_at, step, end}
+use Rattle.si_netlist_reader.proofs.RowLoopLemmas.{failed_at, step, end}
 use Rattle.si_netlist_reader.proofs.gate_rows.gate_rows.Goals as goal
 
 pub returns-in_err-gate-clause-err : goal.returns-in_err-gate-clause-err

@@ -1,7 +1,7 @@
 use Rattle.std.proofs.Common.{arith, ◌+◌, ◌*◌, ◌^◌, ◌<◌}
 use Rattle.std.proofs.Math.Facts.{Fits-of_lt}
 use Rattle.si_base.specs.Limits.{code_width}
-use Rattle.si_netlist_reader.proofs.LoopLemmas.{doubled_fits, bit_small}
+use Rattle.si_netlist_reader.proofs.RowLoopLemmas.{doubled_fits, bit_small}
 use Rattle.si_netlist_reader.proofs.header.code_of.Goals as goal
 
 pub overflow_mul-code : goal.overflow_mul-code

@@ -2,7 +2,7 @@ use Rattle.std.proofs.Common.{◌≤◌, length, arith}
 use Rattle.std.proofs.lemmas.Result.{err_from_is_err_and}
 use Rattle.si_netlist_reader.specs.NetlistFault.{insert_fault}
 use Rattle.si_netlist_reader.specs.NetlistValue.{insertion_of}
-use Rattle.si_netlist_reader.proofs.LoopLemmas.{failed_at, step, end}
+use Rattle.si_netlist_reader.proofs.RowLoopLemmas.{failed_at, step, end}
 use Rattle.si_netlist_reader.proofs.insertions.insert_rows.Goals as goal
 
 pub returns-in_err-insert-clause-err : goal.returns-in_err-insert-clause-err

@@ -1,6 +1,6 @@
 use Rattle.si_netlist_reader.specs.NetlistFault.{insert_fault}
 use Rattle.si_netlist_reader.specs.NetlistValue.{insertion_of}
-use Rattle.si_netlist_reader.proofs.LoopLemmas.{Doing}
+use Rattle.si_netlist_reader.proofs.RowLoopLemmas.{Doing}
 use Rattle.si_netlist_reader.proofs.insertions.insert_rows.Given as goal
 
 abbrev pub invariant-loop-k : goal.invariant-loop-k

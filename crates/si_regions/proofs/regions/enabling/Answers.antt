@@ -1,7 +1,7 @@
 use Rattle.std.proofs.Common.{◌≡◌, ◌<◌, ◌≤◌, ◌∙◌, List, arith, ap, sym, length, get_or}
 use Rattle.si_base.specs.declared.graph.Edge.{Edge}
 use Rattle.si_base.specs.Graph.{StateGraph}
-use Rattle.si_base.proofs.StepFacts.{step_within}
+use Rattle.si_base.proofs.StepCodes.{step_within}
 use Rattle.si_regions.proofs.RegionLemmas.{enabling_more, enabling_pass, enabling_all}
 use Rattle.si_regions.proofs.regions.enabling.Goals as goal
 use Rattle.si_regions.proofs.regions.enabling.Goals.{then-eq, else-eq}

@@ -1,6 +1,6 @@
 use Rattle.std.proofs.Common.{◌∙◌, ap, subst, sym}
 use Rattle.si_base.specs.Graph.{StateGraph, Step}
-use Rattle.si_base.proofs.Steps.{enables-step}
+use Rattle.si_base.proofs.GraphSteps.{enables-step}
 use Rattle.si_regions.proofs.RegionLemmas.{targets_more, targets_pass, targets_all}
 use Rattle.si_regions.proofs.regions.entered.Goals as goal
 use Rattle.si_regions.proofs.regions.entered.Goals.{in-Some+in_ok-push, in_default}

@@ -1,7 +1,7 @@
 use Rattle.std.proofs.Common.{◌≡◌, ◌∙◌, List, ℕ, sym, subst}
 use Rattle.si_circuit.specs.Circuits.{AreStateNames}
 use Rattle.si_circuit.specs.Spelled.{AreSpelled}
-use Rattle.si_handshakes.proofs.ProperGraph.{proper}
+use Rattle.si_handshakes.proofs.HandshakeProper.{proper}
 use Rattle.si_insert.specs.Lineage.{History}
 use Rattle.si_sg.specs.GivenGraph.{sg_now}
 use Rattle.si_stages.specs.Exercise.{IsExercise, exercise_text}

@@ -1,7 +1,7 @@
 use Rattle.std.proofs.Common.{◌∙◌, sym, subst}
 use Rattle.si_base.specs.Graph.{StateGraph}
 use Rattle.si_base.specs.Proper.{IsProper}
-use Rattle.si_handshakes.proofs.Refusals.{never_uncoded, never_improper}
+use Rattle.si_handshakes.proofs.HandshakeRefusals.{never_uncoded, never_improper}
 use Rattle.si_stages.proofs.exercise.proper_graph.Goals as goal
 
 pub unreachable-requires : goal.unreachable-requires

@@ -2,8 +2,8 @@ use Rattle.std.proofs.Common.{◌∙◌, sym, refl, arith, inl, inr}
 use Rattle.std.proofs.lemmas.Bool.{true≢false, cases_lt}
 use Rattle.si_base.specs.declared.graph.Edge.{Edge}
 use Rattle.si_base.specs.Graph.{event_place}
-use Rattle.si_base.proofs.StepFacts.{step_within}
-use Rattle.si_checks.proofs.OutLemmas.{out_item, out_arc, out_source, out_signal, one_more, none_before, none_at_all}
+use Rattle.si_base.proofs.StepCodes.{step_within}
+use Rattle.si_checks.proofs.ForkOrder.{out_item, out_arc, out_source, out_signal, one_more, none_before, none_at_all}
 use Rattle.si_walks.specs.Distances.{IsNearer}
 use Rattle.si_walks.proofs.WalkSteps.{step_of, nearer_too}
 use Rattle.si_walks.proofs.walk.first_nearer.Goals as goal

@@ -1,5 +1,5 @@
 use Rattle.si_walks.specs.Distances.{IsNearer}
-use Rattle.si_checks.proofs.OutLemmas.{NoneWithin}
+use Rattle.si_checks.proofs.ForkOrder.{NoneWithin}
 use Rattle.si_walks.proofs.walk.first_nearer.Given as goal
 
 abbrev pub invariant-loop-arc : goal.invariant-loop-arc

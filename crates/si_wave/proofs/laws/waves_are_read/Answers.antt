@@ -1,5 +1,5 @@
-use Rattle.si_wave.proofs.OneDump.{one_dump}
-use Rattle.si_wave.proofs.DumpWords.{wave_spelled}
+use Rattle.si_wave.proofs.DumpUnique.{one_dump}
+use Rattle.si_wave.proofs.WriteDumpWords.{wave_spelled}
 use Rattle.si_wave.proofs.laws.waves_are_read.Goals as goal
 
 pub returns : goal.returns

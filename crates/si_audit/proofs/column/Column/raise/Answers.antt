@@ -1,7 +1,7 @@
 use Rattle.std.proofs.Common.{◌≡◌, ◌*◌, ◌/◌, ◌%◌, ◌^◌, ◌<◌, ℕ, true, List, length, set, bit_or, ap, subst, ◌∙◌, arith}
 use Rattle.std.proofs.lemmas.List.{get_or_read}
 use Rattle.si_base.specs.Sets.{flag}
-use Rattle.si_base.proofs.WordSets.{set_written}
+use Rattle.si_base.proofs.SetsAsWords.{set_written}
 use Rattle.si_audit.proofs.column.Column.raise.Goals as goal
 
 pub returns-clause-there : goal.returns-clause-there

@@ -1,6 +1,6 @@
 use Rattle.std.proofs.Common.{◌≡◌, ℕ, ◌+◌, ◌*◌, ◌/◌, List, length, arith, ap, ◌∙◌}
 use Rattle.si_base.specs.Sets.{HasNoFlagFrom, flags_of}
-use Rattle.si_base.proofs.WordSets.{set_count, all_counted, count_within}
+use Rattle.si_base.proofs.SetsAsWords.{set_count, all_counted, count_within}
 use Rattle.si_base.proofs.sets.StateSet.count.Goals as goal
 
 pub ones_in-requires : goal.ones_in-requires

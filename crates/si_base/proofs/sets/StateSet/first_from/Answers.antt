@@ -1,4 +1,4 @@
-use Rattle.si_base.proofs.WordSets.{shows, none_seen, first_seen}
+use Rattle.si_base.proofs.SetsAsWords.{shows, none_seen, first_seen}
 use Rattle.std.proofs.Common.{refl}
 use Rattle.si_base.proofs.sets.StateSet.first_from.Goals as goal
 

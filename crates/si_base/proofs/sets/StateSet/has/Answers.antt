@@ -1,6 +1,6 @@
 use Rattle.std.proofs.Common.{length, arith, get_or, false, sym, ap, ◌∙◌}
 use Rattle.std.proofs.lemmas.List.{get_or_read}
-use Rattle.si_base.proofs.WordSets.{state_within, word_within, flag_read, test_told}
+use Rattle.si_base.proofs.SetsAsWords.{state_within, word_within, flag_read, test_told}
 use Rattle.si_base.proofs.sets.StateSet.has.Goals as goal
 
 pub index-requires : goal.index-requires

@@ -1,5 +1,5 @@
 use Rattle.std.proofs.Common.{length, sym, ap, subst, arith}
-use Rattle.si_base.proofs.WordSets.{Shows, shows, same_size, disjoint_seen}
+use Rattle.si_base.proofs.SetsAsWords.{Shows, shows, same_size, disjoint_seen}
 use Rattle.si_base.proofs.sets.StateSet.is_disjoint.Goals as goal
 
 pub are_apart-requires : goal.are_apart-requires

@@ -1,6 +1,6 @@
 use Rattle.std.proofs.Common.{◌≡◌, replicate, ◌+◌, ◌/◌, ◌∙◌, ap, rules}
 use Rattle.si_base.specs.Sets.{flags_of}
-use Rattle.si_base.proofs.WordSets.{empty_flags}
+use Rattle.si_base.proofs.SetsAsWords.{empty_flags}
 use Rattle.si_base.proofs.sets.StateSet.new.Goals as goal
 
 pub returns : goal.returns

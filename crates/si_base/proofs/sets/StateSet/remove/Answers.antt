@@ -1,6 +1,6 @@
 use Rattle.std.proofs.Common.{length, arith, false, ◌∙◌}
 use Rattle.std.proofs.lemmas.List.{length-set, get_or_read}
-use Rattle.si_base.proofs.WordSets.{state_within, word_within, clear_written, none_after_write, set_seen}
+use Rattle.si_base.proofs.SetsAsWords.{state_within, word_within, clear_written, none_after_write, set_seen}
 use Rattle.si_base.proofs.sets.StateSet.remove.Goals as goal
 
 pub index_mut-requires : goal.index_mut-requires

@@ -1,5 +1,5 @@
 use Rattle.std.proofs.Common.{length, sym, ap, ◌∙◌}
-use Rattle.si_base.proofs.WordSets.{flag_count}
+use Rattle.si_base.proofs.SetsAsWords.{flag_count}
 use Rattle.si_base.proofs.sets.StateSet.size.Goals as goal
 
 pub returns : goal.returns

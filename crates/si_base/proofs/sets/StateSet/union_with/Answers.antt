@@ -1,7 +1,7 @@
 use Rattle.std.proofs.Common.{◌≡◌, ◌+◌, ◌/◌, length, sym, ap, subst, ◌∙◌, arith}
 use Rattle.std.proofs.lemmas.List.{take_at}
 use Rattle.si_base.specs.Sets.{HasNoFlagFrom, AreFlags}
-use Rattle.si_base.proofs.WordSets.{none_after_union, Shows, shows, same_size, union_seen}
+use Rattle.si_base.proofs.SetsAsWords.{none_after_union, Shows, shows, same_size, union_seen}
 use Rattle.si_base.proofs.sets.StateSet.union_with.Goals as goal
 
 pub unite-requires : goal.unite-requires

@@ -1,6 +1,6 @@
 use Rattle.std.proofs.Common.{◌∙◌, false, replicate}
 use Rattle.std.proofs.lemmas.List.{length-replicate}
-use Rattle.si_graph.proofs.MarkLemmas.{in_none}
+use Rattle.si_graph.proofs.SearchLemmas.{in_none}
 use Rattle.si_candidates.proofs.BlockStates.{union_same}
 use Rattle.si_candidates.proofs.block.Block.of.Goals as goal
 

@@ -1,5 +1,5 @@
 use Rattle.std.proofs.Common.{◌+◌, length, ap, arith}
-use Rattle.si_graph.proofs.MarkLemmas.{in_below}
+use Rattle.si_graph.proofs.SearchLemmas.{in_below}
 use Rattle.si_candidates.proofs.BlockWalks.{stands_at, listed_more, listed_all}
 use Rattle.si_candidates.proofs.block.Block.states.Goals as goal
 

@@ -1,5 +1,5 @@
 use Rattle.si_fold.specs.Partition.{shape}
-use Rattle.si_fold.proofs.MemberLemmas.{members_are}
+use Rattle.si_fold.proofs.PartitionMembers.{members_are}
 use Rattle.si_fold.proofs.partition.Partition.members.Goals as goal
 
 pub returns : goal.returns

@@ -1,6 +1,6 @@
 use Rattle.std.proofs.Common.{arith, inl, inr}
 use Rattle.si_fold.specs.Partition.{shape}
-use Rattle.si_fold.proofs.SplitParts.{has_room, split_from}
+use Rattle.si_fold.proofs.PartitionSplitParts.{has_room, split_from}
 use Rattle.si_fold.proofs.partition.Partition.split_class.Goals as goal
 
 pub take_out-requires-clause-room : goal.take_out-requires-clause-room

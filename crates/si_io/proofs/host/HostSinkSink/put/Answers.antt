@@ -1,6 +1,6 @@
 use Rattle.std.proofs.Common.{◌++◌, take}
 use Rattle.std.proofs.KnownBytes.{Appends-trans}
-use Rattle.si_io.proofs.KnownLemmas.{done_more, prefix_written, prefix_kept}
+use Rattle.si_io.proofs.ReadingLemmas.{done_more, prefix_written, prefix_kept}
 use Rattle.si_io.proofs.host.HostSinkSink.put.Goals as goal
 
 pub loop-rest-preserved : goal.loop-rest-preserved
