@@ -84,6 +84,3 @@ impl Model for Insert {
 
     ghost view = { λ i. record { name = i.name; up = i.up; down = i.down } };
 }
-
-#[cfg(test)]
-mod tests;

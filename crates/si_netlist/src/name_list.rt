@@ -74,6 +74,3 @@ fn begin(ends: &[usize], k: usize) -> usize
 {
     if k == 0 { 0 } else { ends[k - 1] }
 }
-
-#[cfg(test)]
-mod tests;
