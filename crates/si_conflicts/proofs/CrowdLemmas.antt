@@ -1,7 +1,8 @@
 -- Codes that many states share: their states are counted, and as many conflicts stay where the new signal rises at one
 -- of them and falls at another.
 use Rattle.std.proofs.Common.{◌≡◌, ℕ, ◌+◌, ◌<◌, ◌≤◌, ◌==◌, ◌&&◌, ◌⊎◌, Bool, true, false, cond, List, [], ◌∷◌, ◌++◌}
-use Rattle.std.proofs.Common.{All, length, map, filter, take, get_or, Contains, refl, sym, ap, ap₂, subst, ◌∙◌, arith, inl, inr}
+use Rattle.std.proofs.Common.{All, length, map, filter, take, get_or, Contains, refl, sym, ap, ap₂, subst, ◌∙◌}
+use Rattle.std.proofs.Common.{arith, inl, inr}
 use Rattle.std.proofs.lemmas.Bool.{cases_Bool}
 use Rattle.std.proofs.lemmas.List.{append-nil, map-append}
 use Rattle.std.proofs.lemmas.List.Elements.{All-filter, All-map, filter_more}
@@ -123,7 +124,8 @@ weight_back c d x y = ap₂ (λ a b. one_if a + one_if b) (apart_back (role_at f
     (apart_back (role_at true c) (role_at true d) x y)
 
 weight_itself : (c : Class) (x : Key) → weight c c x x ≡ 0
-weight_itself c x = ap₂ (λ a b. one_if a + one_if b) (apart_itself (role_at false c) x) (apart_itself (role_at true c) x)
+weight_itself c x =
+    ap₂ (λ a b. one_if a + one_if b) (apart_itself (role_at false c) x) (apart_itself (role_at true c) x)
 
 abbrev switches : Class → Bool
 switches Low = false
