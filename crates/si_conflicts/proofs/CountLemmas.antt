@@ -83,8 +83,8 @@ clashes_more keys i k total before equal inside at is one two new sum =
     let whole = ap clash_count more in
     omega (arith, last, parts, whole)
 
--- ---- counts in a map, as one key more is counted: `hit` tells the entry that was written
-pub counts_more : {Q : Type 0} (test : Q → Key → Bool) (hit : Q → Bool) (keys : List Key) (i : ℕ) (k : Key) (count : ℕ)
+-- ---- counts in a map, as one element more is counted: `hit` tells the entry that was written
+pub counts_more : {Q A : Type 0} (test : Q → A → Bool) (hit : Q → Bool) (keys : List A) (i : ℕ) (k : A) (count : ℕ)
     (old new : Q → Option ℕ) → i < length keys → k ≡ get_or keys i k
     → ((q : Q) → new q ≡ cond (hit q) (Some (count + 1)) (old q)) → ((q : Q) → hit q ≡ test q k)
     → ((q : Q) → hit q ≡ true → count ≡ count_by (test q) (take i keys))
@@ -119,14 +119,15 @@ both_equal Less p = refl
 both_equal Equal p = refl
 both_equal Greater p = refl
 
-pub code_hit : (k : Key) (q : ℕ) → is_eq (nat_cmp k.code q) ≡ (q == k.code)
-code_hit k q = sym (unsigned_ties k.code q) ∙ eq_back k.code q
+pub code_hit : (code q : ℕ) → is_eq (nat_cmp code q) ≡ (q == code)
+code_hit code q = sym (unsigned_ties code q) ∙ eq_back code q
 
-pub code_counted : (k : Key) (xs : List Key) (count : ℕ) → count ≡ count_by (λ x. k.code == x.code) xs → (q : ℕ)
-    → is_eq (nat_cmp k.code q) ≡ true → count ≡ count_by (λ x. q == x.code) xs
-code_counted k xs count is q here =
-    let same : q ≡ k.code = eqb-true q k.code (sym (code_hit k q) ∙ here) in
-    subst (λ v. count ≡ count_by (λ x. v == x.code) xs) (sym same) is
+pub code_counted : {A : Type 0} (code_of : A → ℕ) (code : ℕ) (xs : List A) (count : ℕ)
+    → count ≡ count_by (λ x. code == code_of x) xs → (q : ℕ)
+    → is_eq (nat_cmp code q) ≡ true → count ≡ count_by (λ x. q == code_of x) xs
+code_counted code_of code xs count is q here =
+    let same : q ≡ code = eqb-true q code (sym (code_hit code q) ∙ here) in
+    subst (λ v. count ≡ count_by (λ x. v == code_of x) xs) (sym same) is
 
 pub key_hit : (k q : Key) → is_eq (key_cmp k q) ≡ same_key q k
 key_hit k q =
@@ -147,7 +148,7 @@ key_counted k xs count is q here =
     let same : q ≡ k = same_is q k (sym (key_hit k q) ∙ here) in
     subst (λ v. count ≡ count_by (same_key v) xs) (sym same) is
 
-pub at_most_counted : (f : Key → Bool) (keys : List Key) (i count : ℕ) → count ≡ count_by f (take i keys)
+pub at_most_counted : {A : Type 0} (f : A → Bool) (keys : List A) (i count : ℕ) → count ≡ count_by f (take i keys)
     → i < length keys
     → count ≤ i
 at_most_counted f keys i count is inside =

@@ -1,12 +1,13 @@
 -- Keys at work: of four states with one code, two enable the same non-input events, so that five of the six pairs
 -- clash. And a trial insertion at work.
-use Rattle.std.proofs.Common.{◌≡◌, ℕ, List, false, [], ◌∷◌, refl}
+use Rattle.std.proofs.Common.{◌≡◌, ℕ, List, false, [], ◌∷◌, ◌++◌, map, refl}
 use Rattle.si_insert.specs.declared.partition.Class.{Class}
 use Rattle.si_insert.specs.declared.partition.Class.TheVariants.{Low, Rising, High, Falling}
 use Rattle.si_conflicts.specs.declared.keys.Key.{Key}
 use Rattle.si_conflicts.specs.declared.members.Member.{Member}
 use Rattle.si_conflicts.specs.Keys.{clashes, clash_count}
 use Rattle.si_conflicts.specs.Apart.{stable_count, pair_sum, switching_count}
+use Rattle.si_conflicts.specs.Crowds.{code_count, crowded_of}
 
 abbrev key : ℕ → ℕ → Key
 key code excited = record { code = code; excited = excited }
@@ -46,3 +47,23 @@ none_is_left_over = refl
 low_by_high : stable_count (Low ∷ High ∷ []) (record { key = key 4 1; state = 0 })
     (record { key = key 4 2; state = 1 }) ≡ 0
 low_by_high = refl
+
+-- three states of one code that enable the same: one Rising, one Falling and one Low leave three conflicts
+alike : List Member
+alike =
+    record { key = key 4 1; state = 0 }
+    ∷ record { key = key 4 1; state = 1 }
+    ∷ record { key = key 4 1; state = 2 }
+    ∷ []
+
+as_many_as_alike : pair_sum (stable_count (Rising ∷ Falling ∷ Low ∷ [])) alike ≡ code_count alike 4
+unfolding alike
+as_many_as_alike = refl
+
+two_more : List Member
+two_more = record { key = key 5 0; state = 3 } ∷ record { key = key 5 2; state = 4 } ∷ []
+
+-- of a code that three states have and one that two have, the three alone are told
+three_crowded : map (λ x. x.state) (crowded_of (alike ++ two_more) 3) ≡ 0 ∷ 1 ∷ 2 ∷ []
+unfolding alike two_more
+three_crowded = refl

@@ -16,3 +16,4 @@ pub mod LeftStaying
 pub mod TallyLemmas
 pub mod ApartStayLemmas
 pub mod RingLemmas
+pub mod CrowdLemmas

@@ -4,5 +4,6 @@ pub mod Links
 pub mod Chains
 pub mod Apart
 pub mod Left
+pub mod Crowds
 pub mod Search
 pub mod Laws

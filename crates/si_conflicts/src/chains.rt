@@ -7,9 +7,11 @@ ghost use Rattle.si_insert.specs.Partition.{IsLawful};
 ghost use Rattle.si_conflicts.specs.Apart as Apart;
 ghost use Rattle.si_conflicts.specs.Apart.{pair_sum};
 ghost use Rattle.si_conflicts.specs.Chains.{AreChains};
+ghost use Rattle.si_conflicts.specs.Crowds.{crowded_of};
 ghost use Rattle.si_conflicts.specs.Left.{LeavesConflicts};
 
 use crate::classes::Classes;
+use crate::crowds::{Crowded, crowded_members};
 use crate::keys::Key;
 use crate::members::{Member, members};
 use crate::rings::rings;
@@ -60,6 +62,21 @@ impl CodeChains {
         ensures { result ≡ slice_index self.now.next s }
     {
         self.next[s.0 as usize]
+    }
+
+    /// The states whose code at least `least` states have, two or more, those of one code side by
+    /// side. It fails only where memory runs out.
+    pub fn crowded_states(
+        &self,
+        alloc: Global,
+        graph: &Proper,
+        least: u64,
+    ) -> Result<Vec<Crowded>, NoMemory>
+        requires { AreChains graph.now self.now }
+        ensures { IfOk result (λ list. list.items ≡ crowded_of self.now.members least) }
+    {
+        let _given = graph.coded().graph();
+        crowded_members(alloc, self.members.as_slice(), least)
     }
 
     /// Whether the insertion may leave fewer conflicts than `bar`, by those that the new signal

@@ -5,6 +5,7 @@ pub mod chains;
 pub mod classes;
 pub mod conflicts;
 mod count;
+pub mod crowds;
 pub mod keys;
 pub mod laws;
 mod links;

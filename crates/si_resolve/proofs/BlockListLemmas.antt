@@ -1,6 +1,7 @@
 -- Blocks that a search may pass over, and graphs that it needn't be made for.
 use Rattle.std.proofs.Common.{◌≡◌, ℕ, ◌+◌, ◌<◌, ◌≤◌, ◌↔◌, ◌∙◌, Bool, true, false, List, [], ◌∷◌, ◌++◌, length, get_or}
-use Rattle.std.proofs.Common.{slice_index_or, Contains, IsTrue, sym, arith, ap, subst, inl, inr, ◌≢◌}
+use Rattle.std.proofs.Common.{All, IfSome, None, Option, Some, slice_index_or, Contains, IsTrue, sym, arith, ap}
+use Rattle.std.proofs.Common.{subst, inl, inr, ◌≢◌}
 use Rattle.std.proofs.lemmas.Bool.{cases_eq}
 use Rattle.std.proofs.lemmas.List.{get_or-map, get_or_append_left, get_or_push, length-map, get_or_default}
 use Rattle.std.proofs.lemmas.List.Elements.{Contains-get_or}
@@ -13,8 +14,14 @@ use Rattle.si_base.specs.Proper.{IsConflict}
 use Rattle.si_candidates.specs.Blocking.{MaySwitch}
 use Rattle.si_candidates.specs.Blocks.{AreBlocks, block_at}
 use Rattle.si_conflicts.specs.declared.conflicts.Pair.{Pair}
+use Rattle.si_conflicts.specs.declared.crowds.Crowd.{Crowd}
+use Rattle.si_conflicts.specs.declared.crowds.Crowded.{Crowded}
+use Rattle.si_conflicts.specs.declared.members.Member.{Member}
+use Rattle.si_conflicts.specs.Chains.{AreChains, Chains}
+use Rattle.si_conflicts.specs.Crowds.{HasOfCrowd, crowded_of}
 use Rattle.si_conflicts.specs.Conflicts.{AreFirstConflicts, HasConflicts, pairs_of}
 use Rattle.si_candidates.specs.ManySets.{AreAllTold}
+use Rattle.si_conflicts.proofs.CrowdLemmas.{crowded_within, has_of_crowd}
 use Rattle.si_conflicts.proofs.OneConflictList.{one_count}
 use Rattle.si_resolve.specs.Best.{NoneImproves}
 use Rattle.si_resolve.specs.Aspects.{AreWithin}
@@ -131,3 +138,20 @@ each_more d P items x n size each last k below = elim (cases_eq k n) [
       let early : k < n = omega (arith, below, other) in
       subst (P k) (sym (get_or_append_left items (x ∷ []) d k (omega (arith, early, size)))) (each k early))
 ]
+
+-- the crowded states of a graph are within a set of the graph's states
+pub crowded_inside : (c : CodedGraph) (chains : Chains) (least : ℕ) (crowded : List Crowded) (set : List Bool)
+    → AreChains c chains → crowded ≡ crowded_of chains.members least → length set ≡ c.graph.states
+    → All (λ x. x.state < length set) crowded
+crowded_inside c chains least crowded set chains_are are size =
+    subst (λ (xs : List Crowded). All (λ x. x.state < length set) xs) (sym are)
+    (subst (λ n. All (λ x. x.state < n) (crowded_of chains.members least)) (sym size)
+    (crowded_within chains.members least c.graph.states chains_are.members_are.within))
+
+-- a crowd that is found in a set has a state there
+pub crowd_of_set : (members : List Member) (least : ℕ) (set : List Bool) (crowded : List Crowded) (o : Option Crowd)
+    → crowded ≡ crowded_of members least
+    → IfSome o (λ crowd. (x : Crowded) × Contains crowded x × IsIn set x.state × (crowd ≡ x.crowd))
+    → IfSome o (HasOfCrowd members set)
+crowd_of_set members least set crowded None are found = tt
+crowd_of_set members least set crowded (Some crowd) are found = has_of_crowd members least set crowded crowd are found

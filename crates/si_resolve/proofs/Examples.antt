@@ -1,6 +1,6 @@
 -- Worked examples: the order of choices, the number that the next candidate has to get below, how
--- blocks lie to conflicts, and the classes that their sides tell.
-use Rattle.std.proofs.Common.{◌≡◌, ℕ, Bool, true, false, List, [], ◌∷◌, Some, None, refl, inl, inr, lit<}
+-- blocks lie to conflicts, the classes that their sides tell, and the crowds that blocks share.
+use Rattle.std.proofs.Common.{◌≡◌, ℕ, Bool, true, false, List, [], ◌∷◌, Some, None, refl, inl, inr, lit<, lit≤}
 use Rattle.si_base.specs.Order.{Before}
 use Rattle.si_insert.specs.declared.partition.Class.TheVariants.{Low, Rising, High, Falling}
 use Rattle.si_resolve.specs.declared.aspects.Aspect.TheVariants.{Together, Apart, Touched}
@@ -8,6 +8,7 @@ use Rattle.si_resolve.specs.Aspects.{aspect_of, part, unparted_count}
 use Rattle.si_resolve.specs.SideClasses.{side_classes}
 use Rattle.si_resolve.specs.Best.{Choice, choice_place}
 use Rattle.si_resolve.specs.Search.{bar}
+use Rattle.si_resolve.specs.Sharing.{ShareCrowd}
 
 abbrev choice : ℕ → ℕ → ℕ → Choice
 choice i j conflicts = record { i = i; j = j; classes = []; conflicts = conflicts }
@@ -66,3 +67,14 @@ touched = refl
 -- of two conflicts it leaves one at least
 one_stays : unparted_count (Apart ∷ Touched ∷ []) (Together ∷ Together ∷ []) ≡ 1
 one_stays = refl
+
+-- two blocks with states of a code that three states have leave three conflicts
+three_shared : ShareCrowd (Some (record { code = 4; states = 3 })) (Some (record { code = 4; states = 3 })) 3
+three_shared = record {
+  first = record { code = 4; states = 3 };
+  second = record { code = 4; states = 3 };
+  first_told = refl;
+  second_told = refl;
+  same_code = refl;
+  enough = lit≤ tt;
+}

@@ -18,9 +18,13 @@ use Rattle.si_candidates.proofs.SideLemmas.{class_is}
 use Rattle.si_candidates.specs.Blocks.{AreBlocks, block_at}
 use Rattle.si_candidates.specs.Parts.{AreClasses, HasBothLevels}
 use Rattle.si_candidates.proofs.PartLaws.{classes_lawful, classes_unique, torn_have_none}
+use Rattle.si_conflicts.specs.declared.crowds.Crowd.{Crowd}
+use Rattle.si_conflicts.specs.declared.members.Member.{Member}
 use Rattle.si_conflicts.specs.Chains.{AreChains, Chains}
 use Rattle.si_conflicts.specs.Conflicts.{HasConflicts}
+use Rattle.si_conflicts.specs.Crowds.{HasOfCrowd, code_count}
 use Rattle.si_conflicts.specs.Left.{LeavesConflicts}
+use Rattle.si_conflicts.proofs.CrowdLemmas.{crowd_is_left}
 use Rattle.si_conflicts.proofs.LeftStaying.{stay_left}
 use Rattle.si_insert.specs.RowSearch.{bar as bar_in}
 use Rattle.si_resolve.specs.declared.search.Found.{Found}
@@ -30,6 +34,7 @@ use Rattle.si_resolve.specs.Search.{IsBestSoFar, IsEarlier, bar}
 use Rattle.si_resolve.specs.declared.aspects.Aspect.{Aspect}
 use Rattle.si_resolve.specs.declared.block_list.BlockList.{BlockList}
 use Rattle.si_resolve.specs.Aspects.{HaveAspects, aspect_of, column_at, unparted_count}
+use Rattle.si_resolve.specs.Sharing.{ShareCrowd, crowd_at}
 use Rattle.si_resolve.specs.Usable.{IsUsable, AreSearched, AreUsable, AreSided, HaveSides}
 use Rattle.si_resolve.specs.Progress.{found_of, best_of, IsSearching, IsFound, bar_of, MayBeAccepted, LeavesBelow}
 use Rattle.si_resolve.specs.Progress.{LeavesNoneBelow, NoneIsBelow, DifferInClassesAlone}
@@ -81,6 +86,9 @@ told_leave_none c plus minus low told is plus_size minus_size r f only enough cl
 pub if_none : {A : Type 0} {P Q : Type 0} (o : Option A) → (P → Q) → IfNone o P → IfNone o Q
 if_none None f is = f is
 if_none (Some x) f is = is
+
+pub some_is : {A : Type 0} (P : A → Type 0) (o : Option A) (x : A) → o ≡ Some x → IfSome o P → P x
+some_is P o x same is = subst (λ z. IfSome z P) same is
 
 -- ---- choices and candidates
 pub choice_usable : (c : CodedGraph) (blocks : List (List Bool)) (x : Choice) → IsCoded c → IsProper c.graph
@@ -315,6 +323,55 @@ module _ (c : CodedGraph) (list : BlockList) (searched : AreSearched c list) (i 
         none_by_left c list.blocks.items i j low (λ classes n are leaves.
         (let left = unparted_are_left chains chains_are classes n are leaves in omega (arith, enough, left)))
 
+-- of two blocks with states of one crowd as many are left as it has states
+pub none_by_crowd : (c : CodedGraph) (list : BlockList) (i j low : ℕ) → AreSearched c list
+    → i < length list.blocks.items → j < length list.blocks.items
+    → ShareCrowd (crowd_at list.crowds.items i) (crowd_at list.crowds.items j) low
+    → NoneIsBelow c list.blocks.items i j low
+none_by_crowd c list i j low searched i_in j_in share =
+    none_by_left c blocks i j low (λ classes n are leaves.
+    (let left = as_many_left classes n are leaves in omega (arith, share.enough, as_many, left)))
+  where
+    blocks : List (List Bool)
+    blocks = list.blocks.items
+
+    members : List Member
+    members = searched.chains.members
+
+    one : HasOfCrowd members (block_at blocks i) share.first
+    one = some_is (HasOfCrowd members (block_at blocks i)) (crowd_at list.crowds.items i) share.first share.first_told
+        (searched.crowds.each i i_in)
+
+    other : HasOfCrowd members (block_at blocks j) share.second
+    other = some_is (HasOfCrowd members (block_at blocks j)) (crowd_at list.crowds.items j) share.second
+        share.second_told (searched.crowds.each j j_in)
+
+    one_in : one.member.state < c.graph.states
+    one_in =
+        let size = size_at c blocks i searched.are i_in in
+        omega (arith, in_below (block_at blocks i) one.member.state one.inside, size)
+
+    other_in : other.member.state < c.graph.states
+    other_in =
+        let size = size_at c blocks j searched.are j_in in
+        omega (arith, in_below (block_at blocks j) other.member.state other.inside, size)
+
+    as_many : share.first.states ≡ code_count members one.member.key.code
+    as_many = ap (λ (x : Crowd). x.states) one.is
+
+    codes : other.member.key.code ≡ one.member.key.code
+    codes = sym (ap (λ (x : Crowd). x.code) other.is) ∙ share.same_code ∙ ap (λ (x : Crowd). x.code) one.is
+
+    as_many_left : (classes : List Class) (n : ℕ) → AreClasses c.graph (block_at blocks i) (block_at blocks j) classes
+        → LeavesConflicts c classes n → code_count members one.member.key.code ≤ n
+    as_many_left classes n are leaves =
+        let lawful = lawful_classes c.graph (block_at blocks i) (block_at blocks j) classes searched.coded.graph_is
+        (size_at c blocks i searched.are i_in) (size_at c blocks j searched.are j_in)
+        (one.member.state, one.inside) (other.member.state, other.inside) are in
+        crowd_is_left c searched.chains classes one.member other.member n searched.coded searched.chains_are lawful
+        one.there other.there codes ((are.rising one.member.state one_in).1 one.inside)
+        ((are.falling other.member.state other_in).1 other.inside) leaves
+
 -- what a test of the list tells
 pub not_usable : (g : StateGraph) (blocks : List (List Bool)) (usable : List Bool) (k : ℕ) → AreUsable g blocks usable
     → k < length blocks → slice_index_or usable k false ≡ false → IsUsable g (block_at blocks k) → ⊥
@@ -324,9 +381,6 @@ not_usable g blocks usable k are within is_not is = true≢false (sym ((are.each
 pub if_some : {A : Type 0} (P Q : A → Type 0) (o : Option A) → ((x : A) → P x → Q x) → IfSome o P → IfSome o Q
 if_some P Q None f is = is
 if_some P Q (Some x) f is = f x is
-
-pub some_is : {A : Type 0} (P : A → Type 0) (o : Option A) (x : A) → o ≡ Some x → IfSome o P → P x
-some_is P o x same is = subst (λ z. IfSome z P) same is
 
 pub none_is : {A P : Type 0} (o : Option A) → o ≡ None → IfNone o P → P
 none_is {A} {P} o same is = subst (λ z. IfNone z P) same is

@@ -2,6 +2,7 @@ pub mod Best
 pub mod Search
 pub mod Aspects
 pub mod SideClasses
+pub mod Sharing
 pub mod Usable
 pub mod Progress
 pub mod Trace

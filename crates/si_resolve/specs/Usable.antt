@@ -11,8 +11,10 @@ use Rattle.si_candidates.specs.Blocking.{MaySwitch}
 use Rattle.si_candidates.specs.declared.tree.Link.{Link}
 use Rattle.si_candidates.specs.Sides.{AreSides}
 use Rattle.si_candidates.specs.Tree.{IsTree}
+use Rattle.si_conflicts.specs.Chains.{AreChains, Chains}
 use Rattle.si_conflicts.specs.Conflicts.{AreFirstConflicts}
 use Rattle.si_resolve.specs.Aspects.{HaveAspects, max_compared}
+use Rattle.si_resolve.specs.Sharing.{HaveCrowds}
 use Rattle.si_resolve.specs.declared.block_list.BlockList.{BlockList}
 
 -- the block has a state, and a new signal may switch in it
@@ -44,8 +46,8 @@ pub record AreSided (g : StateGraph) (plus minus plus_sides minus_sides : List B
   pub plus_are : AreSides g tree plus plus_sides
   pub minus_are : AreSides g tree minus minus_sides
 
--- c is a proper graph with room for one more signal, and the list has its blocks, their sides, and
--- how they lie to the first conflicts
+-- c is a proper graph with room for one more signal, and the list has its blocks, their sides, how
+-- they lie to the first conflicts, and crowds with states in them
 pub record AreSearched (c : CodedGraph) (list : BlockList) : Type 0 where
   pub coded : IsCoded c
   pub proper : IsProper c.graph
@@ -57,3 +59,6 @@ pub record AreSearched (c : CodedGraph) (list : BlockList) : Type 0 where
   pub pairs_are : AreFirstConflicts c max_compared pairs
   pub aspects : HaveAspects list.blocks.items list.usable.items list.sides.items pairs
       list.columns.items
+  pub chains : Chains
+  pub chains_are : AreChains c chains
+  pub crowds : HaveCrowds chains.members list.blocks.items list.crowds.items

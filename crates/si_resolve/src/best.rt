@@ -12,6 +12,7 @@ use si_base::ids::NoMemory;
 use si_base::limits::MAX_SIGNALS;
 use si_candidates::classes::{ClassFault, classes};
 use si_checks::proper::Proper;
+use si_conflicts::chains::CodeChains;
 use si_conflicts::conflicts::count;
 use si_insert::accept::{Accepted, accept};
 use std::alloc::Global;
@@ -27,8 +28,9 @@ pub fn best(alloc: Global, graph: &Proper) -> Result<Option<Accepted>, NoMemory>
     if conflicts == 0 || graph.coded().graph().signals().len() >= MAX_SIGNALS {
         return Ok(None);
     }
-    let list = block_list(alloc, graph)?;
-    let Some(found) = find_best(alloc, graph, &list, conflicts)? else {
+    let chains = CodeChains::new(alloc, graph)?;
+    let list = block_list(alloc, graph, &chains, conflicts)?;
+    let Some(found) = find_best(alloc, graph, chains, &list, conflicts)? else {
         return Ok(None);
     };
     let accepted = accepted_of(alloc, graph, &list, &found)?;

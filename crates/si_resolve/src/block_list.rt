@@ -6,8 +6,10 @@ ghost use Rattle.si_base.specs.Limits.{max_signals};
 ghost use Rattle.si_candidates.specs.Blocks.{AreBlocks, block_at};
 ghost use Rattle.si_candidates.specs.Sides.{AreSides};
 ghost use Rattle.si_candidates.specs.Tree.{IsTree};
+ghost use Rattle.si_conflicts.specs.Chains.{AreChains};
 ghost use Rattle.si_conflicts.specs.Conflicts.{pairs_of};
 ghost use Rattle.si_resolve.specs.Aspects.{AreWithin, HaveAspects, aspect_of};
+ghost use Rattle.si_resolve.specs.Sharing.{HaveCrowds, ShareCrowd};
 ghost use Rattle.si_resolve.specs.Usable.{IsUsable, AreUsable, AreSearched, HaveSides};
 ghost use Rattle.si_base.specs.Sets.{IsIn};
 
@@ -20,19 +22,23 @@ use si_candidates::may_switch::which_may_switch;
 use si_candidates::sides::sides;
 use si_candidates::tree::{Link, tree};
 use si_checks::proper::Proper;
-use si_conflicts::conflicts::{Pair, conflicts};
+use si_conflicts::chains::CodeChains;
+use si_conflicts::conflicts::{Pair, conflicts as first_conflicts};
+use si_conflicts::crowds::{Crowd, crowd_in};
 use si_regions::regions::regions;
 use std::alloc::Global;
 
 /// The blocks of a graph, and for each whether it has a state and a new signal may switch in it: no
 /// other block is in an accepted candidate. Beside each that is so usable the sides of the states,
-/// and how it lies to the first conflicts.
+/// and how it lies to the first conflicts. Beside each block a crowd with a state in it, if one has
+/// as many states as the graph has conflicts.
 #[derive(Drop)]
 pub(crate) struct BlockList {
     pub(crate) blocks: Vec<Block>,
     pub(crate) usable: Vec<bool>,
     pub(crate) sides: Vec<StateSet>,
     pub(crate) columns: Vec<Column>,
+    pub(crate) crowds: Vec<Option<Crowd>>,
 }
 
 /// How many conflicts are compared with each candidate before anything else is done for it.
@@ -41,6 +47,7 @@ const MAX_COMPARED: u32 = 32_768;
 impl BlockList {
     ghost use Rattle.si_resolve.specs.Aspects as of_aspects;
     ghost use Rattle.si_resolve.specs.Aspects.{column_at};
+    ghost use Rattle.si_resolve.specs.Sharing.{crowd_at};
 
     /// The block at that place.
     pub(crate) fn block(&self, k: usize) -> &Block
@@ -71,6 +78,17 @@ impl BlockList {
         self.columns[i].leaves_below(&self.columns[j], bar)
     }
 
+    /// Whether both blocks have states of one crowd, and this has at least `bar` states: so many
+    /// conflicts stay, whatever else the new signal does.
+    pub(crate) fn share_crowd(&self, i: usize, j: usize, bar: u64) -> bool
+        requires i { i < length self.now.crowds.items }
+        requires j { j < length self.now.crowds.items }
+        ensures { IsTrue result ↔ ShareCrowd (crowd_at self.now.crowds.items i)
+            (crowd_at self.now.crowds.items j) bar }
+    {
+        are_shared(self.crowds[i], self.crowds[j], bar)
+    }
+
     /// Whether the block at that place has a state and a new signal may switch in it.
     pub(crate) fn is_usable(&self, k: usize) -> bool
         requires { k < length self.now.usable.items }
@@ -80,9 +98,25 @@ impl BlockList {
     }
 }
 
-/// The blocks of the graph, each tested once.
-pub(crate) fn block_list(alloc: Global, graph: &Proper) -> Result<BlockList, NoMemory>
-    requires { length graph.now.graph.signals < max_signals }
+/// Whether the crowds of two blocks are one, of at least `bar` states.
+fn are_shared(one: Option<Crowd>, other: Option<Crowd>, bar: u64) -> bool
+    ensures { IsTrue result ↔ ShareCrowd one other bar }
+{
+    match (one, other) {
+        (Some(x), Some(y)) => x.code == y.code && x.states as u64 >= bar,
+        _ => false,
+    }
+}
+
+/// The blocks of the graph, which has so many conflicts, each tested once.
+pub(crate) fn block_list(
+    alloc: Global,
+    graph: &Proper,
+    chains: &CodeChains,
+    conflicts: u64,
+) -> Result<BlockList, NoMemory>
+    requires few { length graph.now.graph.signals < max_signals }
+    requires chains { AreChains graph.now chains.now }
     ensures { IfOk result (AreSearched graph.now) }
 {
     // What holds of each proper graph comes with its coded graph.
@@ -91,13 +125,15 @@ pub(crate) fn block_list(alloc: Global, graph: &Proper) -> Result<BlockList, NoM
     let usable = usable_ones(alloc, graph, &blocks)?;
     let tree = tree(alloc, graph)?;
     let sides = sides_of_usable(alloc, graph, &tree, &blocks, &usable)?;
-    let pairs = conflicts(alloc, graph.coded(), MAX_COMPARED)?;
+    let pairs = first_conflicts(alloc, graph.coded(), MAX_COMPARED)?;
     let columns = columns_of_usable(alloc, &blocks, &usable, &sides, &pairs)?;
+    let crowds = crowds_of(alloc, graph, chains, &blocks, conflicts)?;
     Ok(BlockList {
         blocks,
         usable,
         sides,
         columns,
+        crowds,
     })
 }
 
@@ -220,4 +256,24 @@ fn column_if(
     }
     let column = Column::of(alloc, block.set(), sides, pairs)?;
     Ok(column)
+}
+
+/// For each block a crowd of at least so many states that has one in it, if there is one.
+fn crowds_of(
+    alloc: Global,
+    graph: &Proper,
+    chains: &CodeChains,
+    blocks: &[Block],
+    least: u64,
+) -> Result<Vec<Option<Crowd>>, NoMemory>
+    requires chains { AreChains graph.now chains.now }
+    requires sizes { All (λ block. length block ≡ graph.now.graph.states) blocks.now }
+    ensures { IfOk result (λ crowds. HaveCrowds chains.now.members blocks.now crowds.items) }
+{
+    let crowded = chains.crowded_states(alloc, graph, least)?;
+    let mut crowds = Vec::new(alloc);
+    for k in 0..blocks.len() {
+        crowds.push(crowd_in(&crowded, blocks[k].set()))?;
+    }
+    Ok(crowds)
 }

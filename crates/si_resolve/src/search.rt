@@ -47,15 +47,17 @@ struct Search {
 pub(crate) fn find_best(
     alloc: Global,
     graph: &Proper,
+    chains: CodeChains,
     list: &BlockList,
     conflicts: u64,
 ) -> Result<Option<Found>, NoMemory>
+    requires chains { AreChains graph.now chains }
     requires list { AreSearched graph.now list.now }
     requires counted { HasConflicts graph.now conflicts }
     ensures none { IfOk result (λ o. IfNone o (NoneImproves graph.now)) }
     ensures some { IfOk result (λ o. IfSome o (IsFound graph.now list.now.blocks.items)) }
 {
-    let mut search = Search::new(alloc, graph, conflicts)?;
+    let mut search = Search::new(alloc, graph, chains, conflicts)?;
     for j in 0..list.blocks.len() {
         search.try_row(alloc, graph, list, j)?;
     }
@@ -64,7 +66,13 @@ pub(crate) fn find_best(
 
 impl Search {
     /// The search before all candidates.
-    fn new(alloc: Global, graph: &Proper, conflicts: u64) -> Result<Search, NoMemory>
+    fn new(
+        alloc: Global,
+        graph: &Proper,
+        chains: CodeChains,
+        conflicts: u64,
+    ) -> Result<Search, NoMemory>
+        requires { AreChains graph.now chains }
         ensures given { IfOk result (λ s. s.given ≡ conflicts) }
         ensures starts { IfOk result
             (λ s. (blocks : List (List Bool)) → IsSearching graph.now blocks 0 0 s) }
@@ -73,7 +81,7 @@ impl Search {
         Ok(Search {
             given: conflicts,
             best: None,
-            chains: CodeChains::new(alloc, graph)?,
+            chains,
             parting: Parting::new(alloc, states)?,
         })
     }
@@ -120,6 +128,9 @@ impl Search {
         ensures after { OnOk result
             (IsSearching graph.now list.now.blocks.items j (i + 1) self.new) }
     {
+        if self.shares_crowd(graph, list, i, j) {
+            return Ok(());
+        }
         if !self.may_be_better(graph, list, i, j) {
             return Ok(());
         }
@@ -138,6 +149,19 @@ impl Search {
             self.best = Some(Found { i, j, conflicts });
         }
         Ok(())
+    }
+
+    /// Whether the two blocks have states of one crowd, whose conflicts alone are as many as the best
+    /// so far leaves.
+    fn shares_crowd(&self, graph: &Proper, list: &BlockList, i: usize, j: usize) -> bool
+        requires list { AreSearched graph.now list.now }
+        requires i_within { i < length list.now.blocks.items }
+        requires j_within { j < length list.now.blocks.items }
+        ensures { IsTrue result
+            → NoneIsBelow graph.now list.now.blocks.items i j (bar_of self.now) }
+    {
+        let _ = graph;
+        list.share_crowd(i, j, self.bar())
     }
 
     /// Whether, before anything is searched for it, the candidate of the two blocks may be accepted

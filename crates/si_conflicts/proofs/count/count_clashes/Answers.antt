@@ -1,6 +1,7 @@
 use Rattle.std.proofs.Common.{◌==◌, ◌∙◌, arith, ap, unwrap_or, take}
 use Rattle.std.specs.BTreeMap.{get}
 use Rattle.std.specs.Ordering.{nat_cmp, is_eq}
+use Rattle.si_conflicts.specs.declared.keys.Key.{Key}
 use Rattle.si_conflicts.specs.Keys.{key_cmp}
 use Rattle.si_conflicts.proofs.CountLemmas.{same_key, fewer_equal, clashes_more, counts_more, code_hit, code_counted}
 use Rattle.si_conflicts.proofs.CountLemmas.{key_hit, key_counted, at_most_counted}
@@ -50,7 +51,8 @@ loop-key-preserved c =
       of_code = counts_more (λ q x. q == x.code) (λ q. is_eq (nat_cmp k.code q)) keys i k c.unwrap_or-before.result
           (λ q. get nat_cmp c.loop-key.of_code q) (λ q. get nat_cmp c.insert.new.self q) c.loop-key-test.true
           c.key-item.is
-          c.in_ok-insert.ensures.updates.0 (code_hit k) (code_counted k (take i keys) _ before)
+          c.in_ok-insert.ensures.updates.0 (code_hit k.code)
+          (code_counted (λ (x : Key). x.code) k.code (take i keys) _ before)
           c.loop-key.invariant.of_code;
       of_key = counts_more same_key (λ q. is_eq (key_cmp k q)) keys i k c.unwrap_or-equal.result
           (λ q. get key_cmp c.loop-key.of_key q) (λ q. get key_cmp c.insert-in-loop-key.new.self q) c.loop-key-test.true

@@ -36,3 +36,9 @@ columns_of_usable-requires-clause-sizes c =
     given_inside d blocks usable sides max_compared pairs c.in_ok-blocks.ensures have are
     c.deref-5.result.now c.deref-6.result.now c.deref-7.result.now c.deref-8.result.now
     c.deref-5.ensures.value c.deref-6.ensures.value c.deref-7.ensures.value c.deref-8.ensures.value
+
+pub crowds_of-requires-clause-sizes : goal.crowds_of-requires-clause-sizes
+crowds_of-requires-clause-sizes c =
+    let d = c.args.graph.now in
+    subst (All (HasSize d.graph.states)) (sym c.deref-9.ensures.value)
+    (block_sizes d c.in_ok-blocks.blocks.items c.in_ok-blocks.ensures)

@@ -5,6 +5,14 @@ use Rattle.si_resolve.proofs.SearchLemmas.{at_blocks, block_size, candidate_choi
 use Rattle.si_resolve.proofs.SearchLemmas.{same_room, sided_at, skip, some_is}
 use Rattle.si_resolve.proofs.search.Search.try_candidate.Goals as goal
 
+pub shares_crowd-requires-clause-i_within : goal.shares_crowd-requires-clause-i_within
+shares_crowd-requires-clause-i_within c = omega (arith, c.requires.order, c.requires.within)
+
+pub returns-then-shares_crowd-clause-after : goal.returns-then-shares_crowd-clause-after
+returns-then-shares_crowd-clause-after c =
+    skip c.args.graph.now c.args.list.now.blocks.items c.args.j c.args.i c.args.self.now c.args.self.now
+    c.requires.before (same_room c.args.self.now) (c.shares_crowd.ensures c.if-shares_crowd.true)
+
 pub returns-then-not-may_be_better-clause-after : goal.returns-then-not-may_be_better-clause-after
 returns-then-not-may_be_better-clause-after c =
     skip c.args.graph.now c.args.list.now.blocks.items c.args.j c.args.i c.args.self.now c.args.self.now
