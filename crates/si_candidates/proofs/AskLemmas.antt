@@ -3,8 +3,8 @@ use Rattle.std.proofs.Common.{◌≡◌, ◌≢◌, ℕ, ◌+◌, ◌*◌, ◌%�
 use Rattle.std.proofs.Common.{length, get_or, set, take, drop, refl, sym, ap, ap₂, subst, arith, inl, inr, ◌⊎◌, ◌↔◌}
 use Rattle.std.proofs.Common.{All, Contains, append_assoc, bit_or, get_or-set_same, get_or-set_other}
 use Rattle.std.proofs.lemmas.Bool.{cases_eq, true≢false}
-use Rattle.std.proofs.lemmas.List.{append-nil, take_more, take_all, map-append, length-map, length-take}
-use Rattle.std.proofs.lemmas.List.{length-append, get_or_default}
+use Rattle.std.proofs.lemmas.List.{append-nil, take-append-le, take_more, take_all, map-append, length-map}
+use Rattle.std.proofs.lemmas.List.{length-append, length-take, get_or_default}
 use Rattle.std.proofs.lemmas.Nat.Bits.{bit_at_set_same, bit_at_set_other}
 use Rattle.std.proofs.Math.Seq.{take-add}
 use Rattle.std.specs.Int.{w128}
@@ -408,3 +408,9 @@ module _ (g : StateGraph) where
         are = are_each g stops regions both.sets (subst (λ asks. AreIntervalsOf g asks both.sets) parts both.are);
         added = both.added;
       }
+
+-- ---- a list that was lent whole
+pub written_back : {X : Type 0} (size : ℕ) (new old : List X) → length new ≡ size → length old ≡ size
+    → take size (new ++ drop (length new) old) ≡ new
+written_back size new old full same =
+    take-append-le size new (drop (length new) old) (omega arith) ∙ take_all size new (omega arith)

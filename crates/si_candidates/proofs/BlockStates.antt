@@ -1,19 +1,9 @@
 -- The states of a block.
-use Rattle.std.proofs.Common.{◌≡◌, ℕ, ◌<◌, ◌↔◌, Bool, false, List, length, get_or, All, Contains, sym, subst, ◌∙◌}
+use Rattle.std.proofs.Common.{◌≡◌, ℕ, ◌<◌, ◌↔◌, Bool, false, List, length, get_or, sym, ◌∙◌}
 use Rattle.std.proofs.Common.{arith, inl, inr}
 use Rattle.std.proofs.lemmas.Bool.{cases_Bool, true≢false}
-use Rattle.std.proofs.lemmas.List.Elements.{Contains-get_or}
 use Rattle.std.proofs.lemmas.List.{get_or_default, same_lists}
 use Rattle.si_base.specs.Sets.{IsIn, IsUnion}
-use Rattle.si_graph.proofs.SearchLemmas.{in_below}
-use Rattle.si_regions.specs.Regions.{IsSetOf}
-
--- what holds of all elements holds of each that the list has
-pub at_each : {X : Type 0} (P : X → Type 0) (xs : List X) (x : X) → All P xs → Contains xs x → P x
-at_each P xs x all there = subst P there.2 (all there.0 x there.1)
-
-pub for_each : {X : Type 0} (P : X → Type 0) (xs : List X) → ((x : X) → Contains xs x → P x) → All P xs
-for_each P xs each k d inside = each (get_or xs k d) (Contains-get_or xs k d inside)
 
 -- sets with the same states are equal
 pub same_sets : (x y : List Bool) → length x ≡ length y → ((s : ℕ) → IsIn x s ↔ IsIn y s) → x ≡ y
@@ -37,8 +27,3 @@ union_same none set copy empty size is = same_sets copy set (is.size ∙ size) (
   λ there. elim (is.no_more s there) [ inl old ↦ absurd (empty s old) | inr other ↦ other ],
   λ there. is.has_other s there,
 ))
-
-pub states_below : (set : List Bool) (states : List ℕ) (n : ℕ) → IsSetOf (IsIn set) states → length set ≡ n
-    → All (λ s. s < n) states
-states_below set states n are size = for_each (λ s. s < n) states
-    (λ s there. (let below = in_below set s ((are.exactly s).0 there) in omega (arith, below, size)))

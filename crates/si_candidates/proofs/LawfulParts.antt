@@ -11,8 +11,8 @@ use Rattle.si_regions.specs.Connected.{Adjoins, PathOf}
 use Rattle.si_insert.specs.declared.partition.Class.{Class}
 use Rattle.si_insert.specs.declared.partition.Class.TheVariants.{Low, Rising, High, Falling}
 use Rattle.si_insert.specs.Partition.{class_of, may_lead, IsLawful}
-use Rattle.si_candidates.specs.Parts.{IsOther, ComesFrom, GoesInto, PartMeets, IsHigh, IsLow, AreClasses}
-use Rattle.si_candidates.proofs.PartLaws.{drawn_on}
+use Rattle.si_candidates.specs.Parts.{IsOther, ComesFrom, GoesInto, IsHigh, IsLow, AreClasses}
+use Rattle.si_candidates.proofs.PartLaws.{alone, drawn_on}
 
 -- the facts at hand
 pub record Setting (g : StateGraph) (plus minus : List Bool) (classes : List Class) : Type 0 where
@@ -104,11 +104,6 @@ either false = inr (λ h. true≢false (sym h))
 abbrev Drawn : StateGraph → List Bool → List Bool → ℕ → Type 0
 Drawn g plus minus s = IsOther g plus minus s → IsHigh g plus minus s ⊎ IsLow g plus minus s
 
-alone : (g : StateGraph) (plus minus from into : List Bool) (s : ℕ) → IsOther g plus minus s
-    → (ComesFrom g from s ⊎ GoesInto g into s) → PartMeets g plus minus from into s
-alone g plus minus from into s other by =
-    record { at = s; part = record { begins = other; path = []; leads = refl }; by = by }
-
 next_to : (g : StateGraph) (plus minus : List Bool) (s t : ℕ) → t < g.states → Adjoins g s t → Drawn g plus minus t
     → Drawn g plus minus s
 next_to g plus minus s t inside adjoins drawn other = elim (either (get_or plus t false)) [
@@ -120,12 +115,12 @@ next_to g plus minus s t inside adjoins drawn other = elim (either (get_or plus 
 ]
   where
     by_plus : Adjoins g s t → IsIn plus t → IsHigh g plus minus s ⊎ IsLow g plus minus s
-    by_plus (inl (e, step)) there = inr (alone g plus minus minus plus s other (inr (t, e, there, step)))
-    by_plus (inr (e, step)) there = inl (alone g plus minus plus minus s other (inl (t, e, there, step)))
+    by_plus (inl (e, step)) there = inr (alone g s plus minus minus plus other (inr (t, e, there, step)))
+    by_plus (inr (e, step)) there = inl (alone g s plus minus plus minus other (inl (t, e, there, step)))
 
     by_minus : Adjoins g s t → IsIn minus t → IsHigh g plus minus s ⊎ IsLow g plus minus s
-    by_minus (inl (e, step)) there = inl (alone g plus minus plus minus s other (inr (t, e, there, step)))
-    by_minus (inr (e, step)) there = inr (alone g plus minus minus plus s other (inl (t, e, there, step)))
+    by_minus (inl (e, step)) there = inl (alone g s plus minus plus minus other (inr (t, e, there, step)))
+    by_minus (inr (e, step)) there = inr (alone g s plus minus minus plus other (inl (t, e, there, step)))
 
     on : IsHigh g plus minus t ⊎ IsLow g plus minus t → IsHigh g plus minus s ⊎ IsLow g plus minus s
     on (inl high) = inl (drawn_on g plus minus plus minus s t other adjoins high)

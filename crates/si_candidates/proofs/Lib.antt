@@ -4,12 +4,9 @@ pub mod LawfulParts
 pub mod BlockingLemmas
 pub mod BlockCopyCount
 mod BlockStates
-mod BlockWalks
 mod MaySwitchArcs
 mod MaySwitchWords
-mod RaisingLemmas
-mod RaisingLoops
-mod RaisingSpread
+mod PartLemmas
 mod BlockExamples
 mod PartExamples
 pub mod BlockSameSets

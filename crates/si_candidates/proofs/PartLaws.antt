@@ -40,7 +40,7 @@ is_other g plus minus classes s a within rise fall = record {
   not_minus = λ there. fall ((a.falling s within).1 there);
 }
 
-alone : (g : StateGraph) (s : ℕ) (plus minus from into : List Bool) → IsOther g plus minus s
+pub alone : (g : StateGraph) (s : ℕ) (plus minus from into : List Bool) → IsOther g plus minus s
     → (ComesFrom g from s ⊎ GoesInto g into s) → PartMeets g plus minus from into s
 alone g s plus minus from into other by =
     record { at = s; part = record { begins = other; path = []; leads = refl }; by = by }

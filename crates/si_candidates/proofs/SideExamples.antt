@@ -3,7 +3,7 @@ use Rattle.std.proofs.Common.{◌≡◌, ℕ, Bool, true, false, List, [], ◌�
 use Rattle.si_insert.specs.declared.partition.Class.TheVariants.{Low, Rising, High, Falling}
 use Rattle.si_candidates.specs.declared.tree.Link.{Link}
 use Rattle.si_candidates.specs.Tree.{IsMet}
-use Rattle.si_candidates.specs.Sides.{between, class_by, differ, flag, leaves}
+use Rattle.si_candidates.specs.Sides.{between, class_by, classes_by, differ, flag, leaves}
 
 -- from s0, the start, to s1, from there to s2, and on to s3
 abbrev three_links : List Link
@@ -53,3 +53,10 @@ high_between = refl
 
 falls_there : class_by (flag second 3) (flag fourth 3) (turned 3) ≡ Falling
 falls_there = refl
+
+-- s2 alone: there the value is 1 on the way
+abbrev third : List Bool
+third = false ∷ false ∷ true ∷ false ∷ []
+
+each_class : classes_by second fourth third ≡ Low ∷ Rising ∷ High ∷ Falling ∷ []
+each_class = refl

@@ -206,6 +206,31 @@ class_told Rising = refl
 class_told High = refl
 class_told Falling = refl
 
+-- ---- which classes tests tell
+pub rising_is : (a b v : Bool) → (class_by a b v ≡ Rising) ↔ (a ≡ true)
+rising_is true b v = (λ h. refl, λ h. refl)
+rising_is false true v = (λ (h : Falling ≡ Rising). cc, λ h. absurd (true≢false (sym h)))
+rising_is false false true = (λ (h : High ≡ Rising). cc, λ h. absurd (true≢false (sym h)))
+rising_is false false false = (λ (h : Low ≡ Rising). cc, λ h. absurd (true≢false (sym h)))
+
+pub falling_is : (a b v : Bool) → (a ≡ true → b ≡ true → ⊥) → (class_by a b v ≡ Falling) ↔ (b ≡ true)
+falling_is true b v apart = (λ (h : Rising ≡ Falling). cc, λ h. absurd (apart refl h))
+falling_is false true v apart = (λ h. refl, λ h. refl)
+falling_is false false true apart = (λ (h : High ≡ Falling). cc, λ h. absurd (true≢false (sym h)))
+falling_is false false false apart = (λ (h : Low ≡ Falling). cc, λ h. absurd (true≢false (sym h)))
+
+pub high_is : (a b v : Bool) → (class_by a b v ≡ High) ↔ ((a ≡ false) × (b ≡ false) × (v ≡ true))
+high_is true b v = (λ (h : Rising ≡ High). cc, λ h. absurd (true≢false h.0))
+high_is false true v = (λ (h : Falling ≡ High). cc, λ h. absurd (true≢false h.1))
+high_is false false true = (λ h. (refl, refl, refl), λ h. refl)
+high_is false false false = (λ (h : Low ≡ High). cc, λ h. absurd (true≢false (sym h.2)))
+
+pub low_is : (a b v : Bool) → (class_by a b v ≡ Low) ↔ ((a ≡ false) × (b ≡ false) × (v ≡ false))
+low_is true b v = (λ (h : Rising ≡ Low). cc, λ h. absurd (true≢false h.0))
+low_is false true v = (λ (h : Falling ≡ Low). cc, λ h. absurd (true≢false h.1))
+low_is false false true = (λ (h : High ≡ Low). cc, λ h. absurd (true≢false h.2))
+low_is false false false = (λ h. (refl, refl, refl), λ h. refl)
+
 -- ---- two blocks
 module _ (g : StateGraph) (graph : IsGraph g) (plus minus : List Bool) (others : List Class)
     (from : IsPartitionOfBlocks g plus minus others) where

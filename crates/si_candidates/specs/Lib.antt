@@ -6,6 +6,5 @@ pub mod Parts
 pub mod Blocking
 pub mod ManySets
 pub mod Laws
-pub mod Raising
 pub mod Tree
 pub mod Sides

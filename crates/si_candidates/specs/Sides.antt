@@ -1,7 +1,7 @@
 -- (loop) On which side of a block each state lies, and how the sides of two blocks tell the
 -- classes.
-use Rattle.std.specs.Prelude.{◌≡◌, ℕ, ◌<◌, ◌&&◌, ◌↔◌, not, Bool, true, false, List, length}
-use Rattle.std.specs.List.{slice_index_or}
+use Rattle.std.specs.Prelude.{◌≡◌, ℕ, ◌<◌, ◌&&◌, ◌↔◌, not, Bool, true, false, List, length, map}
+use Rattle.std.specs.List.{range_with_len, slice_index_or}
 use Rattle.si_base.specs.Graph.{StateGraph}
 use Rattle.si_base.specs.Sets.{IsIn}
 use Rattle.si_insert.specs.declared.partition.Class.{Class}
@@ -42,6 +42,12 @@ class_by true falls value = Rising
 class_by false true value = Falling
 class_by false false true = High
 class_by false false false = Low
+
+-- the classes of all states where it rises in the one set, falls in the other, and has the value 1
+-- on the way to those of the third
+abbrev pub classes_by : List Bool → List Bool → List Bool → List Class
+classes_by plus minus high =
+    map (λ s. class_by (flag plus s) (flag minus s) (flag high s)) (range_with_len 0 (length plus))
 
 -- a lawful partition whose Rising states are the one set and whose Falling states the other
 pub record IsPartitionOfBlocks (g : StateGraph) (plus minus : List Bool) (classes : List Class)

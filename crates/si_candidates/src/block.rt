@@ -1,12 +1,10 @@
 //! A block with what a search asks of it again and again.
 
 ghost use Rattle.std.specs.Prelude.{◌≡◌, ◌↔◌, IfOk, IsTrue, count_by, length};
-ghost use Rattle.si_base.specs.Sets.{IsIn};
 ghost use Rattle.si_candidates.specs.Blocks.{AreDisjoint, same_set};
 
-use si_base::ids::{NoMemory, StateId};
+use si_base::ids::NoMemory;
 use si_base::sets::StateSet;
-use si_regions::state_list::StateList;
 use std::alloc::Global;
 use std::marker::Model;
 
@@ -28,8 +26,6 @@ impl Model for Block {
 }
 
 impl Block {
-    ghost use Rattle.si_regions.specs.Regions.{IsSetOf};
-
     /// The block of the states of a set. It fails only where memory runs out.
     pub fn of(alloc: Global, set: &StateSet) -> Result<Block, NoMemory>
         ensures { IfOk result (λ b. b ≡ set.now) }
@@ -60,21 +56,6 @@ impl Block {
         ensures { result ≡ count_by (λ x. x) self.now }
     {
         self.count
-    }
-
-    /// The states in order. It fails only where memory runs out.
-    pub fn states(&self, alloc: Global) -> Result<StateList, NoMemory>
-        ensures { IfOk result (IsSetOf (IsIn self.now)) }
-    {
-        let set = self.set();
-        let _size = set.size();
-        let mut states = Vec::new(alloc);
-        let mut next = set.first_from(StateId(0));
-        while let Some(s) = next {
-            states.push(s)?;
-            next = set.first_from(StateId(s.0 + 1));
-        }
-        Ok(StateList::of(states))
     }
 
     /// Whether no state is in both blocks.

@@ -1,15 +1,15 @@
 //! The classes of a candidate.
 
-ghost use Rattle.std.specs.Prelude.{◌≡◌, ℕ, ◌↔◌, ◌∷◌, [], IfOk, IfErr, IsTrue, MatchOption, length};
+ghost use Rattle.std.specs.Prelude.{◌≡◌, ℕ, ◌<◌, ◌↔◌, ◌∷◌, [], IfOk, IfErr, IsTrue, MatchOption, length};
 ghost use Rattle.si_base.specs.Order.{IsFirst};
-ghost use Rattle.si_base.specs.Sets.{IsIn};
+ghost use Rattle.si_base.specs.Sets.{IsDisjoint, IsIn};
 ghost use Rattle.si_insert.specs.Partition.{IsLawful};
 ghost use Rattle.si_candidates.specs.Blocks.{AreDisjoint};
 ghost use Rattle.si_candidates.specs.Parts.{AreClasses, ShowsNoClasses};
-ghost use Rattle.si_candidates.specs.Raising.{IsHighInBoth};
+ghost use Rattle.si_candidates.specs.Sides.{classes_by};
 
-use crate::block::Block;
-use crate::raising::Raising;
+use crate::parts::{high_states, states_outside};
+use crate::sides::class_by;
 use si_base::ids::{NoMemory, StateId};
 use si_base::sets::StateSet;
 use si_checks::proper::Proper;
@@ -54,36 +54,54 @@ pub fn classes(
     ensures fault { IfErr result (ShowsNoClasses graph.now.graph plus.now minus.now) }
 {
     let g = graph.coded().graph();
-    let rising = Block::of(alloc, plus)?;
-    let falling = Block::of(alloc, minus)?;
-    let mut high = Raising::new(alloc, g.states())?;
-    high.raise_all(g, &rising, &falling)?;
-    let mut low = Raising::new(alloc, g.states())?;
-    low.raise_all(g, &falling, &rising)?;
-    if let Some(s) = first_high_in_both(g.states(), high.classes(), low.classes()) {
+    let others = states_outside(alloc, g, plus, minus)?;
+    let high = high_states(alloc, g, &others, plus, minus)?;
+    let low = high_states(alloc, g, &others, minus, plus)?;
+    if let Some(s) = first_in_both(&high, &low) {
         return Err(ClassFault::NoClasses { s });
     }
-    Ok(Partition::known(graph, high.into_classes()))
+    let list = class_list(alloc, plus, minus, &high)?;
+    Ok(Partition::known(graph, list))
 }
 
-/// The first of so many states that is High in both lists.
-fn first_high_in_both(states: u32, one: &[Class], other: &[Class]) -> Option<StateId>
-    requires one_size { length one.now ≡ states }
-    requires other_size { length other.now ≡ states }
-    ensures { MatchOption result ((s : ℕ) → IsHighInBoth one.now other.now s → ⊥)
-        (IsFirst (λ s. s ∷ []) (IsHighInBoth one.now other.now)) }
+/// The first state that is in both sets.
+fn first_in_both(one: &StateSet, other: &StateSet) -> Option<StateId>
+    requires { length other.now ≡ length one.now }
+    ensures { MatchOption result (IsDisjoint one.now other.now)
+        (IsFirst (λ s. s ∷ []) (λ s. IsIn one.now s × IsIn other.now s)) }
 {
-    for s in 0..states {
-        if are_high(one[s as usize], other[s as usize]) {
-            return Some(StateId(s));
+    for k in 0..one.size() {
+        if is_in_both(one, other, StateId(k)) {
+            return Some(StateId(k));
         }
     }
     None
 }
 
-/// Whether both classes are High.
-fn are_high(one: Class, other: Class) -> bool
-    ensures { IsTrue result ↔ ((one ≡ Class.High) × (other ≡ Class.High)) }
+/// Whether the state is in both sets.
+fn is_in_both(one: &StateSet, other: &StateSet, s: StateId) -> bool
+    requires one { s < length one.now }
+    requires other { s < length other.now }
+    ensures { IsTrue result ↔ (IsIn one.now s × IsIn other.now s) }
 {
-    one == Class::High && other == Class::High
+    one.has(s) && other.has(s)
+}
+
+/// The classes of the states by the two blocks and by the states of the High parts.
+fn class_list(
+    alloc: Global,
+    plus: &StateSet,
+    minus: &StateSet,
+    high: &StateSet,
+) -> Result<Vec<Class>, NoMemory>
+    requires minus { length minus.now ≡ length plus.now }
+    requires high { length high.now ≡ length plus.now }
+    ensures { IfOk result (λ list. list.items ≡ classes_by plus.now minus.now high.now) }
+{
+    let mut list = Vec::new(alloc);
+    for k in 0..plus.size() {
+        let s = StateId(k);
+        list.push(class_by(plus.has(s), minus.has(s), high.has(s)))?;
+    }
+    Ok(list)
 }

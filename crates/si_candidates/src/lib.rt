@@ -9,7 +9,6 @@ mod intervals;
 pub mod laws;
 pub mod may_switch;
 pub mod part_laws;
-pub mod parting;
-mod raising;
+mod parts;
 pub mod sides;
 pub mod tree;

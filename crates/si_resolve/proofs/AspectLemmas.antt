@@ -9,7 +9,7 @@ use Rattle.si_insert.specs.declared.partition.Class.{Class}
 use Rattle.si_insert.specs.declared.partition.Class.TheVariants.{Low, Rising, High, Falling}
 use Rattle.si_insert.specs.Partition.{class_of}
 use Rattle.si_candidates.specs.Sides.{between, class_by, differ, flag}
-use Rattle.si_candidates.proofs.SideLemmas.{differ_group, differ_swap}
+use Rattle.si_candidates.proofs.SideLemmas.{differ_group, differ_swap, high_is, low_is}
 use Rattle.si_conflicts.specs.Left.{are_parted, stays}
 use Rattle.si_resolve.specs.declared.aspects.Aspect.{Aspect}
 use Rattle.si_resolve.specs.declared.aspects.Aspect.TheVariants.{Together, Apart}
@@ -63,36 +63,6 @@ unparted_parts n xs ys first_xs later_xs first_ys later_ys first_x later_x first
     omega (arith, parts, first, later)
 
 -- ---- classes that are parted
-low_is : (a b v : Bool) → class_by a b v ≡ Low → (a ≡ false) × (b ≡ false) × (v ≡ false)
-low_is a b v same = at a b v (ap is_low same)
-  where
-    is_low : Class → Bool
-    is_low Low = true
-    is_low Rising = false
-    is_low High = false
-    is_low Falling = false
-
-    at : (a b v : Bool) → is_low (class_by a b v) ≡ true → (a ≡ false) × (b ≡ false) × (v ≡ false)
-    at true b v h = absurd (true≢false (sym h))
-    at false true v h = absurd (true≢false (sym h))
-    at false false true h = absurd (true≢false (sym h))
-    at false false false h = (refl, refl, refl)
-
-high_is : (a b v : Bool) → class_by a b v ≡ High → (a ≡ false) × (b ≡ false) × (v ≡ true)
-high_is a b v same = at a b v (ap is_high same)
-  where
-    is_high : Class → Bool
-    is_high Low = false
-    is_high Rising = false
-    is_high High = true
-    is_high Falling = false
-
-    at : (a b v : Bool) → is_high (class_by a b v) ≡ true → (a ≡ false) × (b ≡ false) × (v ≡ true)
-    at true b v h = absurd (true≢false (sym h))
-    at false true v h = absurd (true≢false (sym h))
-    at false false true h = (refl, refl, refl)
-    at false false false h = absurd (true≢false (sym h))
-
 parted_cases : (c d : Class) → are_parted c d ≡ true → ((c ≡ Low) × (d ≡ High)) ⊎ ((c ≡ High) × (d ≡ Low))
 parted_cases Low Low h = absurd (true≢false (sym h))
 parted_cases Low Rising h = absurd (true≢false (sym h))
@@ -165,12 +135,12 @@ module _ (states : ℕ) (plus minus plus_sides minus_sides : List Bool) (turn : 
       → part (by_plus (p, q)) (by_minus (p, q)) ≡ true
   classes_part p q p_in q_in parted = elim (parted_cases (class_of classes p) (class_of classes q) parted) [
     | inl at ↦ (
-        let low = low_is (flag plus p) (flag minus p) (differ turn (turned p)) (sym (each p p_in) ∙ at.0) in
-        let high = high_is (flag plus q) (flag minus q) (differ turn (turned q)) (sym (each q q_in) ∙ at.1) in
+        let low = (low_is (flag plus p) (flag minus p) (differ turn (turned p))).0 (sym (each p p_in) ∙ at.0) in
+        let high = (high_is (flag plus q) (flag minus q) (differ turn (turned q))).0 (sym (each q q_in) ∙ at.1) in
         sides_part p q low.0 high.0 low.1 high.1 (turn_off turn (turned p) (turned q) low.2 high.2))
     | inr at ↦ (
-        let high = high_is (flag plus p) (flag minus p) (differ turn (turned p)) (sym (each p p_in) ∙ at.0) in
-        let low = low_is (flag plus q) (flag minus q) (differ turn (turned q)) (sym (each q q_in) ∙ at.1) in
+        let high = (high_is (flag plus p) (flag minus p) (differ turn (turned p))).0 (sym (each p p_in) ∙ at.0) in
+        let low = (low_is (flag plus q) (flag minus q) (differ turn (turned q))).0 (sym (each q q_in) ∙ at.1) in
         sides_part p q high.0 low.0 high.1 low.1 (turn_on turn (turned p) (turned q) high.2 low.2))
   ]
 

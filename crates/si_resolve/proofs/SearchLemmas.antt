@@ -16,7 +16,9 @@ use Rattle.si_insert.specs.Partition.{IsLawful}
 use Rattle.si_candidates.specs.Sides.{AreSides, IsPartitionOfBlocks, between}
 use Rattle.si_candidates.proofs.SideLemmas.{class_is}
 use Rattle.si_candidates.specs.Blocks.{AreBlocks, block_at}
-use Rattle.si_candidates.specs.Parts.{AreClasses, HasBothLevels}
+use Rattle.si_candidates.specs.declared.classes.ClassFault.{ClassFault}
+use Rattle.si_candidates.specs.declared.classes.ClassFault.TheVariants.{NoClasses}
+use Rattle.si_candidates.specs.Parts.{AreClasses, ShowsNoClasses}
 use Rattle.si_candidates.proofs.PartLaws.{classes_lawful, classes_unique, torn_have_none}
 use Rattle.si_conflicts.specs.declared.crowds.Crowd.{Crowd}
 use Rattle.si_conflicts.specs.declared.members.Member.{Member}
@@ -37,7 +39,7 @@ use Rattle.si_resolve.specs.Aspects.{HaveAspects, aspect_of, column_at, unparted
 use Rattle.si_resolve.specs.Sharing.{ShareCrowd, crowd_at}
 use Rattle.si_resolve.specs.Usable.{IsUsable, AreSearched, AreUsable, AreSided, HaveSides}
 use Rattle.si_resolve.specs.Progress.{found_of, best_of, IsSearching, IsFound, bar_of, MayBeAccepted, LeavesBelow}
-use Rattle.si_resolve.specs.Progress.{LeavesNoneBelow, NoneIsBelow, DifferInClassesAlone}
+use Rattle.si_resolve.specs.Progress.{LeavesNoneBelow, NoneIsBelow}
 use Rattle.si_candidates.proofs.BlockingLemmas.{accepted_by_blocks}
 use Rattle.si_candidates.proofs.BlockCopyCount.{copies_by_blocks}
 use Rattle.si_resolve.proofs.AspectLemmas.{unparted_stay}
@@ -54,10 +56,11 @@ lawful_classes g plus minus classes graph plus_size minus_size r f are =
     let f_in = in_below minus f.0 f.1 in
     classes_lawful g plus minus classes r.0 f.0 graph are r.1 (omega (arith, r_in)) f.1 (omega (arith, f_in))
 
-pub torn_leave_none : (c : CodedGraph) (plus minus : List Bool) (low s : ℕ) → HasBothLevels c.graph plus minus s
-    → LeavesNoneBelow c plus minus low
-torn_leave_none c plus minus low s torn classes n are leaves =
-    absurd (torn_have_none c.graph plus minus classes s are torn)
+pub torn_leave_none : (c : CodedGraph) (plus minus : List Bool) (low : ℕ) (fault : ClassFault) (s : ℕ)
+    → fault ≡ NoClasses s → ShowsNoClasses c.graph plus minus fault → LeavesNoneBelow c plus minus low
+torn_leave_none c plus minus low fault s is shows classes n are leaves =
+    let first = subst (ShowsNoClasses c.graph plus minus) is shows in
+    absurd (torn_have_none c.graph plus minus classes s are first.holds)
 
 pub one_leaves_none : (c : CodedGraph) (plus minus : List Bool) (classes : List Class) (low : ℕ) → IsCoded c
     → length plus ≡ c.graph.states → length minus ≡ c.graph.states
@@ -143,50 +146,31 @@ bar_same : (n : ℕ) (o : Option Choice) → bar_by n (best_of o) ≡ bar n o
 bar_same n None = refl
 bar_same n (Some x) = refl
 
-pub same_room : (s : Search) → DifferInClassesAlone s s
-same_room s = record { given = refl; best = refl; chains = refl; room = refl }
-
-pub same_rooms : (s t u : Search) → DifferInClassesAlone s t → DifferInClassesAlone t u → DifferInClassesAlone s u
-same_rooms s t u one next = record {
-  given = next.given ∙ one.given;
-  best = next.best ∙ one.best;
-  chains = next.chains ∙ one.chains;
-  room = next.room ∙ one.room;
-}
-
-pub same_bar : (s t : Search) → DifferInClassesAlone s t → bar_of t ≡ bar_of s
-same_bar s t same = ap₂ (λ (n : ℕ) (o : Option Found). bar_by n o) same.given same.best
-
-pub skip : (c : CodedGraph) (blocks : List (List Bool)) (j i : ℕ) (s t : Search) → IsSearching c blocks j i s
-    → DifferInClassesAlone s t
-    → NoneIsBelow c blocks i j (bar_of s) → IsSearching c blocks j (i + 1) t
-skip c blocks j i s t so same high =
+pub skip : (c : CodedGraph) (blocks : List (List Bool)) (j i : ℕ) (s : Search) → IsSearching c blocks j i s
+    → NoneIsBelow c blocks i j (bar_of s) → IsSearching c blocks j (i + 1) s
+skip c blocks j i s so high =
     let n = s.given in
     let low : bar_by n s.best ≡ bar n so.best = ap (bar_by n) so.found ∙ bar_same n so.best in
     let above : (y : Choice) → IsChoice c blocks y → y.j ≡ j → y.i ≡ i → bar n so.best ≤ y.conflicts =
     λ y choice at_j at_i. (let more = high y choice at_j at_i in omega (arith, low, more)) in
-    let next = search_skip c blocks n j i so.best above so.is_best in
     record {
-      room = same.room ∙ so.room;
-      chains = subst (AreChains c) (sym same.chains) so.chains;
+      chains = so.chains;
       best = so.best;
-      is_best = subst (λ m. IsBestSoFar c blocks m j (i + 1) so.best) (sym same.given) next;
-      found = same.best ∙ so.found;
+      is_best = search_skip c blocks n j i so.best above so.is_best;
+      found = so.found;
     }
 
-pub keep : (c : CodedGraph) (blocks : List (List Bool)) (j i : ℕ) (s t : Search) (x : Choice) → IsCoded c
-    → IsSearching c blocks j i s → DifferInClassesAlone s t → IsChoice c blocks x → x.j ≡ j → x.i ≡ i
-    → x.conflicts < bar_of s → IsSearching c blocks j (i + 1) (record t { best = Some (found_of x) })
-keep c blocks j i s t x is so same choice at_j at_i fewer =
+pub keep : (c : CodedGraph) (blocks : List (List Bool)) (j i : ℕ) (s : Search) (x : Choice) → IsCoded c
+    → IsSearching c blocks j i s → IsChoice c blocks x → x.j ≡ j → x.i ≡ i → x.conflicts < bar_of s
+    → IsSearching c blocks j (i + 1) (record s { best = Some (found_of x) })
+keep c blocks j i s x is so choice at_j at_i fewer =
     let n = s.given in
     let low : bar_by n s.best ≡ bar n so.best = ap (bar_by n) so.found ∙ bar_same n so.best in
     let under : x.conflicts < bar n so.best = omega (arith, low, fewer) in
-    let next = search_take c blocks n j i so.best x is choice at_j at_i under so.is_best in
     record {
-      room = same.room ∙ so.room;
-      chains = subst (AreChains c) (sym same.chains) so.chains;
+      chains = so.chains;
       best = Some x;
-      is_best = subst (λ m. IsBestSoFar c blocks m j (i + 1) (Some x)) (sym same.given) next;
+      is_best = search_take c blocks n j i so.best x is choice at_j at_i under so.is_best;
       found = refl;
     }
 
@@ -194,7 +178,6 @@ keep c blocks j i s t x is so same choice at_j at_i fewer =
 pub skip_row : (c : CodedGraph) (blocks : List (List Bool)) (j : ℕ) (s : Search) → IsSearching c blocks j 0 s
     → ((y : Choice) → IsChoice c blocks y → y.j ≡ j → ⊥) → IsSearching c blocks (j + 1) 0 s
 skip_row c blocks j s so none = record {
-  room = so.room;
   chains = so.chains;
   best = so.best;
   is_best = search_row c blocks s.given j 0 so.best (λ y choice at. absurd (none y choice at)) so.is_best;
@@ -204,7 +187,6 @@ skip_row c blocks j s so none = record {
 pub end_row : (c : CodedGraph) (blocks : List (List Bool)) (j : ℕ) (s : Search) → IsSearching c blocks j j s
     → IsSearching c blocks (j + 1) 0 s
 end_row c blocks j s so = record {
-  room = so.room;
   chains = so.chains;
   best = so.best;
   is_best = search_row c blocks s.given j j so.best (λ y choice at. inl (before y choice at)) so.is_best;
@@ -215,9 +197,8 @@ end_row c blocks j s so = record {
     before y choice at = (let order = choice.candidate.order in inr (at, inl (omega (arith, order, at))))
 
 pub begin : (c : CodedGraph) (blocks : List (List Bool)) (s : Search) → s.best ≡ None → AreChains c s.chains
-    → length s.parting ≡ c.graph.states → IsSearching c blocks 0 0 s
-begin c blocks s best chains room = record {
-  room = room;
+    → IsSearching c blocks 0 0 s
+begin c blocks s best chains = record {
   chains = chains;
   best = None;
   is_best = search_start c blocks s.given;

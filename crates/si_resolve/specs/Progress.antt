@@ -26,7 +26,6 @@ best_of (Some x) = Some (found_of x)
 -- the search has looked at the candidates before the places j and i
 pub record IsSearching (c : CodedGraph) (blocks : List (List Bool)) (j i : ℕ) (search : Search)
     : Type 0 where
-  pub room : length search.parting ≡ c.graph.states
   pub chains : AreChains c search.chains
   pub best : Option Choice
   pub is_best : IsBestSoFar c blocks search.given j i best
@@ -66,10 +65,3 @@ LeavesNoneBelow c plus minus bar = (classes : List Class) (n : ℕ)
 abbrev pub NoneIsBelow : CodedGraph → List (List Bool) → ℕ → ℕ → ℕ → Type 0
 NoneIsBelow c blocks i j bar = (y : Choice) → IsChoice c blocks y → y.j ≡ j → y.i ≡ i
     → bar ≤ y.conflicts
-
--- the searches differ in nothing but the classes that the last candidate left in memory
-pub record DifferInClassesAlone (s t : Search) : Type 0 where
-  pub given : t.given ≡ s.given
-  pub best : t.best ≡ s.best
-  pub chains : t.chains ≡ s.chains
-  pub room : length t.parting ≡ length s.parting

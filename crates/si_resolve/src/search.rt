@@ -10,8 +10,7 @@ ghost use Rattle.si_conflicts.specs.Conflicts.{HasConflicts};
 ghost use Rattle.si_resolve.specs.Best.{NoneImproves};
 ghost use Rattle.si_resolve.specs.Usable.{IsUsable, AreSearched, AreSided};
 ghost use Rattle.si_resolve.specs.Progress.{IsSearching, IsFound, MayBeAccepted, LeavesBelow};
-ghost use Rattle.si_resolve.specs.Progress.{LeavesNoneBelow, NoneIsBelow, DifferInClassesAlone};
-ghost use Rattle.si_resolve.specs.Progress.{bar_of};
+ghost use Rattle.si_resolve.specs.Progress.{LeavesNoneBelow, NoneIsBelow, bar_of};
 
 use crate::block_list::BlockList;
 use crate::by_sides::BySides;
@@ -19,7 +18,7 @@ use si_base::ids::NoMemory;
 use si_base::limits::MAX_STATES;
 use si_base::sets::StateSet;
 use si_candidates::block::Block;
-use si_candidates::parting::Parting;
+use si_candidates::classes::{ClassFault, classes};
 use si_checks::proper::Proper;
 use si_conflicts::chains::CodeChains;
 use std::alloc::Global;
@@ -34,13 +33,12 @@ pub(crate) struct Found {
 }
 
 /// The number of conflicts of the given graph, the best candidate so far that leaves fewer, and the
-/// memory that each candidate takes in turn.
+/// states of the graph by their codes.
 #[derive(Drop)]
 struct Search {
     given: u64,
     best: Option<Found>,
     chains: CodeChains,
-    parting: Parting,
 }
 
 /// The best candidate, if it leaves fewer conflicts than the graph has.
@@ -77,12 +75,10 @@ impl Search {
         ensures starts { IfOk result
             (λ s. (blocks : List (List Bool)) → IsSearching graph.now blocks 0 0 s) }
     {
-        let states = graph.coded().graph().states();
         Ok(Search {
             given: conflicts,
             best: None,
             chains,
-            parting: Parting::new(alloc, states)?,
         })
     }
 
@@ -218,7 +214,6 @@ impl Search {
     ) -> Result<Option<u64>, NoMemory>
         requires coded { IsCoded graph.now }
         requires chains { AreChains graph.now self.old.chains }
-        requires room { length self.old.parting ≡ graph.now.graph.states }
         requires plus_size { length plus.now ≡ graph.now.graph.states }
         requires minus_size { length minus.now ≡ graph.now.graph.states }
         requires sided { AreSided graph.now.graph plus.now minus.now
@@ -230,16 +225,18 @@ impl Search {
             (λ o. IfSome o (LeavesBelow graph.now plus.now minus.now (bar_of self.old))) }
         ensures none { IfOk result
             (λ o. IfNone o (LeavesNoneBelow graph.now plus.now minus.now (bar_of self.old))) }
-        ensures same { DifferInClassesAlone self.old self.new }
+        ensures same { self.new ≡ self.old }
     {
         let bar = self.bar();
         if !self.may_leave_fewer(graph, plus, minus, plus_sides, minus_sides) {
             return Ok(None);
         }
-        if !self.parting.part(graph, plus, minus)? {
-            return Ok(None);
-        }
-        let classes = self.parting.classes();
+        let partition = match classes(alloc, graph, plus.set(), minus.set()) {
+            Ok(partition) => partition,
+            Err(ClassFault::NoMemory) => return Err(NoMemory),
+            Err(ClassFault::NoClasses { .. }) => return Ok(None),
+        };
+        let classes = partition.classes();
         let left = self.chains.trial_below(alloc, graph, classes, bar)?;
         Ok(left)
     }

@@ -1,6 +1,5 @@
 use Rattle.std.proofs.Common.{◌≡◌, ◌∙◌, length, ap, arith}
-use Rattle.si_candidates.proofs.AskLemmas.{asked_more}
-use Rattle.si_candidates.proofs.RaisingLemmas.{written_back}
+use Rattle.si_candidates.proofs.AskLemmas.{asked_more, written_back}
 use Rattle.si_candidates.proofs.intervals.Asked.add.Goals as goal
 
 pub returns-clause-asks : goal.returns-clause-asks

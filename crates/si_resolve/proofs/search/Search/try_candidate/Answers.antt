@@ -1,8 +1,9 @@
-use Rattle.std.proofs.Common.{◌<◌, length, refl, arith}
+use Rattle.std.proofs.Common.{◌+◌, ◌<◌, length, refl, subst, sym, arith}
 use Rattle.si_candidates.specs.Blocks.{block_at}
-use Rattle.si_resolve.specs.Progress.{LeavesBelow, LeavesNoneBelow, bar_of}
+use Rattle.si_resolve.specs.Progress.{IsSearching, LeavesBelow, LeavesNoneBelow, bar_of}
+use Rattle.si_resolve.specs.declared.search.Search.{Search}
 use Rattle.si_resolve.proofs.SearchLemmas.{at_blocks, block_size, candidate_choice, keep, none_by_left, none_is}
-use Rattle.si_resolve.proofs.SearchLemmas.{same_room, sided_at, skip, some_is}
+use Rattle.si_resolve.proofs.SearchLemmas.{sided_at, skip, some_is}
 use Rattle.si_resolve.proofs.search.Search.try_candidate.Goals as goal
 
 pub shares_crowd-requires-clause-i_within : goal.shares_crowd-requires-clause-i_within
@@ -15,8 +16,8 @@ returns-then-shares_crowd-clause-after c =
 
 pub returns-then-not-may_be_better-clause-after : goal.returns-then-not-may_be_better-clause-after
 returns-then-not-may_be_better-clause-after c =
-    skip c.args.graph.now c.args.list.now.blocks.items c.args.j c.args.i c.args.self.now c.args.self.now
-    c.requires.before (same_room c.args.self.now) (c.may_be_better.ensures.otherwise c.if-not-may_be_better.true)
+    skip c.args.graph.now c.args.list.now.blocks.items c.args.j c.args.i c.args.self.now
+    c.requires.before (c.may_be_better.ensures.otherwise c.if-not-may_be_better.true)
 
 pub may_part-requires-clause-i_within : goal.may_part-requires-clause-i_within
 may_part-requires-clause-i_within c = omega (arith, c.requires.order, c.requires.within)
@@ -26,8 +27,8 @@ may_part-requires-clause-first c = c.may_be_better.ensures.first c.if-not-may_be
 
 pub returns-then-not-may_part-clause-after : goal.returns-then-not-may_part-clause-after
 returns-then-not-may_part-clause-after c =
-    skip c.args.graph.now c.args.list.now.blocks.items c.args.j c.args.i c.args.self.now c.args.self.now
-    c.requires.before (same_room c.args.self.now) (c.may_part.ensures c.if-not-may_part.true)
+    skip c.args.graph.now c.args.list.now.blocks.items c.args.j c.args.i c.args.self.now
+    c.requires.before (c.may_part.ensures c.if-not-may_part.true)
 
 pub left_below-requires-clause-plus_size : goal.left_below-requires-clause-plus_size
 left_below-requires-clause-plus_size c =
@@ -77,9 +78,10 @@ returns-in-Some-clause-after c =
     let choice = candidate_choice d blocks i j low n r.list.coded r.list.proper r.list.few_signals
     r.list.are r.order r.within
     (c.may_be_better.ensures.first test) r.usable (c.may_be_better.ensures.both test) left in
-    keep d blocks j i c.args.self.now c.left_below.new.self
+    keep d blocks j i c.left_below.new.self
     (record { i = i; j = j; classes = left.classes; conflicts = n })
-    r.list.coded r.before c.left_below.ensures.same choice refl refl left.fewer
+    r.list.coded (subst (IsSearching d blocks j i) (sym c.left_below.ensures.same) r.before) choice refl refl
+    (subst (λ (s : Search). n < bar_of s) (sym c.left_below.ensures.same) left.fewer)
 
 pub returns-in_default-clause-after : goal.returns-in_default-clause-after
 returns-in_default-clause-after c =
@@ -92,5 +94,5 @@ returns-in_default-clause-after c =
     at_blocks (λ x y. LeavesNoneBelow d x y low) _ (block_at blocks i) _ (block_at blocks j)
     c.block.ensures c.block-2.ensures
     (none_is c.in_ok-left.left c.in_default.is c.in_ok-left.ensures.none) in
-    skip d blocks j i c.args.self.now c.left_below.new.self c.requires.before c.left_below.ensures.same
-    (none_by_left d blocks i j low none)
+    subst (IsSearching d blocks j (i + 1)) (sym c.left_below.ensures.same)
+    (skip d blocks j i c.args.self.now c.requires.before (none_by_left d blocks i j low none))
