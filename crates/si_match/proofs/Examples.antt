@@ -17,9 +17,7 @@ use Rattle.si_match.specs.Fit.{first_fit}
 use Rattle.si_match.specs.Known.{AreKnown, FitsByReading}
 use Rattle.si_match.specs.Support.{determines, support_of}
 use Rattle.si_match.specs.Triggers.{IsTrigger}
-use Rattle.si_match.specs.Unfit.{bound_of, weight_of_unfit}
-use Rattle.si_match.specs.Weight.{weight_of}
-use Rattle.si_match.specs.declared.unfit.Unfit.{Unfit}
+use Rattle.si_match.specs.Weight.{added_weight, weight_of}
 use Rattle.si_match.proofs.TriggerLemmas.{same_values}
 
 -- the inputs a and b are signals 0 and 1, the output c is signal 2
@@ -87,16 +85,10 @@ all_tried : AreTried c_element 2 3 7
 unfolding support_of
 all_tried = record { told = refl; later = λ j low high. absurd (omega (arith, low, high)) }
 
--- where it fits no cell, it adds 4 to the weight, of which 3 are sure by the triggers
-abbrev unfit : Unfit
-unfit = record { sig = 2; triggers = 3 }
-
-adds : weight_of_unfit c_element unfit ≡ 4
-unfolding support_of
+-- where it fits no cell, it adds 4 to the weight
+adds : added_weight c_element (library (buffer ∷ [])) 2 ≡ 4
+unfolding first_fit support_of
 adds = refl
-
-adds_at_least : bound_of c_element unfit ≡ 3
-adds_at_least = refl
 
 -- the output b, signal 1, repeats the input a, signal 0
 abbrev repeater : CodedGraph

@@ -5,5 +5,4 @@ pub mod Codes
 pub mod Support
 pub mod Dropping
 pub mod Weight
-pub mod Unfit
 pub mod Known
