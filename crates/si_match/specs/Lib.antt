@@ -6,3 +6,6 @@ pub mod Support
 pub mod Dropping
 pub mod Weight
 pub mod Known
+pub mod Functions
+pub mod Places
+pub mod Choices

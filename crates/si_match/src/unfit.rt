@@ -1,8 +1,8 @@
 //! Signals that fit no cell, and what they add to the weight.
 
 ghost use Rattle.std.specs.Prelude.{◌≡◌, ℕ, ◌<◌, ◌≤◌, All, IfOk, IfSome, IfNone, length};
-ghost use Rattle.std.specs.Prelude.{is_none, is_some, false};
-ghost use Rattle.si_base.specs.Bits.{bit};
+ghost use Rattle.std.specs.Prelude.{is_none, is_some, true, false};
+ghost use Rattle.si_base.specs.Bits.{bit, IsSet};
 ghost use Rattle.si_base.specs.Codes.{IsCoded};
 ghost use Rattle.si_base.specs.Graph.{IsNonInput};
 ghost use Rattle.si_base.specs.Limits.{code_width};
@@ -11,20 +11,22 @@ ghost use Rattle.si_match.specs.Known.{AreKnown};
 ghost use Rattle.si_match.specs.Triggers.{AreTriggers};
 ghost use Rattle.si_match.specs.Weight.{added_weight};
 
-use crate::fit::first_fitting;
+use crate::choices::some_choice_fits;
+use crate::functions::LibraryFunctions;
 use crate::known::KnownFits;
 use crate::support::support_from;
 use crate::triggers::{Triggers, triggers_of};
 use crate::weight::{below, size};
+use arrayvec::ArrayVec;
 use si_base::ids::{Code, NoMemory, Sig};
-use si_cell::library::Library;
+use si_cell::limits::MAX_PINS;
 use si_graph::coded::Coded;
 use std::alloc::Global;
 
 /// Whether a cell fits `z`, which has these triggers, where some fits are known.
 fn fits_some(
     coded: &Coded,
-    library: &Library,
+    library: &LibraryFunctions<'_>,
     known: &KnownFits,
     z: Sig,
     triggers: Triggers,
@@ -38,18 +40,45 @@ fn fits_some(
     requires states { All (λ s. s < coded.now.graph.states) triggers.witnesses.items }
     ensures { result ≡ is_some (first_fit coded.now library.now z) }
 {
+    let Triggers {
+        signals,
+        mut witnesses,
+    } = triggers;
+    let missing = needed_signals(known, z, signals);
+    let mut chosen = ArrayVec::new();
+    some_choice_fits(
+        coded,
+        library,
+        z,
+        &mut witnesses,
+        missing,
+        &mut chosen,
+        0,
+        MAX_PINS,
+    )
+}
+
+/// The signals other than `z` that each instance that fits `z` reads, as far as they are known.
+fn needed_signals(known: &KnownFits, z: Sig, triggers: Code) -> Code
+    requires signal { z < code_width }
+    requires read { known.now.read < code_width }
+    ensures unknown { bit known.now.unknown z ≡ true → IsSet triggers z false result }
+    ensures others { bit known.now.unknown z ≡ false → (more : ℕ)
+        × IsSet triggers known.now.read true more × IsSet more z false result }
+{
     if known.unknown.get(z) {
-        return first_fitting(coded, library, z, triggers).is_some();
+        return triggers.set(z, false);
     }
-    let needed = Triggers {
-        signals: triggers.signals.set(known.read, true),
-        witnesses: triggers.witnesses,
-    };
-    first_fitting(coded, library, z, needed).is_some()
+    triggers.set(known.read, true).set(z, false)
 }
 
 /// Triggers of a non-input that fits no cell, else None.
-fn unfit_triggers(coded: &Coded, library: &Library, known: &KnownFits, z: Sig) -> Option<Code>
+fn unfit_triggers(
+    coded: &Coded,
+    library: &LibraryFunctions<'_>,
+    known: &KnownFits,
+    z: Sig,
+) -> Option<Code>
     requires coded { IsCoded coded.now }
     requires driven { IsNonInput coded.now.graph.signals z }
     requires known { AreKnown coded.now library.now known.now }
@@ -74,7 +103,7 @@ fn unfit_triggers(coded: &Coded, library: &Library, known: &KnownFits, z: Sig) -
 pub(crate) fn added_below(
     alloc: Global,
     coded: &Coded,
-    library: &Library,
+    library: &LibraryFunctions<'_>,
     known: &KnownFits,
     z: Sig,
     bar: u64,

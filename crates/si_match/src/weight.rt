@@ -8,6 +8,7 @@ ghost use Rattle.si_match.specs.Known.{AreKnown};
 ghost use Rattle.si_match.specs.Weight.{added_weight, size_from, size_of_support, weight_of};
 
 use crate::fit::fit;
+use crate::functions::LibraryFunctions;
 use crate::known::KnownFits;
 use crate::support::support;
 use crate::unfit::added_below;
@@ -93,7 +94,7 @@ pub(crate) fn below(weight: u64, bar: u64) -> Option<u64>
 pub fn weight_below(
     alloc: Global,
     graph: Distinct<'_>,
-    library: &Library,
+    library: &LibraryFunctions<'_>,
     known: &KnownFits,
     bar: u64,
 ) -> Result<Option<u64>, NoMemory>
