@@ -34,6 +34,7 @@ use si_insert::apply::apply;
 use si_insert::fresh::fresh_name;
 use si_insert::partition::{Class, Partition};
 use si_match::fit::fit;
+use si_match::functions::LibraryFunctions;
 use si_match::known::KnownFits;
 use si_match::weight::weight_below;
 use std::alloc::Global;
@@ -73,13 +74,14 @@ pub(crate) fn find_best(
     let fitted = fitted_signals(graph, library);
     let mut search = Search::new(alloc, graph.proper(), weight, fitted)?;
     let mut functions = Functions::new(alloc);
+    let cells = LibraryFunctions::of(alloc, library)?;
     let known = graph.proper().coded().graph();
     for i in 0..known.signals().len() {
         let z = Sig(i as u8);
         if !known.is_driven(z) {
             continue;
         }
-        search.try_signal(alloc, graph, library, z, &mut functions)?;
+        search.try_signal(alloc, graph, &cells, z, &mut functions)?;
     }
     Ok(search.best)
 }
@@ -106,7 +108,7 @@ impl Search {
         &mut self,
         alloc: Global,
         graph: Distinct<'_>,
-        library: &Library,
+        library: &LibraryFunctions<'_>,
         z: Sig,
         functions: &mut Functions,
     ) -> Result<(), NoMemory>
@@ -118,10 +120,11 @@ impl Search {
         ensures known { OnOk result
             (AreKnown (lent_graph graph.entry) library.now self.new.bar functions.new) }
     {
-        if fit(graph, library, z).is_some() {
+        let cells = library.library();
+        if fit(graph, cells, z).is_some() {
             return Ok(());
         }
-        let divisors = divisors(alloc, graph, library, z)?;
+        let divisors = divisors(alloc, graph, cells, z)?;
         for k in 0..divisors.len() {
             let others = &divisors[k + 1..];
             self.try_once(
@@ -142,7 +145,7 @@ impl Search {
         &mut self,
         alloc: Global,
         graph: &Proper,
-        library: &Library,
+        library: &LibraryFunctions<'_>,
         divisor: &Instance,
         others: &[Instance],
         functions: &mut Functions,
@@ -158,7 +161,7 @@ impl Search {
         if self.bar == 0 {
             return Ok(());
         }
-        let function = function_of(library, divisor);
+        let function = function_of(library.library(), divisor);
         if functions.tried.contains(&function) {
             return Ok(());
         }
@@ -172,7 +175,7 @@ impl Search {
         &mut self,
         alloc: Global,
         graph: &Proper,
-        library: &Library,
+        library: &LibraryFunctions<'_>,
         divisor: &Instance,
         others: &[Instance],
         functions: &mut Functions,
@@ -188,7 +191,7 @@ impl Search {
         ensures sets { OnOk result (AreFunctionSets graph.now functions.new.next) }
         ensures same { functions.new.tried ≡ functions.old.tried }
     {
-        let found = functions.partition(alloc, graph, library, divisor, others)?;
+        let found = functions.partition(alloc, graph, library.library(), divisor, others)?;
         let Some(partition) = found else {
             return Ok(());
         };
@@ -202,7 +205,7 @@ impl Search {
         &mut self,
         alloc: Global,
         graph: &Proper,
-        library: &Library,
+        library: &LibraryFunctions<'_>,
         partition: Partition,
     ) -> Result<(), NoMemory>
         requires lawful { IsLawful graph.now.graph partition }
@@ -258,7 +261,7 @@ impl Search {
         &mut self,
         alloc: Global,
         graph: &Proper,
-        library: &Library,
+        library: &LibraryFunctions<'_>,
         accepted: &Accepted,
     ) -> Result<Option<u64>, NoMemory>
         requires accepted { IsAccepted graph.now.graph accepted.now }

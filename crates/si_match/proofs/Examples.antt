@@ -12,14 +12,15 @@ use Rattle.si_base.specs.declared.graph.SigKind.TheVariants.{Input, Output}
 use Rattle.si_base.specs.declared.ids.Literal.{Literal}
 use Rattle.si_cell.specs.Library.{Cell, Library, instance_value}
 use Rattle.si_graph.proofs.ValueLemmas.{bit-zero}
+use Rattle.si_match.specs.Choices.{AreAmong, Ascends}
 use Rattle.si_match.specs.Dropping.{AreTried}
 use Rattle.si_match.specs.Fit.{first_fit}
+use Rattle.si_match.specs.Functions.{function_table, value_at}
 use Rattle.si_match.specs.Known.{AreKnown, FitsByReading}
+use Rattle.si_match.specs.Places.{Agrees, Differs, placed_code}
 use Rattle.si_match.specs.Support.{determines, support_of}
 use Rattle.si_match.specs.Triggers.{IsTrigger}
-use Rattle.si_match.specs.Unfit.{bound_of, weight_of_unfit}
-use Rattle.si_match.specs.Weight.{weight_of}
-use Rattle.si_match.specs.declared.unfit.Unfit.{Unfit}
+use Rattle.si_match.specs.Weight.{added_weight, weight_of}
 use Rattle.si_match.proofs.TriggerLemmas.{same_values}
 
 -- the inputs a and b are signals 0 and 1, the output c is signal 2
@@ -87,16 +88,10 @@ all_tried : AreTried c_element 2 3 7
 unfolding support_of
 all_tried = record { told = refl; later = λ j low high. absurd (omega (arith, low, high)) }
 
--- where it fits no cell, it adds 4 to the weight, of which 3 are sure by the triggers
-abbrev unfit : Unfit
-unfit = record { sig = 2; triggers = 3 }
-
-adds : weight_of_unfit c_element unfit ≡ 4
-unfolding support_of
+-- where it fits no cell, it adds 4 to the weight
+adds : added_weight c_element (library (buffer ∷ [])) 2 ≡ 4
+unfolding first_fit support_of
 adds = refl
-
-adds_at_least : bound_of c_element unfit ≡ 3
-adds_at_least = refl
 
 -- the output b, signal 1, repeats the input a, signal 0
 abbrev repeater : CodedGraph
@@ -152,3 +147,35 @@ known = record {
   others = λ z driven sure told. subst (FitsByReading repeater (library (buffer ∷ [])) 0) (sym (driven_is_b z driven))
       reads;
 }
+
+-- ---- truth tables over places
+-- the buffer whose input stands at the second place has the value of that place, bit 1 of each code
+table : function_table buffer (lit 1 true ∷ []) ≡ 3435973836
+table = refl
+
+second_place : value_at buffer (lit 1 true ∷ []) 2 ≡ true
+second_place = refl
+
+-- signal 1 stands first, then signal 0: at the state where a alone is 1 the second place is 1
+places_at : placed_code (1 ∷ 0 ∷ []) 1 ≡ 2
+places_at = refl
+
+-- so the table has the next value of b, where a is chosen for each place
+agrees : Agrees repeater 1 (0 ∷ 0 ∷ 0 ∷ 0 ∷ []) 3435973836
+agrees zero within = refl
+agrees (suc zero) within = refl
+agrees (suc (suc zero)) within = refl
+agrees (suc (suc (suc zero))) within = refl
+agrees (suc (suc (suc (suc s)))) within = absurd (omega (arith, within))
+
+-- where b itself is chosen it hasn't, as at the state 1
+differs : Differs repeater 1 (1 ∷ 1 ∷ 1 ∷ 1 ∷ []) 3435973836
+differs = (1, lit< tt, λ same. true≢false (sym same))
+
+-- signals in signal order, some of them again
+in_order : Ascends 3 0 (0 ∷ 2 ∷ 2 ∷ [])
+in_order = (omega arith, omega arith, (omega arith, omega arith, (omega arith, omega arith, tt)))
+
+among : AreAmong (1 ∷ 0 ∷ []) (lit 0 true ∷ [])
+among zero d within = (1, lit< tt, refl)
+among (suc k) d within = absurd (omega (arith, within))

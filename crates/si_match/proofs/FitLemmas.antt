@@ -13,7 +13,7 @@ use Rattle.si_base.proofs.GraphSteps.{beq-refl, beq-true}
 use Rattle.si_base.specs.Codes.{CodedGraph, IsCoded, code, next_value}
 use Rattle.si_base.specs.Limits.{code_width}
 use Rattle.si_base.specs.declared.ids.Literal.{Literal}
-use Rattle.si_cell.specs.Library.{Cell, Library, Instance, cell_at, no_cell}
+use Rattle.si_cell.specs.Library.{Cell, Library, Instance, IsInstance, cell_at, no_cell}
 use Rattle.si_cell.specs.Literals.{both_from}
 use Rattle.si_match.specs.Fit.{fits, suits, states_of, first_that, lists_of, literals_of_signals, instances_of}
 use Rattle.si_match.specs.Fit.{instances, first_fit, IsOver, Fits}
@@ -159,42 +159,48 @@ from_cells from (x ∷ cells) p (inr later) =
     let e : from + 1 + k ≡ from + suc k = omega arith in
     (suc k, omega (arith, inside), same ∙ (let pair : ℕ → ℕ × Cell = λ n. (n, get_or cells k no_cell) in ap pair e))
 
+module _ (n : ℕ) (library : Library) (i : Instance) where
+  pub listed_in : IsInstance library i → All (λ (l : Literal). l.sig < n) i.literals → In i (instances n library)
+  listed_in instance signals =
+      let here : In (i.cell, cell_at library i.cell) (enumerate_from 0 library.cells) =
+      (let e : 0 + i.cell ≡ i.cell = omega arith in
+      subst (λ k. In (k, cell_at library i.cell) (enumerate_from 0 library.cells)) e
+      (cell_in 0 library.cells i.cell instance.cell)) in
+      let listed : In i.literals (lists_of (length (cell_at library i.cell).pins) (literals_of_signals n)) =
+      subst (λ k. In i.literals (lists_of k (literals_of_signals n))) instance.pins (list_in n i.literals signals) in
+      in_flat (instances_of n) (i.cell, cell_at library i.cell) i (enumerate_from 0 library.cells) here
+      (in_map (λ ls. record { cell = i.cell; literals = ls }) i.literals _ listed)
+
+  pub from_listed : n ≤ code_width → In i (instances n library)
+      → IsInstance library i × All (λ (l : Literal). l.sig < n) i.literals
+  from_listed width here =
+      let (p, p_in, i_in) = from_flat (instances_of n) i (enumerate_from 0 library.cells) here in
+      let (k, inside, is_p) = from_cells 0 library.cells p p_in in
+      let (ls, ls_in, is_i) = from_map (λ ms. record { cell = p.0; literals = ms }) i
+      (lists_of (length p.1.pins) (literals_of_signals n)) i_in in
+      let (count, small) = list_small n (length p.1.pins) ls ls_in in
+      let place : 0 + k ≡ k = omega arith in
+      let at_cell : i.cell ≡ k = ap (λ (j : Instance). j.cell) is_i ∙ ap (λ (q : ℕ × Cell). q.0) is_p ∙ place in
+      let pins : length p.1.pins ≡ length (cell_at library i.cell).pins =
+      ap (λ (q : ℕ × Cell). length q.1.pins) is_p ∙ ap (λ (m : ℕ). length (cell_at library m).pins) (sym at_cell) in
+      let literals_are : i.literals ≡ ls = ap (λ (j : Instance). j.literals) is_i in (
+        record {
+          cell = rw at_cell inside;
+          pins = ap length literals_are ∙ count ∙ pins;
+          signals = rw literals_are (λ j d within. (let low = small j d within in omega (arith, low, width)));
+        },
+        rw literals_are small,
+      )
+
 pub instance_in : (c : CodedGraph) (library : Library) (i : Instance) → IsOver c library i
     → In i (instances (length c.graph.signals) library)
-instance_in c library i over =
-    let here : In (i.cell, cell_at library i.cell) (enumerate_from 0 library.cells) =
-    (let e : 0 + i.cell ≡ i.cell = omega arith in
-    subst (λ n. In (n, cell_at library i.cell) (enumerate_from 0 library.cells)) e
-    (cell_in 0 library.cells i.cell over.instance.cell)) in
-    let listed : In i.literals (lists_of (length (cell_at library i.cell).pins) (literals_of_signals
-    (length c.graph.signals))) =
-    subst (λ n. In i.literals (lists_of n (literals_of_signals (length c.graph.signals)))) over.instance.pins
-    (list_in (length c.graph.signals) i.literals over.signals) in
-    in_flat (instances_of (length c.graph.signals)) (i.cell, cell_at library i.cell) i
-    (enumerate_from 0 library.cells) here
-    (in_map (λ ls. record { cell = i.cell; literals = ls }) i.literals _ listed)
+instance_in c library i over = listed_in (length c.graph.signals) library i over.instance over.signals
 
 pub instance_over : (c : CodedGraph) (library : Library) (i : Instance) → length c.graph.signals ≤ code_width
     → In i (instances (length c.graph.signals) library) → IsOver c library i
 instance_over c library i width here =
-    let (p, p_in, i_in) = from_flat (instances_of (length c.graph.signals)) i (enumerate_from 0 library.cells) here in
-    let (k, inside, is_p) = from_cells 0 library.cells p p_in in
-    let (ls, ls_in, is_i) = from_map (λ ms. record { cell = p.0; literals = ms }) i
-    (lists_of (length p.1.pins) (literals_of_signals (length c.graph.signals))) i_in in
-    let (count, small) = list_small (length c.graph.signals) (length p.1.pins) ls ls_in in
-    let place : 0 + k ≡ k = omega arith in
-    let at_cell : i.cell ≡ k = ap (λ (j : Instance). j.cell) is_i ∙ ap (λ (q : ℕ × Cell). q.0) is_p ∙ place in
-    let pins : length p.1.pins ≡ length (cell_at library i.cell).pins =
-    ap (λ (q : ℕ × Cell). length q.1.pins) is_p ∙ ap (λ (n : ℕ). length (cell_at library n).pins) (sym at_cell) in
-    let literals_are : i.literals ≡ ls = ap (λ (j : Instance). j.literals) is_i in
-    record {
-      instance = record {
-        cell = rw at_cell inside;
-        pins = ap length literals_are ∙ count ∙ pins;
-        signals = rw literals_are (λ j d within. (let low = small j d within in omega (arith, low, width)));
-      };
-      signals = rw literals_are small;
-    }
+    let (instance, signals) = from_listed (length c.graph.signals) library i width here in
+    record { instance = instance; signals = signals }
 
 -- ---- what the test tells
 module _ (c : CodedGraph) (library : Library) (z : ℕ) (i : Instance) (coded : IsCoded c) where
@@ -207,7 +213,7 @@ module _ (c : CodedGraph) (library : Library) (z : ℕ) (i : Instance) (coded : 
       (cell_at library i.cell) i.literals) (sym (state_at c s (s, code c s) inside)) ∙ here in
       beq-true _ _ at
 
-  told : Fits c library z i → fits c z (cell_at library i.cell) i.literals ≡ true
+  pub told : Fits c library z i → fits c z (cell_at library i.cell) i.literals ≡ true
   told each = all_from c (suits c z (cell_at library i.cell) i.literals)
       (λ s inside. (let same = each s (omega (arith, inside, coded.count)) in rw same (beq-refl (next_value c s z))))
 

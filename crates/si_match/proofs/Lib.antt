@@ -9,3 +9,6 @@ pub mod SupportLemmas
 pub mod DroppingLemmas
 pub mod KnownLemmas
 pub mod UnfitLemmas
+pub mod FunctionLemmas
+pub mod PlaceLemmas
+pub mod ChoiceLemmas

@@ -98,7 +98,7 @@ at_most_one : (b : Bool) → one_if b ≤ 1
 at_most_one true = omega arith
 at_most_one false = omega arith
 
-size_drop : (n i k m x : ℕ) → ((j : ℕ) → j ≢ x → bit m j ≡ bit k j) → size_from n i k ≤ size_from n i m + 1
+pub size_drop : (n i k m x : ℕ) → ((j : ℕ) → j ≢ x → bit m j ≡ bit k j) → size_from n i k ≤ size_from n i m + 1
 size_drop zero i k m x agree = omega arith
 size_drop (suc n) i k m x agree = elim (eqb_tells i x) [
   | inl same ↦ (
@@ -110,7 +110,7 @@ size_drop (suc n) i k m x agree = elim (eqb_tells i x) [
       omega (arith, head, size_drop n (i + 1) k m x agree))
 ]
 
-some_bit : (n i k : ℕ) → 0 < size_from n i k → (j : ℕ) × (bit k j ≡ true)
+pub some_bit : (n i k : ℕ) → 0 < size_from n i k → (j : ℕ) × (bit k j ≡ true)
 some_bit zero i k more = absurd (omega (arith, more))
 some_bit (suc n) i k more = elim (cases_Bool (bit k i)) [
   | inl set ↦ (i, set)
@@ -120,16 +120,16 @@ some_bit (suc n) i k more = elim (cases_Bool (bit k i)) [
 ]
 
 -- ---- too many triggers for the pins that are left
-abbrev without : ℕ → ℕ → ℕ
+abbrev pub without : ℕ → ℕ → ℕ
 without k j = if bit k j then flip k j else k
 
-without_there : (k j : ℕ) → bit (without k j) j ≡ false
+pub without_there : (k j : ℕ) → bit (without k j) j ≡ false
 without_there k j = elim (cases_Bool (bit k j)) [
   | inl set ↦ rw set (flip-same k j ∙ rw set refl)
   | inr clear ↦ rw clear clear
 ]
 
-without_others : (k j i : ℕ) → i ≢ j → bit (without k j) i ≡ bit k i
+pub without_others : (k j i : ℕ) → i ≢ j → bit (without k j) i ≡ bit k i
 without_others k j i other = elim (cases_Bool (bit k j)) [
   | inl set ↦ rw set (flip-other k j i other)
   | inr clear ↦ rw clear refl

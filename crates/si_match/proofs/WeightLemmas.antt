@@ -10,7 +10,7 @@ use Rattle.si_base.specs.Graph.{is_driven, IsNonInput}
 use Rattle.si_base.specs.declared.graph.Signal.{Signal}
 use Rattle.si_cell.specs.Library.{Library}
 use Rattle.si_match.specs.Fit.{first_fit}
-use Rattle.si_match.specs.Weight.{size_from, size_of_support, weight_from, weight_of}
+use Rattle.si_match.specs.Weight.{added_weight, size_from, size_of_support, weight_from, weight_of}
 
 module _ (count i signals : ℕ) (within : i < count) where
   left : count - i ≡ suc (count - (i + 1))
@@ -34,10 +34,6 @@ module _ (c : CodedGraph) (library : Library) where
   unfolding weight_of
   begins = refl
 
-  -- what a signal adds
-  abbrev pub part : ℕ → ℕ
-  part z = if is_none (first_fit c library z) then 1 + size_of_support c z else 0
-
   module _ (i : ℕ) (x : Signal) (weight : ℕ) (inside : i < length c.graph.signals) (is : x ≡ get_or c.graph.signals i x)
       (told : weight + weight_from c library i (drop i c.graph.signals) ≡ weight_of c library) where
     split : weight_from c library i (drop i c.graph.signals) ≡ (if is_driven x.kind
@@ -55,10 +51,10 @@ module _ (c : CodedGraph) (library : Library) where
         ≡ weight_of c library = rw (split, no_driver) at told in
         omega (arith, same)
 
-    pub driven : (more : ℕ) → is_driven x.kind ≡ true → more ≡ part i
+    pub driven : (more : ℕ) → is_driven x.kind ≡ true → more ≡ added_weight c library i
         → weight + more + weight_from c library (i + 1) (drop (i + 1) c.graph.signals) ≡ weight_of c library
     driven more drives added =
-        let same : weight + (part i + weight_from c library (i + 1) (drop (i + 1) c.graph.signals))
+        let same : weight + (added_weight c library i + weight_from c library (i + 1) (drop (i + 1) c.graph.signals))
         ≡ weight_of c library = rw (split, drives) at told in
         omega (arith, same, added)
 

@@ -5,5 +5,7 @@ pub mod Codes
 pub mod Support
 pub mod Dropping
 pub mod Weight
-pub mod Unfit
 pub mod Known
+pub mod Functions
+pub mod Places
+pub mod Choices

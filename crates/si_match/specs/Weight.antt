@@ -17,6 +17,11 @@ size_from (suc count) i signals = (if bit signals i then 1 else 0) + size_from c
 abbrev pub size_of_support : CodedGraph → ℕ → ℕ
 size_of_support c z = size_from (length c.graph.signals) 0 (support_of c z)
 
+-- what a non-input adds to the weight: nothing where it fits a cell, else one more than the size of
+-- its support
+abbrev pub added_weight : CodedGraph → Library → ℕ → ℕ
+added_weight c library z = if is_none (first_fit c library z) then 1 + size_of_support c z else 0
+
 -- for each of the non-inputs from the i-th signal on that fit no cell, one more than the size of
 -- its support
 abbrev pub weight_from : CodedGraph → Library → ℕ → List Signal → ℕ

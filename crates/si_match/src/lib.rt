@@ -1,10 +1,13 @@
 //! Cells for the signals of a graph: the first instance that fits, supports, and the weight.
 #![tactic(auto)]
 
+mod choices;
 mod codes;
 pub mod fit;
+pub mod functions;
 pub mod known;
 pub mod laws;
+mod places;
 mod refute;
 mod search;
 mod state;

@@ -20,7 +20,7 @@ use si_graph::coded::Coded;
 
 /// The literal at a place of literal order: both literals of the first signal, the plain one first,
 /// then those of the next, and so on.
-fn literal_at(place: usize) -> PinLiteral
+pub(crate) fn literal_at(place: usize) -> PinLiteral
     requires { place < 2 * code_width }
     ensures { result ≡ record { sig = place / 2; plain = place % 2 == 0 } }
 {

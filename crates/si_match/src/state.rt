@@ -56,7 +56,7 @@ pub(crate) fn fits(
 }
 
 /// Adds the state to the witnesses, if there is room.
-fn add_witness(witnesses: &mut ArrayVec<u32, MAX_WITNESSES>, state: u32)
+pub(crate) fn add_witness(witnesses: &mut ArrayVec<u32, MAX_WITNESSES>, state: u32)
     ensures { (count : ℕ) → state < count → All (λ s. s < count) witnesses.old.items
         → All (λ s. s < count) witnesses.new.items }
 {

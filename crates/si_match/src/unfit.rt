@@ -1,45 +1,32 @@
-//! The signals that fit no cell, and a bound of the weight by their triggers.
+//! Signals that fit no cell, and what they add to the weight.
 
-ghost use Rattle.std.specs.Prelude.{◌≡◌, ℕ, ◌+◌, ◌*◌, ◌<◌, ◌≤◌, All, IfOk, IfSome, IfNone, length};
+ghost use Rattle.std.specs.Prelude.{◌≡◌, ℕ, ◌<◌, ◌≤◌, All, IfOk, IfSome, IfNone, length};
 ghost use Rattle.std.specs.Prelude.{is_none, is_some, true, false};
-ghost use Rattle.std.specs.List.{sum_by};
-ghost use Rattle.si_base.specs.Bits.{bit};
+ghost use Rattle.si_base.specs.Bits.{bit, IsSet};
 ghost use Rattle.si_base.specs.Codes.{IsCoded};
 ghost use Rattle.si_base.specs.Graph.{IsNonInput};
 ghost use Rattle.si_base.specs.Limits.{code_width};
 ghost use Rattle.si_match.specs.Fit.{first_fit};
 ghost use Rattle.si_match.specs.Known.{AreKnown};
 ghost use Rattle.si_match.specs.Triggers.{AreTriggers};
-ghost use Rattle.si_match.specs.Unfit.{IsUnfit, bound_of, weight_of_unfit};
-ghost use Rattle.si_match.specs.Weight.{weight_of};
+ghost use Rattle.si_match.specs.Weight.{added_weight};
 
-use crate::fit::first_fitting;
+use crate::choices::some_choice_fits;
+use crate::functions::LibraryFunctions;
 use crate::known::KnownFits;
+use crate::support::support_from;
 use crate::triggers::{Triggers, triggers_of};
-use crate::weight::size;
+use crate::weight::{below, size};
+use arrayvec::ArrayVec;
 use si_base::ids::{Code, NoMemory, Sig};
-use si_cell::library::Library;
+use si_cell::limits::MAX_PINS;
 use si_graph::coded::Coded;
 use std::alloc::Global;
-
-/// A signal that fits no cell, and triggers of it.
-#[derive(Clone, Copy)]
-pub(crate) struct Unfit {
-    pub(crate) sig: Sig,
-    pub(crate) triggers: Code,
-}
-
-/// The signals that fit no cell, and a weight that theirs isn't below.
-#[derive(Drop)]
-pub(crate) struct Bounded {
-    pub(crate) unfit: Vec<Unfit>,
-    pub(crate) bound: u64,
-}
 
 /// Whether a cell fits `z`, which has these triggers, where some fits are known.
 fn fits_some(
     coded: &Coded,
-    library: &Library,
+    library: &LibraryFunctions<'_>,
     known: &KnownFits,
     z: Sig,
     triggers: Triggers,
@@ -53,18 +40,45 @@ fn fits_some(
     requires states { All (λ s. s < coded.now.graph.states) triggers.witnesses.items }
     ensures { result ≡ is_some (first_fit coded.now library.now z) }
 {
+    let Triggers {
+        signals,
+        mut witnesses,
+    } = triggers;
+    let missing = needed_signals(known, z, signals);
+    let mut chosen = ArrayVec::new();
+    some_choice_fits(
+        coded,
+        library,
+        z,
+        &mut witnesses,
+        missing,
+        &mut chosen,
+        0,
+        MAX_PINS,
+    )
+}
+
+/// The signals other than `z` that each instance that fits `z` reads, as far as they are known.
+fn needed_signals(known: &KnownFits, z: Sig, triggers: Code) -> Code
+    requires signal { z < code_width }
+    requires read { known.now.read < code_width }
+    ensures unknown { bit known.now.unknown z ≡ true → IsSet triggers z false result }
+    ensures others { bit known.now.unknown z ≡ false → (more : ℕ)
+        × IsSet triggers known.now.read true more × IsSet more z false result }
+{
     if known.unknown.get(z) {
-        return first_fitting(coded, library, z, triggers).is_some();
+        return triggers.set(z, false);
     }
-    let needed = Triggers {
-        signals: triggers.signals.set(known.read, true),
-        witnesses: triggers.witnesses,
-    };
-    first_fitting(coded, library, z, needed).is_some()
+    triggers.set(known.read, true).set(z, false)
 }
 
 /// Triggers of a non-input that fits no cell, else None.
-fn unfit_triggers(coded: &Coded, library: &Library, known: &KnownFits, z: Sig) -> Option<Code>
+fn unfit_triggers(
+    coded: &Coded,
+    library: &LibraryFunctions<'_>,
+    known: &KnownFits,
+    z: Sig,
+) -> Option<Code>
     requires coded { IsCoded coded.now }
     requires driven { IsNonInput coded.now.graph.signals z }
     requires known { AreKnown coded.now library.now known.now }
@@ -83,43 +97,32 @@ fn unfit_triggers(coded: &Coded, library: &Library, known: &KnownFits, z: Sig) -
     Some(signals)
 }
 
-/// The signals that fit no cell, each with triggers, where the bound of their weight is below the
-/// bar, else None.
-pub(crate) fn unfit_below(
+/// What a non-input adds to the weight, where some fits are known: nothing where it fits a cell,
+/// else one more than the size of its support. None where that isn't below the bar. No support is
+/// looked for where one more than the number of the triggers isn't: none of them is dropped.
+pub(crate) fn added_below(
     alloc: Global,
     coded: &Coded,
-    library: &Library,
+    library: &LibraryFunctions<'_>,
     known: &KnownFits,
+    z: Sig,
     bar: u64,
-) -> Result<Option<Bounded>, NoMemory>
+) -> Result<Option<u64>, NoMemory>
+    requires coded { IsCoded coded.now }
+    requires driven { IsNonInput coded.now.graph.signals z }
     requires known { AreKnown coded.now library.now known.now }
     requires read { known.now.read < code_width }
-    ensures unfit { IfOk result (λ o. IfSome o (λ b. All (IsUnfit coded.now) b.unfit.items)) }
-    ensures few { IfOk result (λ o. IfSome o (λ b. length b.unfit.items ≤ code_width)) }
-    ensures whole { IfOk result (λ o. IfSome o
-        (λ b. sum_by (weight_of_unfit coded.now) b.unfit.items ≡ weight_of coded.now library.now)) }
-    ensures bound { IfOk result (λ o. IfSome o
-        (λ b. b.bound ≡ sum_by (bound_of coded.now) b.unfit.items)) }
-    ensures small { IfOk result (λ o. IfSome o
-        (λ b. b.bound ≤ code_width * (1 + code_width))) }
-    ensures none { IfOk result (λ o. IfNone o (bar ≤ weight_of coded.now library.now)) }
+    ensures some { IfOk result (λ o. IfSome o
+        (λ added. (added ≡ added_weight coded.now library.now z) × (added ≤ bar))) }
+    ensures none { IfOk result (λ o. IfNone o (bar ≤ added_weight coded.now library.now z)) }
 {
-    let signals = coded.graph().signals();
-    let mut unfit = Vec::new(alloc);
-    let mut bound = 0;
-    for k in 0..signals.len() {
-        if bound >= bar {
-            return Ok(None);
-        }
-        if !signals[k].kind.is_driven() {
-            continue;
-        }
-        let z = Sig(k as u8);
-        let Some(triggers) = unfit_triggers(coded, library, known, z) else {
-            continue;
-        };
-        bound += 1 + size(triggers, signals.len());
-        unfit.push(Unfit { sig: z, triggers })?;
+    let Some(triggers) = unfit_triggers(coded, library, known, z) else {
+        return Ok(Some(0));
+    };
+    let count = coded.graph().signals().len();
+    if 1 + size(triggers, count) >= bar {
+        return Ok(None);
     }
-    Ok(Some(Bounded { unfit, bound }))
+    let support = support_from(alloc, coded, z, triggers)?;
+    Ok(below(1 + size(support, count), bar))
 }

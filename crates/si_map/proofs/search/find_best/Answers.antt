@@ -48,3 +48,15 @@ returns c =
     omega (arith, c.loop-i-test.false, c.loop-i.auto.i-end, count) in
     found d c.args.library.now c.loop-i.search
     (subst (λ k. IsSearching d c.args.library.now k 0 c.loop-i.search) all c.loop-i.invariant.searching)
+
+pub try_signal-requires-clause-before : goal.try_signal-requires-clause-before
+try_signal-requires-clause-before c = rw c.in_ok-cells.ensures c.loop-i.invariant.searching
+
+pub try_signal-requires-clause-known : goal.try_signal-requires-clause-known
+try_signal-requires-clause-known c = rw c.in_ok-cells.ensures c.loop-i.invariant.known
+
+pub loop-i-preserved : goal.loop-i-preserved
+loop-i-preserved c = record {
+  searching = rw c.in_ok-cells.ensures at c.in_ok-try_signal.ensures.after;
+  known = rw c.in_ok-cells.ensures at c.in_ok-try_signal.ensures.known;
+}

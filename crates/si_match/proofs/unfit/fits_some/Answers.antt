@@ -1,21 +1,42 @@
-use Rattle.std.proofs.Common.{◌∙◌, sym}
-use Rattle.si_cell.specs.Library.{cell_at}
-use Rattle.si_match.proofs.KnownLemmas.{has_bit, reading_missing}
-use Rattle.si_match.proofs.TriggerLemmas.{all_needed}
+use Rattle.std.proofs.Common.{◌∙◌, ℕ, List, inl, inr, refl, sym, subst}
+use Rattle.std.proofs.lemmas.Bool.{cases_Bool}
+use Rattle.std.proofs.lemmas.Option.{slice_get_within}
+use Rattle.si_base.specs.Bits.{bit}
+use Rattle.si_match.specs.Choices.{AreOwed, NoneFitsOver}
+use Rattle.si_match.proofs.ChoiceLemmas.{all_but, also_read, fitted_first, owed_first, trigger_read, unfitted_first}
 use Rattle.si_match.proofs.unfit.fits_some.Goals as goal
 
-pub get-requires : goal.get-requires
-get-requires c = has_bit c.args.coded.now c.args.z c.requires.coded c.requires.driven
+pub some_choice_fits-requires-clause-missing : goal.some_choice_fits-requires-clause-missing
+some_choice_fits-requires-clause-missing c =
+    let coded = c.args.coded.now in
+    let library = c.args.library.now in
+    let z = c.args.z in
+    let missing = c.needed_signals-missing.result in
+    let by_trigger = trigger_read coded library z c.requires.coded c.args.triggers.signals c.requires.triggers in
+    subst (λ (ys : List ℕ). AreOwed coded library z ys missing) (sym c.new-chosen.ensures)
+    (elim (cases_Bool (bit c.args.known.now.unknown z)) [
+      | inl unknown ↦ (
+          let set = c.needed_signals-missing.ensures.unknown unknown in
+          owed_first coded library z missing (all_but coded library z c.args.triggers.signals missing set by_trigger)
+          set.there)
+      | inr told ↦ (
+          let (more, with_read, set) = c.needed_signals-missing.ensures.others told in
+          let by_reading = c.requires.known.others z c.requires.driven told (c.requires.unfitted told) in
+          owed_first coded library z missing (all_but coded library z more missing set
+          (also_read coded library z c.args.known.now.read c.args.triggers.signals more by_reading with_read by_trigger))
+          set.there)
+    ])
 
-pub first_fitting-requires-clause-needed : goal.first_fitting-requires-clause-needed
-first_fitting-requires-clause-needed c = λ k within. (
-    all_needed c.args.coded.now c.args.z (cell_at c.args.library.now k) c.args.triggers.signals c.requires.coded
-    c.requires.triggers)
-
-pub first_fitting-requires-2-clause-needed : goal.first_fitting-requires-2-clause-needed
-first_fitting-requires-2-clause-needed c = λ k within. (
-    let not_unknown = sym c.get.ensures ∙ c.if-get.false in
-    let by_reading = c.requires.known.others c.args.z c.requires.driven not_unknown
-    (c.requires.unfitted not_unknown) in
-    reading_missing c.args.coded.now c.args.library.now c.args.known.now.read c.args.z k c.args.triggers.signals
-    c.set.result c.requires.coded within by_reading c.requires.triggers c.set.ensures)
+pub returns : goal.returns
+returns c =
+    let coded = c.args.coded.now in
+    let library = c.args.library.now in
+    let z = c.args.z in
+    let (x, at, driven) = c.requires.driven in
+    let z_small = slice_get_within coded.graph.signals z x at in
+    elim (cases_Bool c.some_choice_fits.result) [
+      | inl fits ↦ fits ∙ sym (fitted_first coded library z c.requires.coded (c.some_choice_fits.ensures.fits fits))
+      | inr unfit ↦ unfit ∙ sym (unfitted_first coded library z c.requires.coded c.some_choice_fits.ensures.library
+          z_small (λ rest count up. subst (NoneFitsOver coded library z)
+          (rw c.new-chosen.ensures refl) (c.some_choice_fits.ensures.none unfit rest count up)))
+    ]

@@ -10,7 +10,7 @@ use Rattle.si_map.proofs.search.Search.try_signal.Goals as goal
 pub returns-then-is_some-clause-after : goal.returns-then-is_some-clause-after
 returns-then-is_some-clause-after c =
     pass_fitted (lent_graph c.args.graph) c.args.library.now c.args.z c.args.self.now
-    (ap (λ (o : Option Instance). is_some o) (sym c.fit.ensures) ∙ (sym c.is_some.ensures ∙ c.if-is_some.true))
+    (ap (λ (o : Option Instance). is_some o) (sym (rw c.library-cells.ensures at c.fit.ensures)) ∙ (sym c.is_some.ensures ∙ c.if-is_some.true))
     c.requires.before
 
 pub try_once-requires-clause-instance : goal.try_once-requires-clause-instance
@@ -18,19 +18,19 @@ try_once-requires-clause-instance c =
     let within : c.loop-k.k < length c.in_ok-divisors.divisors.items =
     omega (arith, c.loop-k-test.true, c.len-k-end.ensures) in
     is_instance (lent_graph c.args.graph) c.args.library.now c.args.z c.loop-k.k c.index.result.now
-    c.in_ok-divisors.divisors.items c.requires.before.ready.coded c.in_ok-divisors.ensures within c.index.ensures
+    c.in_ok-divisors.divisors.items c.requires.before.ready.coded (rw c.library-cells.ensures at c.in_ok-divisors.ensures) within c.index.ensures
 
 pub loop-k-preserved : goal.loop-k-preserved
 loop-k-preserved c =
     let d = lent_graph c.args.graph in
     let within : c.loop-k.k < length c.in_ok-divisors.divisors.items =
     omega (arith, c.loop-k-test.true, c.len-k-end.ensures) in
-    let unfit = unfit_by d c.args.library.now c.args.z c.requires.driven c.fit.result c.fit.ensures
+    let unfit = unfit_by d c.args.library.now c.args.z c.requires.driven c.fit.result (rw c.library-cells.ensures at c.fit.ensures)
     (sym c.is_some.ensures ∙ c.if-is_some.false) in
     record {
       searching = next_divisor d c.args.library.now c.proper.result.now c.args.z c.loop-k.k c.index.result.now
           c.in_ok-divisors.divisors.items c.loop-k.self c.try_once.new.self c.proper.ensures.same unfit
-          c.in_ok-divisors.ensures within c.index.ensures c.in_ok-try_once.ensures.tried c.loop-k.invariant.searching;
+          (rw c.library-cells.ensures at c.in_ok-divisors.ensures) within c.index.ensures c.in_ok-try_once.ensures.tried c.loop-k.invariant.searching;
       known = subst (λ e. AreKnown e c.args.library.now c.try_once.new.self.bar c.try_once.new.functions)
           c.proper.ensures.same c.in_ok-try_once.ensures.known;
     }
@@ -40,7 +40,7 @@ returns-clause-after c =
     let d = lent_graph c.args.graph in
     let all : c.loop-k.k ≡ length c.in_ok-divisors.divisors.items =
     omega (arith, c.loop-k-test.false, c.loop-k.auto.k-end, c.len-k-end.ensures) in
-    end_signal d c.args.library.now c.args.z c.in_ok-divisors.divisors.items c.loop-k.self c.in_ok-divisors.ensures
+    end_signal d c.args.library.now c.args.z c.in_ok-divisors.divisors.items c.loop-k.self (rw c.library-cells.ensures at c.in_ok-divisors.ensures)
     (subst (λ k. IsSearching d c.args.library.now c.args.z k c.loop-k.self) all c.loop-k.invariant.searching)
 
 pub try_once-requires-clause-known : goal.try_once-requires-clause-known
@@ -55,4 +55,4 @@ try_once-requires-clause-others c =
     rw c.deref.ensures.value (All-take (λ i. IsInstance library i) (length divisors - (c.loop-k.k + 1))
     (drop (c.loop-k.k + 1) divisors) (All-drop (λ i. IsInstance library i) (c.loop-k.k + 1) divisors
     (all_instances (lent_graph c.args.graph) library c.args.z divisors c.requires.before.ready.coded
-    c.in_ok-divisors.ensures)))
+    (rw c.library-cells.ensures at c.in_ok-divisors.ensures))))
