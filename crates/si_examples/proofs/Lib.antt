@@ -1,3 +1,4 @@
 mod CElement
 mod Toggle
 mod Bits
+mod Words

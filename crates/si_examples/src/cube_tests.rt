@@ -1,10 +1,7 @@
-//! Calls on their happy path. The sum that is chosen for codes is in the netlists of whole runs.
+//! Cubes by their bits. The sums of cubes are in the netlists of whole runs.
 
 use si_base::ids::{Code, Sig};
-use si_cube::codes::in_order;
 use si_cube::cube::Cube;
-use si_cube::sum::Sum;
-use std::test::Fail;
 
 /// Whether the cube has these signals and values.
 fn is(cube: &Cube, care: u128, value: u128) -> bool {
@@ -27,23 +24,4 @@ fn full_cube_of_all_signals(rt: HostRuntime) {
     let full = Cube::of_code(Code(1 << 127), 128);
     assert!(rt; is(&full, u128::MAX, 1 << 127));
     assert!(rt; Cube::of_code(Code(5), 0).covers(Code(7)));
-}
-
-#[test]
-fn sum_of_two_cubes(rt: HostRuntime) -> Result<(), Fail> {
-    let alloc = rt.alloc();
-    let sum = Sum::new(vec![in alloc; Cube::of_code(Code(0b01), 2), Cube::of_code(Code(0b10), 2)]?);
-    assert_eq!(rt; sum.cubes().len(), 2);
-    assert!(rt; sum.value(Code(0b10)) && !sum.value(Code(0b11)));
-    let none = Sum::new(Vec::new(alloc));
-    assert!(rt; !none.value(Code(0)));
-    Ok(())
-}
-
-#[test]
-fn codes_in_order(rt: HostRuntime) -> Result<(), Fail> {
-    let alloc = rt.alloc();
-    let codes = in_order(vec![in alloc; Code(5), Code(2), Code(5)]?);
-    assert!(rt; codes.as_slice() == [Code(2), Code(5)].as_slice());
-    Ok(())
 }

@@ -22,38 +22,6 @@ s0 a+ s1 a- s2 z+ s3 a+ s4 a- s5 z- s0
 .end
 ";
 
-/// The read cycle of a VME bus. The states 3 and 10 are its conflict.
-pub const VME: &[u8] = b".inputs DSr LDTACK
-.outputs D DTACK LDS
-.state graph
-s0 DSr+ s1 LDS+ s2 LDTACK+ s3 D+ s4 DTACK+ s5 DSr- s6 D- s7
-s7 DTACK- s8
-s7 LDS- s9
-s8 DSr+ s10
-s8 LDS- s11
-s9 DTACK- s11
-s9 LDTACK- s12
-s11 DSr+ s13
-s11 LDTACK- s0
-s12 DTACK- s0
-s10 LDS- s13
-s13 LDTACK- s1
-.marking {s0}
-.end
-";
-
-/// Two outputs that rise in any order, and fall one after the other.
-pub const PAIR: &[u8] = b".outputs y z
-.state graph
-s0 y+ s1
-s0 z+ s2
-s1 z+ s3
-s2 y+ s3
-s3 y- s4 z- s0
-.marking {s0}
-.end
-";
-
 /// The C-element of the inputs `a`, `b` and `c` and the output `z`, which rises after all of them
 /// have risen and falls after all have fallen.
 pub const C_ELEMENT: &[u8] = b".inputs a b c
@@ -86,18 +54,6 @@ s2 a+ s3 c+ s4 a- s5
 s4 b- s6
 s5 b- s7 c- s0
 s6 a- s7
-.marking {s0}
-.end
-";
-
-/// The output `z` rises once `a` or `b` has risen, and nothing falls.
-pub const EITHER_RISES: &[u8] = b".inputs a b
-.outputs z
-.state graph
-s0 a+ s1 b+ s3 z+ s6
-s0 b+ s2 a+ s3
-s1 z+ s4 b+ s6
-s2 z+ s5 a+ s6
 .marking {s0}
 .end
 ";

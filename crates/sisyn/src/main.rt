@@ -2,21 +2,9 @@
 #![tactic(auto)]
 
 #[cfg(test)]
-mod audit_tests;
-#[cfg(test)]
-mod fold_tests;
-#[cfg(test)]
-mod genlib_tests;
-#[cfg(test)]
-mod hostile_tests;
-#[cfg(test)]
-mod inserted_tests;
-#[cfg(test)]
-mod replay_tests;
+mod failing_tests;
 #[cfg(test)]
 mod tests;
-#[cfg(test)]
-mod verilog_tests;
 
 ghost use Rattle.std.specs.Prelude.{◌≡◌, ◌⊎◌, List, String, drop, IfErr, IfOk};
 ghost use Rattle.std.specs.Process.{exit_status as exit_byte};

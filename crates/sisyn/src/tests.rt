@@ -30,18 +30,6 @@ s7 c- s0
 .end
 ";
 
-/// Its netlist in version 1 of the text, which is read.
-pub(crate) const C_ELEMENT_NETLIST: &[u8] = b".model c2
-.inputs a b
-.outputs c
-.internal
-.inserted
-.start 000
-.gates
-c sum a b + b c + a c
-.end
-";
-
 /// An output that never switches, beside an input that does.
 const IDLE_OUTPUT: &[u8] = b".model idle
 .inputs a
@@ -72,7 +60,7 @@ s5 a+ s6
 ";
 
 /// A graph without a signal that the circuit drives.
-pub(crate) const INPUTS_ALONE: &[u8] = b".model watched
+const INPUTS_ALONE: &[u8] = b".model watched
 .inputs a b
 .state graph
 s0 a+ s1
@@ -82,29 +70,8 @@ s2 b- s1
 .end
 ";
 
-pub(crate) const INPUTS_ALONE_NETLIST: &[u8] = b".model watched
-.inputs a b
-.outputs
-.internal
-.inserted
-.start 00
-.gates
-.end
-";
-
-/// The input disables the output.
-pub(crate) const DISABLED_OUTPUT: &[u8] = b".model disabled
-.inputs a
-.outputs z
-.state graph
-s0 a+ s1
-s0 z+ s2
-.marking {s0}
-.end
-";
-
 /// The read cycle of a VME bus controller.
-pub(crate) const VME: &[u8] = b".model vme
+const VME: &[u8] = b".model vme
 .inputs DSr LDTACK
 .outputs D DTACK LDS
 .state graph
@@ -129,9 +96,6 @@ s13 LDTACK- s1
 .marking {s0}
 .end
 ";
-
-/// The C-element's complex gate.
-pub(crate) const MAJORITY: &[u8] = b"c sum a b + b c + a c";
 
 /// The texts of a command's files.
 #[derive(Clone, Copy)]
@@ -174,26 +138,14 @@ pub(crate) fn files(alloc: Global, texts: Texts<'_>) -> Result<Vec<MemFile>, NoM
     Ok(vec![in alloc; graph, netlist, schedule]?)
 }
 
-/// The netlist of the C-element with other inputs and another gate.
-pub(crate) fn netlist_with(alloc: Global, inputs: &[u8], gate: &[u8]) -> Result<Text, NoMemory> {
-    let mut text = Text::copy_of(alloc, b".model c2\n.inputs ")?;
-    text.add(inputs)?;
-    text.add(b"\n.outputs c\n.internal\n.inserted\n.start 000\n.gates\n")?;
-    text.add(gate)?;
-    text.add(b"\n.end\n")?;
-    Ok(text)
-}
-
-pub(crate) const CHECK: [&str; 2] = ["check", "graph.sg"];
+const CHECK: [&str; 2] = ["check", "graph.sg"];
 
 pub(crate) const SYNTH: [&str; 3] = ["synth", "graph.sg", "complex"];
 
 pub(crate) const MAP: [&str; 3] = ["map", "graph.sg", "c.net"];
 
-pub(crate) const REPLAY: [&str; 4] = ["replay", "graph.sg", "c.net", "steps"];
-
 /// Runs over files that are told, and compares the status and all that was put.
-pub(crate) fn expect(
+fn expect(
     rt: &impl Abort,
     alloc: Global,
     command: &[&str],
@@ -212,7 +164,7 @@ pub(crate) fn expect(
 }
 
 /// Runs, and expects this output.
-pub(crate) fn expect_output(
+fn expect_output(
     rt: &impl Abort,
     alloc: Global,
     command: &[&str],
