@@ -1,6 +1,5 @@
 -- (loop) What a search for the best candidate keeps.
 use Rattle.std.specs.Prelude.{◌≡◌, ℕ, ◌+◌, ◌<◌, ◌≤◌, Bool, count_by, List, Option, Some, None}
-use Rattle.std.specs.Prelude.{length}
 use Rattle.si_base.specs.Codes.{CodedGraph}
 use Rattle.si_base.specs.Graph.{StateGraph}
 use Rattle.si_base.specs.Limits.{max_states}

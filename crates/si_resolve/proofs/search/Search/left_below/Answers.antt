@@ -1,4 +1,4 @@
-use Rattle.std.proofs.Common.{◌<◌, ◌∙◌, ℕ, subst, sym}
+use Rattle.std.proofs.Common.{◌<◌, ℕ, subst}
 use Rattle.si_candidates.specs.Parts.{AreClasses}
 use Rattle.si_resolve.specs.Progress.{LeavesNoneBelow, bar_of}
 use Rattle.si_resolve.proofs.SearchLemmas.{at_blocks, if_none, if_some, one_leaves_none, torn_leave_none}
