@@ -10,8 +10,8 @@ use Rattle.si_base.specs.Sets.{IsIn, IsDisjoint}
 use Rattle.si_graph.specs.declared.closure.Along.TheVariants.{Out, In, Both}
 use Rattle.si_graph.specs.Closure.{IsNext}
 use Rattle.si_graph.specs.Reach.{Marks, MarksAll}
-use Rattle.si_graph.proofs.MarkLemmas.{Explores, explores_more, in_below, in_none, marks_all_as, marks_both, marks_same}
-use Rattle.si_graph.proofs.MemberLemmas.{Contains-nil}
+use Rattle.si_graph.proofs.SearchLemmas.{Explores, explores_more, in_below, in_none, marks_all_as, marks_both, marks_same}
+use Rattle.si_graph.proofs.ListMembers.{Contains-nil}
 use Rattle.si_regions.specs.Connected.{Adjoins, PathOf}
 use Rattle.si_regions.specs.Searching.{AreMarksOf}
 use Rattle.si_regions.proofs.RegionLemmas.{IsStateOf, MadeTo, states_all}

@@ -10,9 +10,9 @@ use Rattle.std.proofs.lemmas.List.Sums.{sum_by-cons, sum_by-le-sum_by}
 use Rattle.std.specs.List.{sum_by}
 use Rattle.si_base.specs.Codes.{CodedGraph, IsCoded}
 use Rattle.si_base.specs.Sets.{IsIn}
-use Rattle.si_base.proofs.InOrder.{in_contains}
-use Rattle.si_base.proofs.Sorted.{In}
-use Rattle.si_base.proofs.Unique.{contains_from_in}
+use Rattle.si_base.proofs.OrderLemmas.{in_contains}
+use Rattle.si_base.proofs.OrderAscending.{In}
+use Rattle.si_base.proofs.GivenGraphUnique.{contains_from_in}
 use Rattle.si_insert.specs.declared.partition.Class.{Class}
 use Rattle.si_insert.specs.declared.partition.Class.TheVariants.{Low, Rising, High, Falling}
 use Rattle.si_insert.specs.Partition.{class_of, IsLawful}

@@ -10,7 +10,7 @@ use Rattle.std.proofs.lemmas.List.Elements.{All-nil, All-cons, All-head, All-tai
 use Rattle.std.proofs.lemmas.Nat.Bits.{bit_at-zero, bit_at-lt, bit_at-suc, bit_at_lowest, bit_at_xor}
 use mir.Val.{bool_byte}
 use Rattle.si_base.proofs.BitFacts.{below_two}
-use Rattle.si_base.proofs.WordSets.{bit_of_and, bit_of_or}
+use Rattle.si_base.proofs.SetsAsWords.{bit_of_and, bit_of_or}
 use Rattle.si_base.specs.Bits.{bit, IsSet}
 use Rattle.si_base.specs.Codes.{CodedGraph, IsCoded, code, next_value}
 use Rattle.si_base.specs.Netlist.{literal_value, sum_value}

@@ -2,7 +2,7 @@
 
 ghost use Rattle.std.specs.Prelude.{◌≡◌, ℕ, ◌+◌, ◌<◌, ◌≤◌, ◌↔◌, Bool, false, List, IfOk, IfSome};
 ghost use Rattle.std.specs.Prelude.{IfNone, OnOk, IsTrue, length, count_by};
-ghost use Rattle.si_base.specs.Codes.{IsCoded};
+ghost use Rattle.si_base.specs.Codes.{CodedGraph, IsCoded};
 ghost use Rattle.si_base.specs.Sets.{IsIn};
 ghost use Rattle.si_candidates.specs.Blocks.{AreDisjoint, block_at};
 ghost use Rattle.si_conflicts.specs.Chains.{AreChains};
@@ -55,7 +55,7 @@ pub(crate) fn find_best(
     ensures none { IfOk result (λ o. IfNone o (NoneImproves graph.now)) }
     ensures some { IfOk result (λ o. IfSome o (IsFound graph.now list.now.blocks.items)) }
 {
-    let mut search = Search::new(alloc, graph, chains, conflicts)?;
+    let mut search = Search::new(chains, conflicts);
     for j in 0..list.blocks.len() {
         search.try_row(alloc, graph, list, j)?;
     }
@@ -64,22 +64,16 @@ pub(crate) fn find_best(
 
 impl Search {
     /// The search before all candidates.
-    fn new(
-        alloc: Global,
-        graph: &Proper,
-        chains: CodeChains,
-        conflicts: u64,
-    ) -> Result<Search, NoMemory>
-        requires { AreChains graph.now chains }
-        ensures given { IfOk result (λ s. s.given ≡ conflicts) }
-        ensures starts { IfOk result
-            (λ s. (blocks : List (List Bool)) → IsSearching graph.now blocks 0 0 s) }
+    fn new(chains: CodeChains, conflicts: u64) -> Search
+        ensures given { result.given ≡ conflicts }
+        ensures starts { (c : CodedGraph) → AreChains c chains
+            → (blocks : List (List Bool)) → IsSearching c blocks 0 0 result }
     {
-        Ok(Search {
+        Search {
             given: conflicts,
             best: None,
             chains,
-        })
+        }
     }
 
     /// Looks at all candidates whose later block is that one.

@@ -1,7 +1,7 @@
 use Rattle.std.proofs.Common.{◌∙◌, sym, arith}
 use Rattle.std.proofs.lemmas.Bool.{true≢false}
 use Rattle.si_graph.specs.Closure.{IsNext}
-use Rattle.si_graph.proofs.MarkLemmas.{in_below}
+use Rattle.si_graph.proofs.SearchLemmas.{in_below}
 use Rattle.si_candidates.proofs.PartLemmas.{next_none, next_more, next_pass, next_all}
 use Rattle.si_candidates.proofs.parts.follow_each.Goals as goal
 use Rattle.si_candidates.proofs.parts.follow_each.Goals.{then-has+in_ok-follow, else-has}

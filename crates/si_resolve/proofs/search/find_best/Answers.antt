@@ -5,8 +5,8 @@ use Rattle.si_resolve.proofs.search.find_best.Goals as goal
 
 pub loop-j-init : goal.loop-j-init
 loop-j-init c = record {
-  searching = c.in_ok-search.ensures.starts c.args.list.now.blocks.items;
-  given = c.in_ok-search.ensures.given;
+  searching = c.new-search.ensures.starts c.args.graph.now c.requires.chains c.args.list.now.blocks.items;
+  given = c.new-search.ensures.given;
 }
 
 pub returns-clause-none : goal.returns-clause-none

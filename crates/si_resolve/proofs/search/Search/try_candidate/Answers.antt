@@ -11,8 +11,8 @@ shares_crowd-requires-clause-i_within c = omega (arith, c.requires.order, c.requ
 
 pub returns-then-shares_crowd-clause-after : goal.returns-then-shares_crowd-clause-after
 returns-then-shares_crowd-clause-after c =
-    skip c.args.graph.now c.args.list.now.blocks.items c.args.j c.args.i c.args.self.now c.args.self.now
-    c.requires.before (same_room c.args.self.now) (c.shares_crowd.ensures c.if-shares_crowd.true)
+    skip c.args.graph.now c.args.list.now.blocks.items c.args.j c.args.i c.args.self.now
+    c.requires.before (c.shares_crowd.ensures c.if-shares_crowd.true)
 
 pub returns-then-not-may_be_better-clause-after : goal.returns-then-not-may_be_better-clause-after
 returns-then-not-may_be_better-clause-after c =
