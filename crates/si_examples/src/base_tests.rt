@@ -1,14 +1,10 @@
 //! What no whole run shows: a key, sets and codes bit by bit, and the order of events.
 
-ghost use Rattle.std.specs.Prelude.{◌≡◌, IfOk, length};
-
+use crate::sets::set_of;
 use si_base::graph::Edge;
-use si_base::ids::{Code, Event, NoMemory, Sig, StateId};
-use si_base::sets::StateSet;
+use si_base::ids::{Code, Event, Sig, StateId};
 use si_base::text_key::TextKey;
-use std::alloc::Global;
 use std::hash::{BuildHasher, Hasher};
-use std::process::Abort;
 use std::test::Fail;
 
 /// What SHA-256 and SipHash-1-3 with the key 0 make of `abc`, one after the other.
@@ -20,21 +16,10 @@ fn key_of_a_text(rt: HostRuntime) {
     );
 }
 
-/// The set of these states among 66, which are kept in two words.
-fn set_of(rt: &impl Abort, alloc: Global, states: &[u32]) -> Result<StateSet, NoMemory>
-    ensures { IfOk result (λ set. length set ≡ 66) }
-{
-    let mut set = StateSet::new(alloc, 66)?;
-    for s in states {
-        assert!(rt; *s < 66);
-        set.add(StateId(*s));
-    }
-    Ok(set)
-}
-
+/// Of 66 states, which are kept in two words.
 #[test]
 fn a_set_of_two_words(rt: HostRuntime) -> Result<(), Fail> {
-    let mut set = set_of(&rt, rt.alloc(), [1, 64].as_slice())?;
+    let mut set = set_of(&rt, rt.alloc(), 66, [1, 64].as_slice())?;
     assert_eq!(rt; set.size(), 66);
     assert_eq!(rt; set.count(), 2);
     assert!(rt; set.has(StateId(64)) && !set.has(StateId(65)));

@@ -1,6 +1,6 @@
-//! Worked examples of the definitions, and tests of calls. Nothing stands on this crate, so that a new
-//! example proves nothing else anew, and each crate below is proved but once. What a definition says
-//! is worked out in `proofs`; what a call makes of a text is tried by whole runs.
+//! Worked examples of the definitions, and tests of calls. Nothing stands on this crate, so that a
+//! new example proves nothing else anew, and each crate below is proved but once. What a definition
+//! says is worked out in `proofs`; what a call makes of a text is tried by whole runs.
 #![tactic(auto)]
 
 #[cfg(test)]
@@ -17,3 +17,5 @@ mod graph_tests;
 mod graphs;
 #[cfg(test)]
 mod netlist_reader_tests;
+#[cfg(test)]
+mod sets;
