@@ -27,7 +27,8 @@ pub chosen_again : (chosen old new : List ℕ) (y : ℕ) → old ≡ chosen ++ y
 chosen_again chosen old new y is rest =
     let count : length old - 1 ≡ length chosen = rw (is, length_push) (omega arith) in
     let within : length chosen ≤ length chosen = omega arith in
-    rest ∙ rw (count, is, take-append-le (length chosen) chosen (y ∷ []) within) (take_all (length chosen) chosen within)
+    rest ∙ rw (count, is, take-append-le (length chosen) chosen (y ∷ []) within)
+    (take_all (length chosen) chosen within)
 
 -- ---- the signals of literals in signal order
 module _ (n : ℕ) where

@@ -169,7 +169,10 @@ first_below (suc most) k some few = elim (eqb_tells (k % 2) 1) [
   | inl odd ↦ (0, ap (λ (b : ℕ). b == 1) (bit_at_lowest k ∙ odd.1))
   | inr even ↦ (
       let not_odd = even.1 in
-      let rest : k % 2 ≡ 0 = elim (below_two (k % 2) (omega arith)) [ inl none ↦ none | inr one ↦ absurd (not_odd one) ] in
+      let rest : k % 2 ≡ 0 = elim (below_two (k % 2) (omega arith)) [
+        | inl none ↦ none
+        | inr one ↦ absurd (not_odd one)
+      ] in
       let half_some : 0 < k / 2 = omega (arith, some, rest) in
       let half_few : k / 2 ≤ most = omega (arith, few, some) in
       let (m, there) = first_below most (k / 2) half_some half_few in

@@ -1,6 +1,7 @@
 //! Signals at places, and which truth tables over the places have the next values of a signal.
 
-ghost use Rattle.std.specs.Prelude.{◌≡◌, ℕ, ◌<◌, ◌≤◌, ◌∷◌, ◌⊎◌, All, Contains, IfSome, IfNone, length};
+ghost use Rattle.std.specs.Prelude.{◌≡◌, ℕ, ◌<◌, ◌≤◌, ◌∷◌, ◌⊎◌, All, Contains};
+ghost use Rattle.std.specs.Prelude.{IfSome, IfNone, length};
 ghost use Rattle.std.specs.Prelude.{true, false};
 ghost use Rattle.si_base.specs.Bits.{bit};
 ghost use Rattle.si_base.specs.Limits.{code_width};

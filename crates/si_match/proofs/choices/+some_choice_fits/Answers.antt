@@ -16,8 +16,8 @@ returns-then-most-more-clause-none t c = λ _ rest size up. (
     let n = length c.args.coded.now.graph.signals in
     let count : length c.signals-count.result.now ≡ n = search rules in
     let size_is = c.size-most.ensures.size ∙ ap (λ (k : ℕ). size_from k 0 c.args.missing) count in
-    owed_unfit c.args.coded.now c.args.library.now c.args.z n c.args.more rest c.args.chosen.now.items c.args.missing size
-    c.requires.missing (omega (arith, size_is, c.if-most-more.true)))
+    owed_unfit c.args.coded.now c.args.library.now c.args.z n c.args.more rest c.args.chosen.now.items c.args.missing
+    size c.requires.missing (omega (arith, size_is, c.if-most-more.true)))
 
 pub returns-then-more-eq0-clause-fits : goal.returns-then-more-eq0-clause-fits
 returns-then-more-eq0-clause-fits t c = λ found. (

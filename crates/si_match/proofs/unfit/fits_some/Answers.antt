@@ -23,7 +23,8 @@ some_choice_fits-requires-clause-missing c =
           let (more, with_read, set) = c.needed_signals-missing.ensures.others told in
           let by_reading = c.requires.known.others z c.requires.driven told (c.requires.unfitted told) in
           owed_first coded library z missing (all_but coded library z more missing set
-          (also_read coded library z c.args.known.now.read c.args.triggers.signals more by_reading with_read by_trigger))
+          (also_read coded library z c.args.known.now.read c.args.triggers.signals more by_reading with_read
+          by_trigger))
           set.there)
     ])
 
