@@ -342,7 +342,8 @@ module _ (g : StateGraph) where
 
   -- events after those at the front
   pub next_wait : (from : List Bool) (stops : List Event) (n m : ℕ) (a b waiting : List Ask)
-      (old mid new : List (List Bool)) → AddsFirst g (asks_from from (take n stops)) a old b mid → AddsFirst g [] b mid waiting new
+      (old mid new : List (List Bool)) → AddsFirst g (asks_from from (take n stops)) a old b mid
+      → AddsFirst g [] b mid waiting new
       → (c : List Ask) → c ≡ waiting ++ asks_from from (take m (drop n stops))
       → AddsFirst g (asks_from from (take (n + m) stops)) a old c new
   next_wait from stops n m a b waiting old mid new before room c is =

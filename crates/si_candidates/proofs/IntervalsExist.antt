@@ -56,7 +56,8 @@ module _ (g : StateGraph) (stop : Event) where
                 ((seeds.1 s).1 there, is_everywhere s (from_within s there))));
             closed = λ s e t there step apart. (marks.1.exactly t).1 ((found.1.exactly t).1
                 (reached_on (IsNext g (OutWithout stop) everywhere) (IsSeed everywhere seeds.0) s t
-                ((found.1.exactly s).0 ((marks.1.exactly s).0 there)) ((e, apart, step), is_everywhere t (step_within g s e t is step).2)));
+                ((found.1.exactly s).0 ((marks.1.exactly s).0 there))
+                ((e, apart, step), is_everywhere t (step_within g s e t is step).2)));
             reached = λ t there. before t ((marks.1.exactly t).0 there);
           },
         )

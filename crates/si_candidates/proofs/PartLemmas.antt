@@ -10,7 +10,8 @@ use Rattle.si_base.specs.Sets.{IsIn, IsDisjoint}
 use Rattle.si_graph.specs.declared.closure.Along.TheVariants.{Out, In, Both}
 use Rattle.si_graph.specs.Closure.{IsNext}
 use Rattle.si_graph.specs.Reach.{Marks, MarksAll}
-use Rattle.si_graph.proofs.SearchLemmas.{Explores, explores_more, in_below, in_none, marks_all_as, marks_both, marks_same}
+use Rattle.si_graph.proofs.SearchLemmas.{Explores, explores_more, in_below, in_none, marks_all_as, marks_both}
+use Rattle.si_graph.proofs.SearchLemmas.{marks_same}
 use Rattle.si_graph.proofs.ListMembers.{Contains-nil}
 use Rattle.si_regions.specs.Connected.{Adjoins, PathOf}
 use Rattle.si_regions.specs.Searching.{AreMarksOf}
@@ -115,14 +116,15 @@ module _ (g : StateGraph) (plus minus others : List Bool) (are : AreMarksOf g (I
   turned s t (inr leads) = inl leads
 
   pub spreads_more : (s : ℕ) (A : List Bool) (rest : List ℕ) (B : List Bool) (v : List ℕ)
-      → Spreads g plus minus others A (rest ++ s ∷ []) → MarksAll (IsNext g Both others s) A rest B v → Spreads g plus minus others B v
+      → Spreads g plus minus others A (rest ++ s ∷ []) → MarksAll (IsNext g Both others s) A rest B v
+      → Spreads g plus minus others B v
   spreads_more s A rest B v x one =
       explores_more (IsNext g Both others) (IsSeed g plus minus) (IsHigh g plus minus) s A rest B v
       (λ t here next. drawn_on g plus minus plus minus t s ((are.exactly t).0 next.1) (turned s t next.0) here) x one
 
   -- the end of a path that begins beside a block is reached
-  back_path : (marks : List Bool) → Spreads g plus minus others marks [] → (s : ℕ) (path : List ℕ) (t : ℕ) → IsOther g plus minus s
-      → PathOf g (IsOther g plus minus) s path t → (ComesFrom g plus t ⊎ GoesInto g minus t) → IsIn marks s
+  back_path : (marks : List Bool) → Spreads g plus minus others marks [] → (s : ℕ) (path : List ℕ) (t : ℕ)
+      → IsOther g plus minus s → PathOf g (IsOther g plus minus) s path t → (ComesFrom g plus t ⊎ GoesInto g minus t) → IsIn marks s
   back_path marks x s [] t other path by =
       x.begun s (subst (λ (u : ℕ). ComesFrom g plus u ⊎ GoesInto g minus u) (sym path) by, other)
   back_path marks x s (u ∷ us) t other path by = elim (x.closed u (back_path marks x u us t path.1 path.2 by)) [

@@ -1,6 +1,7 @@
 //! The classes of a candidate.
 
-ghost use Rattle.std.specs.Prelude.{◌≡◌, ℕ, ◌<◌, ◌↔◌, ◌∷◌, [], IfOk, IfErr, IsTrue, MatchOption, length};
+ghost use Rattle.std.specs.Prelude.{◌≡◌, ℕ, ◌<◌, ◌↔◌, ◌∷◌, [], IfOk, IfErr, IsTrue, MatchOption};
+ghost use Rattle.std.specs.Prelude.{length};
 ghost use Rattle.si_base.specs.Order.{IsFirst};
 ghost use Rattle.si_base.specs.Sets.{IsDisjoint, IsIn};
 ghost use Rattle.si_insert.specs.Partition.{IsLawful};

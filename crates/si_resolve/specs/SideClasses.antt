@@ -4,8 +4,8 @@ use Rattle.std.specs.List.{range_with_len}
 use Rattle.si_insert.specs.declared.partition.Class.{Class}
 use Rattle.si_candidates.specs.Sides.{between, class_by, differ, flag}
 
--- a new signal rises in the one block and falls in the other; on the way to the states that lie on
--- different sides of the two it has the value 0 if `turn` is true, and else on the way to the others
+-- a new signal rises in the one block and falls in the other; on the way to the states that lie
+-- on different sides of the two it has the value 0 if `turn` is true, else on the way to the others
 abbrev pub side_classes : List Bool → List Bool → List Bool → List Bool → Bool → List Class
 side_classes plus minus plus_sides minus_sides turn =
     map (λ s. class_by (flag plus s) (flag minus s)

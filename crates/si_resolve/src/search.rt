@@ -141,8 +141,8 @@ impl Search {
         Ok(())
     }
 
-    /// Whether the two blocks have states of one crowd, whose conflicts alone are as many as the best
-    /// so far leaves.
+    /// Whether the two blocks have states of one crowd, whose conflicts alone are as many as the
+    /// best so far leaves.
     fn shares_crowd(&self, graph: &Proper, list: &BlockList, i: usize, j: usize) -> bool
         requires list { AreSearched graph.now list.now }
         requires i_within { i < length list.now.blocks.items }

@@ -113,7 +113,8 @@ fn outcome_text(
     requires state { HasName states.now outcome.now }
     ensures ok { IfOk result
         (TellsEnd what netlist.now events.now.items states.now outcome.now) }
-    ensures err { IfErr result (λ r. TellsDifference netlist.now.signals outcome.now (ending_of r)) }
+    ensures err { IfErr result
+        (λ r. TellsDifference netlist.now.signals outcome.now (ending_of r)) }
 {
     match outcome {
         Outcome::Done { values, state } => {

@@ -24,6 +24,7 @@ pub returns-clause-none : goal.returns-clause-none
 returns-clause-none g c = λ enough lawful.
     let members_are = c.as_slice-members.ensures.value ∙ ap (λ (x : Chains). x.members) c.self.view_is in
     none_below c.args.graph.now (g.C.Classes.classes c.args.classes.now) c.args.self.now.next
-    c.args.self.now.members c.coded.result.now c.as_slice-members.result.now c.args.bar c.coded.ensures.same members_are c.graph-given.ensures.coded lawful
+    c.args.self.now.members c.coded.result.now c.as_slice-members.result.now c.args.bar
+    c.coded.ensures.same members_are c.graph-given.ensures.coded lawful
     c.requires.chains.rings c.requires.chains.members_are
     (c.count_stable.ensures.more (ltb-false c.count_stable.result c.args.bar enough))
