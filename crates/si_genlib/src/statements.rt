@@ -120,7 +120,7 @@ fn read_statement(
 }
 
 /// The cells of all statements that are left.
-#[tactic(auto, using(crate::proofs::SizeLemmas::no_statement))]
+#[tactic(auto, using(crate::proofs::StatementSizes::no_statement))]
 pub(crate) fn read_cells(alloc: Global, source: &mut Source<'_>) -> Result<Vec<Cell>, ReadFault>
     ensures { Reads (λ cells. cells.items) result
         (all_cells text.nothing_yet (left source.old)) }
