@@ -1,7 +1,7 @@
 use Rattle.std.proofs.Common.{◌≡◌, ◌+◌, ◌-◌, ◌<◌, ◌∙◌, drop, length, sym, ap, subst, arith, Option, is_some}
 use Rattle.std.proofs.lemmas.List.Elements.{All-drop, All-take}
 use Rattle.si_cell.specs.Library.{Instance, IsInstance}
-use Rattle.si_checks.specs.Lent.{lent_graph}
+use Rattle.si_checks.specs.Lent.{coded_of}
 use Rattle.si_map.specs.Progress.{AreKnown, IsSearching}
 use Rattle.si_map.proofs.SearchSignals.{unfit_by, next_divisor, end_signal, pass_fitted}
 use Rattle.si_map.proofs.BestDivisors.{all_instances, is_instance}
@@ -9,7 +9,7 @@ use Rattle.si_map.proofs.search.Search.try_signal.Goals as goal
 
 pub returns-then-is_some-clause-after : goal.returns-then-is_some-clause-after
 returns-then-is_some-clause-after c =
-    pass_fitted (lent_graph c.args.graph) c.args.library.now c.args.z c.args.self.now
+    pass_fitted (coded_of c.args.graph) c.args.library.now c.args.z c.args.self.now
     (ap (λ (o : Option Instance). is_some o) (sym (rw c.library-cells.ensures at c.fit.ensures)) ∙ (sym c.is_some.ensures ∙ c.if-is_some.true))
     c.requires.before
 
@@ -17,12 +17,12 @@ pub try_once-requires-clause-instance : goal.try_once-requires-clause-instance
 try_once-requires-clause-instance c =
     let within : c.loop-k.k < length c.in_ok-divisors.divisors.items =
     omega (arith, c.loop-k-test.true, c.len-k-end.ensures) in
-    is_instance (lent_graph c.args.graph) c.args.library.now c.args.z c.loop-k.k c.index.result.now
+    is_instance (coded_of c.args.graph) c.args.library.now c.args.z c.loop-k.k c.index.result.now
     c.in_ok-divisors.divisors.items c.requires.before.ready.coded (rw c.library-cells.ensures at c.in_ok-divisors.ensures) within c.index.ensures
 
 pub loop-k-preserved : goal.loop-k-preserved
 loop-k-preserved c =
-    let d = lent_graph c.args.graph in
+    let d = coded_of c.args.graph in
     let within : c.loop-k.k < length c.in_ok-divisors.divisors.items =
     omega (arith, c.loop-k-test.true, c.len-k-end.ensures) in
     let unfit = unfit_by d c.args.library.now c.args.z c.requires.driven c.fit.result (rw c.library-cells.ensures at c.fit.ensures)
@@ -37,7 +37,7 @@ loop-k-preserved c =
 
 pub returns-clause-after : goal.returns-clause-after
 returns-clause-after c =
-    let d = lent_graph c.args.graph in
+    let d = coded_of c.args.graph in
     let all : c.loop-k.k ≡ length c.in_ok-divisors.divisors.items =
     omega (arith, c.loop-k-test.false, c.loop-k.auto.k-end, c.len-k-end.ensures) in
     end_signal d c.args.library.now c.args.z c.in_ok-divisors.divisors.items c.loop-k.self (rw c.library-cells.ensures at c.in_ok-divisors.ensures)
@@ -54,5 +54,5 @@ try_once-requires-clause-others c =
     let divisors = c.in_ok-divisors.divisors.items in
     rw c.deref.ensures.value (All-take (λ i. IsInstance library i) (length divisors - (c.loop-k.k + 1))
     (drop (c.loop-k.k + 1) divisors) (All-drop (λ i. IsInstance library i) (c.loop-k.k + 1) divisors
-    (all_instances (lent_graph c.args.graph) library c.args.z divisors c.requires.before.ready.coded
+    (all_instances (coded_of c.args.graph) library c.args.z divisors c.requires.before.ready.coded
     (rw c.library-cells.ensures at c.in_ok-divisors.ensures))))
