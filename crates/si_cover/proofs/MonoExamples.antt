@@ -70,7 +70,8 @@ abbrev never_rises_test : CodedGraph → List ℕ → List Literal → Edge → 
 never_rises_test c qr cube a = implies (has qr a.to) (implies (covered c cube a.to) (covered c cube a.from))
 
 never_rises_if : (c : CodedGraph) (qr : List ℕ) (cube : List Literal)
-    → list_all (never_rises_test c qr cube) c.graph.edges ≡ true → (s : ℕ) (e : Event) (t : ℕ) → Step c.graph s e t → Contains qr t → Covers cube (code c t)
+    → list_all (never_rises_test c qr cube) c.graph.edges ≡ true
+    → (s : ℕ) (e : Event) (t : ℕ) → Step c.graph s e t → Contains qr t → Covers cube (code c t)
     → Covers cube (code c s)
 never_rises_if c qr cube h s e t step there covers =
     let passes = all_arcs (never_rises_test c qr cube) c.graph s e t h step in
