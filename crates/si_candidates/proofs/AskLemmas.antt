@@ -251,7 +251,8 @@ are_each : (g : StateGraph) (stops : List Event) (components : List Component) (
 are_each g stops [] [] are = refl
 are_each g stops [] (x ∷ sets) are = absurd are
 are_each g stops (r ∷ components) sets are =
-    let split = are_split g (asks_from (state_set g.states r.sr) stops) (asks_of g.states stops components) sets are in (
+    let later = asks_of g.states stops components in
+    let split = are_split g (asks_from (state_set g.states r.sr) stops) later sets are in (
       split.here,
       split.rest,
       split.parts,
@@ -379,9 +380,8 @@ module _ (g : StateGraph) where
       → AddsFirst g (asks_of g.states stops (take (k + 1) components)) a old c new
   component_more stops components k r from events a b c old mid new inside at states same before one =
       subst (λ asks. AddsFirst g asks a old c new) (sym whole)
-      (first_both (asks_of g.states stops (take k components)) (asks_from (state_set g.states from) events) a b c old mid
-      new
-      before one)
+      (first_both (asks_of g.states stops (take k components)) (asks_from (state_set g.states from) events) a b c
+      old mid new before one)
     where
       here : asks_from (state_set g.states r.sr) stops ≡ asks_from (state_set g.states from) events
       here = ap₂ (λ (xs : List ℕ) (es : List Event). asks_from (state_set g.states xs) es) (sym states) (sym same)

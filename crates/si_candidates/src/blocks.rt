@@ -26,8 +26,8 @@ const MAX_BLOCKS: usize = 1024;
 
 /// The blocks of the graph, of which these are the regions without their quiescent parts: the
 /// excitation regions, the switching regions, then for each region and each event that the circuit
-/// drives the interval from the switching region up to the event. Each set stands once, and of these
-/// the first 1,024. It fails only where memory runs out.
+/// drives the interval from the switching region up to the event. Each set stands once, and of
+/// these the first 1,024. It fails only where memory runs out.
 pub fn blocks(
     alloc: Global,
     graph: &Proper,

@@ -118,7 +118,8 @@ module _ (c : CodedGraph) where
   event_within x graph (r, is, same) =
       let (s, there) = is.excited.some in
       let (t, step) = step_from_enables c.graph s r.event (is.excited.members s there) in
-      subst (λ (y : Component). y.event.sig < length c.graph.signals) same (step_within c.graph s r.event t graph step).1
+      let within = step_within c.graph s r.event t graph step in
+      subst (λ (y : Component). y.event.sig < length c.graph.signals) same within.1
 
   nowhere : Region
   nowhere = record { event = rise 0; er = []; sr = []; qr = [] }

@@ -1,6 +1,7 @@
 -- (field) Excitation, switching and quiescent regions of events. Source: the book, on excitation
 -- and quiescent regions.
-use Rattle.std.specs.Prelude.{◌≡◌, ℕ, ◌↔◌, not, false, List, [], ◌∷◌, Contains, AllPairs, IsTrue, map}
+use Rattle.std.specs.Prelude.{◌≡◌, ℕ, ◌↔◌, not, false, List, [], ◌∷◌, map, Contains, AllPairs}
+use Rattle.std.specs.Prelude.{IsTrue}
 use Rattle.std.specs.List.Sorted.{IsStrictlySortedBy}
 use Rattle.std.specs.Ordering.{nat_cmp}
 use Rattle.si_base.specs.declared.ids.Event.{Event}

@@ -1,6 +1,6 @@
 -- (loop) What a search for regions reaches, and how far the regions are found.
-use Rattle.std.specs.Prelude.{◌≡◌, ℕ, ◌<◌, ◌↔◌, Bool, List, [], ◌∷◌, length, map, Contains, AllPairs}
-use Rattle.std.specs.Prelude.{IsTrue, Some}
+use Rattle.std.specs.Prelude.{◌≡◌, ℕ, ◌<◌, ◌↔◌, Bool, List, [], ◌∷◌, length, map, Contains}
+use Rattle.std.specs.Prelude.{AllPairs, IsTrue, Some}
 use Rattle.si_base.specs.declared.ids.Event.{Event}
 use Rattle.si_base.specs.Order.{Before}
 use Rattle.si_base.specs.Graph.{StateGraph, enables, event_place}

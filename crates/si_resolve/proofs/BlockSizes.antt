@@ -51,12 +51,13 @@ pub block_sizes : (c : CodedGraph) (blocks : List (List Bool)) → AreBlocks c b
 block_sizes c blocks are =
     let n = c.graph.states in
     let P = HasSize n in
-    let excited = map (λ (r : Component). state_set n r.er) are.components in
-    let switched = map (λ (r : Component). state_set n r.sr) are.components in
+    let excited = map (λ (x : Component). state_set n x.er) are.components in
+    let switched = map (λ (x : Component). state_set n x.sr) are.components in
+    let sizes = interval_sizes c.graph _ are.components are.intervals are.intervals_are in
     let rest : All P (switched ++ are.intervals) = All-append P switched are.intervals
-    (all_marked n (λ r. r.sr) are.components) (interval_sizes c.graph _ are.components are.intervals are.intervals_are) in
+    (all_marked n (λ x. x.sr) are.components) sizes in
     let all : All P (excited ++ (switched ++ are.intervals)) = All-append P excited (switched ++ are.intervals)
-    (all_marked n (λ r. r.er) are.components) rest in
+    (all_marked n (λ x. x.er) are.components) rest in
     subst (All P) (sym are.blocks_are) (All-take P max_blocks _ (once_sizes n _ all))
 
 pub size_at : (c : CodedGraph) (blocks : List (List Bool)) (k : ℕ) → AreBlocks c blocks → k < length blocks

@@ -56,8 +56,8 @@ loop-k-preserved c =
           rw (out, w.done-is, w.search-is) (record {
             size = w.add_all.ensures.size ∙ x.size;
             idle = is.idle;
-            found = found_more d e k c.loop-k.out.items c.loop-k.done x.found w.add_all.new.set new is.component is.event
-                is.has fresh.1 grown;
+            found = found_more d e k c.loop-k.out.items c.loop-k.done x.found w.add_all.new.set new is.component
+                is.event is.has fresh.1 grown;
           }))
       | else-is_new w ↦ (
           let old = ap (λ v. v.items) w.out-is in
