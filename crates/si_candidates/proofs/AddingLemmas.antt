@@ -1,4 +1,4 @@
--- The states of regions, and the events of driven signals.
+-- The states of components, and the events of driven signals.
 use Rattle.std.proofs.Common.{◌≡◌, ℕ, zero, suc, ◌+◌, ◌<◌, ◌≤◌, List, [], ◌∷◌, length, get_or}
 use Rattle.std.proofs.Common.{take, drop, All, Contains, inl, inr, sym, subst, arith}
 use Rattle.std.proofs.lemmas.Bool.{cases_Bool}
@@ -7,23 +7,30 @@ use Rattle.si_base.specs.declared.ids.Event.{Event}
 use Rattle.si_base.specs.declared.graph.Signal.{Signal}
 use Rattle.si_base.specs.Graph.{IsGraph, rise, fall, is_driven}
 use Rattle.si_base.specs.Codes.{CodedGraph}
-use Rattle.si_regions.specs.declared.regions.Region.{Region}
-use Rattle.si_regions.specs.Regions.{AreRegions}
+use Rattle.si_regions.specs.declared.regions.Component.{Component}
+use Rattle.si_regions.specs.Regions.{AreComponents, IsRegionComponent}
 use Rattle.si_regions.proofs.RegionLemmas.{enables_within}
 use Rattle.si_regions.proofs.ComponentLemmas.{entered_within}
+use Rattle.si_regions.proofs.RegionComponents.{component_at}
 use Rattle.si_candidates.specs.Blocks.{driven_events}
 
--- ---- the states of regions
-module _ (c : CodedGraph) (is : IsGraph c.graph) (regions : List Region) (are : AreRegions c regions)
-    (k : ℕ) (r : Region) (inside : k < length regions) (at : r ≡ get_or regions k r) where
-  there : Contains regions r
-  there = (k, inside, sym at)
+-- ---- the states of components
+module _ (c : CodedGraph) (is : IsGraph c.graph) (components : List Component) (are : AreComponents c components)
+    (k : ℕ) (r : Component) (inside : k < length components) (at : r ≡ get_or components k r) where
+  of_region : IsRegionComponent c r
+  of_region = component_at c components k r are inside at
 
   pub excited_below : (t : ℕ) → Contains r.er t → t < c.graph.states
-  excited_below t has = enables_within c.graph t r.event is ((are.each r there).excited.members t has)
+  excited_below t has =
+      let (q, region, same) = of_region in
+      enables_within c.graph t q.event is
+      (region.excited.members t (subst (λ (x : Component). Contains x.er t) (sym same) has))
 
   pub switched_below : (t : ℕ) → Contains r.sr t → t < c.graph.states
-  switched_below t has = entered_within c.graph r.er r.event r.sr t is (are.each r there).switched has
+  switched_below t has =
+      let (q, region, same) = of_region in
+      entered_within c.graph q.er q.event q.sr t is region.switched
+      (subst (λ (x : Component). Contains x.sr t) (sym same) has)
 
 -- ---- events one after another
 pub all_taken : (n signals : ℕ) (stops : List Event) → All (λ e. e.sig < signals) stops

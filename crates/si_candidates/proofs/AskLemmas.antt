@@ -15,7 +15,7 @@ use Rattle.si_graph.proofs.ValueLemmas.{bit-zero}
 use Rattle.si_closures.specs.WordSearch.{column, HasBit}
 use Rattle.si_closures.specs.Words.{IsEventAt}
 use Rattle.si_closures.proofs.WordSearchLemmas.{in_column}
-use Rattle.si_regions.specs.declared.regions.Region.{Region}
+use Rattle.si_regions.specs.declared.regions.Component.{Component}
 use Rattle.si_candidates.specs.Interval.{IsInterval}
 use Rattle.si_candidates.specs.Asked.{Ask, asks_from, asks_of, asked_on, asked_for, AreReady, AreIntervalsOf}
 use Rattle.si_candidates.specs.Adding.{with_block, with_blocks, AddsAsked, AddsFirst, AddsIntervals}
@@ -246,17 +246,18 @@ are_from g from [] (x ∷ sets) are = absurd are
 are_from g from (stop ∷ stops) [] are = absurd are
 are_from g from (stop ∷ stops) (x ∷ sets) (is, are) = (is, are_from g from stops sets are)
 
-are_each : (g : StateGraph) (stops : List Event) (regions : List Region) (sets : List (List Bool))
-    → AreIntervalsOf g (asks_of g.states stops regions) sets → AreIntervals g stops regions sets
+are_each : (g : StateGraph) (stops : List Event) (components : List Component) (sets : List (List Bool))
+    → AreIntervalsOf g (asks_of g.states stops components) sets → AreIntervals g stops components sets
 are_each g stops [] [] are = refl
 are_each g stops [] (x ∷ sets) are = absurd are
-are_each g stops (r ∷ regions) sets are =
-    let split = are_split g (asks_from (state_set g.states r.sr) stops) (asks_of g.states stops regions) sets are in (
+are_each g stops (r ∷ components) sets are =
+    let later = asks_of g.states stops components in
+    let split = are_split g (asks_from (state_set g.states r.sr) stops) later sets are in (
       split.here,
       split.rest,
       split.parts,
       are_from g (state_set g.states r.sr) stops split.here split.here_are,
-      are_each g stops regions split.rest split.rest_are,
+      are_each g stops components split.rest split.rest_are,
     )
 
 some_asked : (g : StateGraph) (k : ℕ) (words : List ℕ) (stops : List Event) → IsGraph g → length words ≡ g.states
@@ -362,8 +363,8 @@ module _ (g : StateGraph) where
       whole = ap (asks_from from) (take-add n m stops)
           ∙ map-append (λ (stop : Event). record { from = from; stop = stop }) (take n stops) (take m (drop n stops))
 
-  -- ---- region after region
-  asks-append : (stops : List Event) (xs ys : List Region)
+  -- ---- component after component
+  asks-append : (stops : List Event) (xs ys : List Component)
       → asks_of g.states stops (xs ++ ys) ≡ asks_of g.states stops xs ++ asks_of g.states stops ys
   asks-append stops [] ys = refl
   asks-append stops (r ∷ xs) ys =
@@ -371,42 +372,41 @@ module _ (g : StateGraph) where
       ∙ sym (append_assoc (asks_from (state_set g.states r.sr) stops) (asks_of g.states stops xs)
       (asks_of g.states stops ys))
 
-  pub region_more : (stops : List Event) (regions : List Region) (k : ℕ) (r : Region) (from : List ℕ)
-      (events : List Event) (a b c : List Ask) (old mid new : List (List Bool)) → k < length regions
-      → r ≡ get_or regions k r → from ≡ r.sr → events ≡ stops
-      → AddsFirst g (asks_of g.states stops (take k regions)) a old b mid
+  pub component_more : (stops : List Event) (components : List Component) (k : ℕ) (r : Component) (from : List ℕ)
+      (events : List Event) (a b c : List Ask) (old mid new : List (List Bool)) → k < length components
+      → r ≡ get_or components k r → from ≡ r.sr → events ≡ stops
+      → AddsFirst g (asks_of g.states stops (take k components)) a old b mid
       → AddsFirst g (asks_from (state_set g.states from) events) b mid c new
-      → AddsFirst g (asks_of g.states stops (take (k + 1) regions)) a old c new
-  region_more stops regions k r from events a b c old mid new inside at states same before one =
+      → AddsFirst g (asks_of g.states stops (take (k + 1) components)) a old c new
+  component_more stops components k r from events a b c old mid new inside at states same before one =
       subst (λ asks. AddsFirst g asks a old c new) (sym whole)
-      (first_both (asks_of g.states stops (take k regions)) (asks_from (state_set g.states from) events) a b c old mid
-      new
-      before one)
+      (first_both (asks_of g.states stops (take k components)) (asks_from (state_set g.states from) events) a b c
+      old mid new before one)
     where
       here : asks_from (state_set g.states r.sr) stops ≡ asks_from (state_set g.states from) events
       here = ap₂ (λ (xs : List ℕ) (es : List Event). asks_from (state_set g.states xs) es) (sym states) (sym same)
 
-      whole : asks_of g.states stops (take (k + 1) regions)
-          ≡ asks_of g.states stops (take k regions) ++ asks_from (state_set g.states from) events
-      whole = ap (asks_of g.states stops) (take_more regions k r inside
-          ∙ ap (λ q. take k regions ++ q ∷ []) (sym at))
-          ∙ asks-append stops (take k regions) (r ∷ [])
-          ∙ ap (λ asks. asks_of g.states stops (take k regions) ++ asks)
+      whole : asks_of g.states stops (take (k + 1) components)
+          ≡ asks_of g.states stops (take k components) ++ asks_from (state_set g.states from) events
+      whole = ap (asks_of g.states stops) (take_more components k r inside
+          ∙ ap (λ q. take k components ++ q ∷ []) (sym at))
+          ∙ asks-append stops (take k components) (r ∷ [])
+          ∙ ap (λ asks. asks_of g.states stops (take k components) ++ asks)
           (append-nil (asks_from (state_set g.states r.sr) stops) ∙ here)
 
   -- those that wait at the end are added, too
-  pub adds_each : (stops : List Event) (regions : List Region) (k : ℕ) (waited waiting : List Ask)
-      (old mid new : List (List Bool)) → length regions ≤ k → waited ≡ []
-      → AddsFirst g (asks_of g.states stops (take k regions)) waited old waiting mid → AddsAsked g waiting mid new
-      → AddsIntervals g stops regions old new
-  adds_each stops regions k waited waiting old mid new all none before last =
+  pub adds_each : (stops : List Event) (components : List Component) (k : ℕ) (waited waiting : List Ask)
+      (old mid new : List (List Bool)) → length components ≤ k → waited ≡ []
+      → AddsFirst g (asks_of g.states stops (take k components)) waited old waiting mid → AddsAsked g waiting mid new
+      → AddsIntervals g stops components old new
+  adds_each stops components k waited waiting old mid new all none before last =
       let both = adds_both before.first waiting old mid new before.adds last in
-      let parts : before.first ++ waiting ≡ asks_of g.states stops regions =
-      sym before.parts ∙ ap (λ asks. asks ++ asks_of g.states stops (take k regions)) none
-      ∙ ap (asks_of g.states stops) (take_all k regions all) in
+      let parts : before.first ++ waiting ≡ asks_of g.states stops components =
+      sym before.parts ∙ ap (λ asks. asks ++ asks_of g.states stops (take k components)) none
+      ∙ ap (asks_of g.states stops) (take_all k components all) in
       record {
         sets = both.sets;
-        are = are_each g stops regions both.sets (subst (λ asks. AreIntervalsOf g asks both.sets) parts both.are);
+        are = are_each g stops components both.sets (subst (λ asks. AreIntervalsOf g asks both.sets) parts both.are);
         added = both.added;
       }
 

@@ -15,7 +15,7 @@ use Rattle.si_graph.proofs.ListMembers.{Contains-cons_cases}
 use Rattle.si_graph.proofs.ValueLemmas.{bit-zero}
 use Rattle.si_closures.specs.WordSearch.{column, HasBit}
 use Rattle.si_closures.proofs.WordSearchLemmas.{in_column}
-use Rattle.si_regions.specs.declared.regions.Region.{Region}
+use Rattle.si_regions.specs.declared.regions.Component.{Component}
 use Rattle.si_regions.proofs.StateLists.{only_in}
 use Rattle.si_insert.specs.Accepted.{IsInput}
 use Rattle.si_candidates.specs.Interval.{IsReachedBefore, IsInterval}
@@ -88,12 +88,12 @@ is_interval = record {
 }
 
 -- ---- the blocks, of the regions and the intervals
-abbrev region : Event → ℕ → ℕ → Region
-region e s t = record { event = e; er = s ∷ []; sr = t ∷ []; qr = [] }
+abbrev component : Event → ℕ → ℕ → Component
+component e s t = record { event = e; er = s ∷ []; sr = t ∷ [] }
 
-abbrev regions : List Region
-regions = region (rise 0) 0 1 ∷ region (rise 0) 3 4 ∷ region (fall 0) 1 2 ∷ region (fall 0) 4 5
-    ∷ region (rise 1) 2 3 ∷ region (fall 1) 5 0 ∷ []
+abbrev components : List Component
+components = component (rise 0) 0 1 ∷ component (rise 0) 3 4 ∷ component (fall 0) 1 2 ∷ component (fall 0) 4 5
+    ∷ component (rise 1) 2 3 ∷ component (fall 1) 5 0 ∷ []
 
 -- from each switching region up to `z+`, and up to `z-`
 abbrev intervals : List (List ℕ)
@@ -106,7 +106,7 @@ intervals = (1 ∷ 2 ∷ []) ∷ (1 ∷ 2 ∷ 3 ∷ 4 ∷ 5 ∷ [])
     ∷ []
 
 -- the switching regions stand already, and so do three of the intervals
-fifteen : blocks_of 6 regions (map (state_set 6) intervals) ≡ map (state_set 6)
+fifteen : blocks_of 6 components (map (state_set 6) intervals) ≡ map (state_set 6)
     ((0 ∷ []) ∷ (3 ∷ []) ∷ (1 ∷ []) ∷ (4 ∷ []) ∷ (2 ∷ []) ∷ (5 ∷ []) ∷ (1 ∷ 2 ∷ []) ∷ (1 ∷ 2 ∷ 3 ∷ 4 ∷ 5 ∷ [])
     ∷ (0 ∷ 1 ∷ 2 ∷ 4 ∷ 5 ∷ []) ∷ (4 ∷ 5 ∷ []) ∷ (2 ∷ 3 ∷ 4 ∷ 5 ∷ []) ∷ (0 ∷ 1 ∷ 2 ∷ 5 ∷ [])
     ∷ (0 ∷ 1 ∷ 2 ∷ 3 ∷ 4 ∷ 5 ∷ []) ∷ (3 ∷ 4 ∷ 5 ∷ []) ∷ (0 ∷ 1 ∷ 2 ∷ []) ∷ [])
@@ -120,9 +120,9 @@ three_asked : asked_for seeds (rise 1 ∷ fall 1 ∷ rise 1 ∷ [])
     ≡ asks_from from (rise 1 ∷ fall 1 ∷ []) ++ asks_from (state_set 6 (2 ∷ [])) (rise 1 ∷ [])
 three_asked = refl
 
-of_two_regions : asks_of 6 (rise 1 ∷ []) (region (rise 0) 0 1 ∷ region (fall 0) 1 2 ∷ [])
+of_two_components : asks_of 6 (rise 1 ∷ []) (component (rise 0) 0 1 ∷ component (fall 0) 1 2 ∷ [])
     ≡ asks_from from (rise 1 ∷ []) ++ asks_from (state_set 6 (2 ∷ [])) (rise 1 ∷ [])
-of_two_regions = refl
+of_two_components = refl
 
 first_answered : AreIntervalsOf pulses (asks_from from (rise 1 ∷ [])) (set ∷ [])
 first_answered = (is_interval, tt)

@@ -21,4 +21,5 @@ pub mod ClassesExist
 pub mod ClassesDecided
 pub mod TreeLemmas
 pub mod SideLemmas
+pub mod SideClassLemmas
 mod SideExamples

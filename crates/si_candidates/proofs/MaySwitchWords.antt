@@ -3,9 +3,9 @@ use Rattle.std.proofs.Common.{◌≡◌, ◌≢◌, ℕ, ◌+◌, ◌-◌, ◌*�
 use Rattle.std.proofs.Common.{Bool, true, false, List, [], ◌∷◌, ◌++◌, length, get_or, set, Contains, Option}
 use Rattle.std.proofs.Common.{refl, sym, ap, subst, ◌∙◌, arith, inl, inr, ◌⊎◌, ◌↔◌, bit_and, bit_or}
 use Rattle.std.proofs.Common.{get_or-set_same, get_or-set_other}
-use Rattle.std.proofs.lemmas.Bool.{cases_eq, cases_Bool, true≢false, and_parts, and_from}
+use Rattle.std.proofs.lemmas.Bool.{cases_eq, cases_lt, cases_Bool, true≢false, and_parts, and_from}
 use Rattle.std.proofs.lemmas.List.{get_or_default, length-map}
-use Rattle.std.proofs.lemmas.List.{get_or_push, get_or_append_left, length_push}
+use Rattle.std.proofs.lemmas.List.{get_or_past, get_or_push, get_or_append_left, length_push}
 use Rattle.std.proofs.lemmas.Nat.Bits.{bit_at_and, bit_at-lt, bit_at_not, bit_at_set_same, bit_at_set_other}
 use Rattle.std.specs.Int.{bit_at, w128}
 use Rattle.si_base.specs.declared.graph.Edge.{Edge}
@@ -324,18 +324,44 @@ module _ (words : List ℕ) (k n w : ℕ) (few : k < 128) (inside : n < length w
     ],
   )
 
-pub put_none : (old words : List ℕ) (k n : ℕ) (set : List Bool) → get_or set n false ≡ false
-    → ArePut old k set n words → ArePut old k set (n + 1) words
-put_none old words k n set out before j s = (
+-- a state of the set is below its size
+pub in_within : (set : List Bool) (s : ℕ) → IsIn set s → s < length set
+in_within set s here = elim (cases_lt s (length set)) [
+  | inl below ↦ below
+  | inr past ↦ absurd (true≢false (sym here ∙ get_or_past set s false past))
+]
+
+-- no state of the set stands between
+pub put_up_to : (old words : List ℕ) (k n m : ℕ) (set : List Bool) → n ≤ m
+    → ((s : ℕ) → n ≤ s → s < m → IsIn set s → ⊥) → ArePut old k set n words → ArePut old k set m words
+put_up_to old words k n m set le none before j s = (
   λ h. elim ((before j s).0 h) [
     | inl first ↦ inl first
-    | inr (same, early, here) ↦ inr (same, omega (arith, early), here)
+    | inr (same, early, here) ↦ inr (same, omega (arith, early, le), here)
   ],
   λ h. (before j s).1 (elim h [
     | inl first ↦ inl first
-    | inr (same, early, here) ↦ elim (cases_eq s n) [
-      | inl there ↦ absurd (true≢false (sym here ∙ ap (λ t. get_or set t false) there ∙ out))
-      | inr other ↦ inr (same, omega (arith, early, other), here)
+    | inr (same, early, here) ↦ elim (cases_lt s n) [
+      | inl below ↦ inr (same, below, here)
+      | inr past ↦ absurd (none s past early here)
+    ]
+  ]),
+)
+
+-- no state of the set stands behind
+pub put_all : (old words : List ℕ) (k n : ℕ) (set : List Bool) → ((s : ℕ) → n ≤ s → IsIn set s → ⊥)
+    → ArePut old k set n words
+    → (j s : ℕ) → HasBit words j s ↔ (HasBit old j s ⊎ ((j ≡ k) × IsIn set s))
+put_all old words k n set none before j s = (
+  λ h. elim ((before j s).0 h) [
+    | inl first ↦ inl first
+    | inr (same, early, here) ↦ inr (same, here)
+  ],
+  λ h. (before j s).1 (elim h [
+    | inl first ↦ inl first
+    | inr (same, here) ↦ elim (cases_lt s n) [
+      | inl below ↦ inr (same, below, here)
+      | inr past ↦ absurd (none s past here)
     ]
   ]),
 )

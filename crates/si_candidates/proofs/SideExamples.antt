@@ -3,7 +3,7 @@ use Rattle.std.proofs.Common.{◌≡◌, ℕ, Bool, true, false, List, [], ◌�
 use Rattle.si_insert.specs.declared.partition.Class.TheVariants.{Low, Rising, High, Falling}
 use Rattle.si_candidates.specs.declared.tree.Link.{Link}
 use Rattle.si_candidates.specs.Tree.{IsMet}
-use Rattle.si_candidates.specs.Sides.{between, class_by, classes_by, differ, flag, leaves}
+use Rattle.si_candidates.specs.Sides.{between, class_by, classes_by, differ, flag, leaves, side_classes}
 
 -- from s0, the start, to s1, from there to s2, and on to s3
 abbrev three_links : List Link
@@ -60,3 +60,10 @@ third = false ∷ false ∷ true ∷ false ∷ []
 
 each_class : classes_by second fourth third ≡ Low ∷ Rising ∷ High ∷ Falling ∷ []
 each_class = refl
+
+-- the sides alone tell the same, by the value that the signal has on the way to s1
+told_by_sides : side_classes second fourth sides_of_second sides_of_fourth false ≡ Low ∷ Rising ∷ High ∷ Falling ∷ []
+told_by_sides = refl
+
+turned_about : side_classes second fourth sides_of_second sides_of_fourth true ≡ High ∷ Rising ∷ Low ∷ Falling ∷ []
+turned_about = refl

@@ -3,7 +3,7 @@ use Rattle.std.specs.Prelude.{◌≡◌, Bool, List, [], ◌∷◌, ◌++◌, le
 use Rattle.std.specs.List.{list_any}
 use Rattle.si_base.specs.declared.ids.Event.{Event}
 use Rattle.si_base.specs.Graph.{StateGraph}
-use Rattle.si_regions.specs.declared.regions.Region.{Region}
+use Rattle.si_regions.specs.declared.regions.Component.{Component}
 use Rattle.si_candidates.specs.Asked.{Ask, AreIntervalsOf}
 use Rattle.si_candidates.specs.Blocks.{same_set, max_blocks, AreIntervals}
 
@@ -33,9 +33,9 @@ pub record AddsFirst (g : StateGraph) (asks waited : List Ask) (old : List (List
   pub parts : waited ++ asks ≡ first ++ waiting
   pub adds : AddsAsked g first old new
 
--- the list grows by the intervals from the switching region of each region
-pub record AddsIntervals (g : StateGraph) (stops : List Event) (regions : List Region)
+-- the list grows by the intervals from the switching region of each component
+pub record AddsIntervals (g : StateGraph) (stops : List Event) (components : List Component)
     (old new : List (List Bool)) : Type 0 where
   pub sets : List (List Bool)
-  pub are : AreIntervals g stops regions sets
+  pub are : AreIntervals g stops components sets
   pub added : new ≡ with_blocks old sets

@@ -3,7 +3,7 @@ use Rattle.std.specs.Prelude.{◌≡◌, ℕ, ◌+◌, ◌<◌, ◌≤◌, Bool,
 use Rattle.si_base.specs.declared.ids.Event.{Event}
 use Rattle.si_base.specs.Graph.{StateGraph}
 use Rattle.si_closures.specs.WordSearch.{column, HasBit}
-use Rattle.si_regions.specs.declared.regions.Region.{Region}
+use Rattle.si_regions.specs.declared.regions.Component.{Component}
 use Rattle.si_candidates.specs.Blocks.{state_set}
 use Rattle.si_candidates.specs.Interval.{IsInterval}
 
@@ -16,11 +16,11 @@ pub record Ask : Type 0 where
 abbrev pub asks_from : List Bool → List Event → List Ask
 asks_from from stops = map (λ (stop : Event). record { from = from; stop = stop }) stops
 
--- those from the switching region of each region
-abbrev pub asks_of : ℕ → List Event → List Region → List Ask
+-- those from the switching region of each component
+abbrev pub asks_of : ℕ → List Event → List Component → List Ask
 asks_of states stops [] = []
-asks_of states stops (r ∷ regions) =
-    asks_from (state_set states r.sr) stops ++ asks_of states stops regions
+asks_of states stops (x ∷ components) =
+    asks_from (state_set states x.sr) stops ++ asks_of states stops components
 
 -- ---- words and events that ask
 -- from bit k of the words and the first event on

@@ -9,8 +9,8 @@ use Rattle.si_base.specs.declared.graph.Signal.{Signal}
 use Rattle.si_base.specs.Graph.{StateGraph, rise, fall, is_driven}
 use Rattle.si_base.specs.Codes.{CodedGraph}
 use Rattle.si_base.specs.Sets.{IsIn}
-use Rattle.si_regions.specs.declared.regions.Region.{Region}
-use Rattle.si_regions.specs.Regions.{AreRegions}
+use Rattle.si_regions.specs.declared.regions.Component.{Component}
+use Rattle.si_regions.specs.Regions.{AreComponents}
 use Rattle.si_candidates.specs.Interval.{IsInterval}
 
 -- the states of the list, marked among so many states
@@ -42,31 +42,31 @@ AreIntervalsFrom g from (stop ∷ stops) (set ∷ sets) =
     IsInterval g from stop set × AreIntervalsFrom g from stops sets
 AreIntervalsFrom g from stops sets = ⊥
 
--- the intervals from the switching region of each region in order
-abbrev pub AreIntervals : StateGraph → List Event → List Region → List (List Bool) → Type 0
+-- the intervals from the switching region of each component in order
+abbrev pub AreIntervals : StateGraph → List Event → List Component → List (List Bool) → Type 0
 AreIntervals g stops [] sets = sets ≡ []
-AreIntervals g stops (r ∷ regions) sets =
+AreIntervals g stops (x ∷ components) sets =
     (here : List (List Bool)) × (rest : List (List Bool)) × (sets ≡ here ++ rest)
-    × AreIntervalsFrom g (state_set g.states r.sr) stops here × AreIntervals g stops regions rest
+    × AreIntervalsFrom g (state_set g.states x.sr) stops here × AreIntervals g stops components rest
 
 -- the most blocks
 abbrev pub max_blocks : ℕ
 max_blocks = 1024
 
--- the components of the regions, what is entered from them, then the intervals: each set once, and
--- of these the first
-abbrev pub blocks_of : ℕ → List Region → List (List Bool) → List (List Bool)
-blocks_of states regions intervals =
-    take max_blocks (without_repeats (map (λ r. state_set states r.er) regions
-    ++ (map (λ r. state_set states r.sr) regions ++ intervals)))
+-- the excited states of each component, what is entered from them, then the intervals: each set
+-- once, and of these the first
+abbrev pub blocks_of : ℕ → List Component → List (List Bool) → List (List Bool)
+blocks_of states components intervals =
+    take max_blocks (without_repeats (map (λ x. state_set states x.er) components
+    ++ (map (λ x. state_set states x.sr) components ++ intervals)))
 
 -- the blocks of c
 pub record AreBlocks (c : CodedGraph) (blocks : List (List Bool)) : Type 0 where
-  pub regions : List Region
-  pub are : AreRegions c regions
+  pub components : List Component
+  pub are : AreComponents c components
   pub intervals : List (List Bool)
-  pub intervals_are : AreIntervals c.graph (driven_events 0 c.graph.signals) regions intervals
-  pub blocks_are : blocks ≡ blocks_of c.graph.states regions intervals
+  pub intervals_are : AreIntervals c.graph (driven_events 0 c.graph.signals) components intervals
+  pub blocks_are : blocks ≡ blocks_of c.graph.states components intervals
 
 abbrev pub block_at : List (List Bool) → ℕ → List Bool
 block_at blocks k = slice_index_or blocks k []

@@ -49,6 +49,10 @@ pub record AreClasses (g : StateGraph) (plus minus : List Bool) (classes : List 
   pub high : (s : ℕ) → s < g.states → (class_of classes s ≡ High) ↔ IsHigh g plus minus s
   pub low : (s : ℕ) → s < g.states → (class_of classes s ≡ Low) ↔ IsLow g plus minus s
 
+-- there are no classes for the two blocks
+abbrev pub HaveNoClasses : StateGraph → List Bool → List Bool → Type 0
+HaveNoClasses g plus minus = (classes : List Class) → AreClasses g plus minus classes → ⊥
+
 -- the part of s is both High and Low
 pub record HasBothLevels (g : StateGraph) (plus minus : List Bool) (s : ℕ) : Type 0 where
   pub high : IsHigh g plus minus s

@@ -8,7 +8,7 @@ use Rattle.si_insert.specs.declared.partition.Class.{Class}
 use Rattle.si_insert.specs.declared.partition.Class.TheVariants.{Low, Rising, High, Falling}
 use Rattle.si_insert.specs.Partition.{class_of, IsLawful}
 use Rattle.si_candidates.specs.declared.tree.Link.{Link}
-use Rattle.si_candidates.specs.Tree.{IsLinkAt}
+use Rattle.si_candidates.specs.Tree.{IsLinkAt, IsTree}
 
 -- one of the two, and not both
 abbrev pub differ : Bool → Bool → Bool
@@ -48,6 +48,27 @@ class_by false false false = Low
 abbrev pub classes_by : List Bool → List Bool → List Bool → List Class
 classes_by plus minus high =
     map (λ s. class_by (flag plus s) (flag minus s) (flag high s)) (range_with_len 0 (length plus))
+
+-- these are the sides of two blocks, along one tree of arcs
+pub record AreSided (g : StateGraph) (plus minus plus_sides minus_sides : List Bool) : Type 0 where
+  pub tree : List Link
+  pub is_tree : IsTree g tree
+  pub plus_are : AreSides g tree plus plus_sides
+  pub minus_are : AreSides g tree minus minus_sides
+
+-- the classes that the sides of two blocks tell: a new signal rises in the one block and falls in
+-- the other; on the way to the states that lie on different sides of the two it has the value 0 if
+-- `turn` is true, else on the way to the others
+abbrev pub side_classes : List Bool → List Bool → List Bool → List Bool → Bool → List Class
+side_classes plus minus plus_sides minus_sides turn =
+    map (λ s. class_by (flag plus s) (flag minus s)
+    (differ turn (between plus_sides minus_sides s))) (range_with_len 0 (length plus))
+
+-- the blocks and their sides are sets of states of one graph
+pub record AreOfOneSize (plus minus plus_sides minus_sides : List Bool) : Type 0 where
+  pub minus_size : length minus ≡ length plus
+  pub plus_sides_size : length plus_sides ≡ length plus
+  pub minus_sides_size : length minus_sides ≡ length plus
 
 -- a lawful partition whose Rising states are the one set and whose Falling states the other
 pub record IsPartitionOfBlocks (g : StateGraph) (plus minus : List Bool) (classes : List Class)

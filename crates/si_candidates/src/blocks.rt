@@ -5,7 +5,7 @@ ghost use Rattle.std.specs.List.{list_any};
 ghost use Rattle.si_base.specs.Graph.{IsGraph};
 ghost use Rattle.si_base.specs.Limits.{max_signals};
 ghost use Rattle.si_closures.specs.WordSearch.{column};
-ghost use Rattle.si_regions.specs.Regions.{AreRegions};
+ghost use Rattle.si_regions.specs.Regions.{AreComponents};
 ghost use Rattle.si_candidates.specs.Adding.{with_block, with_blocks, AddsAsked, AddsFirst};
 ghost use Rattle.si_candidates.specs.Adding.{AddsIntervals};
 ghost use Rattle.si_candidates.specs.Asked.{asked_for, asks_from, AreReady};
@@ -18,28 +18,28 @@ use si_base::ids::{Event, NoMemory, Sig, StateId};
 use si_base::sets::StateSet;
 use si_checks::proper::Proper;
 use si_closures::words::set_at;
-use si_regions::regions::Region;
+use si_regions::regions::Component;
 use std::alloc::Global;
 
 /// The most blocks of a graph.
 const MAX_BLOCKS: usize = 1024;
 
-/// The blocks of the graph, of which these are the regions: the excitation regions, the switching
-/// regions, then for each region and each event that the circuit drives the interval from the
-/// switching region up to the event. Each set stands once, and of these the first 1,024. It fails
-/// only where memory runs out.
+/// The blocks of the graph, of which these are the regions without their quiescent parts: the
+/// excitation regions, the switching regions, then for each region and each event that the circuit
+/// drives the interval from the switching region up to the event. Each set stands once, and of
+/// these the first 1,024. It fails only where memory runs out.
 pub fn blocks(
     alloc: Global,
     graph: &Proper,
-    regions: &Vec<Region>,
+    components: &Vec<Component>,
 ) -> Result<Vec<StateSet>, NoMemory>
-    requires { AreRegions graph.now regions.now.items }
+    requires { AreComponents graph.now components.now.items }
     ensures { IfOk result (λ blocks. AreBlocks graph.now blocks.items) }
 {
     let mut found: Vec<Block> = Vec::new(alloc);
-    add_excited(alloc, graph, regions.as_slice(), &mut found)?;
-    add_switched(alloc, graph, regions.as_slice(), &mut found)?;
-    add_intervals(alloc, graph, regions.as_slice(), &mut found)?;
+    add_excited(alloc, graph, components.as_slice(), &mut found)?;
+    add_switched(alloc, graph, components.as_slice(), &mut found)?;
+    add_intervals(alloc, graph, components.as_slice(), &mut found)?;
     let sets = sets_of(alloc, found)?;
     Ok(sets)
 }
@@ -48,16 +48,16 @@ pub fn blocks(
 fn add_excited(
     alloc: Global,
     graph: &Proper,
-    regions: &[Region],
+    components: &[Component],
     found: &mut Vec<Block>,
 ) -> Result<(), NoMemory>
-    requires { AreRegions graph.now regions.now }
+    requires { AreComponents graph.now components.now }
     ensures { OnOk result (found.new.items ≡ with_blocks found.old.items
-        (map (λ r. state_set graph.now.graph.states r.er) regions.now)) }
+        (map (λ x. state_set graph.now.graph.states x.er) components.now)) }
 {
     let g = graph.coded().graph();
-    for r in regions {
-        add_states(alloc, g.states(), r.er.as_slice(), found)?;
+    for component in components {
+        add_states(alloc, g.states(), component.er.as_slice(), found)?;
     }
     Ok(())
 }
@@ -66,16 +66,16 @@ fn add_excited(
 fn add_switched(
     alloc: Global,
     graph: &Proper,
-    regions: &[Region],
+    components: &[Component],
     found: &mut Vec<Block>,
 ) -> Result<(), NoMemory>
-    requires { AreRegions graph.now regions.now }
+    requires { AreComponents graph.now components.now }
     ensures { OnOk result (found.new.items ≡ with_blocks found.old.items
-        (map (λ r. state_set graph.now.graph.states r.sr) regions.now)) }
+        (map (λ x. state_set graph.now.graph.states x.sr) components.now)) }
 {
     let g = graph.coded().graph();
-    for r in regions {
-        add_states(alloc, g.states(), r.sr.as_slice(), found)?;
+    for component in components {
+        add_states(alloc, g.states(), component.sr.as_slice(), found)?;
     }
     Ok(())
 }
@@ -84,21 +84,21 @@ fn add_switched(
 fn add_intervals(
     alloc: Global,
     graph: &Proper,
-    regions: &[Region],
+    components: &[Component],
     found: &mut Vec<Block>,
 ) -> Result<(), NoMemory>
-    requires { AreRegions graph.now regions.now }
+    requires { AreComponents graph.now components.now }
     ensures { OnOk result (AddsIntervals graph.now.graph
-        (driven_events 0 graph.now.graph.signals) regions.now found.old.items found.new.items) }
+        (driven_events 0 graph.now.graph.signals) components.now found.old.items found.new.items) }
 {
     let g = graph.coded().graph();
     let stops = circuit_events(alloc, g.signals())?;
     let mut asked = Asked::new(alloc, g.states())?;
-    for r in regions {
+    for component in components {
         ask(
             alloc,
             graph,
-            r.sr.as_slice(),
+            component.sr.as_slice(),
             stops.as_slice(),
             &mut asked,
             found,

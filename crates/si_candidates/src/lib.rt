@@ -3,6 +3,7 @@
 
 pub mod block;
 pub mod blocks;
+pub mod by_sides;
 pub mod classes;
 pub mod interval;
 mod intervals;

@@ -91,10 +91,12 @@ fn put_set(words: &mut [u128], k: u32, set: &StateSet)
     ensures each { (j s : ℕ) → HasBit words.new j s
         ↔ (HasBit words.old j s ⊎ ((j ≡ k) × IsIn set.now s)) }
 {
-    for s in 0..set.size() {
-        if set.has(StateId(s)) {
-            words[s as usize] |= 1 << k;
-        }
+    // The size is a word of 32 bits, and so is each state after one of the set.
+    let _size = set.size();
+    let mut at = 0;
+    while let Some(s) = set.first_from(StateId(at)) {
+        words[s.0 as usize] |= 1 << k;
+        at = s.0 + 1;
     }
 }
 

@@ -6,7 +6,7 @@ use si_base::sets::StateSet;
 use si_candidates::blocks::blocks;
 use si_candidates::interval::interval;
 use si_checks::proper::Proper;
-use si_regions::regions::regions;
+use si_regions::regions::components;
 use std::alloc::Global;
 use std::process::Abort;
 use std::test::Fail;
@@ -29,9 +29,9 @@ fn spell(text: &mut Vec<u8>, set: &StateSet) -> Result<(), NoMemory> {
 
 /// The blocks of a graph, in order.
 fn spelled_blocks(alloc: Global, graph: &Proper) -> Result<Vec<u8>, NoMemory> {
-    let regions = regions(alloc, graph.coded())?;
+    let components = components(alloc, graph.coded())?;
     let mut text = Vec::new(alloc);
-    for set in &blocks(alloc, graph, &regions)? {
+    for set in &blocks(alloc, graph, &components)? {
         spell(&mut text, set)?;
     }
     Ok(text)

@@ -14,7 +14,7 @@ use Rattle.si_base.proofs.GraphSteps.{all_arcs}
 use Rattle.si_regions.specs.declared.regions.Region.{Region}
 use Rattle.si_regions.specs.Connected.{Adjoins, IsComponent}
 use Rattle.si_regions.specs.Regions.{Enables, IsSetOf, IsEntered, IsQuiet, WalkThrough, IsReachedThrough, IsRegion}
-use Rattle.si_regions.specs.Regions.{opposite, region_place}
+use Rattle.si_regions.specs.Regions.{IsRegionComponent, component_of, opposite, region_place}
 use Rattle.si_regions.proofs.StateLists.{contains_only, only_in}
 
 abbrev pulses : CodedGraph
@@ -119,3 +119,10 @@ quiescent = record {
 
 is_region : IsRegion pulses first
 is_region = record { excited = excited; switched = switched; quiescent = quiescent }
+
+-- ---- the region without its quiescent part
+only_excited_and_entered : component_of first ≡ record { event = rise 0; er = 0 ∷ []; sr = 1 ∷ [] }
+only_excited_and_entered = refl
+
+is_component : IsRegionComponent pulses (record { event = rise 0; er = 0 ∷ []; sr = 1 ∷ [] })
+is_component = (first, is_region, refl)

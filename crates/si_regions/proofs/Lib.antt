@@ -6,3 +6,4 @@ pub mod ComponentLemmas
 pub mod RegionLemmas
 pub mod SetsExist
 pub mod RegionsExist
+pub mod RegionComponents

@@ -12,6 +12,7 @@ use Rattle.si_base.proofs.GraphSteps.{same_event-true, same_event-refl}
 use Rattle.si_graph.specs.declared.closure.Along.TheVariants.{Out, Both}
 use Rattle.si_graph.specs.Reach.{IsIn}
 use Rattle.si_regions.specs.declared.regions.Region.{Region}
+use Rattle.si_regions.specs.Connected.{IsComponent}
 use Rattle.si_regions.specs.Regions.{Enables, IsSetOf, IsEntered, IsQuiet, IsRegion, AreRegions, opposite}
 use Rattle.si_regions.specs.Searching.{AreMarksOf, RegionsTo}
 use Rattle.si_regions.proofs.SetsExist.{Decided, both, same_bit, some_of, listed, some_set, some_marks, some_reached}
@@ -69,6 +70,20 @@ module _ (c : CodedGraph) (coded : IsCoded c) (e : Event) where
   entered from = some_set c.graph (IsEntered c.graph from e) (entered_or_not from)
       (λ t (s, there, step). (step_within c.graph s e t coded.graph_is step).2)
 
+  -- a component with what the event enters from it is that of a region
+  pub some_rest : (er sr : List ℕ) → IsComponent c.graph (Enables c.graph e) er → IsSetOf (IsEntered c.graph er e) sr
+      → (qr : List ℕ) × IsRegion c (record { event = e; er = er; sr = sr; qr = qr })
+  some_rest er sr excited switched =
+      let qr = some_reached c.graph Out resting.0 sr resting.1.size in (
+        qr.0,
+        record {
+          excited = excited;
+          switched = switched;
+          quiescent = is_rest c e resting.0 sr qr.0 coded.graph_is resting.1 qr.1
+              (λ t there. entered_within c.graph er e sr t coded.graph_is switched there);
+        },
+      )
+
   pub some_region : (s : ℕ) → IsTrue (enables c.graph s e)
       → (r : Region) × (r.event ≡ e) × IsRegion c r × Contains r.er s
   some_region s on =
@@ -76,15 +91,11 @@ module _ (c : CodedGraph) (coded : IsCoded c) (e : Event) where
       let here = (marks.exactly s).1 on in
       let er = some_reached c.graph Both enabling.0 (s ∷ []) marks.size in
       let sr = entered er.0 in
-      let qr = some_reached c.graph Out resting.0 sr.0 resting.1.size in (
-        record { event = e; er = er.0; sr = sr.0; qr = qr.0 },
+      let excited = is_component c.graph e enabling.0 s er.0 marks here er.1 in
+      let rest = some_rest er.0 sr.0 excited sr.1 in (
+        record { event = e; er = er.0; sr = sr.0; qr = rest.0 },
         refl,
-        record {
-          excited = is_component c.graph e enabling.0 s er.0 marks here er.1;
-          switched = sr.1;
-          quiescent = is_rest c e resting.0 sr.0 qr.0 coded.graph_is resting.1 qr.1
-              (λ t there. entered_within c.graph er.0 e sr.0 t coded.graph_is sr.1 there);
-        },
+        rest.1,
         er_has c.graph e enabling.0 s er.0 marks here er.1,
       )
 

@@ -1,6 +1,7 @@
 -- (field) Excitation, switching and quiescent regions of events. Source: the book, on excitation
 -- and quiescent regions.
-use Rattle.std.specs.Prelude.{◌≡◌, ℕ, ◌↔◌, not, false, List, [], ◌∷◌, Contains, AllPairs, IsTrue}
+use Rattle.std.specs.Prelude.{◌≡◌, ℕ, ◌↔◌, not, false, List, [], ◌∷◌, map, Contains, AllPairs}
+use Rattle.std.specs.Prelude.{IsTrue}
 use Rattle.std.specs.List.Sorted.{IsStrictlySortedBy}
 use Rattle.std.specs.Ordering.{nat_cmp}
 use Rattle.si_base.specs.declared.ids.Event.{Event}
@@ -8,6 +9,7 @@ use Rattle.si_base.specs.Bits.{bit}
 use Rattle.si_base.specs.Order.{Before}
 use Rattle.si_base.specs.Graph.{StateGraph, Step, enables, event_place}
 use Rattle.si_base.specs.Codes.{CodedGraph, code}
+use Rattle.si_regions.specs.declared.regions.Component.{Component}
 use Rattle.si_regions.specs.declared.regions.Region.{Region}
 use Rattle.si_regions.specs.Connected.{IsComponent}
 
@@ -46,8 +48,7 @@ pub record IsReachedThrough (g : StateGraph) (P : ℕ → Type 0) (set : List �
   pub walk : WalkThrough g P begin events t
 
 -- a component of the states that enable the event, the states that the event enters from it, and
--- where its signal then
--- rests: the walks begin in entered states that are themselves quiet
+-- where its signal then rests: the walks begin in entered states that are themselves quiet
 pub record IsRegion (c : CodedGraph) (r : Region) : Type 0 where
   pub excited : IsComponent c.graph (Enables c.graph r.event) r.er
   pub switched : IsSetOf (IsEntered c.graph r.er r.event) r.sr
@@ -68,3 +69,17 @@ pub record AreRegions (c : CodedGraph) (regions : List Region) : Type 0 where
   pub all : (s : ℕ) (e : Event) → IsTrue (enables c.graph s e)
       → (r : Region) × Contains regions r × (r.event ≡ e) × Contains r.er s
   pub in_order : AllPairs (λ x y. Before (region_place x) (region_place y)) regions
+
+-- ---- regions without their quiescent parts
+abbrev pub component_of : Region → Component
+component_of r = record { event = r.event; er = r.er; sr = r.sr }
+
+-- some region has these excited and these entered states
+abbrev pub IsRegionComponent : CodedGraph → Component → Type 0
+IsRegionComponent c x = (r : Region) × IsRegion c r × (component_of r ≡ x)
+
+-- all regions of c in order, without their quiescent parts
+pub record AreComponents (c : CodedGraph) (components : List Component) : Type 0 where
+  pub regions : List Region
+  pub are : AreRegions c regions
+  pub components_are : components ≡ map component_of regions

@@ -1,5 +1,6 @@
 -- (loop) What a search for regions reaches, and how far the regions are found.
-use Rattle.std.specs.Prelude.{◌≡◌, ℕ, ◌↔◌, Bool, List, [], ◌∷◌, length, Contains, AllPairs, IsTrue}
+use Rattle.std.specs.Prelude.{◌≡◌, ℕ, ◌<◌, ◌↔◌, Bool, List, [], ◌∷◌, length, map, Contains}
+use Rattle.std.specs.Prelude.{AllPairs, IsTrue, Some}
 use Rattle.si_base.specs.declared.ids.Event.{Event}
 use Rattle.si_base.specs.Order.{Before}
 use Rattle.si_base.specs.Graph.{StateGraph, enables, event_place}
@@ -8,8 +9,10 @@ use Rattle.si_graph.specs.declared.closure.Along.{Along}
 use Rattle.si_graph.specs.Closure.{IsNext, IsReachedBy}
 use Rattle.si_graph.specs.Reach.{IsIn}
 use Rattle.si_graph.specs.Search.{Progress}
+use Rattle.si_regions.specs.declared.regions.Component.{Component}
 use Rattle.si_regions.specs.declared.regions.Region.{Region}
-use Rattle.si_regions.specs.Regions.{IsRegion, region_place}
+use Rattle.si_regions.specs.declared.regions.Rests.{Rests}
+use Rattle.si_regions.specs.Regions.{IsQuiet, IsRegion, component_of, region_place}
 
 -- the marks are those of the states of g that have P
 pub record AreMarksOf (g : StateGraph) (P : ℕ → Type 0) (marks : List Bool) : Type 0 where
@@ -38,3 +41,17 @@ pub record RegionsTo (c : CodedGraph) (k s : ℕ) (regions : List Region) : Type
       → Before (event_place e ∷ t ∷ []) (k ∷ s ∷ [])
       → (r : Region) × Contains regions r × (r.event ≡ e) × Contains r.er t
   pub in_order : AllPairs (λ x y. Before (region_place x) (region_place y)) regions
+
+-- the same regions without their quiescent parts
+pub record ComponentsTo (c : CodedGraph) (k s : ℕ) (components : List Component) : Type 0 where
+  pub regions : List Region
+  pub to : RegionsTo c k s regions
+  pub components_are : components ≡ map component_of regions
+
+-- the states in which the signal rests after the event
+abbrev pub AreRestsAfter : CodedGraph → Event → List Bool → Type 0
+AreRestsAfter c e states = AreMarksOf c.graph (λ t. (t < c.graph.states) × IsQuiet c e t) states
+
+-- those after the event at hand, if there is one
+abbrev pub AreRests : CodedGraph → Rests → Type 0
+AreRests c rests = (e : Event) → rests.after ≡ Some e → AreRestsAfter c e rests.states

@@ -1,11 +1,9 @@
 -- Worked examples: the order of choices, the number that the next candidate has to get below, how
--- blocks lie to conflicts, the classes that their sides tell, and the crowds that blocks share.
+-- blocks lie to conflicts, and the crowds that blocks share.
 use Rattle.std.proofs.Common.{◌≡◌, ℕ, Bool, true, false, List, [], ◌∷◌, Some, None, refl, inl, inr, lit<, lit≤}
 use Rattle.si_base.specs.Order.{Before}
-use Rattle.si_insert.specs.declared.partition.Class.TheVariants.{Low, Rising, High, Falling}
 use Rattle.si_resolve.specs.declared.aspects.Aspect.TheVariants.{Together, Apart, Touched}
 use Rattle.si_resolve.specs.Aspects.{aspect_of, part, unparted_count}
-use Rattle.si_resolve.specs.SideClasses.{side_classes}
 use Rattle.si_resolve.specs.Best.{Choice, choice_place}
 use Rattle.si_resolve.specs.Search.{bar}
 use Rattle.si_resolve.specs.Sharing.{ShareCrowd}
@@ -55,10 +53,6 @@ together = refl
 
 parted : part Apart Together ≡ true
 parted = refl
-
--- it is Low at the start, and High between the two blocks
-classes_told : side_classes second fourth sides_of_second sides_of_fourth false ≡ Low ∷ Rising ∷ High ∷ Falling ∷ []
-classes_told = refl
 
 -- it has both values at s1, which no other state is parted from
 touched : aspect_of second sides_of_second (1, 2) ≡ Touched

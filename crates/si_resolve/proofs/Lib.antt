@@ -7,7 +7,6 @@ pub mod EndsExist
 pub mod BlockSizes
 pub mod BlockListLemmas
 pub mod AspectLemmas
-pub mod SideClassLemmas
 pub mod SearchLemmas
 pub mod BestLemmas
 pub mod ResolveLemmas

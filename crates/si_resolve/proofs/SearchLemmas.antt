@@ -13,13 +13,11 @@ use Rattle.si_base.proofs.GivenGraphUnique.{contains_from_in}
 use Rattle.si_graph.proofs.SearchLemmas.{in_below}
 use Rattle.si_insert.specs.declared.partition.Class.{Class}
 use Rattle.si_insert.specs.Partition.{IsLawful}
-use Rattle.si_candidates.specs.Sides.{AreSides, IsPartitionOfBlocks, between}
+use Rattle.si_candidates.specs.Sides.{AreSided, AreSides, IsPartitionOfBlocks, between}
 use Rattle.si_candidates.proofs.SideLemmas.{class_is}
 use Rattle.si_candidates.specs.Blocks.{AreBlocks, block_at}
-use Rattle.si_candidates.specs.declared.classes.ClassFault.{ClassFault}
-use Rattle.si_candidates.specs.declared.classes.ClassFault.TheVariants.{NoClasses}
-use Rattle.si_candidates.specs.Parts.{AreClasses, ShowsNoClasses}
-use Rattle.si_candidates.proofs.PartLaws.{classes_lawful, classes_unique, torn_have_none}
+use Rattle.si_candidates.specs.Parts.{AreClasses}
+use Rattle.si_candidates.proofs.PartLaws.{classes_lawful, classes_unique}
 use Rattle.si_conflicts.specs.declared.crowds.Crowd.{Crowd}
 use Rattle.si_conflicts.specs.declared.members.Member.{Member}
 use Rattle.si_conflicts.specs.Chains.{AreChains, Chains}
@@ -37,7 +35,7 @@ use Rattle.si_resolve.specs.declared.aspects.Aspect.{Aspect}
 use Rattle.si_resolve.specs.declared.block_list.BlockList.{BlockList}
 use Rattle.si_resolve.specs.Aspects.{HaveAspects, aspect_of, column_at, unparted_count}
 use Rattle.si_resolve.specs.Sharing.{ShareCrowd, crowd_at}
-use Rattle.si_resolve.specs.Usable.{IsUsable, AreSearched, AreUsable, AreSided, HaveSides}
+use Rattle.si_resolve.specs.Usable.{IsUsable, AreSearched, AreUsable, HaveSides}
 use Rattle.si_resolve.specs.Progress.{found_of, best_of, IsSearching, IsFound, bar_of, MayBeAccepted, LeavesBelow}
 use Rattle.si_resolve.specs.Progress.{LeavesNoneBelow, NoneIsBelow}
 use Rattle.si_candidates.proofs.BlockingLemmas.{accepted_by_blocks}
@@ -55,12 +53,6 @@ lawful_classes g plus minus classes graph plus_size minus_size r f are =
     let r_in = in_below plus r.0 r.1 in
     let f_in = in_below minus f.0 f.1 in
     classes_lawful g plus minus classes r.0 f.0 graph are r.1 (omega (arith, r_in)) f.1 (omega (arith, f_in))
-
-pub torn_leave_none : (c : CodedGraph) (plus minus : List Bool) (low : ℕ) (fault : ClassFault) (s : ℕ)
-    → fault ≡ NoClasses s → ShowsNoClasses c.graph plus minus fault → LeavesNoneBelow c plus minus low
-torn_leave_none c plus minus low fault s is shows classes n are leaves =
-    let first = subst (ShowsNoClasses c.graph plus minus) is shows in
-    absurd (torn_have_none c.graph plus minus classes s are first.holds)
 
 pub one_leaves_none : (c : CodedGraph) (plus minus : List Bool) (classes : List Class) (low : ℕ) → IsCoded c
     → length plus ≡ c.graph.states → length minus ≡ c.graph.states

@@ -1,7 +1,6 @@
 pub mod Best
 pub mod Search
 pub mod Aspects
-pub mod SideClasses
 pub mod Sharing
 pub mod Usable
 pub mod Progress

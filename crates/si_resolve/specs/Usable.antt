@@ -39,13 +39,6 @@ pub record HaveSides (g : StateGraph) (blocks : List (List Bool)) (usable : List
   pub each : (k : ℕ) → k < length blocks → slice_index_or usable k false ≡ true
       → AreSides g tree (block_at blocks k) (block_at sides k)
 
--- these are the sides of two blocks, along one tree of arcs
-pub record AreSided (g : StateGraph) (plus minus plus_sides minus_sides : List Bool) : Type 0 where
-  pub tree : List Link
-  pub is_tree : IsTree g tree
-  pub plus_are : AreSides g tree plus plus_sides
-  pub minus_are : AreSides g tree minus minus_sides
-
 -- c is a proper graph with room for one more signal, and the list has its blocks, their sides, how
 -- they lie to the first conflicts, and crowds with states in them
 pub record AreSearched (c : CodedGraph) (list : BlockList) : Type 0 where

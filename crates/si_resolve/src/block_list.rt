@@ -25,7 +25,7 @@ use si_checks::proper::Proper;
 use si_conflicts::chains::CodeChains;
 use si_conflicts::conflicts::{Pair, conflicts as first_conflicts};
 use si_conflicts::crowds::{Crowd, crowd_in};
-use si_regions::regions::regions;
+use si_regions::regions::components;
 use std::alloc::Global;
 
 /// The blocks of a graph, and for each whether it has a state and a new signal may switch in it: no
@@ -141,8 +141,8 @@ pub(crate) fn block_list(
 fn all_blocks(alloc: Global, graph: &Proper) -> Result<Vec<Block>, NoMemory>
     ensures { IfOk result (λ list. AreBlocks graph.now list.items) }
 {
-    let regions = regions(alloc, graph.coded())?;
-    let sets = blocks(alloc, graph, &regions)?;
+    let components = components(alloc, graph.coded())?;
+    let sets = blocks(alloc, graph, &components)?;
     let mut list = Vec::new(alloc);
     for set in sets {
         list.push(Block::of(alloc, &set)?)?;

@@ -5,10 +5,11 @@ ghost use Rattle.std.specs.Prelude.{IfNone, OnOk, IsTrue, length, count_by};
 ghost use Rattle.si_base.specs.Codes.{CodedGraph, IsCoded};
 ghost use Rattle.si_base.specs.Sets.{IsIn};
 ghost use Rattle.si_candidates.specs.Blocks.{AreDisjoint, block_at};
+ghost use Rattle.si_candidates.specs.Sides.{AreSided};
 ghost use Rattle.si_conflicts.specs.Chains.{AreChains};
 ghost use Rattle.si_conflicts.specs.Conflicts.{HasConflicts};
 ghost use Rattle.si_resolve.specs.Best.{NoneImproves};
-ghost use Rattle.si_resolve.specs.Usable.{IsUsable, AreSearched, AreSided};
+ghost use Rattle.si_resolve.specs.Usable.{IsUsable, AreSearched};
 ghost use Rattle.si_resolve.specs.Progress.{IsSearching, IsFound, MayBeAccepted, LeavesBelow};
 ghost use Rattle.si_resolve.specs.Progress.{LeavesNoneBelow, NoneIsBelow, bar_of};
 
@@ -18,7 +19,7 @@ use si_base::ids::NoMemory;
 use si_base::limits::MAX_STATES;
 use si_base::sets::StateSet;
 use si_candidates::block::Block;
-use si_candidates::classes::{ClassFault, classes};
+use si_candidates::by_sides::classes_by_sides;
 use si_checks::proper::Proper;
 use si_conflicts::chains::CodeChains;
 use std::alloc::Global;
@@ -225,10 +226,16 @@ impl Search {
         if !self.may_leave_fewer(graph, plus, minus, plus_sides, minus_sides) {
             return Ok(None);
         }
-        let partition = match classes(alloc, graph, plus.set(), minus.set()) {
-            Ok(partition) => partition,
-            Err(ClassFault::NoMemory) => return Err(NoMemory),
-            Err(ClassFault::NoClasses { .. }) => return Ok(None),
+        let by_sides = classes_by_sides(
+            alloc,
+            graph,
+            plus.set(),
+            minus.set(),
+            plus_sides,
+            minus_sides,
+        )?;
+        let Some(partition) = by_sides else {
+            return Ok(None);
         };
         let classes = partition.classes();
         let left = self.chains.trial_below(alloc, graph, classes, bar)?;

@@ -4,11 +4,11 @@ use Rattle.si_candidates.specs.Asked.{asked_for, asks_of, AreReady}
 use Rattle.si_candidates.specs.Blocks.{driven_events}
 use Rattle.si_candidates.proofs.blocks.add_intervals.Given as goal
 
-abbrev pub invariant-loop-r : goal.invariant-loop-r
-invariant-loop-r l = record {
+abbrev pub invariant-loop-component : goal.invariant-loop-component
+invariant-loop-component l = record {
   ready : AreReady l.graph.graph.states l.asked.seeds.items l.asked.stops.items;
   known : All (λ e. e.sig < length l.graph.graph.signals) l.asked.stops.items;
   adds : AddsFirst l.graph.graph
-      (asks_of l.graph.graph.states (driven_events 0 l.graph.graph.signals) (take l.r-index l.regions)) []
+      (asks_of l.graph.graph.states (driven_events 0 l.graph.graph.signals) (take l.component-index l.components)) []
       l.fn.found.items (asked_for l.asked.seeds.items l.asked.stops.items) l.found.items;
 }

@@ -3,6 +3,7 @@ use Rattle.si_candidates.specs.Adding.{with_blocks}
 use Rattle.si_candidates.specs.Blocks.{state_set}
 use Rattle.si_candidates.proofs.blocks.add_switched.Given as goal
 
-abbrev pub invariant-loop-r : goal.invariant-loop-r
-invariant-loop-r l = l.found.items
-    ≡ with_blocks l.fn.found.items (map (λ r. state_set l.graph.graph.states r.sr) (take l.r-index l.regions))
+abbrev pub invariant-loop-component : goal.invariant-loop-component
+invariant-loop-component l = l.found.items
+    ≡ with_blocks l.fn.found.items
+    (map (λ x. state_set l.graph.graph.states x.sr) (take l.component-index l.components))

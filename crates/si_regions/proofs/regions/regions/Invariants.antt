@@ -1,9 +1,12 @@
-use Rattle.std.proofs.Common.{◌*◌}
-use Rattle.si_regions.specs.Searching.{IsIdle, RegionsTo}
+use Rattle.std.proofs.Common.{◌≡◌, All, map}
+use Rattle.si_regions.specs.Regions.{IsRegion, component_of}
+use Rattle.si_regions.specs.Searching.{AreRests, IsIdle}
 use Rattle.si_regions.proofs.regions.regions.Given as goal
 
-abbrev pub invariant-loop-z : goal.invariant-loop-z
-invariant-loop-z l = record {
+abbrev pub invariant-loop-component : goal.invariant-loop-component
+invariant-loop-component l = record {
   idle : IsIdle l.graph.graph.states l.search;
-  to : RegionsTo l.graph (2 * l.z) 0 l.out.items;
+  rests : AreRests l.graph l.rests;
+  each : All (IsRegion l.graph) l.out.items;
+  components_are : map component_of l.out.items ≡ l.yielded;
 }

@@ -2,8 +2,8 @@ use Rattle.std.proofs.Common.{◌∙◌, List, sym, ap, ap₂, arith}
 use Rattle.si_insert.specs.declared.partition.Class.{Class}
 use Rattle.si_insert.specs.Partition.{class_of}
 use Rattle.si_candidates.specs.Sides.{class_by, differ, flag}
-use Rattle.si_resolve.proofs.SideClassLemmas.{class_at, state_within}
-use Rattle.si_resolve.proofs.by_sides.BySidesClasses.class.Goals as goal
+use Rattle.si_candidates.proofs.SideClassLemmas.{class_at, state_within}
+use Rattle.si_candidates.proofs.by_sides.SideClasses.class.Goals as goal
 
 pub is_between-requires-clause-plus : goal.is_between-requires-clause-plus
 is_between-requires-clause-plus c =

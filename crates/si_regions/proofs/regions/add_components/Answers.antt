@@ -1,14 +1,15 @@
 use Rattle.std.proofs.Common.{◌≡◌, ℕ, ◌≤◌, ◌++◌, ◌∷◌, ◌∙◌, List, [], Bool, get_or, true, false, IsTrue, arith, ap, sym}
-use Rattle.std.proofs.Common.{refl}
+use Rattle.std.proofs.Common.{Contains, refl, subst}
 use Rattle.std.proofs.lemmas.Bool.{true≢false}
 use Rattle.std.proofs.lemmas.List.{length-replicate}
-use Rattle.si_base.specs.Graph.{StateGraph, enables, event_place}
+use Rattle.si_base.specs.Graph.{StateGraph, enables}
 use Rattle.si_graph.specs.Reach.{IsIn}
-use Rattle.si_regions.proofs.RegionLemmas.{done_none, regions_pass, regions_more, done_more, regions_event}
 use Rattle.si_regions.proofs.RegionLemmas.{enables_within}
+use Rattle.si_regions.proofs.RegionComponents.{found_none, found_pass, found_more, found_event}
+use Rattle.si_regions.specs.declared.regions.Component.{Component}
 use Rattle.si_regions.proofs.StateLists.{all_below}
-use Rattle.si_regions.proofs.regions.add_regions.Goals as goal
-use Rattle.si_regions.proofs.regions.add_regions.Goals.{then-is_new+in_ok-region+in_ok-push, else-is_new}
+use Rattle.si_regions.proofs.regions.add_components.Goals as goal
+use Rattle.si_regions.proofs.regions.add_components.Goals.{then-is_new+in_ok-component+in_ok-push, else-is_new}
 
 -- what isn't new stands already
 in_or : (b : Bool) (done : List Bool) (k : ℕ) → b ≡ false → ((IsIn done k → ⊥) → b ≡ true) → IsIn done k
@@ -25,17 +26,17 @@ loop-k-init c =
     rw c.in_ok-done.ensures (record {
       size = length-replicate c.states.result false ∙ states;
       idle = c.requires.idle;
-      done = done_none d c.args.e.now c.states.result c.args.out.now.items c.requires.before;
-      to = c.requires.before;
+      found = found_none d c.args.e.now c.states.result c.args.out.now.items c.requires.before;
     })
 
 pub add_all-requires : goal.add_all-requires
 add_all-requires c =
-    let r = c.in_ok-region.region in
+    let x = c.in_ok-component.component in
     let d = c.args.coded.now in
-    all_below c.as_slice.result.now r.er _ c.as_slice.ensures.states (λ t there. rw c.loop-k.invariant.size
+    let (r, is, same) = c.in_ok-component.ensures.component in
+    all_below c.as_slice.result.now x.er _ c.as_slice.ensures.states (λ t there. rw c.loop-k.invariant.size
     (enables_within d.graph t r.event c.graph-g.ensures.coded.graph_is
-    (c.in_ok-region.ensures.region.excited.members t there)))
+    (is.excited.members t (subst (λ (y : Component). Contains y.er t) (sym same) there))))
 
 pub loop-k-preserved : goal.loop-k-preserved
 loop-k-preserved c =
@@ -45,18 +46,18 @@ loop-k-preserved c =
     let x = c.loop-k.invariant in
     let enabling = c.in_ok-enabling.ensures in
     elim c.if-is_new.branch [
-      | then-is_new+in_ok-region+in_ok-push w ↦ (
-          let r = w.in_ok-region.region in
-          let new = c.is_new.ensures.0 w.if-is_new.true in
-          let is = w.in_ok-region.ensures in
-          let out : c.if-is_new.out.items ≡ c.loop-k.out.items ++ r ∷ [] =
+      | then-is_new+in_ok-component+in_ok-push w ↦ (
+          let new = w.in_ok-component.component in
+          let fresh = c.is_new.ensures.0 w.if-is_new.true in
+          let is = w.in_ok-component.ensures in
+          let out : c.if-is_new.out.items ≡ c.loop-k.out.items ++ new ∷ [] =
           ap (λ v. v.items) w.out-is ∙ w.in_ok-push.ensures.items in
           let grown = rw w.as_slice.ensures.states at w.add_all.ensures.exactly in
           rw (out, w.done-is, w.search-is) (record {
             size = w.add_all.ensures.size ∙ x.size;
             idle = is.idle;
-            done = done_more e c.loop-k.out.items c.loop-k.done w.add_all.new.set r is.event grown x.done;
-            to = regions_more d e k c.loop-k.out.items c.loop-k.done r x.done new.1 is.region is.event is.has x.to;
+            found = found_more d e k c.loop-k.out.items c.loop-k.done x.found w.add_all.new.set new is.component
+                is.event is.has fresh.1 grown;
           }))
       | else-is_new w ↦ (
           let old = ap (λ v. v.items) w.out-is in
@@ -66,8 +67,7 @@ loop-k-preserved c =
           rw (old, w.done-is, w.search-is) (record {
             size = x.size;
             idle = x.idle;
-            done = x.done;
-            to = regions_pass d e k c.loop-k.out.items c.loop-k.done x.done stands x.to;
+            found = found_pass d e k c.loop-k.out.items c.loop-k.done x.found stands;
           }))
     ]
 
@@ -76,5 +76,5 @@ returns-clause-after c =
     let d = c.args.coded.now in
     let states = c.states-k-end.ensures ∙ ap (λ (h : StateGraph). h.states) c.graph-g.ensures.same in
     let all : d.graph.states ≤ c.loop-k.k = omega (arith, c.loop-k-test.false, states) in
-    regions_event d (event_place c.args.e.now) c.loop-k.k c.loop-k.out.items all
-    (λ t f on. enables_within d.graph t f c.graph-g.ensures.coded.graph_is on) c.loop-k.invariant.to
+    found_event d c.args.e.now c.loop-k.k c.loop-k.out.items c.loop-k.done c.loop-k.invariant.found
+    c.graph-g.ensures.coded.graph_is all
