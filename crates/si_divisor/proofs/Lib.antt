@@ -7,6 +7,7 @@ pub mod DivisorChoices
 mod DivisorExamples
 mod FunctionExamples
 mod ManyFunctionExamples
+mod ManySwitchingExamples
 pub mod TargetSets
 pub mod ClassCases
 pub mod SwitchingRules
