@@ -7,13 +7,17 @@ pub mod DivisorChoices
 mod DivisorExamples
 mod FunctionExamples
 mod ManyFunctionExamples
+mod ManySwitchingExamples
 pub mod TargetSets
 pub mod ClassCases
 pub mod SwitchingRules
 pub mod PartitionLemmas
 pub mod OnePartitionFor
-pub mod WorkListLemmas
-pub mod SwitchingTurns
+pub mod SwitchRuleLemmas
+pub mod SettlingLemmas
+pub mod WordBits
+pub mod SwitchTurns
+pub mod SwitchLoops
 pub mod SameForced
 pub mod PartitionForAnswers
 pub mod FunctionLemmas

@@ -1,12 +1,12 @@
 -- Sets of states for many functions at once: what the bits of words say, one function beside another.
-use Rattle.std.proofs.Common.{◌≡◌, ◌≢◌, ℕ, ◌+◌, ◌-◌, ◌*◌, ◌%◌, ◌^◌, ◌<◌, ◌≤◌, ◌==◌, ◌&&◌, ◌||◌, min, not}
+use Rattle.std.proofs.Common.{◌≡◌, ◌≢◌, ℕ, ◌+◌, ◌-◌, ◌*◌, ◌%◌, ◌^◌, ◌<◌, ◌≤◌, ◌==◌, ◌&&◌, ◌||◌, not}
 use Rattle.std.proofs.Common.{Bool, true, false, List, [], ◌∷◌, ◌++◌, length, get_or}
-use Rattle.std.proofs.Common.{refl, sym, ap, ap₂, subst, ◌∙◌, arith, inl, inr, ◌⊎◌, ◌↔◌, bit_and, bit_or, bit_xor}
+use Rattle.std.proofs.Common.{refl, sym, ap, ap₂, subst, ◌∙◌, arith, inl, inr, ◌↔◌, bit_and, bit_or, bit_xor}
 use Rattle.std.proofs.lemmas.Bool.{cases_eq, cases_Bool, true≢false, and_parts, and_from}
 use Rattle.std.proofs.lemmas.List.{get_or_default, get_or_push, get_or_append_left, length-map, length_push}
 use Rattle.std.proofs.lemmas.Nat.{or_lt}
-use Rattle.std.proofs.lemmas.Nat.Bits.{bit_at_and, bit_at-lt, bit_at_not, bit_at_set_same, bit_at_set_other, bit_at_xor}
-use Rattle.std.specs.Int.{bit_at, w128}
+use Rattle.std.proofs.lemmas.Nat.Bits.{bit_at_set_same, bit_at_set_other}
+use Rattle.std.specs.Int.{w128}
 use Rattle.si_base.specs.declared.ids.Event.{Event}
 use Rattle.si_base.specs.Bits.{bit}
 use Rattle.si_base.specs.Codes.{CodedGraph, IsCoded}
@@ -16,57 +16,31 @@ use Rattle.si_graph.specs.Closure.{IsNext, IsClosure, PathBy}
 use Rattle.si_graph.specs.declared.closure.Along.TheVariants.{Out}
 use Rattle.si_graph.proofs.SearchLemmas.{in_below}
 use Rattle.si_graph.proofs.ValueLemmas.{bit-or, bit-zero}
-use Rattle.si_closures.specs.WordSearch.{column, Passes, IsNextBy, IsClosureBy}
+use Rattle.si_closures.specs.WordSearch.{column, HasBit, Passes, IsNextBy, IsClosureBy}
 use Rattle.si_closures.specs.Words.{HasAll}
 use Rattle.si_closures.proofs.WordLemmas.{full_bit, place_below}
 use Rattle.si_closures.proofs.WordSearchLemmas.{column-at, in_column}
 use Rattle.si_insert.specs.declared.partition.Class.{Class}
-use Rattle.si_insert.specs.Partition.{IsLawful}
+use Rattle.si_insert.specs.Partition.{class_of}
 use Rattle.si_divisor.specs.declared.function.Function.{Function}
 use Rattle.si_divisor.specs.declared.function_sets.FunctionSets.{FunctionSets}
 use Rattle.si_divisor.specs.Functions.{function_value}
-use Rattle.si_divisor.specs.ManyFunctions.{AreForcedWords, AreHeldWords, AreOpposed, AreSetsOf, AreFunctionSets}
-use Rattle.si_divisor.specs.PartitionFor.{IsPartitionFor, HasNone}
-use Rattle.si_divisor.specs.Targets.{IsLeast, Settles, AreForced, AreSettled, HaveTargets}
-use Rattle.si_divisor.specs.Targets.{forced_by, forced_in, holds}
-use Rattle.si_divisor.proofs.PartitionForAnswers.{none_carried, partition_carried, lawful_carried}
-use Rattle.si_divisor.proofs.SwitchingOutside.{none_without_targets}
-use Rattle.si_divisor.proofs.SwitchingTurns.{closure_settles}
+use Rattle.si_divisor.specs.ManyFunctions.{AreForcedWords, AreHeldWords, AreOpposed, AreClassesAt, AreSetsOf}
+use Rattle.si_divisor.specs.ManyFunctions.{AreFunctionSets}
+use Rattle.si_divisor.specs.ManySwitching.{AreSwitched}
+use Rattle.si_divisor.specs.PartitionFor.{IsPartitionFor, HasNone, HasSome, class_for}
+use Rattle.si_divisor.specs.Targets.{IsLeast, Settles, AreForced, AreSettled, HaveTargets, IsUnforced}
+use Rattle.si_divisor.specs.Targets.{SettlesAtBoth, forced_by, forced_in, holds, target}
+use Rattle.si_divisor.specs.Switching.{Switches}
+use Rattle.si_divisor.proofs.PartitionForAnswers.{AreClassesBy, are_sets, is_partition, none_carried}
+use Rattle.si_divisor.proofs.PartitionForAnswers.{partition_carried}
+use Rattle.si_divisor.proofs.SwitchRuleLemmas.{least_falls}
+use Rattle.si_divisor.proofs.SwitchingOutside.{none_without_targets, none_if_strays_up, none_if_strays_down}
+use Rattle.si_divisor.proofs.SwitchingOutside.{none_if_never_up, none_if_never_down, stays_within}
+use Rattle.si_divisor.proofs.SettlingLemmas.{closure_settles}
+use Rattle.si_divisor.proofs.WordBits.{not_is, xor_is, and_is, in_and, in_or}
 
 -- ---- bits
-below_two : (n : ℕ) → n < 2 → (n ≡ 0) ⊎ (n ≡ 1)
-below_two n h = grind arith
-
-both_bits : (x y : ℕ) → x < 2 → y < 2 → (min x y == 1) ≡ ((x == 1) && (y == 1))
-both_bits x y lx ly = elim (below_two x lx) [
-  | inl x0 ↦ elim (below_two y ly) [ inl y0 ↦ rw (x0, y0) refl | inr y1 ↦ rw (x0, y1) refl ]
-  | inr x1 ↦ elim (below_two y ly) [ inl y0 ↦ rw (x1, y0) refl | inr y1 ↦ rw (x1, y1) refl ]
-]
-
-and_is : (x y k : ℕ) → bit (bit_and x y) k ≡ (bit x k && bit y k)
-and_is x y k = rw (bit_at_and x y k) (both_bits (bit_at x k) (bit_at y k) (bit_at-lt x k) (bit_at-lt y k))
-
-one_bit : (x y : ℕ) → x < 2 → y < 2 → (((x + y) % 2 == 1) ≡ true) ↔ ((y == 1) ≡ not (x == 1))
-one_bit x y lx ly = elim (below_two x lx) [
-  | inl x0 ↦ elim (below_two y ly) [
-    | inl y0 ↦ rw (x0, y0) (λ h. h, λ h. h)
-    | inr y1 ↦ rw (x0, y1) (λ h. refl, λ h. refl)
-  ]
-  | inr x1 ↦ elim (below_two y ly) [
-    | inl y0 ↦ rw (x1, y0) (λ h. refl, λ h. refl)
-    | inr y1 ↦ rw (x1, y1) (λ h. sym h, λ h. sym h)
-  ]
-]
-
-xor_is : (x y k : ℕ) → (bit (bit_xor x y) k ≡ true) ↔ (bit y k ≡ not (bit x k))
-xor_is x y k = rw (bit_at_xor x y k) (one_bit (bit_at x k) (bit_at y k) (bit_at-lt x k) (bit_at-lt y k))
-
-other_bit : (x : ℕ) → x < 2 → (1 - x == 1) ≡ not (x == 1)
-other_bit x l = elim (below_two x l) [ inl zero ↦ rw zero refl | inr one ↦ rw one refl ]
-
-not_is : (x k : ℕ) → x < 2 ^ 128 → k < 128 → bit (2 ^ 128 - 1 - x) k ≡ not (bit x k)
-not_is x k fits few = ap (λ b. b == 1) (bit_at_not w128 x k fits few) ∙ other_bit (bit_at x k) (bit_at-lt x k)
-
 neither : (a b : Bool) → not (a || b) ≡ (not a && not b)
 neither true b = refl
 neither false b = refl
@@ -167,6 +141,40 @@ one_opposed ones zeros n all x y x_is y_is before k few = (
     zero_at : get_or (column k zeros) n false ≡ bit y k
     zero_at = column-at k zeros n ∙ ap (λ w. bit w k) (sym y_is)
 
+-- ---- the sets that have some state
+-- the bits say so of the first n states
+abbrev pub AreSomeTo : List ℕ → ℕ → ℕ → Type 0
+AreSomeTo words n found = (k : ℕ) → (bit found k ≡ true) ↔ ((s : ℕ) × (s < n) × HasBit words k s)
+
+pub none_found : (words : List ℕ) → AreSomeTo words 0 0
+none_found words k = (
+  λ h. absurd (true≢false (sym h ∙ bit-zero k)),
+  λ (s, early, has). absurd (omega (arith, early)),
+)
+
+pub one_found : (words : List ℕ) (n found w : ℕ) → w ≡ get_or words n 0 → AreSomeTo words n found
+    → AreSomeTo words (n + 1) (bit_or found w)
+one_found words n found w is before k = (
+  λ h. elim ((in_or found w k).0 h) [
+    | inl old ↦ (let x = (before k).0 old in (x.0, omega (arith, x.1), x.2))
+    | inr new ↦ (n, omega arith, ap (λ v. bit v k) (sym is) ∙ new)
+  ],
+  λ (s, early, has). (in_or found w k).1 (elim (cases_eq s n) [
+    | inl same ↦ inr (ap (λ v. bit v k) is ∙ subst (HasBit words k) same has)
+    | inr other ↦ inl ((before k).1 (s, omega (arith, early, other), has))
+  ]),
+)
+
+pub all_found : (words : List ℕ) (n found : ℕ) → length words ≤ n → AreSomeTo words n found → (k : ℕ)
+    → (bit found k ≡ true) ↔ HasSome (column k words)
+all_found words n found all are k = (
+  λ h. (let x = (are k).0 h in (x.0, (in_column k words x.0).1 x.2)),
+  λ (s, there). (
+      let below = in_below (column k words) s there in
+      (are k).1 (s, omega (arith, below, length-map words (λ (w : ℕ). bit w k), all), (in_column k words s).0 there)),
+)
+
+-- ---- targets
 pub opposed_targets : (g : StateGraph) (ones zeros : List Bool) → length ones ≡ g.states
     → AreOpposed (length ones) ones zeros ↔ HaveTargets g ones zeros
 opposed_targets g ones zeros size = (
@@ -194,6 +202,15 @@ opposed_targets g ones zeros size = (
   ],
 )
 
+-- where each state settles at just one value, it falls to where it would rise to the other value
+pub falls_alone : (g : StateGraph) (ones zeros minus : List Bool) → IsGraph g → length ones ≡ g.states
+    → ((s : ℕ) → IsUnforced g ones zeros s → ⊥) → ((s : ℕ) → SettlesAtBoth ones zeros s → ⊥)
+    → IsLeast g.states (Switches g (target zeros) true) minus
+    → IsLeast g.states (Switches g (target ones) false) minus
+falls_alone g ones zeros minus graph size some one is =
+    let opposed = (opposed_targets g ones zeros size).1 (record { some = some; one = one }) in
+    least_falls g ones zeros graph (λ s below. opposed s (omega (arith, below, size))) minus is
+
 -- ---- states settle in closures along all arcs
 module _ (g : StateGraph) (P : Event → Type 0) (all : (e : Event) → e.sig < length g.signals → P e) (is : IsGraph g)
     (within : List Bool) where
@@ -215,118 +232,191 @@ module _ (g : StateGraph) (P : Event → Type 0) (all : (e : Event) → e.sig < 
         record { seed = r.seed; there = r.there; path = r.path; leads = path_out r.seed r.path t r.leads });
   }
 
-module _ (c : CodedGraph) (sets : FunctionSets) (held passes zeros : List ℕ) (is : IsGraph c.graph)
-    (up : AreForcedWords c sets.functions.items true sets.up.items)
-    (down : AreForcedWords c sets.functions.items false sets.down.items)
-    (held_are : AreHeldWords sets.up.items sets.down.items held)
-    (all : HasAll (2 * length c.graph.signals) passes)
-    (at_one : (k : ℕ) → IsClosureBy c.graph (Passes passes k) (column k held) (column k sets.up.items)
+module _ (c : CodedGraph) (sets : FunctionSets) (up down held passes zeros : List ℕ) (is : IsCoded c)
+    (up_are : AreForcedWords c sets.functions.items true up)
+    (down_are : AreForcedWords c sets.functions.items false down)
+    (held_are : AreHeldWords up down held) (all : HasAll (2 * length c.graph.signals) passes)
+    (at_one : (k : ℕ) → IsClosureBy c.graph (Passes passes k) (column k held) (column k up)
     (column k sets.ones.items))
-    (at_zero : (k : ℕ) → IsClosureBy c.graph (Passes passes k) (column k held) (column k sets.down.items)
-    (column k zeros))
-    (opposed : (k : ℕ) → k < 128 → (bit sets.targets k ≡ true)
-    ↔ AreOpposed (length sets.ones.items) (column k sets.ones.items) (column k zeros)) where
-  abbrev ups : ℕ → List Bool
-  ups k = column k sets.up.items
+    (at_zero : (k : ℕ) → IsClosureBy c.graph (Passes passes k) (column k held) (column k down) (column k zeros))
+  where
+    abbrev ones : List ℕ
+    ones = sets.ones.items
 
-  abbrev downs : ℕ → List Bool
-  downs k = column k sets.down.items
+    abbrev plus : List ℕ
+    plus = sets.plus.items
 
-  sized : (k : ℕ) (words : List ℕ) → length (column k words) ≡ length words
-  sized k words = length-map words (λ (w : ℕ). bit w k)
+    abbrev minus : List ℕ
+    minus = sets.minus.items
 
-  holding : (k : ℕ) → k < 128 → (s : ℕ) → s < c.graph.states
-      → get_or (column k held) s false ≡ holds (forced_in (ups k) (downs k)) s
-  holding k few s within = column-at k held s ∙ held_are.each k s few (omega (arith, within, up.size))
-      ∙ ap₂ (λ x y. not x && not y) (sym (column-at k sets.up.items s)) (sym (column-at k sets.down.items s))
+    sized : (k : ℕ) (words : List ℕ) → length (column k words) ≡ length words
+    sized k words = length-map words (λ (w : ℕ). bit w k)
 
-  settling : (k : ℕ) → k < 128 → (b : Bool) (seeds found : List Bool) → length seeds ≡ c.graph.states
-      → ((s : ℕ) → s < c.graph.states → get_or seeds s false ≡ forced_in (ups k) (downs k) b s)
-      → IsClosureBy c.graph (Passes passes k) (column k held) seeds found
-      → IsLeast c.graph.states (Settles c.graph (forced_in (ups k) (downs k)) b) found
-  settling k few b seeds found size seeds_are closure =
-      closure_settles c.graph (forced_in (ups k) (downs k)) b (column k held) seeds found is size (holding k few)
-      seeds_are (closure_out c.graph (Passes passes k)
-      (λ e below. (in_column k passes (event_place e)).1
-      (all.each k (event_place e) few (place_below e (length c.graph.signals) below)))
-      is (column k held) seeds found closure)
+    holding : (k : ℕ) → k < 128 → (s : ℕ) → s < c.graph.states
+        → get_or (column k held) s false ≡ holds (forced_in (column k up) (column k down)) s
+    holding k few s within = column-at k held s ∙ held_are.each k s few (omega (arith, within, up_are.size))
+        ∙ ap₂ (λ x y. not x && not y) (sym (column-at k up s)) (sym (column-at k down s))
 
-  settled : (k : ℕ) → k < 128
-      → AreSettled c.graph (forced_in (ups k) (downs k)) (column k sets.ones.items) (column k zeros)
-  settled k few = record {
-    at_one = settling k few true (ups k) (column k sets.ones.items) (sized k sets.up.items ∙ up.size)
-        (λ s within. refl) (at_one k);
-    at_zero = settling k few false (downs k) (column k zeros) (sized k sets.down.items ∙ down.size)
-        (λ s within. refl) (at_zero k);
-  }
+    settling : (k : ℕ) → k < 128 → (b : Bool) (seeds found : List Bool) → length seeds ≡ c.graph.states
+        → ((s : ℕ) → s < c.graph.states → get_or seeds s false ≡ forced_in (column k up) (column k down) b s)
+        → IsClosureBy c.graph (Passes passes k) (column k held) seeds found
+        → IsLeast c.graph.states (Settles c.graph (forced_in (column k up) (column k down)) b) found
+    settling k few b seeds found size seeds_are closure =
+        closure_settles c.graph (forced_in (column k up) (column k down)) b (column k held) seeds found is.graph_is size
+        (holding k few) seeds_are (closure_out c.graph (Passes passes k)
+        (λ e below. (in_column k passes (event_place e)).1
+        (all.each k (event_place e) few (place_below e (length c.graph.signals) below)))
+        is.graph_is (column k held) seeds found closure)
 
-  forced : (k : ℕ) (d : Function) → k < length sets.functions.items
-      → AreForced (forced_by (function_value (get_or sets.functions.items k d)) c) c.graph.states (ups k) (downs k)
-  forced k d inside = record {
-    up_size = sized k sets.up.items ∙ up.size;
-    down_size = sized k sets.down.items ∙ down.size;
-    up_is = λ s within. column-at k sets.up.items s ∙ up.each s within k d inside;
-    down_is = λ s within. column-at k sets.down.items s ∙ down.each s within k d inside;
-  }
+    settled : (k : ℕ) → k < 128
+        → AreSettled c.graph (forced_in (column k up) (column k down)) (column k ones) (column k zeros)
+    settled k few = record {
+      at_one = settling k few true (column k up) (column k ones) (sized k up ∙ up_are.size) (λ s within. refl)
+          (at_one k);
+      at_zero = settling k few false (column k down) (column k zeros) (sized k down ∙ down_are.size)
+          (λ s within. refl) (at_zero k);
+    }
 
-  pub are_sets_of : (k : ℕ) (d : Function) → k < 128 → k < length sets.functions.items
-      → AreSetsOf c (function_value (get_or sets.functions.items k d)) k sets
-  are_sets_of k d few inside = record {
-    forced = forced k d inside;
-    zeros = column k zeros;
-    settled = settled k few;
-    targets = (
-      λ h. (opposed_targets c.graph (column k sets.ones.items) (column k zeros) (at_one k).size).0
-          (subst Opposed (sym (sized k sets.ones.items)) ((opposed k few).0 h)),
-      λ have. (opposed k few).1 (subst Opposed (sized k sets.ones.items)
-          ((opposed_targets c.graph (column k sets.ones.items) (column k zeros) (at_one k).size).1 have)),
-    );
-  }
-    where
-      Opposed : ℕ → Type 0
-      Opposed n = AreOpposed n (column k sets.ones.items) (column k zeros)
+    forced : (k : ℕ) (d : Function) → k < length sets.functions.items
+        → AreForced (forced_by (function_value (get_or sets.functions.items k d)) c) c.graph.states
+        (column k up) (column k down)
+    forced k d inside = record {
+      up_size = sized k up ∙ up_are.size;
+      down_size = sized k down ∙ down_are.size;
+      up_is = λ s within. column-at k up s ∙ up_are.each s within k d inside;
+      down_is = λ s within. column-at k down s ∙ down_are.each s within k d inside;
+    }
 
-  pub are_function_sets : length sets.functions.items ≤ 128 → AreFunctionSets c sets
-  are_function_sets few = record {
-    few = few;
-    each = λ k d inside. are_sets_of k d (omega (arith, inside, few)) inside;
-  }
+    ones_states : length ones ≡ c.graph.states
+    ones_states = sym (sized 0 ones) ∙ (at_one 0).size
 
--- ---- the partition by one bit
+    module _ (targets rising falling with_plus with_minus : ℕ)
+        (parts : sets.partitions ≡ bit_and (bit_and falling with_plus) with_minus)
+        (opposed : (k : ℕ) → k < 128 → (bit targets k ≡ true)
+        ↔ AreOpposed (length ones) (column k ones) (column k zeros))
+        (rise : AreSwitched c.graph ones targets up (record { words = sets.plus; kept = rising }))
+        (fall : AreSwitched c.graph zeros rising down (record { words = sets.minus; kept = falling }))
+        (plus_some : (k : ℕ) → (bit with_plus k ≡ true) ↔ HasSome (column k plus))
+        (minus_some : (k : ℕ) → (bit with_minus k ≡ true) ↔ HasSome (column k minus)) where
+      in_partitions : (k : ℕ) → (bit sets.partitions k ≡ true)
+          ↔ ((bit falling k ≡ true) × (bit with_plus k ≡ true) × (bit with_minus k ≡ true))
+      in_partitions k = (
+        λ h. (
+            let outer = (in_and (bit_and falling with_plus) with_minus k).0 (ap (λ w. bit w k) (sym parts) ∙ h) in
+            let inner = (in_and falling with_plus k).0 outer.0 in
+            (inner.0, inner.1, outer.1)),
+        λ (falls, up_some, down_some). ap (λ w. bit w k) parts ∙ (in_and (bit_and falling with_plus) with_minus k).1
+            ((in_and falling with_plus k).1 (falls, up_some), down_some),
+      )
+
+      turned : (k : ℕ) → k < 128 → bit targets k ≡ true → (s : ℕ) → s < c.graph.states
+          → target (column k zeros) s ≡ not (target (column k ones) s)
+      turned k few has s within = (opposed k few).0 has s (omega (arith, within, ones_states))
+
+      have_targets : (k : ℕ) → k < 128 → (bit targets k ≡ true) ↔ HaveTargets c.graph (column k ones) (column k zeros)
+      have_targets k few = (
+        λ h. both.0 (subst Opposed (sym (sized k ones)) ((opposed k few).0 h)),
+        λ have. (opposed k few).1 (subst Opposed (sized k ones) (both.1 have)),
+      )
+        where
+          Opposed : ℕ → Type 0
+          Opposed n = AreOpposed n (column k ones) (column k zeros)
+
+          both : AreOpposed (length (column k ones)) (column k ones) (column k zeros)
+              ↔ HaveTargets c.graph (column k ones) (column k zeros)
+          both = opposed_targets c.graph (column k ones) (column k zeros) (at_one k).size
+
+      -- ---- the function at k has a partition, or one of the bits is missing
+      module _ (k : ℕ) (few : k < 128) where
+        abbrev Forced : Bool → ℕ → Bool
+        Forced = forced_in (column k up) (column k down)
+
+        no_partition : bit sets.partitions k ≡ false → HasNone c.graph Forced
+        no_partition out = elim (cases_Bool (bit targets k)) [
+          | inr none ↦ none_without_targets c.graph (column k up) (column k down) (column k ones) (column k zeros)
+              (settled k few) (λ have. true≢false (sym ((have_targets k few).1 have) ∙ none))
+          | inl has ↦ elim (cases_Bool (bit rising k)) [
+            | inr none ↦ none_if_strays_up c.graph (column k up) (column k down) (column k ones) (column k zeros)
+                (settled k few) (rise.dropped k few has none)
+            | inl rises ↦ elim (cases_Bool (bit falling k)) [
+              | inr none ↦ none_if_strays_down c.graph (column k up) (column k down) (column k ones) (column k zeros)
+                  (settled k few) is.graph_is (turned k few has) (fall.dropped k few rises none)
+              | inl falls ↦ without_some has rises falls
+            ]
+          ]
+        ]
+          where
+            without_some : bit targets k ≡ true → bit rising k ≡ true → bit falling k ≡ true → HasNone c.graph Forced
+            without_some has rises falls = elim (cases_Bool (bit with_plus k)) [
+              | inr none ↦ none_if_never_up c.graph (column k up) (column k down) (column k ones) (column k zeros)
+                  (settled k few) (column k plus) (rise.least k rises)
+                  (λ some. true≢false (sym ((plus_some k).1 some) ∙ none))
+              | inl up_some ↦ none_if_never_down c.graph (column k up) (column k down) (column k ones)
+                  (column k zeros) (settled k few) (column k minus)
+                  (least_falls c.graph (column k ones) (column k zeros) is.graph_is (turned k few has)
+                  (column k minus) (fall.least k falls))
+                  (λ some. true≢false (sym ((in_partitions k).1 (falls, up_some, (minus_some k).1 some)) ∙ out))
+            ]
+
+        partition_at : bit sets.partitions k ≡ true → (classes : List Class) → length classes ≡ c.graph.states
+            → ((s : ℕ) → s < c.graph.states → class_of classes s ≡ class_for (get_or (column k plus) s false)
+            (get_or (column k minus) s false) (get_or (column k ones) s false))
+            → IsPartitionFor c.graph Forced classes
+        partition_at there classes count each =
+            let bits = (in_partitions k).0 there in
+            let rises = fall.given_too k bits.0 in
+            let has = rise.given_too k rises in
+            let targets_are = (have_targets k few).0 has in
+            let plus_is = rise.least k rises in
+            let minus_is =
+            least_falls c.graph (column k ones) (column k zeros) is.graph_is (turned k few has) (column k minus)
+            (fall.least k bits.0) in
+            let sets = are_sets c.graph Forced (column k ones) (column k zeros) (column k plus)
+            (column k minus) (settled k few) targets_are.some targets_are.one plus_is minus_is in
+            let stays = stays_within (column k up) (column k down) (column k plus) (column k minus)
+            (rise.inside k rises) (fall.inside k bits.0) in
+            is_partition c.graph Forced (column k ones) (column k zeros) (column k plus) (column k minus)
+            classes sets stays ((plus_some k).0 bits.1) ((minus_some k).0 bits.2) (count ∙ sym plus_is.size)
+            (λ s within. each s (omega (arith, within, plus_is.size)))
+
+      are_sets_of : (k : ℕ) (d : Function) → k < 128 → k < length sets.functions.items
+          → AreSetsOf c (function_value (get_or sets.functions.items k d)) k sets
+      are_sets_of k d few inside = record {
+        plus_size = rise.size;
+        minus_size = fall.size;
+        ones_size = ones_states;
+        some = λ has classes are. partition_carried value c c c.graph (column k up) (column k down) refl refl is
+            (forced k d inside) classes (partition_at k few has classes are.count are.each);
+        none = λ out. none_carried value c c c.graph (column k up) (column k down) refl refl is (forced k d inside)
+            (no_partition k few out);
+      }
+        where
+          value : ℕ → Bool → Bool
+          value = function_value (get_or sets.functions.items k d)
+
+      pub are_function_sets : length sets.functions.items ≤ 128 → AreFunctionSets c sets
+      are_function_sets few = record {
+        few = few;
+        each = λ k d inside. are_sets_of k d (omega (arith, inside, few)) inside;
+      }
+
+-- the classes by lists that are the sets k
+pub are_classes_at : (c : CodedGraph) (value : ℕ → Bool → Bool) (k : ℕ) (sets : FunctionSets)
+    (plus minus ones : List Bool) (classes : List Class) → AreSetsOf c value k sets
+    → plus ≡ column k sets.plus.items → minus ≡ column k sets.minus.items → ones ≡ column k sets.ones.items
+    → length classes ≡ length plus → AreClassesBy ones plus minus classes
+    → AreClassesAt c.graph.states k sets classes
+are_classes_at c value k sets plus minus ones classes are plus_is minus_is ones_is count each = record {
+  count = count ∙ size;
+  each = λ s within. each s (omega (arith, within, size))
+      ∙ ap (λ (p : List Bool). class_for (get_or p s false) (get_or minus s false) (get_or ones s false)) plus_is
+      ∙ ap₂ (λ (m o : List Bool). class_for (get_or (column k sets.plus.items) s false) (get_or m s false)
+      (get_or o s false)) minus_is ones_is;
+}
+  where
+    size : length plus ≡ c.graph.states
+    size = ap length plus_is ∙ length-map sets.plus.items (λ (w : ℕ). bit w k) ∙ are.plus_size
+
 -- for where any function serves
 abbrev pub no_function : Function
 no_function = record { signals = record { items = [] }; table = 0 }
-
--- what the value makes of the states is as the sets say
-module _ (c : CodedGraph) (value : ℕ → Bool → Bool) (k : ℕ) (sets : FunctionSets) (are : AreSetsOf c value k sets)
-    (coded : IsCoded c) where
-  abbrev up_at : List Bool
-  up_at = column k sets.up.items
-
-  abbrev down_at : List Bool
-  down_at = column k sets.down.items
-
-  pub up_size : length sets.up.items ≡ c.graph.states
-  up_size = sym (length-map sets.up.items (λ (w : ℕ). bit w k)) ∙ are.forced.up_size
-
-  pub down_size : length sets.down.items ≡ c.graph.states
-  down_size = sym (length-map sets.down.items (λ (w : ℕ). bit w k)) ∙ are.forced.down_size
-
-  pub ones_size : length sets.ones.items ≡ c.graph.states
-  ones_size = sym (length-map sets.ones.items (λ (w : ℕ). bit w k)) ∙ are.settled.at_one.size
-
-  pub none_by_bit : bit sets.targets k ≡ false → HasNone c.graph (forced_by value c)
-  none_by_bit out = none_carried value c c c.graph up_at down_at refl refl coded are.forced
-      (none_without_targets c.graph up_at down_at (column k sets.ones.items) are.zeros are.settled
-      (λ have. true≢false (sym (are.targets.1 have) ∙ out)))
-
-  pub none_by_sets : HasNone c.graph (forced_in up_at down_at) → HasNone c.graph (forced_by value c)
-  none_by_sets none = none_carried value c c c.graph up_at down_at refl refl coded are.forced none
-
-  pub lawful_by_sets : (classes : List Class) → IsPartitionFor c.graph (forced_in up_at down_at) classes
-      → IsLawful c.graph classes
-  lawful_by_sets classes p = lawful_carried value c c c.graph up_at down_at refl refl coded are.forced classes p
-
-  pub partition_by_sets : (classes : List Class) → IsPartitionFor c.graph (forced_in up_at down_at) classes
-      → IsPartitionFor c.graph (forced_by value c) classes
-  partition_by_sets classes p = partition_carried value c c c.graph up_at down_at refl refl coded are.forced classes p

@@ -10,7 +10,7 @@ use Rattle.si_divisor.specs.Targets.{IsLeast, Settles, AreSettled, holds, target
 use Rattle.si_divisor.specs.Switching.{Switches}
 use Rattle.si_divisor.specs.PartitionFor.{Sets, AreSets, Leaves, IsPartitionFor, ShowsNone}
 use Rattle.si_divisor.proofs.TargetSets.{least_within}
-use Rattle.si_divisor.proofs.WorkListLemmas.{least_same}
+use Rattle.si_divisor.proofs.SwitchRuleLemmas.{least_same}
 
 -- the same is forced at all states
 abbrev pub ForceAlike : StateGraph → (Bool → ℕ → Bool) → (Bool → ℕ → Bool) → Type 0

@@ -1,56 +1,20 @@
--- Searches that end at the first state outside of a set, and why there is no partition then.
-use Rattle.std.proofs.Common.{◌≡◌, ℕ, ◌⊎◌, Bool, true, false, List, [], ◌∷◌, ◌++◌, replicate, Contains}
-use Rattle.std.proofs.Common.{sym, subst, ◌∙◌, arith, inl, inr}
+-- Why there is no partition where the new signal would switch outside of the forced states.
+use Rattle.std.proofs.Common.{◌≡◌, ℕ, ◌<◌, Bool, true, false, not, List, sym, subst, ◌∙◌, inl, inr}
 use Rattle.std.proofs.lemmas.Bool.{true≢false}
-use Rattle.std.proofs.lemmas.List.Elements.{Contains-push_cases}
 use Rattle.si_base.specs.Sets.{IsSubset}
-use Rattle.si_base.specs.Graph.{StateGraph}
-use Rattle.si_graph.specs.Reach.{IsIn, Marks}
-use Rattle.si_graph.proofs.SearchLemmas.{in_none}
+use Rattle.si_base.specs.Graph.{StateGraph, IsGraph}
+use Rattle.si_graph.specs.Reach.{IsIn}
 use Rattle.si_insert.specs.declared.partition.Class.{Class}
 use Rattle.si_divisor.specs.Targets.{IsLeast, AreSettled, HaveTargets, forced_in, target}
 use Rattle.si_divisor.specs.Switching.{Switches}
-use Rattle.si_divisor.specs.WorkList.{Belongs, OmitsState}
+use Rattle.si_divisor.specs.SwitchRules.{Belongs, OmitsState}
 use Rattle.si_divisor.specs.PartitionFor.{LeavesAt, HasSome, IsPartitionFor, HasNone}
 use Rattle.si_divisor.proofs.OnePartitionFor.{one_ones, one_zeros}
-use Rattle.si_divisor.proofs.WorkListLemmas.{closed_if_switches}
+use Rattle.si_divisor.proofs.SwitchRuleLemmas.{closed_if_switches, least_rises}
 
--- ---- each marked state is in the set, or is work
-abbrev pub AreWithin : List Bool → List Bool → List ℕ → Type 0
-AreWithin within marks work = (t : ℕ) → IsIn marks t → IsIn within t ⊎ Contains work t
-
-pub within_first : (Q : ℕ → Type 0) (within : List Bool) (n : ℕ) (marks : List Bool) (work : List ℕ)
-    → Marks Q (replicate n false) [] marks work → AreWithin within marks work
-within_first Q within n marks work m t i = elim (m.queued t i) [
-  | inl old ↦ absurd (in_none n t old)
-  | inr waiting ↦ inr waiting
-]
-
-pub within_on : (Q : ℕ → Type 0) (within marks : List Bool) (rest : List ℕ) (x : ℕ) (after : List Bool)
-    (work : List ℕ)
-    → Marks Q marks rest after work → IsIn within x → AreWithin within marks (rest ++ x ∷ [])
-    → AreWithin within after work
-within_on Q within marks rest x after work m has inside t i = elim (m.queued t i) [
-  | inl old ↦ elim (inside t old) [
-    | inl there ↦ inl there
-    | inr waiting ↦ elim (Contains-push_cases rest x t waiting) [
-      | inl left ↦ inr (m.waits t left)
-      | inr same ↦ inl (subst (λ (s : ℕ). IsIn within s) same has)
-    ]
-  ]
-  | inr waiting ↦ inr waiting
-]
-
-pub within_last : (within marks : List Bool) → AreWithin within marks [] → IsSubset marks within
-within_last within marks inside t i = elim (inside t i) [
-  | inl there ↦ there
-  | inr waiting ↦ absurd (omega (arith, waiting.1))
-]
-
--- ---- reasons against each partition
-belongs_in : (g : StateGraph) (ones set : List Bool) (b : Bool) (s : ℕ)
-    → IsLeast g.states (Switches g (target ones) b) set → Belongs g ones b s → IsIn set s
-belongs_in g ones set b s is belongs = belongs set is.size (closed_if_switches g (target ones) b set is.meets)
+belongs_in : (g : StateGraph) (high set : List Bool) (s : ℕ)
+    → IsLeast g.states (Switches g (target high) true) set → Belongs g high s → IsIn set s
+belongs_in g high set s is belongs = belongs set is.size (closed_if_switches g high set is.meets)
 
 module _ (g : StateGraph) (up down ones zeros : List Bool) (settled : AreSettled g (forced_in up down) ones zeros)
   where
@@ -75,13 +39,15 @@ module _ (g : StateGraph) (up down ones zeros : List Bool) (settled : AreSettled
     minus_is classes p = subst (λ (o : List Bool). IsLeast g.states (Switches g (target o) false) p.sets.minus)
         (same_ones classes p) p.are.falling
 
-    pub none_if_strays_up : OmitsState g ones true up → HasNone g (forced_in up down)
-    none_if_strays_up (s, belongs, outside) classes p =
-        p.stays s (inl (belongs_in g ones p.sets.plus true s (plus_is classes p) belongs, outside))
+    pub none_if_strays_up : OmitsState g ones up → HasNone g (forced_in up down)
+    none_if_strays_up (s, below, belongs, outside) classes p =
+        p.stays s (inl (belongs_in g ones p.sets.plus s (plus_is classes p) belongs, outside))
 
-    pub none_if_strays_down : OmitsState g ones false down → HasNone g (forced_in up down)
-    none_if_strays_down (s, belongs, outside) classes p =
-        p.stays s (inr (belongs_in g ones p.sets.minus false s (minus_is classes p) belongs, outside))
+    pub none_if_strays_down : IsGraph g → ((s : ℕ) → s < g.states → target zeros s ≡ not (target ones s))
+        → OmitsState g zeros down → HasNone g (forced_in up down)
+    none_if_strays_down graph opposed (s, below, belongs, outside) classes p =
+        let falls = least_rises g ones zeros graph opposed p.sets.minus (minus_is classes p) in
+        p.stays s (inr (belongs_in g zeros p.sets.minus s falls belongs, outside))
 
     pub none_if_never_up : (plus : List Bool) → IsLeast g.states (Switches g (target ones) true) plus
         → (HasSome plus → ⊥) → HasNone g (forced_in up down)

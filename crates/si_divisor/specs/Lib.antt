@@ -7,5 +7,6 @@ pub mod Switching
 pub mod PartitionFor
 pub mod Functions
 pub mod ManyFunctions
-pub mod WorkList
+pub mod SwitchRules
+pub mod ManySwitching
 pub mod Laws

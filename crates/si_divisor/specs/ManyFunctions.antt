@@ -1,14 +1,17 @@
 -- (loop) Sets of states for many functions at once: for each state a word, whose bit k is that of
 -- the function at k.
-use Rattle.std.specs.Prelude.{◌≡◌, ℕ, ◌<◌, ◌≤◌, ◌&&◌, ◌↔◌, not, Bool, true, false, List, length}
+use Rattle.std.specs.Prelude.{◌≡◌, ℕ, ◌<◌, ◌≤◌, ◌&&◌, not, Bool, true, false, List, length}
 use Rattle.std.specs.Prelude.{slice_index_or}
 use Rattle.si_base.specs.Bits.{bit}
 use Rattle.si_base.specs.Codes.{CodedGraph}
 use Rattle.si_closures.specs.WordSearch.{column}
+use Rattle.si_insert.specs.declared.partition.Class.{Class}
+use Rattle.si_insert.specs.Partition.{class_of}
 use Rattle.si_divisor.specs.declared.function.Function.{Function}
 use Rattle.si_divisor.specs.declared.function_sets.FunctionSets.{FunctionSets}
 use Rattle.si_divisor.specs.Functions.{function_value}
-use Rattle.si_divisor.specs.Targets.{AreForced, AreSettled, HaveTargets, forced_by, forced_in}
+use Rattle.si_divisor.specs.PartitionFor.{HasNone, IsPartitionFor, class_for}
+use Rattle.si_divisor.specs.Targets.{forced_by}
 
 -- bit k says whether the function at k forces the state to b
 abbrev pub TellsForced : CodedGraph → List Function → Bool → ℕ → ℕ → Type 0
@@ -32,16 +35,26 @@ abbrev pub AreOpposed : ℕ → List Bool → List Bool → Type 0
 AreOpposed n ones zeros =
     (s : ℕ) → s < n → slice_index_or zeros s false ≡ not (slice_index_or ones s false)
 
--- the sets k are those that the value makes of the states: the forced ones and those that settle at
--- 1; and the bit k says whether each state settles at just one value
+-- the classes of n states by the sets k: where the new signal rises and falls, and else by where
+-- states settle
+pub record AreClassesAt (n k : ℕ) (sets : FunctionSets) (classes : List Class) : Type 0 where
+  pub count : length classes ≡ n
+  pub each : (s : ℕ) → s < n → class_of classes s
+      ≡ class_for (slice_index_or (column k sets.plus.items) s false)
+      (slice_index_or (column k sets.minus.items) s false)
+      (slice_index_or (column k sets.ones.items) s false)
+
+-- there are words for the states, and the bit k says whether there is a partition for the value:
+-- its classes are those by the sets k
 pub record AreSetsOf (c : CodedGraph) (value : ℕ → Bool → Bool) (k : ℕ) (sets : FunctionSets)
     : Type 0 where
-  pub forced : AreForced (forced_by value c) c.graph.states (column k sets.up.items)
-      (column k sets.down.items)
-  pub zeros : List Bool
-  pub settled : AreSettled c.graph (forced_in (column k sets.up.items) (column k sets.down.items))
-      (column k sets.ones.items) zeros
-  pub targets : (bit sets.targets k ≡ true) ↔ HaveTargets c.graph (column k sets.ones.items) zeros
+  pub plus_size : length sets.plus.items ≡ c.graph.states
+  pub minus_size : length sets.minus.items ≡ c.graph.states
+  pub ones_size : length sets.ones.items ≡ c.graph.states
+  pub some : bit sets.partitions k ≡ true → (classes : List Class)
+      → AreClassesAt c.graph.states k sets classes
+      → IsPartitionFor c.graph (forced_by value c) classes
+  pub none : bit sets.partitions k ≡ false → HasNone c.graph (forced_by value c)
 
 -- so they are for each of the functions, of which a word has room for all
 pub record AreFunctionSets (c : CodedGraph) (sets : FunctionSets) : Type 0 where

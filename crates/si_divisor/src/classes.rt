@@ -1,17 +1,18 @@
 //! The classes of the states, by the sets of states that settle and of those that switch.
 
 ghost use Rattle.std.specs.Prelude.{◌≡◌, ℕ, ◌<◌, ◌↔◌, IfOk, IfErr, MatchOption, IsTrue, length};
-ghost use Rattle.std.specs.Prelude.{slice_index_or, false, List, Bool};
+ghost use Rattle.std.specs.Prelude.{slice_index_or, false};
 ghost use Rattle.si_base.specs.Order.{IsFirst};
+ghost use Rattle.si_base.specs.Codes.{IsDeterministic};
 ghost use Rattle.si_base.specs.Graph.{IsGraph};
 ghost use Rattle.si_insert.specs.Partition.{class_of};
-ghost use Rattle.si_divisor.specs.Targets.{AreSettled, HaveTargets, forced_in};
+ghost use Rattle.si_divisor.specs.Targets.{forced_in};
 ghost use Rattle.si_divisor.specs.PartitionFor.{LeavesAt, HasSome, class_for, IsPartitionFor};
-ghost use Rattle.si_divisor.specs.PartitionFor.{HasNone, state_place, ShowsNone};
+ghost use Rattle.si_divisor.specs.PartitionFor.{state_place, ShowsNone};
 
 use crate::fault::NoPartition;
 use crate::settled::{Settled, first_settled_at_both, first_unforced, holding, settled_states};
-use crate::switching::{switching, switching_within};
+use crate::switching::switching_alone;
 use si_base::ids::{NoMemory, StateId};
 use si_base::sets::StateSet;
 use si_graph::graph::Graph;
@@ -77,7 +78,7 @@ fn class_at(plus: bool, minus: bool, one: bool) -> Class
 }
 
 /// The class of each state by the sets that have it.
-fn class_list(
+pub(crate) fn class_list(
     alloc: Global,
     plus: &StateSet,
     minus: &StateSet,
@@ -110,6 +111,7 @@ pub(crate) fn classes_for(
     down: &StateSet,
 ) -> Result<Vec<Class>, NoPartition>
     requires graph { IsGraph graph.now }
+    requires deterministic { IsDeterministic graph.now }
     requires up { length up.now ≡ graph.now.states }
     requires down { length down.now ≡ graph.now.states }
     ensures partition { IfOk result (λ v.
@@ -124,8 +126,8 @@ pub(crate) fn classes_for(
     if let Some(s) = first_settled_at_both(&ones, &zeros) {
         return Err(NoPartition::Contradiction { s });
     }
-    let plus = switching(alloc, graph, &ones, true)?;
-    let minus = switching(alloc, graph, &ones, false)?;
+    let plus = switching_alone(alloc, graph, &ones)?;
+    let minus = switching_alone(alloc, graph, &zeros)?;
     if let Some(s) = first_leaving(up, down, &plus, &minus) {
         return Err(NoPartition::LeavesForced { s });
     }
@@ -134,36 +136,4 @@ pub(crate) fn classes_for(
     }
     let list = class_list(alloc, &plus, &minus, &ones)?;
     Ok(list)
-}
-
-/// The classes of the states, each of which settles at just one value: these at 1, the others at 0;
-/// `None` exactly where there are none. It ends as soon as one of the reasons against them is seen.
-pub(crate) fn classes_by(
-    alloc: Global,
-    graph: &Graph,
-    up: &StateSet,
-    down: &StateSet,
-    ones: &StateSet,
-) -> Result<Option<Vec<Class>>, NoMemory>
-    requires graph { IsGraph graph.now }
-    requires up { length up.now ≡ graph.now.states }
-    requires down { length down.now ≡ graph.now.states }
-    requires ones { length ones.now ≡ graph.now.states }
-    requires settled { (zeros : List Bool) × HaveTargets graph.now ones.now zeros
-        × AreSettled graph.now (forced_in up.now down.now) ones.now zeros }
-    ensures { IfOk result (λ found. MatchOption found
-        (HasNone graph.now (forced_in up.now down.now))
-        (λ v. IsPartitionFor graph.now (forced_in up.now down.now) v.items)) }
-{
-    let Some(plus) = switching_within(alloc, graph, ones, true, up)? else {
-        return Ok(None);
-    };
-    let Some(minus) = switching_within(alloc, graph, ones, false, down)? else {
-        return Ok(None);
-    };
-    if !has_some(&plus) || !has_some(&minus) {
-        return Ok(None);
-    }
-    let list = class_list(alloc, &plus, &minus, ones)?;
-    Ok(Some(list))
 }

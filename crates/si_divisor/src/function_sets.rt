@@ -9,11 +9,12 @@ ghost use Rattle.si_divisor.specs.declared.function.Function.{Function as Functi
 ghost use Rattle.si_divisor.specs.Functions.{Computes};
 ghost use Rattle.si_divisor.specs.ManyFunctions.{AreForcedWords, AreFunctionSets, AreHeldWords};
 ghost use Rattle.si_divisor.specs.ManyFunctions.{AreOpposed, TellsForced};
-ghost use Rattle.si_divisor.specs.PartitionFor.{Answers};
+ghost use Rattle.si_divisor.specs.PartitionFor.{Answers, HasSome};
 
-use crate::classes::classes_by;
+use crate::classes::class_list;
 use crate::forced::is_forced;
 use crate::function::Function;
+use crate::switching::{Switched, switching};
 use si_base::ids::{NoMemory, StateId};
 use si_checks::proper::Proper;
 use si_closures::word_search::closures;
@@ -23,18 +24,19 @@ use si_insert::partition::Partition;
 use std::alloc::Global;
 
 /// What each of at most 128 functions makes of the states, as the gate of a new signal: those that
-/// it forces to each value, and those that settle at 1. A word stands for each state; its bit k is
-/// that of the function at k.
+/// settle at 1, and those where the signal rises and falls, as far as it has a partition. A word
+/// stands for each state; its bit k is that of the function at k.
 ///
-/// States settle for all the functions in one search, which takes hardly longer than that for one.
+/// One search serves all the functions, and takes hardly longer than that for one. A function is
+/// dropped as soon as its signal would have to switch where it doesn't force the value.
 #[derive(Drop)]
 pub struct FunctionSets {
     functions: Vec<Function>,
-    up: Vec<u128>,
-    down: Vec<u128>,
     ones: Vec<u128>,
-    /// The functions for which each state settles at just one value.
-    targets: u128,
+    plus: Vec<u128>,
+    minus: Vec<u128>,
+    /// The functions for which there is a partition.
+    partitions: u128,
 }
 
 impl FunctionSets {
@@ -44,10 +46,10 @@ impl FunctionSets {
     {
         FunctionSets {
             functions: Vec::new(alloc),
-            up: Vec::new(alloc),
-            down: Vec::new(alloc),
             ones: Vec::new(alloc),
-            targets: 0,
+            plus: Vec::new(alloc),
+            minus: Vec::new(alloc),
+            partitions: 0,
         }
     }
 
@@ -71,12 +73,21 @@ impl FunctionSets {
         let ones = closures(alloc, g, &passes, &held, &up)?;
         let zeros = closures(alloc, g, &passes, &held, &down)?;
         let targets = those_with_targets(&ones, &zeros);
+        let Switched {
+            words: plus,
+            kept: rising,
+        } = switching(alloc, g, &ones, targets, &up)?;
+        let Switched {
+            words: minus,
+            kept: falling,
+        } = switching(alloc, g, &zeros, rising, &down)?;
+        let partitions = falling & those_with_some(&plus) & those_with_some(&minus);
         Ok(FunctionSets {
             functions,
-            up,
-            down,
             ones,
-            targets,
+            plus,
+            minus,
+            partitions,
         })
     }
 
@@ -111,15 +122,13 @@ impl FunctionSets {
             → Answers graph.now value found) }
     {
         let g = graph.coded().graph();
-        if !has_bit(self.targets, k as u32) {
+        if !has_bit(self.partitions, k as u32) {
             return Ok(None);
         }
-        let up = set_at(alloc, &self.up, g.states(), k as u32)?;
-        let down = set_at(alloc, &self.down, g.states(), k as u32)?;
+        let plus = set_at(alloc, &self.plus, g.states(), k as u32)?;
+        let minus = set_at(alloc, &self.minus, g.states(), k as u32)?;
         let ones = set_at(alloc, &self.ones, g.states(), k as u32)?;
-        let Some(classes) = classes_by(alloc, g, &up, &down, &ones)? else {
-            return Ok(None);
-        };
+        let classes = class_list(alloc, &plus, &minus, &ones)?;
         Ok(Some(Partition::known(graph, classes)))
     }
 }
@@ -181,4 +190,15 @@ fn those_with_targets(ones: &[u128], zeros: &[u128]) -> u128
         all &= ones[s] ^ zeros[s];
     }
     all
+}
+
+/// Those of the sets that have some state.
+fn those_with_some(words: &[u128]) -> u128
+    ensures { (k : ℕ) → (bit result k ≡ true) ↔ HasSome (column k words.now) }
+{
+    let mut found = 0;
+    for word in words {
+        found |= *word;
+    }
+    found
 }

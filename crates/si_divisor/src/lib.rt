@@ -14,3 +14,4 @@ pub mod partition_for;
 pub mod pins;
 mod settled;
 mod switching;
+mod word_work;

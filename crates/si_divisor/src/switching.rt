@@ -1,299 +1,333 @@
-//! The states where the new signal switches to a value.
+//! The states where the new signal switches to 1, for 128 functions at once.
 
-ghost use Rattle.std.specs.Prelude.{◌≡◌, ℕ, ◌<◌, ◌↔◌, ◌++◌, ◌∷◌, [], IfOk, OnOk, MatchOption};
-ghost use Rattle.std.specs.Prelude.{IsTrue, All, Contains, length, not};
+ghost use Rattle.std.specs.Prelude.{◌≡◌, ◌≢◌, ℕ, ◌<◌, ◌↔◌, ◌⊎◌, true, false, IfOk, Contains};
+ghost use Rattle.std.specs.Prelude.{length, slice_index_or};
 ghost use Rattle.si_base.specs.declared.graph.Edge.{Edge};
-ghost use Rattle.si_base.specs.Graph.{Step, IsGraph, IsNonInput};
-ghost use Rattle.si_base.specs.Sets.{IsSubset};
-ghost use Rattle.si_graph.specs.Reach.{IsIn, Marks, MarksAll};
+ghost use Rattle.si_base.specs.Bits.{bit};
+ghost use Rattle.si_base.specs.Codes.{IsDeterministic};
+ghost use Rattle.si_base.specs.Graph.{IsGraph, Step};
+ghost use Rattle.si_base.specs.Sets.{IsIn};
+ghost use Rattle.si_closures.specs.WordSearch.{column, HasBit};
 ghost use Rattle.si_divisor.specs.Targets.{IsLeast, target};
 ghost use Rattle.si_divisor.specs.Switching.{Switches};
-ghost use Rattle.si_divisor.specs.WorkList.{Works, SwitchRule, OmitsState, Belongs, AllBelong};
-ghost use Rattle.si_divisor.specs.WorkList.{IsTargetBy, MayExit, ExitsDone, ExitsBothWays};
-ghost use Rattle.si_divisor.specs.WorkList.{FollowsInto, IsAfterInput, IsCrossed};
+ghost use Rattle.si_divisor.specs.SwitchRules.{FollowsByRule, IsCrossed, IsLow};
+ghost use Rattle.si_divisor.specs.ManySwitching.{AllBelong, AreSwitched, BelongsTo, ExitsBeside};
+ghost use Rattle.si_divisor.specs.ManySwitching.{FollowsBack, FollowsOn, Grows, GrowsAll, HasExit};
+ghost use Rattle.si_divisor.specs.ManySwitching.{HaveAll, IsSized, LetsExit};
 
+use crate::word_work::WordWork;
 use si_base::graph::Edge;
 use si_base::ids::{Event, NoMemory, StateId};
 use si_base::sets::StateSet;
+use si_closures::words::{everywhere, repeated, set_at};
 use si_graph::graph::Graph;
-use si_graph::search::Search;
-use si_insert::accept::is_input;
 use std::alloc::Global;
 
-/// Reaches the state, if it is wanted.
-fn reach_if(wanted: bool, t: StateId, search: &mut Search) -> Result<(), NoMemory>
-    requires { t < length search.old.marks }
-    ensures { OnOk result (MarksAll (λ u. (u ≡ t) × IsTrue wanted)
-        search.old.marks search.old.work search.new.marks search.new.work) }
-{
-    if !wanted {
-        return Ok(());
-    }
-    search.reach(t)
+/// For each state the sets that have it, and the sets that are kept: they are whole.
+#[derive(Drop)]
+pub(crate) struct Switched {
+    pub(crate) words: Vec<u128>,
+    pub(crate) kept: u128,
 }
 
-/// Reaches the states to which arcs of the event lead.
-fn reach_by(arcs: &[Edge], e: &Event, search: &mut Search) -> Result<(), NoMemory>
-    requires { All (λ a. a.to < length search.old.marks) arcs.now }
-    ensures { OnOk result (MarksAll (IsTargetBy arcs.now e.now)
-        search.old.marks search.old.work search.new.marks search.new.work) }
+/// Those of the sets that are high at the end of the arc, and low at its source.
+fn crossing(highs: &[u128], given: u128, arc: &Edge) -> u128
+    requires from { arc.now.from < length highs.now }
+    requires to { arc.now.to < length highs.now }
+    ensures { (k : ℕ) → (bit result k ≡ true) ↔ ((bit given k ≡ true)
+        × IsIn (column k highs.now) arc.now.to × IsLow (column k highs.now) arc.now.from) }
 {
-    for a in arcs {
-        reach_if(is_by(a, e), a.to, search)?;
-    }
-    Ok(())
+    given & highs[arc.to.0 as usize] & !highs[arc.from.0 as usize]
 }
 
-/// Whether the arc is of the event.
-fn is_by(a: &Edge, e: &Event) -> bool
-    ensures { IsTrue result ↔ (a.now.event ≡ e.now) }
-{
-    a.event == *e
-}
-
-/// Whether the event of the first arc has to stay within the set after the other arc.
-fn may_exit(
-    graph: &Graph,
-    ones: &StateSet,
-    b: bool,
-    first: &Edge,
-    other: &Edge,
-    marks: &StateSet,
-) -> bool
-    requires sig { first.now.event.sig < length graph.now.signals }
-    requires from { first.now.from < length ones.now }
-    requires to { first.now.to < length marks.now }
-    requires other { other.now.to < length marks.now }
-    ensures { IsTrue result ↔ MayExit graph.now (target ones.now) b marks.now first.now other.now }
-{
-    graph.is_driven(first.event.sig)
-        && first.event != other.event
-        && marks.has(other.to)
-        && (ones.has(first.from) != b || marks.has(first.to))
-}
-
-/// Reaches what the event of the first arc leads to after the other, if it has to stay within the
-/// set.
-fn reach_exit(
-    graph: &Graph,
-    ones: &StateSet,
-    b: bool,
-    first: &Edge,
-    other: &Edge,
-    search: &mut Search,
-) -> Result<(), NoMemory>
+/// Puts the high states that are entered from low ones into the given sets.
+fn cross(graph: &Graph, highs: &[u128], given: u128, work: &mut WordWork)
     requires graph { IsGraph graph.now }
-    requires first { Contains graph.now.edges first.now }
-    requires other { Contains graph.now.edges other.now }
-    requires same { first.now.from ≡ other.now.from }
-    requires ones { length ones.now ≡ graph.now.states }
-    requires size { length search.old.marks ≡ graph.now.states }
-    requires belong { AllBelong graph.now ones.now b search.old.marks }
-    ensures marks { OnOk result (Marks (Belongs graph.now ones.now b)
-        search.old.marks search.old.work search.new.marks search.new.work) }
-    ensures done { OnOk result (ExitsDone graph.now (target ones.now) b
-        search.old.marks first.now other.now search.new.marks) }
+    requires highs { length highs.now ≡ graph.now.states }
+    requires size { IsSized graph.now.states work.old }
+    ensures { GrowsAll (λ k t. (bit given k ≡ true) × IsCrossed graph.now (column k highs.now) t)
+        work.old work.new }
 {
-    if may_exit(graph, ones, b, first, other, search.marks()) {
-        reach_by(graph.arcs_out(other.to), &first.event, search)?;
+    for arc in graph.arcs() {
+        work.reach(arc.to, crossing(highs, given, arc));
     }
-    Ok(())
 }
 
-/// Reaches what the events of an arc and of others out of its state lead to after one another, if
-/// they have to stay within the set.
-fn reach_exits(
-    graph: &Graph,
-    ones: &StateSet,
-    b: bool,
-    arc: &Edge,
-    search: &mut Search,
-) -> Result<(), NoMemory>
+/// Puts the state to which the event leads from `u` into the sets.
+fn reach_exit(graph: &Graph, sets: u128, u: StateId, e: Event, work: &mut WordWork)
     requires graph { IsGraph graph.now }
+    requires deterministic { IsDeterministic graph.now }
+    requires size { IsSized graph.now.states work.old }
+    ensures { GrowsAll (λ k t. (bit sets k ≡ true) × Step graph.now u e t) work.old work.new }
+{
+    if sets == 0 {
+        return;
+    }
+    if let Some(w) = graph.succ(u, e) {
+        work.reach(w, sets);
+    }
+}
+
+/// Puts what the event of an arc leads to after another arc out of the same state into those of the
+/// sets that have the end of the other one.
+fn reach_past(graph: &Graph, sets: u128, arc: &Edge, beside: &Edge, work: &mut WordWork)
+    requires graph { IsGraph graph.now }
+    requires deterministic { IsDeterministic graph.now }
+    requires beside { beside.now.to < graph.now.states }
+    requires size { IsSized graph.now.states work.old }
+    ensures { GrowsAll (λ k t. (bit sets k ≡ true) × (arc.now.event ≢ beside.now.event)
+        × HasBit work.old.words.items k beside.now.to
+        × Step graph.now beside.now.to arc.now.event t) work.old work.new }
+{
+    if beside.event == arc.event {
+        return;
+    }
+    let both = sets & work.words[beside.to.0 as usize];
+    reach_exit(graph, both, beside.to, arc.event, work);
+}
+
+/// Puts what the event of an arc leads to after the others out of its source into the sets, each of
+/// which has the end of the arc, as far as they have the ends of the others and the source is high.
+fn reach_beside(graph: &Graph, highs: &[u128], sets: u128, arc: &Edge, work: &mut WordWork)
+    requires graph { IsGraph graph.now }
+    requires deterministic { IsDeterministic graph.now }
+    requires highs { length highs.now ≡ graph.now.states }
     requires arc { Contains graph.now.edges arc.now }
-    requires ones { length ones.now ≡ graph.now.states }
-    requires size { length search.old.marks ≡ graph.now.states }
-    requires belong { AllBelong graph.now ones.now b search.old.marks }
-    ensures marks { OnOk result (Marks (Belongs graph.now ones.now b)
-        search.old.marks search.old.work search.new.marks search.new.work) }
-    ensures done { OnOk result ((beside : Edge) → Contains graph.now.edges beside
-        → beside.from ≡ arc.now.from → ExitsBothWays graph.now (target ones.now) b
-        search.old.marks arc.now beside search.new.marks) }
+    requires size { IsSized graph.now.states work.old }
+    requires have { HaveAll sets work.old arc.now.to }
+    requires belong { AllBelong graph.now highs.now work.old }
+    ensures grows { Grows (BelongsTo graph.now highs.now) work.old work.new }
+    ensures done { (k t : ℕ) (beside : Edge) → bit sets k ≡ true → Contains graph.now.edges beside
+        → ExitsBeside graph.now (column k highs.now) (column k work.old.words.items)
+        arc.now beside t → HasBit work.new.words.items k t }
 {
+    let high = sets & highs[arc.from.0 as usize];
+    if high == 0 || !graph.is_driven(arc.event.sig) {
+        return;
+    }
     for beside in graph.arcs_out(arc.from) {
-        reach_exit(graph, ones, b, beside, arc, search)?;
-        reach_exit(graph, ones, b, arc, beside, search)?;
+        reach_past(graph, high, arc, beside, work);
     }
-    Ok(())
 }
 
-/// Whether the state has the target.
-fn has_target(ones: &StateSet, b: bool, s: StateId) -> bool
-    requires { s < length ones.now }
-    ensures { IsTrue result ↔ (target ones.now s ≡ b) }
+/// Puts the source of an arc into those of the sets in which it is high.
+fn reach_before(highs: &[u128], sets: u128, arc: &Edge, work: &mut WordWork)
+    requires from { arc.now.from < length highs.now }
+    requires size { IsSized (length highs.now) work.old }
+    ensures { GrowsAll (λ k t. (t ≡ arc.now.from) × (bit sets k ≡ true)
+        × IsIn (column k highs.now) arc.now.from) work.old work.new }
 {
-    ones.has(s) == b
+    work.reach(arc.from, sets & highs[arc.from.0 as usize]);
 }
 
-/// Reaches what follows by an arc into a state that is marked.
-fn reach_into(
-    graph: &Graph,
-    ones: &StateSet,
-    b: bool,
-    arc: &Edge,
-    search: &mut Search,
-) -> Result<(), NoMemory>
+/// Puts what follows from the end of an arc, at its source and beside it, into the sets, each of
+/// which has that end.
+fn follow_back(graph: &Graph, highs: &[u128], sets: u128, arc: &Edge, work: &mut WordWork)
     requires graph { IsGraph graph.now }
+    requires deterministic { IsDeterministic graph.now }
+    requires highs { length highs.now ≡ graph.now.states }
     requires arc { Contains graph.now.edges arc.now }
-    requires there { IsIn search.old.marks arc.now.to }
-    requires ones { length ones.now ≡ graph.now.states }
-    requires size { length search.old.marks ≡ graph.now.states }
-    requires belong { AllBelong graph.now ones.now b search.old.marks }
-    ensures marks { OnOk result (Marks (Belongs graph.now ones.now b)
-        search.old.marks search.old.work search.new.marks search.new.work) }
-    ensures done { OnOk result ((t : ℕ) → FollowsInto graph.now (target ones.now) b
-        search.old.marks arc.now t → IsIn search.new.marks t) }
+    requires size { IsSized graph.now.states work.old }
+    requires have { HaveAll sets work.old arc.now.to }
+    requires belong { AllBelong graph.now highs.now work.old }
+    ensures grows { Grows (BelongsTo graph.now highs.now) work.old work.new }
+    ensures done { (k t : ℕ) → bit sets k ≡ true
+        → FollowsBack graph.now (column k highs.now) (column k work.old.words.items) arc.now t
+        → HasBit work.new.words.items k t }
 {
-    reach_if(has_target(ones, b, arc.from), arc.from, search)?;
-    reach_exits(graph, ones, b, arc, search)?;
-    Ok(())
+    reach_before(highs, sets, arc, work);
+    reach_beside(graph, highs, sets, arc, work);
 }
 
-/// Reaches what follows by the arcs into a state that is marked.
-fn reach_all_into(
-    graph: &Graph,
-    ones: &StateSet,
-    b: bool,
-    x: StateId,
-    search: &mut Search,
-) -> Result<(), NoMemory>
+/// Puts what follows from `x` along the arcs into it into the sets, each of which has `x`.
+fn follow_into(graph: &Graph, highs: &[u128], sets: u128, x: StateId, work: &mut WordWork)
     requires graph { IsGraph graph.now }
-    requires there { IsIn search.old.marks x }
-    requires ones { length ones.now ≡ graph.now.states }
-    requires size { length search.old.marks ≡ graph.now.states }
-    requires belong { AllBelong graph.now ones.now b search.old.marks }
-    ensures marks { OnOk result (Marks (Belongs graph.now ones.now b)
-        search.old.marks search.old.work search.new.marks search.new.work) }
-    ensures done { OnOk result ((a : Edge) (t : ℕ) → Contains graph.now.edges a → a.to ≡ x
-        → FollowsInto graph.now (target ones.now) b search.old.marks a t
-        → IsIn search.new.marks t) }
+    requires deterministic { IsDeterministic graph.now }
+    requires highs { length highs.now ≡ graph.now.states }
+    requires size { IsSized graph.now.states work.old }
+    requires have { HaveAll sets work.old x }
+    requires belong { AllBelong graph.now highs.now work.old }
+    ensures grows { Grows (BelongsTo graph.now highs.now) work.old work.new }
+    ensures done { (arc : Edge) → Contains graph.now.edges arc → arc.to ≡ x → (k t : ℕ)
+        → bit sets k ≡ true
+        → FollowsBack graph.now (column k highs.now) (column k work.old.words.items) arc t
+        → HasBit work.new.words.items k t }
 {
     let mut at = graph.first_in(x);
     while let Some(k) = at {
         let arc = graph.edge(k);
-        reach_into(graph, ones, b, &arc, search)?;
+        follow_back(graph, highs, sets, &arc, work);
         at = graph.next_in(k);
     }
-    Ok(())
 }
 
-/// Reaches what inputs lead to from a state.
-fn reach_inputs(graph: &Graph, x: StateId, search: &mut Search) -> Result<(), NoMemory>
+/// The sets in which the exit follows, by an arc into its source, from that: the event of the exit
+/// led from the source of the arc too, which is low or led to a state of the set.
+fn those_that_let(graph: &Graph, highs: &[u128], words: &[u128], exit: &Edge, before: &Edge) -> u128
     requires graph { IsGraph graph.now }
-    requires size { length search.old.marks ≡ graph.now.states }
-    ensures { OnOk result (MarksAll (IsAfterInput graph.now x)
-        search.old.marks search.old.work search.new.marks search.new.work) }
+    requires deterministic { IsDeterministic graph.now }
+    requires highs { length highs.now ≡ graph.now.states }
+    requires words { length words.now ≡ graph.now.states }
+    requires from { before.now.from < graph.now.states }
+    ensures { (k : ℕ) → k < 128 → (bit result k ≡ true)
+        ↔ LetsExit graph.now (column k highs.now) (column k words.now) exit.now before.now }
 {
-    for a in graph.arcs_out(x) {
-        reach_if(is_input(graph, a.event.sig), a.to, search)?;
+    if before.event == exit.event {
+        return 0;
     }
-    Ok(())
-}
-
-/// Whether the arc leads from the other target to this one.
-fn is_crossing(ones: &StateSet, b: bool, a: &Edge) -> bool
-    requires from { a.now.from < length ones.now }
-    requires to { a.now.to < length ones.now }
-    ensures { IsTrue result
-        ↔ ((target ones.now a.now.from ≡ not b) × (target ones.now a.now.to ≡ b)) }
-{
-    ones.has(a.from) != b && ones.has(a.to) == b
-}
-
-/// Reaches what has the target and is entered from the other target.
-fn reach_crossed(
-    graph: &Graph,
-    ones: &StateSet,
-    b: bool,
-    search: &mut Search,
-) -> Result<(), NoMemory>
-    requires graph { IsGraph graph.now }
-    requires ones { length ones.now ≡ graph.now.states }
-    requires size { length search.old.marks ≡ graph.now.states }
-    ensures { OnOk result (MarksAll (IsCrossed graph.now (target ones.now) b)
-        search.old.marks search.old.work search.new.marks search.new.work) }
-{
-    for a in graph.arcs() {
-        reach_if(is_crossing(ones, b, a), a.to, search)?;
+    match graph.succ(before.from, exit.event) {
+        None => 0,
+        Some(t) => !highs[before.from.0 as usize] | words[t.0 as usize],
     }
-    Ok(())
 }
 
-/// Reaches what follows from a state, which was the last of the work.
-fn follow(
-    graph: &Graph,
-    ones: &StateSet,
-    b: bool,
-    x: StateId,
-    search: &mut Search,
-) -> Result<(), NoMemory>
+/// The sets in which the exit follows by some arc into its source.
+fn those_with_exit(graph: &Graph, highs: &[u128], words: &[u128], exit: &Edge) -> u128
     requires graph { IsGraph graph.now }
-    requires ones { length ones.now ≡ graph.now.states }
-    requires works { Works graph.now.states (SwitchRule graph.now (target ones.now) b)
-        search.old.marks (search.old.work ++ x ∷ []) }
-    ensures works { OnOk result (Works graph.now.states (SwitchRule graph.now (target ones.now) b)
-        search.new.marks search.new.work) }
-    ensures marks { OnOk result (Marks (Belongs graph.now ones.now b)
-        search.old.marks search.old.work search.new.marks search.new.work) }
+    requires deterministic { IsDeterministic graph.now }
+    requires highs { length highs.now ≡ graph.now.states }
+    requires words { length words.now ≡ graph.now.states }
+    ensures { (k : ℕ) → k < 128 → (bit result k ≡ true)
+        ↔ HasExit graph.now (column k highs.now) (column k words.now) exit.now }
 {
-    reach_all_into(graph, ones, b, x, search)?;
-    reach_inputs(graph, x, search)?;
-    Ok(())
+    let mut found = 0;
+    let mut at = graph.first_in(exit.from);
+    while let Some(k) = at {
+        found |= those_that_let(graph, highs, words, exit, &graph.edge(k));
+        at = graph.next_in(k);
+    }
+    found
 }
 
-/// The states where the new signal switches to a value: the least set that meets the rules.
+/// Those of the sets that the word doesn't have.
+fn those_out_of(word: u128, sets: u128) -> u128
+    ensures { (k : ℕ) → (bit result k ≡ true) ↔ ((bit sets k ≡ true) × (bit word k ≡ false)) }
+{
+    sets & !word
+}
+
+/// Puts the end of an arc into those of the sets, each of which has its source, in which it
+/// follows.
+fn follow_arc(graph: &Graph, highs: &[u128], sets: u128, arc: &Edge, work: &mut WordWork)
+    requires graph { IsGraph graph.now }
+    requires deterministic { IsDeterministic graph.now }
+    requires highs { length highs.now ≡ graph.now.states }
+    requires to { arc.now.to < graph.now.states }
+    requires sig { arc.now.event.sig < length graph.now.signals }
+    requires size { IsSized graph.now.states work.old }
+    ensures { GrowsAll (λ k t. (t ≡ arc.now.to) × (bit sets k ≡ true)
+        × FollowsOn graph.now (column k highs.now) (column k work.old.words.items) arc.now)
+        work.old work.new }
+{
+    let more = those_out_of(work.words[arc.to.0 as usize], sets);
+    if more == 0 {
+        return;
+    }
+    if !graph.is_driven(arc.event.sig) {
+        work.reach(arc.to, more);
+        return;
+    }
+    let exits = those_with_exit(graph, highs, work.words.as_slice(), arc);
+    work.reach(arc.to, more & exits);
+}
+
+/// Puts what follows from `x` along the arcs out of it into the sets, each of which has `x`.
+fn follow_out(graph: &Graph, highs: &[u128], sets: u128, x: StateId, work: &mut WordWork)
+    requires graph { IsGraph graph.now }
+    requires deterministic { IsDeterministic graph.now }
+    requires highs { length highs.now ≡ graph.now.states }
+    requires size { IsSized graph.now.states work.old }
+    requires have { HaveAll sets work.old x }
+    requires belong { AllBelong graph.now highs.now work.old }
+    ensures grows { Grows (BelongsTo graph.now highs.now) work.old work.new }
+    ensures done { (arc : Edge) → Contains graph.now.edges arc → arc.from ≡ x → (k : ℕ)
+        → bit sets k ≡ true
+        → FollowsOn graph.now (column k highs.now) (column k work.old.words.items) arc
+        → HasBit work.new.words.items k arc.to }
+{
+    for arc in graph.arcs_out(x) {
+        follow_arc(graph, highs, sets, arc, work);
+    }
+}
+
+/// Puts what follows from `x` and from what the sets have into the sets, each of which has `x`.
+fn follow(graph: &Graph, highs: &[u128], sets: u128, x: StateId, work: &mut WordWork)
+    requires graph { IsGraph graph.now }
+    requires deterministic { IsDeterministic graph.now }
+    requires highs { length highs.now ≡ graph.now.states }
+    requires size { IsSized graph.now.states work.old }
+    requires have { HaveAll sets work.old x }
+    requires belong { AllBelong graph.now highs.now work.old }
+    ensures grows { Grows (BelongsTo graph.now highs.now) work.old work.new }
+    ensures done { (k t : ℕ) → bit sets k ≡ true
+        → FollowsByRule graph.now (column k highs.now) (column k work.old.words.items) x t
+        → HasBit work.new.words.items k t }
+{
+    if sets == 0 {
+        return;
+    }
+    follow_into(graph, highs, sets, x, work);
+    follow_out(graph, highs, sets, x, work);
+}
+
+/// Those of the given sets that have no state outside of the others.
+fn those_inside(given: u128, words: &[u128], within: &[u128]) -> u128
+    requires { length within.now ≡ length words.now }
+    ensures given { (k : ℕ) → bit result k ≡ true → bit given k ≡ true }
+    ensures others { (k : ℕ) → k < 128 → bit given k ≡ true → (bit result k ≡ true) ⊎ ((s : ℕ)
+        × HasBit words.now k s × (bit (slice_index_or within.now s 0) k ≡ false)) }
+{
+    let mut kept = given;
+    for s in 0..words.len() {
+        kept &= !(words[s] & !within[s]);
+    }
+    kept
+}
+
+/// The states where the new signals switch to 1, which is the target of the states of `highs`: the
+/// least sets that meet the rules, for those of the given functions for which they lie within the
+/// others. As soon as a state outside is found, the function is dropped.
 pub(crate) fn switching(
     alloc: Global,
     graph: &Graph,
-    ones: &StateSet,
-    b: bool,
-) -> Result<StateSet, NoMemory>
+    highs: &[u128],
+    given: u128,
+    within: &[u128],
+) -> Result<Switched, NoMemory>
     requires graph { IsGraph graph.now }
-    requires ones { length ones.now ≡ graph.now.states }
-    ensures { IfOk result (IsLeast graph.now.states (Switches graph.now (target ones.now) b)) }
+    requires deterministic { IsDeterministic graph.now }
+    requires highs { length highs.now ≡ graph.now.states }
+    requires within { length within.now ≡ graph.now.states }
+    ensures { IfOk result (AreSwitched graph.now highs.now given within.now) }
 {
-    let mut search = Search::new(alloc, graph.states())?;
-    reach_crossed(graph, ones, b, &mut search)?;
-    while let Some(x) = search.next_work() {
-        follow(graph, ones, b, x, &mut search)?;
+    let mut work = WordWork::new(alloc, graph.states())?;
+    cross(graph, highs, given, &mut work);
+    let mut kept = those_inside(given, work.words.as_slice(), within);
+    while let Some(x) = work.next_work() {
+        let sets = kept & work.words[x.0 as usize];
+        let inside = sets & within[x.0 as usize];
+        kept &= !(sets & !within[x.0 as usize]);
+        follow(graph, highs, inside, x, &mut work);
     }
-    Ok(search.into_marks())
+    let WordWork { words, .. } = work;
+    Ok(Switched { words, kept })
 }
 
-/// The same set where it is part of another one; `None` exactly where it isn't. It ends at the
-/// first state that is found and isn't in the other one.
-pub(crate) fn switching_within(
+/// The states where one new signal switches to 1, which is the target of the states of the set: the
+/// least set that meets the rules.
+pub(crate) fn switching_alone(
     alloc: Global,
     graph: &Graph,
-    ones: &StateSet,
-    b: bool,
-    within: &StateSet,
-) -> Result<Option<StateSet>, NoMemory>
+    high: &StateSet,
+) -> Result<StateSet, NoMemory>
     requires graph { IsGraph graph.now }
-    requires ones { length ones.now ≡ graph.now.states }
-    requires within { length within.now ≡ graph.now.states }
-    ensures { IfOk result (λ found. MatchOption found
-        (OmitsState graph.now ones.now b within.now)
-        (λ set. IsLeast graph.now.states (Switches graph.now (target ones.now) b) set
-        × IsSubset set within.now)) }
+    requires deterministic { IsDeterministic graph.now }
+    requires high { length high.now ≡ graph.now.states }
+    ensures { IfOk result (IsLeast graph.now.states (Switches graph.now (target high.now) true)) }
 {
-    let mut search = Search::new(alloc, graph.states())?;
-    reach_crossed(graph, ones, b, &mut search)?;
-    while let Some(x) = search.next_work() {
-        if !within.has(x) {
-            return Ok(None);
-        }
-        follow(graph, ones, b, x, &mut search)?;
-    }
-    Ok(Some(search.into_marks()))
+    let highs = repeated(alloc, high)?;
+    let within = everywhere(alloc, graph.states())?;
+    let found = switching(alloc, graph, &highs, 1, &within)?;
+    let set = set_at(alloc, &found.words, graph.states(), 0)?;
+    Ok(set)
 }

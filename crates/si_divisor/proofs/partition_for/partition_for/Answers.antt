@@ -1,7 +1,14 @@
+use Rattle.std.proofs.Common.{sym, subst}
 use Rattle.std.proofs.lemmas.Result.{err_from_is_err_and}
+use Rattle.si_base.specs.Codes.{IsDeterministic}
+use Rattle.si_base.specs.Graph.{StateGraph}
 use Rattle.si_cell.specs.Library.{instance_value}
 use Rattle.si_divisor.proofs.PartitionForAnswers.{partition_carried, lawful_carried, reason_carried}
 use Rattle.si_divisor.proofs.partition_for.partition_for.Goals as goal
+
+pub classes_for-requires-clause-deterministic : goal.classes_for-requires-clause-deterministic
+classes_for-requires-clause-deterministic c =
+    subst (λ (h : StateGraph). IsDeterministic h) (sym c.graph.ensures.same) c.graph.ensures.coded.deterministic
 
 pub returns-in_err-classes-clause-fault : goal.returns-in_err-classes-clause-fault
 returns-in_err-classes-clause-fault c =

@@ -1,6 +1,6 @@
 use Rattle.std.proofs.Common.{◌≡◌, ℕ, ◌<◌, true, false, get_or, refl}
 use Rattle.si_divisor.specs.Targets.{holds, forced_in}
-use Rattle.si_divisor.proofs.SwitchingTurns.{closure_settles}
+use Rattle.si_divisor.proofs.SettlingLemmas.{closure_settles}
 use Rattle.si_divisor.proofs.settled.settled_states.Goals as goal
 
 pub returns : goal.returns

@@ -1,23 +1,18 @@
-use Rattle.std.proofs.Common.{ℕ}
-use Rattle.std.proofs.lemmas.List.Elements.{Contains-push}
-use Rattle.si_divisor.specs.WorkList.{Belongs, IsAfterInput}
-use Rattle.si_divisor.proofs.SwitchingTurns.{search_goes_on, marks_on, marks_weaken, input_belongs}
+use Rattle.si_closures.specs.WordSearch.{column, HasBit}
+use Rattle.si_divisor.specs.ManySwitching.{BelongsTo}
+use Rattle.si_divisor.proofs.SwitchTurns.{marked_on, on_later, turn_done}
 use Rattle.si_divisor.proofs.switching.follow.Goals as goal
 
-pub returns-clause-works : goal.returns-clause-works
-returns-clause-works c =
-    search_goes_on c.args.graph.now c.args.ones.now c.args.b c.args.x c.args.search.now.marks c.args.search.now.work
-    c.reach_all_into.new.search.marks c.reach_all_into.new.search.work c.reach_inputs.new.search.marks
-    c.reach_inputs.new.search.work
-    c.requires.works c.in_ok-reach_all_into.ensures.marks c.in_ok-reach_all_into.ensures.done
-    c.in_ok-reach_inputs.ensures
-
-pub returns-clause-marks : goal.returns-clause-marks
-returns-clause-marks c =
+pub returns-clause-done : goal.returns-clause-done
+returns-clause-done c k t has follows =
     let g = c.args.graph.now in
-    let x = c.args.x in
-    let Q : ℕ → Type 0 = Belongs g c.args.ones.now c.args.b in
-    let here = c.requires.works.sound x (c.requires.works.queued x (Contains-push c.args.search.now.work x)) in
-    marks_on Q _ _ _ _ _ _ c.in_ok-reach_all_into.ensures.marks
-    (marks_weaken (IsAfterInput g x) Q _ _ _ _ (λ t r. input_belongs g c.args.ones.now c.args.b x t here r)
-    c.in_ok-reach_inputs.ensures.marks_are)
+    let highs = c.args.highs.now in
+    let old = c.args.work.now in
+    let mid = c.follow_into.new.work in
+    let new = c.follow_out.new.work in
+    turn_done g (column k highs) (column k old.words.items) c.args.x (HasBit new.words.items k)
+    (λ a there into u back. c.follow_out.ensures.grows.grows k u
+    (c.follow_into.ensures.done a there into k u has back))
+    (λ a there from on. c.follow_out.ensures.done a there from k has (on_later g (column k highs)
+    (column k old.words.items) (column k mid.words.items)
+    (marked_on (BelongsTo g highs) old mid c.follow_into.ensures.grows k) a on)) t follows

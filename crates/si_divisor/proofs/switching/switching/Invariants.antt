@@ -1,11 +1,10 @@
-use Rattle.std.proofs.Common.{◌+◌, length}
-use Rattle.si_graph.specs.Reach.{unmarked}
-use Rattle.si_divisor.specs.Targets.{target}
-use Rattle.si_divisor.specs.WorkList.{Works, SwitchRule}
+use Rattle.std.proofs.Common.{◌+◌}
+use Rattle.si_closures.specs.WordSearch.{room, waiting}
+use Rattle.si_divisor.proofs.SwitchLoops.{AreSearched}
 use Rattle.si_divisor.proofs.switching.switching.Given as goal
 
 abbrev pub invariant-loop-x : goal.invariant-loop-x
-invariant-loop-x l = Works l.graph.states (SwitchRule l.graph (target l.ones) l.b) l.search.marks l.search.work
+invariant-loop-x l = AreSearched l.graph l.highs l.given l.within l.work.words.items l.work.work l.kept
 
 abbrev pub decreases-loop-x : goal.decreases-loop-x
-decreases-loop-x l = unmarked l.search.marks + (unmarked l.search.marks + length l.search.work)
+decreases-loop-x l = room l.work.words.items + waiting l.work.work

@@ -1,0 +1,42 @@
+use Rattle.std.proofs.Common.{◌+◌, ℕ, [], length, sym, subst}
+use Rattle.si_base.specs.declared.graph.Edge.{Edge}
+use Rattle.si_graph.specs.Arcs.{IsFirstPlace, IsInto, edge_at}
+use Rattle.si_graph.proofs.ClosureLemmas.{stands_first}
+use Rattle.si_closures.specs.WordSearch.{column, HasBit}
+use Rattle.si_divisor.specs.ManySwitching.{BelongsTo}
+use Rattle.si_divisor.proofs.SwitchTurns.{ComesBack, back_later, grows_both, marked_on, walk_goes_on, walk_ends}
+use Rattle.si_divisor.proofs.switching.follow_into.Goals as goal
+
+pub loop-at-preserved : goal.loop-at-preserved
+loop-at-preserved c =
+    let g = c.args.graph.now in
+    let highs = c.args.highs.now in
+    let sets = c.args.sets in
+    let x = c.args.x in
+    let n = c.in-Some.k in
+    let old = c.args.work.now in
+    let mid = c.loop-at.work in
+    let new = c.follow_back.new.work in
+    let after = c.next_in-at.result in
+    let B = BelongsTo g highs in
+    let grown = c.loop-at.invariant.grows in
+    let stands = rw c.in-Some.is at c.loop-at.invariant.stands in
+    let passed = rw c.in-Some.is at c.loop-at.invariant.passed in
+    let First : ℕ → Type 0 = λ t. IsFirstPlace (IsInto g.edges t) (n + 1) (length g.edges) after in
+    let next = subst First stands.1 c.next_in-at.ensures in
+    let here : (k t : ℕ) → ComesBack g highs sets old k (edge_at g.edges n) t → HasBit new.words.items k t = λ k t q.
+    c.follow_back.ensures.done k t q.0 (back_later g (column k highs) (column k old.words.items)
+    (column k mid.words.items) (marked_on B old mid grown k) c.edge-arc.result t
+    (subst (λ (a : Edge). ComesBack g highs sets old k a t) (sym c.edge-arc.ensures.edge) q).1) in
+    record {
+      grows = grows_both B B B old mid new (λ k t b. b) (λ k t b. b) grown c.follow_back.ensures.grows;
+      stands = stands_first g [] x (n + 1) after next;
+      passed = walk_goes_on g (ComesBack g highs sets old) B x n after mid new next here c.follow_back.ensures.grows
+          passed;
+    }
+
+pub returns-clause-done : goal.returns-clause-done
+returns-clause-done c arc there into k t has follows =
+    let g = c.args.graph.now in
+    walk_ends g (ComesBack g c.args.highs.now c.args.sets c.args.work.now) c.args.x c.loop-at.work
+    (rw c.in_default.is at c.loop-at.invariant.passed) arc there into k t (has, follows)
