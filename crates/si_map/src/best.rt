@@ -27,8 +27,8 @@ pub fn best_divisor(
         (λ a. (x : Choice) × IsBest resolved.now.current.coded library.now x
         × (x.classes ≡ a))) }
 {
-    let cells = LibraryFunctions::of(alloc, library)?;
-    let best = best_by_functions(alloc, resolved, &cells)?;
+    let functions = LibraryFunctions::of(alloc, library)?;
+    let best = best_by_functions(alloc, resolved, &functions)?;
     Ok(best)
 }
 
@@ -37,15 +37,15 @@ pub fn best_divisor(
 pub(crate) fn best_by_functions(
     alloc: Global,
     resolved: &Resolved,
-    cells: &LibraryFunctions<'_>,
+    library: &LibraryFunctions<'_>,
 ) -> Result<Option<Accepted>, NoMemory>
-    ensures { IfOk result (IsBestPartition resolved.now.current.coded cells.now) }
+    ensures { IfOk result (IsBestPartition resolved.now.current.coded library.now) }
 {
     let graph = resolved.distinct();
     if graph.proper().coded().graph().signals().len() >= MAX_SIGNALS {
         return Ok(None);
     }
-    let weight = weight(alloc, graph, cells.library())?;
-    let best = find_best(alloc, graph, cells, weight)?;
+    let weight = weight(alloc, graph, library.library())?;
+    let best = find_best(alloc, graph, library, weight)?;
     Ok(best)
 }

@@ -82,12 +82,12 @@ pub fn map_cells(
         match Circuit::of_cells(alloc, resolved, library, model, states) {
             Ok(circuit) => return Ok(circuit),
             Err((rest, fault)) => {
-                let cells = match functions_once(alloc, library, made) {
-                    Ok(cells) => cells,
+                let functions = match functions_once(alloc, library, made) {
+                    Ok(functions) => functions,
                     Err(NoMemory) => return Err(without_memory(rest)),
                 };
-                resolved = with_best_divisor(alloc, rest, &cells, fault)?;
-                made = Some(cells);
+                resolved = with_best_divisor(alloc, rest, &functions, fault)?;
+                made = Some(functions);
             }
         }
     }
@@ -99,11 +99,11 @@ fn functions_once<'a>(
     library: &'a Library,
     made: Option<LibraryFunctions<'a>>,
 ) -> Result<LibraryFunctions<'a>, NoMemory>
-    requires { IfSome made (λ cells. cells ≡ library.now) }
-    ensures { IfOk result (λ cells. cells ≡ library.now) }
+    requires { IfSome made (λ functions. functions ≡ library.now) }
+    ensures { IfOk result (λ functions. functions ≡ library.now) }
 {
     match made {
-        Some(cells) => Ok(cells),
+        Some(functions) => Ok(functions),
         None => LibraryFunctions::of(alloc, library),
     }
 }
@@ -112,20 +112,20 @@ fn functions_once<'a>(
 fn with_best_divisor(
     alloc: Global,
     resolved: Resolved,
-    cells: &LibraryFunctions<'_>,
+    library: &LibraryFunctions<'_>,
     fault: CellsFault,
 ) -> Result<Resolved, Unmapped>
-    requires { ShowsUnfit resolved.current.coded cells.now fault }
+    requires { ShowsUnfit resolved.current.coded library.now fault }
     ensures extended { IfOk result (λ next. (p : TraceStep) × Extends resolved p next
-        × InsertsDivisor cells.now resolved.current p next.current
+        × InsertsDivisor library.now resolved.current p next.current
         × IsTrue (is_signal_name p.name)) }
     ensures unmapped { IfErr result (λ u. (u.resolved ≡ resolved)
-        × ShowsStuck cells.now resolved.current u.cause) }
+        × ShowsStuck library.now resolved.current u.cause) }
 {
     let CellsFault::Unfit { sig } = fault else {
         return Err(without_memory(resolved));
     };
-    let found = match best_insertion(alloc, &resolved, cells) {
+    let found = match best_insertion(alloc, &resolved, library) {
         Ok(found) => found,
         Err(NoMemory) => return Err(without_memory(resolved)),
     };
@@ -186,14 +186,14 @@ fn with_insertion(
 fn best_insertion(
     alloc: Global,
     resolved: &Resolved,
-    cells: &LibraryFunctions<'_>,
+    library: &LibraryFunctions<'_>,
 ) -> Result<Option<Insertion>, NoMemory>
     ensures { let c = resolved.now.current.coded in IfOk result (λ o. MatchOption o
-        (NoneServes c cells.now)
-        (λ r. (x : Choice) × IsBest c cells.now x × (x.classes ≡ r.accepted)
+        (NoneServes c library.now)
+        (λ r. (x : Choice) × IsBest c library.now x × (x.classes ≡ r.accepted)
         × IsFresh c.graph.signals (codes "map") r.name × IsTrue (is_signal_name r.name))) }
 {
-    let Some(accepted) = best_by_functions(alloc, resolved, cells)? else {
+    let Some(accepted) = best_by_functions(alloc, resolved, library)? else {
         return Ok(None);
     };
     let name = fresh_name(alloc, resolved.lineage().current().coded().graph(), STEM)?;

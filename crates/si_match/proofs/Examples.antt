@@ -157,7 +157,8 @@ b_alone = 1 ∷ []
 
 -- so no instance fits b that reads b alone
 none_reads_b_alone : NoneFitsOver repeater (library (buffer ∷ [])) 1 b_alone
-none_reads_b_alone i over fit among = reads i over fit (λ k d within. unread (get_or i.literals k d) (among k d within))
+none_reads_b_alone i over fit among =
+    reads i over fit (λ k d within. unread (get_or i.literals k d) (among k d within))
   where
     unread : (l : Literal) → Contains (1 ∷ b_alone) l.sig → l.sig ≢ 0
     unread l (zero, within, at) e = one_isnt_zero (at ∙ e)

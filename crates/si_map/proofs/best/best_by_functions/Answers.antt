@@ -4,4 +4,4 @@ use Rattle.si_map.proofs.best.best_by_functions.Goals as goal
 
 pub returns : goal.returns
 returns c =
-    subst (λ d. IsBestPartition d c.args.cells.now c.in_ok-best.best) c.distinct-graph.ensures c.in_ok-best.ensures
+    subst (λ d. IsBestPartition d c.args.library.now c.in_ok-best.best) c.distinct-graph.ensures c.in_ok-best.ensures

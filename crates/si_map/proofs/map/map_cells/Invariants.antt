@@ -7,7 +7,7 @@ use Rattle.si_map.proofs.map.map_cells.Given as goal
 abbrev pub invariant-loop-circuit : goal.invariant-loop-circuit
 invariant-loop-circuit l = record {
   leads : Leads (InsertsDivisor l.fn.library) l.fn.resolved l.resolved;
-  made : IfSome l.made (λ cells. cells ≡ l.fn.library);
+  made : IfSome l.made (λ functions. functions ≡ l.fn.library);
 }
 
 abbrev pub decreases-loop-circuit : goal.decreases-loop-circuit
