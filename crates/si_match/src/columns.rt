@@ -1,7 +1,7 @@
 //! The truth tables of a cell over a few places, of which some of the first pins have literals: a
 //! word has the values at all codes of the places.
 
-ghost use Rattle.std.specs.Prelude.{◌≡◌, ℕ, ◌+◌, ◌*◌, ◌/◌, ◌<◌, ◌≤◌, ◌^◌, ◌++◌, [], ◌∷◌, List};
+ghost use Rattle.std.specs.Prelude.{◌≡◌, ℕ, ◌+◌, ◌/◌, ◌<◌, ◌≤◌, ◌^◌, ◌++◌, [], ◌∷◌, List};
 ghost use Rattle.std.specs.Prelude.{if◌then◌else◌, length};
 ghost use Rattle.si_base.specs.Bits.{bit};
 ghost use Rattle.si_base.specs.Netlist.{literal_value};
@@ -15,9 +15,10 @@ use crate::functions::PLACES;
 use arrayvec::ArrayVec;
 use si_base::ids::{Code, Literal, Sig};
 use si_cell::cell::{Cell, PinLiteral};
+use si_cell::limits::MAX_PINS;
 
-/// The most columns of a cell: how many codes its pins and its own output have.
-pub(crate) const MAX_COLUMNS: usize = 32;
+/// The most columns of a cell: how many codes all its pins and its own output have.
+pub(crate) const MAX_COLUMNS: usize = 2 << MAX_PINS;
 
 /// The values of each place at all codes of the places: bit m is the place's value at the code m.
 const PLACE_COLUMNS: [u32; PLACES] = [
@@ -52,11 +53,11 @@ fn constant_column(value: bool) -> u32
     if value { u32::MAX } else { 0 }
 }
 
-/// The values of one column where the literal is true, those of the other where it isn't.
-fn merged(literal: u32, untrue: u32, true_there: u32) -> u32
-    ensures { (m : ℕ) → bit result m ≡ (if bit literal m then bit true_there m else bit untrue m) }
+/// The values of the one column where the literal is false, those of the other where it is true.
+fn merged(literal: u32, if_false: u32, if_true: u32) -> u32
+    ensures { (m : ℕ) → bit result m ≡ (if bit literal m then bit if_true m else bit if_false m) }
 {
-    untrue ^ literal & (untrue ^ true_there)
+    if_false ^ literal & (if_false ^ if_true)
 }
 
 /// How many codes these pins and the own output have.

@@ -15,9 +15,10 @@ loop-place-preserved t c cell literals are =
     let within : place < 2 * places = omega (arith, c.loop-place-test.true) in
     let chosen = subst (AreColumns cell (literals ++ l ∷ [])) (sym c.as_slice.ensures.value)
     (c.with_literal-chosen.ensures.columns cell literals are) in
-    c.in_ok-add_tables.ensures cell (literals ++ l ∷ []) chosen
-    ∙ next_tables cell literals (c.args.more - 1) place l within c.literal_at.ensures
-    c.args.tables.now.items c.loop-place.tables.items (c.loop-place.invariant cell literals are)
+    let added = c.in_ok-add_tables.ensures cell (literals ++ l ∷ []) chosen in
+    let next = next_tables cell literals (c.args.more - 1) place l within c.literal_at.ensures
+    c.args.tables.now.items c.loop-place.tables.items (c.loop-place.invariant cell literals are) in
+    ◌∙◌ {A = List ℕ} added next
 
 pub returns : goal.returns
 returns t c cell literals are =
