@@ -11,7 +11,7 @@ use Rattle.si_insert.specs.declared.lineage.TraceStep.{TraceStep}
 use Rattle.si_insert.specs.declared.partition.Class.{Class}
 use Rattle.si_insert.specs.declared.partition.Class.TheVariants.{Low, Rising, High, Falling}
 use Rattle.si_insert.specs.Built.{IsBuilt}
-use Rattle.si_insert.specs.Lineage.{Current, Grows, History, Inserts, IsLineage, given_current}
+use Rattle.si_insert.specs.Lineage.{Current, Grows, History, Inserts, IsLineage, given_current, given_history}
 use Rattle.si_insert.specs.Insertion.{switching}
 use Rattle.si_insert.specs.GraphOfCopies.{switches}
 use Rattle.si_insert.specs.Partition.{class_of}
@@ -24,7 +24,7 @@ use Rattle.si_circuit.specs.Spelling.{AreDescents, current_word, descent, descen
 use Rattle.si_circuit.specs.Spelling.{insertion_of, insertions_from, insertions_of, state_word, switching_words}
 use Rattle.si_circuit.proofs.SpellingWord.{current_word_made}
 use Rattle.si_circuit.proofs.SpellingDescents.{given_are, next_descents, one_more}
-use Rattle.si_audit.specs.Audit.{Certifies, NamesAccepted, Takes, TakesAll, start_lineage}
+use Rattle.si_audit.specs.Audit.{Certifies, NamesAccepted, Takes, TakesAll}
 use Rattle.si_audit.specs.Laws.{BuiltAreCertified, CertifiedAreBuilt}
 use Rattle.si_audit.specs.Named.{AreWordsOf, NamesSets, states_in}
 use Rattle.si_audit.proofs.OneAudit.{spelled_all, spelled_first}
@@ -302,10 +302,10 @@ built_are_certified states l n line built inserts_are =
       none_inserted = line.none_inserted;
       grown = refl;
     } in
-    let taken : TakesAll states (start_lineage c) (insertions_from states 0 first l.trace) l =
+    let taken : TakesAll states (given_history c) (insertions_from states 0 first l.trace) l =
     rest_taken states c [] l.trace (given_current c) l.current 0 first (first_reached c begins) line.grown in
     record {
-      taken = subst (λ (inserts : List Insertion). TakesAll states (start_lineage c) inserts l) (sym inserts_are) taken;
+      taken = subst (λ (inserts : List Insertion). TakesAll states (given_history c) inserts l) (sym inserts_are) taken;
       built = built;
     }
 
@@ -327,7 +327,7 @@ certified_along states c n l can certifies =
     n.inserts ≡ insertions_from states 0 (given_descents g.graph.states) l.trace in
     record {
       given_is = all.given_is;
-      lineage = (spelled_all states (start_lineage c) n.inserts l first certifies.taken).lineage;
+      lineage = (spelled_all states (given_history c) n.inserts l first certifies.taken).lineage;
       built = certifies.built;
       inserts_are = subst Spells back spelled;
     }

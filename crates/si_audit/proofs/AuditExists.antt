@@ -13,7 +13,7 @@ use Rattle.si_checks.proofs.SearchDecisions.{Decided, both, driven, less, same_v
 use Rattle.si_insert.specs.declared.lineage.TraceStep.{TraceStep}
 use Rattle.si_insert.specs.declared.partition.Class.{Class}
 use Rattle.si_insert.specs.Fresh.{IsTaken}
-use Rattle.si_insert.specs.Lineage.{Current, History, Keeps}
+use Rattle.si_insert.specs.Lineage.{Current, History, Keeps, given_history}
 use Rattle.si_insert.proofs.InsertionKeeps.{keeps}
 use Rattle.si_candidates.specs.Parts.{AreClasses}
 use Rattle.si_candidates.proofs.ClassesExist.{classes_or_torn}
@@ -22,7 +22,7 @@ use Rattle.si_circuit.specs.Spelling.{current_word}
 use Rattle.si_audit.specs.declared.fault.AuditFault.{AuditFault}
 use Rattle.si_audit.specs.declared.fault.AuditFault.TheVariants.{NoMemory, States, Classes, Refused, Start, Gate}
 use Rattle.si_audit.specs.Named.{NamesSets}
-use Rattle.si_audit.specs.Audit.{Certifies, Takes, TakesAll, start_lineage}
+use Rattle.si_audit.specs.Audit.{Certifies, Takes, TakesAll}
 use Rattle.si_audit.specs.Faults.{IsWrong, Spot, StartsOtherwise, ShowsFault, StopsAt, StopsLast, refused_word}
 use Rattle.si_audit.specs.Laws.{CanBeAudited, CertifiedOrFaulty}
 use Rattle.si_audit.proofs.LastBuilt.{at_first_signal, at_first_spot, gives_if_none, is_built, same_start}
@@ -170,12 +170,12 @@ module _ (states : List (List ℕ)) (c : CodedGraph) (n : Netlist) (can : CanBeA
     | inr not_here ↦ not_here s is
   ]
 
-  module _ (l : History) (all : TakesAll states (start_lineage c) n.inserts l) where
+  module _ (l : History) (all : TakesAll states (given_history c) n.inserts l) where
     spelled_last : HasStateNames states l
-    spelled_last = spelled_all states (start_lineage c) n.inserts l (spelled_first states c n can) all
+    spelled_last = spelled_all states (given_history c) n.inserts l (spelled_first states c n can) all
 
     given_is : l.given ≡ c
-    given_is = given_stays states (start_lineage c) n.inserts l all
+    given_is = given_stays states (given_history c) n.inserts l all
 
     unbuilt : (fault : AuditFault) → (fault ≢ NoMemory) → StopsLast states l n fault → Answer
     unbuilt fault other stops =
@@ -222,18 +222,18 @@ module _ (states : List (List ℕ)) (c : CodedGraph) (n : Netlist) (can : CanBeA
 
   -- ---- insertion after insertion
   walk : (before rest : List Insertion) (l : History) → n.inserts ≡ before ++ rest
-      → TakesAll states (start_lineage c) before l
+      → TakesAll states (given_history c) before l
       → Answer
   walk before [] l cut taken =
-      let P : List Insertion → Type 0 = λ xs. TakesAll states (start_lineage c) xs l in
+      let P : List Insertion → Type 0 = λ xs. TakesAll states (given_history c) xs l in
       at_end l (subst P (sym (cut ∙ append-nil before)) taken)
   walk before (i ∷ rest) l cut taken =
-      let spelled = spelled_all states (start_lineage c) before l (spelled_first states c n can) taken in
+      let spelled = spelled_all states (given_history c) before l (spelled_first states c n can) taken in
       let form = front_form states c n can before i rest cut in
       let free = free_at states c n l before i rest cut taken can.netlist can.fits in
       elim (step_or_stop states l i (length before + 1) spelled form free) [
         | inl (m, takes) ↦ walk (before ++ i ∷ []) rest m (cut ∙ sym (append_assoc before (i ∷ []) rest))
-            (one_more states (start_lineage c) before l i m taken takes)
+            (one_more states (given_history c) before l i m taken takes)
         | inr (fault, other, stops) ↦ inr (
           fault,
           other,
@@ -252,4 +252,4 @@ module _ (states : List (List ℕ)) (c : CodedGraph) (n : Netlist) (can : CanBeA
       ]
 
 pub certified_or_faulty : CertifiedOrFaulty
-certified_or_faulty states c n can = walk states c n can [] n.inserts (start_lineage c) refl refl
+certified_or_faulty states c n can = walk states c n can [] n.inserts (given_history c) refl refl

@@ -9,10 +9,10 @@ use Rattle.si_base.specs.Netlist.{Gate, Netlist, SumGate, gate_value}
 use Rattle.si_base.specs.RightGates.{GivesNextValues}
 use Rattle.si_base.specs.Sets.{flag}
 use Rattle.si_insert.specs.declared.accept.Rejected.TheVariants.{DelaysInput, TooLarge}
-use Rattle.si_insert.specs.Lineage.{given_current}
+use Rattle.si_insert.specs.Lineage.{given_current, given_history}
 use Rattle.si_circuit.specs.Spelling.{current_word}
 use Rattle.si_audit.specs.declared.fault.AuditFault.TheVariants.{Refused, Start}
-use Rattle.si_audit.specs.Audit.{Certifies, start_lineage}
+use Rattle.si_audit.specs.Audit.{Certifies}
 use Rattle.si_audit.specs.Columns.{DifferFirstAt, column, is_value, words_for}
 use Rattle.si_audit.specs.Faults.{IsWrong, StartsOtherwise, refused_word}
 use Rattle.si_audit.specs.Named.{AreWordsOf, states_in}
@@ -73,7 +73,7 @@ at_c (suc (suc (suc (suc s)))) within = absurd (omega arith)
 wire_gives : GivesNextValues follower wire
 wire_gives = record { gates = λ s z within there. rw (only_c z there) (at_c s within) }
 
-wire_is_certified : Certifies names follower wire (start_lineage follower)
+wire_is_certified : Certifies names follower wire (given_history follower)
 wire_is_certified = record {
   taken = refl;
   built = record { signals = refl; start = refl; gives = wire_gives };
@@ -121,16 +121,16 @@ keeper_differs = record {
 second_and_fourth : states_in (false ∷ true ∷ false ∷ true ∷ []) ≡ 1 ∷ 3 ∷ []
 second_and_fourth = refl
 
-words_of_two : AreWordsOf names (start_lineage follower) (codes "s1" ∷ codes "s3" ∷ [])
+words_of_two : AreWordsOf names (given_history follower) (codes "s1" ∷ codes "s3" ∷ [])
     (false ∷ true ∷ false ∷ true ∷ [])
 unfolding current_word
 words_of_two = record { size = refl; words_are = refl }
 
-delayed_word : refused_word names (start_lineage follower) (DelaysInput 2 (fall 0)) ≡ codes "s2"
+delayed_word : refused_word names (given_history follower) (DelaysInput 2 (fall 0)) ≡ codes "s2"
 unfolding current_word
 delayed_word = refl
 
-no_word : refused_word names (start_lineage follower) (TooLarge 300000) ≡ []
+no_word : refused_word names (given_history follower) (TooLarge 300000) ≡ []
 no_word = refl
 
 -- ---- the start

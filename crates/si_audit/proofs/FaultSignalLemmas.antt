@@ -16,11 +16,11 @@ use Rattle.si_insert.specs.declared.accept.Rejected.{Rejected}
 use Rattle.si_insert.specs.declared.accept.Rejected.TheVariants.{DelaysInput, BreaksPersistency, TooLarge, NoCodeBit}
 use Rattle.si_insert.specs.Accepted.{IsDriven, ShowsRejected}
 use Rattle.si_insert.specs.Insertion.{Copy, Moves, new_signal}
-use Rattle.si_insert.specs.Lineage.{History}
+use Rattle.si_insert.specs.Lineage.{History, given_history}
 use Rattle.si_insert.proofs.InsertionKeeps.{keeps}
 use Rattle.si_audit.specs.declared.fault.AuditFault.{AuditFault}
 use Rattle.si_audit.specs.declared.fault.AuditFault.TheVariants.{NoMemory, States, Classes, Refused, Start, Gate}
-use Rattle.si_audit.specs.Audit.{TakesAll, start_lineage}
+use Rattle.si_audit.specs.Audit.{TakesAll}
 use Rattle.si_audit.specs.Faults.{ShowsFault}
 use Rattle.si_audit.specs.Laws.{CanBeAudited}
 use Rattle.si_audit.specs.FaultSignals.{AreAmong, TellsOf}
@@ -53,10 +53,10 @@ among g classes signals NoCodeBit graph more few shows = absurd (omega (arith, s
 -- before an insertion of the netlist the graph has fewer signals than the netlist
 fewer_before : (states : List (List ℕ)) (c : CodedGraph) (n : Netlist) (before : List Insertion) (i : Insertion)
     (after : List Insertion) (l : History) → IsNetlist n → IsFor c n → n.inserts ≡ before ++ i ∷ after
-    → TakesAll states (start_lineage c) before l → length l.current.coded.graph.signals < length n.signals
+    → TakesAll states (given_history c) before l → length l.current.coded.graph.signals < length n.signals
 fewer_before states c n before i after l is fits cut taken =
     let all = ap (length {A = Signal}) (signals_are c n is fits) in
-    let now = ap (length {A = Signal}) (signals_grow states (start_lineage c) before l taken) in
+    let now = ap (length {A = Signal}) (signals_grow states (given_history c) before l taken) in
     let count = ap (length {A = Insertion}) cut in
     let wholes = length-map n.inserts (λ (j : Insertion). new_signal j.name) in
     let fronts = length-map before (λ (j : Insertion). new_signal j.name) in
@@ -79,7 +79,7 @@ tells states c n (States k) can shows = tt
 tells states c n (Classes k) can shows = tt
 tells states c n (Refused k state why) can shows =
     let l = shows.lineage in
-    let spelled = spelled_all states (start_lineage c) shows.before l (spelled_first states c n can) shows.taken in
+    let spelled = spelled_all states (given_history c) shows.before l (spelled_first states c n can) shows.taken in
     let graph = (keeps l.given l.trace l.current spelled.lineage).coded.graph_is in
     among l.current.coded.graph shows.stops.1.classes n.signals why graph
     (fewer_before states c n shows.before shows.insertion shows.after l can.netlist can.fits shows.cut shows.taken)

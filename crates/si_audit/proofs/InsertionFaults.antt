@@ -7,10 +7,10 @@ use Rattle.si_insert.specs.declared.accept.Rejected.{Rejected}
 use Rattle.si_insert.specs.declared.accept.Rejected.TheVariants.{DelaysInput, BreaksPersistency, TooLarge, NoCodeBit}
 use Rattle.si_insert.specs.declared.partition.Class.{Class}
 use Rattle.si_insert.specs.Accepted.{ShowsRejected}
-use Rattle.si_insert.specs.Lineage.{History}
+use Rattle.si_insert.specs.Lineage.{History, given_history}
 use Rattle.si_audit.specs.declared.fault.AuditFault.{AuditFault}
 use Rattle.si_audit.specs.declared.fault.AuditFault.TheVariants.{NoMemory, States, Classes, Refused, Start, Gate}
-use Rattle.si_audit.specs.Audit.{TakesAll, start_lineage}
+use Rattle.si_audit.specs.Audit.{TakesAll}
 use Rattle.si_audit.specs.Faults.{IsRefused, IsRejected, IsUnbuilt, ShowsFault, ShowsRejection}
 use Rattle.si_audit.specs.Faults.{StopsAt, StopsLast, refused_word}
 use Rattle.si_audit.specs.Within.{IsWithin, TellsRefusal}
@@ -71,7 +71,7 @@ is_rejected states c n (Gate sig state) other shows = absurd shows
 -- where the whole audit ends with a fault, an insertion is rejected, or all are taken
 pub rejected_or_taken : (states : List (List ℕ)) (c : CodedGraph) (n : Netlist) (fault : AuditFault)
     → ShowsFault states c n fault
-    → ShowsRejection states c n fault ⊎ ((l : History) × TakesAll states (start_lineage c) n.inserts l)
+    → ShowsRejection states c n fault ⊎ ((l : History) × TakesAll states (given_history c) n.inserts l)
 rejected_or_taken states c n NoMemory shows = inl tt
 rejected_or_taken states c n (States k) shows = inl shows
 rejected_or_taken states c n (Classes k) shows = inl shows

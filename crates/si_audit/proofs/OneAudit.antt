@@ -11,7 +11,7 @@ use Rattle.si_insert.specs.declared.lineage.TraceStep.{TraceStep}
 use Rattle.si_insert.specs.declared.partition.Class.{Class}
 use Rattle.si_insert.specs.declared.accept.Rejected.{Rejected}
 use Rattle.si_insert.specs.Accepted.{ShowsRejected}
-use Rattle.si_insert.specs.Lineage.{History, IsLineage, Keeps}
+use Rattle.si_insert.specs.Lineage.{History, IsLineage, Keeps, given_history}
 use Rattle.si_insert.proofs.AcceptedByTests.{rejected_is_not}
 use Rattle.si_insert.proofs.InsertionKeeps.{keeps}
 use Rattle.si_insert.proofs.OneInsertion.{lineage_on, one_view}
@@ -20,7 +20,7 @@ use Rattle.si_candidates.proofs.PartLaws.{classes_lawful, classes_unique, torn_h
 use Rattle.si_audit.specs.declared.fault.AuditFault.{AuditFault}
 use Rattle.si_audit.specs.declared.fault.AuditFault.TheVariants.{NoMemory, States, Classes, Refused, Start, Gate}
 use Rattle.si_audit.specs.Named.{NamesSets}
-use Rattle.si_audit.specs.Audit.{Takes, TakesAll, start_lineage}
+use Rattle.si_audit.specs.Audit.{Takes, TakesAll}
 use Rattle.si_audit.specs.Faults.{IsRefused, StopsAt, refused_word}
 use Rattle.si_audit.specs.Laws.{CanBeAudited}
 use Rattle.si_audit.proofs.StateWords.{HasStateNames}
@@ -40,7 +40,7 @@ goes_on states l i m lineage takes =
     subst₂ P (sym takes.extends.given_stays) (sym takes.extends.trace_grows) on
 
 pub spelled_first : (states : List (List ℕ)) (c : CodedGraph) (n : Netlist) → CanBeAudited states c n
-    → HasStateNames states (start_lineage c)
+    → HasStateNames states (given_history c)
 spelled_first states c n can = record {
   lineage = record {
     coded = can.coded;

@@ -11,12 +11,12 @@ use Rattle.si_base.specs.Order.{IsFirst}
 use Rattle.si_base.specs.WellFormed.{IsInsertion}
 use Rattle.si_checks.proofs.SearchFirst.{firsts_at_one_place}
 use Rattle.si_insert.specs.Built.{IsBuilt}
-use Rattle.si_insert.specs.Lineage.{History}
+use Rattle.si_insert.specs.Lineage.{History, given_history}
 use Rattle.si_insert.proofs.LineageChain.{implements}
 use Rattle.si_circuit.specs.Spelling.{current_word}
 use Rattle.si_audit.specs.declared.fault.AuditFault.{AuditFault}
 use Rattle.si_audit.specs.declared.fault.AuditFault.TheVariants.{NoMemory, States, Classes, Refused, Start, Gate}
-use Rattle.si_audit.specs.Audit.{Certifies, Takes, TakesAll, start_lineage}
+use Rattle.si_audit.specs.Audit.{Certifies, Takes, TakesAll}
 use Rattle.si_audit.specs.Faults.{IsRejected, IsUnbuilt, IsWrong, Spot, StartsOtherwise, ShowsFault, StopsAt, StopsLast}
 use Rattle.si_audit.specs.Faults.{signal_place, spot_place}
 use Rattle.si_audit.specs.Laws.{CanBeAudited, CertifiedImplement, CertificatesAreOne, CertifiedHaveNone, FaultsAreOne}
@@ -72,16 +72,16 @@ module _ (states : List (List ℕ)) (c : CodedGraph) (n : Netlist) (can : CanBeA
 
   -- what is rejected is not taken
   pub rejected_not_taken : (fault : AuditFault) (l : History) → (fault ≡ NoMemory → ⊥) → IsRejected states c n fault
-      → TakesAll states (start_lineage c) n.inserts l → ⊥
+      → TakesAll states (given_history c) n.inserts l → ⊥
   rejected_not_taken fault l other r taken =
-      let P : List Insertion → Type 0 = λ xs. TakesAll states (start_lineage c) xs l in
-      let parts = taken_parts states (start_lineage c) r.before (r.insertion ∷ r.after) l (subst P r.cut taken) in
+      let P : List Insertion → Type 0 = λ xs. TakesAll states (given_history c) xs l in
+      let parts = taken_parts states (given_history c) r.before (r.insertion ∷ r.after) l (subst P r.cut taken) in
       let first = spelled_first states c n can in
       let same : parts.0 ≡ r.lineage =
-      all_one states (start_lineage c) r.before parts.0 r.lineage first
+      all_one states (given_history c) r.before parts.0 r.lineage first
       (forms_front r.before (r.insertion ∷ r.after) r.cut)
       parts.1 r.taken in
-      let spelled = spelled_all states (start_lineage c) r.before r.lineage first r.taken in
+      let spelled = spelled_all states (given_history c) r.before r.lineage first r.taken in
       let Q : History → Type 0 = λ h. Takes states h r.insertion parts.2.0 in
       never_stops states r.lineage r.insertion spelled (front_form r.before r.insertion r.after r.cut)
       (length r.before + 1) fault parts.2.0 other r.stops (subst Q same parts.2.1)
@@ -89,10 +89,10 @@ module _ (states : List (List ℕ)) (c : CodedGraph) (n : Netlist) (can : CanBeA
   all_forms : All IsInsertion n.inserts
   all_forms = can.netlist.inserts
 
-  pub one_lineage : (l m : History) → TakesAll states (start_lineage c) n.inserts l
-      → TakesAll states (start_lineage c) n.inserts m → l ≡ m
+  pub one_lineage : (l m : History) → TakesAll states (given_history c) n.inserts l
+      → TakesAll states (given_history c) n.inserts m → l ≡ m
   one_lineage l m one other =
-      all_one states (start_lineage c) n.inserts l m (spelled_first states c n can) all_forms one other
+      all_one states (given_history c) n.inserts l m (spelled_first states c n can) all_forms one other
 
   -- ---- the end
   built_never_stops : (l : History) (fault : AuditFault) → (fault ≡ NoMemory → ⊥) → IsBuilt l.current n
@@ -158,16 +158,16 @@ module _ (states : List (List ℕ)) (c : CodedGraph) (n : Netlist) (can : CanBeA
       → length r.before < length q.before → ⊥
   later_not a b other r q below =
       let cut = shorter_cut r.before r.insertion r.after q.before q.insertion q.after (sym r.cut ∙ q.cut) below in
-      let P : List Insertion → Type 0 = λ xs. TakesAll states (start_lineage c) xs q.lineage in
-      let parts = taken_parts states (start_lineage c) r.before (r.insertion ∷ cut.0) q.lineage
+      let P : List Insertion → Type 0 = λ xs. TakesAll states (given_history c) xs q.lineage in
+      let parts = taken_parts states (given_history c) r.before (r.insertion ∷ cut.0) q.lineage
       (subst P cut.1 q.taken) in
       let first = spelled_first states c n can in
       let same : parts.0 ≡ r.lineage =
-      all_one states (start_lineage c) r.before parts.0 r.lineage first
+      all_one states (given_history c) r.before parts.0 r.lineage first
       (forms_front r.before (r.insertion ∷ r.after) r.cut)
       parts.1 r.taken in
       let Q : History → Type 0 = λ h. Takes states h r.insertion parts.2.0 in
-      never_stops states r.lineage r.insertion (spelled_all states (start_lineage c) r.before r.lineage first r.taken)
+      never_stops states r.lineage r.insertion (spelled_all states (given_history c) r.before r.lineage first r.taken)
       (front_form r.before r.insertion r.after r.cut) (length r.before + 1) a parts.2.0 other r.stops
       (subst Q same parts.2.1)
 
@@ -176,15 +176,15 @@ module _ (states : List (List ℕ)) (c : CodedGraph) (n : Netlist) (can : CanBeA
   at_one_place a b not_a not_b r q size =
       let cut = same_cut r.before r.insertion r.after q.before q.insertion q.after (sym r.cut ∙ q.cut) size in
       let first = spelled_first states c n can in
-      let P : List Insertion → Type 0 = λ xs. TakesAll states (start_lineage c) xs q.lineage in
+      let P : List Insertion → Type 0 = λ xs. TakesAll states (given_history c) xs q.lineage in
       let same : q.lineage ≡ r.lineage =
-      all_one states (start_lineage c) r.before q.lineage r.lineage first
+      all_one states (given_history c) r.before q.lineage r.lineage first
       (forms_front r.before (r.insertion ∷ r.after) r.cut)
       (subst P (sym cut.0) q.taken) r.taken in
       let L : History → Type 0 = λ h. StopsAt states h q.insertion (length q.before + 1) b in
       let I : Insertion → Type 0 = λ i. StopsAt states r.lineage i (length q.before + 1) b in
       let K : ℕ → Type 0 = λ k. StopsAt states r.lineage r.insertion (k + 1) b in
-      one_stop states r.lineage r.insertion (spelled_all states (start_lineage c) r.before r.lineage first r.taken)
+      one_stop states r.lineage r.insertion (spelled_all states (given_history c) r.before r.lineage first r.taken)
       (front_form r.before r.insertion r.after r.cut) (length r.before + 1) a b not_a not_b r.stops
       (subst K (sym size) (subst I (sym cut.1) (subst L same q.stops)))
 
@@ -220,9 +220,9 @@ module _ (states : List (List ℕ)) (c : CodedGraph) (n : Netlist) (can : CanBeA
 
   implemented : (l : History) → Certifies states c n l → Implements n c.graph
   implemented l is =
-      let lineage = (spelled_all states (start_lineage c) n.inserts l (spelled_first states c n can)
+      let lineage = (spelled_all states (given_history c) n.inserts l (spelled_first states c n can)
       is.taken).lineage in
-      let given = given_stays states (start_lineage c) n.inserts l is.taken in
+      let given = given_stays states (given_history c) n.inserts l is.taken in
       let P : CodedGraph → Type 0 = λ d. Implements n d.graph in
       subst P given (implements l.given l.trace l.current n lineage is.built)
 

@@ -11,9 +11,9 @@ use Rattle.si_base.specs.WellFormed.{IsNetlist, IsInsertion}
 use Rattle.si_insert.specs.declared.lineage.TraceStep.{TraceStep}
 use Rattle.si_insert.specs.Fresh.{IsTaken}
 use Rattle.si_insert.specs.Insertion.{new_signal}
-use Rattle.si_insert.specs.Lineage.{Current, History}
+use Rattle.si_insert.specs.Lineage.{Current, History, given_history}
 use Rattle.si_audit.specs.declared.fault.AuditFault.{AuditFault}
-use Rattle.si_audit.specs.Audit.{Takes, TakesAll, start_lineage}
+use Rattle.si_audit.specs.Audit.{Takes, TakesAll}
 use Rattle.si_audit.specs.Faults.{ShowsRejection, StopsAt}
 use Rattle.si_audit.proofs.WalkSignals.{new_of, signals_are, free_before}
 use Rattle.si_audit.proofs.InsertionFaults.{stops_show}
@@ -68,7 +68,7 @@ one_more states l (j ∷ rest) m i w taken takes =
 -- the name of the next insertion is free
 pub free_at : (states : List (List ℕ)) (c : CodedGraph) (n : Netlist) (l : History) (before : List Insertion)
     (i : Insertion) (after : List Insertion) → n.inserts ≡ before ++ i ∷ after
-    → TakesAll states (start_lineage c) before l → IsNetlist n → IsFor c n
+    → TakesAll states (given_history c) before l → IsNetlist n → IsFor c n
     → IsTaken l.current.coded.graph.signals i.name → ⊥
 free_at states c n l before i after cut taken is fits =
     let front : List Signal = c.graph.signals ++ new_of before in
@@ -79,7 +79,7 @@ free_at states c n l before i after cut taken is fits =
     ∙ ap (λ (xs : List Signal). c.graph.signals ++ xs)
     (map-append (λ (j : Insertion). new_signal j.name) before (i ∷ after))
     ∙ sym (append_assoc c.graph.signals (new_of before) (new_signal i.name ∷ rest)) in
-    let now : l.current.coded.graph.signals ≡ front = signals_grow states (start_lineage c) before l taken in
+    let now : l.current.coded.graph.signals ≡ front = signals_grow states (given_history c) before l taken in
     let P : List Signal → Type 0 = λ xs. AllPairs (λ x z. x.name ≢ z.name) xs in
     let free : IsTaken front i.name → ⊥ =
     free_before front rest (new_signal i.name) (subst P split is.distinct) in
@@ -87,19 +87,19 @@ free_at states c n l before i after cut taken is fits =
 
 module _ (states : List (List ℕ)) (c : CodedGraph) (n : Netlist) (k : ℕ) (l : History) (inserts : List Insertion)
     (i : Insertion) (same : inserts ≡ n.inserts) (within : k < length inserts) (item : i ≡ get_or inserts k i)
-    (taken : TakesAll states (start_lineage c) (take k n.inserts) l) where
+    (taken : TakesAll states (given_history c) (take k n.inserts) l) where
   there : k < length n.inserts
   there = subst (λ (xs : List Insertion). k < length xs) same within
 
   item_is : get_or n.inserts k i ≡ i
   item_is = sym (subst (λ (xs : List Insertion). i ≡ get_or xs k i) same item)
 
-  pub next_taken : (w : History) → Takes states l i w → TakesAll states (start_lineage c) (take (k + 1) n.inserts) w
+  pub next_taken : (w : History) → Takes states l i w → TakesAll states (given_history c) (take (k + 1) n.inserts) w
   next_taken w takes =
-      let P : List Insertion → Type 0 = λ xs. TakesAll states (start_lineage c) xs w in
+      let P : List Insertion → Type 0 = λ xs. TakesAll states (given_history c) xs w in
       let more : take (k + 1) n.inserts ≡ take k n.inserts ++ i ∷ [] =
       take_more n.inserts k i there ∙ ap (λ (j : Insertion). take k n.inserts ++ j ∷ []) item_is in
-      subst P (sym more) (one_more states (start_lineage c) (take k n.inserts) l i w taken takes)
+      subst P (sym more) (one_more states (given_history c) (take k n.inserts) l i w taken takes)
 
   cut : n.inserts ≡ take k n.inserts ++ i ∷ drop (k + 1) n.inserts
   cut = sym (take-append-drop k n.inserts)
@@ -131,15 +131,15 @@ module _ (states : List (List ℕ)) (c : CodedGraph) (n : Netlist) (k : ℕ) (l 
   pub names_stay : length states ≡ c.graph.states → length states ≡ l.given.graph.states
   names_stay count =
       count ∙ ap (λ (d : CodedGraph). d.graph.states)
-      (sym (given_stays states (start_lineage c) (take k n.inserts) l taken))
+      (sym (given_stays states (given_history c) (take k n.inserts) l taken))
 
 -- ---- the end
 pub all_taken : (states : List (List ℕ)) (c : CodedGraph) (n : Netlist) (k : ℕ) (l : History) → length n.inserts ≤ k
-    → TakesAll states (start_lineage c) (take k n.inserts) l → TakesAll states (start_lineage c) n.inserts l
+    → TakesAll states (given_history c) (take k n.inserts) l → TakesAll states (given_history c) n.inserts l
 all_taken states c n k l all taken =
-    subst (λ (xs : List Insertion). TakesAll states (start_lineage c) xs l) (take_all k n.inserts all) taken
+    subst (λ (xs : List Insertion). TakesAll states (given_history c) xs l) (take_all k n.inserts all) taken
 
 pub last_signals : (states : List (List ℕ)) (c : CodedGraph) (n : Netlist) (l : History) → IsNetlist n → IsFor c n
-    → TakesAll states (start_lineage c) n.inserts l → n.signals ≡ l.current.coded.graph.signals
+    → TakesAll states (given_history c) n.inserts l → n.signals ≡ l.current.coded.graph.signals
 last_signals states c n l is fits taken =
-    signals_are c n is fits ∙ sym (signals_grow states (start_lineage c) n.inserts l taken)
+    signals_are c n is fits ∙ sym (signals_grow states (given_history c) n.inserts l taken)

@@ -27,12 +27,12 @@ pub enum NotDistinct {
 
 impl<'a> Distinct<'a> {
     ghost use Rattle.si_checks.specs.Faults.{ShowsConflict};
-    ghost use Rattle.si_checks.specs.Lent.{lent_graph};
+    ghost use Rattle.si_checks.specs.Lent.{coded_of};
 
     /// The graph where it has no conflict (the book's complete state coding), or its first
     /// conflict.
     pub fn make(alloc: Global, graph: &'a Proper) -> Result<Distinct<'a>, NotDistinct>
-        ensures same { IfOk result (λ d. lent_graph d ≡ graph.now) }
+        ensures same { IfOk result (λ d. coded_of d ≡ graph.now) }
         ensures distinct { IfOk result (λ d. HasNoConflict graph.now) }
         ensures fault { IfErr result (ShowsConflict graph.now) }
     {
@@ -46,15 +46,15 @@ impl<'a> Distinct<'a> {
     /// The graph, of which it is known that it has no conflict.
     pub fn known(graph: &'a Proper) -> Distinct<'a>
         requires { HasNoConflict graph.now }
-        ensures { lent_graph result ≡ graph.now }
+        ensures { coded_of result ≡ graph.now }
     {
         Distinct { graph }
     }
 
     /// The proper graph.
     pub fn proper(&self) -> &Proper
-        ensures same { result.now ≡ lent_graph self.now }
-        ensures distinct { HasNoConflict (lent_graph self.now) }
+        ensures same { result.now ≡ coded_of self.now }
+        ensures distinct { HasNoConflict (coded_of self.now) }
     {
         self.graph
     }

@@ -7,7 +7,7 @@ ghost use Rattle.si_base.specs.Graph.{IsNonInput};
 ghost use Rattle.si_base.specs.Limits.{code_width};
 ghost use Rattle.si_base.specs.RightGates.{GivesNextValues};
 ghost use Rattle.si_cell.specs.Library.{IsLibrary, IsInstance, cell_at};
-ghost use Rattle.si_checks.specs.Lent.{lent_graph};
+ghost use Rattle.si_checks.specs.Lent.{coded_of};
 ghost use Rattle.si_match.specs.Fit.{first_fit, Fits, IsOver};
 ghost use Rattle.si_netlist.specs.Parts.{gate_seen};
 ghost use Rattle.si_circuit.specs.Cells.{AllFit, ShowsUnfit, ShowsUnfitAt};
@@ -67,13 +67,13 @@ pub fn netlist_of_cells(
     library: &Library,
     inserts: Vec<Insert>,
 ) -> Result<Netlist, CellsFault>
-    requires spelled { AreSpelled model (lent_graph graph).graph.signals }
-    requires inserted { AreInserted inserts.items (lent_graph graph).graph.signals }
-    ensures chosen { let c = lent_graph graph.entry in IfOk result
+    requires spelled { AreSpelled model (coded_of graph).graph.signals }
+    requires inserted { AreInserted inserts.items (coded_of graph).graph.signals }
+    ensures chosen { let c = coded_of graph.entry in IfOk result
         (λ n. n ≡ netlist_of (chosen.cell_gate c library.now) model inserts.items c) }
-    ensures gives { IfOk result (GivesNextValues (lent_graph graph.entry)) }
-    ensures fit { IfOk result (λ n. AllFit (lent_graph graph.entry) library.now) }
-    ensures fault { IfErr result (ShowsUnfit (lent_graph graph.entry) library.now) }
+    ensures gives { IfOk result (GivesNextValues (coded_of graph.entry)) }
+    ensures fit { IfOk result (λ n. AllFit (coded_of graph.entry) library.now) }
+    ensures fault { IfErr result (ShowsUnfit (coded_of graph.entry) library.now) }
 {
     let gates = cell_gates(alloc, graph, library)?;
     let coded = graph.proper().coded();
@@ -89,12 +89,12 @@ fn cell_gates(
     graph: Distinct<'_>,
     library: &Library,
 ) -> Result<Vec<Gate>, CellsFault>
-    ensures gates { let c = lent_graph graph.entry in IfOk result
+    ensures gates { let c = coded_of graph.entry in IfOk result
         (λ gates. map gate_seen gates.items
         ≡ gates_from (chosen.cell_gate c library.now) 0 c.graph.signals) }
     ensures library { IfOk result (λ gates. IsLibrary library.now) }
-    ensures fit { IfOk result (λ gates. AllFit (lent_graph graph.entry) library.now) }
-    ensures fault { IfErr result (ShowsUnfit (lent_graph graph.entry) library.now) }
+    ensures fit { IfOk result (λ gates. AllFit (coded_of graph.entry) library.now) }
+    ensures fault { IfErr result (ShowsUnfit (coded_of graph.entry) library.now) }
 {
     // What holds of each library comes with its cells.
     let _cells = library.cells();
@@ -118,12 +118,12 @@ fn cell_gate(
     library: &Library,
     z: Sig,
 ) -> Result<Gate, CellsFault>
-    requires driven { IsNonInput (lent_graph graph).graph.signals z }
-    requires coded { IsCoded (lent_graph graph) }
+    requires driven { IsNonInput (coded_of graph).graph.signals z }
+    requires coded { IsCoded (coded_of graph) }
     ensures gate { IfOk result
-        (λ gate. gate_seen gate ≡ chosen.cell_gate (lent_graph graph.entry) library.now z) }
-    ensures fit { IfOk result (λ gate. IsSome (first_fit (lent_graph graph.entry) library.now z)) }
-    ensures fault { IfErr result (ShowsUnfitAt (lent_graph graph.entry) library.now z) }
+        (λ gate. gate_seen gate ≡ chosen.cell_gate (coded_of graph.entry) library.now z) }
+    ensures fit { IfOk result (λ gate. IsSome (first_fit (coded_of graph.entry) library.now z)) }
+    ensures fault { IfErr result (ShowsUnfitAt (coded_of graph.entry) library.now z) }
 {
     // What holds of each library comes with its cells.
     let _cells = library.cells();

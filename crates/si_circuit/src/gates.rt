@@ -2,7 +2,7 @@
 
 ghost use Rattle.std.specs.Prelude.{◌≡◌, IfOk, map};
 ghost use Rattle.si_base.specs.Graph.{IsNonInput};
-ghost use Rattle.si_checks.specs.Lent.{lent_graph};
+ghost use Rattle.si_checks.specs.Lent.{coded_of};
 ghost use Rattle.si_netlist.specs.Parts.{gate_seen};
 ghost use Rattle.si_circuit.specs.Covered.{HasPrimeGates};
 ghost use Rattle.si_circuit.specs.Gates as chosen;
@@ -26,11 +26,11 @@ pub fn netlist_with(
     inserts: Vec<Insert>,
     style: Style,
 ) -> Result<Netlist, NoMemory>
-    requires spelled { AreSpelled model (lent_graph graph).graph.signals }
-    requires inserted { AreInserted inserts.items (lent_graph graph).graph.signals }
-    ensures chosen { let c = lent_graph graph.entry in IfOk result
+    requires spelled { AreSpelled model (coded_of graph).graph.signals }
+    requires inserted { AreInserted inserts.items (coded_of graph).graph.signals }
+    ensures chosen { let c = coded_of graph.entry in IfOk result
         (λ n. n ≡ chosen.netlist_of (chosen.gate_of style c) model inserts.items c) }
-    ensures prime { IfOk result (HasPrimeGates (lent_graph graph.entry)) }
+    ensures prime { IfOk result (HasPrimeGates (coded_of graph.entry)) }
 {
     let gates = gates_of(alloc, graph, style)?;
     let coded = graph.proper().coded();
@@ -42,7 +42,7 @@ pub fn netlist_with(
 
 /// A gate for each signal that the circuit drives, in signal order.
 fn gates_of(alloc: Global, graph: Distinct<'_>, style: Style) -> Result<Vec<Gate>, NoMemory>
-    ensures { let c = lent_graph graph.entry in IfOk result (λ gates. map gate_seen gates.items
+    ensures { let c = coded_of graph.entry in IfOk result (λ gates. map gate_seen gates.items
         ≡ chosen.gates_from (chosen.gate_of style c) 0 c.graph.signals) }
 {
     let known = graph.proper().coded().graph();
@@ -59,9 +59,9 @@ fn gates_of(alloc: Global, graph: Distinct<'_>, style: Style) -> Result<Vec<Gate
 
 /// The gate of a signal.
 fn gate_of(alloc: Global, graph: Distinct<'_>, style: Style, z: Sig) -> Result<Gate, NoMemory>
-    requires { IsNonInput (lent_graph graph).graph.signals z }
+    requires { IsNonInput (coded_of graph).graph.signals z }
     ensures { IfOk result
-        (λ gate. gate_seen gate ≡ chosen.gate_of style (lent_graph graph.entry) z) }
+        (λ gate. gate_seen gate ≡ chosen.gate_of style (coded_of graph.entry) z) }
 {
     match style {
         Style::Complex => {

@@ -19,7 +19,7 @@ use Rattle.si_regions.specs.declared.regions.Region.{Region}
 use Rattle.si_regions.specs.Regions.{IsRegion}
 use Rattle.si_regions.proofs.RegionLemmas.{enables_within}
 use Rattle.si_cover.specs.Growing.{IsGrowing, IsWider, IsDemanded}
-use Rattle.si_cover.specs.Mono.{IsOf, IsDrawn, IsLeastCube}
+use Rattle.si_cover.specs.Mono.{IsOf, IsFallingCover, IsLeastCube}
 use Rattle.si_cube.proofs.CubeFacts.{full_bits}
 
 -- ---- the full cube
@@ -63,9 +63,9 @@ pub widened : (cube wider : List Literal) (k l : ℕ) → k ≡ l → wider ≡ 
 widened cube wider k l same literals least =
     subst (λ j. IsWider cube j wider) same (record { literals = literals; least = least })
 
--- a code that each drawn cube covers is taken in
+-- a code that each falling cube covers is taken in
 taken : (c : CodedGraph) (er qr : List ℕ) (cube wider : List Literal) (code : ℕ) → IsGrowing c er qr cube
-    → ((other : List Literal) → IsDrawn c er qr other → Covers other code) → IsWider cube code wider
+    → ((other : List Literal) → IsFallingCover c er qr other → Covers other code) → IsWider cube code wider
     → IsGrowing c er qr wider
 taken c er qr cube wider code g each w = record {
   of = subst (λ k. IsOf c k) (sym w.literals)
@@ -83,15 +83,15 @@ pub growth_goes_on : (c : CodedGraph) (er qr : List ℕ) (cube wider : List Lite
     → IsWider cube (code c s) wider → IsGrowing c er qr wider
 growth_goes_on c er qr cube wider s e t g step there covered w =
     taken c er qr cube wider (code c s) g
-    (λ other d. d.draws s e t step there (g.below other d (code c t) covered)) w
+    (λ other d. d.never_rises s e t step there (g.below other d (code c t) covered)) w
 
 pub growth_ends : (c : CodedGraph) (er qr : List ℕ) (cube : List Literal) → IsGrowing c er qr cube
     → ((s : ℕ) → Contains er s → Covers cube (code c s))
     → ((s : ℕ) (e : Event) (t : ℕ) → Step c.graph s e t → Contains qr t → Covers cube (code c t)
     → Covers cube (code c s))
-    → IsLeastCube (IsDrawn c er qr) cube
+    → IsLeastCube (IsFallingCover c er qr) cube
 growth_ends c er qr cube g all none =
-    record { meets = record { of = g.of; covers = all; draws = none }; least = g.below }
+    record { meets = record { of = g.of; covers = all; never_rises = none }; least = g.below }
 
 -- the states up to the i-th are covered
 pub covered_more : (c : CodedGraph) (er : List ℕ) (i s : ℕ) (cube wider : List Literal)

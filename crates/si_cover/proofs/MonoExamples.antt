@@ -20,10 +20,10 @@ use Rattle.si_cube.specs.Cubes.{Covers}
 use Rattle.si_cube.specs.Literals.{literals_of}
 use Rattle.si_cube.proofs.LeastLemmas.{supercube_least}
 use Rattle.si_cover.specs.Growing.{IsGrowing, IsWider, IsDemanded, Demands}
-use Rattle.si_cover.specs.Mono.{Strays, IsLeastCube, IsDrawn, IsMono, IsLeastMono, ShowsNoMono}
+use Rattle.si_cover.specs.Mono.{CoversOutside, IsLeastCube, IsFallingCover, IsMono, IsLeastMono, ShowsNoMono}
 use Rattle.si_cube.proofs.NeededLemmas.{all_in, any_in, any_from_in}
 use Rattle.si_cover.proofs.Examples.{coded, plain, complemented}
-use Rattle.si_cover.proofs.MonoLemmas.{drawn_is_mono}
+use Rattle.si_cover.proofs.MonoLemmas.{falling_is_mono}
 use Rattle.si_cover.proofs.GrowingLemmas.{growth_begins, growth_ends}
 
 -- ---- tests by computation
@@ -66,14 +66,15 @@ covers_if : (c : CodedGraph) (er : List ℕ) (cube : List Literal) → list_all 
 covers_if c er cube h s (k, within, at) = all_in (covered c cube) er h s (in_from_contains er s k within at)
 
 -- if the cube covers a state of the set, then each state that an arc leads from into it
-abbrev draws_test : CodedGraph → List ℕ → List Literal → Edge → Bool
-draws_test c qr cube a = implies (has qr a.to) (implies (covered c cube a.to) (covered c cube a.from))
+abbrev never_rises_test : CodedGraph → List ℕ → List Literal → Edge → Bool
+never_rises_test c qr cube a = implies (has qr a.to) (implies (covered c cube a.to) (covered c cube a.from))
 
-draws_if : (c : CodedGraph) (qr : List ℕ) (cube : List Literal) → list_all (draws_test c qr cube) c.graph.edges ≡ true
+never_rises_if : (c : CodedGraph) (qr : List ℕ) (cube : List Literal)
+    → list_all (never_rises_test c qr cube) c.graph.edges ≡ true
     → (s : ℕ) (e : Event) (t : ℕ) → Step c.graph s e t → Contains qr t → Covers cube (code c t)
     → Covers cube (code c s)
-draws_if c qr cube h s e t step there covers =
-    let passes = all_arcs (draws_test c qr cube) c.graph s e t h step in
+never_rises_if c qr cube h s e t step there covers =
+    let passes = all_arcs (never_rises_test c qr cube) c.graph s e t h step in
     apply (covered c cube t) (covered c cube s) (apply (has qr t) _ passes (has_if qr t there)) covers
 
 -- no state but those of the two sets is covered
@@ -81,7 +82,7 @@ abbrev stays_test : CodedGraph → List ℕ → List ℕ → List Literal → �
 stays_test c er qr cube s = implies (covered c cube s) (has er s || has qr s)
 
 stays_if : (c : CodedGraph) (er qr : List ℕ) (cube : List Literal)
-    → all_below c.graph.states (stays_test c er qr cube) ≡ true → (s : ℕ) → Strays c er qr cube s → ⊥
+    → all_below c.graph.states (stays_test c er qr cube) ≡ true → (s : ℕ) → CoversOutside c er qr cube s → ⊥
 stays_if c er qr cube h s k =
     let passes = at_below c.graph.states (stays_test c er qr cube) h s k.within in
     elim (or_cases (has er s) (has qr s) (apply (covered c cube s) (has er s || has qr s) passes k.covers)) [
@@ -97,8 +98,8 @@ mono_plus =
     let qr : List ℕ = 4 ∷ 5 ∷ 6 ∷ [] in
     let cube : List Literal = plain 0 ∷ plain 1 ∷ complemented 2 ∷ [] in
     let grows : IsGrowing coded er qr cube = growth_begins coded er qr 3 (in_if er 3 refl) in
-    drawn_is_mono coded er qr cube
-    (growth_ends coded er qr cube grows (covers_if coded er cube refl) (draws_if coded qr cube refl))
+    falling_is_mono coded er qr cube
+    (growth_ends coded er qr cube grows (covers_if coded er cube refl) (never_rises_if coded qr cube refl))
     (stays_if coded er qr cube refl)
 
 -- of c-, excited at s7 and at rest at s0, s1 and s2, it is a' b' c
@@ -108,8 +109,8 @@ mono_minus =
     let qr : List ℕ = 0 ∷ 1 ∷ 2 ∷ [] in
     let cube : List Literal = complemented 0 ∷ complemented 1 ∷ plain 2 ∷ [] in
     let grows : IsGrowing coded er qr cube = growth_begins coded er qr 7 (in_if er 7 refl) in
-    drawn_is_mono coded er qr cube
-    (growth_ends coded er qr cube grows (covers_if coded er cube refl) (draws_if coded qr cube refl))
+    falling_is_mono coded er qr cube
+    (growth_ends coded er qr cube grows (covers_if coded er cube refl) (never_rises_if coded qr cube refl))
     (stays_if coded er qr cube refl)
 
 -- a b is monotonous too, and covers 111 beside 110: a larger one
@@ -120,11 +121,11 @@ larger_mono =
     let cube : List Literal = plain 0 ∷ plain 1 ∷ [] in
     let IsOfThree : Literal → Type 0 = λ l. l.sig < 3 in
     record {
-      drawn = record {
+      falling = record {
         of = All-cons IsOfThree (plain 0) (plain 1 ∷ []) (omega arith)
             (All-cons IsOfThree (plain 1) [] (omega arith) (λ k d within. absurd (omega (arith, within))));
         covers = covers_if coded er cube refl;
-        draws = draws_if coded qr cube refl;
+        never_rises = never_rises_if coded qr cube refl;
       };
       stays = stays_if coded er qr cube refl;
     }
@@ -189,8 +190,8 @@ above_z (l ∷ ls) k below h j low =
     ap (λ i. beq (bit k i) l.plain) is.0 ∙ ap (λ b. beq b l.plain) low ∙ ap (λ b. beq false b) is.1 in
     rw here (above_z ls k (λ i d within. below (suc i) d (omega (arith, within))) one.1 two.1 low)
 
-drawn_z : IsLeastCube (IsDrawn sum_gate (1 ∷ 2 ∷ 3 ∷ []) (4 ∷ 5 ∷ 6 ∷ [])) (complemented 2 ∷ [])
-drawn_z =
+falling_z : IsLeastCube (IsFallingCover sum_gate (1 ∷ 2 ∷ 3 ∷ []) (4 ∷ 5 ∷ 6 ∷ [])) (complemented 2 ∷ [])
+falling_z =
     let er : List ℕ = 1 ∷ 2 ∷ 3 ∷ [] in
     let cube : List Literal = complemented 2 ∷ [] in
     record {
@@ -198,7 +199,7 @@ drawn_z =
         of = All-cons (λ (l : Literal). l.sig < 3) (complemented 2) [] (omega arith)
             (λ k d within. absurd (omega (arith, within)));
         covers = covers_if sum_gate er cube refl;
-        draws = draws_if sum_gate (4 ∷ 5 ∷ 6 ∷ []) cube refl;
+        never_rises = never_rises_if sum_gate (4 ∷ 5 ∷ 6 ∷ []) cube refl;
       };
       least = λ other d k h.
           let low : bit k 2 ≡ false = beq-true (bit k 2) false (and_parts (beq (bit k 2) false) true h).0 in
@@ -209,7 +210,7 @@ drawn_z =
 pub none_z : ShowsNoMono sum_gate (1 ∷ 2 ∷ 3 ∷ []) (4 ∷ 5 ∷ 6 ∷ []) 0
 none_z = (
   complemented 2 ∷ [],
-  drawn_z,
+  falling_z,
   record {
     holds = record {
       within = omega arith;

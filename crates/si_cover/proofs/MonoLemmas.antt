@@ -15,7 +15,7 @@ use Rattle.si_base.proofs.OrderAscending.{In}
 use Rattle.si_base.proofs.GraphSteps.{beq-true}
 use Rattle.si_base.proofs.GivenGraphUnique.{contains_from_in, in_from_contains}
 use Rattle.si_cube.specs.Cubes.{Covers}
-use Rattle.si_cover.specs.Mono.{IsDrawn, Strays, IsMono, IsLeastCube, IsLeastMono, ShowsNoMono}
+use Rattle.si_cover.specs.Mono.{IsFallingCover, CoversOutside, IsMono, IsLeastCube, IsLeastMono, ShowsNoMono}
 use Rattle.si_cube.proofs.NeededLemmas.{all_in}
 
 -- ---- two cubes
@@ -33,20 +33,20 @@ covers_parts x y k h =
     and_parts (list_all (literal_value k) x) (list_all (literal_value k) y)
     (sym (list_all-append (literal_value k) x y) ∙ h)
 
-drawn_both : (c : CodedGraph) (er qr : List ℕ) (x y : List Literal) → IsDrawn c er qr x → IsDrawn c er qr y
-    → IsDrawn c er qr (x ++ y)
-drawn_both c er qr x y a b = record {
+falling_both : (c : CodedGraph) (er qr : List ℕ) (x y : List Literal) → IsFallingCover c er qr x
+    → IsFallingCover c er qr y → IsFallingCover c er qr (x ++ y)
+falling_both c er qr x y a b = record {
   of = all_both (λ (l : Literal). l.sig < length c.graph.signals) x y a.of b.of;
   covers = λ s there. covers_both x y (code c s) (a.covers s there) (b.covers s there);
-  draws = λ s e t step there h.
+  never_rises = λ s e t step there h.
       let parts = covers_parts x y (code c t) h in
-      covers_both x y (code c s) (a.draws s e t step there parts.0) (b.draws s e t step there parts.1);
+      covers_both x y (code c s) (a.never_rises s e t step there parts.0) (b.never_rises s e t step there parts.1);
 }
 
 pub monos_meet : (c : CodedGraph) (er qr : List ℕ) (x y : List Literal) → IsMono c er qr x → IsMono c er qr y
     → IsMono c er qr (x ++ y)
 monos_meet c er qr x y a b = record {
-  drawn = drawn_both c er qr x y a.drawn b.drawn;
+  falling = falling_both c er qr x y a.falling b.falling;
   stays = λ s k. a.stays s (record {
     within = k.within;
     covers = (covers_parts x y (code c s) k.covers).0;
@@ -59,29 +59,30 @@ pub least_monos_agree : (c : CodedGraph) (er qr : List ℕ) (x y : List Literal)
     → IsLeastMono c er qr y → (k : ℕ) → Covers x k → Covers y k
 least_monos_agree c er qr x y a b = a.least y b.meets
 
--- ---- the least drawn cube
-pub drawn_is_mono : (c : CodedGraph) (er qr : List ℕ) (cube : List Literal) → IsLeastCube (IsDrawn c er qr) cube
-    → ((s : ℕ) → Strays c er qr cube s → ⊥) → IsLeastMono c er qr cube
-drawn_is_mono c er qr cube a stays =
-    record { meets = record { drawn = a.meets; stays = stays }; least = λ other m. a.least other m.drawn }
+-- ---- the least falling cube
+pub falling_is_mono : (c : CodedGraph) (er qr : List ℕ) (cube : List Literal)
+    → IsLeastCube (IsFallingCover c er qr) cube → ((s : ℕ) → CoversOutside c er qr cube s → ⊥)
+    → IsLeastMono c er qr cube
+falling_is_mono c er qr cube a stays =
+    record { meets = record { falling = a.meets; stays = stays }; least = λ other m. a.least other m.falling }
 
--- what strays from the least cube strays from each other one
-strays_too : (c : CodedGraph) (er qr : List ℕ) (x y : List Literal) (s : ℕ) → IsLeastCube (IsDrawn c er qr) x
-    → IsDrawn c er qr y → Strays c er qr x s → Strays c er qr y s
-strays_too c er qr x y s a b k =
+-- what the least cube covers outside each other one covers outside
+outside_too : (c : CodedGraph) (er qr : List ℕ) (x y : List Literal) (s : ℕ) → IsLeastCube (IsFallingCover c er qr) x
+    → IsFallingCover c er qr y → CoversOutside c er qr x s → CoversOutside c er qr y s
+outside_too c er qr x y s a b k =
     record { within = k.within; covers = a.least y b (code c s) k.covers; not_er = k.not_er; not_qr = k.not_qr }
 
-pub strayed_is_none : (c : CodedGraph) (er qr : List ℕ) (s : ℕ) (other : List Literal) → ShowsNoMono c er qr s
+pub outside_is_none : (c : CodedGraph) (er qr : List ℕ) (s : ℕ) (other : List Literal) → ShowsNoMono c er qr s
     → IsMono c er qr other → ⊥
-strayed_is_none c er qr s other (cube, a, first) m =
-    m.stays s (strays_too c er qr cube other s a m.drawn first.holds)
+outside_is_none c er qr s other (cube, a, first) m =
+    m.stays s (outside_too c er qr cube other s a m.falling first.holds)
 
 pub no_mono_is_unique : (c : CodedGraph) (er qr : List ℕ) (s t : ℕ) → ShowsNoMono c er qr s → ShowsNoMono c er qr t
     → s ≡ t
 no_mono_is_unique c er qr s t (x, a, first) (y, b, other) = elim (cases_order s t) [
   | inl same ↦ same
-  | inr (inl below) ↦ absurd (other.none_before s (strays_too c er qr x y s a b.meets first.holds) (inl below))
-  | inr (inr above) ↦ absurd (first.none_before t (strays_too c er qr y x t b a.meets other.holds) (inl above))
+  | inr (inl below) ↦ absurd (other.none_before s (outside_too c er qr x y s a b.meets first.holds) (inl below))
+  | inr (inr above) ↦ absurd (first.none_before t (outside_too c er qr y x t b a.meets other.holds) (inl above))
 ]
 
 -- ---- the literals of a cube
@@ -135,6 +136,6 @@ has_literals k x y less here l (i, within, at) =
 pub least_monos_have_same_literals : (c : CodedGraph) (er qr : List ℕ) (x y : List Literal) (s : ℕ) → Contains er s
     → IsLeastMono c er qr x → IsLeastMono c er qr y → (l : Literal) → Contains x l ↔ Contains y l
 least_monos_have_same_literals c er qr x y s there a b l = (
-  has_literals (code c s) x y (b.least x a.meets) (b.meets.drawn.covers s there) l,
-  has_literals (code c s) y x (a.least y b.meets) (a.meets.drawn.covers s there) l,
+  has_literals (code c s) x y (b.least x a.meets) (b.meets.falling.covers s there) l,
+  has_literals (code c s) y x (a.least y b.meets) (a.meets.falling.covers s there) l,
 )

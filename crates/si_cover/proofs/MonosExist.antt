@@ -21,9 +21,10 @@ use Rattle.si_cube.specs.Cubes.{Covers, IsLeastAbove}
 use Rattle.si_cube.specs.Literals.{full_literals}
 use Rattle.si_regions.proofs.SetsExist.{Decided, both, same_bit, some_of, listed}
 use Rattle.si_cover.specs.Growing.{IsGrowing, IsWider, Demands}
-use Rattle.si_cover.specs.Mono.{IsDrawn, Strays, IsLeastCube, IsLeastMono, InSignalOrder, ShowsNoMono, state_place}
+use Rattle.si_cover.specs.Mono.{IsFallingCover, CoversOutside, IsLeastCube, IsLeastMono, InSignalOrder}
+use Rattle.si_cover.specs.Mono.{ShowsNoMono, state_place}
 use Rattle.si_cube.proofs.NeededLemmas.{all_in}
-use Rattle.si_cover.proofs.MonoLemmas.{drawn_is_mono, strayed_is_none, has_literals}
+use Rattle.si_cover.proofs.MonoLemmas.{falling_is_mono, outside_is_none, has_literals}
 use Rattle.si_cover.proofs.GrowingLemmas.{growth_begins, growth_takes, growth_goes_on, growth_ends, none_demanded}
 use Rattle.si_cover.proofs.GrowingLemmas.{turns_drop}
 
@@ -151,7 +152,8 @@ module _ (c : CodedGraph) (er qr : List ℕ) (first : ℕ) (in_er : Contains er 
       not_true false off = refl
 
   -- it is the least cube, or there is a turn that drops a literal
-  turn : (g : Grown) → IsLeastCube (IsDrawn c er qr) g.cube ⊎ ((next : Grown) × (length next.cube < length g.cube))
+  turn : (g : Grown)
+      → IsLeastCube (IsFallingCover c er qr) g.cube ⊎ ((next : Grown) × (length next.cube < length g.cube))
   turn g = elim (some_of (Demands c qr g.cube) (demands_or_not g.cube) c.graph.edges) [
     | inr none ↦ inl (growth_ends c er qr g.cube g.grows g.covers (none_demanded c qr g.cube (λ s d. none (
       arc s d.e d.t,
@@ -172,12 +174,12 @@ module _ (c : CodedGraph) (er qr : List ℕ) (first : ℕ) (in_er : Contains er 
         ))
   ]
 
-  -- the least drawn cube, with its literals in signal order
-  abbrev LeastDrawn : Type 0
-  LeastDrawn = (cube : List Literal) × IsLeastCube (IsDrawn c er qr) cube × InSignalOrder cube
+  -- the least falling cube, with its literals in signal order
+  abbrev LeastFalling : Type 0
+  LeastFalling = (cube : List Literal) × IsLeastCube (IsFallingCover c er qr) cube × InSignalOrder cube
 
   -- so many turns are enough
-  ends : (turns : ℕ) (g : Grown) → length g.cube ≤ turns → LeastDrawn
+  ends : (turns : ℕ) (g : Grown) → length g.cube ≤ turns → LeastFalling
   ends zero g few = elim (turn g) [
     | inl least ↦ (g.cube, least, g.in_order)
     | inr (next, fewer) ↦ absurd (omega (arith, few, fewer))
@@ -187,15 +189,15 @@ module _ (c : CodedGraph) (er qr : List ℕ) (first : ℕ) (in_er : Contains er 
     | inr (next, fewer) ↦ ends turns next (omega (arith, few, fewer))
   ]
 
-  some_drawn : LeastDrawn
-  some_drawn =
+  some_falling : LeastFalling
+  some_falling =
       let b = begun er (λ s there. there) in
       ends (length b.cube) (record { cube = b.cube; in_order = b.in_order; grows = b.grows; covers = b.covers })
       (omega arith)
 
-  -- ---- straying states
-  strays_or_not : (cube : List Literal) (s : ℕ) → s < c.graph.states → Decided (Strays c er qr cube s)
-  strays_or_not cube s within = elim (both (same_bit (list_all (literal_value (code c s)) cube) true)
+  -- ---- states that are covered outside
+  outside_or_not : (cube : List Literal) (s : ℕ) → s < c.graph.states → Decided (CoversOutside c er qr cube s)
+  outside_or_not cube s within = elim (both (same_bit (list_all (literal_value (code c s)) cube) true)
       (both (negated (listed er s)) (negated (listed qr s)))) [
         | inl is ↦ inl (record { within = within; covers = is.0; not_er = is.1.0; not_qr = is.1.1 })
         | inr none ↦ inr (λ k. none (k.covers, (k.not_er, k.not_qr)))
@@ -205,13 +207,14 @@ module _ (c : CodedGraph) (er qr : List ℕ) (first : ℕ) (in_er : Contains er 
       negated (inl is) = inr (λ none. none is)
       negated (inr none) = inl none
 
-  -- none of the first n states strays, or there is a first that does
-  first_stray : (cube : List Literal) (n : ℕ) → n ≤ c.graph.states
-      → ((s : ℕ) → s < n → Strays c er qr cube s → ⊥) ⊎ ((s : ℕ) × IsFirst state_place (Strays c er qr cube) s)
-  first_stray cube zero within = inl (λ s below k. omega (arith, below))
-  first_stray cube (suc n) within = elim (first_stray cube n (omega (arith, within))) [
+  -- none of the first n states is covered outside, or there is a first that does
+  first_outside : (cube : List Literal) (n : ℕ) → n ≤ c.graph.states
+      → ((s : ℕ) → s < n → CoversOutside c er qr cube s → ⊥)
+      ⊎ ((s : ℕ) × IsFirst state_place (CoversOutside c er qr cube) s)
+  first_outside cube zero within = inl (λ s below k. omega (arith, below))
+  first_outside cube (suc n) within = elim (first_outside cube n (omega (arith, within))) [
     | inr found ↦ inr found
-    | inl none ↦ elim (strays_or_not cube n (omega (arith, within))) [
+    | inl none ↦ elim (outside_or_not cube n (omega (arith, within))) [
       | inl here ↦ inr (
         n,
         record {
@@ -223,7 +226,7 @@ module _ (c : CodedGraph) (er qr : List ℕ) (first : ℕ) (in_er : Contains er 
         },
       )
       | inr not_here ↦ inl (λ s below k. elim (cases_eq s n) [
-        | inl same ↦ not_here (subst (Strays c er qr cube) same k)
+        | inl same ↦ not_here (subst (CoversOutside c er qr cube) same k)
         | inr other ↦ none s (omega (arith, below, other)) k
       ])
     ]
@@ -232,14 +235,14 @@ module _ (c : CodedGraph) (er qr : List ℕ) (first : ℕ) (in_er : Contains er 
   pub mono_or_none : ((cube : List Literal) × IsLeastMono c er qr cube × InSignalOrder cube)
       ⊎ ((s : ℕ) × ShowsNoMono c er qr s)
   mono_or_none =
-      let (cube, least, order) = some_drawn in
-      elim (first_stray cube c.graph.states (omega arith)) [
-        | inl none ↦ inl (cube, drawn_is_mono c er qr cube least (λ s k. none s k.within k), order)
+      let (cube, least, order) = some_falling in
+      elim (first_outside cube c.graph.states (omega arith)) [
+        | inl none ↦ inl (cube, falling_is_mono c er qr cube least (λ s k. none s k.within k), order)
         | inr (s, is) ↦ inr (s, (cube, least, is))
       ]
 
   pub least_or_none : Decided ((cube : List Literal) × IsLeastMono c er qr cube)
   least_or_none = elim mono_or_none [
     | inl (cube, least, order) ↦ inl (cube, least)
-    | inr (s, shows) ↦ inr (λ (other, m). strayed_is_none c er qr s other shows m.meets)
+    | inr (s, shows) ↦ inr (λ (other, m). outside_is_none c er qr s other shows m.meets)
   ]

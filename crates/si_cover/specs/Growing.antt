@@ -8,12 +8,12 @@ use Rattle.si_base.specs.Graph.{Step}
 use Rattle.si_base.specs.Codes.{CodedGraph, code}
 use Rattle.si_base.specs.Netlist.{literal_value}
 use Rattle.si_cube.specs.Cubes.{Covers, IsLeastAbove}
-use Rattle.si_cover.specs.Mono.{IsOf, IsDrawn}
+use Rattle.si_cover.specs.Mono.{IsOf, IsFallingCover}
 
--- between two turns: the cube covers no code that some drawn cube doesn't cover
+-- between two turns: the cube covers no code that some falling cube doesn't cover
 pub record IsGrowing (c : CodedGraph) (er qr : List ℕ) (cube : List Literal) : Type 0 where
   pub of : IsOf c cube
-  pub below : (other : List Literal) → IsDrawn c er qr other → (k : ℕ) → Covers cube k
+  pub below : (other : List Literal) → IsFallingCover c er qr other → (k : ℕ) → Covers cube k
       → Covers other k
 
 -- the least cube above the cube and the code, of literals of the cube

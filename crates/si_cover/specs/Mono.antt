@@ -16,16 +16,17 @@ IsOf c cube = All (λ (l : Literal). l.sig < length c.graph.signals) cube
 abbrev pub InSignalOrder : List Literal → Type 0
 InSignalOrder cube = AllPairs (λ k l. k.sig < l.sig) cube
 
--- a cube over the signals; it covers each state of the component; and if it covers a state where
--- the signal rests, then each state that an arc leads from into that
-pub record IsDrawn (c : CodedGraph) (er qr : List ℕ) (cube : List Literal) : Type 0 where
+-- a cube over the signals; it covers each state of the component; and its value never rises on an
+-- arc into a state where the signal rests: if it covers the target, it covers the source
+pub record IsFallingCover (c : CodedGraph) (er qr : List ℕ) (cube : List Literal) : Type 0 where
   pub of : IsOf c cube
   pub covers : (s : ℕ) → Contains er s → Covers cube (code c s)
-  pub draws : (s : ℕ) (e : Event) (t : ℕ) → Step c.graph s e t → Contains qr t
+  pub never_rises : (s : ℕ) (e : Event) (t : ℕ) → Step c.graph s e t → Contains qr t
       → Covers cube (code c t) → Covers cube (code c s)
 
--- the cube covers s, a state outside both sets
-pub record Strays (c : CodedGraph) (er qr : List ℕ) (cube : List Literal) (s : ℕ) : Type 0 where
+-- the cube covers s, which is outside both sets
+pub record CoversOutside (c : CodedGraph) (er qr : List ℕ) (cube : List Literal) (s : ℕ)
+    : Type 0 where
   pub within : s < c.graph.states
   pub covers : Covers cube (code c s)
   pub not_er : Contains er s → ⊥
@@ -33,8 +34,8 @@ pub record Strays (c : CodedGraph) (er qr : List ℕ) (cube : List Literal) (s :
 
 -- a monotonous cube: it covers no state outside both sets
 pub record IsMono (c : CodedGraph) (er qr : List ℕ) (cube : List Literal) : Type 0 where
-  pub drawn : IsDrawn c er qr cube
-  pub stays : (s : ℕ) → Strays c er qr cube s → ⊥
+  pub falling : IsFallingCover c er qr cube
+  pub stays : (s : ℕ) → CoversOutside c er qr cube s → ⊥
 
 -- of the cubes with a property, one that covers no code which another doesn't cover
 pub record IsLeastCube (P : List Literal → Type 0) (cube : List Literal) : Type 0 where
@@ -52,5 +53,5 @@ state_place s = s ∷ []
 -- there is none: s is the first state outside both sets that is covered by the least cube with the
 -- two other properties
 abbrev pub ShowsNoMono : CodedGraph → List ℕ → List ℕ → ℕ → Type 0
-ShowsNoMono c er qr s = (cube : List Literal) × IsLeastCube (IsDrawn c er qr) cube
-    × IsFirst state_place (Strays c er qr cube) s
+ShowsNoMono c er qr s = (cube : List Literal) × IsLeastCube (IsFallingCover c er qr) cube
+    × IsFirst state_place (CoversOutside c er qr cube) s

@@ -8,8 +8,8 @@ use Rattle.si_base.specs.Netlist.{literal_value}
 use Rattle.si_cube.specs.Cubes.{Covers}
 use Rattle.si_cube.specs.Literals.{full_literals}
 use Rattle.si_cover.specs.Growing.{IsGrowing, IsWider}
-use Rattle.si_cover.specs.Mono.{IsDrawn, Strays, IsMono, IsLeastCube, IsLeastMono, InSignalOrder}
-use Rattle.si_cover.specs.Mono.{ShowsNoMono}
+use Rattle.si_cover.specs.Mono.{IsFallingCover, CoversOutside, IsMono, IsLeastCube, IsLeastMono}
+use Rattle.si_cover.specs.Mono.{InSignalOrder, ShowsNoMono}
 
 -- the literals of two monotonous cubes make a third
 abbrev pub MonosMeet : Type 0
@@ -27,10 +27,10 @@ LeastMonosHaveSameLiterals = (c : CodedGraph) (er qr : List ℕ) (x y : List Lit
     → Contains er s → IsLeastMono c er qr x → IsLeastMono c er qr y
     → (l : Literal) → Contains x l ↔ Contains y l
 
--- the least drawn cube is the least monotonous one, if it doesn't stray
-abbrev pub DrawnIsMono : Type 0
-DrawnIsMono = (c : CodedGraph) (er qr : List ℕ) (cube : List Literal)
-    → IsLeastCube (IsDrawn c er qr) cube → ((s : ℕ) → Strays c er qr cube s → ⊥)
+-- the least falling cube is the least monotonous one, if it covers none outside
+abbrev pub FallingIsMono : Type 0
+FallingIsMono = (c : CodedGraph) (er qr : List ℕ) (cube : List Literal)
+    → IsLeastCube (IsFallingCover c er qr) cube → ((s : ℕ) → CoversOutside c er qr cube s → ⊥)
     → IsLeastMono c er qr cube
 
 -- if it does, there is no monotonous cube
@@ -67,13 +67,13 @@ GrowthGoesOn = (c : CodedGraph) (er qr : List ℕ) (cube wider : List Literal)
     → (s : ℕ) (e : Event) (t : ℕ) → IsGrowing c er qr cube → Step c.graph s e t → Contains qr t
     → Covers cube (code c t) → IsWider cube (code c s) wider → IsGrowing c er qr wider
 
--- where the component is covered and none is demanded, the cube is the least drawn one
+-- where the component is covered and none is demanded, the cube is the least falling one
 abbrev pub GrowthEnds : Type 0
 GrowthEnds = (c : CodedGraph) (er qr : List ℕ) (cube : List Literal) → IsGrowing c er qr cube
     → ((s : ℕ) → Contains er s → Covers cube (code c s))
     → ((s : ℕ) (e : Event) (t : ℕ) → Step c.graph s e t → Contains qr t
     → Covers cube (code c t) → Covers cube (code c s))
-    → IsLeastCube (IsDrawn c er qr) cube
+    → IsLeastCube (IsFallingCover c er qr) cube
 
 -- a code that isn't covered costs a literal
 abbrev pub TurnsDropLiterals : Type 0

@@ -2,7 +2,7 @@
 
 ghost use Rattle.std.specs.Prelude.{◌≡◌, ℕ, IfOk};
 ghost use Rattle.si_base.specs.Graph.{IsNonInput};
-ghost use Rattle.si_checks.specs.Lent.{lent_graph};
+ghost use Rattle.si_checks.specs.Lent.{coded_of};
 ghost use Rattle.si_cover.specs.declared.kind.SumKind.TheVariants.{Next, Set, Reset};
 ghost use Rattle.si_cube.specs.Covers.{IsPrimeCover};
 ghost use Rattle.si_cover.specs.Demands.{chosen_sum, demand};
@@ -25,9 +25,9 @@ pub struct SetReset {
 /// The sum of a signal's next value: a prime and irredundant cover. It fails only where memory
 /// runs out.
 pub fn next_sum(alloc: Global, graph: Distinct<'_>, z: Sig) -> Result<Sum, NoMemory>
-    requires { IsNonInput (lent_graph graph).graph.signals z }
-    ensures chosen { IfOk result (λ sum. sum ≡ chosen_sum Next (lent_graph graph.entry) z) }
-    ensures prime_cover { IfOk result (IsPrimeCover (demand Next (lent_graph graph.entry) z)) }
+    requires { IsNonInput (coded_of graph).graph.signals z }
+    ensures chosen { IfOk result (λ sum. sum ≡ chosen_sum Next (coded_of graph.entry) z) }
+    ensures prime_cover { IfOk result (IsPrimeCover (demand Next (coded_of graph.entry) z)) }
 {
     chosen(alloc, graph, SumKind::Next, z)
 }
@@ -35,13 +35,13 @@ pub fn next_sum(alloc: Global, graph: Distinct<'_>, z: Sig) -> Result<Sum, NoMem
 /// The sums that set and reset a signal: prime and irredundant covers. It fails only where memory
 /// runs out.
 pub fn set_reset(alloc: Global, graph: Distinct<'_>, z: Sig) -> Result<SetReset, NoMemory>
-    requires { IsNonInput (lent_graph graph).graph.signals z }
-    ensures set { IfOk result (λ sums. sums.set ≡ chosen_sum Set (lent_graph graph.entry) z) }
+    requires { IsNonInput (coded_of graph).graph.signals z }
+    ensures set { IfOk result (λ sums. sums.set ≡ chosen_sum Set (coded_of graph.entry) z) }
     ensures set_prime_cover { IfOk result
-        (λ sums. IsPrimeCover (demand Set (lent_graph graph.entry) z) sums.set) }
-    ensures reset { IfOk result (λ sums. sums.reset ≡ chosen_sum Reset (lent_graph graph.entry) z) }
+        (λ sums. IsPrimeCover (demand Set (coded_of graph.entry) z) sums.set) }
+    ensures reset { IfOk result (λ sums. sums.reset ≡ chosen_sum Reset (coded_of graph.entry) z) }
     ensures reset_prime_cover { IfOk result
-        (λ sums. IsPrimeCover (demand Reset (lent_graph graph.entry) z) sums.reset) }
+        (λ sums. IsPrimeCover (demand Reset (coded_of graph.entry) z) sums.reset) }
 {
     let set = chosen(alloc, graph, SumKind::Set, z)?;
     let reset = chosen(alloc, graph, SumKind::Reset, z)?;
@@ -50,9 +50,9 @@ pub fn set_reset(alloc: Global, graph: Distinct<'_>, z: Sig) -> Result<SetReset,
 
 /// The chosen sum of that kind.
 fn chosen(alloc: Global, graph: Distinct<'_>, kind: SumKind, z: Sig) -> Result<Sum, NoMemory>
-    requires { IsNonInput (lent_graph graph).graph.signals z }
-    ensures chosen { IfOk result (λ sum. sum ≡ chosen_sum kind (lent_graph graph.entry) z) }
-    ensures prime_cover { IfOk result (IsPrimeCover (demand kind (lent_graph graph.entry) z)) }
+    requires { IsNonInput (coded_of graph).graph.signals z }
+    ensures chosen { IfOk result (λ sum. sum ≡ chosen_sum kind (coded_of graph.entry) z) }
+    ensures prime_cover { IfOk result (IsPrimeCover (demand kind (coded_of graph.entry) z)) }
 {
     let coded = graph.proper().coded();
     let signals = coded.graph().signals().len();

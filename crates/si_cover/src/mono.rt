@@ -4,12 +4,12 @@ ghost use Rattle.std.specs.Prelude.{ℕ, ◌<◌, ◌↔◌, Contains, IfOk, IfE
 ghost use Rattle.std.specs.Prelude.{IsTrue};
 ghost use Rattle.si_base.specs.Codes.{code};
 ghost use Rattle.si_base.specs.Order.{IsFirst};
-ghost use Rattle.si_checks.specs.Lent.{lent_graph};
+ghost use Rattle.si_checks.specs.Lent.{coded_of};
 ghost use Rattle.si_cube.specs.Cubes.{Covers};
 ghost use Rattle.si_regions.specs.Regions.{IsRegion};
 ghost use Rattle.si_cover.specs.Growing.{IsGrowing, IsDemanded, Demands};
-ghost use Rattle.si_cover.specs.Mono.{IsDrawn, Strays, IsLeastCube, IsLeastMono, ShowsNoMono};
-ghost use Rattle.si_cover.specs.Mono.{state_place};
+ghost use Rattle.si_cover.specs.Mono.{IsFallingCover, CoversOutside, IsLeastCube, IsLeastMono};
+ghost use Rattle.si_cover.specs.Mono.{ShowsNoMono, state_place};
 
 use si_base::graph::Edge;
 use si_base::ids::StateId;
@@ -32,15 +32,15 @@ pub struct NoMono {
 /// target it covers it covers the source (the book's monotonous cover). `NoMono` comes exactly
 /// where there is no such cube. It takes no memory.
 pub fn mono(graph: Distinct<'_>, region: &Region) -> Result<Cube, NoMono>
-    requires { IsRegion (lent_graph graph) region.now }
+    requires { IsRegion (coded_of graph) region.now }
     ensures cube { IfOk result
-        (IsLeastMono (lent_graph graph.entry) region.now.er region.now.qr) }
+        (IsLeastMono (coded_of graph.entry) region.now.er region.now.qr) }
     ensures none { IfErr result
-        (λ e. ShowsNoMono (lent_graph graph.entry) region.now.er region.now.qr e.state) }
+        (λ e. ShowsNoMono (coded_of graph.entry) region.now.er region.now.qr e.state) }
 {
     let coded = graph.proper().coded();
-    let cube = drawn(coded, region);
-    match first_stray(coded, region, &cube) {
+    let cube = least_falling(coded, region);
+    match first_outside(coded, region, &cube) {
         Some(state) => Err(NoMono { state }),
         None => Ok(cube),
     }
@@ -48,9 +48,9 @@ pub fn mono(graph: Distinct<'_>, region: &Region) -> Result<Cube, NoMono>
 
 /// The least cube that covers the excitation region and has the property of arcs into the
 /// quiescent region.
-fn drawn(graph: &Coded, region: &Region) -> Cube
+fn least_falling(graph: &Coded, region: &Region) -> Cube
     requires { IsRegion graph.now region.now }
-    ensures { IsLeastCube (IsDrawn graph.now region.now.er region.now.qr) result }
+    ensures { IsLeastCube (IsFallingCover graph.now region.now.er region.now.qr) result }
 {
     let mut cube = component_cube(graph, region);
     while let Some(s) = demanded(graph, &region.qr, &cube) {
@@ -100,13 +100,13 @@ fn demands(graph: &Coded, qr: &StateList, cube: &Cube, a: &Edge) -> bool
 }
 
 /// The first state outside both sets of the region that the cube covers.
-fn first_stray(graph: &Coded, region: &Region, cube: &Cube) -> Option<StateId>
+fn first_outside(graph: &Coded, region: &Region, cube: &Cube) -> Option<StateId>
     ensures { MatchOption result
-        ((s : ℕ) → Strays graph.now region.now.er region.now.qr cube.now s → ⊥)
-        (IsFirst state_place (Strays graph.now region.now.er region.now.qr cube.now)) }
+        ((s : ℕ) → CoversOutside graph.now region.now.er region.now.qr cube.now s → ⊥)
+        (IsFirst state_place (CoversOutside graph.now region.now.er region.now.qr cube.now)) }
 {
     for s in 0..graph.graph().states() {
-        if strays(graph, region, cube, StateId(s)) {
+        if covers_outside(graph, region, cube, StateId(s)) {
             return Some(StateId(s));
         }
     }
@@ -114,9 +114,9 @@ fn first_stray(graph: &Coded, region: &Region, cube: &Cube) -> Option<StateId>
 }
 
 /// Whether the cube covers the state, which is in neither set of the region.
-fn strays(graph: &Coded, region: &Region, cube: &Cube, s: StateId) -> bool
+fn covers_outside(graph: &Coded, region: &Region, cube: &Cube, s: StateId) -> bool
     requires { s < graph.now.graph.states }
-    ensures { IsTrue result ↔ Strays graph.now region.now.er region.now.qr cube.now s }
+    ensures { IsTrue result ↔ CoversOutside graph.now region.now.er region.now.qr cube.now s }
 {
     cube.covers(graph.code(s)) && !has(&region.er, s) && !has(&region.qr, s)
 }

@@ -1,7 +1,7 @@
 //! The laws of monotonous cubes. Each function does nothing: its contract is the law.
 
 ghost use Rattle.si_cover.specs.MonoLaws.{MonosMeet, LeastMonosAgree, LeastMonosHaveSameLiterals};
-ghost use Rattle.si_cover.specs.MonoLaws.{DrawnIsMono, StrayedIsNone, NoMonoIsUnique, MonoOrNone};
+ghost use Rattle.si_cover.specs.MonoLaws.{FallingIsMono, StrayedIsNone, NoMonoIsUnique, MonoOrNone};
 ghost use Rattle.si_cover.specs.MonoLaws.{GrowthBegins, GrowthTakes, GrowthGoesOn, GrowthEnds};
 ghost use Rattle.si_cover.specs.MonoLaws.{TurnsDropLiterals};
 
@@ -11,7 +11,7 @@ pub fn there_is_a_least()
     ensures meet { MonosMeet }
     ensures agree { LeastMonosAgree }
     ensures literals { LeastMonosHaveSameLiterals }
-    ensures mono { DrawnIsMono }
+    ensures mono { FallingIsMono }
     ensures none { StrayedIsNone }
     ensures first { NoMonoIsUnique }
 {}

@@ -4,7 +4,7 @@ ghost use Rattle.std.specs.Prelude.{◌≡◌, ◌≤◌, ◌+◌, ◌++◌, ◌
 ghost use Rattle.std.specs.Prelude.{length, take};
 ghost use Rattle.si_base.specs.Graph.{IsNonInput};
 ghost use Rattle.si_cell.specs.Limits.{max_pins};
-ghost use Rattle.si_checks.specs.Lent.{lent_graph};
+ghost use Rattle.si_checks.specs.Lent.{coded_of};
 ghost use Rattle.si_divisor.specs.Divisors.{AreDivisors, are_apart, has_few_pins, max_divisors};
 ghost use Rattle.si_divisor.specs.Completions.{completions, of_cells};
 
@@ -35,9 +35,9 @@ pub fn divisors(
     library: &Library,
     z: Sig,
 ) -> Result<Vec<Instance>, NoMemory>
-    requires { IsNonInput (lent_graph graph).graph.signals z }
+    requires { IsNonInput (coded_of graph).graph.signals z }
     ensures { IfOk result
-        (λ divisors. AreDivisors (lent_graph graph.entry) library.now z divisors.items) }
+        (λ divisors. AreDivisors (coded_of graph.entry) library.now z divisors.items) }
 {
     let pins = pin_set(alloc, graph, z)?;
     over_pins(alloc, library, pins.as_slice())

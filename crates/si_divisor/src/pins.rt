@@ -6,7 +6,7 @@ ghost use Rattle.si_base.specs.Graph.{IsNonInput};
 ghost use Rattle.si_base.specs.Limits.{code_width};
 ghost use Rattle.si_base.specs.declared.ids.Literal.{Literal as LiteralValue};
 ghost use Rattle.si_cell.specs.Literals.{has_literal};
-ghost use Rattle.si_checks.specs.Lent.{lent_graph};
+ghost use Rattle.si_checks.specs.Lent.{coded_of};
 ghost use Rattle.si_cover.specs.Mono.{IsLeastMono};
 ghost use Rattle.si_divisor.specs.Divisors.{ArePins};
 ghost use Rattle.si_divisor.specs.PinTests.{is_pin as is_pin_literal, AreCubesOf};
@@ -26,8 +26,8 @@ use std::alloc::Global;
 ///
 /// Source: the book, on the decomposition of gates.
 pub fn pin_set(alloc: Global, graph: Distinct<'_>, z: Sig) -> Result<Vec<Literal>, NoMemory>
-    requires { IsNonInput (lent_graph graph).graph.signals z }
-    ensures { IfOk result (λ pins. ArePins (lent_graph graph.entry) z pins.items) }
+    requires { IsNonInput (coded_of graph).graph.signals z }
+    ensures { IfOk result (λ pins. ArePins (coded_of graph.entry) z pins.items) }
 {
     let support = support(alloc, graph, z)?;
     let cubes = least_cubes(alloc, graph, z)?;
@@ -81,7 +81,7 @@ fn has(cube: &Cube, literal: &Literal) -> bool
 /// The least monotonous cubes of the components of the states that enable an event of `z`, where
 /// there are such cubes.
 fn least_cubes(alloc: Global, graph: Distinct<'_>, z: Sig) -> Result<Vec<Cube>, NoMemory>
-    ensures { IfOk result (λ cubes. AreCubesOf (lent_graph graph.entry) z cubes.items) }
+    ensures { IfOk result (λ cubes. AreCubesOf (coded_of graph.entry) z cubes.items) }
 {
     let all = regions(alloc, graph.proper().coded())?;
     let mut cubes = Vec::new(alloc);
@@ -95,12 +95,12 @@ fn least_cubes(alloc: Global, graph: Distinct<'_>, z: Sig) -> Result<Vec<Cube>, 
 
 /// The least monotonous cube of the region, if its event is one of `z`, and it has such a cube.
 fn cube_for(graph: Distinct<'_>, region: &Region, z: Sig) -> Option<Cube>
-    requires { IsRegion (lent_graph graph) region.now }
+    requires { IsRegion (coded_of graph) region.now }
     ensures { MatchOption result
         (region.now.event.sig ≡ z → (cube : List LiteralValue)
-        → IsLeastMono (lent_graph graph.entry) region.now.er region.now.qr cube → ⊥)
+        → IsLeastMono (coded_of graph.entry) region.now.er region.now.qr cube → ⊥)
         (λ cube. (region.now.event.sig ≡ z)
-        × IsLeastMono (lent_graph graph.entry) region.now.er region.now.qr cube) }
+        × IsLeastMono (coded_of graph.entry) region.now.er region.now.qr cube) }
 {
     if region.event.sig != z {
         return None;

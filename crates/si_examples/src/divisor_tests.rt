@@ -1,7 +1,7 @@
 //! Pin literals and divisors of the three-input C-element, and of a buffer that rises once.
 
 ghost use Rattle.si_base.specs.Graph.{IsNonInput};
-ghost use Rattle.si_checks.specs.Lent.{lent_graph};
+ghost use Rattle.si_checks.specs.Lent.{coded_of};
 
 use crate::graphs::{BUFFERED_ONCE, C_ELEMENT, is_driven, proper};
 use si_base::graph::Signal;
@@ -53,7 +53,7 @@ fn spelled_pins(alloc: Global, signals: &[Signal], instance: &Instance) -> Resul
 
 /// The pin literals of the signal, in order.
 fn spelled_pin_set(alloc: Global, graph: Distinct<'_>, z: Sig) -> Result<Text, NoMemory>
-    requires { IsNonInput (lent_graph graph).graph.signals z }
+    requires { IsNonInput (coded_of graph).graph.signals z }
 {
     let found = pin_set(alloc, graph, z)?;
     spelled(
@@ -89,7 +89,7 @@ fn expect_divisors(
     count: usize,
     last: &[u8],
 ) -> Result<(), Fail>
-    requires { IsNonInput (lent_graph graph).graph.signals z }
+    requires { IsNonInput (coded_of graph).graph.signals z }
 {
     let cells = read_library(alloc, CELLS)?;
     let found = divisors(alloc, graph, &cells, z)?;

@@ -2,7 +2,7 @@
 
 ghost use Rattle.std.specs.Prelude.{IsTrue};
 ghost use Rattle.si_base.specs.Graph.{IsNonInput};
-ghost use Rattle.si_checks.specs.Lent.{lent_graph};
+ghost use Rattle.si_checks.specs.Lent.{coded_of};
 
 use si_base::ids::Sig;
 use si_checks::distinct::Distinct;
@@ -77,7 +77,7 @@ pub fn proper(alloc: Global, text: &[u8]) -> Result<Proper, Fail> {
 
 /// Whether the signal is there and no input.
 pub fn is_driven(graph: Distinct<'_>, z: Sig) -> bool
-    ensures { IsTrue result → IsNonInput (lent_graph graph.entry).graph.signals z }
+    ensures { IsTrue result → IsNonInput (coded_of graph.entry).graph.signals z }
 {
     let known = graph.proper().coded().graph();
     (z.0 as usize) < known.signals().len() && known.is_driven(z)

@@ -1,37 +1,39 @@
 -- Where the arcs out of a state stand among arcs in order.
-use Rattle.std.proofs.Common.{◌≡◌, ℕ, ◌<◌, ◌≤◌, ◌+◌, ◌-◌, true, false, sym, ap, ◌∙◌, List, length, get_or, take, drop}
-use Rattle.std.proofs.Common.{arith, inl, inr, ltb, Contains, length-take, length-drop}
-use Rattle.std.specs.List.Sorted.{IsStrictlySortedBy, IsPartitionPoint}
-use Rattle.std.proofs.lemmas.Bool.{cases_lt, ltb-true, ltb-false}
-use Rattle.std.proofs.lemmas.List.{get_or-drop, get_or-take}
+use Rattle.std.proofs.Common.{◌≡◌, ℕ, ◌<◌, ◌≤◌, ◌+◌, ◌-◌, sym, ap, ◌∙◌, List, length, get_or, take, drop}
+use Rattle.std.proofs.Common.{arith, inl, inr, Contains, length-take, length-drop}
+use Rattle.std.specs.List.Sorted.{IsStrictlySortedBy}
+use Rattle.std.proofs.lemmas.Bool.{cases_lt}
+use Rattle.std.proofs.lemmas.List.{get_or_default, get_or-drop, get_or-take}
 use Rattle.si_base.specs.declared.graph.Edge.{Edge}
 use Rattle.si_base.specs.EdgeOrder.{edge_cmp}
 use Rattle.si_graph.specs.Arcs.{no_edge, edge_at, IsOutOf, IsFirstFrom}
-use Rattle.si_graph.specs.Starts.{IsStart}
-use Rattle.si_graph.proofs.OrderLemmas.{from_le, in_order, sorted_take, sorted_drop}
+use Rattle.si_graph.specs.Starts.{AreBelow, IsStart}
+use Rattle.si_graph.proofs.OrderLemmas.{from_le, in_order, rising_from, sorted_take, sorted_drop}
 
 -- ---- starts
-pub start_from_cut : (edges : List Edge) (s k : ℕ) → k ≤ length edges
-    → IsPartitionPoint (λ a. ltb a.from s ≡ true) (λ a. ltb a.from s ≡ false) edges k → IsStart edges s k
-start_from_cut edges s k up_to cut = record {
-  up_to = up_to;
-  parts = (
-    λ j d from below. ltb-true _ _ (cut.0 j d from below),
-    λ j d from below. ltb-false _ _ (cut.1 j d from below),
-  );
-}
+-- the first k arcs leave states below s, and the next one, if there is one, doesn't
+module _ (edges : List Edge) (s k : ℕ) (sorted : IsStrictlySortedBy edge_cmp edges) (below : AreBelow edges s k)
+    (ends : ((k < length edges) × ((edge_at edges k).from < s)) → ⊥) where
+  next_from : k < length edges → s ≤ (edge_at edges k).from
+  next_from there = elim (cases_lt (edge_at edges k).from s) [
+    | inl less ↦ absurd (ends (there, less))
+    | inr le ↦ le
+  ]
 
--- no arc leaves a state past the last
-pub start_past : (edges : List Edge) (states s : ℕ)
-    → ((k : ℕ) (d : Edge) → k < length edges → (get_or edges k d).from < states)
-    → states ≤ s → IsStart edges s (length edges)
-start_past edges states s within past = record {
-  up_to = omega arith;
-  parts = (
-    λ j d from below. omega (arith, within j d below),
-    λ j d from below. absurd (omega arith),
-  );
-}
+  later_from : (j : ℕ) → k ≤ j → j < length edges → s ≤ (edge_at edges j).from
+  later_from j after there =
+      let first : s ≤ (edge_at edges k).from = next_from (omega arith) in
+      let rising : (edge_at edges k).from ≤ (edge_at edges j).from = rising_from edges sorted k j no_edge after there in
+      omega (arith, first, rising)
+
+  pub start_here : IsStart edges s k
+  start_here = record {
+    up_to = below.up_to;
+    parts = (
+      λ j d from before. rw (get_or_default edges j d no_edge (omega (arith, below.up_to))) (below.each j before),
+      λ j d from there. rw (get_or_default edges j d no_edge there) (later_from j from there),
+    );
+  }
 
 -- ---- the arcs out of a state
 -- they stand from its start up to the start of the next state

@@ -4,7 +4,13 @@ use Rattle.std.specs.Prelude.{◌≡◌, ℕ, ◌+◌, ◌<◌, ◌≤◌, List,
 use Rattle.std.specs.List.Sorted.{IsPartitionPoint}
 use Rattle.si_base.specs.declared.graph.Edge.{Edge}
 use Rattle.si_graph.specs.declared.chain.Chain.{Chain}
+use Rattle.si_graph.specs.Arcs.{edge_at}
 use Rattle.si_graph.specs.Chains.{AreStored, AreLinked, target}
+
+-- there are at least k arcs, and the first k leave states below s
+pub record AreBelow (edges : List Edge) (s k : ℕ) : Type 0 where
+  pub up_to : k ≤ length edges
+  pub each : (j : ℕ) → j < k → (edge_at edges j).from < s
 
 -- the start of s is the number of arcs whose source is below s: these come first, and no others do
 pub record IsStart (edges : List Edge) (s start : ℕ) : Type 0 where

@@ -1,12 +1,12 @@
 //! Arcs in order: those out of a state stand together, and those into a state are chained.
 
 ghost use Rattle.std.specs.Prelude.{◌≡◌, ℕ, ◌+◌, ◌<◌, ◌≤◌, ◌^◌, ◌↔◌, IfOk, All, Contains};
-ghost use Rattle.std.specs.Prelude.{MatchOption, length};
+ghost use Rattle.std.specs.Prelude.{IsTrue, MatchOption, length};
 ghost use Rattle.std.specs.List.Sorted.{IsStrictlySortedBy};
 ghost use Rattle.si_base.specs.declared.graph.Edge.{Edge};
 ghost use Rattle.si_base.specs.EdgeOrder.{edge_cmp};
 ghost use Rattle.si_graph.specs.Arcs.{edge_at, IsFirstPlace, IsInto, IsOutOf};
-ghost use Rattle.si_graph.specs.Starts.{AreStarts, IsStart};
+ghost use Rattle.si_graph.specs.Starts.{AreBelow, AreStarts, IsStart};
 
 use crate::chain::{Chain, End};
 use si_base::graph::Edge;
@@ -192,17 +192,35 @@ fn starts_of(alloc: Global, states: u32, arcs: &[Edge]) -> Result<Vec<u32>, NoMe
     requires ordered { IsStrictlySortedBy edge_cmp arcs.now }
     ensures { IfOk result (λ starts. AreStarts states arcs.now starts.items) }
 {
-    let mut starts = Vec::new(alloc);
+    let mut starts = Vec::with_capacity(alloc, states as usize + 1)?;
+    let mut start = 0;
     for s in 0..states as usize + 1 {
-        starts.push(start_of(arcs, s) as u32)?;
+        start = start_from(arcs, start, s);
+        starts.push(start as u32)?;
     }
     Ok(starts)
 }
 
-/// Where the arcs out of state `s` start.
-fn start_of(arcs: &[Edge], s: usize) -> usize
-    requires { IsStrictlySortedBy edge_cmp arcs.now }
+/// Where the arcs out of state `s` start, where those before `low` leave states below it.
+fn start_from(arcs: &[Edge], low: usize, s: usize) -> usize
+    requires ordered { IsStrictlySortedBy edge_cmp arcs.now }
+    requires below { AreBelow arcs.now s low }
     ensures { IsStart arcs.now s result }
 {
-    arcs.partition_point(|a| (a.from.0 as usize) < s)
+    let mut place = low;
+    while leaves_below(arcs, place, s) {
+        place += 1;
+    }
+    place
+}
+
+/// Whether there is an arc at the place, and it leaves a state below `s`.
+fn leaves_below(arcs: &[Edge], place: usize, s: usize) -> bool
+    ensures { IsTrue result
+        ↔ ((place < length arcs.now) × ((edge_at arcs.now place).from < s)) }
+{
+    match arcs.get(place) {
+        Some(arc) => (arc.from.0 as usize) < s,
+        None => false,
+    }
 }

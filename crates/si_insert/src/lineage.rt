@@ -9,8 +9,7 @@ ghost use Rattle.si_base.specs.Limits.{max_signals};
 ghost use Rattle.si_insert.specs.Accepted.{IsAccepted};
 ghost use Rattle.si_insert.specs.Fresh.{IsTaken};
 ghost use Rattle.si_insert.specs.Lineage.{AllGiven, Extends, Inserts, IsLineage, Keeps};
-ghost use Rattle.si_insert.specs.Lineage.{given_current};
-ghost use Rattle.si_insert.specs.Lineage.{origin};
+ghost use Rattle.si_insert.specs.Lineage.{given_history, origin};
 
 use crate::accept::Accepted;
 use crate::apply::{WithCopies, apply_with_copies};
@@ -61,8 +60,7 @@ impl Lineage {
     /// comes back.
     pub fn start(alloc: Global, graph: Proper) -> Result<Lineage, (Proper, NoMemory)>
         requires { AllGiven graph.graph.signals }
-        ensures line { IfOk result
-            (λ l. l ≡ record { given = graph; trace = []; current = given_current graph }) }
+        ensures line { IfOk result (λ l. l ≡ given_history graph) }
         ensures back { IfErr result (λ e. e.0 ≡ graph) }
     {
         let Ok(current) = graph.copy(alloc) else {

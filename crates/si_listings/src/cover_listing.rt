@@ -4,7 +4,7 @@ ghost use Rattle.std.specs.Prelude.{◌≡◌, ◌<◌, ◌++◌, [], ◌∷◌,
 ghost use Rattle.si_base.specs.Graph.{IsNonInput};
 ghost use Rattle.si_base.specs.NetlistText.{cube_words};
 ghost use Rattle.si_base.specs.Words.{line, text_of};
-ghost use Rattle.si_checks.specs.Lent.{lent_graph};
+ghost use Rattle.si_checks.specs.Lent.{coded_of};
 ghost use Rattle.si_cover.specs.Mono.{InSignalOrder};
 ghost use Rattle.si_listings.specs.CoverText.{RegionCube, IsRegionCube, Component, AreComponents};
 ghost use Rattle.si_listings.specs.CoverText.{sum_line, sum_lines, region_cube_words, mono_line};
@@ -64,8 +64,8 @@ fn write_conflict(alloc: Global, states: &Names, p: StateId, q: StateId) -> Resu
 
 /// The text of a graph without conflicts.
 fn write_covers(alloc: Global, graph: Distinct<'_>, states: &Names) -> Result<Text, NoMemory>
-    requires { length states.now ≡ (lent_graph graph).graph.states }
-    ensures { IfOk result (TellsCovers (lent_graph graph.entry) states.now) }
+    requires { length states.now ≡ (coded_of graph).graph.states }
+    ensures { IfOk result (TellsCovers (coded_of graph.entry) states.now) }
 {
     let coded = graph.proper().coded();
     let known = coded.graph();
@@ -90,10 +90,10 @@ fn add_signal(
     regions: &[Region],
     z: Sig,
 ) -> Result<(), NoMemory>
-    requires driven { IsNonInput (lent_graph graph).graph.signals z }
-    requires states { length states.now ≡ (lent_graph graph).graph.states }
-    requires regions { AreRegions (lent_graph graph) regions.now }
-    ensures { let c = lent_graph graph.entry in OnOk result
+    requires driven { IsNonInput (coded_of graph).graph.signals z }
+    requires states { length states.now ≡ (coded_of graph).graph.states }
+    requires regions { AreRegions (coded_of graph) regions.now }
+    ensures { let c = coded_of graph.entry in OnOk result
         ((xs : List Component) → AreComponents c xs
         → text.new ≡ text.old ++ text_of (signal_lines c states.now xs z)) }
 {
@@ -103,8 +103,8 @@ fn add_signal(
 
 /// Adds the lines of the sums of a signal.
 fn add_sums(alloc: Global, text: &mut Text, graph: Distinct<'_>, z: Sig) -> Result<(), NoMemory>
-    requires { IsNonInput (lent_graph graph).graph.signals z }
-    ensures { OnOk result (text.new ≡ text.old ++ text_of (sum_lines (lent_graph graph.entry) z)) }
+    requires { IsNonInput (coded_of graph).graph.signals z }
+    ensures { OnOk result (text.new ≡ text.old ++ text_of (sum_lines (coded_of graph.entry) z)) }
 {
     let signals = graph.proper().coded().graph().signals();
     let next = next_sum(alloc, graph, z)?;
@@ -140,9 +140,9 @@ fn add_monos(
     regions: &[Region],
     z: Sig,
 ) -> Result<(), NoMemory>
-    requires states { length states.now ≡ (lent_graph graph).graph.states }
-    requires regions { AreRegions (lent_graph graph) regions.now }
-    ensures { let c = lent_graph graph.entry in OnOk result
+    requires states { length states.now ≡ (coded_of graph).graph.states }
+    requires regions { AreRegions (coded_of graph) regions.now }
+    ensures { let c = coded_of graph.entry in OnOk result
         ((xs : List Component) → AreComponents c xs
         → text.new ≡ text.old ++ text_of (monos_after c.graph.signals states.now z [] xs)) }
 {
@@ -165,9 +165,9 @@ fn add_if_of(
     number: usize,
     z: Sig,
 ) -> Result<(), NoMemory>
-    requires states { length states.now ≡ (lent_graph graph).graph.states }
-    requires region { IsRegion (lent_graph graph) region.now }
-    ensures { let c = lent_graph graph.entry in OnOk result
+    requires states { length states.now ≡ (coded_of graph).graph.states }
+    requires region { IsRegion (coded_of graph) region.now }
+    ensures { let c = coded_of graph.entry in OnOk result
         ((told : RegionCube) → IsRegionCube c region.now told → text.new ≡ text.old
         ++ text_of (mono_lines c.graph.signals states.now z number region.now told)) }
 {
@@ -186,9 +186,9 @@ fn add_mono(
     region: &Region,
     number: usize,
 ) -> Result<(), NoMemory>
-    requires states { length states.now ≡ (lent_graph graph).graph.states }
-    requires region { IsRegion (lent_graph graph) region.now }
-    ensures { let c = lent_graph graph.entry in OnOk result
+    requires states { length states.now ≡ (coded_of graph).graph.states }
+    requires region { IsRegion (coded_of graph) region.now }
+    ensures { let c = coded_of graph.entry in OnOk result
         ((told : RegionCube) → IsRegionCube c region.now told → text.new ≡ text.old
         ++ line (mono_line c.graph.signals states.now number region.now told)) }
 {
@@ -211,9 +211,9 @@ fn add_region_cube(
     states: &Names,
     region: &Region,
 ) -> Result<(), NoMemory>
-    requires states { length states.now ≡ (lent_graph graph).graph.states }
-    requires region { IsRegion (lent_graph graph) region.now }
-    ensures { let c = lent_graph graph.entry in OnOk result
+    requires states { length states.now ≡ (coded_of graph).graph.states }
+    requires region { IsRegion (coded_of graph) region.now }
+    ensures { let c = coded_of graph.entry in OnOk result
         ((told : RegionCube) → IsRegionCube c region.now told
         → text.new ≡ text.old ++ spaced (region_cube_words c.graph.signals states.now told)) }
 {

@@ -6,7 +6,7 @@ ghost use Rattle.si_base.specs.Bits.{bit};
 ghost use Rattle.si_base.specs.Limits.{max_signals};
 ghost use Rattle.si_base.specs.Graph.{IsNonInput};
 ghost use Rattle.si_cell.specs.Library.{Library as LibraryValue, IsInstance};
-ghost use Rattle.si_checks.specs.Lent.{lent_graph};
+ghost use Rattle.si_checks.specs.Lent.{coded_of};
 ghost use Rattle.si_divisor.specs.ManyFunctions.{AreFunctionSets};
 ghost use Rattle.si_insert.specs.Accepted.{DelaysNoInput, IsAccepted, StaysProper};
 ghost use Rattle.si_insert.specs.Partition.{IsLawful};
@@ -66,8 +66,8 @@ pub(crate) fn find_best(
     library: &LibraryFunctions<'_>,
     weight: u64,
 ) -> Result<Option<Accepted>, NoMemory>
-    requires { weight ≡ weight_of (lent_graph graph) library.now }
-    ensures { IfOk result (IsBestPartition (lent_graph graph.entry) library.now) }
+    requires { weight ≡ weight_of (coded_of graph) library.now }
+    ensures { IfOk result (IsBestPartition (coded_of graph.entry) library.now) }
 {
     let fitted = fitted_signals(graph, library.library());
     let mut search = Search::new(alloc, graph.proper(), weight, fitted)?;
@@ -109,13 +109,13 @@ impl Search {
         z: Sig,
         functions: &mut Functions,
     ) -> Result<(), NoMemory>
-        requires driven { IsNonInput (lent_graph graph).graph.signals z }
-        requires before { IsSearching (lent_graph graph) library.now z 0 self.old }
-        requires known { AreUpToDate (lent_graph graph) library.now self.old.bar functions.old }
+        requires driven { IsNonInput (coded_of graph).graph.signals z }
+        requires before { IsSearching (coded_of graph) library.now z 0 self.old }
+        requires known { AreUpToDate (coded_of graph) library.now self.old.bar functions.old }
         ensures after { OnOk result
-            (IsSearching (lent_graph graph.entry) library.now (z + 1) 0 self.new) }
+            (IsSearching (coded_of graph.entry) library.now (z + 1) 0 self.new) }
         ensures known { OnOk result
-            (AreUpToDate (lent_graph graph.entry) library.now self.new.bar functions.new) }
+            (AreUpToDate (coded_of graph.entry) library.now self.new.bar functions.new) }
     {
         let cells = library.library();
         if fit(graph, cells, z).is_some() {
@@ -285,7 +285,7 @@ impl Search {
 
 /// The signals that the circuit drives and that some cell fits.
 fn fitted_signals(graph: Distinct<'_>, library: &Library) -> Code
-    ensures { AreFitted (lent_graph graph.entry) library.now result }
+    ensures { AreFitted (coded_of graph.entry) library.now result }
 {
     let known = graph.proper().coded().graph();
     let mut fitted = Code(0);

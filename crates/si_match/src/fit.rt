@@ -2,7 +2,7 @@
 
 ghost use Rattle.std.specs.Prelude.{◌≡◌, ℕ, ◌<◌, All, [], length, option_map};
 ghost use Rattle.si_base.specs.Graph.{IsNonInput};
-ghost use Rattle.si_checks.specs.Lent.{lent_graph};
+ghost use Rattle.si_checks.specs.Lent.{coded_of};
 ghost use Rattle.si_cell.specs.Library.{cell_at};
 ghost use Rattle.si_match.specs.Fit.{first_fit};
 ghost use Rattle.si_match.specs.Triggers.{AreMissing};
@@ -25,8 +25,8 @@ use si_graph::coded::Coded;
 /// pins that leave too few pins for them, or where a state beside an arc of a trigger, or one that
 /// refuted an earlier instance, refutes every instance with these literals.
 pub fn fit(graph: Distinct<'_>, library: &Library, z: Sig) -> Option<Instance>
-    requires { IsNonInput (lent_graph graph).graph.signals z }
-    ensures { result ≡ first_fit (lent_graph graph.entry) library.now z }
+    requires { IsNonInput (coded_of graph).graph.signals z }
+    ensures { result ≡ first_fit (coded_of graph.entry) library.now z }
 {
     let coded = graph.proper().coded();
     let triggers = triggers_of(coded, z);

@@ -5,7 +5,7 @@ ghost use Rattle.si_base.specs.Bits.{bit};
 ghost use Rattle.si_base.specs.Codes.{IsCoded};
 ghost use Rattle.si_base.specs.Graph.{IsNonInput};
 ghost use Rattle.si_base.specs.Limits.{code_width};
-ghost use Rattle.si_checks.specs.Lent.{lent_graph};
+ghost use Rattle.si_checks.specs.Lent.{coded_of};
 ghost use Rattle.si_match.specs.Dropping.{AreTried};
 ghost use Rattle.si_match.specs.Support.{determines, support_of};
 ghost use Rattle.si_match.specs.Triggers.{AreTriggers};
@@ -22,8 +22,8 @@ use std::alloc::Global;
 /// without which the values of the others still determine the next value of `z`. It fails only
 /// where memory runs out.
 pub fn support(alloc: Global, graph: Distinct<'_>, z: Sig) -> Result<Code, NoMemory>
-    requires { IsNonInput (lent_graph graph).graph.signals z }
-    ensures { IfOk result (λ signals. signals ≡ support_of (lent_graph graph.entry) z) }
+    requires { IsNonInput (coded_of graph).graph.signals z }
+    ensures { IfOk result (λ signals. signals ≡ support_of (coded_of graph.entry) z) }
 {
     let coded = graph.proper().coded();
     let triggers = triggers_of(coded, z);

@@ -3,7 +3,7 @@
 ghost use Rattle.std.specs.Prelude.{◌≡◌, ◌<◌, ◌≤◌, ◌+◌, IfOk, IfSome, IfNone};
 ghost use Rattle.si_base.specs.Graph.{IsNonInput};
 ghost use Rattle.si_base.specs.Limits.{code_width};
-ghost use Rattle.si_checks.specs.Lent.{lent_graph};
+ghost use Rattle.si_checks.specs.Lent.{coded_of};
 ghost use Rattle.si_match.specs.Known.{AreKnown};
 ghost use Rattle.si_match.specs.Weight.{added_weight, size_from, size_of_support, weight_of};
 
@@ -41,9 +41,9 @@ fn weight_of_signal(
     library: &Library,
     z: Sig,
 ) -> Result<u64, NoMemory>
-    requires { IsNonInput (lent_graph graph).graph.signals z }
+    requires { IsNonInput (coded_of graph).graph.signals z }
     ensures weight { IfOk result
-        (λ weight. weight ≡ added_weight (lent_graph graph.entry) library.now z) }
+        (λ weight. weight ≡ added_weight (coded_of graph.entry) library.now z) }
     ensures few { IfOk result (λ weight. weight ≤ 1 + code_width) }
 {
     if fit(graph, library, z).is_some() {
@@ -54,9 +54,9 @@ fn weight_of_signal(
 
 /// What a non-input that fits no cell adds to the weight: one more than the size of its support.
 fn weight_unfit(alloc: Global, graph: Distinct<'_>, z: Sig) -> Result<u64, NoMemory>
-    requires { IsNonInput (lent_graph graph).graph.signals z }
+    requires { IsNonInput (coded_of graph).graph.signals z }
     ensures weight { IfOk result
-        (λ weight. weight ≡ 1 + size_of_support (lent_graph graph.entry) z) }
+        (λ weight. weight ≡ 1 + size_of_support (coded_of graph.entry) z) }
     ensures few { IfOk result (λ weight. weight ≤ 1 + code_width) }
 {
     let count = graph.proper().coded().graph().signals().len();
@@ -67,7 +67,7 @@ fn weight_unfit(alloc: Global, graph: Distinct<'_>, z: Sig) -> Result<u64, NoMem
 /// The weight of the graph for the library: for each non-input that fits no cell, one more than the
 /// size of its support. It fails only where memory runs out.
 pub fn weight(alloc: Global, graph: Distinct<'_>, library: &Library) -> Result<u64, NoMemory>
-    ensures { IfOk result (λ weight. weight ≡ weight_of (lent_graph graph.entry) library.now) }
+    ensures { IfOk result (λ weight. weight ≡ weight_of (coded_of graph.entry) library.now) }
 {
     let signals = graph.proper().coded().graph().signals();
     let mut weight = 0;
@@ -98,12 +98,12 @@ pub fn weight_below(
     known: &KnownFits,
     bar: u64,
 ) -> Result<Option<u64>, NoMemory>
-    requires known { AreKnown (lent_graph graph) library.now known.now }
+    requires known { AreKnown (coded_of graph) library.now known.now }
     requires read { known.now.read < code_width }
     ensures some { IfOk result (λ o. IfSome o
-        (λ w. (w ≡ weight_of (lent_graph graph.entry) library.now) × (w < bar))) }
+        (λ w. (w ≡ weight_of (coded_of graph.entry) library.now) × (w < bar))) }
     ensures none { IfOk result
-        (λ o. IfNone o (bar ≤ weight_of (lent_graph graph.entry) library.now)) }
+        (λ o. IfNone o (bar ≤ weight_of (coded_of graph.entry) library.now)) }
 {
     let coded = graph.proper().coded();
     let signals = coded.graph().signals();

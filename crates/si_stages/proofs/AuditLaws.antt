@@ -1,6 +1,6 @@
 -- What is written for a graph passes the audit for that graph: its lineage certifies it.
 use Rattle.std.proofs.Common.{◌≡◌, ℕ, List, None, Ok, refl, sym, ap, subst, ◌∙◌}
-use Rattle.si_audit.specs.Audit.{Certifies, TakesAll, start_lineage}
+use Rattle.si_audit.specs.Audit.{Certifies, TakesAll}
 use Rattle.si_audit.proofs.AuditBuiltLineages.{built_are_certified}
 use Rattle.si_base.specs.Behaviour.{Implements}
 use Rattle.si_base.specs.Codes.{CodedGraph}
@@ -12,7 +12,7 @@ use Rattle.si_base.specs.WellFormed.{IsNetlist}
 use Rattle.si_circuit.specs.Cells.{cell_gate}
 use Rattle.si_circuit.specs.Gates.{gate_of}
 use Rattle.si_circuit.specs.Spelling.{insertions_of}
-use Rattle.si_insert.specs.Lineage.{History, IsLineage}
+use Rattle.si_insert.specs.Lineage.{History, IsLineage, given_history}
 use Rattle.si_inserted.specs.Current.{current_sg}
 use Rattle.si_netlist_reader.specs.NetlistFault.{netlist_fault}
 use Rattle.si_netlist_reader.specs.NetlistValue.{netlist_of}
@@ -71,7 +71,7 @@ module _ (text output : List ℕ) (sg : Sg) (l : History) (is : IsGivenBy text s
       let back : w.netlist ≡ circuit = sym read in
       let certifies = built_are_certified sg.states l w.netlist line w.circuit.built inserts in
       let fits = subst (λ (m : Netlist). IsFor l.given m) back w.is_for in
-      let all = subst (λ (m : Netlist). TakesAll sg.states (start_lineage l.given) m.inserts l) back certifies.taken in
+      let all = subst (λ (m : Netlist). TakesAll sg.states (given_history l.given) m.inserts l) back certifies.taken in
       let readings : AuditReadings = record { given = sg; netlist = circuit } in
       let reads = Passes sg is (Passes circuit (is_certified.no_fault, refl) refl) in
       Passes readings reads (Passes l.given sound (Passes tt fits (Passes l all refl)))

@@ -16,12 +16,12 @@ use Rattle.si_handshakes.proofs.HandshakesExist.{some_handshakes}
 use Rattle.si_handshakes.proofs.HandshakeProper.{connected, no_conflict, proper}
 use Rattle.si_handshakes.proofs.HandshakeSizes.{one_graph}
 use Rattle.si_handshakes.proofs.NamesWritten.{writable}
-use Rattle.si_insert.specs.Lineage.{AllGiven, History}
+use Rattle.si_insert.specs.Lineage.{AllGiven, History, given_history}
 use Rattle.si_sg.proofs.WholeLaw.{read_back}
 use Rattle.si_sg.specs.CanonicalText.{sg_text}
 use Rattle.si_sg.specs.GivenGraph.{IsGivenBy}
 use Rattle.si_readings.specs.Checks.{IsSound}
-use Rattle.si_stages.specs.Exercise.{IsExercise, as_it_is, exercise, exercise_text}
+use Rattle.si_stages.specs.Exercise.{IsExercise, exercise, exercise_text}
 use Rattle.si_readings.specs.Laws.{AtMostOne, HasResult}
 use Rattle.si_stages.specs.Synthesis.{IsSynthesis}
 use Rattle.si_readings.proofs.CheckLemmas.{coded_unique}
@@ -32,7 +32,7 @@ use Rattle.si_stages.proofs.SynthesisLemmas.{is_synthesis}
 
 -- the netlist that is counted
 abbrev pub own_netlist : Sg → CodedGraph → Netlist
-own_netlist sg coded = circuit_of Complex sg.model sg.states (as_it_is coded)
+own_netlist sg coded = circuit_of Complex sg.model sg.states (given_history coded)
 
 -- ---- the graph of handshakes, and its codes
 module _ (n : ℕ) (sg : Sg) (few : n ≤ max_handshakes) (is : IsHandshakes n sg) (coded : CodedGraph)
@@ -48,11 +48,11 @@ module _ (n : ℕ) (sg : Sg) (few : n ≤ max_handshakes) (is : IsHandshakes n s
       let Given : StateGraph → Type 0 = λ g. AllGiven g.signals in
       subst Given (sym sound.same_graph) (given_signals (sg_text sg) sg given)
 
-  resolves : IsResolution sg.graph (as_it_is coded)
+  resolves : IsResolution sg.graph (given_history coded)
   resolves = record { sound = sound; resolves = record { goes = refl; done = free } }
 
-  line : IsGivenLineage sg (as_it_is coded)
-  line = given_lineage (sg_text sg) sg (as_it_is coded) given resolves
+  line : IsGivenLineage sg (given_history coded)
+  line = given_lineage (sg_text sg) sg (given_history coded) given resolves
 
   pub spelled : AreSpelled sg.model coded.graph.signals
   spelled = line.spelled
@@ -63,8 +63,8 @@ module _ (n : ℕ) (sg : Sg) (few : n ≤ max_handshakes) (is : IsHandshakes n s
   implements : Implements (own_netlist sg coded) sg.graph
   implements =
       let netlist : Netlist = own_netlist sg coded in
-      let made : IsSynthesis Complex sg (as_it_is coded) (netlist_text netlist) =
-      is_synthesis Complex (sg_text sg) sg (as_it_is coded) (netlist_text netlist) given resolves refl in
+      let made : IsSynthesis Complex sg (given_history coded) (netlist_text netlist) =
+      is_synthesis Complex (sg_text sg) sg (given_history coded) (netlist_text netlist) given resolves refl in
       subst (λ (m : Netlist). Implements m sg.graph) made.gates_are made.written.implements
 
   pub is_exercise : (output : List ℕ)
@@ -82,7 +82,7 @@ module _ (n : ℕ) (sg : Sg) (few : n ≤ max_handshakes) (is : IsHandshakes n s
 
   -- over what the calls hand out
   pub counted : (states arcs : ℕ) (netlist : Netlist) (l : History) → states ≡ sg.graph.states
-      → arcs ≡ length sg.graph.edges → netlist ≡ circuit_of Complex sg.model sg.states l → l ≡ as_it_is coded
+      → arcs ≡ length sg.graph.edges → netlist ≡ circuit_of Complex sg.model sg.states l → l ≡ given_history coded
       → (output : List ℕ) → output ≡ exercise_text n states arcs netlist → IsExercise n output
   counted states arcs netlist l states_are arcs_are netlist_is same output output_is =
       let own : netlist ≡ own_netlist sg coded =

@@ -5,7 +5,7 @@ use Rattle.si_audit.proofs.OneCertificate.{one_lineage, rejected_not_taken, two_
 use Rattle.si_audit.proofs.InsertionFaults.{is_rejected, rejected_or_taken, rejection_shows}
 use Rattle.si_audit.proofs.FaultSignalLemmas.{tells}
 use Rattle.si_audit.proofs.WalkLemmas.{given_stays}
-use Rattle.si_audit.specs.Audit.{TakesAll, start_lineage}
+use Rattle.si_audit.specs.Audit.{TakesAll}
 use Rattle.si_audit.specs.Faults.{ShowsRejection}
 use Rattle.si_audit.specs.Laws.{CanBeAudited}
 use Rattle.si_audit.specs.declared.fault.AuditFault.{AuditFault}
@@ -21,7 +21,7 @@ use Rattle.si_circuit.specs.Gates.{chosen_netlist}
 use Rattle.si_circuit.specs.Spelling.{insertions_of}
 use Rattle.si_circuit.specs.declared.style.Style.{Style}
 use Rattle.si_insert.proofs.InsertionKeeps.{keeps}
-use Rattle.si_insert.specs.Lineage.{History}
+use Rattle.si_insert.specs.Lineage.{History, given_history}
 use Rattle.si_inserted.proofs.CurrentTexts.{texts_read_back}
 use Rattle.si_inserted.proofs.InternalGraphGates.{same_netlist}
 use Rattle.si_inserted.proofs.InternalGraphLemmas.{internal_is_coded, internal_is_distinct, internal_is_proper}
@@ -45,7 +45,7 @@ use Rattle.si_sg.specs.GivenGraph.{IsGivenBy}
 use Rattle.si_stages.proofs.AuditLaws.{reads_back}
 use Rattle.si_stages.proofs.AuditLemmas.{not_memory, one_name, readings_can, some_name}
 use Rattle.si_stages.proofs.GivenLineages.{IsGivenLineage, given_lineage, given_state_names}
-use Rattle.si_stages.proofs.MeaningLemmas.{own_lineage, own_resolution, synth_one}
+use Rattle.si_stages.proofs.MeaningLemmas.{own_resolution, synth_one}
 use Rattle.si_stages.proofs.ResolutionLemmas.{IsResolution, resolution_is, resolution_of}
 use Rattle.si_stages.proofs.ResolutionLemmas.{resolution_one, resolution_some}
 use Rattle.si_stages.proofs.SynthesisLemmas.{is_synthesis}
@@ -67,7 +67,7 @@ resolve_some file text = then_some _ _ (graph_some file text) (λ given is.
     (λ l resolves. gives_some (sg_text (current_sg given.model given.states l))))
 
 module _ (states : List (List ℕ)) (coded : CodedGraph) (n : Netlist) (can : CanBeAudited states coded n) where
-  never_both : (l : History) (refusal : TextRefusal) → TakesAll states (start_lineage coded) n.inserts l
+  never_both : (l : History) (refusal : TextRefusal) → TakesAll states (given_history coded) n.inserts l
       → IsInsertRejection states coded n refusal → ⊥
   never_both l refusal takes rejects =
       let other = not_memory n.signals rejects.fault rejects.reason rejects.named in
@@ -136,10 +136,10 @@ insert_some g a n b = then_some _ _ (audit_readings_some g a n b)
 
 -- the states of the given graph keep their names
 pub names_taken : (text : List ℕ) (given : Sg) (coded : CodedGraph) (n : Netlist) (l : History) → IsGivenBy text given
-    → IsSound given.graph coded → TakesAll given.states (start_lineage coded) n.inserts l
+    → IsSound given.graph coded → TakesAll given.states (given_history coded) n.inserts l
     → AreStateNames l.given.graph given.states
 names_taken text given coded n l is sound takes =
-    let stays = ap (λ (c : CodedGraph). c.graph) (given_stays given.states (start_lineage coded) n.inserts l takes) in
+    let stays = ap (λ (c : CodedGraph). c.graph) (given_stays given.states (given_history coded) n.inserts l takes) in
     subst (λ (g : StateGraph). AreStateNames g given.states) (sym (stays ∙ sound.same_graph))
     (given_state_names text given is)
 
@@ -192,13 +192,13 @@ module _ (text : List ℕ) (sg : Sg) (l : History) (given : IsGivenBy text sg) (
         proper = internal_is_proper l.current.coded.graph kept.proper;
       }
 
-  resolves_itself : IsResolution again.graph (own_lineage coded)
+  resolves_itself : IsResolution again.graph (given_history coded)
   resolves_itself =
       own_resolution again coded is_sound (internal_is_distinct l.current.coded is.resolves.done)
 
   -- with nothing inserted its netlist is that of the chosen gates
   none_spelled : (style : Style)
-      → circuit_of style again.model again.states (own_lineage coded) ≡ chosen_netlist style sg.model coded
+      → circuit_of style again.model again.states (given_history coded) ≡ chosen_netlist style sg.model coded
   unfolding insertions_of
   none_spelled style = refl
 
@@ -206,7 +206,7 @@ module _ (text : List ℕ) (sg : Sg) (l : History) (given : IsGivenBy text sg) (
     abbrev first : Netlist
     first = circuit_of style sg.model sg.states l
 
-    same_gates : circuit_of style again.model again.states (own_lineage coded) ≡ internal_netlist first
+    same_gates : circuit_of style again.model again.states (given_history coded) ≡ internal_netlist first
     same_gates = none_spelled style ∙ same_netlist style sg.model (insertions_of sg.states l) l.current.coded
 
     same_output : (file output : List ℕ) → synth style file text (Ok (netlist_text first))
@@ -228,9 +228,9 @@ module _ (text : List ℕ) (sg : Sg) (l : History) (given : IsGivenBy text sg) (
         let back = read_again few in
         let written = ap (λ (n : Netlist). netlist_text (internal_netlist n)) (made_first file output made)
         ∙ ap (λ (n : Netlist). netlist_text n) (sym same_gates) in
-        Passes again back (Passes (own_lineage coded)
-        (resolution_of again.graph again.states (own_lineage coded) resolves_itself)
-        (is_synthesis style (sg_text again) again (own_lineage coded) _ back resolves_itself written))
+        Passes again back (Passes (given_history coded)
+        (resolution_of again.graph again.states (given_history coded) resolves_itself)
+        (is_synthesis style (sg_text again) again (given_history coded) _ back resolves_itself written))
 
 pub resolved_texts_serve : ResolvedTextsServe
 resolved_texts_serve file text resolved comes =

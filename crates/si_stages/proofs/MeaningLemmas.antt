@@ -9,7 +9,7 @@ use Rattle.si_base.specs.System.{IsFor}
 use Rattle.si_circuit.specs.Cells.{mapped_netlist}
 use Rattle.si_circuit.specs.Circuits.{circuit_of}
 use Rattle.si_circuit.specs.declared.style.Style.{Style}
-use Rattle.si_insert.specs.Lineage.{ExtendsBy, History, given_current}
+use Rattle.si_insert.specs.Lineage.{ExtendsBy, History, given_history}
 use Rattle.si_insert.proofs.InsertionKeeps.{keeps}
 use Rattle.si_netlist_reader.specs.NetlistFault.{netlist_fault}
 use Rattle.si_netlist_reader.specs.NetlistValue.{netlist_of}
@@ -98,16 +98,13 @@ replay_some what g a n b s c = then_some _ _ (replay_readings_some g a n b s c)
     (given_named_states a readings.given given))))
 
 -- ---- a graph without conflicts is its own lineage
-abbrev pub own_lineage : CodedGraph → History
-own_lineage coded = record { given = coded; trace = []; current = given_current coded }
-
 pub own_resolution : (given : Sg) (coded : CodedGraph) → IsSound given.graph coded → HasNoConflict coded
-    → IsResolution given.graph (own_lineage coded)
+    → IsResolution given.graph (given_history coded)
 own_resolution given coded sound free = record { sound = sound; resolves = record { goes = refl; done = free } }
 
 pub free_synthesised : FreeGraphsAreSynthesised
 free_synthesised style file text given coded is sound free =
-    let own = own_lineage coded in
+    let own = given_history coded in
     let resolves = own_resolution given coded sound free in
     let output = netlist_text (circuit_of style given.model given.states own) in
     let made = is_synthesis style text given own output is resolves refl in
@@ -115,7 +112,7 @@ free_synthesised style file text given coded is sound free =
 
 pub free_mapped : FreeGraphsAreMapped
 free_mapped format file text library cells given coded is none sound free fit =
-    let own = own_lineage coded in
+    let own = given_history coded in
     let resolves = own_resolution given coded sound free in
     let spelled = library_from format cells in
     let readings : MappingReadings = record { given = given; library = spelled } in

@@ -9,7 +9,7 @@ use Rattle.si_base.specs.Words.{text_of}
 use Rattle.si_circuit.specs.Circuits.{circuit_of}
 use Rattle.si_circuit.specs.declared.style.Style.TheVariants.{Complex}
 use Rattle.si_handshakes.specs.Handshakes.{IsHandshakes}
-use Rattle.si_insert.specs.Lineage.{History, given_current}
+use Rattle.si_insert.specs.Lineage.{given_history}
 use Rattle.si_refusals.specs.Refusal.{TextRefusal}
 use Rattle.si_refusals.specs.Stages.{Stage, shows}
 use Rattle.si_readings.specs.Checks.{IsSound}
@@ -24,10 +24,6 @@ gate_literals (Cell name literals sum) = sum_by length sum
 -- the number of literals of the cubes of all gates
 abbrev pub literals_of : Netlist → ℕ
 literals_of netlist = sum_by gate_literals netlist.gates
-
--- the lineage of a graph into which nothing is inserted
-abbrev pub as_it_is : CodedGraph → History
-as_it_is coded = record { given = coded; trace = []; current = given_current coded }
 
 -- how many handshakes; how many states and arcs their graph has; how many gates and literals its
 -- netlist has
@@ -47,7 +43,7 @@ pub record IsExercise (n : ℕ) (output : List ℕ) : Type 0 where
   pub coded : CodedGraph
   pub sound : IsSound given.graph coded
   pub netlist : Netlist
-  pub gates_are : netlist ≡ circuit_of Complex given.model given.states (as_it_is coded)
+  pub gates_are : netlist ≡ circuit_of Complex given.model given.states (given_history coded)
   pub implements : Implements netlist given.graph
   pub output_is : output
       ≡ exercise_text n given.graph.states (length given.graph.edges) netlist

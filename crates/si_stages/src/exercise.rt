@@ -4,11 +4,11 @@ ghost use Rattle.std.specs.Prelude.{◌≡◌, ℕ, ◌<◌, ◌≤◌, IfOk, If
 ghost use Rattle.si_base.specs.Codes.{IsConnected};
 ghost use Rattle.si_base.specs.Proper.{HasNoConflict, IsProper};
 ghost use Rattle.si_handshakes.specs.Handshakes.{max_handshakes};
-ghost use Rattle.si_insert.specs.Lineage.{AllGiven};
+ghost use Rattle.si_insert.specs.Lineage.{AllGiven, given_history};
 ghost use Rattle.si_refusals.specs.Ending.{MayStop, ending_of};
 ghost use Rattle.si_readings.specs.Checks.{IsSound};
 ghost use Rattle.si_stages.specs.Exercise as stage;
-ghost use Rattle.si_stages.specs.Exercise.{IsExercise, as_it_is, exercise_text};
+ghost use Rattle.si_stages.specs.Exercise.{IsExercise, exercise_text};
 
 use crate::literals::literals_of;
 use crate::report::add_count;
@@ -59,7 +59,7 @@ fn circuit_sizes(alloc: Global, n: u32) -> Result<Text, NoMemory>
     let state_count = graph.states();
     let arc_count = graph.edges();
     let proper = proper_graph(alloc, graph)?;
-    let resolved = as_it_is(alloc, proper)?;
+    let resolved = resolved_as_given(alloc, proper)?;
     let Ok(circuit) = Circuit::of_sums(alloc, resolved, &model, &states) else {
         return Err(NoMemory);
     };
@@ -87,10 +87,10 @@ fn proper_graph(alloc: Global, graph: Graph) -> Result<Proper, NoMemory>
 }
 
 /// The lineage of the graph, of which no states are in conflict, with nothing inserted.
-fn as_it_is(alloc: Global, graph: Proper) -> Result<Resolved, NoMemory>
+fn resolved_as_given(alloc: Global, graph: Proper) -> Result<Resolved, NoMemory>
     requires given { AllGiven graph.graph.signals }
     requires free { HasNoConflict graph }
-    ensures { IfOk result (λ l. l ≡ as_it_is graph) }
+    ensures { IfOk result (λ l. l ≡ given_history graph) }
 {
     let Ok(lineage) = Lineage::start(alloc, graph) else {
         return Err(NoMemory);

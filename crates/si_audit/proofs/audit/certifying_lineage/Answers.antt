@@ -2,17 +2,17 @@ use Rattle.std.proofs.Common.{ap, sym, subst, ◌∙◌}
 use Rattle.std.proofs.lemmas.Result.{err_from_is_err_and}
 use Rattle.si_base.specs.Codes.{CodedGraph}
 use Rattle.si_base.specs.System.{IsFor}
-use Rattle.si_audit.specs.Audit.{start_lineage}
 use Rattle.si_audit.proofs.LastBuilt.{no_conflict}
 use Rattle.si_audit.proofs.InsertionFaults.{rejection_shows}
 use Rattle.si_audit.proofs.WalkLemmas.{given_stays, last_signals}
+use Rattle.si_insert.specs.Lineage.{given_history}
 use Rattle.si_audit.proofs.audit.certifying_lineage.Goals as goal
 
 pub check_built-requires-clause-count : goal.check_built-requires-clause-count
 check_built-requires-clause-count c =
     let n = c.args.netlist.now in
     let given =
-    given_stays c.args.states.now (start_lineage c.args.graph) n.inserts c.in_ok-lineage.lineage
+    given_stays c.args.states.now (given_history c.args.graph) n.inserts c.in_ok-lineage.lineage
     c.in_ok-lineage.ensures.taken in
     c.requires.count ∙ ap (λ (d : CodedGraph). d.graph.states) (sym given)
 
@@ -20,7 +20,7 @@ pub check_built-requires-clause-lists : goal.check_built-requires-clause-lists
 check_built-requires-clause-lists c =
     let n = c.args.netlist.now in
     let given =
-    given_stays c.args.states.now (start_lineage c.args.graph) n.inserts c.in_ok-lineage.lineage
+    given_stays c.args.states.now (given_history c.args.graph) n.inserts c.in_ok-lineage.lineage
     c.in_ok-lineage.ensures.taken in
     subst (λ (d : CodedGraph). IsFor d n) (sym given) c.requires.lists
 

@@ -1,13 +1,13 @@
 use Rattle.std.proofs.Common.{◌∙◌, sym}
-use Rattle.si_checks.specs.Lent.{lent_graph}
+use Rattle.si_checks.specs.Lent.{coded_of}
 use Rattle.si_circuit.proofs.CellLemmas.{instance_of, signal_small}
 use Rattle.si_circuit.proofs.cells.cell_gate.Goals as goal
 
 pub gate_of_instance-requires-clause-instance : goal.gate_of_instance-requires-clause-instance
 gate_of_instance-requires-clause-instance c =
-    instance_of (lent_graph c.args.graph) c.args.library.now c.args.z c.in-Some.instance c.requires.coded
+    instance_of (coded_of c.args.graph) c.args.library.now c.args.z c.in-Some.instance c.requires.coded
     (sym c.fit.ensures ∙ c.in-Some.is)
 
 pub gate_of_instance-requires-clause-signal : goal.gate_of_instance-requires-clause-signal
 gate_of_instance-requires-clause-signal c =
-    signal_small (lent_graph c.args.graph) c.args.z c.requires.coded c.requires.driven
+    signal_small (coded_of c.args.graph) c.args.z c.requires.coded c.requires.driven

@@ -4,7 +4,7 @@ use Rattle.std.proofs.lemmas.List.{map_push}
 use Rattle.si_base.specs.Codes.{CodedGraph}
 use Rattle.si_base.specs.Graph.{StateGraph, IsNonInput}
 use Rattle.si_base.specs.Netlist.{Gate}
-use Rattle.si_checks.specs.Lent.{lent_graph}
+use Rattle.si_checks.specs.Lent.{coded_of}
 use Rattle.si_netlist.specs.Parts.{gate_seen}
 use Rattle.si_circuit.specs.Cells.{cell_gate}
 use Rattle.si_circuit.proofs.CellLemmas.{fit_more}
@@ -13,7 +13,7 @@ use Rattle.si_circuit.proofs.cells.cell_gates.Goals as goal
 
 pub loop-i-preserved-then-not-is_driven : goal.loop-i-preserved-then-not-is_driven
 loop-i-preserved-then-not-is_driven c =
-    let k = lent_graph c.args.graph in
+    let k = coded_of c.args.graph in
     let graph_is : c.graph-known.result.now ≡ k.graph =
     c.graph-known.ensures.same ∙ ap (λ (d : CodedGraph). d.graph) (c.coded.ensures.same ∙ c.proper.ensures.same) in
     let signals : c.signals-i-end.result.now ≡ k.graph.signals =
@@ -27,7 +27,7 @@ loop-i-preserved-then-not-is_driven c =
 
 pub loop-i-preserved : goal.loop-i-preserved
 loop-i-preserved c =
-    let k = lent_graph c.args.graph in
+    let k = coded_of c.args.graph in
     let graph_is : c.graph-known.result.now ≡ k.graph =
     c.graph-known.ensures.same ∙ ap (λ (d : CodedGraph). d.graph) (c.coded.ensures.same ∙ c.proper.ensures.same) in
     let signals : c.signals-i-end.result.now ≡ k.graph.signals =

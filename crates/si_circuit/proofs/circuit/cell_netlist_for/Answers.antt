@@ -2,7 +2,7 @@ use Rattle.std.proofs.Common.{◌∙◌, Result, Ok, Err, IfOk}
 use Rattle.std.proofs.lemmas.Result.{IfOk-weaker}
 use Rattle.si_base.specs.Behaviour.{Implements}
 use Rattle.si_base.specs.Netlist.{Netlist}
-use Rattle.si_checks.specs.Lent.{lent_graph}
+use Rattle.si_checks.specs.Lent.{coded_of}
 use Rattle.si_circuit.specs.Cells.{cell_gate}
 use Rattle.si_circuit.specs.Circuits.{IsCircuit}
 use Rattle.si_circuit.specs.declared.cells.CellsFault.{CellsFault}
@@ -11,7 +11,7 @@ use Rattle.si_circuit.proofs.circuit.cell_netlist_for.Goals as goal
 
 pub netlist_of_cells-requires-clause-inserted : goal.netlist_of_cells-requires-clause-inserted
 netlist_of_cells-requires-clause-inserted c =
-    inserted_made c.args.states.now c.args.resolved.now c.lineage-lineage.result.now (lent_graph c.distinct.result)
+    inserted_made c.args.states.now c.args.resolved.now c.lineage-lineage.result.now (coded_of c.distinct.result)
     c.in_ok-inserts.inserts.items c.lineage-lineage.ensures.same c.trace-trace.ensures.made c.requires.states
     c.distinct.ensures c.in_ok-inserts.ensures
 
@@ -22,7 +22,7 @@ if_both (Err fault) p q f = p
 
 pub returns-clause-circuit : goal.returns-clause-circuit
 returns-clause-circuit c =
-    let k = lent_graph c.distinct.result in
+    let k = coded_of c.distinct.result in
     if_both c.netlist_of_cells.result c.netlist_of_cells.ensures.chosen c.netlist_of_cells.ensures.gives
     (λ n is gives. circuit_with (λ g. cell_gate g c.args.library.now) c.args.model.now c.in_ok-model.model
     c.args.states.now

@@ -1,7 +1,7 @@
 use Rattle.std.proofs.Common.{◌≡◌, ◌∙◌}
 use Rattle.std.proofs.lemmas.Result.{IfOk-weaker}
 use Rattle.si_base.specs.Behaviour.{Implements}
-use Rattle.si_checks.specs.Lent.{lent_graph}
+use Rattle.si_checks.specs.Lent.{coded_of}
 use Rattle.si_circuit.specs.Circuits.{IsCircuit}
 use Rattle.si_circuit.specs.Gates.{gate_of, netlist_of}
 use Rattle.si_circuit.proofs.CircuitLemmas.{circuit_made, inserted_made}
@@ -9,13 +9,13 @@ use Rattle.si_circuit.proofs.circuit.netlist_for.Goals as goal
 
 pub netlist_with-requires-clause-inserted : goal.netlist_with-requires-clause-inserted
 netlist_with-requires-clause-inserted c =
-    inserted_made c.args.states.now c.args.resolved.now c.lineage-lineage.result.now (lent_graph c.distinct.result)
+    inserted_made c.args.states.now c.args.resolved.now c.lineage-lineage.result.now (coded_of c.distinct.result)
     c.in_ok-inserts.inserts.items c.lineage-lineage.ensures.same c.trace-trace.ensures.made c.requires.states
     c.distinct.ensures c.in_ok-inserts.ensures
 
 pub returns-clause-circuit : goal.returns-clause-circuit
 returns-clause-circuit c =
-    let k = lent_graph c.distinct.result in
+    let k = coded_of c.distinct.result in
     IfOk-weaker c.netlist_with.result
     (λ n. n ≡ netlist_of (gate_of c.args.style k) c.in_ok-model.model c.in_ok-inserts.inserts.items k)
     (IsCircuit c.args.resolved.now)

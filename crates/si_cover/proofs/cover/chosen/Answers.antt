@@ -3,7 +3,7 @@ use Rattle.std.proofs.lemmas.Result.{IfOk-weaker}
 use Rattle.si_base.specs.Codes.{CodedGraph, IsCoded}
 use Rattle.si_base.specs.Graph.{StateGraph}
 use Rattle.si_base.specs.Netlist.{Sum}
-use Rattle.si_checks.specs.Lent.{lent_graph}
+use Rattle.si_checks.specs.Lent.{coded_of}
 use Rattle.si_cube.specs.Covers.{IsMeetable, IsPrimeCover}
 use Rattle.si_cube.specs.Order.{HaveSame}
 use Rattle.si_cube.proofs.OrderLemmas.{same_itself}
@@ -30,13 +30,13 @@ sum_of_codes-requires-clause-forbidden_fit c =
 
 pub sum_of_codes-requires-clause-meetable : goal.sum_of_codes-requires-clause-meetable
 sum_of_codes-requires-clause-meetable c =
-    let same : c.coded-coded.result.now ≡ (lent_graph c.args.graph) =
+    let same : c.coded-coded.result.now ≡ (coded_of c.args.graph) =
     c.coded-coded.ensures.same ∙ c.proper.ensures.same in
-    let coded : IsCoded (lent_graph c.args.graph) = subst IsCoded same c.graph.ensures.coded in
+    let coded : IsCoded (coded_of c.args.graph) = subst IsCoded same c.graph.ensures.coded in
     let CanBeMet : CodedGraph → Type 0 = λ d. IsMeetable (demand c.args.kind d c.args.z) in
     let met =
     subst CanBeMet (sym same) (meetable c.args.kind
-    (lent_graph c.args.graph) c.args.z coded c.proper.ensures.distinct c.requires) in
+    (coded_of c.args.graph) c.args.z coded c.proper.ensures.distinct c.requires) in
     let Same : List ℕ → Type 0 = λ ks. HaveSame ks c.in_ok-required.field-0.forbidden.items in
     still_meetable c.args.kind c.coded-coded.result.now c.args.z _ _ _ met
     (c.as_slice.ensures.value ∙ c.in_ok-required.ensures.required) c.in_ok-required.ensures.forbidden
@@ -44,7 +44,7 @@ sum_of_codes-requires-clause-meetable c =
 
 pub returns-clause-chosen : goal.returns-clause-chosen
 returns-clause-chosen c =
-    let same : c.coded-coded.result.now ≡ (lent_graph c.args.graph) =
+    let same : c.coded-coded.result.now ≡ (coded_of c.args.graph) =
     c.coded-coded.ensures.same ∙ c.proper.ensures.same in
     let signals : length c.signals-signals.result.now ≡ length c.coded-coded.result.now.graph.signals =
     ap length (c.signals-signals.ensures ∙ ap (λ (g : StateGraph). g.signals) c.graph.ensures.same) in
@@ -58,10 +58,10 @@ returns-clause-chosen c =
 
 pub returns-clause-prime_cover : goal.returns-clause-prime_cover
 returns-clause-prime_cover c =
-    let same : c.coded-coded.result.now ≡ (lent_graph c.args.graph) =
+    let same : c.coded-coded.result.now ≡ (coded_of c.args.graph) =
     c.coded-coded.ensures.same ∙ c.proper.ensures.same in
-    let coded : IsCoded (lent_graph c.args.graph) = subst IsCoded same c.graph.ensures.coded in
+    let coded : IsCoded (coded_of c.args.graph) = subst IsCoded same c.graph.ensures.coded in
     IfOk-weaker c.sum_of_codes.result _ _ (λ (sum : Sum) is.
-    subst (IsPrimeCover (demand c.args.kind (lent_graph c.args.graph) c.args.z)) (sym is)
-    (chosen_is_prime_cover c.args.kind (lent_graph c.args.graph) c.args.z coded c.proper.ensures.distinct
+    subst (IsPrimeCover (demand c.args.kind (coded_of c.args.graph) c.args.z)) (sym is)
+    (chosen_is_prime_cover c.args.kind (coded_of c.args.graph) c.args.z coded c.proper.ensures.distinct
     c.requires)) (returns-clause-chosen c)

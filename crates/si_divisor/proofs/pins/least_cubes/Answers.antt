@@ -1,7 +1,7 @@
 use Rattle.std.proofs.Common.{◌≡◌, ◌+◌, ◌<◌, ◌≤◌, ◌∙◌, sym, subst, length, get_or, take, List, ℕ, rules}
 use Rattle.std.proofs.lemmas.List.{take_all}
 use Rattle.si_base.specs.Codes.{CodedGraph}
-use Rattle.si_checks.specs.Lent.{lent_graph}
+use Rattle.si_checks.specs.Lent.{coded_of}
 use Rattle.si_regions.specs.declared.regions.Region.{Region}
 use Rattle.si_regions.specs.Regions.{IsRegion, AreRegions}
 use Rattle.si_divisor.specs.PinTests.{AreCubesFor}
@@ -21,14 +21,14 @@ is_region c items i r are inside at = are.each r (i, inside, sym at)
 
 pub cube_for-requires : goal.cube_for-requires
 cube_for-requires c =
-    is_region (lent_graph c.args.graph) c.deref-region-items.result.now c.loop-region.region-index c.region-item.result
-    (are_regions (lent_graph c.args.graph) c.coded.result.now c.in_ok-all.all.items c.deref-region-items.result.now
+    is_region (coded_of c.args.graph) c.deref-region-items.result.now c.loop-region.region-index c.region-item.result
+    (are_regions (coded_of c.args.graph) c.coded.result.now c.in_ok-all.all.items c.deref-region-items.result.now
     (c.coded.ensures.same ∙ c.proper.ensures.same) c.deref-region-items.ensures.value c.in_ok-all.ensures)
     c.loop-region-test.true c.region-item.is
 
 pub loop-region-preserved : goal.loop-region-preserved
 loop-region-preserved c =
-    let graph = lent_graph c.args.graph in
+    let graph = coded_of c.args.graph in
     let items = c.deref-region-items.result.now in
     let i = c.loop-region.region-index in
     let r = c.region-item.result in
@@ -50,7 +50,7 @@ loop-region-preserved c =
 
 pub returns : goal.returns
 returns c =
-    let graph = lent_graph c.args.graph in
+    let graph = coded_of c.args.graph in
     let items = c.deref-region-items.result.now in
     let i = c.loop-region.region-index in
     let are = are_regions graph c.coded.result.now c.in_ok-all.all.items items

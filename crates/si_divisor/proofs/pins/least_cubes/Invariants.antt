@@ -1,7 +1,7 @@
 use Rattle.std.proofs.Common.{take}
-use Rattle.si_checks.specs.Lent.{lent_graph}
+use Rattle.si_checks.specs.Lent.{coded_of}
 use Rattle.si_divisor.specs.PinTests.{AreCubesFor}
 use Rattle.si_divisor.proofs.pins.least_cubes.Given as goal
 
 abbrev pub invariant-loop-region : goal.invariant-loop-region
-invariant-loop-region l = AreCubesFor (lent_graph l.graph) l.z (take l.region-index l.region-items) l.cubes.items
+invariant-loop-region l = AreCubesFor (coded_of l.graph) l.z (take l.region-index l.region-items) l.cubes.items

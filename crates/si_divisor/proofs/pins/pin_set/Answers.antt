@@ -2,7 +2,7 @@ use Rattle.std.proofs.Common.{◌≡◌, ◌*◌, ◌<◌, ◌≤◌, ◌∙◌,
 use Rattle.si_base.specs.Codes.{CodedGraph}
 use Rattle.si_base.specs.declared.ids.Literal.{Literal}
 use Rattle.si_base.specs.declared.graph.Signal.{Signal}
-use Rattle.si_checks.specs.Lent.{lent_graph}
+use Rattle.si_checks.specs.Lent.{coded_of}
 use Rattle.si_divisor.specs.Divisors.{ArePins}
 use Rattle.si_divisor.specs.PinTests.{is_pin, pin_literals}
 use Rattle.si_divisor.proofs.PinLemmas.{put_last, left_out, all_passed, are_pins}
@@ -18,11 +18,11 @@ pub loop-place-preserved : goal.loop-place-preserved
 loop-place-preserved c =
     let support = c.in_ok-support.support in
     let cubes = c.in_ok-cubes.cubes.items in
-    let n = length (lent_graph c.args.graph).graph.signals in
+    let n = length (coded_of c.args.graph).graph.signals in
     let place = c.loop-place.place in
     let l = c.literal_at-literal.result in
     let count : length c.signals.result.now ≡ n =
-    count_is (lent_graph c.args.graph) c.coded.result.now c.signals.result.now
+    count_is (coded_of c.args.graph) c.coded.result.now c.signals.result.now
     (c.signals.ensures ∙ ap (λ g. g.signals) c.graph.ensures.same) (c.coded.ensures.same ∙ c.proper.ensures.same) in
     let test = c.loop-place-test.true in
     let within : place < 2 * n = omega (arith, test, count) in
@@ -42,7 +42,7 @@ loop-place-preserved c =
 
 pub returns : goal.returns
 returns c =
-    let graph = lent_graph c.args.graph in
+    let graph = coded_of c.args.graph in
     let cubes = c.in_ok-cubes.cubes.items in
     let n = length graph.graph.signals in
     let count : length c.signals.result.now ≡ n =

@@ -2,14 +2,14 @@ use Rattle.std.proofs.Common.{◌≡◌, ◌<◌, ◌∙◌, List, length, ap, s
 use Rattle.si_base.specs.declared.graph.Signal.{Signal}
 use Rattle.si_base.specs.Codes.{CodedGraph, IsCoded}
 use Rattle.si_base.specs.Graph.{StateGraph}
-use Rattle.si_checks.specs.Lent.{lent_graph}
+use Rattle.si_checks.specs.Lent.{coded_of}
 use Rattle.si_listings.proofs.CoverLemmas.{on_ok, mono_by_calls}
 use Rattle.si_listings.proofs.NumberLemmas.{event_within}
 use Rattle.si_listings.proofs.cover_listing.add_mono.Goals as goal
 
 pub add_event-requires : goal.add_event-requires
 add_event-requires c =
-    let k = lent_graph c.args.graph in
+    let k = coded_of c.args.graph in
     let coded_is = c.coded.ensures.same ∙ c.proper.ensures.same in
     let signals : c.signals-signals.result.now ≡ k.graph.signals =
     c.signals-signals.ensures ∙ ap (λ (g : StateGraph). g.signals) (c.graph.ensures.same
@@ -20,7 +20,7 @@ add_event-requires c =
 
 pub returns : goal.returns
 returns c =
-    let k = lent_graph c.args.graph in
+    let k = coded_of c.args.graph in
     let signals : c.signals-signals.result.now ≡ k.graph.signals =
     c.signals-signals.ensures ∙ ap (λ (g : StateGraph). g.signals) (c.graph.ensures.same
     ∙ ap (λ (d : CodedGraph). d.graph) (c.coded.ensures.same ∙ c.proper.ensures.same)) in

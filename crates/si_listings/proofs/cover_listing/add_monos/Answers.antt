@@ -1,6 +1,6 @@
 use Rattle.std.proofs.Common.{◌≡◌, ◌+◌, ◌≤◌, ◌∙◌, arith, sym, take}
 use Rattle.std.proofs.lemmas.Bool.{true≢false}
-use Rattle.si_checks.specs.Lent.{lent_graph}
+use Rattle.si_checks.specs.Lent.{coded_of}
 use Rattle.si_listings.specs.RegionText.{number_after}
 use Rattle.si_listings.proofs.CoverLemmas.{mono_step, monos_written, component_count}
 use Rattle.si_listings.proofs.NumberLemmas.{goes_on_number, first_number, number_next}
@@ -31,7 +31,7 @@ loop-k-preserved c =
       | else-repeats w ↦ omega (arith, w.number-is)
     ] in
     record {
-      text = λ xs are. mono_step (lent_graph c.args.graph) c.args.states.now c.args.z xs regions k number r _
+      text = λ xs are. mono_step (coded_of c.args.graph) c.args.states.now c.args.z xs regions k number r _
           c.loop-k.text c.add_if_of.new.text are all inside at right (c.loop-k.invariant.text xs are)
           c.in_ok-add_if_of.ensures;
       number = number_next regions k r inside at number right;
@@ -40,7 +40,7 @@ loop-k-preserved c =
 
 pub returns : goal.returns
 returns c = λ xs are.
-    let k = lent_graph c.args.graph in
+    let k = coded_of c.args.graph in
     let count = component_count k xs c.args.regions.now are c.requires.regions in
     monos_written k.graph.signals c.args.states.now c.args.z xs c.loop-k.k c.loop-k.text c.args.text.now
     (omega (arith, count, c.loop-k-test.false)) (c.loop-k.invariant.text xs are)

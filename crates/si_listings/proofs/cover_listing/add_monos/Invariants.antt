@@ -1,5 +1,5 @@
 use Rattle.std.proofs.Common.{◌≡◌, ◌++◌, ◌≤◌, List}
-use Rattle.si_checks.specs.Lent.{lent_graph}
+use Rattle.si_checks.specs.Lent.{coded_of}
 use Rattle.si_listings.specs.CoverText.{Component, AreComponents}
 use Rattle.si_listings.proofs.CoverLemmas.{monos_from}
 use Rattle.si_listings.proofs.NumberLemmas.{IsNumber}
@@ -7,7 +7,7 @@ use Rattle.si_listings.proofs.cover_listing.add_monos.Given as goal
 
 abbrev pub invariant-loop-k : goal.invariant-loop-k
 invariant-loop-k l =
-    let c = lent_graph l.fn.graph in
+    let c = coded_of l.fn.graph in
     record {
       text : (xs : List Component) → AreComponents c xs
           → l.text ++ monos_from c.graph.signals l.states l.z xs l.k

@@ -1,14 +1,14 @@
 use Rattle.std.proofs.Common.{◌≡◌, ◌∙◌, ap}
 use Rattle.si_base.specs.Codes.{CodedGraph}
 use Rattle.si_base.specs.Graph.{StateGraph}
-use Rattle.si_checks.specs.Lent.{lent_graph}
+use Rattle.si_checks.specs.Lent.{coded_of}
 use Rattle.si_listings.specs.CoverText.{LeastCube, NoCube}
 use Rattle.si_listings.proofs.CoverLemmas.{on_ok, told_by_call}
 use Rattle.si_listings.proofs.cover_listing.add_region_cube.Goals as goal
 
 pub returns-in-Ok : goal.returns-in-Ok
 returns-in-Ok c =
-    let k = lent_graph c.args.graph in
+    let k = coded_of c.args.graph in
     let signals : c.signals-signals.result.now ≡ k.graph.signals =
     c.signals-signals.ensures ∙ ap (λ (g : StateGraph). g.signals) (c.graph.ensures.same
     ∙ ap (λ (d : CodedGraph). d.graph) (c.coded.ensures.same ∙ c.proper.ensures.same)) in
@@ -18,7 +18,7 @@ returns-in-Ok c =
 
 pub returns-in-Err : goal.returns-in-Err
 returns-in-Err c =
-    let k = lent_graph c.args.graph in
+    let k = coded_of c.args.graph in
     let signals : c.signals-signals.result.now ≡ k.graph.signals =
     c.signals-signals.ensures ∙ ap (λ (g : StateGraph). g.signals) (c.graph.ensures.same
     ∙ ap (λ (d : CodedGraph). d.graph) (c.coded.ensures.same ∙ c.proper.ensures.same)) in

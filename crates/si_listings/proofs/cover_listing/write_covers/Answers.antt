@@ -1,13 +1,13 @@
 use Rattle.std.proofs.Common.{◌≡◌, ◌<◌, ◌∙◌, List, ℕ, ◌++◌, ap, length, subst, refl, arith}
 use Rattle.si_base.specs.Codes.{CodedGraph, IsCoded}
 use Rattle.si_base.specs.Graph.{StateGraph, IsNonInput}
-use Rattle.si_checks.specs.Lent.{lent_graph}
+use Rattle.si_checks.specs.Lent.{coded_of}
 use Rattle.si_listings.proofs.CoverLemmas.{signal_skip, signal_more, signals_written, some_components}
 use Rattle.si_listings.proofs.cover_listing.write_covers.Goals as goal
 
 pub loop-i-preserved-then-not-is_driven : goal.loop-i-preserved-then-not-is_driven
 loop-i-preserved-then-not-is_driven c = λ xs are.
-    let k = lent_graph c.args.graph in
+    let k = coded_of c.args.graph in
     let graph_is : c.graph-known.result.now ≡ k.graph = c.graph-known.ensures.same
     ∙ ap (λ (d : CodedGraph). d.graph) (c.coded-coded.ensures.same ∙ c.proper.ensures.same) in
     let signals : c.signals-i-end.result.now ≡ k.graph.signals =
@@ -19,7 +19,7 @@ loop-i-preserved-then-not-is_driven c = λ xs are.
 
 pub loop-i-preserved : goal.loop-i-preserved
 loop-i-preserved c = λ xs are.
-    let k = lent_graph c.args.graph in
+    let k = coded_of c.args.graph in
     let graph_is : c.graph-known.result.now ≡ k.graph = c.graph-known.ensures.same
     ∙ ap (λ (d : CodedGraph). d.graph) (c.coded-coded.ensures.same ∙ c.proper.ensures.same) in
     let signals : c.signals-i-end.result.now ≡ k.graph.signals =
@@ -31,7 +31,7 @@ loop-i-preserved c = λ xs are.
 
 pub returns : goal.returns
 returns c =
-    let k = lent_graph c.args.graph in
+    let k = coded_of c.args.graph in
     let coded_is = c.coded-coded.ensures.same ∙ c.proper.ensures.same in
     let graph_is : c.graph-known.result.now ≡ k.graph = c.graph-known.ensures.same
     ∙ ap (λ (d : CodedGraph). d.graph) coded_is in

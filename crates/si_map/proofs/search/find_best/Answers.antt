@@ -3,7 +3,7 @@ use Rattle.si_base.specs.Graph.{StateGraph}
 use Rattle.si_base.specs.Codes.{CodedGraph}
 use Rattle.si_cell.specs.Library.{Library}
 use Rattle.si_match.specs.Weight.{weight_of}
-use Rattle.si_checks.specs.Lent.{lent_graph}
+use Rattle.si_checks.specs.Lent.{coded_of}
 use Rattle.si_map.proofs.SearchLemmas.{none_yet}
 use Rattle.si_map.specs.Progress.{AreFitted, IsSearching}
 use Rattle.si_map.proofs.SearchSignals.{found, pass_input_by}
@@ -14,12 +14,12 @@ loop-i-init c =
     let Starts : CodedGraph → Type 0 =
     λ d. (library : Library) → c.args.weight ≡ weight_of d library → AreFitted d library c.fitted_signals-fitted.result
     → IsSearching d library 0 0 c.in_ok-search.search in
-    let starts : Starts (lent_graph c.args.graph) = subst Starts c.proper.ensures.same c.in_ok-search.ensures in
+    let starts : Starts (coded_of c.args.graph) = subst Starts c.proper.ensures.same c.in_ok-search.ensures in
     let fitted = rw c.library.ensures at c.fitted_signals-fitted.ensures in
     record {
       searching = starts c.args.library.now c.requires fitted;
       known = record {
-        spent = none_yet (lent_graph c.args.graph) c.args.library.now c.in_ok-search.search.bar
+        spent = none_yet (coded_of c.args.graph) c.args.library.now c.in_ok-search.search.bar
             c.new-functions.result.tried c.new-functions.ensures.tried;
         sets = record {
           few = omega (arith, c.new-functions.ensures.next);
@@ -33,7 +33,7 @@ loop-i-preserved-then-not-is_driven c =
     let known = c.graph-known.ensures.same ∙ ap (λ (d : CodedGraph). d.graph)
     (c.coded.ensures.same ∙ c.proper-2.ensures.same) in
     record {
-      searching = pass_input_by (lent_graph c.args.graph) c.args.library.now c.loop-i.i c.loop-i.search
+      searching = pass_input_by (coded_of c.args.graph) c.args.library.now c.loop-i.i c.loop-i.search
           c.graph-known.result.now c.is_driven.result known c.is_driven.ensures c.if-not-is_driven.true
           c.loop-i.invariant.searching;
       known = c.loop-i.invariant.known;
@@ -41,7 +41,7 @@ loop-i-preserved-then-not-is_driven c =
 
 pub returns : goal.returns
 returns c =
-    let d = lent_graph c.args.graph in
+    let d = coded_of c.args.graph in
     let known = c.graph-known.ensures.same ∙ ap (λ (d : CodedGraph). d.graph)
     (c.coded.ensures.same ∙ c.proper-2.ensures.same) in
     let count = ap length (c.signals-i-end.ensures ∙ ap (λ (g : StateGraph). g.signals) known) in

@@ -2,13 +2,13 @@ use Rattle.std.proofs.Common.{◌≡◌, ◌<◌, ◌∙◌, sym, subst, length}
 use Rattle.std.proofs.lemmas.Option.{slice_get_within}
 use Rattle.si_base.specs.Codes.{CodedGraph}
 use Rattle.si_cell.specs.Library.{cell_at}
-use Rattle.si_checks.specs.Lent.{lent_graph}
+use Rattle.si_checks.specs.Lent.{coded_of}
 use Rattle.si_match.proofs.TriggerLemmas.{all_needed}
 use Rattle.si_match.proofs.fit.fit.Goals as goal
 
 pub triggers_of-triggers-requires : goal.triggers_of-triggers-requires
 triggers_of-triggers-requires c =
-    let same : c.coded-coded.result.now ≡ lent_graph c.args.graph =
+    let same : c.coded-coded.result.now ≡ coded_of c.args.graph =
     c.coded-coded.ensures.same ∙ c.proper.ensures.same in
     let (x, at, driven) = c.requires in
     subst (λ (g : CodedGraph). c.args.z < length g.graph.signals) (sym same) (slice_get_within _ c.args.z x at)

@@ -1,20 +1,20 @@
 use Rattle.std.proofs.Common.{◌≡◌, ◌∙◌, sym, ap, arith, rules}
 use Rattle.si_base.specs.Graph.{is_driven}
 use Rattle.si_base.specs.declared.graph.Signal.{Signal}
-use Rattle.si_checks.specs.Lent.{lent_graph}
+use Rattle.si_checks.specs.Lent.{coded_of}
 use Rattle.si_match.proofs.WeightLemmas.{begins, is_non_input}
 use Rattle.si_match.proofs.weight.weight.Goals as goal
 
 pub loop-i-init : goal.loop-i-init
 loop-i-init c = record {
-  told = (let whole = begins (lent_graph c.args.graph) c.args.library.now in omega (arith, whole));
+  told = (let whole = begins (coded_of c.args.graph) c.args.library.now in omega (arith, whole));
   few = omega arith;
 }
 
 pub weight_of_signal-requires : goal.weight_of_signal-requires
 weight_of_signal-requires c =
-    let same : c.signals-signals.result.now ≡ (lent_graph c.args.graph).graph.signals = search rules in
-    is_non_input (lent_graph c.args.graph).graph.signals c.signals-signals.result.now c.loop-i.i
+    let same : c.signals-signals.result.now ≡ (coded_of c.args.graph).graph.signals = search rules in
+    is_non_input (coded_of c.args.graph).graph.signals c.signals-signals.result.now c.loop-i.i
     c.index-signals-i.result c.is_driven.result same
     c.loop-i-test.true c.index-signals-i.is
     (c.is_driven.ensures ∙ ap (λ (x : Signal). is_driven x.kind) (sym c.index-signals-i.is)) c.if-not-is_driven.false

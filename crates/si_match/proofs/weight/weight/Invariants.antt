@@ -1,12 +1,12 @@
 use Rattle.std.proofs.Common.{◌≡◌, ◌+◌, ◌*◌, ◌≤◌, drop}
 use Rattle.si_base.specs.Limits.{code_width}
-use Rattle.si_checks.specs.Lent.{lent_graph}
+use Rattle.si_checks.specs.Lent.{coded_of}
 use Rattle.si_match.specs.Weight.{weight_from, weight_of}
 use Rattle.si_match.proofs.weight.weight.Given as goal
 
 abbrev pub invariant-loop-i : goal.invariant-loop-i
 invariant-loop-i l = record {
-  told : l.weight + weight_from (lent_graph l.fn.graph) l.library l.i (drop l.i (lent_graph l.fn.graph).graph.signals)
-      ≡ weight_of (lent_graph l.fn.graph) l.library;
+  told : l.weight + weight_from (coded_of l.fn.graph) l.library l.i (drop l.i (coded_of l.fn.graph).graph.signals)
+      ≡ weight_of (coded_of l.fn.graph) l.library;
   few : l.weight ≤ l.i * (1 + code_width);
 }

@@ -1,13 +1,13 @@
 use Rattle.std.proofs.Common.{◌≡◌, ◌∙◌, sym, ap, arith, rules}
 use Rattle.si_base.specs.Graph.{is_driven}
 use Rattle.si_base.specs.declared.graph.Signal.{Signal}
-use Rattle.si_checks.specs.Lent.{lent_graph}
+use Rattle.si_checks.specs.Lent.{coded_of}
 use Rattle.si_match.proofs.WeightLemmas.{begins, is_non_input}
 use Rattle.si_match.proofs.weight.weight_below.Goals as goal
 
 pub loop-i-init : goal.loop-i-init
 loop-i-init c = record {
-  told = (let whole = begins (lent_graph c.args.graph) c.args.library.now in omega (arith, whole));
+  told = (let whole = begins (coded_of c.args.graph) c.args.library.now in omega (arith, whole));
   below = omega arith;
 }
 

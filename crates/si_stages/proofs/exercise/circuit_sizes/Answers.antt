@@ -13,13 +13,13 @@ pub proper_graph-requires-clause-proper : goal.proper_graph-requires-clause-prop
 proper_graph-requires-clause-proper c =
     proper c.args.n (sg_now c.in_ok-model.field-0) c.in_ok-model.ensures.handshakes
 
-pub as_it_is-requires-clause-given : goal.as_it_is-requires-clause-given
-as_it_is-requires-clause-given c =
+pub resolved_as_given-requires-clause-given : goal.resolved_as_given-requires-clause-given
+resolved_as_given-requires-clause-given c =
     none_inserted c.args.n (sg_now c.in_ok-model.field-0) c.requires.few c.in_ok-model.ensures.handshakes
     c.in_ok-proper.proper c.in_ok-proper.ensures
 
-pub as_it_is-requires-clause-free : goal.as_it_is-requires-clause-free
-as_it_is-requires-clause-free c =
+pub resolved_as_given-requires-clause-free : goal.resolved_as_given-requires-clause-free
+resolved_as_given-requires-clause-free c =
     free c.args.n (sg_now c.in_ok-model.field-0) c.requires.few c.in_ok-model.ensures.handshakes
     c.in_ok-proper.proper c.in_ok-proper.ensures
 

@@ -1,7 +1,7 @@
 use Rattle.std.proofs.Common.{◌≡◌, ◌+◌, ◌-◌, ◌<◌, ◌∙◌, drop, length, sym, ap, subst, arith, Option, is_some}
 use Rattle.std.proofs.lemmas.List.Elements.{All-drop, All-take}
 use Rattle.si_cell.specs.Library.{Instance, IsInstance}
-use Rattle.si_checks.specs.Lent.{lent_graph}
+use Rattle.si_checks.specs.Lent.{coded_of}
 use Rattle.si_map.specs.Progress.{AreUpToDate, IsSearching}
 use Rattle.si_map.proofs.SearchSignals.{unfit_by, next_divisor, end_signal, pass_fitted}
 use Rattle.si_map.proofs.BestDivisors.{all_instances, is_instance}
@@ -12,19 +12,19 @@ returns-then-is_some-clause-after c =
     let fit_is = rw c.library-cells.ensures at c.fit.ensures in
     let fits = ap (λ (o : Option Instance). is_some o) (sym fit_is)
     ∙ (sym c.is_some.ensures ∙ c.if-is_some.true) in
-    pass_fitted (lent_graph c.args.graph) c.args.library.now c.args.z c.args.self.now fits c.requires.before
+    pass_fitted (coded_of c.args.graph) c.args.library.now c.args.z c.args.self.now fits c.requires.before
 
 pub try_once-requires-clause-instance : goal.try_once-requires-clause-instance
 try_once-requires-clause-instance c =
     let within : c.loop-k.k < length c.in_ok-divisors.divisors.items =
     omega (arith, c.loop-k-test.true, c.len-k-end.ensures) in
     let divisors_are = rw c.library-cells.ensures at c.in_ok-divisors.ensures in
-    is_instance (lent_graph c.args.graph) c.args.library.now c.args.z c.loop-k.k c.index.result.now
+    is_instance (coded_of c.args.graph) c.args.library.now c.args.z c.loop-k.k c.index.result.now
     c.in_ok-divisors.divisors.items c.requires.before.ready.coded divisors_are within c.index.ensures
 
 pub loop-k-preserved : goal.loop-k-preserved
 loop-k-preserved c =
-    let d = lent_graph c.args.graph in
+    let d = coded_of c.args.graph in
     let within : c.loop-k.k < length c.in_ok-divisors.divisors.items =
     omega (arith, c.loop-k-test.true, c.len-k-end.ensures) in
     let fit_is = rw c.library-cells.ensures at c.fit.ensures in
@@ -41,7 +41,7 @@ loop-k-preserved c =
 
 pub returns-clause-after : goal.returns-clause-after
 returns-clause-after c =
-    let d = lent_graph c.args.graph in
+    let d = coded_of c.args.graph in
     let all : c.loop-k.k ≡ length c.in_ok-divisors.divisors.items =
     omega (arith, c.loop-k-test.false, c.loop-k.auto.k-end, c.len-k-end.ensures) in
     let divisors_are = rw c.library-cells.ensures at c.in_ok-divisors.ensures in
@@ -58,7 +58,7 @@ try_once-requires-clause-others c =
     let library = c.args.library.now in
     let divisors = c.in_ok-divisors.divisors.items in
     let divisors_are = rw c.library-cells.ensures at c.in_ok-divisors.ensures in
-    let instances = all_instances (lent_graph c.args.graph) library c.args.z divisors
+    let instances = all_instances (coded_of c.args.graph) library c.args.z divisors
     c.requires.before.ready.coded divisors_are in
     rw c.deref.ensures.value (All-take (λ i. IsInstance library i) (length divisors - (c.loop-k.k + 1))
     (drop (c.loop-k.k + 1) divisors) (All-drop (λ i. IsInstance library i) (c.loop-k.k + 1) divisors instances))

@@ -2,7 +2,7 @@ use Rattle.std.proofs.Common.{◌∙◌, sym, subst}
 use Rattle.si_base.specs.Proper.{HasNoConflict}
 use Rattle.si_handshakes.proofs.HandshakeRefusals.{never_in_conflict}
 use Rattle.si_insert.specs.Lineage.{History}
-use Rattle.si_stages.proofs.exercise.as_it_is.Goals as goal
+use Rattle.si_stages.proofs.exercise.resolved_as_given.Goals as goal
 
 pub unreachable-requires : goal.unreachable-requires
 unreachable-requires c =

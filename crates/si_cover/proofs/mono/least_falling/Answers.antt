@@ -4,7 +4,7 @@ use Rattle.si_base.specs.Codes.{code}
 use Rattle.si_base.specs.Netlist.{literal_value}
 use Rattle.si_cover.specs.Growing.{IsWider}
 use Rattle.si_cover.proofs.GrowingLemmas.{widened, growth_goes_on, growth_ends, none_demanded, turns_drop}
-use Rattle.si_cover.proofs.mono.drawn.Goals as goal
+use Rattle.si_cover.proofs.mono.least_falling.Goals as goal
 
 pub loop-s-smaller : goal.loop-s-smaller
 loop-s-smaller c =

@@ -1,6 +1,0 @@
-use Rattle.std.proofs.Common.{ℕ, ◌<◌}
-use Rattle.si_cover.specs.Mono.{Strays}
-use Rattle.si_cover.proofs.mono.first_stray.Given as goal
-
-abbrev pub invariant-loop-s : goal.invariant-loop-s
-invariant-loop-s l = (t : ℕ) → t < l.s → Strays l.graph l.region.er l.region.qr l.cube t → ⊥
