@@ -1,5 +1,5 @@
 -- A buffer between an input and an output: the output fits a cell, so that no divisor serves.
-use Rattle.std.proofs.Common.{◌≡◌, ℕ, true, [], ◌∷◌, refl, codes, arith}
+use Rattle.std.proofs.Common.{◌≡◌, ℕ, true, [], ◌∷◌, refl, codes, arith, None}
 use Rattle.si_base.specs.Codes.{CodedGraph}
 use Rattle.si_base.specs.Graph.{arc, rise, fall}
 use Rattle.si_base.specs.Order.{Before}
@@ -8,7 +8,7 @@ use Rattle.si_cell.specs.Library.{Library}
 use Rattle.si_match.specs.Fit.{first_fit}
 use Rattle.si_match.specs.Support.{support_of}
 use Rattle.si_match.specs.Weight.{weight_of}
-use Rattle.si_map.specs.Best.{Choice, NoneServes, choice_place}
+use Rattle.si_map.specs.Best.{Choice, IsBestPartition, NoneServes, choice_place}
 use mathlib.Core.Logic.{inl, inr}
 
 -- the input a is signal 0, the output b, which follows it, signal 1
@@ -39,6 +39,10 @@ no_weight = refl
 
 none_serves : NoneServes follower buffers
 none_serves x serves = omega (arith, serves.lower, no_weight)
+
+-- so there is no partition to insert
+no_partition : IsBestPartition follower buffers None
+no_partition = none_serves
 
 -- of choices of one weight that of the earlier signal comes first, of those of one signal that of
 -- the earlier divisor; and a lower weight comes before either

@@ -1,6 +1,6 @@
 -- What becomes of a search with each signal, and at its end.
-use Rattle.std.proofs.Common.{◌≡◌, ◌↔◌, ℕ, ◌+◌, ◌<◌, IsTrue, Bool, true, false, List, length, get_or, slice_get, Option}
-use Rattle.std.proofs.Common.{Some, None, MatchOption, is_some, refl, sym, ap, subst, ◌∙◌, inl, inr}
+use Rattle.std.proofs.Common.{◌≡◌, ◌↔◌, ℕ, ◌+◌, ◌<◌, IsTrue, Bool, true, false, List, length, get_or, slice_get}
+use Rattle.std.proofs.Common.{Option, Some, None, is_some, refl, sym, ap, subst, ◌∙◌, inl, inr}
 use Rattle.std.proofs.lemmas.Bool.{true≢false}
 use Rattle.std.proofs.lemmas.Option.{slice_get-get_or}
 use Rattle.si_base.specs.Codes.{CodedGraph}
@@ -10,7 +10,7 @@ use Rattle.si_checks.specs.Searches.{IsFirstOrNone}
 use Rattle.si_divisor.specs.Divisors.{AreDivisors}
 use Rattle.si_match.specs.Fit.{first_fit}
 use Rattle.si_map.specs.declared.search.Search.{Search}
-use Rattle.si_map.specs.Best.{Choice, IsUnfit, IsDivisorAt, Serves, IsBest, NoneServes, choice_place}
+use Rattle.si_map.specs.Best.{Choice, IsBestPartition, IsUnfit, IsDivisorAt, Serves, choice_place}
 use Rattle.si_map.specs.Search.{IsEarlier}
 use Rattle.si_map.specs.Progress.{IsSearching, HasTried, classes_of}
 use Rattle.si_map.proofs.BestDivisors.{place_within}
@@ -75,13 +75,11 @@ module _ (c : CodedGraph) (library : Library) where
 
   -- ---- the end of all
   best_shown : (o : Option Choice) → IsFirstOrNone choice_place (Serves c library) o
-      → MatchOption (classes_of o) (NoneServes c library)
-      (λ a. (x : Choice) × IsBest c library x × (x.classes ≡ a))
+      → IsBestPartition c library (classes_of o)
   best_shown None none = none
   best_shown (Some x) first = (x, first, refl)
 
   pub found : (s : Search) → IsSearching c library (length c.graph.signals) 0 s
-      → MatchOption s.best (NoneServes c library) (λ a. (x : Choice) × IsBest c library x × (x.classes ≡ a))
-  found s so = subst (λ o. MatchOption o (NoneServes c library)
-      (λ a. (x : Choice) × IsBest c library x × (x.classes ≡ a))) (sym so.kept)
+      → IsBestPartition c library s.best
+  found s so = subst (IsBestPartition c library) (sym so.kept)
       (best_shown so.best (search_ends c library so.best so.is_best))

@@ -1,11 +1,11 @@
 -- What an insertion keeps of the fits of signals none of whose arcs waits.
-use Rattle.std.proofs.Common.{◌≡◌, ℕ, ◌+◌, ◌<◌, ◌&&◌, ◌||◌, ◌++◌, ◌∷◌, not, Bool, true, false, [], List, length, map}
-use Rattle.std.proofs.Common.{All, slice_get, Some, None}
+use Rattle.std.proofs.Common.{◌≡◌, ℕ, ◌+◌, ◌<◌, ◌&&◌, ◌||◌, ◌++◌, ◌∷◌, not, true, false, [], List, length, map}
+use Rattle.std.proofs.Common.{slice_get, Some, None}
 use Rattle.std.proofs.Common.{refl, sym, ap, subst, ◌∙◌, arith, inl, inr, length-append, ◌≢◌, Option, is_some}
 use Rattle.std.proofs.lemmas.List.Elements.{recursion_from_All}
 use Rattle.si_base.specs.Bits.{bit, IsSet}
 use Rattle.si_base.specs.Codes.{CodedGraph, IsCoded, code, next_value}
-use Rattle.si_base.specs.Graph.{StateGraph, Step, enables, rise, fall}
+use Rattle.si_base.specs.Graph.{StateGraph, enables, rise, fall}
 use Rattle.si_base.specs.Netlist.{literal_value, sum_value}
 use Rattle.si_base.specs.declared.ids.Event.{Event}
 use Rattle.si_base.specs.declared.ids.Literal.{Literal}
@@ -14,9 +14,9 @@ use Rattle.si_base.proofs.GraphSteps.{enables-step, step_from_enables}
 use Rattle.si_cell.specs.Library.{Library, Instance, cell_at, code_of, instance_value}
 use Rattle.si_insert.specs.declared.partition.Class.{Class}
 use Rattle.si_insert.specs.Partition.{class_of, IsLawful}
-use Rattle.si_insert.specs.Insertion.{Copy, IsCopy, IsCopied, IsInsertedGraph, copy_code, coded, entry}
+use Rattle.si_insert.specs.Insertion.{Copy, IsCopied, IsInsertedGraph, coded, entry}
 use Rattle.si_insert.proofs.PartitionClasses.{entry_there}
-use Rattle.si_insert.proofs.InsertionCopies.{copy, copy_at, is_copy, given_copied, placed}
+use Rattle.si_insert.proofs.InsertionCopies.{copy, copy_at, given_copied, placed}
 use Rattle.si_insert.proofs.InsertionProper.{leads, goes_on, code_at, old_bit}
 use Rattle.si_match.specs.Fit.{first_fit, IsOver, Fits}
 use Rattle.si_match.specs.Triggers.{IsUnread}

@@ -1,15 +1,13 @@
 -- Arc after arc, the signals that wait.
-use Rattle.std.proofs.Common.{◌≡◌, ℕ, ◌+◌, ◌<◌, ◌≤◌, Bool, true, false, List, length, get_or, refl, sym, ap, subst, ◌∙◌}
+use Rattle.std.proofs.Common.{◌≡◌, ℕ, ◌+◌, ◌<◌, ◌≤◌, true, false, List, length, get_or, sym, ap, subst, ◌∙◌}
 use Rattle.std.proofs.Common.{arith, inl, inr}
-use Rattle.std.proofs.lemmas.Bool.{true≢false, cases_Bool}
+use Rattle.std.proofs.lemmas.Bool.{true≢false}
 use Rattle.std.proofs.lemmas.Bool.Decides.{eqb_tells}
 use Rattle.std.proofs.lemmas.List.{get_or_default}
 use Rattle.si_base.specs.Bits.{bit, IsSet}
-use Rattle.si_base.specs.Graph.{StateGraph, Step, arc}
+use Rattle.si_base.specs.Graph.{StateGraph, arc}
 use Rattle.si_base.specs.declared.graph.Edge.{Edge}
 use Rattle.si_insert.specs.declared.partition.Class.{Class}
-use Rattle.si_insert.specs.Partition.{class_of}
-use Rattle.si_insert.specs.Insertion.{waits}
 use Rattle.si_map.specs.Waiting.{ArcNeverWaits, NeverWaits}
 
 -- of the first arcs, so many, those of signals that aren't in the set go on

@@ -1,5 +1,6 @@
 -- (field) The divisor that mapping inserts next.
-use Rattle.std.specs.Prelude.{◌≡◌, ℕ, ◌<◌, List, [], ◌∷◌, slice_get, Some, None}
+use Rattle.std.specs.Prelude.{◌≡◌, ℕ, ◌<◌, List, [], ◌∷◌, slice_get}
+use Rattle.std.specs.Prelude.{Option, Some, None, MatchOption}
 use Rattle.si_base.specs.Order.{IsFirst}
 use Rattle.si_base.specs.declared.graph.Signal.{Signal}
 use Rattle.si_base.specs.Graph.{StateGraph, IsNonInput}
@@ -67,3 +68,8 @@ IsBest c library x = IsFirst choice_place (Serves c library) x
 -- no divisor of an unfitted signal serves
 abbrev pub NoneServes : CodedGraph → Library → Type 0
 NoneServes c library = (x : Choice) → Serves c library x → ⊥
+
+-- the partition for the best divisor, or None where no divisor serves
+abbrev pub IsBestPartition : CodedGraph → Library → Option (List Class) → Type 0
+IsBestPartition c library found = MatchOption found (NoneServes c library)
+    (λ classes. (x : Choice) × IsBest c library x × (x.classes ≡ classes))

@@ -51,8 +51,9 @@ abbrev pub AreSpent : CodedGraph → Library → ℕ → BTreeSet Function → T
 AreSpent c library bar functions = (f : Function) (i : Instance)
     → IsTrue (contains function_cmp functions f) → IsFunction library i f → IsSpent c library bar i
 
--- so are those of the divisors that were looked at, and the sets are those of functions
-pub record AreKnown (c : CodedGraph) (library : Library) (bar : ℕ) (functions : Functions)
+-- those of the divisors that were looked at leave none below the bar, and the sets are those of
+-- functions
+pub record AreUpToDate (c : CodedGraph) (library : Library) (bar : ℕ) (functions : Functions)
     : Type 0 where
   pub spent : AreSpent c library bar functions.tried
   pub sets : AreFunctionSets c functions.next

@@ -1,7 +1,7 @@
 //! The best divisor of a graph.
 
 ghost use Rattle.std.specs.Prelude.{◌≡◌, IfOk, MatchOption};
-ghost use Rattle.si_map.specs.Best.{Choice, IsBest, NoneServes};
+ghost use Rattle.si_map.specs.Best.{Choice, IsBest, IsBestPartition, NoneServes};
 
 use crate::search::find_best;
 use si_base::ids::NoMemory;
@@ -9,6 +9,7 @@ use si_base::limits::MAX_SIGNALS;
 use si_cell::library::Library;
 use si_insert::accept::Accepted;
 use si_insert::resolved::Resolved;
+use si_match::functions::LibraryFunctions;
 use si_match::weight::weight;
 use std::alloc::Global;
 
@@ -26,11 +27,25 @@ pub fn best_divisor(
         (λ a. (x : Choice) × IsBest resolved.now.current.coded library.now x
         × (x.classes ≡ a))) }
 {
+    let functions = LibraryFunctions::of(alloc, library)?;
+    let best = best_by_functions(alloc, resolved, &functions)?;
+    Ok(best)
+}
+
+/// The partition for the best divisor of the lineage's current graph, for a library whose cells'
+/// functions were made before.
+pub(crate) fn best_by_functions(
+    alloc: Global,
+    resolved: &Resolved,
+    library: &LibraryFunctions<'_>,
+) -> Result<Option<Accepted>, NoMemory>
+    ensures { IfOk result (IsBestPartition resolved.now.current.coded library.now) }
+{
     let graph = resolved.distinct();
     if graph.proper().coded().graph().signals().len() >= MAX_SIGNALS {
         return Ok(None);
     }
-    let weight = weight(alloc, graph, library)?;
+    let weight = weight(alloc, graph, library.library())?;
     let best = find_best(alloc, graph, library, weight)?;
     Ok(best)
 }

@@ -1,6 +1,6 @@
 //! Mapping: the signals of a lineage's current graph as cells of a library.
 
-ghost use Rattle.std.specs.Prelude.{◌≡◌, List, IfOk, IfErr, IsTrue, MatchOption, codes};
+ghost use Rattle.std.specs.Prelude.{◌≡◌, List, IfOk, IfErr, IfSome, IsTrue, MatchOption, codes};
 ghost use Rattle.si_base.specs.Behaviour.{Implements};
 ghost use Rattle.si_base.specs.WellFormed.{IsNetlist};
 ghost use Rattle.si_base.specs.Words.{is_signal_name};
@@ -16,7 +16,7 @@ ghost use Rattle.si_map.specs.Best.{Choice, IsBest, NoneServes};
 ghost use Rattle.si_map.specs.Ends.{ShowsStuck};
 ghost use Rattle.si_map.specs.Trace.{IsMappingTrace, InsertsDivisor, EndsMapped};
 
-use crate::best::best_divisor;
+use crate::best::best_by_functions;
 use crate::search::STEM;
 use si_base::ids::{NoMemory, Sig};
 use si_base::names::Names;
@@ -27,6 +27,7 @@ use si_circuit::circuit::Circuit;
 use si_insert::accept::Accepted;
 use si_insert::fresh::fresh_name;
 use si_insert::resolved::Resolved;
+use si_match::functions::LibraryFunctions;
 use std::alloc::Global;
 
 /// Why mapping went no further.
@@ -76,11 +77,34 @@ pub fn map_cells(
         × ShowsStuck library.now u.resolved.current u.cause) }
 {
     let mut resolved = resolved;
+    let mut made = None;
     loop {
         match Circuit::of_cells(alloc, resolved, library, model, states) {
             Ok(circuit) => return Ok(circuit),
-            Err((rest, fault)) => resolved = with_best_divisor(alloc, rest, library, fault)?,
+            Err((rest, fault)) => {
+                let functions = match functions_once(alloc, library, made) {
+                    Ok(functions) => functions,
+                    Err(NoMemory) => return Err(without_memory(rest)),
+                };
+                resolved = with_best_divisor(alloc, rest, &functions, fault)?;
+                made = Some(functions);
+            }
         }
+    }
+}
+
+/// The library with the functions of its cells, as they were made, or made now.
+fn functions_once<'a>(
+    alloc: Global,
+    library: &'a Library,
+    made: Option<LibraryFunctions<'a>>,
+) -> Result<LibraryFunctions<'a>, NoMemory>
+    requires { IfSome made (λ functions. functions ≡ library.now) }
+    ensures { IfOk result (λ functions. functions ≡ library.now) }
+{
+    match made {
+        Some(functions) => Ok(functions),
+        None => LibraryFunctions::of(alloc, library),
     }
 }
 
@@ -88,7 +112,7 @@ pub fn map_cells(
 fn with_best_divisor(
     alloc: Global,
     resolved: Resolved,
-    library: &Library,
+    library: &LibraryFunctions<'_>,
     fault: CellsFault,
 ) -> Result<Resolved, Unmapped>
     requires { ShowsUnfit resolved.current.coded library.now fault }
@@ -162,14 +186,14 @@ fn with_insertion(
 fn best_insertion(
     alloc: Global,
     resolved: &Resolved,
-    library: &Library,
+    library: &LibraryFunctions<'_>,
 ) -> Result<Option<Insertion>, NoMemory>
     ensures { let c = resolved.now.current.coded in IfOk result (λ o. MatchOption o
         (NoneServes c library.now)
         (λ r. (x : Choice) × IsBest c library.now x × (x.classes ≡ r.accepted)
         × IsFresh c.graph.signals (codes "map") r.name × IsTrue (is_signal_name r.name))) }
 {
-    let Some(accepted) = best_divisor(alloc, resolved, library)? else {
+    let Some(accepted) = best_by_functions(alloc, resolved, library)? else {
         return Ok(None);
     };
     let name = fresh_name(alloc, resolved.lineage().current().coded().graph(), STEM)?;

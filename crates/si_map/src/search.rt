@@ -1,7 +1,7 @@
 //! The search for the best divisor, signal after signal and divisor after divisor.
 
 ghost use Rattle.std.specs.Prelude.{◌≡◌, ◌≢◌, ℕ, ◌<◌, ◌≤◌, ◌↔◌, ◌+◌, false, length, IsTrue};
-ghost use Rattle.std.specs.Prelude.{All, IfOk, IfSome, IfNone, OnOk, MatchOption};
+ghost use Rattle.std.specs.Prelude.{All, IfOk, IfSome, IfNone, OnOk};
 ghost use Rattle.si_base.specs.Bits.{bit};
 ghost use Rattle.si_base.specs.Limits.{max_signals};
 ghost use Rattle.si_base.specs.Graph.{IsNonInput};
@@ -12,10 +12,10 @@ ghost use Rattle.si_insert.specs.Accepted.{DelaysNoInput, IsAccepted, StaysPrope
 ghost use Rattle.si_insert.specs.Partition.{IsLawful};
 ghost use Rattle.si_match.specs.Weight.{weight_of};
 ghost use Rattle.si_map.specs.Waiting.{NeverWaits};
-ghost use Rattle.si_map.specs.Best.{Choice, IsBest, NoneServes};
+ghost use Rattle.si_map.specs.Best.{IsBestPartition};
 ghost use Rattle.si_map.specs.Progress.{AreFitted, IsReady, IsSearching, HasTried, IsTried};
-ghost use Rattle.si_map.specs.Progress.{AreKnown, IsKnown, MayHaveRecorded, IsSpent, LeavesBelow};
-ghost use Rattle.si_map.specs.Progress.{LeavesNoneBelow};
+ghost use Rattle.si_map.specs.Progress.{AreUpToDate, IsKnown, MayHaveRecorded, IsSpent};
+ghost use Rattle.si_map.specs.Progress.{LeavesBelow, LeavesNoneBelow};
 
 use crate::functions::Functions;
 use crate::waiting::waiting_signals;
@@ -63,25 +63,22 @@ struct Search {
 pub(crate) fn find_best(
     alloc: Global,
     graph: Distinct<'_>,
-    library: &Library,
+    library: &LibraryFunctions<'_>,
     weight: u64,
 ) -> Result<Option<Accepted>, NoMemory>
     requires { weight ≡ weight_of (coded_of graph) library.now }
-    ensures { IfOk result (λ o. MatchOption o
-        (NoneServes (coded_of graph.entry) library.now)
-        (λ a. (x : Choice) × IsBest (coded_of graph.entry) library.now x × (x.classes ≡ a))) }
+    ensures { IfOk result (IsBestPartition (coded_of graph.entry) library.now) }
 {
-    let fitted = fitted_signals(graph, library);
+    let fitted = fitted_signals(graph, library.library());
     let mut search = Search::new(alloc, graph.proper(), weight, fitted)?;
     let mut functions = Functions::new(alloc);
-    let cells = LibraryFunctions::of(alloc, library)?;
     let known = graph.proper().coded().graph();
     for i in 0..known.signals().len() {
         let z = Sig(i as u8);
         if !known.is_driven(z) {
             continue;
         }
-        search.try_signal(alloc, graph, &cells, z, &mut functions)?;
+        search.try_signal(alloc, graph, library, z, &mut functions)?;
     }
     Ok(search.best)
 }
@@ -114,11 +111,11 @@ impl Search {
     ) -> Result<(), NoMemory>
         requires driven { IsNonInput (coded_of graph).graph.signals z }
         requires before { IsSearching (coded_of graph) library.now z 0 self.old }
-        requires known { AreKnown (coded_of graph) library.now self.old.bar functions.old }
+        requires known { AreUpToDate (coded_of graph) library.now self.old.bar functions.old }
         ensures after { OnOk result
             (IsSearching (coded_of graph.entry) library.now (z + 1) 0 self.new) }
         ensures known { OnOk result
-            (AreKnown (coded_of graph.entry) library.now self.new.bar functions.new) }
+            (AreUpToDate (coded_of graph.entry) library.now self.new.bar functions.new) }
     {
         let cells = library.library();
         if fit(graph, cells, z).is_some() {
@@ -153,10 +150,11 @@ impl Search {
         requires instance { IsInstance library.now divisor.now }
         requires others { All (λ i. IsInstance library.now i) others.now }
         requires ready { IsReady graph.now library.now self.old }
-        requires known { AreKnown graph.now library.now self.old.bar functions.old }
+        requires known { AreUpToDate graph.now library.now self.old.bar functions.old }
         ensures tried { OnOk result
             (HasTried graph.now library.now divisor.now self.old self.new) }
-        ensures known { OnOk result (AreKnown graph.now library.now self.new.bar functions.new) }
+        ensures known { OnOk result
+            (AreUpToDate graph.now library.now self.new.bar functions.new) }
     {
         if self.bar == 0 {
             return Ok(());

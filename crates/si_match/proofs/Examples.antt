@@ -1,26 +1,31 @@
 -- The two-input C-element: its first fitting instance, its support and its weight; and a signal that repeats another:
 -- its trigger, and what is known of its fits.
 use Rattle.std.proofs.Common.{◌≡◌, ◌≢◌, ℕ, Bool, true, false, List, [], ◌∷◌, refl, Some, None, codes}
-use Rattle.std.proofs.Common.{zero, suc, ◌∙◌, sym, ap, subst, arith, lit<}
+use Rattle.std.proofs.Common.{zero, suc, ◌<◌, ◌≤◌, ◌==◌, ◌^◌, ◌∙◌, sym, ap, subst, arith, lit<, get_or, Contains}
 use Rattle.std.proofs.lemmas.Bool.{true≢false}
 use Rattle.std.proofs.lemmas.List.Elements.{recursion_from_All}
+use Rattle.std.proofs.lemmas.Nat.Bits.{bit_at_above}
 use Rattle.si_base.proofs.BitFacts.{flip-other}
-use Rattle.si_base.specs.Codes.{CodedGraph}
+use Rattle.si_base.specs.Bits.{bit}
+use Rattle.si_base.specs.Codes.{CodedGraph, code, next_value}
 use Rattle.si_base.specs.Graph.{arc, rise, fall, is_driven, IsNonInput}
+use Rattle.si_base.specs.Netlist.{Sum, sum_value}
 use Rattle.si_base.specs.declared.graph.Signal.{Signal}
 use Rattle.si_base.specs.declared.graph.SigKind.TheVariants.{Input, Output}
 use Rattle.si_base.specs.declared.ids.Literal.{Literal}
 use Rattle.si_cell.specs.Library.{Cell, Library, instance_value}
 use Rattle.si_graph.proofs.ValueLemmas.{bit-zero}
-use Rattle.si_match.specs.Choices.{AreAmong, Ascends}
+use Rattle.si_match.specs.Choices.{AreAmong, AreOwed, Ascends, NoneFitsOver}
+use Rattle.si_match.specs.Columns.{AreColumns, first_pin_values}
 use Rattle.si_match.specs.Dropping.{AreTried}
 use Rattle.si_match.specs.Fit.{first_fit}
-use Rattle.si_match.specs.Functions.{function_table, value_at}
+use Rattle.si_match.specs.Functions.{AreFunctions, function_table, function_tables, value_at}
 use Rattle.si_match.specs.Known.{AreKnown, FitsByReading}
-use Rattle.si_match.specs.Places.{Agrees, Differs, placed_code}
+use Rattle.si_match.specs.Places.{Agrees, AgreesAt, AreSeen, Differs, placed_code}
 use Rattle.si_match.specs.Support.{determines, support_of}
 use Rattle.si_match.specs.Triggers.{IsTrigger}
 use Rattle.si_match.specs.Weight.{added_weight, weight_of}
+use Rattle.si_match.proofs.ColumnLemmas.{same_at_codes}
 use Rattle.si_match.proofs.TriggerLemmas.{same_values}
 
 -- the inputs a and b are signals 0 and 1, the output c is signal 2
@@ -50,6 +55,10 @@ inverting = record {
   pins = codes "a" ∷ codes "b" ∷ [];
   sum = (lit 0 false ∷ lit 1 false ∷ []) ∷ (lit 0 false ∷ lit 2 true ∷ []) ∷ (lit 1 false ∷ lit 2 true ∷ []) ∷ [];
 }
+
+-- a number below 2 ^ k has no bit from k on
+above : (n k i : ℕ) → n < 2 ^ k → k ≤ i → bit n i ≡ false
+above n k i small from_k = ap (λ (b : ℕ). b == 1) (bit_at_above n k i small from_k)
 
 abbrev library : List Cell → Library
 library cells = record { name = codes "l"; cells = cells }
@@ -140,6 +149,31 @@ driven_is_b zero (x, at, driven) =
 driven_is_b (suc zero) b = refl
 driven_is_b (suc (suc z)) (x, at, driven) = cc
 
+one_isnt_zero : suc zero ≡ zero → ⊥
+one_isnt_zero e = omega (arith, e)
+
+abbrev b_alone : List ℕ
+b_alone = 1 ∷ []
+
+-- so no instance fits b that reads b alone
+none_reads_b_alone : NoneFitsOver repeater (library (buffer ∷ [])) 1 b_alone
+none_reads_b_alone i over fit among =
+    reads i over fit (λ k d within. unread (get_or i.literals k d) (among k d within))
+  where
+    unread : (l : Literal) → Contains (1 ∷ b_alone) l.sig → l.sig ≢ 0
+    unread l (zero, within, at) e = one_isnt_zero (at ∙ e)
+    unread l (suc zero, within, at) e = one_isnt_zero (at ∙ e)
+    unread l (suc (suc k), within, at) e = absurd (omega (arith, within))
+
+-- and where no signal is chosen yet, a is owed
+owed : AreOwed repeater (library (buffer ∷ [])) 1 [] 1
+owed zero there = (reads, not_chosen)
+  where
+    not_chosen : Contains b_alone 0 → ⊥
+    not_chosen (zero, within, at) = one_isnt_zero at
+    not_chosen (suc k, within, at) = absurd (omega (arith, within))
+owed (suc y) there = absurd (true≢false (sym there ∙ above 1 1 (suc y) (lit< tt) (omega arith)))
+
 -- so this much is known: no signal is unknown, and what fits one that isn't told to fit reads a
 known : AreKnown repeater (library (buffer ∷ [])) (record { unknown = 0; fitted = 0; read = 0 })
 known = record {
@@ -156,9 +190,72 @@ table = refl
 second_place : value_at buffer (lit 1 true ∷ []) 2 ≡ true
 second_place = refl
 
+-- cells without a pin: always 1, or always 0
+abbrev always : ℕ → Sum → Cell
+always name sum = record { name = name ∷ []; pins = []; sum = sum }
+
+abbrev constants : Library
+constants = library (always 120 ([] ∷ []) ∷ always 121 [] ∷ always 122 ([] ∷ []) ∷ [])
+
+three_tables : function_tables constants ≡ 4294967295 ∷ 0 ∷ 4294967295 ∷ []
+three_tables = refl
+
+-- two of the three compute the same, which stands once
+two_functions : AreFunctions constants (0 ∷ 4294967295 ∷ [])
+two_functions t = (has, from)
+  where
+    has : Contains (0 ∷ 4294967295 ∷ []) t → Contains (4294967295 ∷ 0 ∷ 4294967295 ∷ []) t
+    has (zero, within, at) = (1, lit< tt, at)
+    has (suc zero, within, at) = (0, lit< tt, at)
+    has (suc (suc k), within, at) = absurd (omega (arith, within))
+
+    from : Contains (4294967295 ∷ 0 ∷ 4294967295 ∷ []) t → Contains (0 ∷ 4294967295 ∷ []) t
+    from (zero, within, at) = (1, lit< tt, at)
+    from (suc zero, within, at) = (0, lit< tt, at)
+    from (suc (suc zero), within, at) = (1, lit< tt, at)
+    from (suc (suc (suc k)), within, at) = absurd (omega (arith, within))
+
+-- at the code 1 the first pin has the value of the first place, the second the complement of the
+-- second place's; and the third, from the code behind them, 1
+first_pins : first_pin_values (lit 0 true ∷ lit 1 false ∷ []) 1 1 ≡ 7
+first_pins = refl
+
+-- whatever the own output is, the buffer has the value of the second place
+abbrev buffer_value : ℕ → ℕ → Bool
+buffer_value own k = sum_value (first_pin_values (lit 1 true ∷ []) k own) buffer.sum
+
+columns : AreColumns buffer (lit 1 true ∷ []) (3435973836 ∷ 3435973836 ∷ [])
+columns zero m within below = same_at_codes (bit 3435973836) (buffer_value 0) refl m below
+columns (suc zero) m within below = same_at_codes (bit 3435973836) (buffer_value 1) refl m below
+columns (suc (suc rest)) m within below = absurd (omega (arith, within))
+
 -- signal 1 stands first, then signal 0: at the state where a alone is 1 the second place is 1
 places_at : placed_code (1 ∷ 0 ∷ []) 1 ≡ 2
 places_at = refl
+
+-- the next value of b is 1 there; a table with 1 at the code 2 agrees with that, one without doesn't
+agrees_there : AgreesAt repeater 1 (0 ∷ []) 4 1
+agrees_there = refl
+
+disagrees_there : AgreesAt repeater 1 (0 ∷ []) 1 1 → ⊥
+disagrees_there same = true≢false (sym same)
+
+-- at the first two states the next value 0 is seen at the code 0, and 1 at the code 2
+seen : AreSeen repeater 1 (0 ∷ []) (record { on = 4; off = 1 })
+seen = record { on = on; off = off }
+  where
+    on : (m : ℕ) → bit 4 m ≡ true → (s : ℕ) × (s < 4)
+        × (placed_code (1 ∷ 0 ∷ []) (code repeater s) ≡ m) × (next_value repeater s 1 ≡ true)
+    on zero there = absurd (true≢false (sym there))
+    on (suc zero) there = absurd (true≢false (sym there))
+    on (suc (suc zero)) there = (1, lit< tt, refl, refl)
+    on (suc (suc (suc m))) there =
+        absurd (true≢false (sym there ∙ above 4 3 (suc (suc (suc m))) (lit< tt) (omega arith)))
+
+    off : (m : ℕ) → bit 1 m ≡ true → (s : ℕ) × (s < 4)
+        × (placed_code (1 ∷ 0 ∷ []) (code repeater s) ≡ m) × (next_value repeater s 1 ≡ false)
+    off zero there = (0, lit< tt, refl, refl)
+    off (suc m) there = absurd (true≢false (sym there ∙ above 1 1 (suc m) (lit< tt) (omega arith)))
 
 -- so the table has the next value of b, where a is chosen for each place
 agrees : Agrees repeater 1 (0 ∷ 0 ∷ 0 ∷ 0 ∷ []) 3435973836

@@ -1,7 +1,7 @@
 -- The truth tables of all instances over the places.
-use Rattle.std.proofs.Common.{◌≡◌, ℕ, suc, ◌+◌, ◌-◌, ◌*◌, ◌^◌, ◌/◌, ◌%◌, ◌<◌, ◌≤◌, ◌==◌, List, [], ◌∷◌, ◌++◌}
-use Rattle.std.proofs.Common.{Bool, length, map, take, get_or, if◌then◌else◌, add-one}
-use Rattle.std.proofs.Common.{All, Contains, true, false, refl, sym, ap, ◌∙◌, arith, append_assoc}
+use Rattle.std.proofs.Common.{◌≡◌, ℕ, suc, ◌+◌, ◌*◌, ◌/◌, ◌%◌, ◌<◌, ◌≤◌, ◌==◌, List, [], ◌∷◌, ◌++◌}
+use Rattle.std.proofs.Common.{length, map, take, get_or}
+use Rattle.std.proofs.Common.{All, Contains, false, refl, sym, ap, ◌∙◌, arith, append_assoc}
 use Rattle.std.specs.Prelude.{flat_map}
 use Rattle.std.specs.List.{enumerate_from, range_with_len}
 use Rattle.std.proofs.lemmas.Grind.{flat_map-append}
@@ -9,12 +9,11 @@ use Rattle.std.proofs.lemmas.List.{append-nil, map-append, take_more, take_all}
 use Rattle.std.proofs.lemmas.List.Concat.{flat_map-cons}
 use Rattle.std.proofs.lemmas.List.FromFn.{length-enumerate_from, get_or-enumerate_from, get_or-map-range_with_len}
 use Rattle.std.proofs.lemmas.Simd.{map-map}
-use mir.Val.{bool_byte}
 use Rattle.si_base.proofs.GivenGraphUnique.{contains_from_in, in_from_contains}
 use Rattle.si_base.specs.Bits.{bit}
 use Rattle.si_base.specs.Limits.{code_width}
 use Rattle.si_base.specs.declared.ids.Literal.{Literal}
-use Rattle.si_cell.specs.Library.{Cell, Library, Instance, IsInstance, cell_at, no_cell, code_of}
+use Rattle.si_cell.specs.Library.{Cell, Library, Instance, IsInstance, cell_at, no_cell}
 use Rattle.si_cell.specs.Limits.{table_codes}
 use Rattle.si_cell.proofs.ExpandedLemmas.{bit_of}
 use Rattle.si_match.specs.Fit.{lists_of, literals_of_signals, instances_of, instances}
@@ -42,8 +41,11 @@ module _ (cell : Cell) (literals : List Literal) where
   abbrev pub tables_before : ℕ → ℕ → List ℕ
   tables_before more place = map table_with (flat_map (with_next more) (take place all_literals))
 
-  module _ (more place : ℕ) (l : Literal) (now : List Literal) (within : place < 2 * places)
-      (l_is : l ≡ record { sig = place / 2; plain = place % 2 == 0 }) (now_is : now ≡ literals ++ l ∷ []) where
+  module _ (more place : ℕ) (l : Literal) (within : place < 2 * places)
+      (l_is : l ≡ record { sig = place / 2; plain = place % 2 == 0 }) where
+    abbrev tables_with : List ℕ
+    tables_with = map (λ rest. function_table cell ((literals ++ l ∷ []) ++ rest)) (lists_of more all_literals)
+
     inside : place < length all_literals
     inside = rw literals_count within
 
@@ -58,17 +60,15 @@ module _ (cell : Cell) (literals : List Literal) where
         ∙ ap (λ (ls : List (List Literal)). flat_map (with_next more) (take place all_literals) ++ ls)
         (flat_map-cons (with_next more) l [] ∙ append-nil (with_next more l))
 
-    one_literal : map table_with (with_next more l)
-        ≡ map (λ rest. function_table cell (now ++ rest)) (lists_of more all_literals)
+    one_literal : map table_with (with_next more l) ≡ tables_with
     one_literal = map-map table_with (λ ls. l ∷ ls) (lists_of more all_literals)
-        ∙ map_same _ _ (lists_of more all_literals) (λ rest. ap (function_table cell)
-        (sym (append_assoc literals (l ∷ []) rest) ∙ ap (λ (ls : List Literal). ls ++ rest) (sym now_is)))
+        ∙ map_same _ _ (lists_of more all_literals)
+        (λ rest. ap (function_table cell) (sym (append_assoc literals (l ∷ []) rest)))
 
     pub next_tables : (old made : List ℕ) → made ≡ old ++ tables_before more place
-        → made ++ map (λ rest. function_table cell (now ++ rest)) (lists_of more all_literals)
-        ≡ old ++ tables_before more (place + 1)
+        → made ++ tables_with ≡ old ++ tables_before more (place + 1)
     next_tables old made is =
-        ap (λ (ts : List ℕ). ts ++ map (λ rest. function_table cell (now ++ rest)) (lists_of more all_literals)) is
+        ap (λ (ts : List ℕ). ts ++ tables_with) is
         ∙ append_assoc old (tables_before more place) _
         ∙ ap (λ (ts : List ℕ). old ++ ts) (ap (λ (ts : List ℕ). tables_before more place ++ ts) (sym one_literal)
         ∙ sym (map-append table_with (flat_map (with_next more) (take place all_literals)) (with_next more l))
@@ -89,12 +89,11 @@ module _ (library : Library) where
   abbrev pub tables_of_first : ℕ → List ℕ
   tables_of_first k = map table_in (flat_map (instances_of places) (take k (enumerate_from 0 library.cells)))
 
-  pub next_cell : (k : ℕ) (cell : Cell) (start : List Literal) (pins : ℕ) (made : List ℕ) → k < length library.cells
-      → cell ≡ cell_at library k → start ≡ [] → pins ≡ length cell.pins → made ≡ tables_of_first k
-      → made ++ map (λ rest. function_table cell (start ++ rest)) (lists_of pins all_literals)
-      ≡ tables_of_first (k + 1)
-  next_cell k cell start pins made within cell_is start_is pins_are made_is =
-      ap (λ (ts : List ℕ). ts ++ map (λ rest. function_table cell (start ++ rest)) (lists_of pins all_literals)) made_is
+  pub next_cell : (k : ℕ) (cell : Cell) (pins : ℕ) (made : List ℕ) → k < length library.cells
+      → cell ≡ cell_at library k → pins ≡ length cell.pins → made ≡ tables_of_first k
+      → made ++ map (λ ls. function_table cell ls) (lists_of pins all_literals) ≡ tables_of_first (k + 1)
+  next_cell k cell pins made within cell_is pins_are made_is =
+      ap (λ (ts : List ℕ). ts ++ map (λ ls. function_table cell ls) (lists_of pins all_literals)) made_is
       ∙ ap (λ (ts : List ℕ). tables_of_first k ++ ts) of_cell
       ∙ sym (map-append table_in (flat_map (instances_of places) (take k (enumerate_from 0 library.cells)))
       (instances_of places (k, cell_at library k)))
@@ -123,9 +122,9 @@ module _ (library : Library) where
           (flat_map-cons (instances_of places) (k, cell_at library k) []
           ∙ append-nil (instances_of places (k, cell_at library k)))
 
-      of_cell : map (λ rest. function_table cell (start ++ rest)) (lists_of pins all_literals)
+      of_cell : map (λ ls. function_table cell ls) (lists_of pins all_literals)
           ≡ map table_in (instances_of places (k, cell_at library k))
-      of_cell = rw (start_is, pins_are, cell_is) (sym (map-map table_in
+      of_cell = rw (pins_are, cell_is) (sym (map-map table_in
           (λ ls. record { cell = k; literals = ls }) (lists_of (length (cell_at library k).pins) all_literals)))
 
   pub all_cells : (k : ℕ) → length library.cells ≤ k → tables_of_first k ≡ function_tables library
@@ -159,31 +158,3 @@ table_bit cell literals m below =
     bit_of (map (value_at cell literals) (range_with_len 0 table_codes)) m
     ∙ get_or-map-range_with_len (value_at cell literals) 0 table_codes m m false
     below (omega arith)
-
--- ---- code after code, the last one first
-module _ (f : ℕ → Bool) (k table byte code : ℕ) (v : Bool) (within : k < table_codes)
-    (code_is : code ≡ table_codes - 1 - k) (v_is : v ≡ f code) (byte_is : byte ≡ bool_byte v) where
-  pub code_more : table ≡ code_of (map f (range_with_len (table_codes - k) k))
-      → byte + 2 * table ≡ code_of (map f (range_with_len (table_codes - (k + 1)) (k + 1)))
-  code_more table_is =
-      let start : table_codes - (k + 1) ≡ code = omega (arith, within, code_is) in
-      let next : table_codes - k ≡ code + 1 = omega (arith, within, code_is) in
-      let front : code_of (map f (range_with_len (table_codes - (k + 1)) (k + 1)))
-      ≡ (if f code then 1 else 0) + 2 * code_of (map f (range_with_len (code + 1) k)) = rw (start, add-one) refl in
-      let whole : table ≡ code_of (map f (range_with_len (code + 1) k)) = rw next at table_is in
-      let first : byte ≡ bool_byte (f code) = byte_is ∙ ap bool_byte v_is in
-      omega (arith, front, whole, first, same_unit (f code))
-    where
-      same_unit : (b : Bool) → (if b then 1 else 0) ≡ bool_byte b
-      same_unit true = refl
-      same_unit false = refl
-
-  pub small_more : table < 2 ^ k → byte + 2 * table < 2 ^ (k + 1)
-  small_more small =
-      let next : 2 ^ (k + 1) ≡ 2 ^ suc k = ap (λ (n : ℕ). 2 ^ n) (add-one k) in
-      let double : 2 ^ suc k ≡ 2 * 2 ^ k = omega arith in
-      omega (arith, small, next, double, at_most_one v, byte_is)
-    where
-      at_most_one : (b : Bool) → bool_byte b ≤ 1
-      at_most_one true = omega arith
-      at_most_one false = omega arith

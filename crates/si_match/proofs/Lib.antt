@@ -12,3 +12,4 @@ pub mod UnfitLemmas
 pub mod FunctionLemmas
 pub mod PlaceLemmas
 pub mod ChoiceLemmas
+pub mod ColumnLemmas

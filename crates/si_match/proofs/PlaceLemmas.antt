@@ -188,7 +188,7 @@ common_bit a b some =
     let both = sym (bit_of_and a b m) ∙ there in
     (m, and_first (bit a m) (bit b m) both, and_second (bit a m) (bit b m) both)
 
-bit_of_xor : (a b i : ℕ) → bit (bit_xor a b) i ≡ (if bit a i then not (bit b i) else bit b i)
+pub bit_of_xor : (a b i : ℕ) → bit (bit_xor a b) i ≡ (if bit a i then not (bit b i) else bit b i)
 bit_of_xor a b i =
     elim (below_two (bit_at a i) (bit_at-lt a i)) [
       | inl a0 ↦ elim (below_two (bit_at b i) (bit_at-lt b i)) [

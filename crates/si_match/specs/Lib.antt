@@ -7,5 +7,6 @@ pub mod Dropping
 pub mod Weight
 pub mod Known
 pub mod Functions
+pub mod Columns
 pub mod Places
 pub mod Choices

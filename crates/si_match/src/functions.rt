@@ -1,28 +1,24 @@
 //! The functions of a library's cells, as truth tables.
 
-ghost use Rattle.std.specs.Prelude.{◌≡◌, ◌↔◌, ℕ, ◌+◌, ◌<◌, ◌≤◌, ◌++◌, All, Contains, OnOk, IfOk};
+ghost use Rattle.std.specs.Prelude.{◌≡◌, ◌↔◌, ℕ, ◌+◌, ◌≤◌, ◌^◌, ◌++◌, List, Contains, OnOk, IfOk};
 ghost use Rattle.std.specs.Prelude.{length, map};
-ghost use Rattle.si_base.specs.Limits.{code_width};
+ghost use Rattle.si_base.specs.declared.ids.Literal.{Literal};
 ghost use Rattle.si_cell.specs.Limits.{max_pins};
+ghost use Rattle.si_cell.specs.Library.{Cell as CellValue, IsLibrary};
+ghost use Rattle.si_match.specs.Columns.{AreColumns};
 ghost use Rattle.si_match.specs.Fit.{lists_of, literals_of_signals};
-ghost use Rattle.si_cell.specs.Library.{IsLibrary};
-ghost use Rattle.si_match.specs.Functions as spec;
 ghost use Rattle.si_match.specs.Functions.{AreFunctions, function_table, function_tables, places};
 
+use crate::columns::{columns_of, table_of, with_literal};
 use crate::search::literal_at;
-use arrayvec::ArrayVec;
-use si_base::ids::{Code, NoMemory, Sig};
-use si_cell::cell::{Cell, PinLiteral};
-use si_cell::library::{Library, values_of};
+use si_base::ids::NoMemory;
+use si_cell::library::Library;
 use si_cell::limits::MAX_PINS;
 use std::alloc::Global;
 use std::marker::Model;
 
 /// A place for each pin, and the first, which is that of the signal that a gate drives.
 pub(crate) const PLACES: usize = MAX_PINS + 1;
-
-/// How many codes the places have: the bits of a truth table.
-const TABLE_CODES: u8 = 32;
 
 /// A library, and the truth tables of what its cells compute over a few places. Contracts see the
 /// library.
@@ -88,60 +84,30 @@ fn all_tables(alloc: Global, library: &Library) -> Result<Vec<u32>, NoMemory>
     let mut tables = Vec::new(alloc);
     for k in 0..library.cells().len() {
         let cell = library.cell(k as u8);
-        let mut literals = ArrayVec::new();
-        let pins = cell.pins.len();
-        add_tables(&mut tables, cell, &mut literals, pins)?;
+        let columns = columns_of(cell);
+        add_tables(&mut tables, columns.as_slice(), cell.pins.len())?;
     }
     Ok(tables)
 }
 
-/// Adds the truth tables of the cell with these literals of places at its first pins, and each
-/// choice of literals at so many more.
-fn add_tables(
-    tables: &mut Vec<u32>,
-    cell: &Cell,
-    literals: &mut ArrayVec<PinLiteral, MAX_PINS>,
-    more: usize,
-) -> Result<(), NoMemory>
-    requires few { length literals.old.items + more ≤ max_pins }
-    requires places { All (λ l. l.sig < places) literals.old.items }
-    ensures added { OnOk result (tables.new.items ≡ tables.old.items
-        ++ map (λ rest. function_table cell.now (literals.old.items ++ rest))
+/// Adds the truth tables of the cell that has these columns, with each choice of literals of places
+/// at its last pins, so many.
+fn add_tables(tables: &mut Vec<u32>, columns: &[u32], more: usize) -> Result<(), NoMemory>
+    requires few { more ≤ max_pins }
+    requires count { length columns.now ≡ 2 ^ (more + 1) }
+    ensures { OnOk result ((cell : CellValue) (literals : List Literal)
+        → AreColumns cell literals columns.now
+        → tables.new.items ≡ tables.old.items
+        ++ map (λ rest. function_table cell (literals ++ rest))
         (lists_of more (literals_of_signals places))) }
-    ensures kept { OnOk result (literals.new.items ≡ literals.old.items) }
 {
     if more == 0 {
-        tables.push(table_at(cell, literals.as_slice()))?;
+        tables.push(table_of(columns))?;
         return Ok(());
     }
     for place in 0..2 * PLACES {
-        literals.push(literal_at(place));
-        add_tables(tables, cell, literals, more - 1)?;
-        literals.pop();
+        let chosen = with_literal(columns, literal_at(place));
+        add_tables(tables, chosen.as_slice(), more - 1)?;
     }
     Ok(())
-}
-
-/// The truth table of the cell with these literals of places.
-fn table_at(cell: &Cell, literals: &[PinLiteral]) -> u32
-    requires few { length literals.now ≤ max_pins }
-    requires signals { All (λ l. l.sig < code_width) literals.now }
-    ensures { result ≡ function_table cell.now literals.now }
-{
-    let mut table = 0;
-    for k in 0..TABLE_CODES {
-        let code = Code(u128::from(TABLE_CODES - 1 - k));
-        table = u32::from(value_at(cell, literals, code)) + 2 * table;
-    }
-    table
-}
-
-/// The value of the cell with these literals of places, where the places have the values of the
-/// code.
-fn value_at(cell: &Cell, literals: &[PinLiteral], code: Code) -> bool
-    requires few { length literals.now ≤ max_pins }
-    requires signals { All (λ l. l.sig < code_width) literals.now }
-    ensures { result ≡ spec.value_at cell.now literals.now code }
-{
-    cell.value(values_of(literals, code, code.get(Sig(0))))
 }

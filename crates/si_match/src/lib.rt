@@ -3,6 +3,7 @@
 
 mod choices;
 mod codes;
+mod columns;
 pub mod fit;
 pub mod functions;
 pub mod known;

@@ -8,7 +8,11 @@ loop-circuit-preserved c =
     let library = c.args.library.now in
     let start = c.args.resolved in
     let now = c.in-Err.rest in
-    let next = c.in_ok-resolved-in-Err.ensures.extended in
+    let next = rw c.in-Ok-functions_once.ensures at c.in_ok-resolved-in-Err.ensures.extended in
     let so : Leads (InsertsDivisor library) start now =
-    subst (Leads (InsertsDivisor library) start) (sym c.in-Err.ensures.back) c.loop-circuit.invariant in
-    leads_on (InsertsDivisor library) start now c.in_ok-resolved-in-Err.resolved next.0 so next.1 next.2 next.3
+    subst (Leads (InsertsDivisor library) start) (sym c.in-Err.ensures.back) c.loop-circuit.invariant.leads in
+    let after = c.in_ok-resolved-in-Err.resolved in
+    record {
+      leads = leads_on (InsertsDivisor library) start now after next.0 so next.1 next.2 next.3;
+      made = c.in-Ok-functions_once.ensures;
+    }

@@ -15,8 +15,9 @@ loop-i-init c =
     λ d. (library : Library) → c.args.weight ≡ weight_of d library → AreFitted d library c.fitted_signals-fitted.result
     → IsSearching d library 0 0 c.in_ok-search.search in
     let starts : Starts (coded_of c.args.graph) = subst Starts c.proper.ensures.same c.in_ok-search.ensures in
+    let fitted = rw c.library.ensures at c.fitted_signals-fitted.ensures in
     record {
-      searching = starts c.args.library.now c.requires c.fitted_signals-fitted.ensures;
+      searching = starts c.args.library.now c.requires fitted;
       known = record {
         spent = none_yet (coded_of c.args.graph) c.args.library.now c.in_ok-search.search.bar
             c.new-functions.result.tried c.new-functions.ensures.tried;
@@ -49,14 +50,8 @@ returns c =
     found d c.args.library.now c.loop-i.search
     (subst (λ k. IsSearching d c.args.library.now k 0 c.loop-i.search) all c.loop-i.invariant.searching)
 
-pub try_signal-requires-clause-before : goal.try_signal-requires-clause-before
-try_signal-requires-clause-before c = rw c.in_ok-cells.ensures c.loop-i.invariant.searching
-
-pub try_signal-requires-clause-known : goal.try_signal-requires-clause-known
-try_signal-requires-clause-known c = rw c.in_ok-cells.ensures c.loop-i.invariant.known
-
 pub loop-i-preserved : goal.loop-i-preserved
 loop-i-preserved c = record {
-  searching = rw c.in_ok-cells.ensures at c.in_ok-try_signal.ensures.after;
-  known = rw c.in_ok-cells.ensures at c.in_ok-try_signal.ensures.known;
+  searching = c.in_ok-try_signal.ensures.after;
+  known = c.in_ok-try_signal.ensures.known;
 }

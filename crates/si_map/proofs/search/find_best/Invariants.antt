@@ -1,9 +1,9 @@
 use Rattle.si_checks.specs.Lent.{coded_of}
-use Rattle.si_map.specs.Progress.{AreKnown, IsSearching}
+use Rattle.si_map.specs.Progress.{AreUpToDate, IsSearching}
 use Rattle.si_map.proofs.search.find_best.Given as goal
 
 abbrev pub invariant-loop-i : goal.invariant-loop-i
 invariant-loop-i l = record {
   searching : IsSearching (coded_of l.fn.graph) l.library l.i 0 l.search;
-  known : AreKnown (coded_of l.fn.graph) l.library l.search.bar l.functions;
+  known : AreUpToDate (coded_of l.fn.graph) l.library l.search.bar l.functions;
 }

@@ -1,4 +1,4 @@
-use Rattle.std.proofs.Common.{◌≡◌, ◌≤◌, ◌∙◌, length, is_some, Option, ap, arith}
+use Rattle.std.proofs.Common.{◌≤◌, ◌∙◌, length, is_some, Option, ap, arith}
 use Rattle.si_base.specs.Graph.{StateGraph}
 use Rattle.si_base.specs.Codes.{CodedGraph}
 use Rattle.si_cell.specs.Library.{Instance}

@@ -1,4 +1,4 @@
-use Rattle.std.proofs.Common.{◌≡◌, length, ap, sym, ◌∙◌, rules}
+use Rattle.std.proofs.Common.{length, ap}
 use Rattle.si_base.specs.declared.graph.Signal.{Signal}
 use Rattle.si_map.proofs.WaitingFits.{known_unknown}
 use Rattle.si_map.proofs.search.known_fits.Goals as goal

@@ -3,30 +3,34 @@ use Rattle.si_map.proofs.search.Search.try_divisor.Goals as goal
 
 pub returns-in_default-clause-tried : goal.returns-in_default-clause-tried
 returns-in_default-clause-tried c =
-    spent_tried c.args.graph.now c.args.library.now c.args.divisor.now c.args.self.now
-    (none_spent c.args.graph.now c.args.library.now c.args.divisor.now c.args.self.now.bar c.in_ok-found.found
-    c.in_default.is (rw c.library.ensures at c.in_ok-found.ensures.answer))
+    let answer = rw c.library.ensures at c.in_ok-found.ensures.answer in
+    let spent = none_spent c.args.graph.now c.args.library.now c.args.divisor.now c.args.self.now.bar
+    c.in_ok-found.found c.in_default.is answer in
+    spent_tried c.args.graph.now c.args.library.now c.args.divisor.now c.args.self.now spent
 
 pub returns-in_default-clause-spent : goal.returns-in_default-clause-spent
 returns-in_default-clause-spent c =
+    let answer = rw c.library.ensures at c.in_ok-found.ensures.answer in
     none_spent c.args.graph.now c.args.library.now c.args.divisor.now c.args.self.now.bar c.in_ok-found.found
-    c.in_default.is (rw c.library.ensures at c.in_ok-found.ensures.answer)
+    c.in_default.is answer
 
 pub try_partition-requires-clause-proper : goal.try_partition-requires-clause-proper
 try_partition-requires-clause-proper c =
+    let answer = rw c.library.ensures at c.in_ok-found.ensures.answer in
     (found_stays c.args.graph.now c.args.library.now c.args.divisor.now c.in-Some.partition c.in_ok-found.found
-    c.requires.ready.coded c.requires.ready.proper c.in-Some.is (rw c.library.ensures at c.in_ok-found.ensures.answer)).0
+    c.requires.ready.coded c.requires.ready.proper c.in-Some.is answer).0
 
 pub try_partition-requires-clause-inputs : goal.try_partition-requires-clause-inputs
 try_partition-requires-clause-inputs c =
+    let answer = rw c.library.ensures at c.in_ok-found.ensures.answer in
     (found_stays c.args.graph.now c.args.library.now c.args.divisor.now c.in-Some.partition c.in_ok-found.found
-    c.requires.ready.coded c.requires.ready.proper c.in-Some.is (rw c.library.ensures at c.in_ok-found.ensures.answer)).1
+    c.requires.ready.coded c.requires.ready.proper c.in-Some.is answer).1
 
 pub returns-clause-tried : goal.returns-clause-tried
 returns-clause-tried c =
+    let answer = rw c.library.ensures at c.in_ok-found.ensures.answer in
     found_tried c.args.graph.now c.args.library.now c.args.divisor.now c.in-Some.partition c.args.self.now
-    c.try_partition.new.self c.in_ok-found.found c.in-Some.is (rw c.library.ensures at c.in_ok-found.ensures.answer)
-    c.in_ok-try_partition.ensures
+    c.try_partition.new.self c.in_ok-found.found c.in-Some.is answer c.in_ok-try_partition.ensures
 
 pub returns-clause-lower : goal.returns-clause-lower
 returns-clause-lower c =
@@ -35,6 +39,6 @@ returns-clause-lower c =
 
 pub returns-clause-spent : goal.returns-clause-spent
 returns-clause-spent c =
+    let answer = rw c.library.ensures at c.in_ok-found.ensures.answer in
     found_spent c.args.graph.now c.args.library.now c.args.divisor.now c.in-Some.partition c.args.self.now
-    c.try_partition.new.self c.in_ok-found.found c.in-Some.is (rw c.library.ensures at c.in_ok-found.ensures.answer)
-    c.in_ok-try_partition.ensures
+    c.try_partition.new.self c.in_ok-found.found c.in-Some.is answer c.in_ok-try_partition.ensures

@@ -1,9 +1,9 @@
 use Rattle.si_checks.specs.Lent.{coded_of}
-use Rattle.si_map.specs.Progress.{AreKnown, IsSearching}
+use Rattle.si_map.specs.Progress.{AreUpToDate, IsSearching}
 use Rattle.si_map.proofs.search.Search.try_signal.Given as goal
 
 abbrev pub invariant-loop-k : goal.invariant-loop-k
 invariant-loop-k l = record {
   searching : IsSearching (coded_of l.fn.graph) l.library l.fn.z l.k l.self;
-  known : AreKnown (coded_of l.fn.graph) l.library l.self.bar l.functions;
+  known : AreUpToDate (coded_of l.fn.graph) l.library l.self.bar l.functions;
 }
