@@ -1,7 +1,7 @@
 -- (command) What `resolve` and `insert` mean over the texts of their files: the graph after the
 -- insertions that resolve its conflicts, or after those of a netlist, as a text.
 use Rattle.std.specs.Prelude.{◌≡◌, ℕ, List, Ok, Err}
-use Rattle.si_audit.specs.Audit.{TakesAll, start_lineage}
+use Rattle.si_audit.specs.Audit.{TakesAll, given_history}
 use Rattle.si_audit.specs.Faults.{ShowsRejection}
 use Rattle.si_audit.specs.declared.fault.AuditFault.{AuditFault}
 use Rattle.si_base.specs.Codes.{CodedGraph}
@@ -42,7 +42,7 @@ pub record IsInsertRejection (states : List (List ℕ)) (coded : CodedGraph) (n 
 -- netlist: else the first reason against one
 abbrev pub lineage_with_insertions : (states : List (List ℕ)) → CodedGraph → Netlist
     → Stage TextRefusal History
-lineage_with_insertions states coded n (Ok l) = TakesAll states (start_lineage coded) n.inserts l
+lineage_with_insertions states coded n (Ok l) = TakesAll states (given_history coded) n.inserts l
 lineage_with_insertions states coded n (Err refusal) = IsInsertRejection states coded n refusal
 
 -- the text of a graph after the insertions of a netlist, whose gates aren't looked at
