@@ -1,5 +1,5 @@
 -- (command) Whether a netlist is certified for a graph.
-use Rattle.std.specs.Prelude.{◌≡◌, ℕ, ◌⊎◌, List, [], ◌∷◌, length, codes, decimal, Ok, Err, None}
+use Rattle.std.specs.Prelude.{◌≡◌, ℕ, ◌⊎◌, List, [], ◌∷◌, length, codes, Ok, Err, None}
 use Rattle.si_audit.specs.declared.fault.AuditFault.{AuditFault}
 use Rattle.si_audit.specs.declared.fault.AuditFault.TheVariants as fault
 use Rattle.si_audit.specs.Audit.{Certifies}
@@ -26,13 +26,14 @@ use Rattle.si_refusals.specs.declared.rejection.NamedRejection.TheVariants.{TooL
 use Rattle.si_sg.specs.CanonicalText.{event_word}
 use Rattle.si_sg.specs.GivenGraph.{IsGivenBy}
 use Rattle.si_readings.specs.Checks.{IsSound}
+use Rattle.si_stages.specs.Reports.{count_line}
 
 -- how many signals are inserted, how many states the last graph has, and how many gates there are
 abbrev pub audit_text : History → Netlist → List ℕ
 audit_text l n = text_of ((codes "audited" ∷ [])
-    ∷ (codes "inserted" ∷ decimal (length n.inserts) ∷ [])
-    ∷ (codes "states" ∷ decimal l.current.coded.graph.states ∷ [])
-    ∷ (codes "gates" ∷ decimal (length n.gates) ∷ []) ∷ [])
+    ∷ count_line (codes "inserted") (length n.inserts)
+    ∷ count_line (codes "states") l.current.coded.graph.states
+    ∷ count_line (codes "gates") (length n.gates) ∷ [])
 
 -- the output tells of the lineage that certifies the netlist, which so implements the graph
 pub record IsAudit (states : List (List ℕ)) (coded : CodedGraph) (n : Netlist) (output : List ℕ)

@@ -45,11 +45,15 @@ abbrev pub lineage_with_insertions : (states : List (List ℕ)) → CodedGraph �
 lineage_with_insertions states coded n (Ok l) = TakesAll states (given_history coded) n.inserts l
 lineage_with_insertions states coded n (Err refusal) = IsInsertRejection states coded n refusal
 
--- the gates of the netlist aren't looked at
+-- the text of a graph after the insertions of a netlist, whose gates aren't looked at
+abbrev pub inserted_text : (netlist : List ℕ) → Sg → Netlist → Stage TextRefusal (List ℕ)
+inserted_text netlist given n = do
+  coded ← proper given.graph given.states
+  _ ← match_lists netlist coded n
+  lineage ← lineage_with_insertions given.states coded n
+  current_text given lineage
+
 abbrev pub insert : (graph graph_text netlist netlist_text : List ℕ) → Stage TextRefusal (List ℕ)
 insert graph graph_text netlist netlist_text = do
   readings ← audit_readings graph graph_text netlist netlist_text
-  coded ← proper readings.given.graph readings.given.states
-  _ ← match_lists netlist coded readings.netlist
-  lineage ← lineage_with_insertions readings.given.states coded readings.netlist
-  current_text readings.given lineage
+  inserted_text netlist readings.given readings.netlist

@@ -8,7 +8,7 @@ use Rattle.si_readings.specs.Checks.{proper, match_lists}
 use Rattle.si_stages.specs.Mapping.{cells_text}
 use Rattle.si_readings.specs.Readings.{graph_in, mapping_readings}
 use Rattle.si_readings.specs.Readings.{audit_readings, replay_readings}
-use Rattle.si_stages.specs.Replayed.{replay_end}
+use Rattle.si_stages.specs.Replayed.{replayed_text}
 use Rattle.si_stages.specs.Reports.{report_text}
 use Rattle.si_stages.specs.Resolving.{resolution}
 use Rattle.si_stages.specs.Synthesis.{synthesis}
@@ -41,9 +41,7 @@ abbrev pub replay : ReplayReport
     → Stage TextRefusal (List ℕ)
 replay what graph graph_text netlist netlist_text schedule schedule_text = do
   readings ← replay_readings graph graph_text netlist netlist_text schedule schedule_text
-  coded ← proper readings.given.graph readings.given.states
-  _ ← match_lists netlist coded readings.netlist
-  replay_end what readings.given.graph readings.given.states readings.netlist readings.events
+  replayed_text what netlist readings.given readings.netlist readings.events
 
 abbrev pub audit : (graph graph_text netlist netlist_text : List ℕ) → Stage TextRefusal (List ℕ)
 audit graph graph_text netlist netlist_text = do

@@ -3,6 +3,7 @@ use Rattle.std.specs.Prelude.{◌≡◌, ℕ, List, [], ◌∷◌, length, codes
 use Rattle.std.specs.Prelude.{Some, slice_get, Ok, Err}
 use Rattle.si_base.specs.declared.ids.Event.{Event}
 use Rattle.si_base.specs.declared.graph.Signal.{Signal}
+use Rattle.si_base.specs.GivenGraph.{Sg}
 use Rattle.si_base.specs.Netlist.{Netlist}
 use Rattle.si_base.specs.Graph.{StateGraph}
 use Rattle.si_base.specs.NetlistText.{bits_from, name_of, word_if_any}
@@ -13,7 +14,8 @@ use Rattle.si_system.specs.declared.replay.Outcome.TheVariants as outcome
 use Rattle.si_system.specs.declared.verdict.Verdict.{Verdict}
 use Rattle.si_system.specs.declared.verdict.Verdict.TheVariants.{Done, Blocked, Astray, Lost}
 use Rattle.si_refusals.specs.Refusal.{TextRefusal, Differs}
-use Rattle.si_refusals.specs.Stages.{Stage}
+use Rattle.si_refusals.specs.Stages.{Stage, ◌>>=◌}
+use Rattle.si_readings.specs.Checks.{match_lists, proper}
 use Rattle.si_stages.specs.declared.replay_kind.ReplayReport.{ReplayReport}
 use Rattle.si_stages.specs.declared.replay_kind.ReplayReport.TheVariants.{End, Wave}
 use Rattle.si_wave.specs.Wave.{wave_text}
@@ -68,3 +70,11 @@ replay_end what graph states netlist events (Ok output) =
     IsReplay what graph states netlist events output
 replay_end what graph states netlist events (Err refusal) =
     IsDifference graph netlist events refusal
+
+-- the same over a graph that was read: it is proper, and the netlist has its lists
+abbrev pub replayed_text : ReplayReport → (netlist : List ℕ) → Sg → Netlist → List Event
+    → Stage TextRefusal (List ℕ)
+replayed_text what netlist given n events = do
+  coded ← proper given.graph given.states
+  _ ← match_lists netlist coded n
+  replay_end what given.graph given.states n events

@@ -9,6 +9,7 @@ ghost use Rattle.si_stages.specs.Audited as stage;
 ghost use Rattle.si_stages.specs.Audited.{IsAudit, IsCertified, IsNamedSo, TellsRejection};
 ghost use Rattle.si_stages.specs.Meaning as meaning;
 
+use crate::report::add_count;
 use si_audit::audit::audit;
 use si_audit::fault::AuditFault;
 use si_base::graph::Signal;
@@ -83,20 +84,11 @@ fn audit_text(alloc: Global, circuit: &Circuit) -> Result<Text, NoMemory>
 {
     let netlist = circuit.netlist();
     let last = circuit.resolved().lineage().current().coded().graph();
-    let Ok(inserted) = netlist.inserts().len().to_string(alloc) else {
-        return Err(NoMemory);
-    };
-    let Ok(states) = last.states().to_string(alloc) else {
-        return Err(NoMemory);
-    };
-    let Ok(gates) = netlist.gates().len().to_string(alloc) else {
-        return Err(NoMemory);
-    };
     let mut text = Text::copy_of(alloc, b"")?;
     add_line(&mut text, b"audited", &[])?;
-    add_line(&mut text, b"inserted", &[inserted.as_bytes()])?;
-    add_line(&mut text, b"states", &[states.as_bytes()])?;
-    add_line(&mut text, b"gates", &[gates.as_bytes()])?;
+    add_count(alloc, &mut text, b"inserted", netlist.inserts().len() as u64)?;
+    add_count(alloc, &mut text, b"states", u64::from(last.states()))?;
+    add_count(alloc, &mut text, b"gates", netlist.gates().len() as u64)?;
     Ok(text)
 }
 

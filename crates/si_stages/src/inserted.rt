@@ -1,8 +1,10 @@
 //! From the text of a graph to the text of the graph after insertions.
 
-ghost use Rattle.std.specs.Prelude.{◌≡◌, IfOk, IfErr, Ok, length};
+ghost use Rattle.std.specs.Prelude.{◌≡◌, ℕ, List, IfOk, IfErr, Ok, length};
 ghost use Rattle.si_base.specs.System.{IsFor};
+ghost use Rattle.si_readings.specs.Checks.{IsNamed};
 ghost use Rattle.si_refusals.specs.Ending.{MayStop, ending_of};
+ghost use Rattle.si_sg.specs.GivenGraph.{IsGivenBy, sg_now};
 ghost use Rattle.si_stages.specs.Inserted as stage;
 
 use crate::audited::rejection;
@@ -67,14 +69,31 @@ pub fn insert<'w>(
 {
     let readings = audit_readings(alloc, graph_file, graph, netlist_file, netlist)?;
     let AuditReadings { given, netlist } = readings;
+    inserted_text(alloc, given, netlist_file, &netlist)
+}
+
+/// The text of a graph that was read, after the insertions of the netlist.
+fn inserted_text<'w>(
+    alloc: Global,
+    given: Sg,
+    netlist_file: &'w str,
+    netlist: &Netlist,
+) -> Result<Text, Refusal<'w>>
+    requires given { (text : List ℕ) × IsGivenBy text (sg_now given) }
+    requires named { IsNamed given.graph given.states }
+    ensures ok { IfOk result (λ output. stage.inserted_text netlist_file.now (sg_now given)
+        netlist.now (Ok output)) }
+    ensures err { IfErr result (λ r. MayStop (stage.inserted_text netlist_file.now (sg_now given)
+        netlist.now) (ending_of r)) }
+{
     let Sg {
         model,
         graph,
         states,
     } = given;
     let proper = proper_of(alloc, graph, &states)?;
-    match_lists(netlist_file, proper.coded(), &netlist)?;
-    let lineage = lineage_with_insertions(alloc, proper, &states, &netlist)?;
+    match_lists(netlist_file, proper.coded(), netlist)?;
+    let lineage = lineage_with_insertions(alloc, proper, &states, netlist)?;
     let output = current_text(alloc, &lineage, &model, &states)?;
     Ok(output)
 }

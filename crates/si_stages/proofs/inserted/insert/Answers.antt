@@ -1,76 +1,44 @@
-use Rattle.std.proofs.Common.{List, Ok, ℕ, ap, subst}
-use Rattle.si_base.specs.Codes.{CodedGraph}
-use Rattle.si_base.specs.System.{IsFor}
-use Rattle.si_readings.proofs.CheckLemmas.{match_over}
-use Rattle.si_readings.proofs.ReadingRefusals.{stops}
+use Rattle.std.proofs.Common.{List, Ok, ℕ}
+use Rattle.si_readings.proofs.ReadingRefusals.{err_map, ok_map, stops}
 use Rattle.si_readings.proofs.ReadingLemmas.{audit_readings_are}
 use Rattle.si_readings.proofs.StageLemmas.{stop_first, stop_next}
 use Rattle.si_readings.specs.Readings.{audit_readings_now}
+use Rattle.si_refusals.specs.Ending.{MayStop}
 use Rattle.si_refusals.specs.Stages.{Passes}
-use Rattle.si_refusals.specs.declared.refusals.Refusal.TheVariants.{NoMemory}
-use Rattle.si_stages.proofs.InsertedTexts.{names_taken}
-use Rattle.si_stages.specs.Inserted.{insert}
+use Rattle.si_stages.specs.Inserted.{insert, inserted_text}
 use Rattle.si_stages.proofs.inserted.insert.Goals as goal
 
--- ---- where a stage refuses
+-- ---- where the readings refuse
 pub returns-in_err-readings-clause-err : goal.returns-in_err-readings-clause-err
 returns-in_err-readings-clause-err c =
     let a = c.args in
     stops (insert a.graph_file.now a.graph.now a.netlist_file.now a.netlist.now) c.from_residual.result _
     c.from_residual.ensures.1 (stop_first _ _ _ c.in_err-readings.ensures.err)
 
-pub returns-in_err-proper-clause-err : goal.returns-in_err-proper-clause-err
-returns-in_err-proper-clause-err c =
+-- ---- what the call asks for
+pub inserted_text-requires-clause-given : goal.inserted_text-requires-clause-given
+inserted_text-requires-clause-given c =
     let a = c.args in
-    stops (insert a.graph_file.now a.graph.now a.netlist_file.now a.netlist.now)
-    c.from_residual-in_err-proper.result _ c.from_residual-in_err-proper.ensures.1
-    (stop_next _ _ (audit_readings_now c.in_ok-readings.readings) _ c.in_ok-readings.ensures.ok
-    (stop_first _ _ _ c.in_err-proper.ensures.err))
+    let are = audit_readings_are a.graph_file.now a.graph.now a.netlist_file.now a.netlist.now
+    (audit_readings_now c.in_ok-readings.readings) c.in_ok-readings.ensures.ok in
+    (a.graph.now, are.given)
 
-pub returns-in_err-match_lists-clause-err : goal.returns-in_err-match_lists-clause-err
-returns-in_err-match_lists-clause-err c =
-    let a = c.args in
-    let read = audit_readings_now c.in_ok-readings.readings in
-    stops (insert a.graph_file.now a.graph.now a.netlist_file.now a.netlist.now)
-    c.from_residual-in_err-match_lists.result _ c.from_residual-in_err-match_lists.ensures.1
-    (stop_next _ _ read _ c.in_ok-readings.ensures.ok
-    (stop_next _ _ c.in_ok-proper.proper _ c.in_ok-proper.ensures.ok
-    (stop_first _ _ _ (match_over a.netlist_file.now _ _ read.netlist _ c.coded.ensures.same
-    c.in_err-match_lists.ensures.err))))
-
-pub returns-in_err-lineage-clause-err : goal.returns-in_err-lineage-clause-err
-returns-in_err-lineage-clause-err c =
-    let a = c.args in
-    let read = audit_readings_now c.in_ok-readings.readings in
-    let fits = subst (λ (k : CodedGraph). IsFor k read.netlist) c.coded.ensures.same c.in_ok-match_lists.ensures.ok in
-    stops (insert a.graph_file.now a.graph.now a.netlist_file.now a.netlist.now)
-    c.from_residual-in_err-lineage.result _ c.from_residual-in_err-lineage.ensures.1
-    (stop_next _ _ read _ c.in_ok-readings.ensures.ok
-    (stop_next _ _ c.in_ok-proper.proper _ c.in_ok-proper.ensures.ok
-    (stop_next _ _ tt _ fits (stop_first _ _ _ c.in_err-lineage.ensures.err))))
-
-pub returns-in_err-output-clause-err : goal.returns-in_err-output-clause-err
-returns-in_err-output-clause-err c =
-    let a = c.args in
-    stops (insert a.graph_file.now a.graph.now a.netlist_file.now a.netlist.now)
-    c.from_residual-in_err-output.result NoMemory c.from_residual-in_err-output.ensures.1 tt
-
--- ---- what the calls ask for
-pub current_text-requires : goal.current_text-requires
-current_text-requires c =
-    let a = c.args in
-    let read = audit_readings_now c.in_ok-readings.readings in
-    let are = audit_readings_are a.graph_file.now a.graph.now a.netlist_file.now a.netlist.now read
-    c.in_ok-readings.ensures.ok in
-    names_taken a.graph.now read.given c.in_ok-proper.proper read.netlist c.in_ok-lineage.lineage are.given
-    c.in_ok-proper.ensures.ok c.in_ok-lineage.ensures.ok
-
--- ---- the output
+-- ---- the text after the insertions
 pub returns-clause-ok : goal.returns-clause-ok
 returns-clause-ok c =
+    let a = c.args in
     let read = audit_readings_now c.in_ok-readings.readings in
-    let proper = c.in_ok-proper.proper in
-    let fits = subst (λ (k : CodedGraph). IsFor k read.netlist) c.coded.ensures.same c.in_ok-match_lists.ensures.ok in
-    Passes read c.in_ok-readings.ensures.ok (Passes proper c.in_ok-proper.ensures.ok (Passes tt fits
-    (Passes c.in_ok-lineage.lineage c.in_ok-lineage.ensures.ok
-    (ap (λ (t : List ℕ). Ok t) c.in_ok-output.ensures.text))))
+    ok_map c.inserted_text.result
+    (λ (text : List ℕ). inserted_text a.netlist_file.now read.given read.netlist (Ok text))
+    (λ (text : List ℕ). insert a.graph_file.now a.graph.now a.netlist_file.now a.netlist.now (Ok text))
+    (λ text told. Passes read c.in_ok-readings.ensures.ok told)
+    c.inserted_text.ensures.ok
+
+pub returns-clause-err : goal.returns-clause-err
+returns-clause-err c =
+    let a = c.args in
+    let read = audit_readings_now c.in_ok-readings.readings in
+    err_map c.inserted_text.result (MayStop (inserted_text a.netlist_file.now read.given read.netlist))
+    (MayStop (insert a.graph_file.now a.graph.now a.netlist_file.now a.netlist.now))
+    (λ e may. stop_next _ _ read e c.in_ok-readings.ensures.ok may)
+    c.inserted_text.ensures.err

@@ -1,7 +1,3 @@
-use Rattle.std.proofs.Common.{◌≡◌, ◌∙◌, ap}
-use Rattle.si_base.specs.Netlist.{Netlist}
-use Rattle.si_base.specs.NetlistText.{netlist_text}
-use Rattle.si_circuit.specs.Circuits.{circuit_of}
 use Rattle.si_refusals.specs.Stages.{Passes}
 use Rattle.si_refusals.specs.declared.refusals.Refusal.TheVariants.{NoMemory}
 use Rattle.si_sg.specs.GivenGraph.{sg_now}
@@ -36,15 +32,15 @@ pub resolution-requires-clause-given : goal.resolution-requires-clause-given
 resolution-requires-clause-given c =
     given_signals c.args.text.now (sg_now c.in_ok-model.field-0) c.in_ok-model.ensures.ok
 
-pub of_style-requires-clause-spelled : goal.of_style-requires-clause-spelled
-of_style-requires-clause-spelled c =
+pub gates_text-requires-clause-spelled : goal.gates_text-requires-clause-spelled
+gates_text-requires-clause-spelled c =
     let given = sg_now c.in_ok-model.field-0 in
     let l = c.in_ok-resolved.resolved in
     let is = resolution_is given.graph given.states l c.in_ok-resolved.ensures.ok in
     (given_lineage c.args.text.now given l c.in_ok-model.ensures.ok is).spelled
 
-pub of_style-requires-clause-states : goal.of_style-requires-clause-states
-of_style-requires-clause-states c =
+pub gates_text-requires-clause-states : goal.gates_text-requires-clause-states
+gates_text-requires-clause-states c =
     let given = sg_now c.in_ok-model.field-0 in
     let l = c.in_ok-resolved.resolved in
     let is = resolution_is given.graph given.states l c.in_ok-resolved.ensures.ok in
@@ -58,8 +54,6 @@ returns-clause-ok c =
     let l = c.in_ok-resolved.resolved in
     let resolves = c.in_ok-resolved.ensures.ok in
     let is = resolution_is given.graph given.states l resolves in
-    let made = circuit_of style given.model given.states l in
-    let netlist : c.netlist.result.now ≡ made = c.netlist.ensures.same ∙ c.in-Ok.ensures.netlist in
-    let text = c.in_ok-output.ensures ∙ ap (λ (n : Netlist). netlist_text n) netlist in
-    let output = is_synthesis style c.args.text.now given l c.in_ok-output.output c.in_ok-model.ensures.ok is text in
+    let output = is_synthesis style c.args.text.now given l c.in_ok-output.output c.in_ok-model.ensures.ok is
+    c.in_ok-output.ensures in
     Passes given c.in_ok-model.ensures.ok (Passes l resolves output)
