@@ -86,7 +86,12 @@ fn audit_text(alloc: Global, circuit: &Circuit) -> Result<Text, NoMemory>
     let last = circuit.resolved().lineage().current().coded().graph();
     let mut text = Text::copy_of(alloc, b"")?;
     add_line(&mut text, b"audited", &[])?;
-    add_count(alloc, &mut text, b"inserted", netlist.inserts().len() as u64)?;
+    add_count(
+        alloc,
+        &mut text,
+        b"inserted",
+        netlist.inserts().len() as u64,
+    )?;
     add_count(alloc, &mut text, b"states", u64::from(last.states()))?;
     add_count(alloc, &mut text, b"gates", netlist.gates().len() as u64)?;
     Ok(text)

@@ -15,4 +15,3 @@ add_names-requires-2 c =
     c.in_ok-add_names.ensures ∙ ap (λ (l : List (List ℕ)). l ++ c.args.header.now.inputs) c.in_ok-names.ensures in
     subst (λ (l : List (List ℕ)). Apart (l ++ c.args.header.now.outputs)) (sym is)
     (apart_front (c.args.header.now.inputs ++ c.args.header.now.outputs) c.args.header.now.internals c.requires.apart)
-
