@@ -216,8 +216,7 @@ fn start_from(arcs: &[Edge], low: usize, s: usize) -> usize
 
 /// Whether there is an arc at the place, and it leaves a state below `s`.
 fn leaves_below(arcs: &[Edge], place: usize, s: usize) -> bool
-    ensures { IsTrue result
-        ↔ ((place < length arcs.now) × ((edge_at arcs.now place).from < s)) }
+    ensures { IsTrue result ↔ ((place < length arcs.now) × ((edge_at arcs.now place).from < s)) }
 {
     match arcs.get(place) {
         Some(arc) => (arc.from.0 as usize) < s,
