@@ -124,7 +124,8 @@ module _ (g : StateGraph) (plus minus others : List Bool) (are : AreMarksOf g (I
 
   -- the end of a path that begins beside a block is reached
   back_path : (marks : List Bool) → Spreads g plus minus others marks [] → (s : ℕ) (path : List ℕ) (t : ℕ)
-      → IsOther g plus minus s → PathOf g (IsOther g plus minus) s path t → (ComesFrom g plus t ⊎ GoesInto g minus t) → IsIn marks s
+      → IsOther g plus minus s → PathOf g (IsOther g plus minus) s path t
+      → (ComesFrom g plus t ⊎ GoesInto g minus t) → IsIn marks s
   back_path marks x s [] t other path by =
       x.begun s (subst (λ (u : ℕ). ComesFrom g plus u ⊎ GoesInto g minus u) (sym path) by, other)
   back_path marks x s (u ∷ us) t other path by = elim (x.closed u (back_path marks x u us t path.1 path.2 by)) [

@@ -1,5 +1,5 @@
 -- Worked examples of chosen netlists and their texts.
-use Rattle.std.proofs.Common.{◌≡◌, ℕ, true, false, List, [], ◌∷◌, refl, codes}
+use Rattle.std.proofs.Common.{◌≡◌, ◌++◌, ℕ, true, false, List, [], ◌∷◌, refl, codes}
 use Rattle.si_base.specs.declared.ids.Literal.{Literal}
 use Rattle.si_base.specs.declared.graph.Signal.{Signal}
 use Rattle.si_base.specs.declared.graph.SigKind.TheVariants.{Input, Output}
@@ -38,8 +38,8 @@ c_element = record {
 
 -- as a complex gate it is the majority of a, b and c itself
 c_element_complex : netlist_text (chosen_netlist Complex (codes "c2") c_element)
-    ≡ codes
-    ".version 2\n.model c2\n.inputs a b\n.outputs c\n.internal\n.inserted\n.start 000\n.gates\nc sum a b + b c + a c\n.end\n"
+    ≡ codes ".version 2\n.model c2\n.inputs a b\n.outputs c\n.internal\n.inserted\n.start 000\n"
+    ++ codes ".gates\nc sum a b + b c + a c\n.end\n"
 unfolding netlist_text netlist_of chosen_sum
 c_element_complex = refl
 

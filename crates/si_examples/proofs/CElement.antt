@@ -1,6 +1,6 @@
 -- The two-input C-element: the definitions at work.
 use Rattle.std.proofs.Common.{◌≡◌, ℕ, ◌==◌, ◌&&◌, ◌||◌, not, Bool, true, false, List, [], ◌∷◌, refl, Some, None, codes}
-use Rattle.std.proofs.Common.{nat_le, lit<, leb-true, sym, eqb-true, inl, inr}
+use Rattle.std.proofs.Common.{◌++◌, nat_le, lit<, leb-true, sym, eqb-true, inl, inr}
 use Rattle.si_base.specs.declared.ids.Event.{Event}
 use Rattle.si_base.specs.declared.ids.Literal.{Literal}
 use Rattle.si_base.specs.declared.graph.Signal.{Signal}
@@ -215,8 +215,9 @@ b_changes : parity (rise 0 ∷ rise 1 ∷ fall 0 ∷ []) ≡ 2
 b_changes = refl
 
 -- ---- the text of the netlist
-majority_text : netlist_text majority ≡ codes
-    ".version 2\n.model c2\n.inputs a b\n.outputs c\n.internal\n.inserted\n.start 000\n.gates\nc sum a b + b c + a c\n.end\n"
+majority_text : netlist_text majority
+    ≡ codes ".version 2\n.model c2\n.inputs a b\n.outputs c\n.internal\n.inserted\n.start 000\n"
+    ++ codes ".gates\nc sum a b + b c + a c\n.end\n"
 unfolding netlist_text
 majority_text = refl
 

@@ -8,7 +8,7 @@ ghost use Rattle.si_stages.specs.Genlib as stage;
 ghost use Rattle.si_stages.specs.Genlib.{IsItsLibrary};
 ghost use Rattle.si_stages.specs.Meaning.{mapping};
 ghost use Rattle.si_readings.specs.Readings.{TellsFault};
-ghost use Rattle.si_readings.specs.declared.library_format.LibraryFormat.TheVariants as library_format;
+ghost use Rattle.si_readings.specs.declared.library_format.LibraryFormat.TheVariants as formats;
 
 use si_base::text::Text;
 use si_genlib::write::write_library;
@@ -48,6 +48,6 @@ pub fn genlib_texts_become_libraries()
 pub fn gates_are_mapped_as_their_cells()
     ensures { (graph graph_text gates gates_text cells cells_text output : List ℕ)
         → stage.genlib gates gates_text (Ok cells_text)
-        → mapping library_format.Genlib graph graph_text gates gates_text (Ok output)
-        ↔ mapping library_format.Own graph graph_text cells cells_text (Ok output) }
+        → mapping formats.Genlib graph graph_text gates gates_text (Ok output)
+        ↔ mapping formats.Own graph graph_text cells cells_text (Ok output) }
 {}

@@ -44,8 +44,8 @@ returns-in_err-output-clause-err c =
 -- ---- what the calls ask for
 pub current_text-requires : goal.current_text-requires
 current_text-requires c =
-    names_taken c.requires.given.0 (sg_now c.args.given) c.in_ok-proper.proper c.args.netlist.now c.in_ok-lineage.lineage
-    c.requires.given.1 c.in_ok-proper.ensures.ok c.in_ok-lineage.ensures.ok
+    names_taken c.requires.given.0 (sg_now c.args.given) c.in_ok-proper.proper c.args.netlist.now
+    c.in_ok-lineage.lineage c.requires.given.1 c.in_ok-proper.ensures.ok c.in_ok-lineage.ensures.ok
 
 -- ---- the output
 pub returns-clause-ok : goal.returns-clause-ok
