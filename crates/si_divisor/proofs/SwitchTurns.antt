@@ -28,14 +28,6 @@ use Rattle.si_divisor.proofs.SwitchRuleLemmas.{each_on, low_or_high, input_is_no
 use Rattle.si_divisor.proofs.WordBits.{in_and, in_or, in_not, in_less, bit_few, no_bit_of_none}
 
 -- ---- from one work to the next
-pub sized_on : (n : ℕ) (Q : ℕ → ℕ → Type 0) (old new : WordWork) → IsSized n old → Grows Q old new → IsSized n new
-sized_on n Q old new size m =
-    record { words = m.size ∙ size.words; waiting = m.work_size ∙ size.waiting }
-
-pub have_on : (Q : ℕ → ℕ → Type 0) (sets x : ℕ) (old new : WordWork) → Grows Q old new → HaveAll sets old x
-    → HaveAll sets new x
-have_on Q sets x old new m have k has = m.grows k x (have k has)
-
 pub marked_on : (Q : ℕ → ℕ → Type 0) (old new : WordWork) → Grows Q old new → (k t : ℕ)
     → IsIn (column k old.words.items) t → IsIn (column k new.words.items) t
 marked_on Q old new m k t i =
@@ -66,17 +58,10 @@ spreads_all_as P R words work new_words new_work p r m = record {
   all = λ k t has. m.all k t (r k t has);
 }
 
-pub all_there : (R : ℕ → ℕ → Type 0) (work : WordWork) → ((k t : ℕ) → R k t → HasBit work.words.items k t)
-    → GrowsAll R work work
-all_there R work there = record { spreads = grows_none R work; all = there }
-
 -- ---- in a loop over arcs: what P says of the arcs before a place is there
 abbrev pub DoneTo : (ℕ → Edge → ℕ → Type 0) → List Edge → ℕ → WordWork → Type 0
 DoneTo P arcs n work =
     (j : ℕ) (a : Edge) → j < n → get_or arcs j a ≡ a → (k t : ℕ) → P k a t → HasBit work.words.items k t
-
-pub done_none : (P : ℕ → Edge → ℕ → Type 0) (arcs : List Edge) (work : WordWork) → DoneTo P arcs 0 work
-done_none P arcs work j a early at k t p = absurd (omega (arith, early))
 
 pub done_more : (P : ℕ → Edge → ℕ → Type 0) (Q : ℕ → ℕ → Type 0) (arcs : List Edge) (n : ℕ) (a : Edge)
     (old new : WordWork) → n < length arcs → a ≡ get_or arcs n a
@@ -98,11 +83,6 @@ done_all P arcs n work all done a (j, inside, at) k t p = done j a (omega (arith
 abbrev pub PassedTo : StateGraph → (ℕ → Edge → ℕ → Type 0) → ℕ → ℕ → WordWork → Type 0
 PassedTo g P s n work = (j : ℕ) → j < n → j < length g.edges → IsInto g.edges s j → (k t : ℕ)
     → P k (edge_at g.edges j) t → HasBit work.words.items k t
-
-pub walk_begins : (g : StateGraph) (P : ℕ → Edge → ℕ → Type 0) (s : ℕ) (at : Option ℕ) (work : WordWork)
-    → IsFirstPlace (IsInto g.edges s) 0 (length g.edges) at → PassedTo g P s (place_in_walk g at) work
-walk_begins g P s at work first j before inside into k t p =
-    absurd (none_between g [] s 0 at first j (omega arith) before inside into)
 
 pub walk_goes_on : (g : StateGraph) (P : ℕ → Edge → ℕ → Type 0) (Q : ℕ → ℕ → Type 0) (s n : ℕ) (next : Option ℕ)
     (old new : WordWork) → IsFirstPlace (IsInto g.edges s) (n + 1) (length g.edges) next
@@ -365,10 +345,6 @@ pub record AreInsideTo (given : ℕ) (words within : List ℕ) (n kept : ℕ) : 
   pub given_too : (k : ℕ) → bit kept k ≡ true → bit given k ≡ true
   pub others : (k : ℕ) → k < 128 → bit given k ≡ true → (bit kept k ≡ true) ⊎ ((s : ℕ) × HasBit words k s
       × (bit (get_or within s 0) k ≡ false))
-
-pub all_inside : (given : ℕ) (words within : List ℕ) → given < 2 ^ 128 → AreInsideTo given words within 0 given
-all_inside given words within fits =
-    record { fits = fits; given_too = λ k is. is; others = λ k few is. inl is }
 
 pub inside_more : (given : ℕ) (words within : List ℕ) (n kept v w : ℕ) → v < 2 ^ 128 → w < 2 ^ 128
     → v ≡ get_or words n 0 → w ≡ get_or within n 0 → AreInsideTo given words within n kept
