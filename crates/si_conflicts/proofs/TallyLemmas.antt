@@ -1,14 +1,16 @@
 -- Tallies of copies, and the pass over members that counts with them.
 use Rattle.std.proofs.Common.{◌≡◌, ◌≢◌, ℕ, ◌+◌, ◌<◌, ◌≤◌, ◌==◌, ◌&&◌, Bool, true, false, not, cond, List, [], ◌∷◌, ◌++◌}
 use Rattle.std.proofs.Common.{length, map, take, get_or, All, count_by, refl, sym, ap, subst, ◌∙◌, arith, inl, inr}
-use Rattle.std.proofs.Common.{Less, ne_eqb, lt-ltb}
+use Rattle.std.proofs.Common.{ne_eqb, lt-ltb}
 use Rattle.std.proofs.lemmas.Bool.{cases_eq, cases_order, true≢false}
 use Rattle.std.proofs.lemmas.List.{take_more, get_or_default, length-map, length-take-le, map-append}
 use Rattle.std.proofs.lemmas.List.Elements.{All-weaker, All-more, All-map}
 use Rattle.std.proofs.lemmas.List.Sums.{count_by-le-length, sum_by-le-sum_by}
 use Rattle.std.specs.List.{sum_by}
 use Rattle.std.specs.List.Sorted.{IsSorted}
-use Rattle.std.specs.Ordering.{nat_cmp, is_lt}
+use Rattle.std.specs.Ordering.{nat_cmp, is_lt, ordering_then}
+use Rattle.std.specs.declared.cmp.Ordering.{Ordering}
+use Rattle.std.specs.declared.cmp.Ordering.TheVariants.{Less, Equal, Greater}
 use Rattle.si_base.specs.Limits.{max_states}
 use Rattle.si_base.proofs.OrderAscending.{nat_same}
 use Rattle.si_insert.specs.declared.partition.Class.{Class}
@@ -19,6 +21,7 @@ use Rattle.si_conflicts.specs.declared.tally.Role.{Role}
 use Rattle.si_conflicts.specs.declared.tally.Role.TheVariants.{Absent, Plain, Switching}
 use Rattle.si_conflicts.specs.declared.tally.Tally.{Tally}
 use Rattle.si_conflicts.specs.Chains.{member_cmp}
+use Rattle.si_conflicts.specs.Keys.{key_cmp}
 use Rattle.si_conflicts.specs.Apart.{role_at, is_plain, is_switching, RoleAndKey, are_apart, role_and_key, stable_count}
 use Rattle.si_conflicts.specs.Apart.{pair_sum}
 use Rattle.si_conflicts.specs.Apart.{IsUpTo, AreUpTo, equal_keys, IsTally, HasTally}
@@ -174,23 +177,32 @@ tally_same from to copies t is codes excited =
     let same : from ≡ to = λ i. record { code = codes i; excited = excited i } in
     subst (λ k. IsTally k copies t) same is
 
--- ---- the order of members
+-- ---- the order of keys and of members
 less_code : (a b : ℕ) → a < b → nat_cmp a b ≡ Less
 less_code a b below = rw (lt-ltb a b below) refl
 
-pub up_to : (x y : Member) → is_lt (member_cmp y x) ≡ false → IsUpTo x.key y.key
-up_to x y sorted = elim (cases_order x.key.code y.key.code) [
+pub key_up_to : (x y : Key) → is_lt (key_cmp y x) ≡ false → IsUpTo x y
+key_up_to x y sorted = elim (cases_order x.code y.code) [
   | inr (inl before) ↦ inl before
-  | inr (inr after) ↦ absurd (true≢false (rw (less_code y.key.code x.key.code after) at sorted))
-  | inl same ↦ elim (cases_order x.key.excited y.key.excited) [
+  | inr (inr after) ↦ absurd (true≢false (rw (less_code y.code x.code after) at sorted))
+  | inl same ↦ elim (cases_order x.excited y.excited) [
     | inl equal ↦ inr (same, omega arith)
     | inr (inl before) ↦ inr (same, omega arith)
     | inr (inr after) ↦ absurd (true≢false (rw (
-      ap (λ k. nat_cmp y.key.code k) same ∙ nat_same y.key.code,
-      less_code y.key.excited x.key.excited after,
+      ap (λ k. nat_cmp y.code k) same ∙ nat_same y.code,
+      less_code y.excited x.excited after,
     ) at sorted))
   ]
 ]
+
+not_less : (o p : Ordering) → is_lt (ordering_then o p) ≡ false → is_lt o ≡ false
+not_less Less p is = is
+not_less Equal p is = refl
+not_less Greater p is = refl
+
+pub up_to : (x y : Member) → is_lt (member_cmp y x) ≡ false → IsUpTo x.key y.key
+up_to x y sorted =
+    key_up_to x.key y.key (not_less (key_cmp y.key x.key) (nat_cmp y.state x.state) sorted)
 
 -- ---- one member more
 abbrev pub tallied_to : List Class → Bool → List Member → ℕ → List RoleAndKey
