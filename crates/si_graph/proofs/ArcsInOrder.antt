@@ -9,6 +9,7 @@ use Rattle.si_base.specs.declared.graph.Edge.{Edge}
 use Rattle.si_base.specs.EdgeOrder.{edge_cmp}
 use Rattle.si_base.proofs.OrderAscending.{In, after_head}
 use Rattle.si_base.proofs.GivenGraphUnique.{in_from_contains, contains_from_in, edges_total}
+use Rattle.si_graph.specs.Groups.{AreOrdered}
 use Rattle.si_graph.proofs.ArcFacts.{edge_ties, edge_eq-true}
 
 all_from_in : {K : Type 0} (P : K → Type 0) (xs : List K) → ((a : K) → In a xs → P a) → AllByRecursion P xs
@@ -114,12 +115,6 @@ module _ {K : Type 0} (c : K → K → Ordering) (total : IsTotalOrder c) (tied 
 -- ---- arcs
 arcs_tied : (x y : Edge) → edge_cmp x y ≡ Equal → x ≡ y
 arcs_tied x y same = edge_eq-true x y (edge_ties x y ∙ ap is_eq same)
-
--- the arcs in order, each once
-pub record AreOrdered (arcs ordered : List Edge) : Type 0 where
-  pub sorted : IsStrictlySortedBy edge_cmp ordered
-  pub same : (a : Edge) → Contains ordered a ↔ Contains arcs a
-  pub no_longer : length ordered ≤ length arcs
 
 pub arcs_in_order : (arcs : List Edge) → (ordered : List Edge) × AreOrdered arcs ordered
 arcs_in_order arcs =

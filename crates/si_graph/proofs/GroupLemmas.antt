@@ -1,12 +1,14 @@
 -- Arcs gathered in groups by their sources.
 use Rattle.std.proofs.Common.{◌≡◌, ℕ, ◌<◌, ◌≤◌, ◌+◌, sym, subst, ◌∙◌, ap, List, [], ◌∷◌, ◌++◌, length, get_or, All}
-use Rattle.std.proofs.Common.{Contains, arith, inl, inr}
-use Rattle.std.specs.List.{dedup}
+use Rattle.std.proofs.Common.{Contains, Ordering, Less, Equal, Greater, true, refl, arith, inl, inr}
+use Rattle.std.specs.List.{AllAdjacentBelow, dedup}
+use Rattle.std.specs.Ordering.{is_lt}
 use Rattle.std.specs.List.Sorted.{IsPermutation, IsStrictlySortedBy}
 use Rattle.std.proofs.lemmas.Bool.{cases_lt, cases_order}
 use Rattle.std.proofs.lemmas.List.{get_or_default}
 use Rattle.std.proofs.lemmas.List.Elements.{All-contains, Contains-get_or, Contains-push, Contains-push_cases}
 use Rattle.std.proofs.lemmas.List.Elements.{Contains-append_left, Contains-append_right, Contains-append_cases}
+use Rattle.std.proofs.lemmas.Map.Keys.{sorted_from_all_adjacent}
 use Rattle.std.proofs.lemmas.List.Kept.{Contains-dedup, Contains-from_dedup}
 use Rattle.std.proofs.lemmas.List.Sorted.{Contains-permutation, IsPermutation-sym}
 use Rattle.si_base.specs.declared.graph.Edge.{Edge}
@@ -15,10 +17,11 @@ use Rattle.si_base.proofs.GivenGraphUnique.{same_edges}
 use Rattle.si_graph.specs.Arcs.{edge_at, no_edge}
 use Rattle.si_graph.specs.Chains.{IsFirstOrEnd}
 use Rattle.si_graph.specs.Ends.{source}
-use Rattle.si_graph.specs.Groups.{IsGroup, AreGroups, HaveSameArcs}
+use Rattle.si_graph.specs.Groups.{IsGroup, AreGroups, AreOrdered, HaveSameArcs}
 use Rattle.si_graph.proofs.ArcFacts.{edge_eq, edge_eq_equiv, edge_eq-true}
-use Rattle.si_graph.proofs.ArcsInOrder.{AreOrdered, arcs_in_order}
+use Rattle.si_graph.proofs.ArcsInOrder.{arcs_in_order}
 use Rattle.si_graph.proofs.ListMembers.{Contains-nil}
+use Rattle.si_graph.proofs.OrderLemmas.{edge_total}
 
 -- ---- one group
 -- the arcs out of s that stand before k are gathered, and no others; one stands at k, unless k is
@@ -124,3 +127,18 @@ module _ (xs gathered sorted : List Edge) (same : HaveSameArcs gathered xs)
       let equal : dedup edge_eq sorted ≡ ordered.0 = same_edges (dedup edge_eq sorted) ordered.0 rising is.sorted
       (λ a there. (is.same a).1 ((same_once a).0 there)) (λ a there. (same_once a).1 ((is.same a).0 there)) in
       record { sorted = rising; same = same_once; no_longer = omega (arith, ap length equal, is.no_longer) }
+
+-- ---- arcs that are in order already
+is_less : (o : Ordering) → true ≡ is_lt o → o ≡ Less
+is_less Less h = refl
+is_less Equal h = cc
+is_less Greater h = cc
+
+pub ordered_already : (arcs : List Edge)
+    → AllAdjacentBelow (λ (x y : Edge). true ≡ is_lt (edge_cmp x y)) arcs (length arcs) → AreOrdered arcs arcs
+ordered_already arcs rise = record {
+  sorted = sorted_from_all_adjacent edge_total arcs no_edge
+      (λ k below. is_less _ (rise k no_edge below));
+  same = λ a. (λ there. there, λ there. there);
+  no_longer = omega arith;
+}

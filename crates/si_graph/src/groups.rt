@@ -2,7 +2,7 @@
 
 ghost use Rattle.std.specs.Prelude.{◌≡◌, ℕ, ◌<◌, ◌^◌, All, IfOk, OnOk, length};
 ghost use Rattle.si_graph.specs.Ends.{AreChained};
-ghost use Rattle.si_graph.specs.Groups.{AreGroups, HaveSameArcs, IsGroup};
+ghost use Rattle.si_graph.specs.Groups.{AreGroups, AreOrdered, HaveSameArcs, IsGroup};
 ghost use Rattle.si_graph.specs.declared.chain.End.TheVariants.{Source};
 
 use crate::chain::{Chain, End};
@@ -10,17 +10,21 @@ use si_base::graph::Edge;
 use si_base::ids::{NoMemory, StateId};
 use std::alloc::Global;
 
-/// The same arcs, grouped by source unless they are in order. Groups go by sources, and each is in
-/// order, so that to sort all of them takes one pass. It fails only where memory runs out.
-pub(crate) fn group_arcs(alloc: Global, states: u32, arcs: Vec<Edge>) -> Result<Vec<Edge>, NoMemory>
+/// The same arcs in order, each once. Those that aren't are grouped by source first: groups go by
+/// sources, and each is in order, so that to sort all of them takes one pass. It fails only where
+/// memory runs out.
+pub(crate) fn in_order(alloc: Global, states: u32, arcs: Vec<Edge>) -> Result<Vec<Edge>, NoMemory>
     requires few { length arcs.items < 2 ^ 32 }
     requires within { All (λ a. a.from < states) arcs.items }
-    ensures { IfOk result (λ grouped. HaveSameArcs grouped.items arcs.items) }
+    ensures { IfOk result (λ ordered. AreOrdered arcs.items ordered.items) }
 {
-    if arcs.is_sorted() {
+    if arcs.is_sorted_by(|a, b| *a < *b) {
         return Ok(arcs);
     }
-    all_groups(alloc, states, arcs.as_slice())
+    let mut ordered = all_groups(alloc, states, arcs.as_slice())?;
+    ordered.sort_unstable();
+    ordered.dedup();
+    Ok(ordered)
 }
 
 /// The groups of all states.

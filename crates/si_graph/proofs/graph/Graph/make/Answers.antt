@@ -1,9 +1,6 @@
 use Rattle.std.proofs.Common.{◌<◌, ◌∙◌, ℕ, ap, arith, refl, length}
-use Rattle.std.proofs.lemmas.List.Filters.{dedup_is}
-use Rattle.std.proofs.lemmas.List.Kept.{IsStrictlySortedBy-dedup}
-use Rattle.si_graph.proofs.OrderLemmas.{edge_total}
-use Rattle.si_graph.proofs.ArcFacts.{IsInside, edge_ties}
-use Rattle.si_graph.proofs.GroupLemmas.{all_in_order, once_in_order}
+use Rattle.si_graph.proofs.ArcFacts.{IsInside}
+use Rattle.si_graph.proofs.GroupLemmas.{all_in_order}
 use Rattle.si_base.specs.declared.graph.Edge.{Edge}
 use Rattle.si_graph.specs.Chains.{StoredArcs}
 use Rattle.si_graph.proofs.graph.Graph.make.Goals as goal
@@ -13,48 +10,32 @@ abbrev JoinsBelow : ℕ → Edge → Type 0
 JoinsBelow states a = (a.from < states) × (a.to < states)
 
 pub build-requires-clause-few : goal.build-requires-clause-few
-build-requires-clause-few c =
-    let is = dedup_is _ _ _ c.dedup.ensures.filtered in
-    let ordered = once_in_order _ _ _ c.in_ok-edges.ensures c.sort_unstable.ensures.permutation
-    (IsStrictlySortedBy-dedup edge_total edge_ties _ c.sort_unstable.ensures.sorted) in
-    omega (arith, ap length is, ordered.no_longer, c.requires.few_edges)
+build-requires-clause-few c = omega (arith, c.in_ok-edges.ensures.no_longer, c.requires.few_edges)
 
 pub build-requires-clause-within : goal.build-requires-clause-within
 build-requires-clause-within c =
-    let is = dedup_is _ _ _ c.dedup.ensures.filtered in
-    let ordered = once_in_order _ _ _ c.in_ok-edges.ensures c.sort_unstable.ensures.permutation
-    (IsStrictlySortedBy-dedup edge_total edge_ties _ c.sort_unstable.ensures.sorted) in
-    rw is (all_in_order (JoinsBelow c.args.states) _ _ ordered.same
-    (λ k d below. let both = c.requires.within k d below in (both.0, both.2)))
-
-pub build-requires-clause-ordered : goal.build-requires-clause-ordered
-build-requires-clause-ordered c =
-    let is = dedup_is _ _ _ c.dedup.ensures.filtered in
-    rw is (IsStrictlySortedBy-dedup edge_total edge_ties _ c.sort_unstable.ensures.sorted)
+    all_in_order (JoinsBelow c.args.states) _ _ c.in_ok-edges.ensures.same
+    (λ k d below. let both = c.requires.within k d below in (both.0, both.2))
 
 pub invariant_of-result : goal.invariant_of-result
 invariant_of-result c =
-    let is = dedup_is _ _ _ c.dedup.ensures.filtered in
     let inside = IsInside c.args.states (length c.args.signals.items) in
-    let ordered = once_in_order _ _ _ c.in_ok-edges.ensures c.sort_unstable.ensures.permutation
-    (IsStrictlySortedBy-dedup edge_total edge_ties _ c.sort_unstable.ensures.sorted) in
+    let ordered = c.in_ok-edges.ensures in
     rw c.in_ok-arcs.ensures (record {
       few_states = c.requires.few_states;
       few_signals = c.requires.few_signals;
-      few_edges = omega (arith, ap length is, ordered.no_longer, c.requires.few_edges);
-      within = rw is (all_in_order inside _ _ ordered.same c.requires.within);
+      few_edges = omega (arith, ordered.no_longer, c.requires.few_edges);
+      within = all_in_order inside _ _ ordered.same c.requires.within;
       starts = c.requires.start;
       kinds = c.requires.kinds;
       names = c.requires.names;
-      ordered = rw is ordered.sorted;
+      ordered = ordered.sorted;
     })
 
 pub returns : goal.returns
 returns c =
-    let is = dedup_is _ _ _ c.dedup.ensures.filtered in
-    let ordered = once_in_order _ _ _ c.in_ok-edges.ensures c.sort_unstable.ensures.permutation
-    (IsStrictlySortedBy-dedup edge_total edge_ties _ c.sort_unstable.ensures.sorted) in
-    let edges = ap (λ (a : StoredArcs). a.edges) c.in_ok-arcs.ensures ∙ is in
+    let ordered = c.in_ok-edges.ensures in
+    let edges = ap (λ (a : StoredArcs). a.edges) c.in_ok-arcs.ensures in
     record {
       signals_are = refl;
       states_are = ap (λ (a : StoredArcs). a.states) c.in_ok-arcs.ensures;
