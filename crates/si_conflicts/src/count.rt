@@ -3,7 +3,6 @@
 ghost use Rattle.std.specs.Prelude.{◌≡◌, ℕ, ◌*◌, ◌<◌, ◌≤◌, IfOk, length};
 ghost use Rattle.std.specs.List.Sorted.{IsSorted};
 ghost use Rattle.si_base.specs.Limits.{max_states};
-ghost use Rattle.si_conflicts.specs.Apart.{AreUpTo, IsTally, IsUpTo};
 ghost use Rattle.si_conflicts.specs.Keys.{clash_count, key_cmp};
 
 use crate::keys::Key;
