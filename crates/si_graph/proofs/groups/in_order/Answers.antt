@@ -13,7 +13,8 @@ use Rattle.si_graph.proofs.groups.in_order.Goals as goal
 pub returns-then-is_sorted_by : goal.returns-then-is_sorted_by
 returns-then-is_sorted_by c =
     let comes_before : Edge → Edge → Bool = λ a b. is_lt (edge_cmp a b) in
-    let rising = c.if-is_sorted_by.ensures.cases comes_before (always_returns_same _ _ _ (λ a r f called. search rules)) in
+    let rising = c.if-is_sorted_by.ensures.cases comes_before
+    (always_returns_same _ _ _ (λ a r f called. search rules)) in
     ordered_already _ (rw c.deref.ensures.value at rising)
 
 pub returns : goal.returns
