@@ -4,14 +4,11 @@ ghost use Rattle.std.specs.Prelude.{IfOk, IfErr};
 ghost use Rattle.si_insert.specs.Partition.{IsLawful};
 ghost use Rattle.si_cell.specs.Library.{IsInstance, instance_value};
 ghost use Rattle.si_divisor.specs.Targets.{forced_by};
-ghost use Rattle.si_divisor.specs.PartitionFor.{Answers, IsPartitionFor, ShowsNone};
+ghost use Rattle.si_divisor.specs.PartitionFor.{IsPartitionFor, ShowsNone};
 
 use crate::classes::classes_for;
 use crate::fault::NoPartition;
 use crate::forced::{Forced, forced_states};
-use crate::function::function_of;
-use crate::function_sets::FunctionSets;
-use si_base::ids::NoMemory;
 use si_cell::cell::Instance;
 use si_cell::library::Library;
 use si_checks::proper::Proper;
@@ -38,22 +35,4 @@ pub fn partition_for(
     let Forced { up, down } = forced_states(alloc, coded, library, instance)?;
     let classes = classes_for(alloc, coded.graph(), &up, &down)?;
     Ok(Partition::known(graph, classes))
-}
-
-/// The partition for the instance; `None` exactly where there is none. It ends as soon as a reason
-/// against it is seen, and fails only where memory runs out.
-pub fn partition_if(
-    alloc: Global,
-    graph: &Proper,
-    library: &Library,
-    instance: &Instance,
-) -> Result<Option<Partition>, NoMemory>
-    requires { IsInstance library.now instance.now }
-    ensures { IfOk result (Answers graph.now (instance_value library.now instance.now)) }
-{
-    let mut functions = Vec::new(alloc);
-    functions.push(function_of(library, instance))?;
-    let sets = FunctionSets::make(alloc, graph, functions)?;
-    let found = sets.partition(alloc, graph, 0)?;
-    Ok(found)
 }
