@@ -16,8 +16,8 @@ use si_checks::proper::Proper;
 use si_closures::words::{SETS, set_at};
 use std::alloc::Global;
 
-/// For each block that is asked for the states on the other side of it than the start: on the way to
-/// them along the tree the block is left an odd number of times. It fails only where memory runs
+/// For each block that is asked for the states on the other side of it than the start: on the way
+/// to them along the tree the block is left an odd number of times. It fails only where memory runs
 /// out.
 ///
 /// It takes a pass over the tree for each 128 blocks.

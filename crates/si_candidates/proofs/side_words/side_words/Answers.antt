@@ -67,5 +67,5 @@ pub returns-clause-size : goal.returns-clause-size
 returns-clause-size c = sym (length-map c.loop-link.sides.items (λ (w : ℕ). bit w 0)) ∙ (c.loop-link.invariant 0).size
 
 pub returns-clause-each : goal.returns-clause-each
-returns-clause-each c = λ k. sides_all c.args.graph.now.graph c.args.tree.now c.requires.tree (column k c.args.words.now)
-    c.loop-link.link-index (column k c.loop-link.sides.items) (omega arith) (c.loop-link.invariant k)
+returns-clause-each c = λ k. sides_all c.args.graph.now.graph c.args.tree.now c.requires.tree
+    (column k c.args.words.now) c.loop-link.link-index (column k c.loop-link.sides.items) (omega arith) (c.loop-link.invariant k)
