@@ -23,3 +23,4 @@ pub mod TreeLemmas
 pub mod SideLemmas
 pub mod SideClassLemmas
 mod SideExamples
+mod SideWordLemmas

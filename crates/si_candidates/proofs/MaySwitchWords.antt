@@ -27,7 +27,7 @@ use Rattle.si_candidates.proofs.MaySwitchArcs.{AreKept, kept_none, kept_more, ke
 use Rattle.si_candidates.proofs.MaySwitchArcs.{keeps_at}
 
 -- ---- bits
-below_two : (n : ℕ) → n < 2 → (n ≡ 0) ⊎ (n ≡ 1)
+pub below_two : (n : ℕ) → n < 2 → (n ≡ 0) ⊎ (n ≡ 1)
 below_two n h = grind arith
 
 least_bit : (x y : ℕ) → x < 2 → y < 2 → (min x y == 1) ≡ ((x == 1) && (y == 1))
@@ -39,7 +39,7 @@ least_bit x y lx ly = elim (below_two x lx) [
 other_bit : (x : ℕ) → x < 2 → (1 - x == 1) ≡ not (x == 1)
 other_bit x l = elim (below_two x l) [ inl zero ↦ rw zero refl | inr one ↦ rw one refl ]
 
-and_bits : (x y k : ℕ) → bit (bit_and x y) k ≡ (bit x k && bit y k)
+pub and_bits : (x y k : ℕ) → bit (bit_and x y) k ≡ (bit x k && bit y k)
 and_bits x y k =
     rw (bit_at_and x y k) (least_bit (bit_at x k) (bit_at y k) (bit_at-lt x k) (bit_at-lt y k))
 
@@ -368,7 +368,7 @@ put_all old words k n set none before j s = (
 
 -- ---- block after block
 module _ (states : ℕ) (blocks : List (List Bool)) (first : ℕ) where
-  packed_column : (words : List ℕ) (k : ℕ) → k < 128 → first + k < length blocks
+  pub packed_column : (words : List ℕ) (k : ℕ) → k < 128 → first + k < length blocks
       → length (block_at blocks (first + k)) ≡ states → ArePacked states blocks first 128 words
       → column k words ≡ block_at blocks (first + k)
   packed_column words k few inside size are = same_sets (column k words) (block_at blocks (first + k))

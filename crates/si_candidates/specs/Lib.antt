@@ -8,3 +8,4 @@ pub mod ManySets
 pub mod Laws
 pub mod Tree
 pub mod Sides
+pub mod ManySides

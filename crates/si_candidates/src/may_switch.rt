@@ -64,8 +64,9 @@ fn add_answers(
 }
 
 /// The words of the blocks from that place on, of which there are 128 at most: bit k of a state's
-/// word says whether the block that stands k places on has the state.
-fn block_words(
+/// word says whether the block that stands k places on has the state. It fails only where memory
+/// runs out.
+pub(crate) fn block_words(
     alloc: Global,
     states: u32,
     blocks: &[Block],

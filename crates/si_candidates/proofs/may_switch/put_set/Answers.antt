@@ -20,7 +20,7 @@ loop-s-preserved c =
 pub overflow_add-at : goal.overflow_add-at
 overflow_add-at c =
     let within = in_within c.args.set.now c.in-Some.s c.in-Some.ensures.inside in
-    rw c.s.view_is (omega (arith, within, c.size-size.ensures, c.size-size.auto))
+    rw c.s.view_is (omega (arith, within, c.size-size.ensures))
 
 pub returns-clause-each : goal.returns-clause-each
 returns-clause-each c = put_all _ _ _ _ _ c.in_default.ensures c.loop-s.invariant.put
