@@ -23,7 +23,7 @@ use Rattle.si_base.proofs.OrderLemmas.{same_in_order}
 use Rattle.si_checks.proofs.ConflictsDecided.{conflict_or_none}
 use Rattle.si_checks.proofs.UniqueBreaches.{one_conflict}
 use Rattle.si_cover.specs.Mono.{InSignalOrder}
-use Rattle.si_cover.proofs.MonoLemmas.{least_monos_have_same_literals, strayed_is_none, no_mono_is_unique}
+use Rattle.si_cover.proofs.MonoLemmas.{least_monos_have_same_literals, outside_is_none, no_mono_is_unique}
 use Rattle.si_cover.proofs.MonosExist.{mono_or_none}
 use Rattle.si_cube.specs.Literals.{literals_from, literals_of}
 use Rattle.si_graph.proofs.ListMembers.{Contains-cons_cases, Contains-here, Contains-there, Contains-nil}
@@ -56,8 +56,8 @@ one_told c r (LeastCube x) (LeastCube y) is a b =
     let same = least_monos_have_same_literals c r.er r.qr x y s there a.0 b.0 in
     ap (λ (cube : List Literal). LeastCube cube) (same_in_order literal_place x y (in_places x a.1) (in_places y b.1)
     (λ l. (same l).0) (λ l. (same l).1))
-one_told c r (LeastCube x) (NoCube t) is a b = absurd (strayed_is_none c r.er r.qr t x b a.0.meets)
-one_told c r (NoCube s) (LeastCube y) is a b = absurd (strayed_is_none c r.er r.qr s y a b.0.meets)
+one_told c r (LeastCube x) (NoCube t) is a b = absurd (outside_is_none c r.er r.qr t x b a.0.meets)
+one_told c r (NoCube s) (LeastCube y) is a b = absurd (outside_is_none c r.er r.qr s y a b.0.meets)
 one_told c r (NoCube s) (NoCube t) is a b =
     ap (λ (state : ℕ). NoCube state) (no_mono_is_unique c r.er r.qr s t a b)
 
