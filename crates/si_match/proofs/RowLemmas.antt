@@ -1,6 +1,7 @@
 -- The rows of a truth table over few signals, which are filled in state after state.
 use Rattle.std.proofs.Common.{◌≡◌, ℕ, suc, ◌+◌, ◌<◌, ◌≤◌, ◌^◌, ◌&&◌, ◌==◌, not, Bool, true, false}
-use Rattle.std.proofs.Common.{List, [], ◌∷◌, ◌++◌, length, get_or, set, replicate, bit_and, All, Contains, Option, Some, None}
+use Rattle.std.proofs.Common.{List, [], ◌∷◌, ◌++◌, length, get_or, set, replicate, bit_and, All, Contains}
+use Rattle.std.proofs.Common.{Option, Some, None}
 use Rattle.std.proofs.Common.{refl, sym, ap, subst, ◌∙◌, arith, inl, inr}
 use mathlib.Core.Bool.{beq}
 use Rattle.std.specs.Option.{is_some, option_eq}
@@ -56,8 +57,8 @@ module _ (signal_set : ℕ) where
       ]),
     )
 
-pub signals_below : (signal_set count width : ℕ) (signals : List ℕ) → AreSignals signal_set count signals → count ≤ width
-    → All (λ y. y < width) signals
+pub signals_below : (signal_set count width : ℕ) (signals : List ℕ) → AreSignals signal_set count signals
+    → count ≤ width → All (λ y. y < width) signals
 signals_below signal_set count width signals are wide p d within =
     let (below, in_set) = (are (get_or signals p d)).0
     (p, within, sym (get_or_default signals p d (get_or signals p d) within)) in
@@ -104,7 +105,8 @@ module _ (signal_set count : ℕ) (signals : List ℕ) (are : AreSignals signal_
         | inr past ↦ beyond a y a_small past ∙ sym (beyond b y b_small past)
       ]
 
-      by_set : (y : ℕ) (v : Bool) → bit signal_set y ≡ v → (bit a y && bit signal_set y) ≡ (bit b y && bit signal_set y)
+      by_set : (y : ℕ) (v : Bool) → bit signal_set y ≡ v
+          → (bit a y && bit signal_set y) ≡ (bit b y && bit signal_set y)
       by_set y true in_set = ap (λ u. u && bit signal_set y) (by_signal y in_set)
       by_set y false out = rw out (no_value (bit a y) (bit b y))
         where
@@ -143,7 +145,8 @@ pub row_unequal : (row : Option Bool) (v : Bool) → option_eq beq row (Some v) 
 row_unequal row v told same =
     true≢false (sym (ap (λ r. option_eq beq r (Some v)) same ∙ beq-refl v) ∙ told)
 
-pub none_filled : (c : CodedGraph) (z : ℕ) (signals : List ℕ) → AreFilled c z signals 0 (replicate (2 ^ length signals) None)
+pub none_filled : (c : CodedGraph) (z : ℕ) (signals : List ℕ)
+    → AreFilled c z signals 0 (replicate (2 ^ length signals) None)
 none_filled c z signals = record {
   size = length-replicate (2 ^ length signals) None;
   filled = λ s none. absurd (omega (arith, none));
@@ -168,8 +171,12 @@ placed_at slice signals a b m same equal is = is ∙ ap (λ ys. placed_code ys a
 module _ (c : CodedGraph) (z : ℕ) (signals : List ℕ) (s m : ℕ) (rows : List (Option Bool))
     (so_far : AreFilled c z signals s rows) (row : m ≡ placed_code signals (code c s)) where
   -- a row is there for the state
-  pub row_within : m < length rows
+  row_within : m < length rows
   row_within = let small = placed_small signals (code c s) in omega (arith, small, row, so_far.size)
+
+  -- what is read in the row
+  pub row_read : (read : Option Bool) → read ≡ get_or rows m read → get_or rows m None ≡ read
+  row_read read is = get_or_default rows m None read row_within ∙ sym is
 
   -- the row has the other next value
   pub row_differs : (signal_set : ℕ) → AreSignals signal_set (length c.graph.signals) signals → IsCoded c
@@ -240,7 +247,8 @@ module _ (c : CodedGraph) (z : ℕ) (signals : List ℕ) (s m : ℕ) (rows : Lis
 pub all_filled : (c : CodedGraph) (z signal_set : ℕ) (signals : List ℕ) (count : ℕ) (rows : List (Option Bool))
     → AreSignals signal_set (length c.graph.signals) signals → length c.codes ≤ count
     → AreFilled c z signals count rows → determines c z signal_set ≡ true
-all_filled c z signal_set signals count rows are past filled = states_determine c z signal_set (λ s t inside_s inside_t same. (
+all_filled c z signal_set signals count rows are past filled =
+    states_determine c z signal_set (λ s t inside_s inside_t same. (
     let row = same_row signal_set (length c.graph.signals) signals are (code c s) (code c t) same in
     some_value (next_value c s z) (next_value c t z)
     (sym (filled.filled s (omega (arith, inside_s, past))) ∙ ap (λ k. get_or rows k None) row
