@@ -6,6 +6,6 @@ use Rattle.si_base.specs.Bits.{bit}
 abbrev pub max_row_signals : ℕ
 max_row_signals = 16
 
--- the first signals, so many, that are in the set
+-- those of the first signals, so many, that are in the set
 abbrev pub AreSignals : ℕ → ℕ → List ℕ → Type 0
 AreSignals set count signals = (y : ℕ) → Contains signals y ↔ ((y < count) × (bit set y ≡ true))

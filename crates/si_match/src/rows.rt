@@ -15,7 +15,7 @@ use std::alloc::Global;
 /// The most signals of a truth table that is filled in.
 pub(crate) const MAX_ROW_SIGNALS: usize = 16;
 
-/// The first `count` signals that are in the set, in signal order.
+/// Those of the first `count` signals that are in the set.
 fn signals_of(set: Code, count: usize) -> ArrayVec<u8, MAX_ROW_SIGNALS>
     requires width { count ≤ code_width }
     requires few { size_from count 0 set ≤ max_row_signals }
