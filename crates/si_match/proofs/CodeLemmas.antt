@@ -118,16 +118,52 @@ all_from c test each = list_all-from_AllPass test (states_of c)
     (λ k d inside. (let within : k < length c.codes = rw states_are at inside in ap test (state_at c k d within)
     ∙ each k within))
 
+module _ (c : CodedGraph) (z signals : ℕ) where
+  -- states with the same values have the same next value
+  pub states_determine : ((s t : ℕ) → s < length c.codes → t < length c.codes
+      → bit_and (code c s) signals ≡ bit_and (code c t) signals → next_value c s z ≡ next_value c t z)
+      → determines c z signals ≡ true
+  states_determine same_next = all_from c _ (λ s inside_s. all_from c _ (λ t inside_t. by_agree s t inside_s inside_t
+      (agree signals (code c s) (code c t)) refl))
+    where
+      by_agree : (s t : ℕ) → s < length c.codes → t < length c.codes → (b : Bool)
+          → agree signals (code c s) (code c t) ≡ b → (not b || beq (next_value c s z) (next_value c t z)) ≡ true
+      by_agree s t inside_s inside_t false e = refl
+      by_agree s t inside_s inside_t true e = elim (eqb_tells (bit_and (code c s) signals)
+          (bit_and (code c t) signals)) [
+            | inl same ↦ rw (same_next s t inside_s inside_t same.1) (beq-refl (next_value c t z))
+            | inr other ↦ absurd (true≢false (sym e ∙ other.0))
+          ]
+
+  -- two states with the same values have different next values
+  pub states_differ : (s t : ℕ) → s < length c.codes → t < length c.codes
+      → bit_and (code c s) signals ≡ bit_and (code c t) signals → (next_value c s z ≡ next_value c t z → ⊥)
+      → determines c z signals ≡ false
+  states_differ s t inside_s inside_t same_values differ =
+      let same : agree signals (code c s) (code c t) ≡ true = eq-eqb _ _ same_values in
+      let fails : (not (agree signals (code c s) (code c t))
+      || beq (next_value c s z) (next_value c t z)) ≡ false =
+      rw same (unequal (next_value c s z) (next_value c t z) differ) in
+      one_fails c (λ p. list_all (λ q. not (agree signals p.1 q.1)
+      || beq (next_value c p.0 z) (next_value c q.0 z)) (states_of c)) s inside_s
+      (one_fails c (λ q. not (agree signals (code c s) q.1)
+      || beq (next_value c s z) (next_value c q.0 z)) t inside_t fails)
+    where
+      unequal : (a b : Bool) → (a ≡ b → ⊥) → beq a b ≡ false
+      unequal true true other = absurd (other refl)
+      unequal true false other = refl
+      unequal false true other = refl
+      unequal false false other = absurd (other refl)
+
 module _ (c : CodedGraph) (z signals : ℕ) (on off : List ℕ) (on_are : AreCodes c z true signals on)
     (off_are : AreCodes c z false signals off) where
   pub apart_determines : ((k : ℕ) → Contains on k → Contains off k → ⊥) → determines c z signals ≡ true
-  apart_determines apart =
-      all_from c _ (λ s inside_s. all_from c _ (λ t inside_t. by_agree (agree signals (code c s)
-      (code c t)) refl inside_s inside_t))
+  apart_determines apart = states_determine c z signals (λ s t inside_s inside_t same. same_next s t inside_s inside_t
+      same (next_value c s z) (next_value c t z) refl refl)
     where
       same_next : (s t : ℕ) → s < length c.codes → t < length c.codes
           → bit_and (code c s) signals ≡ bit_and (code c t) signals
-          → (a b : Bool) → next_value c s z ≡ a → next_value c t z ≡ b → beq a b ≡ true
+          → (a b : Bool) → next_value c s z ≡ a → next_value c t z ≡ b → a ≡ b
       same_next s t inside_s inside_t same true true ns nt = refl
       same_next s t inside_s inside_t same false false ns nt = refl
       same_next s t inside_s inside_t same true false ns nt =
@@ -137,27 +173,12 @@ module _ (c : CodedGraph) (z signals : ℕ) (on off : List ℕ) (on_are : AreCod
           absurd (apart (bit_and (code c s) signals) ((on_are _).1 (t, inside_t, nt, sym same)) ((off_are _).1
           (s, inside_s, ns, refl)))
 
-      by_agree : {s t : ℕ} (b : Bool) → agree signals (code c s) (code c t) ≡ b → s < length c.codes
-          → t < length c.codes
-          → (not b || beq (next_value c s z) (next_value c t z)) ≡ true
-      by_agree false e inside_s inside_t = refl
-      by_agree {s} {t} true e inside_s inside_t = same_next s t inside_s inside_t (elim (eqb_tells (bit_and
-          (code c s) signals) (bit_and (code c t) signals)) [
-            | inl same ↦ same.1
-            | inr other ↦ absurd (true≢false (sym e ∙ other.0))
-          ]) (next_value c s z) (next_value c t z) refl refl
-
   pub meet_determines_not : (k : ℕ) × Contains on k × Contains off k → determines c z signals ≡ false
   meet_determines_not (k, in_on, in_off) =
       let (s, inside_s, ns, is_s) = (on_are k).0 in_on in
       let (t, inside_t, nt, is_t) = (off_are k).0 in_off in
-      let same : agree signals (code c s) (code c t) ≡ true = eq-eqb _ _ (is_s ∙ sym is_t) in
-      let fails : (not (agree signals (code c s) (code c t))
-      || beq (next_value c s z) (next_value c t z)) ≡ false = rw (same, ns, nt) refl in
-      one_fails c (λ p. list_all (λ q. not (agree signals p.1 q.1)
-      || beq (next_value c p.0 z) (next_value c q.0 z)) (states_of c)) s inside_s
-      (one_fails c (λ q. not (agree signals (code c s) q.1)
-      || beq (next_value c s z) (next_value c q.0 z)) t inside_t fails)
+      states_differ c z signals s t inside_s inside_t (is_s ∙ sym is_t)
+      (λ equal. true≢false (sym ns ∙ equal ∙ nt))
 
 -- ---- two lists of codes tell whether signals determine the next value
 module _ (c : CodedGraph) (z signals : ℕ) (on off sorted : List ℕ) (on_are : AreCodes c z true signals on)

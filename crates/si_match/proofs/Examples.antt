@@ -22,6 +22,7 @@ use Rattle.si_match.specs.Fit.{first_fit}
 use Rattle.si_match.specs.Functions.{AreFunctions, function_table, function_tables, value_at}
 use Rattle.si_match.specs.Known.{AreKnown, FitsByReading}
 use Rattle.si_match.specs.Places.{Agrees, AgreesAt, AreSeen, Differs, placed_code}
+use Rattle.si_match.specs.Rows.{AreSignals}
 use Rattle.si_match.specs.Support.{determines, support_of}
 use Rattle.si_match.specs.Triggers.{IsTrigger}
 use Rattle.si_match.specs.Weight.{added_weight, weight_of}
@@ -232,6 +233,21 @@ columns (suc (suc rest)) m within below = absurd (omega (arith, within))
 -- signal 1 stands first, then signal 0: at the state where a alone is 1 the second place is 1
 places_at : placed_code (1 ∷ 0 ∷ []) 1 ≡ 2
 places_at = refl
+
+-- of the first three signals, 0 and 2 are in the set 5
+in_set : AreSignals 5 3 (0 ∷ 2 ∷ [])
+in_set y = (has y, from y)
+  where
+    has : (y : ℕ) → Contains (0 ∷ 2 ∷ []) y → (y < 3) × (bit 5 y ≡ true)
+    has y (zero, within, at) = subst (λ n. (n < 3) × (bit 5 n ≡ true)) at (lit< tt, refl)
+    has y (suc zero, within, at) = subst (λ n. (n < 3) × (bit 5 n ≡ true)) at (lit< tt, refl)
+    has y (suc (suc k), within, at) = absurd (omega (arith, within))
+
+    from : (y : ℕ) → (y < 3) × (bit 5 y ≡ true) → Contains (0 ∷ 2 ∷ []) y
+    from zero (below, there) = (0, lit< tt, refl)
+    from (suc zero) (below, there) = absurd (true≢false (sym there))
+    from (suc (suc zero)) (below, there) = (1, lit< tt, refl)
+    from (suc (suc (suc y))) (below, there) = absurd (omega (arith, below))
 
 -- the next value of b is 1 there; a table with 1 at the code 2 agrees with that, one without doesn't
 agrees_there : AgreesAt repeater 1 (0 ∷ []) 4 1

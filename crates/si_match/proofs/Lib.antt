@@ -13,3 +13,4 @@ pub mod FunctionLemmas
 pub mod PlaceLemmas
 pub mod ChoiceLemmas
 pub mod ColumnLemmas
+pub mod RowLemmas

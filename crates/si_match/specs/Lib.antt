@@ -9,4 +9,5 @@ pub mod Known
 pub mod Functions
 pub mod Columns
 pub mod Places
+pub mod Rows
 pub mod Choices

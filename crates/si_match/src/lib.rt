@@ -10,6 +10,7 @@ pub mod known;
 pub mod laws;
 mod places;
 mod refute;
+mod rows;
 mod search;
 mod state;
 pub mod support;

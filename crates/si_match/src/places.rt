@@ -9,6 +9,7 @@ ghost use Rattle.si_cell.specs.Limits.{max_pins, table_codes};
 ghost use Rattle.si_match.specs.Places as spec;
 ghost use Rattle.si_match.specs.Places.{Agrees, AgreesAt, AreSeen, Differs};
 
+use crate::rows::values_at;
 use crate::state::add_witness;
 use crate::triggers::MAX_WITNESSES;
 use arrayvec::ArrayVec;
@@ -31,12 +32,7 @@ fn placed_code(z: Sig, chosen: &[u8], code: Code) -> u8
     ensures value { result ≡ spec.placed_code (z ∷ chosen.now) code }
     ensures small { result < table_codes }
 {
-    let mut values = 0;
-    for i in 0..chosen.len() {
-        let sig = Sig(chosen[chosen.len() - 1 - i]);
-        values = u8::from(code.get(sig)) + 2 * values;
-    }
-    u8::from(code.get(z)) + 2 * values
+    u8::from(code.get(z)) + 2 * values_at(chosen, code) as u8
 }
 
 /// The value of the table where the places have these values.

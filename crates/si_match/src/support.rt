@@ -11,12 +11,17 @@ ghost use Rattle.si_match.specs.Support.{determines, support_of};
 ghost use Rattle.si_match.specs.Triggers.{AreTriggers};
 
 use crate::codes::{codes_with, meet, projected_codes};
+use crate::rows::{MAX_ROW_SIGNALS, determine_few};
 use crate::triggers::triggers_of;
+use crate::weight::size;
 use si_base::ids::{Code, NoMemory, Sig};
 use si_checks::distinct::Distinct;
 use si_cube::codes::in_order;
 use si_graph::coded::Coded;
 use std::alloc::Global;
+
+/// The most rows of a truth table for each state: with more of them, codes in order take less time.
+const ROWS_PER_STATE: u64 = 8;
 
 /// The support of `z`, a bit for each signal: of all signals, in signal order, each is dropped
 /// without which the values of the others still determine the next value of `z`. It fails only
@@ -62,6 +67,20 @@ pub(crate) fn support_from(
 
 /// Whether the values of these signals determine the next value of `z`.
 fn determine(alloc: Global, coded: &Coded, z: Sig, signals: Code) -> Result<bool, NoMemory>
+    requires { z < length coded.now.graph.signals }
+    ensures { IfOk result (λ told. told ≡ determines coded.now z signals) }
+{
+    let count = size(signals, coded.graph().signals().len());
+    let most = ROWS_PER_STATE * u64::from(coded.graph().states());
+    if count <= MAX_ROW_SIGNALS as u64 && 1 << count <= most {
+        return determine_few(alloc, coded, z, signals);
+    }
+    determine_many(alloc, coded, z, signals)
+}
+
+/// Whether the values of these signals, however many, determine the next value of `z`: no code has
+/// both next values.
+fn determine_many(alloc: Global, coded: &Coded, z: Sig, signals: Code) -> Result<bool, NoMemory>
     requires { z < length coded.now.graph.signals }
     ensures { IfOk result (λ told. told ≡ determines coded.now z signals) }
 {

@@ -1,6 +1,6 @@
 use Rattle.std.proofs.Common.{List, ℕ, Contains, subst, sym}
 use Rattle.si_match.proofs.CodeLemmas.{told_by_lists}
-use Rattle.si_match.proofs.support.determine.Goals as goal
+use Rattle.si_match.proofs.support.determine_many.Goals as goal
 
 pub returns : goal.returns
 returns c =
