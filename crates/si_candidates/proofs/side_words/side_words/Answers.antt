@@ -68,4 +68,5 @@ returns-clause-size c = sym (length-map c.loop-link.sides.items (λ (w : ℕ). b
 
 pub returns-clause-each : goal.returns-clause-each
 returns-clause-each c = λ k. sides_all c.args.graph.now.graph c.args.tree.now c.requires.tree
-    (column k c.args.words.now) c.loop-link.link-index (column k c.loop-link.sides.items) (omega arith) (c.loop-link.invariant k)
+    (column k c.args.words.now) c.loop-link.link-index (column k c.loop-link.sides.items)
+    (omega arith) (c.loop-link.invariant k)
