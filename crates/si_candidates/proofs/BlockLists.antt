@@ -1,10 +1,10 @@
 -- The list of blocks, one more at a time.
 use Rattle.std.proofs.Common.{◌≡◌, ℕ, ◌+◌, ◌<◌, ◌≤◌, ◌||◌, Bool, true, false, not, if◌then◌else◌, List, [], ◌∷◌, ◌++◌}
 use Rattle.std.proofs.Common.{filter, length, take, get_or, map, nat_lt, le-ltb, refl, sym, ap, ◌∙◌, arith, inl, inr}
-use Rattle.std.proofs.Common.{append_assoc, subst}
-use Rattle.std.proofs.lemmas.Bool.{cases_Bool, cases_eq, cases_lt, lt-ltb}
+use Rattle.std.proofs.Common.{append_assoc}
+use Rattle.std.proofs.lemmas.Bool.{cases_Bool, cases_lt, lt-ltb}
 use Rattle.std.proofs.lemmas.List.{append-nil, length_push, length-take-le, take-append-le, take_all, take_more}
-use Rattle.std.proofs.lemmas.List.{get_or_append_left, get_or_push, map-append}
+use Rattle.std.proofs.lemmas.List.{map-append}
 use Rattle.std.proofs.lemmas.List.Elements.{filter-append}
 use Rattle.std.specs.List.{list_any}
 use Rattle.si_base.specs.declared.ids.Event.{Event}
@@ -171,15 +171,3 @@ module _ (signals : List Signal) (z : ℕ) (x : Signal) (inside : z < length sig
   driven_pass events input so =
       so ∙ sym (driven_step ∙ ap (λ b. driven_events 0 (take z signals)
       ++ (if b then rise z ∷ fall z ∷ [] else [])) input ∙ append-nil (driven_events 0 (take z signals)))
-
--- what holds at each place of a list holds so after a push
-pub each_more : {A : Type 0} (d : A) (P : ℕ → A → Type 0) (items : List A) (x : A) (n : ℕ) → length items ≡ n
-    → ((k : ℕ) → k < n → P k (get_or items k d)) → P n x
-    → (k : ℕ) → k < n + 1 → P k (get_or (items ++ x ∷ []) k d)
-each_more d P items x n size each last k below = elim (cases_eq k n) [
-  | inl same ↦ subst (λ j. P j (get_or (items ++ x ∷ []) j d)) (sym same)
-      (subst (P n) (sym (get_or_push items x d n size)) last)
-  | inr other ↦ (
-      let early : k < n = omega (arith, below, other) in
-      subst (P k) (sym (get_or_append_left items (x ∷ []) d k (omega (arith, early, size)))) (each k early))
-]

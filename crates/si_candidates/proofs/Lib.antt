@@ -23,4 +23,3 @@ pub mod TreeLemmas
 pub mod SideLemmas
 pub mod SideClassLemmas
 mod SideExamples
-mod SideWordLemmas

@@ -3,9 +3,9 @@ use Rattle.std.proofs.Common.{◌≡◌, ◌≢◌, ℕ, ◌+◌, ◌-◌, ◌*�
 use Rattle.std.proofs.Common.{Bool, true, false, List, [], ◌∷◌, ◌++◌, length, get_or, set, Contains, Option}
 use Rattle.std.proofs.Common.{refl, sym, ap, subst, ◌∙◌, arith, inl, inr, ◌⊎◌, ◌↔◌, bit_and, bit_or}
 use Rattle.std.proofs.Common.{get_or-set_same, get_or-set_other}
-use Rattle.std.proofs.lemmas.Bool.{cases_eq, cases_lt, cases_Bool, true≢false, and_parts, and_from}
+use Rattle.std.proofs.lemmas.Bool.{cases_eq, cases_Bool, true≢false, and_parts, and_from}
 use Rattle.std.proofs.lemmas.List.{get_or_default, length-map}
-use Rattle.std.proofs.lemmas.List.{get_or_past, get_or_push, get_or_append_left, length_push}
+use Rattle.std.proofs.lemmas.List.{get_or_push, get_or_append_left, length_push}
 use Rattle.std.proofs.lemmas.Nat.Bits.{bit_at_and, bit_at-lt, bit_at_not, bit_at_set_same, bit_at_set_other}
 use Rattle.std.specs.Int.{bit_at, w128}
 use Rattle.si_base.specs.declared.graph.Edge.{Edge}
@@ -27,7 +27,7 @@ use Rattle.si_candidates.proofs.MaySwitchArcs.{AreKept, kept_none, kept_more, ke
 use Rattle.si_candidates.proofs.MaySwitchArcs.{keeps_at}
 
 -- ---- bits
-pub below_two : (n : ℕ) → n < 2 → (n ≡ 0) ⊎ (n ≡ 1)
+below_two : (n : ℕ) → n < 2 → (n ≡ 0) ⊎ (n ≡ 1)
 below_two n h = grind arith
 
 least_bit : (x y : ℕ) → x < 2 → y < 2 → (min x y == 1) ≡ ((x == 1) && (y == 1))
@@ -39,7 +39,7 @@ least_bit x y lx ly = elim (below_two x lx) [
 other_bit : (x : ℕ) → x < 2 → (1 - x == 1) ≡ not (x == 1)
 other_bit x l = elim (below_two x l) [ inl zero ↦ rw zero refl | inr one ↦ rw one refl ]
 
-pub and_bits : (x y k : ℕ) → bit (bit_and x y) k ≡ (bit x k && bit y k)
+and_bits : (x y k : ℕ) → bit (bit_and x y) k ≡ (bit x k && bit y k)
 and_bits x y k =
     rw (bit_at_and x y k) (least_bit (bit_at x k) (bit_at y k) (bit_at-lt x k) (bit_at-lt y k))
 
@@ -324,51 +324,25 @@ module _ (words : List ℕ) (k n w : ℕ) (few : k < 128) (inside : n < length w
     ],
   )
 
--- a state of the set is below its size
-pub in_within : (set : List Bool) (s : ℕ) → IsIn set s → s < length set
-in_within set s here = elim (cases_lt s (length set)) [
-  | inl below ↦ below
-  | inr past ↦ absurd (true≢false (sym here ∙ get_or_past set s false past))
-]
-
--- no state of the set stands between
-pub put_up_to : (old words : List ℕ) (k n m : ℕ) (set : List Bool) → n ≤ m
-    → ((s : ℕ) → n ≤ s → s < m → IsIn set s → ⊥) → ArePut old k set n words → ArePut old k set m words
-put_up_to old words k n m set le none before j s = (
+pub put_none : (old words : List ℕ) (k n : ℕ) (set : List Bool) → get_or set n false ≡ false
+    → ArePut old k set n words → ArePut old k set (n + 1) words
+put_none old words k n set out before j s = (
   λ h. elim ((before j s).0 h) [
     | inl first ↦ inl first
-    | inr (same, early, here) ↦ inr (same, omega (arith, early, le), here)
+    | inr (same, early, here) ↦ inr (same, omega (arith, early), here)
   ],
   λ h. (before j s).1 (elim h [
     | inl first ↦ inl first
-    | inr (same, early, here) ↦ elim (cases_lt s n) [
-      | inl below ↦ inr (same, below, here)
-      | inr past ↦ absurd (none s past early here)
-    ]
-  ]),
-)
-
--- no state of the set stands behind
-pub put_all : (old words : List ℕ) (k n : ℕ) (set : List Bool) → ((s : ℕ) → n ≤ s → IsIn set s → ⊥)
-    → ArePut old k set n words
-    → (j s : ℕ) → HasBit words j s ↔ (HasBit old j s ⊎ ((j ≡ k) × IsIn set s))
-put_all old words k n set none before j s = (
-  λ h. elim ((before j s).0 h) [
-    | inl first ↦ inl first
-    | inr (same, early, here) ↦ inr (same, here)
-  ],
-  λ h. (before j s).1 (elim h [
-    | inl first ↦ inl first
-    | inr (same, here) ↦ elim (cases_lt s n) [
-      | inl below ↦ inr (same, below, here)
-      | inr past ↦ absurd (none s past here)
+    | inr (same, early, here) ↦ elim (cases_eq s n) [
+      | inl there ↦ absurd (true≢false (sym here ∙ ap (λ t. get_or set t false) there ∙ out))
+      | inr other ↦ inr (same, omega (arith, early, other), here)
     ]
   ]),
 )
 
 -- ---- block after block
 module _ (states : ℕ) (blocks : List (List Bool)) (first : ℕ) where
-  pub packed_column : (words : List ℕ) (k : ℕ) → k < 128 → first + k < length blocks
+  packed_column : (words : List ℕ) (k : ℕ) → k < 128 → first + k < length blocks
       → length (block_at blocks (first + k)) ≡ states → ArePacked states blocks first 128 words
       → column k words ≡ block_at blocks (first + k)
   packed_column words k few inside size are = same_sets (column k words) (block_at blocks (first + k))

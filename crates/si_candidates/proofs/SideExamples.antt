@@ -1,7 +1,5 @@
 -- Worked examples: a tree of arcs, the sides of a block along it, and the classes that sides tell.
-use Rattle.std.proofs.Common.{◌≡◌, ℕ, Bool, true, false, List, [], ◌∷◌, refl, arith, inl, inr, bit_and}
-use Rattle.std.specs.Int.Bits.{bit_xor}
-use Rattle.si_closures.specs.WordSearch.{column}
+use Rattle.std.proofs.Common.{◌≡◌, ℕ, Bool, true, false, List, [], ◌∷◌, refl, arith, inl, inr}
 use Rattle.si_insert.specs.declared.partition.Class.TheVariants.{Low, Rising, High, Falling}
 use Rattle.si_candidates.specs.declared.tree.Link.{Link}
 use Rattle.si_candidates.specs.Tree.{IsMet}
@@ -39,23 +37,6 @@ fourth = false ∷ false ∷ false ∷ true ∷ []
 
 abbrev sides_of_fourth : List Bool
 sides_of_fourth = false ∷ false ∷ false ∷ false ∷ []
-
--- both sets in one word for each state: bit 0 is that of s1 alone, bit 1 that of s3 alone; the words of their
--- sides, and how the word of s2 comes of that of s1
-abbrev both_sets : List ℕ
-both_sets = 0 ∷ 1 ∷ 0 ∷ 2 ∷ []
-
-abbrev sides_of_both : List ℕ
-sides_of_both = 0 ∷ 0 ∷ 1 ∷ 1 ∷ []
-
-sets_apart : (column 0 both_sets ≡ second) × (column 1 both_sets ≡ fourth)
-sets_apart = (refl, refl)
-
-sides_apart : (column 0 sides_of_both ≡ sides_of_second) × (column 1 sides_of_both ≡ sides_of_fourth)
-sides_apart = (refl, refl)
-
-out_of_one : bit_xor 0 (bit_and 1 (bit_xor 1 0)) ≡ 1
-out_of_one = refl
 
 -- a signal that rises at s1 and falls at s3 is High between them, and Low at the start
 abbrev turned : ℕ → Bool

@@ -1,6 +1,7 @@
 -- Sides of blocks along a tree of arcs, and the classes that they tell.
 use Rattle.std.proofs.Common.{◌≡◌, ◌≢◌, ℕ, zero, suc, ◌+◌, ◌<◌, ◌≤◌, ◌&&◌, ◌↔◌, ◌∙◌, not, Bool, true, false}
-use Rattle.std.proofs.Common.{List, length, get_or, replicate, refl, sym, ap, ap₂, subst, arith, inl, inr}
+use Rattle.std.proofs.Common.{List, length, get_or, set, replicate, refl, sym, ap, ap₂, subst, arith, inl, inr}
+use Rattle.std.proofs.Common.{get_or-set_same, get_or-set_other, length-set}
 use Rattle.std.proofs.lemmas.Bool.{cases_eq, cases_Bool, true≢false}
 use Rattle.std.proofs.lemmas.List.{get_or_default, ext_get_or, length-replicate}
 use Rattle.si_base.specs.declared.ids.Event.{Event}
@@ -116,6 +117,20 @@ module _ (g : StateGraph) (tree : List Link) (is : IsTree g tree) (block : List 
       waits = λ t none. others t (λ same. none (inr (n, l, omega arith, (inside, sym at), sym same)))
           ∙ before.waits t (λ met. none (met_later g tree n (n + 1) t (omega arith) met));
     }
+
+  module _ (n : ℕ) (l : Link) (inside : n < length tree) (at : l ≡ get_or tree n l) (sides : List Bool)
+      (before : To n sides) where
+    -- the target is on the other side than the start
+    pub sides_other : l.to < g.states → side_after block sides l ≡ true → To (n + 1) (set sides l.to true)
+    sides_other within odd = sides_more n l inside at sides (set sides l.to true) before
+        (length-set sides l.to true)
+        (get_or-set_same sides l.to true false (omega (arith, within, before.size)) ∙ sym odd)
+        (λ t apart. get_or-set_other sides l.to t true false apart)
+
+    -- it is on the same side
+    pub sides_same : side_after block sides l ≡ false → To (n + 1) sides
+    sides_same even = sides_more n l inside at sides sides before refl
+        (before.waits l.to (is.each n l (inside, sym at)).new ∙ sym even) (λ t apart. refl)
 
   pub sides_all : (n : ℕ) (sides : List Bool) → length tree ≤ n → To n sides → AreSides g tree block sides
   sides_all n sides all to = record {

@@ -8,4 +8,3 @@ pub mod ManySets
 pub mod Laws
 pub mod Tree
 pub mod Sides
-pub mod ManySides

@@ -11,6 +11,5 @@ pub mod laws;
 pub mod may_switch;
 pub mod part_laws;
 mod parts;
-pub mod side_words;
 pub mod sides;
 pub mod tree;

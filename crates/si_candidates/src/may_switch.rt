@@ -64,9 +64,8 @@ fn add_answers(
 }
 
 /// The words of the blocks from that place on, of which there are 128 at most: bit k of a state's
-/// word says whether the block that stands k places on has the state. It fails only where memory
-/// runs out.
-pub(crate) fn block_words(
+/// word says whether the block that stands k places on has the state.
+fn block_words(
     alloc: Global,
     states: u32,
     blocks: &[Block],
@@ -92,12 +91,10 @@ fn put_set(words: &mut [u128], k: u32, set: &StateSet)
     ensures each { (j s : ℕ) → HasBit words.new j s
         ↔ (HasBit words.old j s ⊎ ((j ≡ k) × IsIn set.now s)) }
 {
-    // The size is a word of 32 bits, and so is each state after one of the set.
-    let _size = set.size();
-    let mut at = 0;
-    while let Some(s) = set.first_from(StateId(at)) {
-        words[s.0 as usize] |= 1 << k;
-        at = s.0 + 1;
+    for s in 0..set.size() {
+        if set.has(StateId(s)) {
+            words[s as usize] |= 1 << k;
+        }
     }
 }
 

@@ -1,13 +1,49 @@
-//! The classes that the sides of two blocks tell.
+//! On which side of a block each state lies, along a tree of arcs, and the classes that the sides
+//! of two blocks tell.
 
-ghost use Rattle.std.specs.Prelude.{◌≡◌, ℕ, ◌<◌, length};
+ghost use Rattle.std.specs.Prelude.{◌≡◌, ℕ, ◌<◌, IfOk, length};
 ghost use Rattle.si_base.specs.Sets.{IsIn};
 ghost use Rattle.si_candidates.specs.Sides as of_sides;
-ghost use Rattle.si_candidates.specs.Sides.{between};
+ghost use Rattle.si_candidates.specs.Sides.{AreSides, between};
+ghost use Rattle.si_candidates.specs.Tree.{IsTree};
 
-use si_base::ids::StateId;
+use crate::tree::Link;
+use si_base::ids::{NoMemory, StateId};
 use si_base::sets::StateSet;
+use si_checks::proper::Proper;
 use si_insert::partition::Class;
+use std::alloc::Global;
+
+/// The states on the other side of the block than the start: on the way to them along the tree the
+/// block is left an odd number of times. It fails only where memory runs out.
+pub fn sides(
+    alloc: Global,
+    graph: &Proper,
+    tree: &[Link],
+    set: &StateSet,
+) -> Result<StateSet, NoMemory>
+    requires tree { IsTree graph.now.graph tree.now }
+    requires size { length set.now ≡ graph.now.graph.states }
+    ensures { IfOk result (AreSides graph.now.graph tree.now set.now) }
+{
+    let g = graph.coded().graph();
+    let mut sides = StateSet::new(alloc, g.states())?;
+    for link in tree {
+        if differ(sides.has(link.from), leaves(set, link)) {
+            sides.add(link.to);
+        }
+    }
+    Ok(sides)
+}
+
+/// Whether the link leads out of the set.
+fn leaves(set: &StateSet, link: &Link) -> bool
+    requires from { link.now.from < length set.now }
+    requires to { link.now.to < length set.now }
+    ensures { result ≡ of_sides.leaves set.now link.now.from link.now.to }
+{
+    set.has(link.from) && !set.has(link.to)
+}
 
 /// Whether it is one of the two, and not both.
 pub fn differ(x: bool, y: bool) -> bool

@@ -127,6 +127,18 @@ module _ (c : CodedGraph) (blocks : List (List Bool)) (usable : List Bool) (side
       (subst (λ (x : List (List Bool)). AreInside blocks usable x ps) (sym sides_same)
       (subst (λ (x : List Pair). AreInside blocks usable sides x) (sym pairs_same) all_inside)))
 
+-- what holds at each place of a list holds so after a push
+pub each_more : {A : Type 0} (d : A) (P : ℕ → A → Type 0) (items : List A) (x : A) (n : ℕ) → length items ≡ n
+    → ((k : ℕ) → k < n → P k (get_or items k d)) → P n x
+    → (k : ℕ) → k < n + 1 → P k (get_or (items ++ x ∷ []) k d)
+each_more d P items x n size each last k below = elim (cases_eq k n) [
+  | inl same ↦ subst (λ j. P j (get_or (items ++ x ∷ []) j d)) (sym same)
+      (subst (P n) (sym (get_or_push items x d n size)) last)
+  | inr other ↦ (
+      let early : k < n = omega (arith, below, other) in
+      subst (P k) (sym (get_or_append_left items (x ∷ []) d k (omega (arith, early, size)))) (each k early))
+]
+
 -- the crowded states of a graph are within a set of the graph's states
 pub crowded_inside : (c : CodedGraph) (chains : Chains) (least : ℕ) (crowded : List Crowded) (set : List Bool)
     → AreChains c chains → crowded ≡ crowded_of chains.members least → length set ≡ c.graph.states

@@ -4,6 +4,7 @@ ghost use Rattle.std.specs.Prelude.{◌≡◌, ℕ, ◌<◌, ◌↔◌, true, fa
 ghost use Rattle.std.specs.List.{slice_index_or};
 ghost use Rattle.si_base.specs.Limits.{max_signals};
 ghost use Rattle.si_candidates.specs.Blocks.{AreBlocks, block_at};
+ghost use Rattle.si_candidates.specs.Sides.{AreSides};
 ghost use Rattle.si_candidates.specs.Tree.{IsTree};
 ghost use Rattle.si_conflicts.specs.Chains.{AreChains};
 ghost use Rattle.si_conflicts.specs.Conflicts.{pairs_of};
@@ -18,7 +19,7 @@ use si_base::sets::StateSet;
 use si_candidates::block::Block;
 use si_candidates::blocks::blocks;
 use si_candidates::may_switch::which_may_switch;
-use si_candidates::side_words::sides_of;
+use si_candidates::sides::sides;
 use si_candidates::tree::{Link, tree};
 use si_checks::proper::Proper;
 use si_conflicts::chains::CodeChains;
@@ -189,8 +190,31 @@ fn sides_of_usable(
     requires count { length usable.now ≡ length blocks.now }
     ensures { IfOk result (λ list. HaveSides graph.now.graph blocks.now usable.now list.items) }
 {
-    let list = sides_of(alloc, graph, tree, blocks, usable)?;
+    let mut list = Vec::new(alloc);
+    for k in 0..blocks.len() {
+        list.push(sides_if(alloc, graph, tree, &blocks[k], usable[k])?)?;
+    }
     Ok(list)
+}
+
+/// The sides of the block, if it is usable.
+fn sides_if(
+    alloc: Global,
+    graph: &Proper,
+    tree: &[Link],
+    block: &Block,
+    usable: bool,
+) -> Result<StateSet, NoMemory>
+    requires tree { IsTree graph.now.graph tree.now }
+    requires size { length block.now ≡ graph.now.graph.states }
+    ensures { IfOk result
+        (λ set. IsTrue usable → AreSides graph.now.graph tree.now block.now set) }
+{
+    if !usable {
+        return Ok(StateSet::new(alloc, 0)?);
+    }
+    let set = sides(alloc, graph, tree, block.set())?;
+    Ok(set)
 }
 
 /// For each usable block how it lies to these conflicts.

@@ -1,26 +1,17 @@
-use Rattle.std.proofs.Common.{◌<◌, ℕ, length, get_or, refl, arith}
-use Rattle.si_candidates.proofs.MaySwitchWords.{in_within, put_all, put_one, put_up_to}
+use Rattle.std.proofs.Common.{◌<◌, ◌∙◌, length, get_or, refl, sym, arith}
+use Rattle.si_candidates.proofs.MaySwitchWords.{put_one, put_none}
 use Rattle.si_candidates.proofs.may_switch.put_set.Goals as goal
+use Rattle.si_candidates.proofs.may_switch.put_set.Goals.{then-has, else-has}
 
 pub loop-s-preserved : goal.loop-s-preserved
 loop-s-preserved c =
     let words = c.loop-s.words in
-    let set = c.args.set.now in
-    let s : ℕ = c.in-Some.s in
-    let found = c.in-Some.ensures in
-    let within : s < length set = in_within set s found.inside in
-    let there = put_up_to _ _ _ _ s set found.from
-    (λ t from below here. omega (arith, found.first t from here, below)) c.loop-s.invariant.put in
-    rw c.s.view_is (record {
-      up_to = omega (arith, within);
-      put = put_one words c.args.k s (get_or words s 0) c.requires.few
-          (omega (arith, within, c.requires.size, c.loop-s.auto.words)) refl c.args.words.now set found.inside there;
-    })
-
-pub overflow_add-at : goal.overflow_add-at
-overflow_add-at c =
-    let within = in_within c.args.set.now c.in-Some.s c.in-Some.ensures.inside in
-    rw c.s.view_is (omega (arith, within, c.size-size.ensures))
-
-pub returns-clause-each : goal.returns-clause-each
-returns-clause-each c = put_all _ _ _ _ _ c.in_default.ensures c.loop-s.invariant.put
+    let s = c.loop-s.s in
+    let inside : s < length words =
+    omega (arith, c.loop-s-test.true, c.size-s-end.ensures, c.requires.size, c.loop-s.auto.words) in
+    elim c.if-has.branch [
+      | then-has w ↦ rw w.words-is (put_one words c.args.k s (get_or words s 0) c.requires.few inside refl
+          c.args.words.now c.args.set.now (sym c.has.ensures ∙ w.if-has.true) c.loop-s.invariant)
+      | else-has w ↦ rw w.words-is (put_none c.args.words.now words c.args.k s c.args.set.now
+          (sym c.has.ensures ∙ w.if-has.false) c.loop-s.invariant)
+    ]
