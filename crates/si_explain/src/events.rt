@@ -6,12 +6,12 @@ ghost use Rattle.si_words.specs.Writing.{spaced};
 ghost use Rattle.si_explain.specs.ExplainText.{enabled_events, events_words, events_line};
 ghost use Rattle.si_explain.specs.ExplainText.{inputs_line};
 
-use si_base::graph::Signal;
+use si_base::graph::{Signal, signal_name};
 use si_base::ids::{Event, NoMemory, StateId};
 use si_base::names::Names;
 use si_base::text::Text;
 use si_graph::graph::Graph;
-use si_sg::write::{name_at, sign, signal_name};
+use si_sg::write::{name_at, sign};
 use si_words::writing::add_word;
 use std::alloc::Global;
 

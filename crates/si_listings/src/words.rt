@@ -5,11 +5,11 @@ ghost use Rattle.si_base.specs.Bytes.{space};
 ghost use Rattle.si_words.specs.Writing.{spaced};
 ghost use Rattle.si_sg.specs.CanonicalText.{state_at, event_word};
 
-use si_base::graph::Signal;
+use si_base::graph::{Signal, signal_name};
 use si_base::ids::{Event, NoMemory, StateId};
 use si_base::names::Names;
 use si_base::text::Text;
-use si_sg::write::{name_at, sign, signal_name};
+use si_sg::write::{name_at, sign};
 use si_words::writing::add_word;
 
 /// Adds a blank and the event.

@@ -13,13 +13,13 @@ ghost use Rattle.si_sg.specs.CanonicalText.{event_word};
 use crate::code_word::add_code;
 use crate::conflict_states::states_in_conflict;
 use crate::dot_writing::{add_attribute, add_attribute_if, add_number};
-use si_base::graph::{Edge, Signal};
+use si_base::graph::{Edge, Signal, signal_name};
 use si_base::ids::{Event, NoMemory, Sig, StateId};
 use si_base::names::Names;
 use si_base::text::Text;
 use si_graph::coded::Coded;
 use si_graph::graph::Graph;
-use si_sg::write::{name_at, sign, signal_name};
+use si_sg::write::{name_at, sign};
 use std::alloc::Global;
 
 /// The text of the picture of a graph with this model and a name for each state.

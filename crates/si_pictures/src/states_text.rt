@@ -9,12 +9,12 @@ ghost use Rattle.si_sg.specs.CanonicalText.{event_word};
 ghost use Rattle.si_words.specs.Writing.{spaced};
 
 use crate::code_word::{add_code, is_excited};
-use si_base::graph::Signal;
+use si_base::graph::{Signal, signal_name};
 use si_base::ids::{NoMemory, Sig, StateId};
 use si_base::names::Names;
 use si_base::text::Text;
 use si_graph::coded::Coded;
-use si_sg::write::{name_at, sign, signal_name};
+use si_sg::write::{name_at, sign};
 use si_words::writing::add_word;
 use std::alloc::Global;
 

@@ -4,11 +4,11 @@ ghost use Rattle.std.specs.Prelude.{◌≡◌, ◌<◌, length, IfOk};
 ghost use Rattle.si_base.specs.NetlistText.{name_of};
 ghost use Rattle.si_sg.specs.CanonicalText.{event_word as word_of_event, state_at};
 
-use si_base::graph::Signal;
+use si_base::graph::{Signal, signal_name};
 use si_base::ids::{Event, NoMemory, Sig, StateId};
 use si_base::names::Names;
 use si_base::text::{Name, Text};
-use si_sg::write::{name_at, sign, signal_name};
+use si_sg::write::{name_at, sign};
 use std::alloc::Global;
 
 /// A breach of what makes a graph proper, with the names of its states and the words of its events.

@@ -1,6 +1,6 @@
 -- What becomes of a search with each candidate.
 use Rattle.std.proofs.Common.{◌≡◌, ℕ, ◌+◌, ◌<◌, ◌≤◌, ◌↔◌, Bool, true, false, List, length, slice_index_or, Option}
-use Rattle.std.proofs.Common.{Some, None, IfNone, IfSome, IsTrue, refl, sym, ap, ap₂, subst, ◌∙◌, arith, inl, inr}
+use Rattle.std.proofs.Common.{Some, None, IfNone, IfSome, MatchOption, IsTrue, refl, sym, ap, ap₂, subst, ◌∙◌, arith, inl, inr}
 use Rattle.std.proofs.lemmas.Bool.{true≢false}
 use Rattle.std.proofs.lemmas.List.{length-map}
 use Rattle.si_base.specs.Graph.{StateGraph, IsGraph}
@@ -15,7 +15,7 @@ use Rattle.si_insert.specs.declared.partition.Class.{Class}
 use Rattle.si_insert.specs.Partition.{IsLawful}
 use Rattle.si_candidates.specs.Sides.{AreSided, AreSides, IsPartitionOfBlocks, between}
 use Rattle.si_candidates.proofs.SideLemmas.{class_is}
-use Rattle.si_candidates.specs.Blocks.{AreBlocks, block_at}
+use Rattle.si_candidates.specs.Blocks.{AreBlocks, AreDisjoint, block_at}
 use Rattle.si_candidates.specs.Parts.{AreClasses}
 use Rattle.si_candidates.proofs.PartLaws.{classes_lawful, classes_unique}
 use Rattle.si_conflicts.specs.declared.crowds.Crowd.{Crowd}
@@ -29,14 +29,14 @@ use Rattle.si_conflicts.proofs.LeftStaying.{stay_left}
 use Rattle.si_insert.specs.RowSearch.{bar as bar_in}
 use Rattle.si_resolve.specs.declared.search.Found.{Found}
 use Rattle.si_resolve.specs.declared.search.Search.{Search}
-use Rattle.si_resolve.specs.Best.{Choice, IsChoice, NoneImproves}
+use Rattle.si_resolve.specs.Best.{Choice, Improves, IsChoice, NoneImproves}
 use Rattle.si_resolve.specs.Search.{IsBestSoFar, IsEarlier, bar}
 use Rattle.si_resolve.specs.declared.aspects.Aspect.{Aspect}
 use Rattle.si_resolve.specs.declared.block_list.BlockList.{BlockList}
 use Rattle.si_resolve.specs.Aspects.{HaveAspects, aspect_of, column_at, unparted_count}
 use Rattle.si_resolve.specs.Sharing.{ShareCrowd, crowd_at}
 use Rattle.si_resolve.specs.Usable.{IsUsable, AreSearched, AreUsable, HaveSides}
-use Rattle.si_resolve.specs.Progress.{found_of, best_of, IsSearching, IsFound, bar_of, MayBeAccepted, LeavesBelow}
+use Rattle.si_resolve.specs.Progress.{found_of, best_of, IsSearching, AreAccepted, bar_of, MayBeAccepted, LeavesBelow}
 use Rattle.si_resolve.specs.Progress.{LeavesNoneBelow, NoneIsBelow}
 use Rattle.si_candidates.proofs.BlockingLemmas.{accepted_by_blocks}
 use Rattle.si_candidates.proofs.BlockCopyCount.{copies_by_blocks}
@@ -107,28 +107,38 @@ choice_may_be c blocks x are choice =
     size_i size_j choice.are in
     record { disjoint = choice.candidate.disjoint; room = omega (arith, copies, choice.accepted.few_states) }
 
-pub candidate_choice : (c : CodedGraph) (blocks : List (List Bool)) (i j low n : ℕ) → IsCoded c → IsProper c.graph
+-- blocks in each of which a new signal may switch, and which may be accepted, are
+pub candidate_accepted : (c : CodedGraph) (blocks : List (List Bool)) (i j : ℕ) → IsCoded c → IsProper c.graph
     → length c.graph.signals < max_signals → AreBlocks c blocks → i < j → j < length blocks
     → IsUsable c.graph (block_at blocks i) → IsUsable c.graph (block_at blocks j)
     → MayBeAccepted c.graph (block_at blocks i) (block_at blocks j)
-    → (left : LeavesBelow c (block_at blocks i) (block_at blocks j) low n)
-    → IsChoice c blocks (record { i = i; j = j; classes = left.classes; conflicts = n })
-candidate_choice c blocks i j low n is proper few are order within one other may left =
+    → AreAccepted c.graph (block_at blocks i) (block_at blocks j)
+candidate_accepted c blocks i j is proper few are order within one other may classes classes_are =
     let g = c.graph in
     let plus = block_at blocks i in
     let minus = block_at blocks j in
     let size_i = size_at c blocks i are (omega (arith, order, within)) in
     let size_j = size_at c blocks j are within in
-    let lawful = lawful_classes g plus minus left.classes is.graph_is size_i size_j
-    (one.state, one.there) (other.state, other.there) left.are in
-    let copies = copies_by_blocks g plus minus left.classes size_i size_j left.are in
-    record {
-      candidate = record { order = order; within = within; disjoint = may.disjoint };
-      are = left.are;
-      accepted = (accepted_by_blocks c plus minus left.classes is proper lawful left.are).1
-          (one.may_switch, other.may_switch, omega (arith, copies, may.room), few);
-      leaves = left.leaves;
-    }
+    let lawful = lawful_classes g plus minus classes is.graph_is size_i size_j
+    (one.state, one.there) (other.state, other.there) classes_are in
+    let copies = copies_by_blocks g plus minus classes size_i size_j classes_are in
+    (accepted_by_blocks c plus minus classes is proper lawful classes_are).1
+    (one.may_switch, other.may_switch, omega (arith, copies, may.room), few)
+
+-- the candidate that was found at these places
+abbrev pub choice_at : ℕ → ℕ → Found → Choice
+choice_at i j found = record { i = i; j = j; classes = found.accepted; conflicts = found.conflicts }
+
+pub candidate_choice : (c : CodedGraph) (blocks : List (List Bool)) (i j low : ℕ) (found : Found)
+    → i < j → j < length blocks → AreDisjoint (block_at blocks i) (block_at blocks j)
+    → AreAccepted c.graph (block_at blocks i) (block_at blocks j)
+    → LeavesBelow c (block_at blocks i) (block_at blocks j) low found → IsChoice c blocks (choice_at i j found)
+candidate_choice c blocks i j low found order within disjoint accepted left = record {
+  candidate = record { order = order; within = within; disjoint = disjoint };
+  are = left.are;
+  accepted = accepted found.accepted left.are;
+  leaves = left.leaves;
+}
 
 -- ---- the search
 abbrev bar_by : ℕ → Option Found → ℕ
@@ -392,27 +402,24 @@ pub block_size : (c : CodedGraph) (blocks : List (List Bool)) (k : ℕ) (block :
 block_size c blocks k block are within same = ap (length {A = Bool}) same ∙ size_at c blocks k are within
 
 -- ---- the end of the search
-pub found_none : (c : CodedGraph) (blocks : List (List Bool)) (n : ℕ) (s : Search) → AreBlocks c blocks
-    → HasConflicts c n → s.given ≡ n → IsSearching c blocks (length blocks) 0 s → IfNone s.best (NoneImproves c)
-found_none c blocks n s are counted given so =
-    subst (λ o. IfNone o (NoneImproves c)) (sym so.found) (tell so.best
-    (subst (λ m. IsBestSoFar c blocks m (length blocks) 0 so.best) given so.is_best))
+module _ (c : CodedGraph) (blocks : List (List Bool)) (n : ℕ) (s : Search) (are : AreBlocks c blocks)
+    (counted : HasConflicts c n) (given : s.given ≡ n) (so : IsSearching c blocks (length blocks) 0 s)
   where
-    tell : (o : Option Choice) → IsBestSoFar c blocks n (length blocks) 0 o → IfNone (best_of o) (NoneImproves c)
-    tell None best = search_finds_none c blocks n are counted best
-    tell (Some x) best = tt
+    -- what a search shows that ends with this
+    Shows : Option Found → Type 0
+    Shows o = MatchOption o (NoneImproves c) (λ found. (x : Choice) × Improves c x × (x.classes ≡ found.accepted))
 
-pub found_some : (c : CodedGraph) (blocks : List (List Bool)) (n : ℕ) (s : Search) → AreBlocks c blocks
-    → HasConflicts c n → s.given ≡ n → IsSearching c blocks (length blocks) 0 s → IfSome s.best (IsFound c blocks)
-found_some c blocks n s are counted given so =
-    subst (λ o. IfSome o (IsFound c blocks)) (sym so.found) (tell so.best
-    (subst (λ m. IsBestSoFar c blocks m (length blocks) 0 so.best) given so.is_best))
-  where
-    tell : (o : Option Choice) → IsBestSoFar c blocks n (length blocks) 0 o → IfSome (best_of o) (IsFound c blocks)
-    tell None best = tt
-    tell (Some x) best = record {
-      choice = x;
-      improves = search_finds c blocks n x are counted best;
-      is_choice = best.holds.holds.choice;
-      is = refl;
-    }
+    shows : (o : Option Choice) → IsBestSoFar c blocks n (length blocks) 0 o → Shows (best_of o)
+    shows None best = search_finds_none c blocks n are counted best
+    shows (Some x) best = (x, search_finds c blocks n x are counted best, refl)
+
+    search_shows : Shows s.best
+    search_shows = subst Shows (sym so.found)
+        (shows so.best (subst (λ m. IsBestSoFar c blocks m (length blocks) 0 so.best) given so.is_best))
+
+    pub found_none : s.best ≡ None → NoneImproves c
+    found_none none = subst Shows none search_shows
+
+    pub found_some : (found : Found) → s.best ≡ Some found
+        → (x : Choice) × Improves c x × (x.classes ≡ found.accepted)
+    found_some found some = subst Shows some search_shows

@@ -4,19 +4,20 @@ use Rattle.si_base.specs.Codes.{CodedGraph}
 use Rattle.si_base.specs.Graph.{StateGraph}
 use Rattle.si_base.specs.Limits.{max_states}
 use Rattle.si_insert.specs.declared.partition.Class.{Class}
+use Rattle.si_insert.specs.Accepted.{IsAccepted}
 use Rattle.si_insert.specs.RowSearch.{bar}
 use Rattle.si_candidates.specs.Blocks.{AreDisjoint}
 use Rattle.si_candidates.specs.Parts.{AreClasses}
 use Rattle.si_conflicts.specs.Chains.{AreChains}
 use Rattle.si_conflicts.specs.Left.{LeavesConflicts}
-use Rattle.si_resolve.specs.Best.{Choice, IsChoice, Improves}
+use Rattle.si_resolve.specs.Best.{Choice, IsChoice}
 use Rattle.si_resolve.specs.Search.{IsBestSoFar}
 use Rattle.si_resolve.specs.declared.search.Found.{Found}
 use Rattle.si_resolve.specs.declared.search.Search.{Search}
 
--- the places of the blocks of a candidate and the number of conflicts, without the partition
+-- the partition of a candidate and the number of conflicts, without the places of the blocks
 abbrev pub found_of : Choice → Found
-found_of x = record { i = x.i; j = x.j; conflicts = x.conflicts }
+found_of x = record { accepted = x.classes; conflicts = x.conflicts }
 
 abbrev pub best_of : Option Choice → Option Found
 best_of None = None
@@ -30,13 +31,6 @@ pub record IsSearching (c : CodedGraph) (blocks : List (List Bool)) (j i : ℕ) 
   pub is_best : IsBestSoFar c blocks search.given j i best
   pub found : search.best ≡ best_of best
 
--- the search found the best candidate, which has fewer conflicts than the graph
-pub record IsFound (c : CodedGraph) (blocks : List (List Bool)) (found : Found) : Type 0 where
-  pub choice : Choice
-  pub improves : Improves c choice
-  pub is_choice : IsChoice c blocks choice
-  pub is : found ≡ found_of choice
-
 -- ---- one candidate
 
 -- the number of conflicts that the next candidate has to get below
@@ -48,12 +42,17 @@ pub record MayBeAccepted (g : StateGraph) (plus minus : List Bool) : Type 0 wher
   pub disjoint : AreDisjoint plus minus
   pub room : g.states + count_by (λ b. b) plus + count_by (λ b. b) minus ≤ max_states
 
--- the blocks have classes, which leave n conflicts, and these are fewer than the bar
-pub record LeavesBelow (c : CodedGraph) (plus minus : List Bool) (bar n : ℕ) : Type 0 where
-  pub classes : List Class
-  pub are : AreClasses c.graph plus minus classes
-  pub leaves : LeavesConflicts c classes n
-  pub fewer : n < bar
+-- whatever classes the blocks have are accepted
+abbrev pub AreAccepted : StateGraph → List Bool → List Bool → Type 0
+AreAccepted g plus minus = (classes : List Class) → AreClasses g plus minus classes
+    → IsAccepted g classes
+
+-- these are the classes of the blocks, and leave so many conflicts, which are fewer than the bar
+pub record LeavesBelow (c : CodedGraph) (plus minus : List Bool) (bar : ℕ) (found : Found)
+    : Type 0 where
+  pub are : AreClasses c.graph plus minus found.accepted
+  pub leaves : LeavesConflicts c found.accepted found.conflicts
+  pub fewer : found.conflicts < bar
 
 -- whatever classes the blocks have leave no fewer
 abbrev pub LeavesNoneBelow : CodedGraph → List Bool → List Bool → ℕ → Type 0

@@ -1,16 +1,16 @@
 //! The search for the best candidate, candidate after candidate.
 
 ghost use Rattle.std.specs.Prelude.{◌≡◌, ℕ, ◌+◌, ◌<◌, ◌≤◌, ◌↔◌, Bool, false, List, IfOk, IfSome};
-ghost use Rattle.std.specs.Prelude.{IfNone, OnOk, IsTrue, length, count_by};
+ghost use Rattle.std.specs.Prelude.{IfNone, OnOk, IsTrue, MatchOption, length, count_by};
 ghost use Rattle.si_base.specs.Codes.{CodedGraph, IsCoded};
 ghost use Rattle.si_base.specs.Sets.{IsIn};
 ghost use Rattle.si_candidates.specs.Blocks.{AreDisjoint, block_at};
 ghost use Rattle.si_candidates.specs.Sides.{AreSided};
 ghost use Rattle.si_conflicts.specs.Chains.{AreChains};
 ghost use Rattle.si_conflicts.specs.Conflicts.{HasConflicts};
-ghost use Rattle.si_resolve.specs.Best.{NoneImproves};
+ghost use Rattle.si_resolve.specs.Best.{Choice, Improves, NoneImproves};
 ghost use Rattle.si_resolve.specs.Usable.{IsUsable, AreSearched};
-ghost use Rattle.si_resolve.specs.Progress.{IsSearching, IsFound, MayBeAccepted, LeavesBelow};
+ghost use Rattle.si_resolve.specs.Progress.{AreAccepted, IsSearching, LeavesBelow, MayBeAccepted};
 ghost use Rattle.si_resolve.specs.Progress.{LeavesNoneBelow, NoneIsBelow, bar_of};
 
 use crate::block_list::BlockList;
@@ -22,15 +22,14 @@ use si_candidates::block::Block;
 use si_candidates::by_sides::classes_by_sides;
 use si_checks::proper::Proper;
 use si_conflicts::chains::CodeChains;
+use si_insert::accept::Accepted;
 use std::alloc::Global;
 
-/// The places of the two blocks of an accepted candidate, that where the new signal rises first,
-/// and the number of conflicts that it leaves.
-#[derive(Clone, Copy, PartialEq, Eq, Debug)]
-pub(crate) struct Found {
-    pub(crate) i: usize,
-    pub(crate) j: usize,
-    pub(crate) conflicts: u64,
+/// The partition of an accepted candidate, and the number of conflicts that it leaves.
+#[derive(Drop)]
+struct Found {
+    accepted: Accepted,
+    conflicts: u64,
 }
 
 /// The number of conflicts of the given graph, the best candidate so far that leaves fewer, and the
@@ -42,25 +41,28 @@ struct Search {
     chains: CodeChains,
 }
 
-/// The best candidate, if it leaves fewer conflicts than the graph has.
+/// The partition of the best candidate, if it leaves fewer conflicts than the graph has.
 pub(crate) fn find_best(
     alloc: Global,
     graph: &Proper,
     chains: CodeChains,
     list: &BlockList,
     conflicts: u64,
-) -> Result<Option<Found>, NoMemory>
+) -> Result<Option<Accepted>, NoMemory>
     requires chains { AreChains graph.now chains }
     requires list { AreSearched graph.now list.now }
     requires counted { HasConflicts graph.now conflicts }
-    ensures none { IfOk result (λ o. IfNone o (NoneImproves graph.now)) }
-    ensures some { IfOk result (λ o. IfSome o (IsFound graph.now list.now.blocks.items)) }
+    ensures { IfOk result (λ o. MatchOption o (NoneImproves graph.now)
+        (λ a. (x : Choice) × Improves graph.now x × (x.classes ≡ a))) }
 {
     let mut search = Search::new(chains, conflicts);
     for j in 0..list.blocks.len() {
         search.try_row(alloc, graph, list, j)?;
     }
-    Ok(search.best)
+    match search.best {
+        None => Ok(None),
+        Some(found) => Ok(Some(found.accepted)),
+    }
 }
 
 impl Search {
@@ -128,7 +130,7 @@ impl Search {
         if !self.may_part(graph, list, i, j) {
             return Ok(());
         }
-        let left = self.left_below(
+        let left = self.found_below(
             alloc,
             graph,
             list.block(i),
@@ -136,8 +138,8 @@ impl Search {
             list.sides(i),
             list.sides(j),
         )?;
-        if let Some(conflicts) = left {
-            self.best = Some(Found { i, j, conflicts });
+        if let Some(found) = left {
+            self.best = Some(found);
         }
         Ok(())
     }
@@ -191,14 +193,15 @@ impl Search {
     fn bar(&self) -> u64
         ensures { result ≡ bar_of self.now }
     {
-        match self.best {
+        match &self.best {
             None => self.given,
             Some(found) => found.conflicts,
         }
     }
 
-    /// The number of conflicts that the candidate leaves, if it is below the bar.
-    fn left_below(
+    /// The candidate with the number of conflicts that it leaves, if it has classes and the number
+    /// is below the bar.
+    fn found_below(
         &mut self,
         alloc: Global,
         graph: &Proper,
@@ -206,7 +209,7 @@ impl Search {
         minus: &Block,
         plus_sides: &StateSet,
         minus_sides: &StateSet,
-    ) -> Result<Option<u64>, NoMemory>
+    ) -> Result<Option<Found>, NoMemory>
         requires coded { IsCoded graph.now }
         requires chains { AreChains graph.now self.old.chains }
         requires plus_size { length plus.now ≡ graph.now.graph.states }
@@ -216,6 +219,7 @@ impl Search {
         requires some_plus { (s : ℕ) × IsIn plus.now s }
         requires some_minus { (s : ℕ) × IsIn minus.now s }
         requires disjoint { AreDisjoint plus.now minus.now }
+        requires accepted { AreAccepted graph.now.graph plus.now minus.now }
         ensures below { IfOk result
             (λ o. IfSome o (LeavesBelow graph.now plus.now minus.now (bar_of self.old))) }
         ensures none { IfOk result
@@ -237,9 +241,14 @@ impl Search {
         let Some(partition) = by_sides else {
             return Ok(None);
         };
-        let classes = partition.classes();
-        let left = self.chains.trial_below(alloc, graph, classes, bar)?;
-        Ok(left)
+        let left = self.chains.trial_below(alloc, graph, partition.classes(), bar)?;
+        match left {
+            None => Ok(None),
+            Some(conflicts) => Ok(Some(Found {
+                accepted: Accepted::known(graph, partition),
+                conflicts,
+            })),
+        }
     }
 
     /// Whether the candidate may leave fewer conflicts than the best so far, by the only classes

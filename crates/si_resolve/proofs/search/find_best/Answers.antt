@@ -9,22 +9,22 @@ loop-j-init c = record {
   given = c.new-search.ensures.given;
 }
 
-pub returns-clause-none : goal.returns-clause-none
-returns-clause-none c =
+pub returns-in-None : goal.returns-in-None
+returns-in-None c =
     let d = c.args.graph.now in
     let blocks = c.args.list.now.blocks.items in
     let so = c.loop-j.invariant in
     let all : c.loop-j.j ≡ length blocks =
     omega (arith, c.loop-j-test.false, c.loop-j.auto.j-end, c.len-j-end.ensures) in
     found_none d blocks c.args.conflicts c.loop-j.search c.requires.list.are c.requires.counted so.given
-    (subst (λ k. IsSearching d blocks k 0 c.loop-j.search) all so.searching)
+    (subst (λ k. IsSearching d blocks k 0 c.loop-j.search) all so.searching) c.in-None.is
 
-pub returns-clause-some : goal.returns-clause-some
-returns-clause-some c =
+pub returns-in-Some : goal.returns-in-Some
+returns-in-Some c =
     let d = c.args.graph.now in
     let blocks = c.args.list.now.blocks.items in
     let so = c.loop-j.invariant in
     let all : c.loop-j.j ≡ length blocks =
     omega (arith, c.loop-j-test.false, c.loop-j.auto.j-end, c.len-j-end.ensures) in
     found_some d blocks c.args.conflicts c.loop-j.search c.requires.list.are c.requires.counted so.given
-    (subst (λ k. IsSearching d blocks k 0 c.loop-j.search) all so.searching)
+    (subst (λ k. IsSearching d blocks k 0 c.loop-j.search) all so.searching) c.in-Some.found c.in-Some.is

@@ -30,19 +30,19 @@ returns-then-not-may_part-clause-after c =
     skip c.args.graph.now c.args.list.now.blocks.items c.args.j c.args.i c.args.self.now
     c.requires.before (c.may_part.ensures c.if-not-may_part.true)
 
-pub left_below-requires-clause-plus_size : goal.left_below-requires-clause-plus_size
-left_below-requires-clause-plus_size c =
+pub found_below-requires-clause-plus_size : goal.found_below-requires-clause-plus_size
+found_below-requires-clause-plus_size c =
     let r = c.requires in
     let within : c.args.i < length c.args.list.now.blocks.items = omega (arith, r.order, r.within) in
     block_size c.args.graph.now c.args.list.now.blocks.items c.args.i _ r.list.are within c.block.ensures
 
-pub left_below-requires-clause-minus_size : goal.left_below-requires-clause-minus_size
-left_below-requires-clause-minus_size c =
+pub found_below-requires-clause-minus_size : goal.found_below-requires-clause-minus_size
+found_below-requires-clause-minus_size c =
     let r = c.requires in
     block_size c.args.graph.now c.args.list.now.blocks.items c.args.j _ r.list.are r.within c.block-2.ensures
 
-pub left_below-requires-clause-sided : goal.left_below-requires-clause-sided
-left_below-requires-clause-sided c =
+pub found_below-requires-clause-sided : goal.found_below-requires-clause-sided
+found_below-requires-clause-sided c =
     let r = c.requires in
     let list = c.args.list.now in
     let i_in : c.args.i < length list.blocks.items = omega (arith, r.order, r.within) in
@@ -78,10 +78,10 @@ returns-in-Some-clause-after c =
     let choice = candidate_choice d blocks i j low n r.list.coded r.list.proper r.list.few_signals
     r.list.are r.order r.within
     (c.may_be_better.ensures.first test) r.usable (c.may_be_better.ensures.both test) left in
-    keep d blocks j i c.left_below.new.self
+    keep d blocks j i c.found_below.new.self
     (record { i = i; j = j; classes = left.classes; conflicts = n })
-    r.list.coded (subst (IsSearching d blocks j i) (sym c.left_below.ensures.same) r.before) choice refl refl
-    (subst (λ (s : Search). n < bar_of s) (sym c.left_below.ensures.same) left.fewer)
+    r.list.coded (subst (IsSearching d blocks j i) (sym c.found_below.ensures.same) r.before) choice refl refl
+    (subst (λ (s : Search). n < bar_of s) (sym c.found_below.ensures.same) left.fewer)
 
 pub returns-in_default-clause-after : goal.returns-in_default-clause-after
 returns-in_default-clause-after c =
@@ -94,5 +94,5 @@ returns-in_default-clause-after c =
     at_blocks (λ x y. LeavesNoneBelow d x y low) _ (block_at blocks i) _ (block_at blocks j)
     c.block.ensures c.block-2.ensures
     (none_is c.in_ok-left.left c.in_default.is c.in_ok-left.ensures.none) in
-    subst (IsSearching d blocks j (i + 1)) (sym c.left_below.ensures.same)
+    subst (IsSearching d blocks j (i + 1)) (sym c.found_below.ensures.same)
     (skip d blocks j i c.args.self.now c.requires.before (none_by_left d blocks i j low none))

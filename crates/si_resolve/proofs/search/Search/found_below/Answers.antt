@@ -2,7 +2,7 @@ use Rattle.std.proofs.Common.{◌<◌, ℕ, subst}
 use Rattle.si_candidates.specs.Parts.{AreClasses}
 use Rattle.si_resolve.specs.Progress.{LeavesNoneBelow}
 use Rattle.si_resolve.proofs.SearchLemmas.{at_blocks, if_none, if_some, one_leaves_none, some_is}
-use Rattle.si_resolve.proofs.search.Search.left_below.Goals as goal
+use Rattle.si_resolve.proofs.search.Search.found_below.Goals as goal
 
 pub returns-then-not-may_leave_fewer-clause-none : goal.returns-then-not-may_leave_fewer-clause-none
 returns-then-not-may_leave_fewer-clause-none c = c.may_leave_fewer.ensures c.if-not-may_leave_fewer.true
