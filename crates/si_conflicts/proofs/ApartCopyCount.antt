@@ -68,51 +68,46 @@ module _ (classes : List Class) (f : Copy → ℕ) where
       let same : i + suc j ≡ i + 1 + j = omega arith in
       subst (λ k. class_of classes k ≡ get_or rest j Low) same (are (suc j) (omega arith))
 
+  -- a state with a copy at that value alone, and one with both
+  one_copy : (b : Bool) (i : ℕ) (rest : List Class) → at_both i ≡ f (copy i b)
+      → sum_by f (copies_from (i + 1) rest) ≡ sum_by at_both (range_with_len (i + 1) (length rest))
+      → sum_by f (copy i b ∷ copies_from (i + 1) rest) ≡ sum_by at_both (i ∷ range_with_len (i + 1) (length rest))
+  one_copy b i rest here tail = omega (
+    arith,
+    here,
+    tail,
+    sum_by-cons at_both i (range_with_len (i + 1) (length rest)),
+    sum_by-cons f (copy i b) (copies_from (i + 1) rest),
+  )
+
+  two_copies : (i : ℕ) (rest : List Class) → at_both i ≡ f (copy i false) + f (copy i true)
+      → sum_by f (copies_from (i + 1) rest) ≡ sum_by at_both (range_with_len (i + 1) (length rest))
+      → sum_by f (copy i false ∷ copy i true ∷ copies_from (i + 1) rest)
+      ≡ sum_by at_both (i ∷ range_with_len (i + 1) (length rest))
+  two_copies i rest here tail = omega (
+    arith,
+    here,
+    tail,
+    sum_by-cons at_both i (range_with_len (i + 1) (length rest)),
+    sum_by-cons f (copy i true) (copies_from (i + 1) rest),
+    sum_by-cons f (copy i false) (copy i true ∷ copies_from (i + 1) rest),
+  )
+
   pub copies_sum : (i : ℕ) (rest : List Class) → Follow i rest
       → sum_by f (copies_from i rest) ≡ sum_by at_both (range_with_len i (length rest))
   copies_sum i [] are = refl
   copies_sum i (Low ∷ rest) are =
       let here = at_class i Low (first Low rest i are) in
-      let tail = copies_sum (i + 1) rest (later Low rest i are) in
-      omega (
-        arith,
-        here,
-        tail,
-        sum_by-cons at_both i (range_with_len (i + 1) (length rest)),
-        sum_by-cons f (copy i false) (copies_from (i + 1) rest),
-      )
+      one_copy false i rest (omega (arith, here)) (copies_sum (i + 1) rest (later Low rest i are))
   copies_sum i (Rising ∷ rest) are =
-      let here = at_class i Rising (first Rising rest i are) in
-      let tail = copies_sum (i + 1) rest (later Rising rest i are) in
-      omega (
-        arith,
-        here,
-        tail,
-        sum_by-cons at_both i (range_with_len (i + 1) (length rest)),
-        sum_by-cons f (copy i true) (copies_from (i + 1) rest),
-        sum_by-cons f (copy i false) (copy i true ∷ copies_from (i + 1) rest),
-      )
+      two_copies i rest (at_class i Rising (first Rising rest i are))
+      (copies_sum (i + 1) rest (later Rising rest i are))
   copies_sum i (High ∷ rest) are =
       let here = at_class i High (first High rest i are) in
-      let tail = copies_sum (i + 1) rest (later High rest i are) in
-      omega (
-        arith,
-        here,
-        tail,
-        sum_by-cons at_both i (range_with_len (i + 1) (length rest)),
-        sum_by-cons f (copy i true) (copies_from (i + 1) rest),
-      )
+      one_copy true i rest (omega (arith, here)) (copies_sum (i + 1) rest (later High rest i are))
   copies_sum i (Falling ∷ rest) are =
-      let here = at_class i Falling (first Falling rest i are) in
-      let tail = copies_sum (i + 1) rest (later Falling rest i are) in
-      omega (
-        arith,
-        here,
-        tail,
-        sum_by-cons at_both i (range_with_len (i + 1) (length rest)),
-        sum_by-cons f (copy i true) (copies_from (i + 1) rest),
-        sum_by-cons f (copy i false) (copy i true ∷ copies_from (i + 1) rest),
-      )
+      two_copies i rest (at_class i Falling (first Falling rest i are))
+      (copies_sum (i + 1) rest (later Falling rest i are))
 
 -- ---- rings
 -- a state that its ring leads to itself is alone with its code

@@ -112,13 +112,13 @@ pub trial_found : (c : CodedGraph) (classes : List Class) (next : List ℕ) (mem
     (d : CodedGraph) (g : StateGraph) (given : List Class) (ms : List Member) (told rest : ℕ)
     → d ≡ c → g ≡ d.graph → given ≡ classes → ms ≡ members → IsCoded d → IsLawful c.graph classes
     → AreRings c next → AreMembers c next members
-    → told ≡ pair_sum (stable_count given) ms
+    → told ≡ pair_sum (stable_count given) members
     → ((staying : ℕ → ℕ) → AllStaying g given staying → rest ≡ switching_count given staying ms)
     → LeavesConflicts c classes (told + rest)
 trial_found c classes next members d g given ms told rest d_is g_is given_is ms_is coded lawful rings are told_is
     rest_is =
     trial_is c (subst IsCoded d_is coded) classes lawful next members told rest rings are
-    (told_is ∙ ap₂ (λ xs ys. pair_sum (stable_count xs) ys) given_is ms_is)
+    (told_is ∙ ap (λ xs. pair_sum (stable_count xs) members) given_is)
     (λ staying all. rest_is staying (there staying all)
     ∙ ap₂ (λ xs ys. switching_count xs staying ys) given_is ms_is)
   where
@@ -130,12 +130,11 @@ trial_found c classes next members d g given ms told rest d_is g_is given_is ms_
         (subst (λ xs. AllStaying c.graph xs staying) (sym given_is) all)
 
 pub none_below : (c : CodedGraph) (classes : List Class) (next : List ℕ) (members : List Member)
-    (d : CodedGraph) (ms : List Member) (bar : ℕ) → d ≡ c → ms ≡ members → IsCoded d → IsLawful c.graph classes
-    → AreRings c next → AreMembers c next members → bar ≤ pair_sum (stable_count classes) ms
+    (d : CodedGraph) (bar : ℕ) → d ≡ c → IsCoded d → IsLawful c.graph classes
+    → AreRings c next → AreMembers c next members → bar ≤ pair_sum (stable_count classes) members
     → (n : ℕ) → LeavesConflicts c classes n → bar ≤ n
-none_below c classes next members d ms bar d_is ms_is coded lawful rings are enough n left_n =
-    at_least c (subst IsCoded d_is coded) classes lawful next members bar n rings are
-    (subst (λ xs. bar ≤ pair_sum (stable_count classes) xs) ms_is enough) left_n
+none_below c classes next members d bar d_is coded lawful rings are enough n left_n =
+    at_least c (subst IsCoded d_is coded) classes lawful next members bar n rings are enough left_n
 
 -- ---- the answer below a bar
 pub below_is : (c : CodedGraph) (classes : List Class) (n bar : ℕ) (o : Option ℕ) → LeavesConflicts c classes n

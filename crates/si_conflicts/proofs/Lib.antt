@@ -14,6 +14,7 @@ pub mod ApartCopyCount
 pub mod LeftCount
 pub mod LeftStaying
 pub mod TallyLemmas
+pub mod TurnLemmas
 pub mod SortedClashes
 pub mod ApartStayLemmas
 pub mod RingLemmas

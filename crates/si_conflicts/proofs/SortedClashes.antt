@@ -61,8 +61,9 @@ few_clash keys i n q is inside =
     omega (arith, is, most, size)
 
 pub has_plain : (keys : List Key) (i : ℕ) (key : Key) (tally : Tally) → i < length keys → length keys ≤ max_states
-    → IsTally key (plain_to keys i) tally → HasTally key tally
+    → IsTally key (plain_to keys i) tally → HasTally tally
 has_plain keys i key tally inside few is = record {
+  key = key;
   copies = plain_to keys i;
   few = (let size = plain_length keys i inside in omega arith);
   is = is;

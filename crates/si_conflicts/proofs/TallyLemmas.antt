@@ -1,20 +1,14 @@
--- Tallies of copies, and the pass over members that counts with them.
-use Rattle.std.proofs.Common.{◌≡◌, ◌≢◌, ℕ, ◌+◌, ◌<◌, ◌≤◌, ◌==◌, ◌&&◌, Bool, true, false, not, cond, List, [], ◌∷◌, ◌++◌}
-use Rattle.std.proofs.Common.{length, map, take, get_or, All, count_by, refl, sym, ap, subst, ◌∙◌, arith, inl, inr}
-use Rattle.std.proofs.Common.{ne_eqb, lt-ltb}
+-- Tallies of copies, and the order of keys.
+use Rattle.std.proofs.Common.{◌≡◌, ◌≢◌, ℕ, ◌+◌, ◌-◌, ◌<◌, ◌≤◌, ◌==◌, ◌&&◌, Bool, true, false, not, cond, List, []}
+use Rattle.std.proofs.Common.{◌∷◌, ◌++◌, All, count_by, refl, sym, ap, ap₂, ◌∙◌, arith, inl, inr}
+use Rattle.std.proofs.Common.{eq-eqb, ne_eqb, lt-ltb}
 use Rattle.std.proofs.lemmas.Bool.{cases_eq, cases_order, true≢false}
-use Rattle.std.proofs.lemmas.List.{take_more, get_or_default, length-map, length-take-le, map-append}
-use Rattle.std.proofs.lemmas.List.Elements.{All-weaker, All-more, All-map}
-use Rattle.std.proofs.lemmas.List.Sums.{count_by-le-length, sum_by-le-sum_by}
-use Rattle.std.specs.List.{sum_by}
-use Rattle.std.specs.List.Sorted.{IsSorted}
+use Rattle.std.proofs.lemmas.List.Elements.{All-weaker}
+use Rattle.std.proofs.lemmas.List.Sums.{sum_by-le-sum_by, sum_by_push}
 use Rattle.std.specs.Ordering.{nat_cmp, is_lt, ordering_then}
 use Rattle.std.specs.declared.cmp.Ordering.{Ordering}
 use Rattle.std.specs.declared.cmp.Ordering.TheVariants.{Less, Equal, Greater}
-use Rattle.si_base.specs.Limits.{max_states}
 use Rattle.si_base.proofs.OrderAscending.{nat_same}
-use Rattle.si_insert.specs.declared.partition.Class.{Class}
-use Rattle.si_insert.specs.Partition.{class_of}
 use Rattle.si_conflicts.specs.declared.keys.Key.{Key}
 use Rattle.si_conflicts.specs.declared.members.Member.{Member}
 use Rattle.si_conflicts.specs.declared.tally.Role.{Role}
@@ -22,12 +16,14 @@ use Rattle.si_conflicts.specs.declared.tally.Role.TheVariants.{Absent, Plain, Sw
 use Rattle.si_conflicts.specs.declared.tally.Tally.{Tally}
 use Rattle.si_conflicts.specs.Chains.{member_cmp}
 use Rattle.si_conflicts.specs.Keys.{key_cmp}
-use Rattle.si_conflicts.specs.Apart.{role_at, is_plain, is_switching, RoleAndKey, are_apart, role_and_key, stable_count}
-use Rattle.si_conflicts.specs.Apart.{pair_sum}
-use Rattle.si_conflicts.specs.Apart.{IsUpTo, AreUpTo, equal_keys, IsTally, HasTally}
-use Rattle.si_conflicts.proofs.ApartPairSums.{all_in, same_sum, sum_none, sum_two, sum_map, pair_push}
+use Rattle.si_conflicts.specs.Apart.{is_plain, is_switching, RoleAndKey, are_apart}
+use Rattle.si_conflicts.specs.Apart.{IsUpTo, AreUpTo, equal_keys, IsTally}
+use Rattle.si_conflicts.specs.declared.turns.Change.{Change}
+use Rattle.si_conflicts.specs.declared.turns.Change.TheVariants.{SameKey, NewKey, NewCode}
+use Rattle.si_conflicts.specs.Turns.{change_between, keeps_code, keeps_key}
+use Rattle.si_conflicts.proofs.ApartPairSums.{all_in, same_sum, sum_none, sum_two}
 
-abbrev one_if : Bool → ℕ
+abbrev pub one_if : Bool → ℕ
 one_if b = cond b 1 0
 
 -- ---- counts
@@ -110,6 +106,42 @@ fewer_equal key copies t is =
     at true false d = omega arith
     at false b d = omega arith
 
+-- as many copies are a conflict with one more
+pub met_by : (role : Role) (key : Key) (copies : List RoleAndKey) (t : Tally) → IsTally key copies t
+    → cond (is_plain role) (t.plain - t.equal + t.switching) 0 + cond (is_switching role) t.plain 0
+    ≡ count_by (λ e. are_apart e (role, key)) copies
+met_by Absent key copies t is = sym (meets_none key copies)
+met_by Plain key copies t is =
+    let few = fewer_equal key copies t is in
+    let met = meets_plain key copies t is in
+    omega (arith, few, met)
+met_by Switching key copies t is = let met = meets_switching key copies t is in omega (arith, met)
+
+-- the tally of one copy more
+pub tally_with : (role : Role) (key : Key) (copies : List RoleAndKey) (t new : Tally) → IsTally key copies t
+    → new.plain ≡ t.plain + one_if (is_plain role) → new.equal ≡ t.equal + one_if (is_plain role)
+    → new.switching ≡ t.switching + one_if (is_switching role) → IsTally key (copies ++ (role, key) ∷ []) new
+tally_with role key copies t new is plain_is equal_is switching_is = record {
+  plain = plain_is ∙ pushed (λ e. is_plain e.0 && (e.1.code == key.code)) t.plain (is_plain role) is.plain
+      (with_true (is_plain role) (key.code == key.code) code);
+  equal = equal_is ∙ pushed (λ e. is_plain e.0 && equal_keys e.1 key) t.equal (is_plain role) is.equal
+      (with_true (is_plain role) (equal_keys key key) (ap₂ (λ a b. a && b) code (eq-eqb key.excited key.excited refl)));
+  switching = switching_is ∙ pushed (λ e. is_switching e.0 && (e.1.code == key.code)) t.switching (is_switching role)
+      is.switching (with_true (is_switching role) (key.code == key.code) code);
+}
+  where
+    code : (key.code == key.code) ≡ true
+    code = eq-eqb key.code key.code refl
+
+    with_true : (a b : Bool) → b ≡ true → (a && b) ≡ a
+    with_true true b is = is
+    with_true false b is = refl
+
+    pushed : (q : RoleAndKey → Bool) (n : ℕ) (one : Bool) → n ≡ count_by q copies → q (role, key) ≡ one
+        → n + cond one 1 0 ≡ count_by q (copies ++ (role, key) ∷ [])
+    pushed q n one is same = ap₂ (λ a b. a + one_if b) is (sym same)
+        ∙ sym (sum_by_push (λ e. cond (q e) 1 0) copies (role, key))
+
 -- ---- another key
 pub up_to_later : (x y z : Key) → IsUpTo x y → IsUpTo y z → IsUpTo x z
 up_to_later x y z (inl a) (inl b) = inl (omega arith)
@@ -137,45 +169,62 @@ other_key x y z (inr a) (inr b) other =
     other (let l = a.1 in let m = b.1 in omega arith)))
 
 module _ (from to : Key) (order : IsUpTo from to) (copies : List RoleAndKey) (all : AreUpTo copies from) where
-  pub tally_of_code : from.code ≢ to.code → IsTally to copies (record { plain = 0; equal = 0; switching = 0 })
-  tally_of_code other = record {
-    plain = sym (count_none (λ e. is_plain e.0 && (e.1.code == to.code)) copies
-        (All-weaker (λ e. IsUpTo e.1 from) (λ e. (is_plain e.0 && (e.1.code == to.code)) ≡ false)
-        (λ e up. and_false (is_plain e.0) (e.1.code == to.code) (other_code e.1 from to up order other)) copies all));
-    equal = sym (count_none (λ e. is_plain e.0 && equal_keys e.1 to) copies
-        (All-weaker (λ e. IsUpTo e.1 from) (λ e. (is_plain e.0 && equal_keys e.1 to) ≡ false)
-        (λ e up. and_false (is_plain e.0) (equal_keys e.1 to)
-        (ap (λ w. w && (e.1.excited == to.excited)) (other_code e.1 from to up order other))) copies all));
-    switching = sym (count_none (λ e. is_switching e.0 && (e.1.code == to.code)) copies
-        (All-weaker (λ e. IsUpTo e.1 from) (λ e. (is_switching e.0 && (e.1.code == to.code)) ≡ false)
-        (λ e up. and_false (is_switching e.0) (e.1.code == to.code) (other_code e.1 from to up order other))
-        copies all));
+  none_of : (q : RoleAndKey → Bool) → ((e : RoleAndKey) → IsUpTo e.1 from → q e ≡ false) → count_by q copies ≡ 0
+  none_of q none = count_none q copies (All-weaker (λ e. IsUpTo e.1 from) (λ e. q e ≡ false) none copies all)
+
+  kept_by_code : (q : Role → Bool) (n : ℕ) → n ≡ count_by (λ e. q e.0 && (e.1.code == from.code)) copies
+      → cond (from.code == to.code) n 0 ≡ count_by (λ e. q e.0 && (e.1.code == to.code)) copies
+  kept_by_code q n is = elim (cases_eq from.code to.code) [
+    | inl same ↦ ap (λ w. cond w n 0) (eq-eqb from.code to.code same) ∙ is
+        ∙ ap (λ k. count_by (λ e. q e.0 && (e.1.code == k)) copies) same
+    | inr other ↦ ap (λ w. cond w n 0) (ne_eqb from.code to.code other)
+        ∙ sym (none_of (λ e. q e.0 && (e.1.code == to.code))
+        (λ e up. and_false (q e.0) (e.1.code == to.code) (other_code e.1 from to up order other)))
+  ]
+
+  kept_by_key : (n : ℕ) → n ≡ count_by (λ e. is_plain e.0 && equal_keys e.1 from) copies
+      → cond (equal_keys from to) n 0 ≡ count_by (λ e. is_plain e.0 && equal_keys e.1 to) copies
+  kept_by_key n is = elim (cases_eq from.code to.code) [
+    | inr other ↦ ap (λ w. cond (w && (from.excited == to.excited)) n 0) (ne_eqb from.code to.code other)
+        ∙ sym (none_of (λ e. is_plain e.0 && equal_keys e.1 to) (λ e up. and_false (is_plain e.0) (equal_keys e.1 to)
+        (ap (λ w. w && (e.1.excited == to.excited)) (other_code e.1 from to up order other))))
+    | inl code ↦ elim (cases_eq from.excited to.excited) [
+      | inl same ↦ ap₂ (λ v w. cond (v && w) n 0) (eq-eqb from.code to.code code)
+          (eq-eqb from.excited to.excited same) ∙ is
+          ∙ ap₂ (λ k l. count_by (λ e. is_plain e.0 && ((e.1.code == k) && (e.1.excited == l))) copies) code same
+      | inr other ↦ ap (λ w. cond w n 0) (and_false (from.code == to.code) (from.excited == to.excited)
+          (ne_eqb from.excited to.excited other))
+          ∙ sym (none_of (λ e. is_plain e.0 && equal_keys e.1 to) (λ e up. and_false (is_plain e.0)
+          (equal_keys e.1 to) (other_key e.1 from to up order other)))
+    ]
+  ]
+
+  -- the tally for the next key, after that change
+  pub tally_for : (change : Change) → change ≡ change_between from to → (t new : Tally) → IsTally from copies t
+      → new.plain ≡ cond (keeps_code change) t.plain 0 → new.equal ≡ cond (keeps_key change) t.equal 0
+      → new.switching ≡ cond (keeps_code change) t.switching 0 → IsTally to copies new
+  tally_for change change_is t new is plain_is equal_is switching_is = record {
+    plain = plain_is ∙ ap (λ w. cond w t.plain 0) code ∙ kept_by_code is_plain t.plain is.plain;
+    equal = equal_is ∙ ap (λ w. cond w t.equal 0) key ∙ kept_by_key t.equal is.equal;
+    switching = switching_is ∙ ap (λ w. cond w t.switching 0) code
+        ∙ kept_by_code is_switching t.switching is.switching;
   }
+    where
+      code_kept : (a b : Bool) → keeps_code (cond a (cond b SameKey NewKey) NewCode) ≡ a
+      code_kept true true = refl
+      code_kept true false = refl
+      code_kept false b = refl
 
-  pub tally_of_key : (t : Tally) → IsTally from copies t → from.code ≡ to.code → from.excited ≢ to.excited
-      → IsTally to copies (record { plain = t.plain; equal = 0; switching = t.switching })
-  tally_of_key t is codes other = record {
-    plain = is.plain ∙ ap (λ k. count_by (λ e. is_plain e.0 && (e.1.code == k)) copies) codes;
-    equal = sym (count_none (λ e. is_plain e.0 && equal_keys e.1 to) copies
-        (All-weaker (λ e. IsUpTo e.1 from) (λ e. (is_plain e.0 && equal_keys e.1 to) ≡ false)
-        (λ e up. and_false (is_plain e.0) (equal_keys e.1 to) (other_key e.1 from to up order other)) copies all));
-    switching = is.switching ∙ ap (λ k. count_by (λ e. is_switching e.0 && (e.1.code == k)) copies) codes;
-  }
+      key_kept : (a b : Bool) → keeps_key (cond a (cond b SameKey NewKey) NewCode) ≡ (a && b)
+      key_kept true true = refl
+      key_kept true false = refl
+      key_kept false b = refl
 
--- the tally of no copy is that of copies that count nothing
-pub no_tally : (key : Key) (copies : List RoleAndKey) (t : Tally) → IsTally key [] t
-    → IsTally key copies (record { plain = 0; equal = 0; switching = 0 }) → IsTally key copies t
-no_tally key copies t none is = record {
-  plain = none.plain ∙ is.plain;
-  equal = none.equal ∙ is.equal;
-  switching = none.switching ∙ is.switching;
-}
+      code : keeps_code change ≡ (from.code == to.code)
+      code = ap keeps_code change_is ∙ code_kept (from.code == to.code) (from.excited == to.excited)
 
-pub tally_same : (from to : Key) (copies : List RoleAndKey) (t : Tally) → IsTally from copies t → from.code ≡ to.code
-    → from.excited ≡ to.excited → IsTally to copies t
-tally_same from to copies t is codes excited =
-    let same : from ≡ to = λ i. record { code = codes i; excited = excited i } in
-    subst (λ k. IsTally k copies t) same is
+      key : keeps_key change ≡ equal_keys from to
+      key = ap keeps_key change_is ∙ key_kept (from.code == to.code) (from.excited == to.excited)
 
 -- ---- the order of keys and of members
 less_code : (a b : ℕ) → a < b → nat_cmp a b ≡ Less
@@ -203,107 +252,6 @@ not_less Greater p is = refl
 pub up_to : (x y : Member) → is_lt (member_cmp y x) ≡ false → IsUpTo x.key y.key
 up_to x y sorted =
     key_up_to x.key y.key (not_less (key_cmp y.key x.key) (nat_cmp y.state x.state) sorted)
-
--- ---- one member more
-abbrev pub tallied_to : List Class → Bool → List Member → ℕ → List RoleAndKey
-tallied_to classes b ms i = map (role_and_key classes b) (take i ms)
-
-pub tallied_length : (classes : List Class) (b : Bool) (ms : List Member) (i : ℕ) → i < length ms
-    → length (tallied_to classes b ms i) ≡ i
-tallied_length classes b ms i inside =
-    length-map (take i ms) (role_and_key classes b) ∙ length-take-le i ms (omega arith)
-
-module _ (classes : List Class) (ms : List Member) (i : ℕ) (m : Member) (inside : i < length ms)
-    (at : m ≡ get_or ms i m)
-  where
-    taken : take (i + 1) ms ≡ take i ms ++ m ∷ []
-    taken = take_more ms i m inside ∙ ap (λ x. take i ms ++ x ∷ []) (sym at)
-
-    module _ (key : Key) (key_is : key ≡ m.key) where
-      tallied_is : (b : Bool) (role : Role) → role ≡ role_at b (class_of classes m.state)
-          → role_and_key classes b m ≡ (role, key)
-      tallied_is b role is = sym (λ j. (is j, key_is j))
-
-      pub pass_total : (total low high new : ℕ) (at_low at_high : Role)
-          → at_low ≡ role_at false (class_of classes m.state) → at_high ≡ role_at true (class_of classes m.state)
-          → total ≡ pair_sum (stable_count classes) (take i ms)
-          → low ≡ count_by (λ e. are_apart e (at_low, key)) (tallied_to classes false ms i)
-          → high ≡ count_by (λ e. are_apart e (at_high, key)) (tallied_to classes true ms i)
-          → new ≡ total + (low + high) → new ≡ pair_sum (stable_count classes) (take (i + 1) ms)
-      pass_total total low high new at_low at_high low_is high_is old is_low is_high sum =
-          let more = ap (pair_sum (stable_count classes)) taken in
-          let push = pair_push (stable_count classes) (take i ms) m in
-          let two = sum_two (λ y. cond (are_apart (role_and_key classes false y) (role_and_key classes false m)) 1 0)
-          (λ y. cond (are_apart (role_and_key classes true y) (role_and_key classes true m)) 1 0) (take i ms) in
-          let lower = met false at_low low_is in
-          let higher = met true at_high high_is in
-          omega (arith, more, push, two, lower, higher, old, is_low, is_high, sum)
-        where
-          met : (b : Bool) (role : Role) → role ≡ role_at b (class_of classes m.state)
-              → count_by (λ e. are_apart e (role, key)) (tallied_to classes b ms i)
-              ≡ sum_by (λ y. cond (are_apart (role_and_key classes b y) (role_and_key classes b m)) 1 0) (take i ms)
-          met b role is =
-              ap (λ (x : RoleAndKey). count_by (λ e. are_apart e x) (tallied_to classes b ms i))
-              (sym (tallied_is b role is))
-              ∙ sum_map (role_and_key classes b) (λ e. cond (are_apart e (role_and_key classes b m)) 1 0) (take i ms)
-
-      pub pass_tally : (b : Bool) (role : Role) (t : Tally) → role ≡ role_at b (class_of classes m.state)
-          → IsTally key (tallied_to classes b ms i ++ (role, key) ∷ []) t
-          → IsTally key (tallied_to classes b ms (i + 1)) t
-      pass_tally b role t role_is is = subst (λ es. IsTally key es t) (sym all) is
-        where
-          all : tallied_to classes b ms (i + 1) ≡ tallied_to classes b ms i ++ (role, key) ∷ []
-          all = ap (map (role_and_key classes b)) taken ∙ map-append (role_and_key classes b) (take i ms) (m ∷ [])
-              ∙ ap (λ e. tallied_to classes b ms i ++ e ∷ []) (tallied_is b role role_is)
-
-      pub pass_order : (from : Key) → All (λ y. IsUpTo y.key from) (take i ms) → IsUpTo from key
-          → All (λ y. IsUpTo y.key key) (take (i + 1) ms)
-      pass_order from all order = All-more (λ y. IsUpTo y.key key) ms i m inside
-          (All-weaker (λ y. IsUpTo y.key from) (λ y. IsUpTo y.key key) (λ y up. up_to_later y.key from key up order)
-          (take i ms) all)
-          (subst (λ x. IsUpTo x.key key) at (inr (
-            ap (λ (k : Key). k.code) (sym key_is),
-            (let e = ap (λ (k : Key). k.excited) key_is in omega arith),
-          )))
-
-      -- the next member's key isn't before
-      pub pass_next : IsSorted member_cmp ms → (d : Member) → i + 1 < length ms → IsUpTo key (get_or ms (i + 1) d).key
-      pass_next sorted d within = subst (λ k. IsUpTo k (get_or ms (i + 1) d).key) (sym key_is)
-          (subst (λ x. IsUpTo x.key (get_or ms (i + 1) d).key) (sym here)
-          (up_to (get_or ms i d) (get_or ms (i + 1) d) (sorted i d (omega arith) within)))
-        where
-          here : m ≡ get_or ms i d
-          here = at ∙ get_or_default ms i m d inside
-
-      pub next_key : (from : Key) → ((d : Member) → i < length ms → IsUpTo from (get_or ms i d).key) → IsUpTo from key
-      next_key from next = subst (λ k. IsUpTo from k) (ap (λ (x : Member). x.key) (sym at) ∙ sym key_is) (next m inside)
-
-pub tallied_up_to : (classes : List Class) (b : Bool) (ms : List Member) (key : Key)
-    → All (λ y. IsUpTo y.key key) ms → AreUpTo (map (role_and_key classes b) ms) key
-tallied_up_to classes b ms key all = All-map (λ e. IsUpTo e.1 key) (role_and_key classes b) ms all
-
-pub few_met : (q : RoleAndKey → Bool) (classes : List Class) (b : Bool) (ms : List Member) (i n : ℕ)
-    → n ≡ count_by q (tallied_to classes b ms i) → i < length ms → n ≤ i
-few_met q classes b ms i n is inside =
-    let few = count_by-le-length q (tallied_to classes b ms i) in
-    let size = tallied_length classes b ms i inside in
-    omega arith
-
--- the tally of the members before i, as the next key sees it
-pub tally_at : (classes : List Class) (b : Bool) (ms : List Member) (i : ℕ) (from to : Key) (old new : Tally)
-    → ((copies : List RoleAndKey) → AreUpTo copies from → IsTally from copies old → IsTally to copies new)
-    → All (λ y. IsUpTo y.key from) (take i ms) → IsTally from (tallied_to classes b ms i) old
-    → IsTally to (tallied_to classes b ms i) new
-tally_at classes b ms i from to old new moved order is =
-    moved (tallied_to classes b ms i) (tallied_up_to classes b (take i ms) from order) is
-
-pub has_tally : (classes : List Class) (b : Bool) (ms : List Member) (i : ℕ) (key : Key) (t : Tally) → i < length ms
-    → length ms ≤ max_states → IsTally key (tallied_to classes b ms i) t → HasTally key t
-has_tally classes b ms i key t inside few is = record {
-  copies = tallied_to classes b ms i;
-  few = (let size = tallied_length classes b ms i inside in omega arith);
-  is = is;
-}
 
 -- no key is before the first
 pub first_key : (x : Key) → IsUpTo (record { code = 0; excited = 0 }) x

@@ -79,7 +79,8 @@ pub record IsTally (key : Key) (copies : List RoleAndKey) (tally : Tally) : Type
       ≡ count_by (λ e. is_switching e.0 && (e.1.code == key.code)) copies
 
 -- it is the tally of some copies, and of no more than there are states
-pub record HasTally (key : Key) (tally : Tally) : Type 0 where
+pub record HasTally (tally : Tally) : Type 0 where
+  pub key : Key
   pub copies : List RoleAndKey
   pub few : length copies ≤ max_states
   pub is : IsTally key copies tally

@@ -2,6 +2,7 @@ pub mod Conflicts
 pub mod Keys
 pub mod Links
 pub mod Chains
+pub mod Turns
 pub mod Apart
 pub mod Left
 pub mod Crowds

@@ -16,6 +16,7 @@ use crate::keys::Key;
 use crate::members::{Member, members};
 use crate::rings::rings;
 use crate::trial::{count_stable, count_switching};
+use crate::turns::{Turn, turns};
 use si_base::ids::{NoMemory, StateId};
 use si_checks::proper::Proper;
 use si_insert::accept::Accepted;
@@ -28,16 +29,21 @@ use std::marker::Model;
 pub struct CodeChains {
     next: Vec<StateId>,
     members: Vec<Member>,
-    /// Room for the keys of copies in a trial. Contracts don't see it.
+    /// The members as they are counted. Contracts don't see it.
+    turns: Vec<Turn>,
+    /// Room for the keys of copies in a trial. Contracts don't see it either.
     scratch: Vec<Key>,
 }
 
 impl Model for CodeChains {
     ghost use Rattle.si_conflicts.specs.Chains.{Chains};
+    ghost use Rattle.si_conflicts.specs.Turns.{AreTurns};
 
     ghost Value = { Chains };
 
     ghost view = { λ c. record { next = c.next.items; members = c.members.items } };
+
+    ghost invariant = { λ c. AreTurns c.members.items c.turns.items };
 }
 
 impl CodeChains {
@@ -48,10 +54,12 @@ impl CodeChains {
         let coded = graph.coded();
         let next = rings(alloc, coded)?;
         let members = members(alloc, coded, next.as_slice())?;
+        let turns = turns(alloc, members.as_slice())?;
         let scratch = Vec::new(alloc);
         Ok(CodeChains {
             next,
             members,
+            turns,
             scratch,
         })
     }
@@ -90,8 +98,7 @@ impl CodeChains {
             → (n : ℕ) → LeavesConflicts graph.now (C.classes classes.now) n → bar ≤ n }
     {
         let _given = graph.coded().graph();
-        let members = self.members.as_slice();
-        count_stable(members, classes, bar) < bar
+        count_stable(self.turns.as_slice(), classes, bar) < bar
     }
 
     /// How many conflicts the insertion by the partition leaves. The chains stay as they are. It
@@ -110,7 +117,7 @@ impl CodeChains {
         let given = graph.coded().graph();
         let classes = accepted.partition().classes();
         let members = self.members.as_slice();
-        let told = count_stable(members, &classes, u64::MAX);
+        let told = count_stable(self.turns.as_slice(), &classes, u64::MAX);
         let rest = count_switching(alloc, &mut self.scratch, given, classes, members)?;
         Ok(told + rest)
     }
@@ -134,7 +141,7 @@ impl CodeChains {
     {
         let given = graph.coded().graph();
         let members = self.members.as_slice();
-        let told = count_stable(members, &classes, bar);
+        let told = count_stable(self.turns.as_slice(), &classes, bar);
         if told >= bar {
             return Ok(None);
         }

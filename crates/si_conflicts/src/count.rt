@@ -7,6 +7,7 @@ ghost use Rattle.si_conflicts.specs.Keys.{clash_count, key_cmp};
 
 use crate::keys::Key;
 use crate::tally::{Role, Tally};
+use crate::turns::Change;
 use si_base::ids::{Code, NoMemory};
 use std::alloc::Global;
 
@@ -36,9 +37,9 @@ fn clashes_of_sorted(keys: &[Key]) -> u64
     };
     let mut total: u64 = 0;
     for key in keys {
-        tally = tally.for_next_key(&last, key);
-        total += tally.conflicts(Role::Plain, key) as u64;
-        tally = tally.with(Role::Plain, key);
+        tally = tally.for_change(Change::between(&last, key));
+        total += tally.conflicts(Role::Plain) as u64;
+        tally = tally.with(Role::Plain);
         last = *key;
     }
     total

@@ -13,3 +13,4 @@ mod members;
 mod rings;
 mod tally;
 mod trial;
+mod turns;

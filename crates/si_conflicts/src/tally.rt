@@ -1,12 +1,14 @@
 //! Copies of states of one code, counted at a value of the new signal.
 
-ghost use Rattle.std.specs.Prelude.{◌≡◌, ◌+◌, ◌<◌, ◌≤◌, ℕ, List, [], ◌∷◌, ◌++◌, count_by};
+ghost use Rattle.std.specs.Prelude.{◌≡◌, ◌+◌, ◌<◌, ◌≤◌, ℕ, List, [], ◌∷◌, ◌++◌, cond, count_by};
 ghost use Rattle.si_conflicts.specs.Apart as Apart;
 ghost use Rattle.si_conflicts.specs.Apart.{role_at, are_apart, RoleAndKey, HasTally, IsTally};
 ghost use Rattle.si_conflicts.specs.Apart.{IsUpTo};
 ghost use Rattle.si_conflicts.specs.Apart.{AreUpTo};
+ghost use Rattle.si_conflicts.specs.declared.keys.Key.{Key};
+ghost use Rattle.si_conflicts.specs.Turns.{change_between};
 
-use crate::keys::Key;
+use crate::turns::Change;
 use si_insert::partition::Class;
 
 /// What the new signal does at the copy of a state, at one of its values.
@@ -32,6 +34,13 @@ impl Role {
             (Class::High, false) => Role::Absent,
             _ => Role::Plain,
         }
+    }
+
+    /// Whether the new signal is stable.
+    pub fn is_plain(self) -> bool
+        ensures { result ≡ Apart.is_plain self }
+    {
+        matches!(self, Role::Plain)
     }
 
     /// Whether the new signal may switch.
@@ -65,55 +74,50 @@ impl Tally {
         }
     }
 
-    /// The tally for the second key in place of the first, where no copy has a key after the first
-    /// and the second isn't before it.
-    pub fn for_next_key(self, from: &Key, to: &Key) -> Tally
-        requires { IsUpTo from.now to.now }
-        ensures { (copies : List RoleAndKey) → AreUpTo copies from.now
-            → IsTally from.now copies self
-            → IsTally to.now copies result }
+    /// The tally for the next key in place of that of the copies so far, which none of them has a
+    /// key after and which isn't after the next.
+    pub fn for_change(self, change: Change) -> Tally
+        ensures { (copies : List RoleAndKey) → (from to : Key) → change ≡ change_between from to
+            → IsUpTo from to → AreUpTo copies from
+            → IsTally from copies self → IsTally to copies result }
     {
-        if from.code != to.code {
-            Tally::none()
-        } else if from.excited != to.excited {
-            Tally { equal: 0, ..self }
-        } else {
-            self
+        Tally {
+            plain: where_so(change.keeps_code(), self.plain),
+            equal: where_so(change.keeps_key(), self.equal),
+            switching: where_so(change.keeps_code(), self.switching),
         }
     }
 
-    /// How many of the copies are a conflict with one more of that role.
-    pub fn conflicts(self, role: Role, key: &Key) -> u32
-        requires { HasTally key.now self }
-        ensures { (copies : List RoleAndKey) → IsTally key.now copies self
-            → result ≡ count_by (λ e. are_apart e (role, key.now)) copies }
+    /// How many of the copies are a conflict with one more of that role and the tally's key.
+    pub fn conflicts(self, role: Role) -> u32
+        requires { HasTally self }
+        ensures { (copies : List RoleAndKey) → (key : Key) → IsTally key copies self
+            → result ≡ count_by (λ e. are_apart e (role, key)) copies }
     {
-        let _ = key;
-        match role {
-            Role::Absent => 0,
-            Role::Plain => self.plain - self.equal + self.switching,
-            Role::Switching => self.plain,
-        }
+        let stable = self.plain - self.equal + self.switching;
+        where_so(role.is_plain(), stable) + where_so(role.is_switching(), self.plain)
     }
 
-    /// The tally with that copy.
-    pub fn with(self, role: Role, key: &Key) -> Tally
-        requires { HasTally key.now self }
-        ensures { (copies : List RoleAndKey) → IsTally key.now copies self
-            → IsTally key.now (copies ++ (role, key.now) ∷ []) result }
+    /// The tally with one more copy, of that role and the tally's key.
+    pub fn with(self, role: Role) -> Tally
+        requires { HasTally self }
+        ensures { (copies : List RoleAndKey) → (key : Key) → IsTally key copies self
+            → IsTally key (copies ++ (role, key) ∷ []) result }
     {
-        let _ = key;
-        match role {
-            Role::Absent => self,
-            Role::Plain => Tally {
-                plain: self.plain + 1,
-                equal: self.equal + 1,
-                ..self
-            },
-            Role::Switching => Tally {
-                switching: self.switching + 1,
-                ..self
-            },
+        let plain = where_so(role.is_plain(), 1);
+        let switching = where_so(role.is_switching(), 1);
+        Tally {
+            plain: self.plain + plain,
+            equal: self.equal + plain,
+            switching: self.switching + switching,
         }
     }
+}
+
+/// The number where that is so, or else 0. Which it is hangs on the copy at hand, so that a branch
+/// would often be foretold wrongly: a choice of two numbers costs less.
+fn where_so(so: bool, n: u32) -> u32
+    ensures { result ≡ cond so n 0 }
+{
+    if so { n } else { 0 }
 }

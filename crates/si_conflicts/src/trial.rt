@@ -1,20 +1,20 @@
 //! The conflicts that an insertion would leave, counted without making it.
 
 ghost use Rattle.std.specs.Prelude.{◌≡◌, ◌+◌, ◌*◌, ◌<◌, ◌≤◌, ◌++◌, ℕ, ◌↔◌, Bool, All, IfOk, OnOk};
-ghost use Rattle.std.specs.Prelude.{IsTrue, length, take};
-ghost use Rattle.std.specs.List.Sorted.{IsSorted};
+ghost use Rattle.std.specs.Prelude.{IsTrue, List, length};
 ghost use Rattle.si_base.specs.Limits.{max_states};
 ghost use Rattle.si_base.specs.Graph.{IsNonInput};
 ghost use Rattle.si_insert.specs.Partition.{class_of};
 ghost use Rattle.si_conflicts.specs.Apart as Apart;
 ghost use Rattle.si_conflicts.specs.Apart.{AreStaying, AllStaying, pair_sum};
-ghost use Rattle.si_conflicts.specs.Chains.{member_cmp};
+ghost use Rattle.si_conflicts.specs.Turns.{AreTurns, HaveMembers};
 
 use crate::classes::Classes;
 use crate::count::count_clashes;
 use crate::keys::Key;
 use crate::members::Member;
 use crate::tally::{Role, Tally};
+use crate::turns::Turn;
 use si_base::graph::Edge;
 use si_base::ids::{Code, NoMemory, StateId};
 use si_graph::graph::Graph;
@@ -23,36 +23,30 @@ use std::alloc::Global;
 
 /// How many pairs of copies are a conflict that the new signal shows, or the others where it is
 /// stable. It ends as soon as they are `bar`.
-pub fn count_stable<C: Classes>(members: &[Member], classes: &C, bar: u64) -> u64
-    requires few { length members.now ≤ max_states }
-    requires sorted { IsSorted member_cmp members.now }
-    requires within { All (λ m. m.state < length (C.classes classes.now)) members.now }
-    ensures all { result < bar
-        → result ≡ pair_sum (Apart.stable_count (C.classes classes.now)) members.now }
-    ensures more { bar ≤ result
-        → bar ≤ pair_sum (Apart.stable_count (C.classes classes.now)) members.now }
+pub fn count_stable<C: Classes>(turns: &[Turn], classes: &C, bar: u64) -> u64
+    requires members { HaveMembers turns.now }
+    requires within { All (λ t. t.state < length (C.classes classes.now)) turns.now }
+    ensures all { result < bar → (members : List Member) → AreTurns members turns.now
+        → result ≡ pair_sum (Apart.stable_count (C.classes classes.now)) members }
+    ensures more { bar ≤ result → (members : List Member) → AreTurns members turns.now
+        → bar ≤ pair_sum (Apart.stable_count (C.classes classes.now)) members }
     ensures few { result ≤ 2 * max_states * max_states }
 {
     let mut low = Tally::none();
     let mut high = Tally::none();
-    let mut key = Key {
-        code: Code(0),
-        excited: Code(0),
-    };
     let mut total: u64 = 0;
-    for m in members {
-        let class = classes.class(m.state);
+    for turn in turns {
+        let class = classes.class(turn.state);
         let at_low = Role::of(class, false);
         let at_high = Role::of(class, true);
-        low = low.for_next_key(&key, &m.key);
-        high = high.for_next_key(&key, &m.key);
-        key = m.key;
-        total += low.conflicts(at_low, &key) as u64 + high.conflicts(at_high, &key) as u64;
+        low = low.for_change(turn.change);
+        high = high.for_change(turn.change);
+        total += low.conflicts(at_low) as u64 + high.conflicts(at_high) as u64;
         if total >= bar {
             return total;
         }
-        low = low.with(at_low, &key);
-        high = high.with(at_high, &key);
+        low = low.with(at_low);
+        high = high.with(at_high);
     }
     total
 }

@@ -13,24 +13,25 @@ loop-key-init c = record {
   few = omega arith;
 }
 
-pub for_next_key-tally-requires : goal.for_next_key-tally-requires
-for_next_key-tally-requires c =
-    is_later c.args.keys.now c.loop-key.key-index c.key-item.result c.loop-key-test.true c.key-item.is c.loop-key.last
-    c.loop-key.invariant.next
-
 pub conflicts-requires : goal.conflicts-requires
 conflicts-requires c =
     let keys = c.args.keys.now in
     let i = c.loop-key.key-index in
-    has_plain keys i c.key-item.result c.for_next_key-tally.result c.loop-key-test.true c.requires.few
-    (c.for_next_key-tally.ensures (plain_to keys i) c.loop-key.invariant.order c.loop-key.invariant.tally)
+    let later = is_later keys i c.key-item.result c.loop-key-test.true c.key-item.is c.loop-key.last
+    c.loop-key.invariant.next in
+    has_plain keys i c.key-item.result c.for_change-tally.result c.loop-key-test.true c.requires.few
+    (c.for_change-tally.ensures (plain_to keys i) c.loop-key.last c.key-item.result c.between.ensures later
+    c.loop-key.invariant.order c.loop-key.invariant.tally)
 
 pub with-tally-requires : goal.with-tally-requires
 with-tally-requires c =
     let keys = c.args.keys.now in
     let i = c.loop-key.key-index in
-    has_plain keys i c.key-item.result c.for_next_key-tally.result c.loop-key-test.true c.requires.few
-    (c.for_next_key-tally.ensures (plain_to keys i) c.loop-key.invariant.order c.loop-key.invariant.tally)
+    let later = is_later keys i c.key-item.result c.loop-key-test.true c.key-item.is c.loop-key.last
+    c.loop-key.invariant.next in
+    has_plain keys i c.key-item.result c.for_change-tally.result c.loop-key-test.true c.requires.few
+    (c.for_change-tally.ensures (plain_to keys i) c.loop-key.last c.key-item.result c.between.ensures later
+    c.loop-key.invariant.order c.loop-key.invariant.tally)
 
 pub loop-key-preserved : goal.loop-key-preserved
 loop-key-preserved c =
@@ -40,11 +41,12 @@ loop-key-preserved c =
     let inside = c.loop-key-test.true in
     let at = c.key-item.is in
     let last = c.loop-key.last in
-    let tally = c.for_next_key-tally.ensures (plain_to keys i) c.loop-key.invariant.order c.loop-key.invariant.tally in
-    let met = c.conflicts.ensures (plain_to keys i) tally in
     let later = is_later keys i key inside at last c.loop-key.invariant.next in
+    let tally = c.for_change-tally.ensures (plain_to keys i) last key c.between.ensures later
+    c.loop-key.invariant.order c.loop-key.invariant.tally in
+    let met = c.conflicts.ensures (plain_to keys i) key tally in
     record {
-      tally = more_tallied keys i key inside at _ (c.with-tally.ensures (plain_to keys i) tally);
+      tally = more_tallied keys i key inside at _ (c.with-tally.ensures (plain_to keys i) key tally);
       order = more_in_order keys i key inside at last c.loop-key.invariant.order later;
       next = next_later keys i key inside at c.requires.sorted;
       total = more_clashes keys i key inside at c.loop-key.total c.conflicts.result _ c.loop-key.invariant.total met

@@ -1,128 +1,121 @@
 use Rattle.std.proofs.Common.{◌+◌, ◌∙◌, arith, ap, refl, true, false}
 use Rattle.si_conflicts.specs.Apart as Apart
-use Rattle.si_conflicts.specs.Apart.{are_apart, role_at, IsTally, IsUpTo, pair_sum}
+use Rattle.si_conflicts.specs.Apart.{role_at}
+use Rattle.si_conflicts.specs.Keys.{no_key}
 use Rattle.si_conflicts.proofs.ApartPairSums.{pair_take}
-use Rattle.si_conflicts.proofs.TallyLemmas.{tallied_to, few_met, first_key, next_key, tally_at, has_tally, pass_total}
-use Rattle.si_conflicts.proofs.TallyLemmas.{pass_tally, pass_order, pass_next}
+use Rattle.si_conflicts.proofs.TurnLemmas.{has_tally, few_more, total_more, passed_more, all_passed, few_turns}
 use Rattle.si_conflicts.proofs.trial.count_stable.Goals as goal
 
-pub loop-m-init : goal.loop-m-init
-loop-m-init g c = record {
-  low = c.none-low.ensures (record { code = 0; excited = 0 });
-  high = c.none-high.ensures (record { code = 0; excited = 0 });
-  order = λ k d within. absurd (omega arith);
-  next = λ d within. first_key _;
-  total = refl;
+pub loop-turn-init : goal.loop-turn-init
+loop-turn-init g c = record {
+  passed = λ ms are. record {
+    low_is = c.none-low.ensures no_key;
+    high_is = c.none-high.ensures no_key;
+    order = λ k d within. absurd (omega arith);
+    total_is = refl;
+  };
   few = omega arith;
 }
 
-pub for_next_key-low-requires : goal.for_next_key-low-requires
-for_next_key-low-requires g c =
-    next_key (g.C.Classes.classes c.args.classes.now) c.args.members.now c.loop-m.m-index c.m-item.result
-    c.loop-m-test.true c.m-item.is _ refl c.loop-m.key c.loop-m.invariant.next
-
 pub conflicts-requires : goal.conflicts-requires
 conflicts-requires g c =
-    let classes = g.C.Classes.classes c.args.classes.now in
-    let ms = c.args.members.now in
-    let i = c.loop-m.m-index in
-    let low = tally_at classes false ms i c.loop-m.key _ _ _ c.for_next_key-low.ensures c.loop-m.invariant.order
-    c.loop-m.invariant.low in
-    has_tally classes false ms i _ _ c.loop-m-test.true c.requires.few low
+    let have = c.requires.members in
+    let passed = c.loop-turn.invariant.passed have.members have.are in
+    has_tally (g.C.Classes.classes c.args.classes.now) have.members c.args.turns.now have.are c.loop-turn.turn-index
+    c.turn-item.result c.loop-turn-test.true c.turn-item.is have.few false _ _ c.for_change-low.ensures passed.order
+    passed.low_is
 
-pub conflicts-requires-in-loop-m : goal.conflicts-requires-in-loop-m
-conflicts-requires-in-loop-m g c =
-    let classes = g.C.Classes.classes c.args.classes.now in
-    let ms = c.args.members.now in
-    let i = c.loop-m.m-index in
-    let high = tally_at classes true ms i c.loop-m.key _ _ _ c.for_next_key-high.ensures c.loop-m.invariant.order
-    c.loop-m.invariant.high in
-    has_tally classes true ms i _ _ c.loop-m-test.true c.requires.few high
+pub conflicts-requires-in-loop-turn : goal.conflicts-requires-in-loop-turn
+conflicts-requires-in-loop-turn g c =
+    let have = c.requires.members in
+    let passed = c.loop-turn.invariant.passed have.members have.are in
+    has_tally (g.C.Classes.classes c.args.classes.now) have.members c.args.turns.now have.are c.loop-turn.turn-index
+    c.turn-item.result c.loop-turn-test.true c.turn-item.is have.few true _ _ c.for_change-high.ensures passed.order
+    passed.high_is
 
 pub with-low-requires : goal.with-low-requires
 with-low-requires g c =
-    let classes = g.C.Classes.classes c.args.classes.now in
-    let ms = c.args.members.now in
-    let i = c.loop-m.m-index in
-    let low = tally_at classes false ms i c.loop-m.key _ _ _ c.for_next_key-low.ensures c.loop-m.invariant.order
-    c.loop-m.invariant.low in
-    has_tally classes false ms i _ _ c.loop-m-test.true c.requires.few low
+    let have = c.requires.members in
+    let passed = c.loop-turn.invariant.passed have.members have.are in
+    has_tally (g.C.Classes.classes c.args.classes.now) have.members c.args.turns.now have.are c.loop-turn.turn-index
+    c.turn-item.result c.loop-turn-test.true c.turn-item.is have.few false _ _ c.for_change-low.ensures passed.order
+    passed.low_is
 
 pub with-high-requires : goal.with-high-requires
 with-high-requires g c =
-    let classes = g.C.Classes.classes c.args.classes.now in
-    let ms = c.args.members.now in
-    let i = c.loop-m.m-index in
-    let high = tally_at classes true ms i c.loop-m.key _ _ _ c.for_next_key-high.ensures c.loop-m.invariant.order
-    c.loop-m.invariant.high in
-    has_tally classes true ms i _ _ c.loop-m-test.true c.requires.few high
+    let have = c.requires.members in
+    let passed = c.loop-turn.invariant.passed have.members have.are in
+    has_tally (g.C.Classes.classes c.args.classes.now) have.members c.args.turns.now have.are c.loop-turn.turn-index
+    c.turn-item.result c.loop-turn-test.true c.turn-item.is have.few true _ _ c.for_change-high.ensures passed.order
+    passed.high_is
 
-pub loop-m-preserved : goal.loop-m-preserved
-loop-m-preserved g c =
-    let classes = g.C.Classes.classes c.args.classes.now in
-    let ms = c.args.members.now in
-    let i = c.loop-m.m-index in
-    let m = c.m-item.result in
-    let inside = c.loop-m-test.true in
-    let at = c.m-item.is in
-    let low_role = c.of-at_low.ensures ∙ ap (role_at false) c.class-class.ensures in
-    let high_role = c.of-at_high.ensures ∙ ap (role_at true) c.class-class.ensures in
-    let low = tally_at classes false ms i c.loop-m.key _ _ _ c.for_next_key-low.ensures c.loop-m.invariant.order
-    c.loop-m.invariant.low in
-    let high = tally_at classes true ms i c.loop-m.key _ _ _ c.for_next_key-high.ensures c.loop-m.invariant.order
-    c.loop-m.invariant.high in
-    let met_low = c.conflicts.ensures (tallied_to classes false ms i) low in
-    let met_high = c.conflicts-in-loop-m.ensures (tallied_to classes true ms i) high in
-    record {
-      low = pass_tally classes ms i m inside at _ refl false _ c.with-low.result low_role
-          (c.with-low.ensures (tallied_to classes false ms i) low);
-      high = pass_tally classes ms i m inside at _ refl true _ c.with-high.result high_role
-          (c.with-high.ensures (tallied_to classes true ms i) high);
-      order = pass_order classes ms i m inside at _ refl c.loop-m.key c.loop-m.invariant.order
-          (next_key classes ms i m inside at _ refl c.loop-m.key c.loop-m.invariant.next);
-      next = pass_next classes ms i m inside at _ refl c.requires.sorted;
-      total = pass_total classes ms i m inside at _ refl c.loop-m.total _ _ _ _ _ low_role high_role
-          c.loop-m.invariant.total met_low met_high refl;
-      few = (
-          let few_low = few_met _ classes false ms i _ met_low inside in
-          let few_high = few_met _ classes true ms i _ met_high inside in
-          omega (arith, few_low, few_high, c.loop-m.invariant.few, inside, c.requires.few));
-    }
+pub loop-turn-preserved : goal.loop-turn-preserved
+loop-turn-preserved g c = record {
+  passed = λ ms are.
+      passed_more (g.C.Classes.classes c.args.classes.now) ms c.args.turns.now are c.loop-turn.turn-index
+      c.turn-item.result c.loop-turn-test.true c.turn-item.is c.of-at_low.result c.of-at_high.result
+      (c.of-at_low.ensures ∙ ap (role_at false) c.class-class.ensures)
+      (c.of-at_high.ensures ∙ ap (role_at true) c.class-class.ensures)
+      _ _ _ _ _ (c.loop-turn.invariant.passed ms are) c.for_change-low.ensures c.for_change-high.ensures
+      _ _ c.conflicts.ensures c.conflicts-in-loop-turn.ensures
+      _ _ c.with-low.ensures c.with-high.ensures;
+  few = (
+      let have = c.requires.members in
+      few_more (g.C.Classes.classes c.args.classes.now) have.members c.args.turns.now have.are c.loop-turn.turn-index
+      c.turn-item.result c.loop-turn-test.true c.turn-item.is c.of-at_low.result c.of-at_high.result
+      (c.of-at_low.ensures ∙ ap (role_at false) c.class-class.ensures)
+      (c.of-at_high.ensures ∙ ap (role_at true) c.class-class.ensures)
+      _ _ _ _ _ (c.loop-turn.invariant.passed have.members have.are) c.for_change-low.ensures c.for_change-high.ensures
+      _ _ c.conflicts.ensures c.conflicts-in-loop-turn.ensures
+      have.few c.loop-turn.invariant.few);
+}
 
 pub returns-then-total-bar-clause-more : goal.returns-then-total-bar-clause-more
-returns-then-total-bar-clause-more g c = λ enough. (
-    let classes = g.C.Classes.classes c.args.classes.now in
-    let ms = c.args.members.now in
-    let i = c.loop-m.m-index in
-    let m = c.m-item.result in
-    let inside = c.loop-m-test.true in
-    let at = c.m-item.is in
-    let low_role = c.of-at_low.ensures ∙ ap (role_at false) c.class-class.ensures in
-    let high_role = c.of-at_high.ensures ∙ ap (role_at true) c.class-class.ensures in
-    let low = tally_at classes false ms i c.loop-m.key _ _ _ c.for_next_key-low.ensures c.loop-m.invariant.order
-    c.loop-m.invariant.low in
-    let high = tally_at classes true ms i c.loop-m.key _ _ _ c.for_next_key-high.ensures c.loop-m.invariant.order
-    c.loop-m.invariant.high in
-    let met_low = c.conflicts.ensures (tallied_to classes false ms i) low in
-    let met_high = c.conflicts-in-loop-m.ensures (tallied_to classes true ms i) high in
-    let total = pass_total classes ms i m inside at _ refl c.loop-m.total c.conflicts.result
-    c.conflicts-in-loop-m.result (c.loop-m.total + (c.conflicts.result + c.conflicts-in-loop-m.result)) _ _
-    low_role high_role c.loop-m.invariant.total met_low met_high refl in
-    let part = pair_take (Apart.stable_count classes) (i + 1) ms in
+returns-then-total-bar-clause-more g c = λ enough ms are. (
+    let total = total_more (g.C.Classes.classes c.args.classes.now) ms c.args.turns.now are c.loop-turn.turn-index
+    c.turn-item.result c.loop-turn-test.true c.turn-item.is c.of-at_low.result c.of-at_high.result
+    (c.of-at_low.ensures ∙ ap (role_at false) c.class-class.ensures)
+    (c.of-at_high.ensures ∙ ap (role_at true) c.class-class.ensures)
+    _ _ _ _ _ (c.loop-turn.invariant.passed ms are) c.for_change-low.ensures c.for_change-high.ensures
+    _ _ c.conflicts.ensures c.conflicts-in-loop-turn.ensures in
+    let part = pair_take (Apart.stable_count (g.C.Classes.classes c.args.classes.now)) (c.loop-turn.turn-index + 1)
+    ms in
     omega (arith, total, part, enough))
 
 pub returns-then-total-bar-clause-few : goal.returns-then-total-bar-clause-few
 returns-then-total-bar-clause-few g c =
+    let have = c.requires.members in
+    let few = few_more (g.C.Classes.classes c.args.classes.now) have.members c.args.turns.now have.are c.loop-turn.turn-index
+    c.turn-item.result c.loop-turn-test.true c.turn-item.is c.of-at_low.result c.of-at_high.result
+    (c.of-at_low.ensures ∙ ap (role_at false) c.class-class.ensures)
+    (c.of-at_high.ensures ∙ ap (role_at true) c.class-class.ensures)
+    _ _ _ _ _ (c.loop-turn.invariant.passed have.members have.are) c.for_change-low.ensures c.for_change-high.ensures
+    _ _ c.conflicts.ensures c.conflicts-in-loop-turn.ensures
+    have.few c.loop-turn.invariant.few in
+    let size = few_turns have.members c.args.turns.now have.are in
+    omega (arith, few, have.few, size, c.loop-turn-test.true)
+
+pub returns-clause-all : goal.returns-clause-all
+returns-clause-all g c = λ below ms are.
     let classes = g.C.Classes.classes c.args.classes.now in
-    let ms = c.args.members.now in
-    let i = c.loop-m.m-index in
-    let inside = c.loop-m-test.true in
-    let low = tally_at classes false ms i c.loop-m.key _ _ _ c.for_next_key-low.ensures c.loop-m.invariant.order
-    c.loop-m.invariant.low in
-    let high = tally_at classes true ms i c.loop-m.key _ _ _ c.for_next_key-high.ensures c.loop-m.invariant.order
-    c.loop-m.invariant.high in
-    let met_low = c.conflicts.ensures (tallied_to classes false ms i) low in
-    let met_high = c.conflicts-in-loop-m.ensures (tallied_to classes true ms i) high in
-    let few_low = few_met _ classes false ms i _ met_low inside in
-    let few_high = few_met _ classes true ms i _ met_high inside in
-    omega (arith, few_low, few_high, c.loop-m.invariant.few, inside, c.requires.few)
+    (c.loop-turn.invariant.passed ms are).total_is
+    ∙ all_passed classes ms c.args.turns.now are c.loop-turn.turn-index c.loop-turn-test.false
+
+pub returns-clause-more : goal.returns-clause-more
+returns-clause-more g c = λ enough ms are. (
+    let classes = g.C.Classes.classes c.args.classes.now in
+    let total = (c.loop-turn.invariant.passed ms are).total_is in
+    let all = all_passed classes ms c.args.turns.now are c.loop-turn.turn-index c.loop-turn-test.false in
+    omega (arith, total, all, enough))
+
+pub overflow_add-total-in-loop-turn : goal.overflow_add-total-in-loop-turn
+overflow_add-total-in-loop-turn g c =
+    let have = c.requires.members in
+    let size = few_turns have.members c.args.turns.now have.are in
+    omega (arith, c.loop-turn.invariant.few, size, have.few, c.loop-turn-test.true)
+
+pub returns-clause-few : goal.returns-clause-few
+returns-clause-few g c =
+    let have = c.requires.members in
+    let size = few_turns have.members c.args.turns.now have.are in
+    omega (arith, c.loop-turn.invariant.few, size, have.few, c.loop-turn.auto.turn-index-end)
