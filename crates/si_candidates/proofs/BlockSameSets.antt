@@ -4,7 +4,7 @@ use Rattle.std.proofs.Common.{refl, sym, ap, ap₂, subst, ◌∙◌, arith}
 use Rattle.std.proofs.Common.{IsTrue, ◌↔◌}
 use mathlib.Core.Bool.{beq}
 use Rattle.std.proofs.lemmas.Bool.{true≢false, and_parts}
-use Rattle.si_base.specs.Sets.{IsIn, IsSubset}
+use Rattle.si_base.specs.Sets.{IsSubset}
 use Rattle.si_base.proofs.GraphSteps.{beq-refl, beq-true}
 use Rattle.si_closures.proofs.SameStates.{same_states}
 use Rattle.si_candidates.specs.Blocks.{same_set}
