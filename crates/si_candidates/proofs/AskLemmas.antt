@@ -14,6 +14,8 @@ use Rattle.si_base.specs.Graph.{StateGraph, IsGraph, rise}
 use Rattle.si_graph.proofs.ValueLemmas.{bit-zero}
 use Rattle.si_closures.specs.WordSearch.{column, HasBit}
 use Rattle.si_closures.specs.Words.{IsEventAt}
+use Rattle.si_closures.proofs.SameStates.{same_states}
+use Rattle.si_closures.proofs.WordBits.{in_or}
 use Rattle.si_closures.proofs.WordSearchLemmas.{in_column}
 use Rattle.si_regions.specs.declared.regions.Component.{Component}
 use Rattle.si_candidates.specs.Interval.{IsInterval}
@@ -23,8 +25,6 @@ use Rattle.si_candidates.specs.Blocks.{state_set, max_blocks, AreIntervalsFrom, 
 use Rattle.si_candidates.proofs.BlockLists.{with_blocks-append, full_blocks}
 use Rattle.si_candidates.proofs.IntervalsExist.{some_interval}
 use Rattle.si_candidates.proofs.BlockMarks.{marked_has, length-marked}
-use Rattle.si_candidates.proofs.BlockSameSets.{same_states}
-use Rattle.si_candidates.proofs.MaySwitchWords.{or_is}
 
 -- ---- a run of bits
 -- the bits from the first one to the one before k
@@ -97,11 +97,11 @@ module _ (old states words : List ℕ) (bits n x w : ℕ) (inside : n < length s
   pub one_given : AreGiven old states bits n words → AreGiven old states bits (n + 1) given_words
   one_given before k s = elim (cases_eq s x) [
     | inl same ↦ (
-      λ has. elim ((or_is w bits k).0 (sym (at_state k s same) ∙ has)) [
+      λ has. elim ((in_or w bits k).0 (sym (at_state k s same) ∙ has)) [
         | inl had ↦ old_or_new s k ((before k s).0 (sym (was k s same) ∙ had))
         | inr new ↦ inr (new, now_among s same)
       ],
-      λ given. at_state k s same ∙ (or_is w bits k).1 (elim given [
+      λ given. at_state k s same ∙ (in_or w bits k).1 (elim given [
         | inl first ↦ inl (was k s same ∙ (before k s).1 (inl first))
         | inr (new, among) ↦ inr new
       ]),

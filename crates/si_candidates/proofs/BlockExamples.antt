@@ -14,6 +14,7 @@ use Rattle.si_base.proofs.GraphSteps.{all_arcs, same_event-true}
 use Rattle.si_graph.proofs.ListMembers.{Contains-cons_cases}
 use Rattle.si_graph.proofs.ValueLemmas.{bit-zero}
 use Rattle.si_closures.specs.WordSearch.{column, HasBit}
+use Rattle.si_closures.proofs.SignalKinds.{input_is_no_other, apart_events}
 use Rattle.si_closures.proofs.WordSearchLemmas.{in_column}
 use Rattle.si_regions.specs.declared.regions.Component.{Component}
 use Rattle.si_regions.proofs.StateLists.{only_in}
@@ -25,7 +26,6 @@ use Rattle.si_candidates.specs.Blocks.{state_set, driven_events, blocks_of, bloc
 use Rattle.si_candidates.specs.Blocking.{MaySwitch}
 use Rattle.si_candidates.specs.ManySets.{AreAllTold, AreToldBelow, ArePacked}
 use Rattle.si_candidates.proofs.BlockMarks.{marked_has}
-use Rattle.si_candidates.proofs.MaySwitchArcs.{input_is_no_other, apart_events}
 
 abbrev pulses : StateGraph
 pulses = record {

@@ -7,9 +7,9 @@ use Rattle.std.proofs.lemmas.List.FromFn.{length-map-range_with_len, get_or-map-
 use Rattle.std.specs.List.{list_any}
 use Rattle.si_base.specs.Sets.{IsIn}
 use Rattle.si_graph.proofs.SearchLemmas.{in_below}
+use Rattle.si_closures.proofs.SameStates.{same_states}
 use Rattle.si_regions.proofs.RegionLemmas.{MadeTo, made_more}
 use Rattle.si_candidates.specs.Blocks.{state_set}
-use Rattle.si_candidates.proofs.BlockSameSets.{same_states}
 
 pub length-marked : (states : ℕ) (set : List ℕ) → length (state_set states set) ≡ states
 length-marked states set = length-map-range_with_len (λ s. list_any (λ t. t == s) set) 0 states

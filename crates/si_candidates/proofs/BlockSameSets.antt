@@ -4,8 +4,9 @@ use Rattle.std.proofs.Common.{refl, sym, ap, ap₂, subst, ◌∙◌, arith}
 use Rattle.std.proofs.Common.{IsTrue, ◌↔◌}
 use mathlib.Core.Bool.{beq}
 use Rattle.std.proofs.lemmas.Bool.{true≢false, and_parts}
-use Rattle.si_base.specs.Sets.{IsIn, IsSubset}
+use Rattle.si_base.specs.Sets.{IsSubset}
 use Rattle.si_base.proofs.GraphSteps.{beq-refl, beq-true}
+use Rattle.si_closures.proofs.SameStates.{same_states}
 use Rattle.si_candidates.specs.Blocks.{same_set}
 
 -- ---- the test
@@ -35,22 +36,6 @@ same_set-not of xs ys differ = not_true (same_set xs ys) (λ same. differ (ap of
     not_true : (b : Bool) → (b ≡ true → ⊥) → b ≡ false
     not_true true h = absurd (h refl)
     not_true false h = refl
-
--- ---- sets with the same states
-bool_same : (a b : Bool) → (a ≡ true → b ≡ true) → (b ≡ true → a ≡ true) → a ≡ b
-bool_same true true p q = refl
-bool_same true false p q = sym (p refl)
-bool_same false true p q = q refl
-bool_same false false p q = refl
-
-pub same_states : (xs ys : List Bool) → length xs ≡ length ys → ((s : ℕ) → IsIn xs s → IsIn ys s)
-    → ((s : ℕ) → IsIn ys s → IsIn xs s) → xs ≡ ys
-same_states [] [] size to back = refl
-same_states [] (y ∷ ys) size to back = absurd (omega arith)
-same_states (x ∷ xs) [] size to back = absurd (omega arith)
-same_states (x ∷ xs) (y ∷ ys) size to back =
-    ap₂ (λ a b. a ∷ b) (bool_same x y (to 0) (back 0))
-    (same_states xs ys (omega arith) (λ s. to (suc s)) (λ s. back (suc s)))
 
 -- ---- sets within one another
 pub not_same : (xs ys : List Bool) → (IsSubset xs ys → ⊥) → false ≡ same_set xs ys

@@ -10,14 +10,13 @@ use Rattle.si_base.specs.Sets.{IsIn}
 use Rattle.si_insert.specs.declared.partition.Class.{Class}
 use Rattle.si_insert.specs.declared.partition.Class.TheVariants.{Rising, Falling}
 use Rattle.si_insert.specs.Partition.{class_of, IsLawful}
-use Rattle.si_insert.specs.Insertion.{waits, has_copy}
+use Rattle.si_insert.specs.Insertion.{waits}
 use Rattle.si_insert.specs.Accepted.{IsAccepted, copy_count, Delay}
 use Rattle.si_insert.specs.Tests.{InputWaits, WaitsAfter}
 use Rattle.si_insert.proofs.PairWaiting.{waiting, is_or_not, waits_at, waits_if, goes_elsewhere, goes_within}
-use Rattle.si_insert.proofs.PairWaiting.{goes_into}
+use Rattle.si_insert.proofs.DiamondLosses.{lost_after, diamond_of}
 use Rattle.si_insert.proofs.AcceptedByTests.{accepts_at_tests}
 use Rattle.si_candidates.specs.Parts.{AreClasses}
-use Rattle.si_insert.specs.Diamond.{Diamond}
 use Rattle.si_candidates.specs.Blocking.{IsClosedUnderInputs, KeepsExits, MaySwitch}
 
 -- the states of the class where an arc waits at the value
@@ -57,39 +56,16 @@ exits_at g classes b lawful none s lost by t u w d in_u out_w = elim (is_or_not 
   | inr out_s ↦ absurd (breach (goes_elsewhere (class_of classes s) (class_of classes t) b out_s))
 ]
   where
-    at : (has_copy (class_of classes s) b ≡ true) × (waits (class_of classes s) (class_of classes u) b ≡ false)
-    at = goes_into (class_of classes s) (class_of classes u) b (lawful.arcs s by u d.other) in_u
-
     breach : waits (class_of classes s) (class_of classes t) b ≡ false → ⊥
-    breach goes = none (record { s = s; lost = lost; by = by }) (record {
-      non_input = d.non_input;
-      apart = d.apart;
-      value = b;
-      has = at.0;
-      t = t;
-      first = d.first;
-      first_goes = goes;
-      u = u;
-      other = d.other;
-      other_goes = at.1;
-      w = w;
-      next = d.next;
-      late = waits_if (class_of classes u) (class_of classes w) b in_u out_w;
-    })
+    breach goes = none (record { s = s; lost = lost; by = by })
+        (lost_after g classes b s lost by t u w d (lawful.arcs s by u d.other) in_u out_w goes)
 
 none_lost : (g : StateGraph) (classes : List Class) → ((b : Bool) → KeepsExits g (Waiting classes b)) → (l : Loss)
     → WaitsAfter g classes l → ⊥
 none_lost g classes keeps l w =
     let b = w.value in
     let h = waits_at (class_of classes w.u) (class_of classes w.w) b w.late in
-    let d : Diamond g l.s l.lost l.by w.t w.u w.w = record {
-      non_input = w.non_input;
-      apart = w.apart;
-      first = w.first;
-      other = w.other;
-      next = w.next;
-    } in
-    let k = keeps b l.s l.lost l.by w.t w.u w.w d h.0 h.1 in
+    let k = keeps b l.s l.lost l.by w.t w.u w.w (diamond_of g classes l w) h.0 h.1 in
     true≢false (sym (waits_if (class_of classes l.s) (class_of classes w.t) b k.0 k.1) ∙ w.first_goes)
 
 at_each : (P : Bool → Type 0) → P false → P true → (b : Bool) → P b

@@ -8,9 +8,9 @@ use Rattle.si_graph.specs.declared.closure.Along.TheVariants.{OutWithout}
 use Rattle.si_graph.specs.Closure.{IsBeside, Path, PathBy, IsClosure}
 use Rattle.si_closures.specs.WordSearch.{column, Passes, IsNextBy, IsClosureBy}
 use Rattle.si_closures.specs.Words.{HasAll, IsEventAt}
+use Rattle.si_closures.proofs.SameStates.{same_states}
 use Rattle.si_closures.proofs.WordSearchLemmas.{in_column}
 use Rattle.si_candidates.specs.Interval.{WalkWithout, IsReachedBefore, IsInterval}
-use Rattle.si_candidates.proofs.BlockSameSets.{same_states}
 
 -- s leads to t by another event than `stop`
 abbrev pub LeadsWithout : StateGraph → Event → ℕ → ℕ → Type 0

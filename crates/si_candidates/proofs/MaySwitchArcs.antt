@@ -1,49 +1,17 @@
 -- Whether a new signal may switch in a set of states, arc by arc.
-use Rattle.std.proofs.Common.{◌≡◌, ◌≢◌, ℕ, ◌+◌, ◌<◌, ◌⊎◌, Bool, true, false, List, length, get_or, slice_get}
-use Rattle.std.proofs.Common.{Contains, Option, Some, refl, sym, ap, subst, ◌∙◌, arith, inl, inr}
+use Rattle.std.proofs.Common.{◌≡◌, ℕ, ◌+◌, ◌<◌, ◌⊎◌, Bool, false, List, length, get_or}
+use Rattle.std.proofs.Common.{Contains, Option, refl, sym, ap, subst, ◌∙◌, arith, inl, inr}
 use Rattle.std.proofs.lemmas.Bool.{cases_Bool, cases_order, true≢false}
 use Rattle.std.proofs.lemmas.List.{get_or_default}
-use Rattle.std.proofs.lemmas.Option.{slice_get_cases}
-use Rattle.si_base.specs.declared.ids.Event.{Event}
 use Rattle.si_base.specs.declared.graph.Edge.{Edge}
-use Rattle.si_base.specs.declared.graph.Signal.{Signal}
-use Rattle.si_base.specs.declared.graph.SigKind.{SigKind}
-use Rattle.si_base.specs.declared.graph.SigKind.TheVariants.{Input, Output, Internal, Inserted}
-use Rattle.si_base.specs.Graph.{StateGraph, Step, IsGraph, IsNonInput, is_driven, arc, same_event}
+use Rattle.si_base.specs.Graph.{StateGraph, Step, IsGraph, IsNonInput, arc}
 use Rattle.si_base.specs.Codes.{IsDeterministic}
 use Rattle.si_base.specs.Sets.{IsIn}
 use Rattle.si_base.proofs.StepCodes.{step_within}
 use Rattle.si_graph.specs.Arcs.{edge_at, no_edge, IsFirstPlace, IsInto}
 use Rattle.si_graph.proofs.ClosureLemmas.{place_in_walk, none_between}
-use Rattle.si_base.proofs.GraphSteps.{same_event-refl}
-use Rattle.si_insert.specs.Accepted.{IsInput}
+use Rattle.si_closures.proofs.SignalKinds.{input_is_no_other, input_or_not}
 use Rattle.si_candidates.specs.Blocking.{MaySwitch, MayPass, KeepsExit}
-
--- ---- kinds of signals
-input_drives : (x : Signal) → x.kind ≡ Input → is_driven x.kind ≡ true → ⊥
-input_drives x input driven = true≢false (sym driven ∙ ap is_driven input)
-
-pub input_is_no_other : (signals : List Signal) (a : ℕ) → IsInput signals a → IsNonInput signals a → ⊥
-input_is_no_other signals a (x, at, input) (y, also, driven) =
-    let same : x ≡ y = cc in
-    input_drives y (subst (λ (z : Signal). z.kind ≡ Input) same input) driven
-
-kind_or_input : (kind : SigKind) → (kind ≡ Input) ⊎ (is_driven kind ≡ true)
-kind_or_input Input = inl refl
-kind_or_input Output = inr refl
-kind_or_input Internal = inr refl
-kind_or_input Inserted = inr refl
-
-pub input_or_not : (signals : List Signal) (a : ℕ) → a < length signals → IsInput signals a ⊎ IsNonInput signals a
-input_or_not signals a inside = elim (slice_get_cases signals a).1 [
-  | inl found ↦ at found.0 found.2 (kind_or_input found.0.kind)
-  | inr past ↦ absurd (omega arith)
-]
-  where
-    at : (x : Signal) → slice_get signals a ≡ Some x → (x.kind ≡ Input) ⊎ (is_driven x.kind ≡ true)
-        → IsInput signals a ⊎ IsNonInput signals a
-    at x there (inl input) = inl (x, there, input)
-    at x there (inr driven) = inr (x, there, driven)
 
 -- ---- the arcs into the source of an exit
 -- those before a place keep the exit
@@ -119,8 +87,3 @@ pub keeps_at : (g : StateGraph) (P : ℕ → Type 0) (exit before : Edge) (t : �
     → Step g before.from exit.event t → P before.from → (P t → ⊥) → KeepsExit g P exit before
 keeps_at g P exit before t one step from out apart u other =
     (from, subst (λ x. P x → ⊥) (one before.from exit.event t u step other) out)
-
-pub apart_events : (e f : Event) → false ≡ same_event e f → e ≢ f
-apart_events e f not_same same =
-    let P : Event → Type 0 = λ x. false ≡ same_event e x in
-    true≢false (sym (same_event-refl e) ∙ sym (subst P (sym same) not_same))

@@ -1,13 +1,13 @@
 -- Where a new signal may switch, for many sets at once: what the bits of words say.
-use Rattle.std.proofs.Common.{◌≡◌, ◌≢◌, ℕ, ◌+◌, ◌-◌, ◌*◌, ◌%◌, ◌^◌, ◌<◌, ◌≤◌, ◌==◌, ◌&&◌, ◌||◌, min, not}
+use Rattle.std.proofs.Common.{◌≡◌, ◌≢◌, ℕ, ◌+◌, ◌-◌, ◌*◌, ◌%◌, ◌^◌, ◌<◌, ◌≤◌, ◌==◌}
 use Rattle.std.proofs.Common.{Bool, true, false, List, [], ◌∷◌, ◌++◌, length, get_or, set, Contains, Option}
-use Rattle.std.proofs.Common.{refl, sym, ap, subst, ◌∙◌, arith, inl, inr, ◌⊎◌, ◌↔◌, bit_and, bit_or}
+use Rattle.std.proofs.Common.{sym, ap, subst, ◌∙◌, arith, inl, inr, ◌⊎◌, ◌↔◌, bit_and, bit_or}
 use Rattle.std.proofs.Common.{get_or-set_same, get_or-set_other}
-use Rattle.std.proofs.lemmas.Bool.{cases_eq, cases_Bool, true≢false, and_parts, and_from}
+use Rattle.std.proofs.lemmas.Bool.{cases_eq, cases_Bool, true≢false, false_from_ne_true}
 use Rattle.std.proofs.lemmas.List.{get_or_default, length-map}
 use Rattle.std.proofs.lemmas.List.{get_or_push, get_or_append_left, length_push}
-use Rattle.std.proofs.lemmas.Nat.Bits.{bit_at_and, bit_at-lt, bit_at_not, bit_at_set_same, bit_at_set_other}
-use Rattle.std.specs.Int.{bit_at, w128}
+use Rattle.std.proofs.lemmas.Nat.Bits.{bit_at_set_same, bit_at_set_other}
+use Rattle.std.specs.Int.{w128}
 use Rattle.si_base.specs.declared.graph.Edge.{Edge}
 use Rattle.si_base.specs.Bits.{bit}
 use Rattle.si_base.specs.Codes.{IsDeterministic}
@@ -15,8 +15,8 @@ use Rattle.si_base.specs.Graph.{StateGraph, IsGraph, IsNonInput, Step}
 use Rattle.si_base.specs.Sets.{IsIn}
 use Rattle.si_graph.specs.Arcs.{edge_at, no_edge, IsFirstPlace, IsInto}
 use Rattle.si_graph.proofs.ClosureLemmas.{place_in_walk, later_place}
-use Rattle.si_graph.proofs.ValueLemmas.{bit-or}
 use Rattle.si_closures.specs.WordSearch.{column, HasBit}
+use Rattle.si_closures.proofs.WordBits.{in_and, in_or, in_not}
 use Rattle.si_closures.proofs.WordSearchLemmas.{in_column}
 use Rattle.si_closures.proofs.WordLemmas.{full_bit}
 use Rattle.si_candidates.specs.Blocks.{block_at}
@@ -27,60 +27,12 @@ use Rattle.si_candidates.proofs.MaySwitchArcs.{AreKept, kept_none, kept_more, ke
 use Rattle.si_candidates.proofs.MaySwitchArcs.{keeps_at}
 
 -- ---- bits
-below_two : (n : ℕ) → n < 2 → (n ≡ 0) ⊎ (n ≡ 1)
-below_two n h = grind arith
-
-least_bit : (x y : ℕ) → x < 2 → y < 2 → (min x y == 1) ≡ ((x == 1) && (y == 1))
-least_bit x y lx ly = elim (below_two x lx) [
-  | inl x0 ↦ elim (below_two y ly) [ inl y0 ↦ rw (x0, y0) refl | inr y1 ↦ rw (x0, y1) refl ]
-  | inr x1 ↦ elim (below_two y ly) [ inl y0 ↦ rw (x1, y0) refl | inr y1 ↦ rw (x1, y1) refl ]
-]
-
-other_bit : (x : ℕ) → x < 2 → (1 - x == 1) ≡ not (x == 1)
-other_bit x l = elim (below_two x l) [ inl zero ↦ rw zero refl | inr one ↦ rw one refl ]
-
-and_bits : (x y k : ℕ) → bit (bit_and x y) k ≡ (bit x k && bit y k)
-and_bits x y k =
-    rw (bit_at_and x y k) (least_bit (bit_at x k) (bit_at y k) (bit_at-lt x k) (bit_at-lt y k))
-
-pub and_is : (x y k : ℕ) → (bit (bit_and x y) k ≡ true) ↔ ((bit x k ≡ true) × (bit y k ≡ true))
-and_is x y k = (
-  λ h. and_parts (bit x k) (bit y k) (sym (and_bits x y k) ∙ h),
-  λ (one, other). and_bits x y k ∙ and_from (bit x k) (bit y k) one other,
-)
-
-or_cases : (a b : Bool) → (a || b) ≡ true → (a ≡ true) ⊎ (b ≡ true)
-or_cases true b h = inl refl
-or_cases false b h = inr h
-
-or_from : (a b : Bool) → (a ≡ true) ⊎ (b ≡ true) → (a || b) ≡ true
-or_from true b h = refl
-or_from false b (inl h) = absurd (true≢false (sym h))
-or_from false b (inr h) = h
-
-pub or_is : (x y k : ℕ) → (bit (bit_or x y) k ≡ true) ↔ ((bit x k ≡ true) ⊎ (bit y k ≡ true))
-or_is x y k = (
-  λ h. or_cases (bit x k) (bit y k) (sym (bit-or x y k) ∙ h),
-  λ h. bit-or x y k ∙ or_from (bit x k) (bit y k) h,
-)
-
-not_from : (b : Bool) → (b ≡ true → ⊥) → not b ≡ true
-not_from true h = absurd (h refl)
-not_from false h = refl
-
-not_true : (b : Bool) → not b ≡ true → b ≡ true → ⊥
-not_true true h is = true≢false (sym h)
-not_true false h is = true≢false (sym is)
-
 pub not_is : (x k : ℕ) → x < 2 ^ 128 → k < 128
     → (bit (2 ^ 128 - 1 - x) k ≡ true) ↔ (bit x k ≡ true → ⊥)
 not_is x k fits few = (
-  λ h. not_true (bit x k) (sym flipped ∙ h),
-  λ h. flipped ∙ not_from (bit x k) h,
+  λ h is. true≢false (sym is ∙ (in_not x k fits few).0 h),
+  λ none. (in_not x k fits few).1 (false_from_ne_true (bit x k) none),
 )
-  where
-    flipped : bit (2 ^ 128 - 1 - x) k ≡ not (bit x k)
-    flipped = ap (λ b. b == 1) (bit_at_not w128 x k fits few) ∙ other_bit (bit_at x k) (bit_at-lt x k)
 
 -- ---- one arc
 module _ (g : StateGraph) (words : List ℕ) (a : Edge) (given x y : ℕ) (x_fits : x < 2 ^ 128)
@@ -106,9 +58,9 @@ module _ (g : StateGraph) (words : List ℕ) (a : Edge) (given x y : ℕ) (x_fit
   -- a set from which the arc doesn't lead out
   stay_passes : (k : ℕ) → k < 128 → bit stays k ≡ true → (bit given k ≡ true) × Passes k
   stay_passes k few h =
-      let parts = (and_is given (bit_or (2 ^ 128 - 1 - x) y) k).0 h in (
+      let parts = (in_and given (bit_or (2 ^ 128 - 1 - x) y) k).0 h in (
         parts.0,
-        λ here out. absurd (elim ((or_is (2 ^ 128 - 1 - x) y k).0 parts.1) [
+        λ here out. absurd (elim ((in_or (2 ^ 128 - 1 - x) y k).0 parts.1) [
           | inl not_here ↦ (not_is x k x_fits few).0 not_here ((begins k).1 here)
           | inr there ↦ out ((ends k).0 there)
         ]),
@@ -123,26 +75,26 @@ module _ (g : StateGraph) (words : List ℕ) (a : Edge) (given x y : ℕ) (x_fit
 
     leaves : (k : ℕ) → k < 128 → bit (bit_and given leave) k ≡ true → (bit given k ≡ true) × Passes k
     leaves k few h =
-        let parts = (and_is given leave k).0 h in (parts.0, λ here out. (tells k few).0 parts.1)
+        let parts = (in_and given leave k).0 h in (parts.0, λ here out. (tells k few).0 parts.1)
 
     by_stay : (k : ℕ) → bit given k ≡ true → bit (bit_or (2 ^ 128 - 1 - x) y) k ≡ true → bit left k ≡ true
     by_stay k has stay =
-        (or_is stays (bit_and given leave) k).1 (inl ((and_is given (bit_or (2 ^ 128 - 1 - x) y) k).1 (has, stay)))
+        (in_or stays (bit_and given leave) k).1 (inl ((in_and given (bit_or (2 ^ 128 - 1 - x) y) k).1 (has, stay)))
 
     back : (k : ℕ) → k < 128 → bit given k ≡ true → Passes k → bit left k ≡ true
     back k few has passes = elim (cases_Bool (bit y k)) [
-      | inl there ↦ by_stay k has ((or_is (2 ^ 128 - 1 - x) y k).1 (inr there))
+      | inl there ↦ by_stay k has ((in_or (2 ^ 128 - 1 - x) y k).1 (inr there))
       | inr out ↦ elim (cases_Bool (bit x k)) [
-        | inl here ↦ (or_is stays (bit_and given leave) k).1 (inr ((and_is given leave k).1
+        | inl here ↦ (in_or stays (bit_and given leave) k).1 (inr ((in_and given leave k).1
             (has, (tells k few).1 (passes ((begins k).0 here) (λ there. true≢false (sym ((ends k).1 there) ∙ out))))))
-        | inr elsewhere ↦ by_stay k has ((or_is (2 ^ 128 - 1 - x) y k).1
+        | inr elsewhere ↦ by_stay k has ((in_or (2 ^ 128 - 1 - x) y k).1
             (inl ((not_is x k x_fits few).1 (λ here. true≢false (sym here ∙ elsewhere)))))
       ]
     ]
 
     pub stay_or_leave : TellsOf given words (λ set. IsIn set a.from → MayPass g (IsIn set) a) left
     stay_or_leave k few = (
-      λ h. elim ((or_is stays (bit_and given leave) k).0 h) [
+      λ h. elim ((in_or stays (bit_and given leave) k).0 h) [
         | inl stay ↦ stay_passes k few stay
         | inr leave_it ↦ leaves k few leave_it
       ],
@@ -214,11 +166,11 @@ module _ (g : StateGraph) (words : List ℕ) (exit : Edge) where
       → Tells words (KeptBelow (place_in_walk g next)) (bit_and kept keep)
   one_kept_more m kept keep next stands first before here k few = (
     λ h. (
-        let parts = (and_is kept keep k).0 h in
+        let parts = (in_and kept keep k).0 h in
         kept_more g (column k words) exit m next first ((here k few).0 parts.1) ((before k few).0 parts.0)),
     λ all. (
         let later = later_place g (column k words) exit.from m next stands.0 first in
-        (and_is kept keep k).1 (
+        (in_and kept keep k).1 (
           (before k few).1 (λ j early. all j (omega (arith, early, later))),
           (here k few).1 (all m later stands.0 stands.1),
         )),
@@ -243,13 +195,13 @@ module _ (g : StateGraph) (words : List ℕ) (exit before : Edge) (t x y : ℕ) 
   pub keeps_by_bits : Tells words (λ set. KeepsExit g (IsIn set) exit before) (bit_and x (2 ^ 128 - 1 - y))
   keeps_by_bits k few = (
     λ h. (
-        let parts = (and_is x (2 ^ 128 - 1 - y) k).0 h in
+        let parts = (in_and x (2 ^ 128 - 1 - y) k).0 h in
         keeps_at g (IsIn (column k words)) exit before t one step
         ((in_column k words before.from).1 (ap (λ w. bit w k) (sym x_is) ∙ parts.0))
         (λ there. (not_is y k y_fits few).0 parts.1 (ap (λ w. bit w k) y_is ∙ (in_column k words t).0 there))),
     λ keeps. (
         let both = keeps apart t step in
-        (and_is x (2 ^ 128 - 1 - y) k).1 (
+        (in_and x (2 ^ 128 - 1 - y) k).1 (
           ap (λ w. bit w k) x_is ∙ (in_column k words before.from).0 both.0,
           (not_is y k y_fits few).1
               (λ has. both.1 ((in_column k words t).1 (ap (λ w. bit w k) (sym y_is) ∙ has))),

@@ -2,4 +2,5 @@
 #![tactic(auto)]
 
 pub mod word_search;
+pub mod word_work;
 pub mod words;

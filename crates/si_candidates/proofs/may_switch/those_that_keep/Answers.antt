@@ -1,7 +1,7 @@
 use Rattle.std.proofs.Common.{ap, sym, get_or}
 use Rattle.si_base.specs.declared.graph.Edge.{Edge}
 use Rattle.si_base.proofs.GraphSteps.{same_event-true, enables-step}
-use Rattle.si_candidates.proofs.MaySwitchArcs.{apart_events}
+use Rattle.si_closures.proofs.SignalKinds.{apart_events}
 use Rattle.si_candidates.proofs.MaySwitchWords.{each_keeps, keeps_by_bits}
 use Rattle.si_candidates.proofs.may_switch.those_that_keep.Goals as goal
 
