@@ -22,7 +22,7 @@ use Rattle.si_match.proofs.CodeLemmas.{all_from}
 use Rattle.si_match.proofs.StateLemmas.{one_fails}
 
 -- ---- codes that agree
-bits_of_agree : (signals a b j : ℕ) → agree signals a b ≡ true → bit signals j ≡ true → bit a j ≡ bit b j
+pub bits_of_agree : (signals a b j : ℕ) → agree signals a b ≡ true → bit signals j ≡ true → bit a j ≡ bit b j
 bits_of_agree signals a b j agrees there =
     sym (cut a) ∙ ap (λ (k : ℕ). bit k j) same ∙ cut b
   where
@@ -35,7 +35,7 @@ bits_of_agree signals a b j agrees there =
     cut : (k : ℕ) → bit (bit_and k signals) j ≡ bit k j
     cut k = bit-and k signals j ∙ ap (λ (b : Bool). bit k j && b) there ∙ and-true (bit k j)
 
-agree_by_bits : (signals a b : ℕ) → ((j : ℕ) → bit signals j ≡ true → bit a j ≡ bit b j) → agree signals a b ≡ true
+pub agree_by_bits : (signals a b : ℕ) → ((j : ℕ) → bit signals j ≡ true → bit a j ≡ bit b j) → agree signals a b ≡ true
 agree_by_bits signals a b same = eq-eqb _ _ (same_codes _ _ (λ j. bit-and a signals j
     ∙ by_bit j (bit signals j) refl ∙ sym (bit-and b signals j)))
   where

@@ -1,6 +1,6 @@
 -- An instance that reads too few triggers fits at no completion.
 use Rattle.std.proofs.Common.{◌≡◌, ◌≢◌, ℕ, zero, suc, ◌+◌, ◌<◌, ◌≤◌, Bool, true, false, List, [], ◌∷◌, ◌++◌, length}
-use Rattle.std.proofs.Common.{map, All, Contains, None, if◌then◌else◌}
+use Rattle.std.proofs.Common.{map, All, Contains, None, if◌then◌else◌, not}
 use Rattle.std.proofs.Common.{refl, sym, ap, subst, ◌∙◌, arith, inl, inr, append_assoc}
 use Rattle.std.specs.List.{AllByRecursion}
 use Rattle.std.proofs.lemmas.Bool.{cases_Bool, true≢false}
@@ -17,10 +17,13 @@ use Rattle.si_base.specs.Netlist.{literal_value, sum_value}
 use Rattle.si_base.specs.declared.graph.Edge.{Edge}
 use Rattle.si_base.specs.declared.ids.Literal.{Literal}
 use Rattle.si_cell.specs.Library.{Cell, pin_values}
+use Rattle.si_graph.specs.NextCodes.{IsNextCode}
 use Rattle.si_match.specs.Fit.{suits, fits}
 use Rattle.si_match.specs.Search.{IsRefuted, first_completion}
+use Rattle.si_match.specs.Support.{agree}
 use Rattle.si_match.specs.Triggers.{IsTrigger, IsUnread, IsNeeded, AreMissing, AreTriggers}
 use Rattle.si_match.specs.Weight.{size_from}
+use Rattle.si_match.proofs.DroppingLemmas.{agree_by_bits, bits_of_agree}
 use Rattle.si_match.proofs.SearchLemmas.{refuted}
 use Rattle.si_match.proofs.StateLemmas.{one_fails}
 
@@ -203,3 +206,36 @@ one_more_trigger c z i k next trigger set are j there = elim (eqb_tells j i) [
   | inl same ↦ subst (IsTrigger c z) (sym same.1) trigger
   | inr other ↦ are j (sym (set.others j other.1) ∙ there)
 ]
+
+-- ---- an arc across which the next value changes: the next codes at its ends, cut to the signal, differ
+module _ (c : CodedGraph) (z s t only at_s at_t : ℕ) (test : Bool) (within : z < length c.graph.signals)
+    (only_is : only ≡ flip 0 z) (s_is : IsNextCode c s at_s) (t_is : IsNextCode c t at_t)
+    (tested : test ≡ not (agree only at_t at_s)) where
+  only_there : bit only z ≡ true
+  only_there = ap (λ (k : ℕ). bit k z) only_is ∙ flip-same 0 z ∙ rw (bit_zero z) refl
+
+  only_one : (j : ℕ) → bit only j ≡ true → j ≡ z
+  only_one j there = elim (eqb_tells j z) [
+    | inl same ↦ same.1
+    | inr other ↦ absurd (true≢false (sym there ∙ ap (λ (k : ℕ). bit k j) only_is ∙ flip-other 0 z j other.1
+        ∙ bit_zero j))
+  ]
+
+  pub next_changes : test ≡ true → next_value c t z ≢ next_value c s z
+  next_changes on same = true≢false (sym on ∙ tested ∙ ap not (agree_by_bits only at_t at_s alike))
+    where
+      here : bit at_t z ≡ bit at_s z
+      here = t_is.values z within ∙ same ∙ sym (s_is.values z within)
+
+      alike : (j : ℕ) → bit only j ≡ true → bit at_t j ≡ bit at_s j
+      alike j there = subst (λ (i : ℕ). bit at_t i ≡ bit at_s i) (sym (only_one j there)) here
+
+  pub next_stays : test ≡ false → next_value c t z ≡ next_value c s z
+  next_stays off =
+      sym (t_is.values z within)
+      ∙ bits_of_agree only at_t at_s z (of_not (agree only at_t at_s) (sym tested ∙ off)) only_there
+      ∙ s_is.values z within
+    where
+      of_not : (b : Bool) → not b ≡ false → b ≡ true
+      of_not true off = refl
+      of_not false off = absurd (true≢false off)

@@ -1,9 +1,11 @@
 //! The trigger signals of a signal, and states that refute most gates for it.
 
-ghost use Rattle.std.specs.Prelude.{◌≢◌, ℕ, ◌<◌, ◌↔◌, All, IsTrue, length};
+ghost use Rattle.std.specs.Prelude.{◌≡◌, ◌≢◌, ℕ, ◌<◌, ◌↔◌, All, IsTrue, length};
+ghost use Rattle.si_base.specs.Bits.{flip};
 ghost use Rattle.si_base.specs.Codes.{IsCoded, next_value};
 ghost use Rattle.si_match.specs.Triggers.{AreTriggers};
 
+use crate::codes::cut;
 use arrayvec::ArrayVec;
 use si_base::graph::Edge;
 use si_base::ids::{Code, Sig};
@@ -20,15 +22,17 @@ pub(crate) struct Triggers {
     pub(crate) witnesses: ArrayVec<u32, MAX_WITNESSES>,
 }
 
-/// Whether the arc is of another signal, and the next value of `z` changes across it.
-fn changes(coded: &Coded, z: Sig, a: &Edge) -> bool
+/// Whether the arc is of another signal than `z`, and the next value of `z`, the only signal in
+/// `only`, changes across it.
+fn changes(coded: &Coded, z: Sig, only: Code, a: &Edge) -> bool
     requires from { a.now.from < coded.now.graph.states }
     requires to { a.now.to < coded.now.graph.states }
     requires signal { z < length coded.now.graph.signals }
+    requires only { only ≡ flip 0 z }
     ensures { IsTrue result ↔ ((a.now.event.sig ≢ z)
         × (next_value coded.now a.now.to z ≢ next_value coded.now a.now.from z)) }
 {
-    a.event.sig != z && coded.next_value(a.to, z) != coded.next_value(a.from, z)
+    cut(coded.next(a.to), only) != cut(coded.next(a.from), only) && a.event.sig != z
 }
 
 /// Adds the ends of the arc to the states, if there is room.
@@ -49,12 +53,17 @@ pub(crate) fn triggers_of(coded: &Coded, z: Sig) -> Triggers
     ensures triggers { AreTriggers coded.now z result.signals }
     ensures witnesses { All (λ s. s < coded.now.graph.states) result.witnesses.items }
 {
+    let graph = coded.graph();
+    let only = Code(0).flip(z);
     let mut signals = Code(0);
     let (mut rising, mut falling) = (Code(0), Code(0));
     let mut witnesses = ArrayVec::new();
-    for a in coded.graph().arcs() {
+    for a in graph.arcs() {
+        if !changes(coded, z, only, a) {
+            continue;
+        }
         let seen = if a.event.up { rising } else { falling };
-        if seen.get(a.event.sig) || !changes(coded, z, a) {
+        if seen.get(a.event.sig) {
             continue;
         }
         if a.event.up {

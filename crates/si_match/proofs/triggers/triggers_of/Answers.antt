@@ -11,10 +11,10 @@ loop-a-preserved c =
     let z = c.args.z in
     let coded = c.args.coded.now in
     let edges : c.arcs-a-items.result.now ≡ coded.graph.edges =
-    c.arcs-a-items.ensures.arcs ∙ ap (λ (g : StateGraph). g.edges) c.graph.ensures.same in
+    c.arcs-a-items.ensures.arcs ∙ ap (λ (g : StateGraph). g.edges) c.graph-graph.ensures.same in
     let there : Contains coded.graph.edges a =
     subst (λ (es : List Edge). Contains es a) edges (c.loop-a.a-index, c.loop-a-test.true, sym c.a-item.is) in
-    let within = step_within coded.graph a.from a.event a.to c.graph.ensures.coded.graph_is there in
+    let within = step_within coded.graph a.from a.event a.to c.graph-graph.ensures.coded.graph_is there in
     let (other, differs) = c.changes.ensures.0 c.if-not-changes.false in
     let trigger = arc_trigger coded z a there other differs in
     record {
