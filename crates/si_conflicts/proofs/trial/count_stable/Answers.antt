@@ -85,8 +85,8 @@ returns-then-total-bar-clause-more g c = λ enough ms are. (
 pub returns-then-total-bar-clause-few : goal.returns-then-total-bar-clause-few
 returns-then-total-bar-clause-few g c =
     let have = c.requires.members in
-    let few = few_more (g.C.Classes.classes c.args.classes.now) have.members c.args.turns.now have.are c.loop-turn.turn-index
-    c.turn-item.result c.loop-turn-test.true c.turn-item.is c.of-at_low.result c.of-at_high.result
+    let few = few_more (g.C.Classes.classes c.args.classes.now) have.members c.args.turns.now have.are
+    c.loop-turn.turn-index c.turn-item.result c.loop-turn-test.true c.turn-item.is c.of-at_low.result c.of-at_high.result
     (c.of-at_low.ensures ∙ ap (role_at false) c.class-class.ensures)
     (c.of-at_high.ensures ∙ ap (role_at true) c.class-class.ensures)
     _ _ _ _ _ (c.loop-turn.invariant.passed have.members have.are) c.for_change-low.ensures c.for_change-high.ensures
