@@ -67,8 +67,8 @@ impl Tally {
         }
     }
 
-    /// The tally for the next key in place of that of the copies so far, which none of them has a
-    /// key after and which isn't after the next.
+    /// The tally for the second of two keys in place of the first, where no copy has a key after
+    /// the first and the second isn't before it.
     pub fn for_change(self, change: Change) -> Tally
         ensures { (copies : List RoleAndKey) → (from to : Key) → change ≡ change_between from to
             → IsUpTo from to → AreUpTo copies from
@@ -115,8 +115,8 @@ impl Tally {
     }
 }
 
-/// The number where it is kept, or else 0. Changes of keys are hard to foretell, and there are
-/// many: a product costs less than a branch on them.
+/// The number where it is kept, or else 0. Which it is changes from state to state, so a product
+/// costs less than a branch that is often foretold wrongly.
 fn kept(n: u32, keeps: bool) -> u32
     ensures { result ≡ cond keeps n 0 }
 {
