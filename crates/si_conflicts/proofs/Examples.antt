@@ -5,7 +5,9 @@ use Rattle.si_insert.specs.declared.partition.Class.{Class}
 use Rattle.si_insert.specs.declared.partition.Class.TheVariants.{Low, Rising, High, Falling}
 use Rattle.si_conflicts.specs.declared.keys.Key.{Key}
 use Rattle.si_conflicts.specs.declared.members.Member.{Member}
-use Rattle.si_conflicts.specs.Keys.{clashes, clash_count}
+use Rattle.si_conflicts.specs.declared.turns.Change.TheVariants.{SameKey, NewKey, NewCode}
+use Rattle.si_conflicts.specs.Keys.{clashes, clash_count, no_key}
+use Rattle.si_conflicts.specs.Turns.{turns_after}
 use Rattle.si_conflicts.specs.Apart.{stable_count, pair_sum, switching_count}
 use Rattle.si_conflicts.specs.Crowds.{code_count, crowded_of}
 
@@ -30,6 +32,16 @@ members =
     ∷ record { key = key 2 0; state = 3 }
     ∷ record { key = key 2 2; state = 5 }
     ∷ []
+
+-- the first code is none but 0, as where there is no key before it
+each_in_turn : turns_after no_key members
+    ≡ record { state = 0; change = SameKey }
+    ∷ record { state = 2; change = NewKey }
+    ∷ record { state = 3; change = NewCode }
+    ∷ record { state = 5; change = NewKey }
+    ∷ []
+unfolding members
+each_in_turn = refl
 
 -- the new signal rises at 2 and falls at 5: with z it is excited there, and not at 0 and at 3
 classes : List Class

@@ -1,10 +1,10 @@
 -- Tallies of copies, and the order of keys.
-use Rattle.std.proofs.Common.{◌≡◌, ◌≢◌, ℕ, ◌+◌, ◌-◌, ◌<◌, ◌≤◌, ◌==◌, ◌&&◌, Bool, true, false, not, cond, List, []}
-use Rattle.std.proofs.Common.{◌∷◌, ◌++◌, All, count_by, refl, sym, ap, ap₂, ◌∙◌, arith, inl, inr}
+use Rattle.std.proofs.Common.{◌≡◌, ◌≢◌, ℕ, ◌+◌, ◌<◌, ◌≤◌, ◌==◌, ◌&&◌, Bool, true, false, not, cond, List}
+use Rattle.std.proofs.Common.{All, count_by, refl, sym, ap, ap₂, ◌∙◌, arith, inl, inr}
 use Rattle.std.proofs.Common.{eq-eqb, ne_eqb, lt-ltb}
 use Rattle.std.proofs.lemmas.Bool.{cases_eq, cases_order, true≢false}
 use Rattle.std.proofs.lemmas.List.Elements.{All-weaker}
-use Rattle.std.proofs.lemmas.List.Sums.{sum_by-le-sum_by, sum_by_push}
+use Rattle.std.proofs.lemmas.List.Sums.{sum_by-le-sum_by}
 use Rattle.std.specs.Ordering.{nat_cmp, is_lt, ordering_then}
 use Rattle.std.specs.declared.cmp.Ordering.{Ordering}
 use Rattle.std.specs.declared.cmp.Ordering.TheVariants.{Less, Equal, Greater}
@@ -23,7 +23,7 @@ use Rattle.si_conflicts.specs.declared.turns.Change.TheVariants.{SameKey, NewKey
 use Rattle.si_conflicts.specs.Turns.{change_between, keeps_code, keeps_key}
 use Rattle.si_conflicts.proofs.ApartPairSums.{all_in, same_sum, sum_none, sum_two}
 
-abbrev pub one_if : Bool → ℕ
+abbrev one_if : Bool → ℕ
 one_if b = cond b 1 0
 
 -- ---- counts
@@ -105,42 +105,6 @@ fewer_equal key copies t is =
     at true true false = omega arith
     at true false d = omega arith
     at false b d = omega arith
-
--- as many copies are a conflict with one more
-pub met_by : (role : Role) (key : Key) (copies : List RoleAndKey) (t : Tally) → IsTally key copies t
-    → cond (is_plain role) (t.plain - t.equal + t.switching) 0 + cond (is_switching role) t.plain 0
-    ≡ count_by (λ e. are_apart e (role, key)) copies
-met_by Absent key copies t is = sym (meets_none key copies)
-met_by Plain key copies t is =
-    let few = fewer_equal key copies t is in
-    let met = meets_plain key copies t is in
-    omega (arith, few, met)
-met_by Switching key copies t is = let met = meets_switching key copies t is in omega (arith, met)
-
--- the tally of one copy more
-pub tally_with : (role : Role) (key : Key) (copies : List RoleAndKey) (t new : Tally) → IsTally key copies t
-    → new.plain ≡ t.plain + one_if (is_plain role) → new.equal ≡ t.equal + one_if (is_plain role)
-    → new.switching ≡ t.switching + one_if (is_switching role) → IsTally key (copies ++ (role, key) ∷ []) new
-tally_with role key copies t new is plain_is equal_is switching_is = record {
-  plain = plain_is ∙ pushed (λ e. is_plain e.0 && (e.1.code == key.code)) t.plain (is_plain role) is.plain
-      (with_true (is_plain role) (key.code == key.code) code);
-  equal = equal_is ∙ pushed (λ e. is_plain e.0 && equal_keys e.1 key) t.equal (is_plain role) is.equal
-      (with_true (is_plain role) (equal_keys key key) (ap₂ (λ a b. a && b) code (eq-eqb key.excited key.excited refl)));
-  switching = switching_is ∙ pushed (λ e. is_switching e.0 && (e.1.code == key.code)) t.switching (is_switching role)
-      is.switching (with_true (is_switching role) (key.code == key.code) code);
-}
-  where
-    code : (key.code == key.code) ≡ true
-    code = eq-eqb key.code key.code refl
-
-    with_true : (a b : Bool) → b ≡ true → (a && b) ≡ a
-    with_true true b is = is
-    with_true false b is = refl
-
-    pushed : (q : RoleAndKey → Bool) (n : ℕ) (one : Bool) → n ≡ count_by q copies → q (role, key) ≡ one
-        → n + cond one 1 0 ≡ count_by q (copies ++ (role, key) ∷ [])
-    pushed q n one is same = ap₂ (λ a b. a + one_if b) is (sym same)
-        ∙ sym (sum_by_push (λ e. cond (q e) 1 0) copies (role, key))
 
 -- ---- another key
 pub up_to_later : (x y z : Key) → IsUpTo x y → IsUpTo y z → IsUpTo x z

@@ -240,10 +240,13 @@ module _ (classes : List Class) (ms : List Member) (ts : List Turn) (are : AreTu
             apart b y = cond (are_apart (role_and_key classes b y) (role_and_key classes b member)) 1 0
 
             met : (b : Bool) (role : Role) → role ≡ role_at b (class_of classes t.state)
-                → count_by (λ e. are_apart e (role, member.key)) (tallied_to classes b ms i) ≡ sum_by (apart b) (take i ms)
+                → count_by (λ e. are_apart e (role, member.key)) (tallied_to classes b ms i)
+                ≡ sum_by (apart b) (take i ms)
             met b role is =
-                ap (λ (x : RoleAndKey). count_by (λ e. are_apart e x) (tallied_to classes b ms i)) (sym (role_is b role is))
-                ∙ sum_map (role_and_key classes b) (λ e. cond (are_apart e (role_and_key classes b member)) 1 0) (take i ms)
+                ap (λ (x : RoleAndKey). count_by (λ e. are_apart e x) (tallied_to classes b ms i))
+                (sym (role_is b role is))
+                ∙ sum_map (role_and_key classes b) (λ e. cond (are_apart e (role_and_key classes b member)) 1 0)
+                (take i ms)
 
         pub passed_more : (low_with high_with : Tally) → Adds low_now at_low low_with → Adds high_now at_high high_with
             → Passed classes ms (i + 1) low_with high_with (total + (met_low + met_high))

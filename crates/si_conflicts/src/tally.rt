@@ -36,13 +36,6 @@ impl Role {
         }
     }
 
-    /// Whether the new signal is stable.
-    pub fn is_plain(self) -> bool
-        ensures { result ≡ Apart.is_plain self }
-    {
-        matches!(self, Role::Plain)
-    }
-
     /// Whether the new signal may switch.
     pub fn is_switching(self) -> bool
         ensures { result ≡ Apart.is_switching self }
@@ -74,17 +67,17 @@ impl Tally {
         }
     }
 
-    /// The tally for the next key in place of that of the copies so far, which none of them has a
-    /// key after and which isn't after the next.
+    /// The tally for the second of two keys in place of the first, where no copy has a key after
+    /// the first and the second isn't before it.
     pub fn for_change(self, change: Change) -> Tally
         ensures { (copies : List RoleAndKey) → (from to : Key) → change ≡ change_between from to
             → IsUpTo from to → AreUpTo copies from
             → IsTally from copies self → IsTally to copies result }
     {
         Tally {
-            plain: where_so(change.keeps_code(), self.plain),
-            equal: where_so(change.keeps_key(), self.equal),
-            switching: where_so(change.keeps_code(), self.switching),
+            plain: kept(self.plain, change.keeps_code()),
+            equal: kept(self.equal, change.keeps_key()),
+            switching: kept(self.switching, change.keeps_code()),
         }
     }
 
@@ -94,8 +87,11 @@ impl Tally {
         ensures { (copies : List RoleAndKey) → (key : Key) → IsTally key copies self
             → result ≡ count_by (λ e. are_apart e (role, key)) copies }
     {
-        let stable = self.plain - self.equal + self.switching;
-        where_so(role.is_plain(), stable) + where_so(role.is_switching(), self.plain)
+        match role {
+            Role::Absent => 0,
+            Role::Plain => self.plain - self.equal + self.switching,
+            Role::Switching => self.plain,
+        }
     }
 
     /// The tally with one more copy, of that role and the tally's key.
@@ -104,20 +100,25 @@ impl Tally {
         ensures { (copies : List RoleAndKey) → (key : Key) → IsTally key copies self
             → IsTally key (copies ++ (role, key) ∷ []) result }
     {
-        let plain = where_so(role.is_plain(), 1);
-        let switching = where_so(role.is_switching(), 1);
-        Tally {
-            plain: self.plain + plain,
-            equal: self.equal + plain,
-            switching: self.switching + switching,
+        match role {
+            Role::Absent => self,
+            Role::Plain => Tally {
+                plain: self.plain + 1,
+                equal: self.equal + 1,
+                ..self
+            },
+            Role::Switching => Tally {
+                switching: self.switching + 1,
+                ..self
+            },
         }
     }
 }
 
-/// The number where that is so, or else 0. Which it is hangs on the copy at hand, so that a branch
-/// would often be foretold wrongly: a choice of two numbers costs less.
-fn where_so(so: bool, n: u32) -> u32
-    ensures { result ≡ cond so n 0 }
+/// The number where it is kept, or else 0. Which it is changes from state to state, so a product
+/// costs less than a branch that is often foretold wrongly.
+fn kept(n: u32, keeps: bool) -> u32
+    ensures { result ≡ cond keeps n 0 }
 {
-    if so { n } else { 0 }
+    n * u32::from(keeps)
 }

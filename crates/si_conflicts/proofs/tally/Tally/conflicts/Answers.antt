@@ -1,13 +1,20 @@
-use Rattle.std.proofs.Common.{◌+◌, ◌-◌, ◌∙◌, cond, ap, ap₂}
-use Rattle.si_conflicts.proofs.TallyLemmas.{met_by, fewer_equal}
+use Rattle.std.proofs.Common.{◌∙◌, arith, sym, ap}
+use Rattle.si_conflicts.specs.declared.tally.Role.{Role}
+use Rattle.si_conflicts.specs.Apart.{are_apart}
+use Rattle.std.proofs.Common.{count_by}
+use Rattle.si_conflicts.proofs.TallyLemmas.{meets_none, meets_plain, fewer_equal}
 use Rattle.si_conflicts.proofs.tally.Tally.conflicts.Goals as goal
 
-pub overflow_sub-stable : goal.overflow_sub-stable
-overflow_sub-stable c = fewer_equal c.requires.key c.requires.copies c.args.self c.requires.is
+pub overflow_sub-result : goal.overflow_sub-result
+overflow_sub-result c = fewer_equal c.requires.key c.requires.copies c.args.self c.requires.is
 
-pub returns : goal.returns
-returns c = λ copies key is.
-    let told = c.args.self.plain - c.args.self.equal + c.args.self.switching in
-    ap₂ (λ m n. m + n) (c.where_so.ensures ∙ ap (λ w. cond w told 0) c.is_plain.ensures)
-    (c.where_so-2.ensures ∙ ap (λ w. cond w c.args.self.plain 0) c.is_switching.ensures)
-    ∙ met_by c.args.role key copies c.args.self is
+pub returns-in-Absent : goal.returns-in-Absent
+returns-in-Absent c = λ copies key is. sym
+    (ap (λ (r : Role). count_by (λ e. are_apart e (r, key)) copies) c.in-Absent.is ∙ meets_none key copies)
+
+pub returns-in-Plain : goal.returns-in-Plain
+returns-in-Plain c = λ copies key is. (
+    let few = fewer_equal key copies c.args.self is in
+    let met = meets_plain key copies c.args.self is in
+    let role = ap (λ (r : Role). count_by (λ e. are_apart e (r, key)) copies) c.in-Plain.is in
+    omega (arith, few, met, role))
