@@ -15,7 +15,6 @@ pub mod PartitionLemmas
 pub mod OnePartitionFor
 pub mod SwitchRuleLemmas
 pub mod SettlingLemmas
-pub mod WordBits
 pub mod SwitchTurns
 pub mod SwitchLoops
 pub mod SameForced

@@ -19,6 +19,7 @@ use Rattle.si_graph.proofs.ValueLemmas.{bit-or, bit-zero}
 use Rattle.si_closures.specs.WordSearch.{column, HasBit, Passes, IsNextBy, IsClosureBy}
 use Rattle.si_closures.specs.Words.{HasAll}
 use Rattle.si_closures.proofs.WordLemmas.{full_bit, place_below}
+use Rattle.si_closures.proofs.WordBits.{not_is, xor_is, and_is, in_and, in_or}
 use Rattle.si_closures.proofs.WordSearchLemmas.{column-at, in_column}
 use Rattle.si_insert.specs.declared.partition.Class.{Class}
 use Rattle.si_insert.specs.Partition.{class_of}
@@ -38,7 +39,6 @@ use Rattle.si_divisor.proofs.SwitchRuleLemmas.{least_falls}
 use Rattle.si_divisor.proofs.SwitchingOutside.{none_without_targets, none_if_strays_up, none_if_strays_down}
 use Rattle.si_divisor.proofs.SwitchingOutside.{none_if_never_up, none_if_never_down, stays_within}
 use Rattle.si_divisor.proofs.SettlingLemmas.{closure_settles}
-use Rattle.si_divisor.proofs.WordBits.{not_is, xor_is, and_is, in_and, in_or}
 
 -- ---- bits
 neither : (a b : Bool) → not (a || b) ≡ (not a && not b)

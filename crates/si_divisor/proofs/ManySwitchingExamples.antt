@@ -1,9 +1,7 @@
 -- The rules of switching states at a square of four states, and two functions at once at two states.
-use Rattle.std.proofs.Common.{◌≡◌, ◌≢◌, ℕ, zero, suc, ◌<◌, ◌≤◌, ◌^◌, Bool, true, false, List, [], ◌∷◌, refl, sym, ap}
+use Rattle.std.proofs.Common.{◌≡◌, ◌≢◌, ℕ, zero, suc, ◌<◌, true, false, [], ◌∷◌, refl, sym, ap}
 use Rattle.std.proofs.Common.{ap₂, subst, ◌∙◌, arith, inr, codes, length, get_or}
 use Rattle.std.proofs.lemmas.Bool.{true≢false}
-use Rattle.si_base.specs.declared.graph.Edge.{Edge}
-use Rattle.si_base.specs.declared.graph.Signal.{Signal}
 use Rattle.si_base.specs.declared.graph.SigKind.TheVariants.{Input, Output}
 use Rattle.si_base.specs.declared.ids.Event.{Event}
 use Rattle.si_base.specs.Bits.{bit}
@@ -16,7 +14,7 @@ use Rattle.si_insert.specs.Partition.{class_of}
 use Rattle.si_divisor.specs.declared.function_sets.FunctionSets.{FunctionSets}
 use Rattle.si_divisor.specs.declared.switching.Switched.{Switched}
 use Rattle.si_divisor.specs.ManyFunctions.{AreClassesAt}
-use Rattle.si_divisor.specs.ManySwitching.{AreSwitched, ExitsBeside, FollowsBack, Source, FollowsOn, HasExit, LetsExit}
+use Rattle.si_divisor.specs.ManySwitching.{AreSwitched, ExitsBeside, FollowsBack, Source, FollowsOn, LetsExit}
 use Rattle.si_divisor.specs.PartitionFor.{class_for}
 use Rattle.si_divisor.specs.Switching.{Switches}
 use Rattle.si_divisor.specs.SwitchRules.{Crossed, ExitsLow, FollowsByRule, HasDiamond, IsCrossed, OmitsState}

@@ -5,6 +5,7 @@ use Rattle.std.proofs.lemmas.List.FromFn.{length-map-range_with_len, get_or-map-
 use Rattle.si_base.specs.Order.{IsFirst}
 use Rattle.si_base.specs.Graph.{StateGraph, IsGraph}
 use Rattle.si_graph.specs.Reach.{IsIn}
+use Rattle.si_graph.proofs.SearchLemmas.{in_below}
 use Rattle.si_checks.proofs.SearchDecisions as decide
 use Rattle.si_checks.proofs.SearchDecisions.{Decided}
 use Rattle.si_insert.specs.declared.partition.Class.{Class}
@@ -15,7 +16,6 @@ use Rattle.si_divisor.specs.declared.fault.NoPartition.TheVariants.{Constant}
 use Rattle.si_divisor.specs.Targets.{AreSettled, IsUnforced, SettlesAtBoth, target}
 use Rattle.si_divisor.specs.PartitionFor.{Sets, AreSets, Leaves, HasSome, class_by, IsPartitionFor, state_place}
 use Rattle.si_divisor.specs.Laws.{IsReason, PartitionsExist}
-use Rattle.si_divisor.proofs.TargetSets.{in_within}
 use Rattle.si_divisor.proofs.TargetLeastExists.{first_below, is_in, either, some_settled, some_switching}
 
 -- the first state with P, where all with P are below n
@@ -57,7 +57,7 @@ module _ (g : StateGraph) (graph : IsGraph g) (forced : Bool → ℕ → Bool) w
   has_some : (set : List Bool) → Decided (HasSome set)
   has_some set = elim (first_below (IsIn set) (is_in set) (length set)) [
     | inl (s, below, there, none) ↦ inl (s, there)
-    | inr none ↦ inr (λ some. none some.0 (in_within set some.0 some.1) some.1)
+    | inr none ↦ inr (λ some. none some.0 (in_below set some.0 some.1) some.1)
   ]
 
   classes_by : Sets → List Class
@@ -95,8 +95,8 @@ module _ (g : StateGraph) (graph : IsGraph g) (forced : Bool → ℕ → Bool) w
   ]
     where
       below : (s : ℕ) → Leaves forced x s → s < g.states
-      below s (inl up) = let k = in_within x.plus s up.0 in omega (arith, k, are.rising.size)
-      below s (inr down) = let k = in_within x.minus s down.0 in omega (arith, k, are.falling.size)
+      below s (inl up) = let k = in_below x.plus s up.0 in omega (arith, k, are.rising.size)
+      below s (inr down) = let k = in_below x.minus s down.0 in omega (arith, k, are.falling.size)
 
   with_settled : (ones zeros : List Bool) → AreSettled g forced ones zeros → Answer
   with_settled ones zeros are =
@@ -126,7 +126,7 @@ module _ (g : StateGraph) (graph : IsGraph g) (forced : Bool → ℕ → Bool) w
       ]
     where
       below : (s : ℕ) → SettlesAtBoth ones zeros s → s < g.states
-      below s t = let k = in_within ones s t.one in omega (arith, k, are.at_one.size)
+      below s t = let k = in_below ones s t.one in omega (arith, k, are.at_one.size)
 
   pub some_answer : Answer
   some_answer =

@@ -10,6 +10,7 @@ use Rattle.si_graph.specs.Reach.{IsIn}
 use Rattle.si_graph.proofs.SearchLemmas.{in_below}
 use Rattle.si_closures.specs.WordSearch.{column, HasBit, HasNone, Spreads, SpreadsAll}
 use Rattle.si_closures.specs.Words.{HasAll}
+use Rattle.si_closures.proofs.WordBits.{in_and, in_less, no_bit_of_none}
 use Rattle.si_closures.proofs.WordSearchLemmas.{in_column, column-at, others_wait}
 use Rattle.si_divisor.specs.declared.switching.Switched.{Switched}
 use Rattle.si_divisor.specs.SwitchRules.{AllIn, Among, SwitchRule, FollowsByRule, OmitsState, IsCrossed}
@@ -18,7 +19,6 @@ use Rattle.si_divisor.specs.Switching.{Switches}
 use Rattle.si_divisor.specs.Targets.{IsLeast, target}
 use Rattle.si_divisor.proofs.SwitchRuleLemmas.{first_rule, fires_at, least_switches}
 use Rattle.si_divisor.proofs.SwitchTurns.{crossed_belongs}
-use Rattle.si_divisor.proofs.WordBits.{in_and, in_less, no_bit_of_none}
 
 -- ---- states that wait
 abbrev pub SomeWaits : List Bool → List ℕ → Type 0

@@ -1,49 +1,16 @@
 -- The least set that is closed under the rules is that of the states that switch.
 use Rattle.std.proofs.Common.{◌≡◌, ℕ, ◌<◌, ◌⊎◌, Bool, true, false, not, List, [], ◌∷◌, length, refl, sym, subst, ◌∙◌}
-use Rattle.std.proofs.Common.{inl, inr, ap, arith, slice_get, Some}
-use Rattle.std.proofs.lemmas.Bool.{true≢false}
-use Rattle.std.proofs.lemmas.Option.{slice_get_cases}
-use Rattle.si_base.specs.declared.graph.Signal.{Signal}
-use Rattle.si_base.specs.declared.graph.SigKind.{SigKind}
-use Rattle.si_base.specs.declared.graph.SigKind.TheVariants.{Input, Output, Internal, Inserted}
+use Rattle.std.proofs.Common.{inl, inr, ap, arith}
 use Rattle.si_base.specs.declared.ids.Event.{Event}
-use Rattle.si_base.specs.Graph.{StateGraph, IsGraph, IsNonInput, Step, is_driven}
+use Rattle.si_base.specs.Graph.{StateGraph, IsGraph, Step}
 use Rattle.si_base.proofs.StepCodes.{step_within}
 use Rattle.si_graph.specs.Reach.{IsIn}
-use Rattle.si_insert.specs.Accepted.{IsInput}
 use Rattle.si_divisor.specs.Switching.{Switches}
 use Rattle.si_divisor.specs.SwitchRules.{AllIn, Among, IsClosed, InEach, IsCrossed, IsBefore, IsAfterInput, IsLow}
 use Rattle.si_divisor.specs.SwitchRules.{ExitsLow, ExitsHigh, SwitchRule, Crossed, Preceding, ByInput, Low, Both}
 use Rattle.si_divisor.specs.SwitchRules.{Belongs}
 use Rattle.si_divisor.specs.SwitchRules.{FollowsByRule, BeforeIt, AfterIt, AtExit, WithFirst, WithOther}
 use Rattle.si_divisor.specs.Targets.{IsLeast, target}
-
--- ---- kinds of signals
-input_drives : (x : Signal) → x.kind ≡ Input → is_driven x.kind ≡ true → ⊥
-input_drives x input driven = true≢false (sym driven ∙ ap is_driven input)
-
-pub input_is_no_other : (signals : List Signal) (a : ℕ) → IsInput signals a → IsNonInput signals a → ⊥
-input_is_no_other signals a (x, at, input) (y, also, driven) =
-    let same : x ≡ y = cc in
-    input_drives y (subst (λ (z : Signal). z.kind ≡ Input) same input) driven
-
-kind_or_input : (kind : SigKind) → (kind ≡ Input) ⊎ (is_driven kind ≡ true)
-kind_or_input Input = inl refl
-kind_or_input Output = inr refl
-kind_or_input Internal = inr refl
-kind_or_input Inserted = inr refl
-
-pub input_if_no_other : (signals : List Signal) (a : ℕ) → a < length signals → (IsNonInput signals a → ⊥)
-    → IsInput signals a
-input_if_no_other signals a inside none = elim (slice_get_cases signals a).1 [
-  | inl found ↦ at found.0 found.2 (kind_or_input found.0.kind)
-  | inr past ↦ absurd (omega arith)
-]
-  where
-    at : (x : Signal) → slice_get signals a ≡ Some x → (x.kind ≡ Input) ⊎ (is_driven x.kind ≡ true)
-        → IsInput signals a
-    at x there (inl input) = (x, there, input)
-    at x there (inr driven) = absurd (none (x, there, driven))
 
 -- ---- for any rules
 -- what is in each closed set follows so

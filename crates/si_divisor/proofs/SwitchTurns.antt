@@ -4,48 +4,46 @@ use Rattle.std.proofs.Common.{get_or, Contains, Option, refl, sym, ap, subst, �
 use Rattle.std.proofs.lemmas.Bool.{cases_eq, cases_order, cases_Bool, true≢false}
 use Rattle.std.proofs.lemmas.List.{get_or_default}
 use Rattle.std.proofs.lemmas.Nat.{and_le_l}
-use Rattle.si_base.specs.declared.ids.Event.{Event}
 use Rattle.si_base.specs.declared.graph.Edge.{Edge}
 use Rattle.si_base.specs.Bits.{bit}
 use Rattle.si_base.specs.Codes.{IsDeterministic}
-use Rattle.si_base.specs.Graph.{StateGraph, Step, IsNonInput, arc, same_event}
-use Rattle.si_base.proofs.GraphSteps.{same_event-refl}
+use Rattle.si_base.specs.Graph.{StateGraph, Step, IsNonInput, arc}
 use Rattle.si_base.proofs.StepCodes.{step_within}
 use Rattle.si_graph.specs.Reach.{IsIn}
 use Rattle.si_graph.specs.Arcs.{AreOut, edge_at, no_edge, IsFirstPlace, IsInto}
 use Rattle.si_graph.proofs.ClosureLemmas.{place_in_walk, none_between, later_place}
 use Rattle.si_graph.proofs.ValueLemmas.{bit-zero}
-use Rattle.si_closures.specs.WordSearch.{column, HasBit, SpreadsAll}
+use Rattle.si_closures.specs.WordSearch.{column, HasBit, SpreadsAll, WordProgress}
+use Rattle.si_closures.proofs.SignalKinds.{input_is_no_other}
+use Rattle.si_closures.proofs.WordBits.{in_and, in_or, in_not, in_less, bit_few, no_bit_of_none}
 use Rattle.si_closures.proofs.WordSearchLemmas.{in_column, column-at, spreads_both, spreads_none}
 use Rattle.si_insert.specs.Accepted.{IsInput}
-use Rattle.si_divisor.specs.declared.word_work.WordWork.{WordWork}
 use Rattle.si_divisor.specs.SwitchRules.{Belongs, FollowsByRule, BeforeIt, AfterIt, AtExit, WithFirst, WithOther}
 use Rattle.si_divisor.specs.SwitchRules.{SwitchRule, Crossed, Preceding, ByInput, Low, Both, HasDiamond, IsCrossed}
 use Rattle.si_divisor.specs.SwitchRules.{IsLow}
-use Rattle.si_divisor.specs.ManySwitching.{Grows, GrowsAll, IsSized, BelongsTo, AllBelong, HaveAll, ExitsBeside}
+use Rattle.si_divisor.specs.ManySwitching.{Grows, GrowsAll, BelongsTo, AllBelong, HaveAll, ExitsBeside}
 use Rattle.si_divisor.specs.ManySwitching.{FollowsBack, Source, Beside, LetsExit, HasExit, FollowsOn}
-use Rattle.si_divisor.proofs.SwitchRuleLemmas.{each_on, low_or_high, input_is_no_other}
-use Rattle.si_divisor.proofs.WordBits.{in_and, in_or, in_not, in_less, bit_few, no_bit_of_none}
+use Rattle.si_divisor.proofs.SwitchRuleLemmas.{each_on, low_or_high}
 
 -- ---- from one work to the next
-pub marked_on : (Q : ℕ → ℕ → Type 0) (old new : WordWork) → Grows Q old new → (k t : ℕ)
-    → IsIn (column k old.words.items) t → IsIn (column k new.words.items) t
+pub marked_on : (Q : ℕ → ℕ → Type 0) (old new : WordProgress) → Grows Q old new → (k t : ℕ)
+    → IsIn (column k old.words) t → IsIn (column k new.words) t
 marked_on Q old new m k t i =
-    (in_column k new.words.items t).1 (m.grows k t ((in_column k old.words.items t).0 i))
+    (in_column k new.words t).1 (m.grows k t ((in_column k old.words t).0 i))
 
-pub belong_on : (g : StateGraph) (highs : List ℕ) (old new : WordWork) → Grows (BelongsTo g highs) old new
+pub belong_on : (g : StateGraph) (highs : List ℕ) (old new : WordProgress) → Grows (BelongsTo g highs) old new
     → AllBelong g highs old → AllBelong g highs new
 belong_on g highs old new m all k t has = elim (m.sound k t has) [ inl before ↦ all k t before | inr q ↦ q ]
 
-pub grows_none : (Q : ℕ → ℕ → Type 0) (work : WordWork) → Grows Q work work
-grows_none Q work = spreads_none Q work.words.items work.work
+pub grows_none : (Q : ℕ → ℕ → Type 0) (work : WordProgress) → Grows Q work work
+grows_none Q work = spreads_none Q work.words work.work
 
-pub grows_both : (P Q R : ℕ → ℕ → Type 0) (old mid new : WordWork) → ((k t : ℕ) → P k t → R k t)
+pub grows_both : (P Q R : ℕ → ℕ → Type 0) (old mid new : WordProgress) → ((k t : ℕ) → P k t → R k t)
     → ((k t : ℕ) → Q k t → R k t) → Grows P old mid → Grows Q mid new → Grows R old new
 grows_both P Q R old mid new p q m n =
-    spreads_both P Q R old.words.items old.work mid.words.items mid.work new.words.items new.work p q m n
+    spreads_both P Q R old.words old.work mid.words mid.work new.words new.work p q m n
 
-pub grows_as : (P R : ℕ → ℕ → Type 0) (old new : WordWork) → ((k t : ℕ) → P k t → R k t) → Grows P old new
+pub grows_as : (P R : ℕ → ℕ → Type 0) (old new : WordProgress) → ((k t : ℕ) → P k t → R k t) → Grows P old new
     → Grows R old new
 grows_as P R old new p m = grows_both P R R old new new p (λ k t r. r) m (grows_none R new)
 
@@ -59,13 +57,13 @@ spreads_all_as P R words work new_words new_work p r m = record {
 }
 
 -- ---- in a loop over arcs: what P says of the arcs before a place is there
-abbrev pub DoneTo : (ℕ → Edge → ℕ → Type 0) → List Edge → ℕ → WordWork → Type 0
+abbrev pub DoneTo : (ℕ → Edge → ℕ → Type 0) → List Edge → ℕ → WordProgress → Type 0
 DoneTo P arcs n work =
-    (j : ℕ) (a : Edge) → j < n → get_or arcs j a ≡ a → (k t : ℕ) → P k a t → HasBit work.words.items k t
+    (j : ℕ) (a : Edge) → j < n → get_or arcs j a ≡ a → (k t : ℕ) → P k a t → HasBit work.words k t
 
 pub done_more : (P : ℕ → Edge → ℕ → Type 0) (Q : ℕ → ℕ → Type 0) (arcs : List Edge) (n : ℕ) (a : Edge)
-    (old new : WordWork) → n < length arcs → a ≡ get_or arcs n a
-    → ((k t : ℕ) → P k a t → HasBit new.words.items k t) → Grows Q old new → DoneTo P arcs n old
+    (old new : WordProgress) → n < length arcs → a ≡ get_or arcs n a
+    → ((k t : ℕ) → P k a t → HasBit new.words k t) → Grows Q old new → DoneTo P arcs n old
     → DoneTo P arcs (n + 1) new
 done_more P Q arcs n a old new inside at here m done j b early at_j k t p = elim (cases_eq j n) [
   | inl same ↦ (
@@ -75,18 +73,18 @@ done_more P Q arcs n a old new inside at here m done j b early at_j k t p = elim
   | inr other ↦ m.grows k t (done j b (omega (arith, early, other)) at_j k t p)
 ]
 
-pub done_all : (P : ℕ → Edge → ℕ → Type 0) (arcs : List Edge) (n : ℕ) (work : WordWork) → length arcs ≤ n
-    → DoneTo P arcs n work → (a : Edge) → Contains arcs a → (k t : ℕ) → P k a t → HasBit work.words.items k t
+pub done_all : (P : ℕ → Edge → ℕ → Type 0) (arcs : List Edge) (n : ℕ) (work : WordProgress) → length arcs ≤ n
+    → DoneTo P arcs n work → (a : Edge) → Contains arcs a → (k t : ℕ) → P k a t → HasBit work.words k t
 done_all P arcs n work all done a (j, inside, at) k t p = done j a (omega (arith, inside, all)) at k t p
 
 -- ---- in a walk over the arcs into s
-abbrev pub PassedTo : StateGraph → (ℕ → Edge → ℕ → Type 0) → ℕ → ℕ → WordWork → Type 0
+abbrev pub PassedTo : StateGraph → (ℕ → Edge → ℕ → Type 0) → ℕ → ℕ → WordProgress → Type 0
 PassedTo g P s n work = (j : ℕ) → j < n → j < length g.edges → IsInto g.edges s j → (k t : ℕ)
-    → P k (edge_at g.edges j) t → HasBit work.words.items k t
+    → P k (edge_at g.edges j) t → HasBit work.words k t
 
 pub walk_goes_on : (g : StateGraph) (P : ℕ → Edge → ℕ → Type 0) (Q : ℕ → ℕ → Type 0) (s n : ℕ) (next : Option ℕ)
-    (old new : WordWork) → IsFirstPlace (IsInto g.edges s) (n + 1) (length g.edges) next
-    → ((k t : ℕ) → P k (edge_at g.edges n) t → HasBit new.words.items k t) → Grows Q old new
+    (old new : WordProgress) → IsFirstPlace (IsInto g.edges s) (n + 1) (length g.edges) next
+    → ((k t : ℕ) → P k (edge_at g.edges n) t → HasBit new.words k t) → Grows Q old new
     → PassedTo g P s n old → PassedTo g P s (place_in_walk g next) new
 walk_goes_on g P Q s n next old new first here m passed j less inside into k t p = elim (cases_order j n) [
   | inl same ↦ here k t (subst (λ (i : ℕ). P k (edge_at g.edges i) t) same p)
@@ -94,9 +92,9 @@ walk_goes_on g P Q s n next old new first here m passed j less inside into k t p
   | inr (inr later) ↦ absurd (none_between g [] s (n + 1) next first j (omega arith) less inside into)
 ]
 
-pub walk_ends : (g : StateGraph) (P : ℕ → Edge → ℕ → Type 0) (s : ℕ) (work : WordWork)
+pub walk_ends : (g : StateGraph) (P : ℕ → Edge → ℕ → Type 0) (s : ℕ) (work : WordProgress)
     → PassedTo g P s (length g.edges) work → (a : Edge) → Contains g.edges a → a.to ≡ s → (k t : ℕ) → P k a t
-    → HasBit work.words.items k t
+    → HasBit work.words k t
 walk_ends g P s work passed a (j, inside, at) into k t p =
     let is : edge_at g.edges j ≡ a = get_or_default g.edges j no_edge a inside ∙ at in
     passed j inside inside (ap (λ (x : Edge). x.to) is ∙ into) k t (subst (λ (x : Edge). P k x t) (sym is) p)
@@ -108,19 +106,19 @@ Crosses highs given k a t = (t ≡ a.to) × (bit given k ≡ true) × IsIn (colu
     × IsLow (column k highs) a.from
 
 -- what the event of the other arc leads to past this one
-abbrev pub PassesBeside : StateGraph → ℕ → WordWork → Edge → ℕ → Edge → ℕ → Type 0
+abbrev pub PassesBeside : StateGraph → ℕ → WordProgress → Edge → ℕ → Edge → ℕ → Type 0
 PassesBeside g sets old other k a t = (bit sets k ≡ true) × (other.event ≢ a.event)
-    × HasBit old.words.items k a.to × Step g a.to other.event t
+    × HasBit old.words k a.to × Step g a.to other.event t
 
 -- what follows from its end
-abbrev pub ComesBack : StateGraph → List ℕ → ℕ → WordWork → ℕ → Edge → ℕ → Type 0
+abbrev pub ComesBack : StateGraph → List ℕ → ℕ → WordProgress → ℕ → Edge → ℕ → Type 0
 ComesBack g highs sets old k a t = (bit sets k ≡ true)
-    × FollowsBack g (column k highs) (column k old.words.items) a t
+    × FollowsBack g (column k highs) (column k old.words) a t
 
 -- its end, where that follows from its source
-abbrev pub GoesOn : StateGraph → List ℕ → ℕ → WordWork → ℕ → Edge → ℕ → Type 0
+abbrev pub GoesOn : StateGraph → List ℕ → ℕ → WordProgress → ℕ → Edge → ℕ → Type 0
 GoesOn g highs sets old k a t = (t ≡ a.to) × (bit sets k ≡ true)
-    × FollowsOn g (column k highs) (column k old.words.items) a
+    × FollowsOn g (column k highs) (column k old.words) a
 
 -- ---- what follows belongs
 module _ (g : StateGraph) (high : List Bool) where
@@ -406,11 +404,6 @@ crossing_bits highs given from to x y given_fits y_fits x_is y_is k = (
         ↔ ((bit (bit_and given x) k ≡ true) × (bit y k ≡ false))
     less = in_less (bit_and given x) y k (omega (arith, and_le_l given x, given_fits)) y_fits
 
-pub apart_events : (e f : Event) → false ≡ same_event e f → f ≢ e
-apart_events e f not_same same =
-    let P : Event → Type 0 = λ x. false ≡ same_event e x in
-    true≢false (sym (same_event-refl e) ∙ sym (subst P same not_same))
-
 pub let_by_bits : (g : StateGraph) (highs words : List ℕ) (exit before : Edge) (t x y : ℕ) → x < 2 ^ 128
     → x ≡ get_or highs before.from 0 → y ≡ get_or words t 0 → IsDeterministic g → Step g before.from exit.event t
     → exit.event ≢ before.event → (k : ℕ) → k < 128
@@ -452,35 +445,35 @@ reach_more R words work new_words new_work to sets reached v v_is m sound comple
     Q : ℕ → ℕ → Type 0
     Q k t = (t ≡ to) × (bit sets k ≡ true) × R k
 
-module _ (g : StateGraph) (highs : List ℕ) (old : WordWork) (a : Edge) (sets more v : ℕ) (sets_fit : sets < 2 ^ 128)
-    (v_is : v ≡ get_or old.words.items a.to 0)
+module _ (g : StateGraph) (highs : List ℕ) (old : WordProgress) (a : Edge) (sets more v : ℕ) (sets_fit : sets < 2 ^ 128)
+    (v_is : v ≡ get_or old.words a.to 0)
     (more_bits : (k : ℕ) → (bit more k ≡ true) ↔ ((bit sets k ≡ true) × (bit v k ≡ false))) where
   abbrev Follows : ℕ → Type 0
-  Follows k = FollowsOn g (column k highs) (column k old.words.items) a
+  Follows k = FollowsOn g (column k highs) (column k old.words) a
 
-  pub nothing_more : more ≡ 0 → SpreadsAll (λ k t. (t ≡ a.to) × (bit sets k ≡ true) × Follows k) old.words.items
-      old.work old.words.items old.work
+  pub nothing_more : more ≡ 0 → SpreadsAll (λ k t. (t ≡ a.to) × (bit sets k ≡ true) × Follows k) old.words
+      old.work old.words old.work
   nothing_more none = record {
-    spreads = spreads_none (λ k t. (t ≡ a.to) × (bit sets k ≡ true) × Follows k) old.words.items old.work;
+    spreads = spreads_none (λ k t. (t ≡ a.to) × (bit sets k ≡ true) × Follows k) old.words old.work;
     all = λ k t q. elim (cases_Bool (bit v k)) [
-      | inl there ↦ subst (HasBit old.words.items k) (sym q.0) (ap (λ (u : ℕ). bit u k) (sym v_is) ∙ there)
+      | inl there ↦ subst (HasBit old.words k) (sym q.0) (ap (λ (u : ℕ). bit u k) (sym v_is) ∙ there)
       | inr out ↦ absurd (no_bit_of_none more k none ((more_bits k).1 (q.1, out)))
     ];
   }
 
   pub by_input : (words : List ℕ) (work : List Bool) → IsInput g.signals a.event.sig
-      → SpreadsAll (λ k u. (u ≡ a.to) × (bit more k ≡ true)) old.words.items old.work words work
-      → SpreadsAll (λ k t. (t ≡ a.to) × (bit sets k ≡ true) × Follows k) old.words.items old.work words work
+      → SpreadsAll (λ k u. (u ≡ a.to) × (bit more k ≡ true)) old.words old.work words work
+      → SpreadsAll (λ k t. (t ≡ a.to) × (bit sets k ≡ true) × Follows k) old.words old.work words work
   by_input words work input m =
-      reach_more Follows old.words.items old.work words work a.to sets more v v_is m
+      reach_more Follows old.words old.work words work a.to sets more v v_is m
       (λ k h. (((more_bits k).0 h).0, inl input)) (λ k has follows out. (more_bits k).1 (has, out))
 
   pub by_exit : (exits : ℕ) (words : List ℕ) (work : List Bool) → IsNonInput g.signals a.event.sig
-      → ((k : ℕ) → k < 128 → (bit exits k ≡ true) ↔ HasExit g (column k highs) (column k old.words.items) a)
-      → SpreadsAll (λ k u. (u ≡ a.to) × (bit (bit_and more exits) k ≡ true)) old.words.items old.work words work
-      → SpreadsAll (λ k t. (t ≡ a.to) × (bit sets k ≡ true) × Follows k) old.words.items old.work words work
+      → ((k : ℕ) → k < 128 → (bit exits k ≡ true) ↔ HasExit g (column k highs) (column k old.words) a)
+      → SpreadsAll (λ k u. (u ≡ a.to) × (bit (bit_and more exits) k ≡ true)) old.words old.work words work
+      → SpreadsAll (λ k t. (t ≡ a.to) × (bit sets k ≡ true) × Follows k) old.words old.work words work
   by_exit exits words work non_input tells m =
-      reach_more Follows old.words.items old.work words work a.to sets (bit_and more exits) v v_is m sound complete
+      reach_more Follows old.words old.work words work a.to sets (bit_and more exits) v v_is m sound complete
     where
       sound : (k : ℕ) → bit (bit_and more exits) k ≡ true → (bit sets k ≡ true) × Follows k
       sound k h =
@@ -488,7 +481,7 @@ module _ (g : StateGraph) (highs : List ℕ) (old : WordWork) (a : Edge) (sets m
           let has = ((more_bits k).0 both.0).0 in
           (has, inr (non_input, (tells k (bit_few sets k sets_fit has)).0 both.1))
 
-      exit_of : (k : ℕ) → Follows k → HasExit g (column k highs) (column k old.words.items) a
+      exit_of : (k : ℕ) → Follows k → HasExit g (column k highs) (column k old.words) a
       exit_of k (inl input) = absurd (input_is_no_other g.signals a.event.sig input non_input)
       exit_of k (inr (driven, exit)) = exit
 
@@ -506,76 +499,76 @@ module _ (g : StateGraph) (s : ℕ) (arcs : List Edge) (n : ℕ) (a : Edge) (out
   out_within = step_within g a.from a.event a.to out.graph out_arc.0
 
 -- ---- one arc more out of x
-module _ (g : StateGraph) (highs : List ℕ) (old mid : WordWork) (arcs : List Edge) (n : ℕ) (a : Edge)
+module _ (g : StateGraph) (highs : List ℕ) (old mid : WordProgress) (arcs : List Edge) (n : ℕ) (a : Edge)
     (belong : AllBelong g highs old) (grown : Grows (BelongsTo g highs) old mid) where
   mid_belong : AllBelong g highs mid
   mid_belong = belong_on g highs old mid grown belong
 
-  marks_belong : (k t : ℕ) → IsIn (column k mid.words.items) t → Belongs g (column k highs) t
-  marks_belong k t i = mid_belong k t ((in_column k mid.words.items t).0 i)
+  marks_belong : (k t : ℕ) → IsIn (column k mid.words) t → Belongs g (column k highs) t
+  marks_belong k t i = mid_belong k t ((in_column k mid.words t).0 i)
 
   module _ (x sets : ℕ) (out : AreOut g x arcs) (inside : n < length arcs) (at : a ≡ get_or arcs n a)
-      (have : HaveAll sets old x) (new : WordWork)
+      (have : HaveAll sets old x) (new : WordProgress)
       (m : GrowsAll (λ k t. (t ≡ a.to) × (bit sets k ≡ true)
-      × FollowsOn g (column k highs) (column k mid.words.items) a) mid new) where
+      × FollowsOn g (column k highs) (column k mid.words) a) mid new) where
     goes_on_belongs : (k t : ℕ) → (t ≡ a.to) × (bit sets k ≡ true)
-        × FollowsOn g (column k highs) (column k mid.words.items) a → BelongsTo g highs k t
+        × FollowsOn g (column k highs) (column k mid.words) a → BelongsTo g highs k t
     goes_on_belongs k t q =
         let both = out_arc g x arcs n a out inside at in
         let from = subst (Belongs g (column k highs)) (sym both.1) (belong k x (have k q.1)) in
         subst (Belongs g (column k highs)) (sym q.0)
-        (follows_on_belongs g (column k highs) (column k mid.words.items) (marks_belong k) a both.0 from q.2)
+        (follows_on_belongs g (column k highs) (column k mid.words) (marks_belong k) a both.0 from q.2)
 
     pub out_grows : Grows (BelongsTo g highs) old new
     out_grows = grows_both (BelongsTo g highs) (λ k t. (t ≡ a.to) × (bit sets k ≡ true)
-        × FollowsOn g (column k highs) (column k mid.words.items) a) (BelongsTo g highs) old mid new (λ k t b. b)
+        × FollowsOn g (column k highs) (column k mid.words) a) (BelongsTo g highs) old mid new (λ k t b. b)
         goes_on_belongs grown m.spreads
 
     pub out_done : DoneTo (GoesOn g highs sets old) arcs n mid → DoneTo (GoesOn g highs sets old) arcs (n + 1) new
     out_done done = done_more (GoesOn g highs sets old) (λ k t. (t ≡ a.to) × (bit sets k ≡ true)
-        × FollowsOn g (column k highs) (column k mid.words.items) a) arcs n a mid new inside at
+        × FollowsOn g (column k highs) (column k mid.words) a) arcs n a mid new inside at
         (λ k t q. m.all k t (
           q.0,
           q.1,
-          on_later g (column k highs) (column k old.words.items)
-              (column k mid.words.items) (marked_on (BelongsTo g highs) old mid grown k) a q.2,
+          on_later g (column k highs) (column k old.words)
+              (column k mid.words) (marked_on (BelongsTo g highs) old mid grown k) a q.2,
         )) m.spreads done
 
   -- one arc more beside another
   module _ (other : Edge) (sets high : ℕ) (out : AreOut g other.from arcs) (inside : n < length arcs)
       (at : a ≡ get_or arcs n a) (listed : Contains g.edges other) (non_input : IsNonInput g.signals other.event.sig)
       (high_bits : (k : ℕ) → bit high k ≡ true → (bit sets k ≡ true) × IsIn (column k highs) other.from)
-      (have : HaveAll sets old other.to) (new : WordWork)
-      (m : GrowsAll (λ k t. (bit high k ≡ true) × (other.event ≢ a.event) × HasBit mid.words.items k a.to
+      (have : HaveAll sets old other.to) (new : WordProgress)
+      (m : GrowsAll (λ k t. (bit high k ≡ true) × (other.event ≢ a.event) × HasBit mid.words k a.to
       × Step g a.to other.event t) mid new) where
-    beside_is : (k t : ℕ) → (bit high k ≡ true) × (other.event ≢ a.event) × HasBit mid.words.items k a.to
+    beside_is : (k t : ℕ) → (bit high k ≡ true) × (other.event ≢ a.event) × HasBit mid.words k a.to
         × Step g a.to other.event t → BelongsTo g highs k t
     beside_is k t q =
         let both = out_arc g other.from arcs n a out inside at in
         let bits = high_bits k q.0 in
-        beside_belongs g (column k highs) (column k mid.words.items) (marks_belong k) other a t listed both.0
+        beside_belongs g (column k highs) (column k mid.words) (marks_belong k) other a t listed both.0
         (belong k other.to (have k bits.0)) (record {
           begins_high = bits.1;
           non_input = non_input;
           same = both.1;
           apart = q.1;
-          there = (in_column k mid.words.items a.to).1 q.2;
+          there = (in_column k mid.words a.to).1 q.2;
           step = q.3;
         })
 
     pub beside_grows : Grows (BelongsTo g highs) old new
     beside_grows = grows_both (BelongsTo g highs) (λ k t. (bit high k ≡ true) × (other.event ≢ a.event)
-        × HasBit mid.words.items k a.to × Step g a.to other.event t) (BelongsTo g highs) old mid new (λ k t b. b)
+        × HasBit mid.words k a.to × Step g a.to other.event t) (BelongsTo g highs) old mid new (λ k t b. b)
         beside_is grown m.spreads
 
     pub beside_done : DoneTo (PassesBeside g high old other) arcs n mid
         → DoneTo (PassesBeside g high old other) arcs (n + 1) new
     beside_done done = done_more (PassesBeside g high old other) (λ k t. (bit high k ≡ true)
-        × (other.event ≢ a.event) × HasBit mid.words.items k a.to × Step g a.to other.event t) arcs n a mid new inside
+        × (other.event ≢ a.event) × HasBit mid.words k a.to × Step g a.to other.event t) arcs n a mid new inside
         at (λ k t q. m.all k t (q.0, q.1, grown.grows k a.to q.2, q.3)) m.spreads done
 
 -- ---- back along an arc
-pub source_grows : (g : StateGraph) (highs : List ℕ) (sets : ℕ) (a : Edge) (old new : WordWork) → Contains g.edges a
+pub source_grows : (g : StateGraph) (highs : List ℕ) (sets : ℕ) (a : Edge) (old new : WordProgress) → Contains g.edges a
     → HaveAll sets old a.to → AllBelong g highs old
     → GrowsAll (λ k t. (t ≡ a.from) × (bit sets k ≡ true) × IsIn (column k highs) a.from) old new
     → Grows (BelongsTo g highs) old new
@@ -584,16 +577,16 @@ source_grows g highs sets a old new listed have belong m =
     (λ k t q. subst (Belongs g (column k highs)) (sym q.0)
     (source_belongs g (column k highs) a listed (belong k a.to (have k q.1)) q.2)) m.spreads
 
-pub back_done : (g : StateGraph) (highs : List ℕ) (sets : ℕ) (a : Edge) (old mid new : WordWork)
+pub back_done : (g : StateGraph) (highs : List ℕ) (sets : ℕ) (a : Edge) (old mid new : WordProgress)
     → GrowsAll (λ k t. (t ≡ a.from) × (bit sets k ≡ true) × IsIn (column k highs) a.from) old mid
     → Grows (BelongsTo g highs) mid new
     → ((k t : ℕ) (beside : Edge) → bit sets k ≡ true → Contains g.edges beside
-    → ExitsBeside g (column k highs) (column k mid.words.items) a beside t → HasBit new.words.items k t)
-    → (k t : ℕ) → bit sets k ≡ true → FollowsBack g (column k highs) (column k old.words.items) a t
-    → HasBit new.words.items k t
+    → ExitsBeside g (column k highs) (column k mid.words) a beside t → HasBit new.words k t)
+    → (k t : ℕ) → bit sets k ≡ true → FollowsBack g (column k highs) (column k old.words) a t
+    → HasBit new.words k t
 back_done g highs sets a old mid new first grows done k t has (Source is there) =
     grows.grows k t (first.all k t (is, has, there))
 back_done g highs sets a old mid new first grows done k t has (Beside beside listed exits) =
-    done k t beside has listed (beside_later g (column k highs) (column k old.words.items) (column k mid.words.items)
+    done k t beside has listed (beside_later g (column k highs) (column k old.words) (column k mid.words)
     (marked_on (λ j u. (u ≡ a.from) × (bit sets j ≡ true) × IsIn (column j highs) a.from) old mid first.spreads k)
     a beside t exits)

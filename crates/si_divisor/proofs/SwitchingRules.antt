@@ -12,11 +12,10 @@ use Rattle.si_insert.specs.Partition.{class_of, may_lead}
 use Rattle.si_insert.specs.Insertion.{waits, has_copy}
 use Rattle.si_insert.specs.Accepted.{Delay}
 use Rattle.si_insert.specs.Tests.{InputWaits, WaitsAfter}
-use Rattle.si_insert.specs.Diamond.{Diamond}
 use Rattle.si_divisor.specs.Switching.{Switches}
 use Rattle.si_divisor.specs.Laws.{to_one, AreClassed, Passes, MeetRules, RulesAreAcceptance}
 use Rattle.si_insert.proofs.PairWaiting.{waiting, is_or_not, waits_at, waits_if, goes_elsewhere, goes_within}
-use Rattle.si_insert.proofs.PairWaiting.{goes_into}
+use Rattle.si_insert.proofs.DiamondLosses.{lost_after, diamond_of}
 use Rattle.si_divisor.proofs.ClassCases.{at_each, target_of_waiting, copy_has, crosses, comes}
 
 twice : (v : Bool) → not (not v) ≡ v
@@ -65,7 +64,6 @@ switches_at g classes target v set graph at to p = record {
       let one = step_within g s a t graph d.first in
       let two = step_within g u a w graph d.next in
       let u_is = (at u two.0).0 in_u in
-      let h = goes_into (class_of classes s) (class_of classes u) v (p.lawful.arcs s c u d.other) u_is in
       let goes : waits (class_of classes s) (class_of classes t) v ≡ false = elim may [
         | inl low ↦
             goes_elsewhere (class_of classes s) (class_of classes t) v
@@ -75,21 +73,8 @@ switches_at g classes target v set graph at to p = record {
       ] in
       elim (is_or_not (class_of classes w) v) [
         | inl in_w ↦ (at w two.2).1 in_w
-        | inr out ↦ absurd (p.losses (record { s = s; lost = a; by = c }) (record {
-          non_input = d.non_input;
-          apart = d.apart;
-          value = v;
-          has = h.0;
-          t = t;
-          first = d.first;
-          first_goes = goes;
-          u = u;
-          other = d.other;
-          other_goes = h.1;
-          w = w;
-          next = d.next;
-          late = waits_if (class_of classes u) (class_of classes w) v u_is out;
-        }))
+        | inr out ↦ absurd (p.losses (record { s = s; lost = a; by = c })
+            (lost_after g classes v s a c t u w d (p.lawful.arcs s c u d.other) u_is out goes))
       ]);
 }
 
@@ -117,14 +102,6 @@ none_lost g classes target v set graph at to sw b w same =
     let goes : waits S T v ≡ false = subst (λ k. waits S T k ≡ false) same w.first_goes in
     let has : has_copy S v ≡ true = subst (λ k. has_copy S k ≡ true) same w.has in
     let h = waits_at (class_of classes w.u) (class_of classes w.w) v late in
-    let d : Diamond g b.s b.lost b.by w.t w.u w.w = record {
-      non_input = w.non_input;
-      apart = w.apart;
-      first =
-          w.first;
-      other = w.other;
-      next = w.next;
-    } in
     let may : (target b.s ≡ not (not v)) ⊎ (IsIn set b.s × IsIn set w.t) = elim (copy_has S v has) [
       | inl low ↦ inl (to b.s one.0 ∙ low ∙ sym (twice v))
       | inr in_s ↦ elim (is_or_not T v) [
@@ -132,7 +109,7 @@ none_lost g classes target v set graph at to sw b w same =
         | inr out ↦ absurd (true≢false (sym (waits_if S T v in_s out) ∙ goes))
       ]
     ] in
-    h.1 ((at w.w two.2).0 (sw.exits b.s b.lost b.by w.t w.u w.w d ((at w.u two.0).1 h.0) may))
+    h.1 ((at w.w two.2).0 (sw.exits b.s b.lost b.by w.t w.u w.w (diamond_of g classes b w) ((at w.u two.0).1 h.0) may))
 
 pub arc_lawful : (g : StateGraph) (classes : List Class) (target : ℕ → Bool) (plus minus : List Bool) → IsGraph g
     → AreClassed g classes target plus minus → MeetRules g classes target plus minus → (s : ℕ) (e : Event) (t : ℕ)

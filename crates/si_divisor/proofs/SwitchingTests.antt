@@ -14,8 +14,8 @@ use Rattle.si_base.specs.declared.graph.SigKind.TheVariants.{Input}
 use Rattle.si_base.specs.Graph.{StateGraph, arc, same_event, is_driven}
 use Rattle.si_base.proofs.GraphSteps.{beq-refl, same_event-refl, same_event-true}
 use Rattle.si_graph.specs.Reach.{IsIn}
+use Rattle.si_graph.proofs.SearchLemmas.{in_below}
 use Rattle.si_divisor.specs.Targets.{Settles, HaveTargets, holds}
-use Rattle.si_divisor.proofs.TargetSets.{in_within}
 use Rattle.si_divisor.specs.Switching.{Switches}
 
 abbrev pub in' : List Bool → ℕ → Bool
@@ -256,7 +256,7 @@ targets_if g ones zeros size some one = record {
       elim (or_cases (in' ones s) (in' zeros s) (below_at g.states (λ s. in' ones s || in' zeros s) some s u.within))
       [ inl h ↦ u.not_one h | inr h ↦ u.not_zero h ];
   one = λ s t. (
-      let within = in_within ones s t.one in
+      let within = in_below ones s t.one in
       not_both (in' ones s) (in' zeros s) (below_at g.states (λ s. not (in' ones s && in' zeros s)) one s
       (omega (arith, within, size))) t.one t.zero);
 }

@@ -6,10 +6,9 @@ use Rattle.si_base.specs.declared.graph.Edge.{Edge}
 use Rattle.si_base.specs.Bits.{bit}
 use Rattle.si_base.specs.Graph.{StateGraph, Step, IsNonInput}
 use Rattle.si_base.specs.Sets.{IsIn, IsSubset}
-use Rattle.si_closures.specs.WordSearch.{column, HasBit, Spreads, SpreadsAll}
+use Rattle.si_closures.specs.WordSearch.{column, HasBit, Spreads, SpreadsAll, WordProgress}
 use Rattle.si_insert.specs.Accepted.{IsInput}
 use Rattle.si_divisor.specs.declared.switching.Switched.{Switched}
-use Rattle.si_divisor.specs.declared.word_work.WordWork.{WordWork}
 use Rattle.si_divisor.specs.SwitchRules.{Belongs, IsLow, OmitsState}
 use Rattle.si_divisor.specs.Switching.{Switches}
 use Rattle.si_divisor.specs.Targets.{IsLeast, target}
@@ -29,16 +28,16 @@ pub record AreSwitched (g : StateGraph) (highs : List ℕ) (given : ℕ) (within
 
 -- ---- the turns of the search
 -- from one work to another: only bits with Q are new
-abbrev pub Grows : (ℕ → ℕ → Type 0) → WordWork → WordWork → Type 0
-Grows Q old new = Spreads Q old.words.items old.work new.words.items new.work
+abbrev pub Grows : (ℕ → ℕ → Type 0) → WordProgress → WordProgress → Type 0
+Grows Q old new = Spreads Q old.words old.work new.words new.work
 
 -- and each of these is there then
-abbrev pub GrowsAll : (ℕ → ℕ → Type 0) → WordWork → WordWork → Type 0
-GrowsAll Q old new = SpreadsAll Q old.words.items old.work new.words.items new.work
+abbrev pub GrowsAll : (ℕ → ℕ → Type 0) → WordProgress → WordProgress → Type 0
+GrowsAll Q old new = SpreadsAll Q old.words old.work new.words new.work
 
 -- each of n states has a word, and may wait
-pub record IsSized (n : ℕ) (work : WordWork) : Type 0 where
-  pub words : length work.words.items ≡ n
+pub record IsSized (n : ℕ) (work : WordProgress) : Type 0 where
+  pub words : length work.words ≡ n
   pub waiting : length work.work ≡ n
 
 -- t switches to 1 for the function at k
@@ -46,12 +45,12 @@ abbrev pub BelongsTo : StateGraph → List ℕ → ℕ → ℕ → Type 0
 BelongsTo g highs k t = Belongs g (column k highs) t
 
 -- each bit is that of a state that does
-abbrev pub AllBelong : StateGraph → List ℕ → WordWork → Type 0
-AllBelong g highs work = (k t : ℕ) → HasBit work.words.items k t → BelongsTo g highs k t
+abbrev pub AllBelong : StateGraph → List ℕ → WordProgress → Type 0
+AllBelong g highs work = (k t : ℕ) → HasBit work.words k t → BelongsTo g highs k t
 
 -- x is in each of these sets
-abbrev pub HaveAll : ℕ → WordWork → ℕ → Type 0
-HaveAll sets work x = (k : ℕ) → bit sets k ≡ true → HasBit work.words.items k x
+abbrev pub HaveAll : ℕ → WordProgress → ℕ → Type 0
+HaveAll sets work x = (k : ℕ) → bit sets k ≡ true → HasBit work.words k x
 
 -- beside the arc another leads out of its source, which is high, to a marked state; the event of
 -- the arc, which is no input, leads on from there to w

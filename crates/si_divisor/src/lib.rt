@@ -14,4 +14,3 @@ pub mod partition_for;
 pub mod pins;
 mod settled;
 mod switching;
-mod word_work;

@@ -15,10 +15,10 @@ ghost use Rattle.si_divisor.specs.ManySwitching.{AllBelong, AreSwitched, Belongs
 ghost use Rattle.si_divisor.specs.ManySwitching.{FollowsBack, FollowsOn, Grows, GrowsAll, HasExit};
 ghost use Rattle.si_divisor.specs.ManySwitching.{HaveAll, IsSized, LetsExit};
 
-use crate::word_work::WordWork;
 use si_base::graph::Edge;
 use si_base::ids::{Event, NoMemory, StateId};
 use si_base::sets::StateSet;
+use si_closures::word_work::WordWork;
 use si_closures::words::{everywhere, repeated, set_at};
 use si_graph::graph::Graph;
 use std::alloc::Global;
@@ -76,13 +76,13 @@ fn reach_past(graph: &Graph, sets: u128, arc: &Edge, beside: &Edge, work: &mut W
     requires beside { beside.now.to < graph.now.states }
     requires size { IsSized graph.now.states work.old }
     ensures { GrowsAll (λ k t. (bit sets k ≡ true) × (arc.now.event ≢ beside.now.event)
-        × HasBit work.old.words.items k beside.now.to
+        × HasBit work.old.words k beside.now.to
         × Step graph.now beside.now.to arc.now.event t) work.old work.new }
 {
     if beside.event == arc.event {
         return;
     }
-    let both = sets & work.words[beside.to.0 as usize];
+    let both = sets & work.sets_of(beside.to);
     reach_exit(graph, both, beside.to, arc.event, work);
 }
 
@@ -98,8 +98,8 @@ fn reach_beside(graph: &Graph, highs: &[u128], sets: u128, arc: &Edge, work: &mu
     requires belong { AllBelong graph.now highs.now work.old }
     ensures grows { Grows (BelongsTo graph.now highs.now) work.old work.new }
     ensures done { (k t : ℕ) (beside : Edge) → bit sets k ≡ true → Contains graph.now.edges beside
-        → ExitsBeside graph.now (column k highs.now) (column k work.old.words.items)
-        arc.now beside t → HasBit work.new.words.items k t }
+        → ExitsBeside graph.now (column k highs.now) (column k work.old.words)
+        arc.now beside t → HasBit work.new.words k t }
 {
     let high = sets & highs[arc.from.0 as usize];
     if high == 0 || !graph.is_driven(arc.event.sig) {
@@ -132,8 +132,8 @@ fn follow_back(graph: &Graph, highs: &[u128], sets: u128, arc: &Edge, work: &mut
     requires belong { AllBelong graph.now highs.now work.old }
     ensures grows { Grows (BelongsTo graph.now highs.now) work.old work.new }
     ensures done { (k t : ℕ) → bit sets k ≡ true
-        → FollowsBack graph.now (column k highs.now) (column k work.old.words.items) arc.now t
-        → HasBit work.new.words.items k t }
+        → FollowsBack graph.now (column k highs.now) (column k work.old.words) arc.now t
+        → HasBit work.new.words k t }
 {
     reach_before(highs, sets, arc, work);
     reach_beside(graph, highs, sets, arc, work);
@@ -150,8 +150,8 @@ fn follow_into(graph: &Graph, highs: &[u128], sets: u128, x: StateId, work: &mut
     ensures grows { Grows (BelongsTo graph.now highs.now) work.old work.new }
     ensures done { (arc : Edge) → Contains graph.now.edges arc → arc.to ≡ x → (k t : ℕ)
         → bit sets k ≡ true
-        → FollowsBack graph.now (column k highs.now) (column k work.old.words.items) arc t
-        → HasBit work.new.words.items k t }
+        → FollowsBack graph.now (column k highs.now) (column k work.old.words) arc t
+        → HasBit work.new.words k t }
 {
     let mut at = graph.first_in(x);
     while let Some(k) = at {
@@ -216,10 +216,10 @@ fn follow_arc(graph: &Graph, highs: &[u128], sets: u128, arc: &Edge, work: &mut 
     requires sig { arc.now.event.sig < length graph.now.signals }
     requires size { IsSized graph.now.states work.old }
     ensures { GrowsAll (λ k t. (t ≡ arc.now.to) × (bit sets k ≡ true)
-        × FollowsOn graph.now (column k highs.now) (column k work.old.words.items) arc.now)
+        × FollowsOn graph.now (column k highs.now) (column k work.old.words) arc.now)
         work.old work.new }
 {
-    let more = those_out_of(work.words[arc.to.0 as usize], sets);
+    let more = those_out_of(work.sets_of(arc.to), sets);
     if more == 0 {
         return;
     }
@@ -227,7 +227,7 @@ fn follow_arc(graph: &Graph, highs: &[u128], sets: u128, arc: &Edge, work: &mut 
         work.reach(arc.to, more);
         return;
     }
-    let exits = those_with_exit(graph, highs, work.words.as_slice(), arc);
+    let exits = those_with_exit(graph, highs, work.words(), arc);
     work.reach(arc.to, more & exits);
 }
 
@@ -242,8 +242,8 @@ fn follow_out(graph: &Graph, highs: &[u128], sets: u128, x: StateId, work: &mut 
     ensures grows { Grows (BelongsTo graph.now highs.now) work.old work.new }
     ensures done { (arc : Edge) → Contains graph.now.edges arc → arc.from ≡ x → (k : ℕ)
         → bit sets k ≡ true
-        → FollowsOn graph.now (column k highs.now) (column k work.old.words.items) arc
-        → HasBit work.new.words.items k arc.to }
+        → FollowsOn graph.now (column k highs.now) (column k work.old.words) arc
+        → HasBit work.new.words k arc.to }
 {
     for arc in graph.arcs_out(x) {
         follow_arc(graph, highs, sets, arc, work);
@@ -260,8 +260,8 @@ fn follow(graph: &Graph, highs: &[u128], sets: u128, x: StateId, work: &mut Word
     requires belong { AllBelong graph.now highs.now work.old }
     ensures grows { Grows (BelongsTo graph.now highs.now) work.old work.new }
     ensures done { (k t : ℕ) → bit sets k ≡ true
-        → FollowsByRule graph.now (column k highs.now) (column k work.old.words.items) x t
-        → HasBit work.new.words.items k t }
+        → FollowsByRule graph.now (column k highs.now) (column k work.old.words) x t
+        → HasBit work.new.words k t }
 {
     if sets == 0 {
         return;
@@ -300,17 +300,19 @@ pub(crate) fn switching(
     requires within { length within.now ≡ graph.now.states }
     ensures { IfOk result (AreSwitched graph.now highs.now given within.now) }
 {
-    let mut work = WordWork::new(alloc, graph.states())?;
+    let mut work = WordWork::none(alloc, graph.states())?;
     cross(graph, highs, given, &mut work);
-    let mut kept = those_inside(given, work.words.as_slice(), within);
+    let mut kept = those_inside(given, work.words(), within);
     while let Some(x) = work.next_work() {
-        let sets = kept & work.words[x.0 as usize];
+        let sets = kept & work.sets_of(x);
         let inside = sets & within[x.0 as usize];
         kept &= !(sets & !within[x.0 as usize]);
         follow(graph, highs, inside, x, &mut work);
     }
-    let WordWork { words, .. } = work;
-    Ok(Switched { words, kept })
+    Ok(Switched {
+        words: work.into_words(),
+        kept,
+    })
 }
 
 /// The states where one new signal switches to 1, which is the target of the states of the set: the

@@ -24,9 +24,9 @@ loop-at-preserved c =
     let passed = rw c.in-Some.is at c.loop-at.invariant.passed in
     let First : ℕ → Type 0 = λ t. IsFirstPlace (IsInto g.edges t) (n + 1) (length g.edges) after in
     let next = subst First stands.1 c.next_in-at.ensures in
-    let here : (k t : ℕ) → ComesBack g highs sets old k (edge_at g.edges n) t → HasBit new.words.items k t = λ k t q.
-    c.follow_back.ensures.done k t q.0 (back_later g (column k highs) (column k old.words.items)
-    (column k mid.words.items) (marked_on B old mid grown k) c.edge-arc.result t
+    let here : (k t : ℕ) → ComesBack g highs sets old k (edge_at g.edges n) t → HasBit new.words k t = λ k t q.
+    c.follow_back.ensures.done k t q.0 (back_later g (column k highs) (column k old.words)
+    (column k mid.words) (marked_on B old mid grown k) c.edge-arc.result t
     (subst (λ (a : Edge). ComesBack g highs sets old k a t) (sym c.edge-arc.ensures.edge) q).1) in
     record {
       grows = grows_both B B B old mid new (λ k t b. b) (λ k t b. b) grown c.follow_back.ensures.grows;

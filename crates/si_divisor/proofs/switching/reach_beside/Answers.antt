@@ -2,9 +2,9 @@ use Rattle.std.proofs.Common.{◌∙◌, ap, arith, get_or, sym, subst}
 use Rattle.std.proofs.lemmas.Bool.{true≢false}
 use Rattle.si_base.specs.declared.graph.Edge.{Edge}
 use Rattle.si_base.specs.Graph.{IsNonInput}
+use Rattle.si_closures.proofs.WordBits.{no_bit_of_none}
 use Rattle.si_closures.proofs.WordSearchLemmas.{in_column}
 use Rattle.si_divisor.proofs.SwitchTurns.{in_sets, done_all, out_within, beside_grows, beside_done}
-use Rattle.si_divisor.proofs.WordBits.{no_bit_of_none}
 use Rattle.si_divisor.proofs.switching.reach_beside.Goals as goal
 use Rattle.si_divisor.proofs.switching.reach_beside.Goals.{then-high-eq0-via-then-high-eq0}
 use Rattle.si_divisor.proofs.switching.reach_beside.Goals.{then-high-eq0-via-else-high-eq0+then-not-is_driven}
@@ -58,6 +58,6 @@ returns-clause-done c k t beside has listed x =
     ((c.arcs_out-beside-items.ensures.exactly beside).1 (listed, x.same)) k t (
       (in_sets highs c.args.sets c.args.arc.now.from _ k is).1 (has, x.begins_high),
       x.apart,
-      (in_column k c.args.work.now.words.items beside.to).0 x.there,
+      (in_column k c.args.work.now.words beside.to).0 x.there,
       x.step,
     )

@@ -1,4 +1,4 @@
-use Rattle.si_divisor.proofs.WordBits.{in_less}
+use Rattle.si_closures.proofs.WordBits.{in_less}
 use Rattle.si_divisor.proofs.switching.those_out_of.Goals as goal
 
 pub returns : goal.returns
