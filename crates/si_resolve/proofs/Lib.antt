@@ -8,5 +8,4 @@ pub mod BlockSizes
 pub mod BlockListLemmas
 pub mod AspectLemmas
 pub mod SearchLemmas
-pub mod BestLemmas
 pub mod ResolveLemmas

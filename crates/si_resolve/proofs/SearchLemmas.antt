@@ -406,7 +406,7 @@ module _ (c : CodedGraph) (blocks : List (List Bool)) (n : ℕ) (s : Search) (ar
     (counted : HasConflicts c n) (given : s.given ≡ n) (so : IsSearching c blocks (length blocks) 0 s)
   where
     -- what a search shows that ends with this
-    Shows : Option Found → Type 0
+    abbrev Shows : Option Found → Type 0
     Shows o = MatchOption o (NoneImproves c) (λ found. (x : Choice) × Improves c x × (x.classes ≡ found.accepted))
 
     shows : (o : Option Choice) → IsBestSoFar c blocks n (length blocks) 0 o → Shows (best_of o)

@@ -59,7 +59,8 @@ pub(crate) fn find_best(
     for j in 0..list.blocks.len() {
         search.try_row(alloc, graph, list, j)?;
     }
-    match search.best {
+    let Search { best, .. } = search;
+    match best {
         None => Ok(None),
         Some(found) => Ok(Some(found.accepted)),
     }

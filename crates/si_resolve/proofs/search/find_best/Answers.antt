@@ -19,8 +19,8 @@ returns-in-None c =
     found_none d blocks c.args.conflicts c.loop-j.search c.requires.list.are c.requires.counted so.given
     (subst (λ k. IsSearching d blocks k 0 c.loop-j.search) all so.searching) c.in-None.is
 
-pub returns-in-Some : goal.returns-in-Some
-returns-in-Some c =
+pub returns : goal.returns
+returns c =
     let d = c.args.graph.now in
     let blocks = c.args.list.now.blocks.items in
     let so = c.loop-j.invariant in

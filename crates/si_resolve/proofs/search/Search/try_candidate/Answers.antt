@@ -1,9 +1,9 @@
 use Rattle.std.proofs.Common.{◌+◌, ◌<◌, length, refl, subst, sym, arith}
 use Rattle.si_candidates.specs.Blocks.{block_at}
-use Rattle.si_resolve.specs.Progress.{IsSearching, LeavesBelow, LeavesNoneBelow, bar_of}
+use Rattle.si_resolve.specs.Progress.{AreAccepted, IsSearching, LeavesBelow, LeavesNoneBelow, bar_of}
 use Rattle.si_resolve.specs.declared.search.Search.{Search}
-use Rattle.si_resolve.proofs.SearchLemmas.{at_blocks, block_size, candidate_choice, keep, none_by_left, none_is}
-use Rattle.si_resolve.proofs.SearchLemmas.{sided_at, skip, some_is}
+use Rattle.si_resolve.proofs.SearchLemmas.{at_blocks, block_size, candidate_accepted, candidate_choice, choice_at}
+use Rattle.si_resolve.proofs.SearchLemmas.{keep, none_by_left, none_is, sided_at, skip, some_is}
 use Rattle.si_resolve.proofs.search.Search.try_candidate.Goals as goal
 
 pub shares_crowd-requires-clause-i_within : goal.shares_crowd-requires-clause-i_within
@@ -61,6 +61,17 @@ sides-requires-2 c =
     let r = c.requires in
     omega (arith, r.within, r.list.sides.count)
 
+pub found_below-requires-clause-accepted : goal.found_below-requires-clause-accepted
+found_below-requires-clause-accepted c =
+    let d = c.args.graph.now in
+    let blocks = c.args.list.now.blocks.items in
+    let r = c.requires in
+    let test = c.if-not-may_be_better.false in
+    at_blocks (AreAccepted d.graph) (block_at blocks c.args.i) _ (block_at blocks c.args.j) _
+    (sym c.block.ensures) (sym c.block-2.ensures)
+    (candidate_accepted d blocks c.args.i c.args.j r.list.coded r.list.proper r.list.few_signals r.list.are
+    r.order r.within (c.may_be_better.ensures.first test) r.usable (c.may_be_better.ensures.both test))
+
 pub returns-in-Some-clause-after : goal.returns-in-Some-clause-after
 returns-in-Some-clause-after c =
     let d = c.args.graph.now in
@@ -69,19 +80,19 @@ returns-in-Some-clause-after c =
     let j = c.args.j in
     let r = c.requires in
     let low = bar_of c.args.self.now in
-    let n = c.in-Some.conflicts in
+    let found = c.in-Some.found in
     let test = c.if-not-may_be_better.false in
-    let left : LeavesBelow d (block_at blocks i) (block_at blocks j) low n =
-    at_blocks (λ x y. LeavesBelow d x y low n) _ (block_at blocks i) _ (block_at blocks j)
+    let may = c.may_be_better.ensures.both test in
+    let left : LeavesBelow d (block_at blocks i) (block_at blocks j) low found =
+    at_blocks (λ x y. LeavesBelow d x y low found) _ (block_at blocks i) _ (block_at blocks j)
     c.block.ensures c.block-2.ensures
-    (some_is _ c.in_ok-left.left n c.in-Some.is c.in_ok-left.ensures.below) in
-    let choice = candidate_choice d blocks i j low n r.list.coded r.list.proper r.list.few_signals
-    r.list.are r.order r.within
-    (c.may_be_better.ensures.first test) r.usable (c.may_be_better.ensures.both test) left in
-    keep d blocks j i c.found_below.new.self
-    (record { i = i; j = j; classes = left.classes; conflicts = n })
-    r.list.coded (subst (IsSearching d blocks j i) (sym c.found_below.ensures.same) r.before) choice refl refl
-    (subst (λ (s : Search). n < bar_of s) (sym c.found_below.ensures.same) left.fewer)
+    (some_is _ c.in_ok-left.left found c.in-Some.is c.in_ok-left.ensures.below) in
+    let accepted = candidate_accepted d blocks i j r.list.coded r.list.proper r.list.few_signals r.list.are
+    r.order r.within (c.may_be_better.ensures.first test) r.usable may in
+    keep d blocks j i c.found_below.new.self (choice_at i j found)
+    r.list.coded (subst (IsSearching d blocks j i) (sym c.found_below.ensures.same) r.before)
+    (candidate_choice d blocks i j low found r.order r.within may.disjoint accepted left) refl refl
+    (subst (λ (s : Search). found.conflicts < bar_of s) (sym c.found_below.ensures.same) left.fewer)
 
 pub returns-in_default-clause-after : goal.returns-in_default-clause-after
 returns-in_default-clause-after c =
