@@ -21,7 +21,7 @@ use Rattle.si_insert.specs.Accepted.{IsInput}
 use Rattle.si_divisor.specs.SwitchRules.{Belongs, FollowsByRule, BeforeIt, AfterIt, AtExit, WithFirst, WithOther}
 use Rattle.si_divisor.specs.SwitchRules.{SwitchRule, Crossed, Preceding, ByInput, Low, Both, HasDiamond, IsCrossed}
 use Rattle.si_divisor.specs.SwitchRules.{IsLow}
-use Rattle.si_divisor.specs.ManySwitching.{Grows, GrowsAll, BelongsTo, AllBelong, HaveAll, ExitsBeside}
+use Rattle.si_divisor.specs.ManySwitching.{Grows, GrowsAll, IsTurn, BelongsTo, AllBelong, HaveAll, ExitsBeside}
 use Rattle.si_divisor.specs.ManySwitching.{FollowsBack, Source, Beside, LetsExit, HasExit, FollowsOn}
 use Rattle.si_divisor.proofs.SwitchRuleLemmas.{each_on, low_or_high}
 
@@ -34,6 +34,18 @@ marked_on Q old new m k t i =
 pub belong_on : (g : StateGraph) (highs : List ℕ) (old new : WordProgress) → Grows (BelongsTo g highs) old new
     → AllBelong g highs old → AllBelong g highs new
 belong_on g highs old new m all k t has = elim (m.sound k t has) [ inl before ↦ all k t before | inr q ↦ q ]
+
+-- a turn goes on from the work that it began with
+pub turn_on : (g : StateGraph) (highs : List ℕ) (sets x : ℕ) (old new : WordProgress) → Grows (BelongsTo g highs) old new
+    → IsTurn g highs sets x old → IsTurn g highs sets x new
+turn_on g highs sets x old new m turn = record {
+  graph = turn.graph;
+  deterministic = turn.deterministic;
+  count = turn.count;
+  size = record { words = m.size ∙ turn.size.words; waiting = m.work_size ∙ turn.size.waiting };
+  have = λ k is. m.grows k x (turn.have k is);
+  belong = belong_on g highs old new m turn.belong;
+}
 
 pub grows_none : (Q : ℕ → ℕ → Type 0) (work : WordProgress) → Grows Q work work
 grows_none Q work = spreads_none Q work.words work.work

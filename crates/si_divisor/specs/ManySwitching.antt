@@ -4,7 +4,8 @@ use Rattle.std.specs.Prelude.{◌≡◌, ◌≢◌, ℕ, ◌<◌, ◌⊎◌, Boo
 use Rattle.std.specs.Prelude.{Contains}
 use Rattle.si_base.specs.declared.graph.Edge.{Edge}
 use Rattle.si_base.specs.Bits.{bit}
-use Rattle.si_base.specs.Graph.{StateGraph, Step, IsNonInput}
+use Rattle.si_base.specs.Codes.{IsDeterministic}
+use Rattle.si_base.specs.Graph.{StateGraph, IsGraph, Step, IsNonInput}
 use Rattle.si_base.specs.Sets.{IsIn, IsSubset}
 use Rattle.si_closures.specs.WordSearch.{column, HasBit, Spreads, SpreadsAll, WordProgress}
 use Rattle.si_insert.specs.Accepted.{IsInput}
@@ -51,6 +52,16 @@ AllBelong g highs work = (k t : ℕ) → HasBit work.words k t → BelongsTo g h
 -- x is in each of these sets
 abbrev pub HaveAll : ℕ → WordProgress → ℕ → Type 0
 HaveAll sets work x = (k : ℕ) → bit sets k ≡ true → HasBit work.words k x
+
+-- what a turn at x begins with: sets that have x, and no bit but those of states that belong
+pub record IsTurn (g : StateGraph) (highs : List ℕ) (sets x : ℕ) (work : WordProgress) : Type 0
+  where
+    pub graph : IsGraph g
+    pub deterministic : IsDeterministic g
+    pub count : length highs ≡ g.states
+    pub size : IsSized g.states work
+    pub have : HaveAll sets work x
+    pub belong : AllBelong g highs work
 
 -- beside the arc another leads out of its source, which is high, to a marked state; the event of
 -- the arc, which is no input, leads on from there to w

@@ -11,9 +11,9 @@ ghost use Rattle.si_closures.specs.WordSearch.{column, HasBit};
 ghost use Rattle.si_divisor.specs.Targets.{IsLeast, target};
 ghost use Rattle.si_divisor.specs.Switching.{Switches};
 ghost use Rattle.si_divisor.specs.SwitchRules.{FollowsByRule, IsCrossed, IsLow};
-ghost use Rattle.si_divisor.specs.ManySwitching.{AllBelong, AreSwitched, BelongsTo, ExitsBeside};
+ghost use Rattle.si_divisor.specs.ManySwitching.{AreSwitched, BelongsTo, ExitsBeside};
 ghost use Rattle.si_divisor.specs.ManySwitching.{FollowsBack, FollowsOn, Grows, GrowsAll, HasExit};
-ghost use Rattle.si_divisor.specs.ManySwitching.{HaveAll, IsSized, LetsExit};
+ghost use Rattle.si_divisor.specs.ManySwitching.{IsSized, IsTurn, LetsExit};
 
 use si_base::graph::Edge;
 use si_base::ids::{Event, NoMemory, StateId};
@@ -89,13 +89,8 @@ fn reach_past(graph: &Graph, sets: u128, arc: &Edge, beside: &Edge, work: &mut W
 /// Puts what the event of an arc leads to after the others out of its source into the sets, each of
 /// which has the end of the arc, as far as they have the ends of the others and the source is high.
 fn reach_beside(graph: &Graph, highs: &[u128], sets: u128, arc: &Edge, work: &mut WordWork)
-    requires graph { IsGraph graph.now }
-    requires deterministic { IsDeterministic graph.now }
-    requires highs { length highs.now ≡ graph.now.states }
     requires arc { Contains graph.now.edges arc.now }
-    requires size { IsSized graph.now.states work.old }
-    requires have { HaveAll sets work.old arc.now.to }
-    requires belong { AllBelong graph.now highs.now work.old }
+    requires turn { IsTurn graph.now highs.now sets arc.now.to work.old }
     ensures grows { Grows (BelongsTo graph.now highs.now) work.old work.new }
     ensures done { (k t : ℕ) (beside : Edge) → bit sets k ≡ true → Contains graph.now.edges beside
         → ExitsBeside graph.now (column k highs.now) (column k work.old.words)
@@ -123,13 +118,8 @@ fn reach_before(highs: &[u128], sets: u128, arc: &Edge, work: &mut WordWork)
 /// Puts what follows from the end of an arc, at its source and beside it, into the sets, each of
 /// which has that end.
 fn follow_back(graph: &Graph, highs: &[u128], sets: u128, arc: &Edge, work: &mut WordWork)
-    requires graph { IsGraph graph.now }
-    requires deterministic { IsDeterministic graph.now }
-    requires highs { length highs.now ≡ graph.now.states }
     requires arc { Contains graph.now.edges arc.now }
-    requires size { IsSized graph.now.states work.old }
-    requires have { HaveAll sets work.old arc.now.to }
-    requires belong { AllBelong graph.now highs.now work.old }
+    requires turn { IsTurn graph.now highs.now sets arc.now.to work.old }
     ensures grows { Grows (BelongsTo graph.now highs.now) work.old work.new }
     ensures done { (k t : ℕ) → bit sets k ≡ true
         → FollowsBack graph.now (column k highs.now) (column k work.old.words) arc.now t
@@ -141,12 +131,7 @@ fn follow_back(graph: &Graph, highs: &[u128], sets: u128, arc: &Edge, work: &mut
 
 /// Puts what follows from `x` along the arcs into it into the sets, each of which has `x`.
 fn follow_into(graph: &Graph, highs: &[u128], sets: u128, x: StateId, work: &mut WordWork)
-    requires graph { IsGraph graph.now }
-    requires deterministic { IsDeterministic graph.now }
-    requires highs { length highs.now ≡ graph.now.states }
-    requires size { IsSized graph.now.states work.old }
-    requires have { HaveAll sets work.old x }
-    requires belong { AllBelong graph.now highs.now work.old }
+    requires { IsTurn graph.now highs.now sets x work.old }
     ensures grows { Grows (BelongsTo graph.now highs.now) work.old work.new }
     ensures done { (arc : Edge) → Contains graph.now.edges arc → arc.to ≡ x → (k t : ℕ)
         → bit sets k ≡ true
@@ -233,12 +218,7 @@ fn follow_arc(graph: &Graph, highs: &[u128], sets: u128, arc: &Edge, work: &mut 
 
 /// Puts what follows from `x` along the arcs out of it into the sets, each of which has `x`.
 fn follow_out(graph: &Graph, highs: &[u128], sets: u128, x: StateId, work: &mut WordWork)
-    requires graph { IsGraph graph.now }
-    requires deterministic { IsDeterministic graph.now }
-    requires highs { length highs.now ≡ graph.now.states }
-    requires size { IsSized graph.now.states work.old }
-    requires have { HaveAll sets work.old x }
-    requires belong { AllBelong graph.now highs.now work.old }
+    requires { IsTurn graph.now highs.now sets x work.old }
     ensures grows { Grows (BelongsTo graph.now highs.now) work.old work.new }
     ensures done { (arc : Edge) → Contains graph.now.edges arc → arc.from ≡ x → (k : ℕ)
         → bit sets k ≡ true
@@ -252,12 +232,7 @@ fn follow_out(graph: &Graph, highs: &[u128], sets: u128, x: StateId, work: &mut 
 
 /// Puts what follows from `x` and from what the sets have into the sets, each of which has `x`.
 fn follow(graph: &Graph, highs: &[u128], sets: u128, x: StateId, work: &mut WordWork)
-    requires graph { IsGraph graph.now }
-    requires deterministic { IsDeterministic graph.now }
-    requires highs { length highs.now ≡ graph.now.states }
-    requires size { IsSized graph.now.states work.old }
-    requires have { HaveAll sets work.old x }
-    requires belong { AllBelong graph.now highs.now work.old }
+    requires { IsTurn graph.now highs.now sets x work.old }
     ensures grows { Grows (BelongsTo graph.now highs.now) work.old work.new }
     ensures done { (k t : ℕ) → bit sets k ≡ true
         → FollowsByRule graph.now (column k highs.now) (column k work.old.words) x t

@@ -1,7 +1,12 @@
 use Rattle.si_closures.specs.WordSearch.{column, HasBit}
 use Rattle.si_divisor.specs.ManySwitching.{BelongsTo}
-use Rattle.si_divisor.proofs.SwitchTurns.{grows_both, marked_on, on_later, turn_done}
+use Rattle.si_divisor.proofs.SwitchTurns.{grows_both, marked_on, on_later, turn_done, turn_on}
 use Rattle.si_divisor.proofs.switching.follow.Goals as goal
+
+pub follow_out-requires : goal.follow_out-requires
+follow_out-requires c =
+    turn_on c.args.graph.now c.args.highs.now c.args.sets c.args.x c.args.work.now c.follow_into.new.work
+    c.follow_into.ensures.grows c.requires
 
 pub returns-clause-grows : goal.returns-clause-grows
 returns-clause-grows c =

@@ -1,11 +1,22 @@
-use Rattle.std.proofs.Common.{◌+◌, ℕ, [], length, sym, subst}
+use Rattle.std.proofs.Common.{◌+◌, ◌∙◌, ℕ, [], length, ap, sym, subst}
 use Rattle.si_base.specs.declared.graph.Edge.{Edge}
 use Rattle.si_graph.specs.Arcs.{IsFirstPlace, IsInto, edge_at}
 use Rattle.si_graph.proofs.ClosureLemmas.{stands_first}
 use Rattle.si_closures.specs.WordSearch.{column, HasBit}
-use Rattle.si_divisor.specs.ManySwitching.{BelongsTo}
-use Rattle.si_divisor.proofs.SwitchTurns.{ComesBack, back_later, grows_both, marked_on, walk_goes_on, walk_ends}
+use Rattle.si_divisor.specs.ManySwitching.{BelongsTo, IsTurn}
+use Rattle.si_divisor.proofs.SwitchTurns.{ComesBack, back_later, grows_both, marked_on, turn_on, walk_goes_on}
+use Rattle.si_divisor.proofs.SwitchTurns.{walk_ends}
 use Rattle.si_divisor.proofs.switching.follow_into.Goals as goal
+
+pub follow_back-requires-clause-turn : goal.follow_back-requires-clause-turn
+follow_back-requires-clause-turn c =
+    let g = c.args.graph.now in
+    let highs = c.args.highs.now in
+    let sets = c.args.sets in
+    let stands = rw c.in-Some.is at c.loop-at.invariant.stands in
+    let to = ap (λ (a : Edge). a.to) c.edge-arc.ensures.edge ∙ stands.1 in
+    subst (λ (t : ℕ). IsTurn g highs sets t c.loop-at.work) (sym to)
+    (turn_on g highs sets c.args.x c.args.work.now c.loop-at.work c.loop-at.invariant.grows c.requires)
 
 pub loop-at-preserved : goal.loop-at-preserved
 loop-at-preserved c =

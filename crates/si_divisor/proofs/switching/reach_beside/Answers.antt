@@ -39,14 +39,14 @@ loop-beside-preserved c =
     let driven = subst (λ (a : Edge). IsNonInput g.signals a.event.sig) c.arc.view_is
     (c.is_driven.ensures.0 c.if-not-is_driven.false) in
     record {
-      grows = beside_grows g highs c.args.work.now c.loop-beside.work arcs n a c.requires.belong
+      grows = beside_grows g highs c.args.work.now c.loop-beside.work arcs n a c.requires.turn.belong
           c.loop-beside.invariant.grows arc c.args.sets _ c.arcs_out-beside-items.ensures c.loop-beside-test.true
           c.beside-item.is c.requires.arc driven (λ k. (in_sets highs c.args.sets arc.from _ k is).0)
-          c.requires.have c.reach_past.new.work c.reach_past.ensures;
-      done = beside_done g highs c.args.work.now c.loop-beside.work arcs n a c.requires.belong
+          c.requires.turn.have c.reach_past.new.work c.reach_past.ensures;
+      done = beside_done g highs c.args.work.now c.loop-beside.work arcs n a c.requires.turn.belong
           c.loop-beside.invariant.grows arc c.args.sets _ c.arcs_out-beside-items.ensures c.loop-beside-test.true
           c.beside-item.is c.requires.arc driven (λ k. (in_sets highs c.args.sets arc.from _ k is).0)
-          c.requires.have c.reach_past.new.work c.reach_past.ensures c.loop-beside.invariant.done;
+          c.requires.turn.have c.reach_past.new.work c.reach_past.ensures c.loop-beside.invariant.done;
     }
 
 pub returns-clause-done : goal.returns-clause-done

@@ -1,4 +1,4 @@
-use Rattle.std.proofs.Common.{ap, get_or}
+use Rattle.std.proofs.Common.{◌∙◌, false, ap, get_or, length, length-set}
 use Rattle.si_divisor.proofs.SwitchLoops.{search_begins, search_goes_on, search_ends, have_at}
 use Rattle.si_divisor.proofs.switching.switching.Goals as goal
 
@@ -9,9 +9,19 @@ loop-x-init c =
     c.those_inside-kept.result c.states.ensures c.in_ok-work.ensures.words c.in_ok-work.ensures.work c.cross.ensures
     c.those_inside-kept.ensures.given (rw c.words.ensures at c.those_inside-kept.ensures.others)
 
-pub follow-requires-clause-have : goal.follow-requires-clause-have
-follow-requires-clause-have c k has =
-    have_at c.next_work.new.self.words c.loop-x.kept c.in-Some.x c.sets_of.result _ c.sets_of.ensures k has
+pub follow-requires : goal.follow-requires
+follow-requires c = record {
+  graph = c.requires.graph;
+  deterministic = c.requires.deterministic;
+  count = c.requires.highs;
+  size = record {
+    words = ap length c.next_work.ensures.words ∙ c.loop-x.invariant.size;
+    waiting = ap length c.in-Some.ensures.work.1 ∙ length-set c.loop-x.work.work c.in-Some.x false
+        ∙ c.loop-x.invariant.waiting;
+  };
+  have = have_at c.next_work.new.self.words c.loop-x.kept c.in-Some.x c.sets_of.result _ c.sets_of.ensures;
+  belong = λ k t has. c.loop-x.invariant.sound k t (rw c.next_work.ensures.words at has);
+}
 
 pub loop-x-preserved : goal.loop-x-preserved
 loop-x-preserved c =
