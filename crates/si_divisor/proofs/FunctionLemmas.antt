@@ -141,18 +141,37 @@ values_below [] = pow_pos 0
 values_below (true ∷ vs) = let below = values_below vs in rw pow-suc (omega (arith, below))
 values_below (false ∷ vs) = let below = values_below vs in rw pow-suc (omega (arith, below))
 
+pub values_small : (signals : List ℕ) (code : ℕ) (q : Bool) → values_at signals code q < 2 ^ (length signals + 1)
+values_small signals code q =
+    subst (λ (n : ℕ). values_at signals code q < 2 ^ n) size (values_below (map (bit code) signals ++ q ∷ []))
+  where
+    size : length (map (bit code) signals ++ q ∷ []) ≡ length signals + 1
+    size = length_push (map (bit code) signals) q ∙ ap (λ n. n + 1) (length-map signals (bit code))
+
 pub whole_table : (library : Library) (i : Instance) (signals : List ℕ) (codes table : ℕ)
     → codes ≡ 2 ^ (length signals + 1) → HasValues library i signals codes codes table
     → (code : ℕ) (q : Bool) → bit table (values_at signals code q) ≡ instance_value library i code q
 whole_table library i signals codes table is values code q =
     values (values_at signals code q) code q below (omega arith)
   where
-    size : length (map (bit code) signals ++ q ∷ []) ≡ length signals + 1
-    size = length_push (map (bit code) signals) q ∙ ap (λ n. n + 1) (length-map signals (bit code))
-
     below : values_at signals code q < codes
-    below = subst (λ n. values_at signals code q < n) (ap (λ (n : ℕ). 2 ^ n) size ∙ sym is)
-        (values_below (map (bit code) signals ++ q ∷ []))
+    below = subst (λ n. values_at signals code q < n) (sym is) (values_small signals code q)
+
+-- the values where the own output is 1 in place of 0
+output_adds : (vs : List Bool) → code_of (vs ++ true ∷ []) ≡ code_of (vs ++ false ∷ []) + 2 ^ length vs
+output_adds [] = refl
+output_adds (true ∷ vs) = let later = output_adds vs in rw pow-suc (omega (arith, later))
+output_adds (false ∷ vs) = let later = output_adds vs in rw pow-suc (omega (arith, later))
+
+pub output_at_one : (signals : List ℕ) (code low codes : ℕ) → low ≡ values_at signals code false
+    → codes ≡ 2 ^ (length signals + 1) → low + codes / 2 ≡ values_at signals code true
+output_at_one signals code low codes low_is codes_are =
+    let size : 2 ^ length (map (bit code) signals) ≡ 2 ^ length signals =
+    ap (λ (n : ℕ). 2 ^ n) (length-map signals (bit code)) in
+    let twice = pow-add 2 (length signals) 1 in
+    let adds : values_at signals code true ≡ values_at signals code false + 2 ^ length (map (bit code) signals) =
+    output_adds (map (bit code) signals) in
+    omega (arith, adds, size, twice, low_is, codes_are)
 
 -- ---- the signals
 module _ (literals given : List Literal) (signals shown : List ℕ) (same : given ≡ literals)

@@ -7,6 +7,9 @@ use Rattle.std.proofs.lemmas.List.{get_or_default, get_or_push, get_or_append_le
 use Rattle.std.proofs.lemmas.Nat.{or_lt}
 use Rattle.std.proofs.lemmas.Nat.Bits.{bit_at_set_same, bit_at_set_other}
 use Rattle.std.specs.Int.{w128}
+use Rattle.std.specs.Int.Bits.{or_zero_r}
+use mathlib.Core.Bool.{beq}
+use mir.Val.{bool_byte}
 use Rattle.si_base.specs.declared.ids.Event.{Event}
 use Rattle.si_base.specs.Bits.{bit}
 use Rattle.si_base.specs.Codes.{CodedGraph, IsCoded}
@@ -71,14 +74,25 @@ module _ (c : CodedGraph) (functions : List Function) (b : Bool) (s n word : ℕ
     later = λ k late. kept k (λ same. absurd (omega (arith, late, same))) ∙ before.later k (omega (arith, late));
   }
 
-  pub one_set : n < 128 → forced_by (function_value f) c b s ≡ true
-      → AreToldTo c functions b s (n + 1) (bit_or word (1 * 2 ^ n % 2 ^ 128))
-  one_set few forces = one_told (bit_or word (1 * 2 ^ n % 2 ^ 128))
-      (ap (λ (v : ℕ). v == 1) (bit_at_set_same w128 word n few) ∙ sym forces)
+  pub one_added : (v : Bool) → n < 128 → v ≡ forced_by (function_value f) c b s
+      → AreToldTo c functions b s (n + 1) (bit_or word (bool_byte v * 2 ^ n % 2 ^ 128))
+  one_added true few is = one_told (bit_or word (1 * 2 ^ n % 2 ^ 128))
+      (ap (λ (v : ℕ). v == 1) (bit_at_set_same w128 word n few) ∙ is)
       (λ k other. ap (λ (v : ℕ). v == 1) (bit_at_set_other w128 word n few k other))
+  one_added false few is = subst (AreToldTo c functions b s (n + 1)) (sym same)
+      (one_told word (before.later n (omega arith) ∙ is) (λ k other. refl))
+    where
+      same : bit_or word (0 * 2 ^ n % 2 ^ 128) ≡ word
+      same = ap (bit_or word) (omega arith) ∙ or_zero_r word
 
-  pub one_kept : forced_by (function_value f) c b s ≡ false → AreToldTo c functions b s (n + 1) word
-  one_kept none = one_told word (before.later n (omega arith) ∙ sym none) (λ k other. refl)
+-- a function forces 1 where its value is 1 at the output 0, and 0 where it is 0 at the output 1
+pub forces_up : (v : Bool) → v ≡ beq v true
+forces_up true = refl
+forces_up false = refl
+
+pub forces_down : (v : Bool) → not v ≡ beq v false
+forces_down true = refl
+forces_down false = refl
 
 -- ---- the functions for which a state holds, and those for which it settles at one value
 held_bit : (x y k : ℕ) → bit_or x y < 2 ^ 128 → k < 128

@@ -22,7 +22,7 @@ pub(crate) struct Forced {
 }
 
 /// Whether an instance that computes the function forces the state to the value.
-pub(crate) fn is_forced(coded: &Coded, function: &Function, s: StateId, b: bool) -> bool
+fn is_forced(coded: &Coded, function: &Function, s: StateId, b: bool) -> bool
     requires within { All (λ s. s < code_width) function.now.signals.items }
     requires state { s < coded.now.graph.states }
     ensures { result ≡ forced_by (function_value function.now) coded.now b s }

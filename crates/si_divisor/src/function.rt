@@ -1,7 +1,7 @@
 //! The functions that instances compute.
 
 ghost use Rattle.std.specs.Prelude.{◌≡◌, ℕ, ◌+◌, ◌<◌, ◌≤◌, ◌^◌, All, Bool, Contains, IsPermutation};
-ghost use Rattle.std.specs.Prelude.{length, map};
+ghost use Rattle.std.specs.Prelude.{false, length, map, true};
 ghost use Rattle.std.specs.List.Sorted.{IsNonDecreasing};
 ghost use Rattle.si_base.specs.Bits.{bit};
 ghost use Rattle.si_base.specs.Limits.{code_width};
@@ -36,6 +36,18 @@ impl Function {
             self.table,
             values_of(self.signals.as_slice(), code, q) as usize,
         )
+    }
+
+    /// Its value at the code where the own output is 0, and that where it is 1.
+    pub(crate) fn values(&self, code: Code) -> (bool, bool)
+        requires { All (λ s. s < code_width) self.now.signals.items }
+        ensures low { result.0 ≡ function_value self.now code false }
+        ensures high { result.1 ≡ function_value self.now code true }
+    {
+        let signals = self.signals.as_slice();
+        let low = values_of(signals, code, false) as usize;
+        let high = low + code_count(signals.len()) as usize / 2;
+        (has_bit(self.table, low), has_bit(self.table, high))
     }
 }
 

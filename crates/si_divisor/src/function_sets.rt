@@ -1,7 +1,7 @@
 //! The partitions for many functions at once.
 
 ghost use Rattle.std.specs.Prelude.{◌≡◌, ◌≢◌, ℕ, ◌<◌, ◌≤◌, ◌↔◌, Bool, true, All, IfOk, MatchOption};
-ghost use Rattle.std.specs.Prelude.{length, slice_index_or};
+ghost use Rattle.std.specs.Prelude.{false, length, slice_index_or};
 ghost use Rattle.si_base.specs.Bits.{bit};
 ghost use Rattle.si_base.specs.Limits.{code_width};
 ghost use Rattle.si_closures.specs.WordSearch.{column};
@@ -12,7 +12,6 @@ ghost use Rattle.si_divisor.specs.ManyFunctions.{AreOpposed, TellsForced};
 ghost use Rattle.si_divisor.specs.PartitionFor.{Answers, HasSome};
 
 use crate::classes::class_list;
-use crate::forced::is_forced;
 use crate::function::Function;
 use crate::switching::{Switched, switching};
 use si_base::ids::{NoMemory, StateId};
@@ -66,8 +65,7 @@ impl FunctionSets {
     {
         let coded = graph.coded();
         let g = coded.graph();
-        let up = forced_words(alloc, coded, &functions, true)?;
-        let down = forced_words(alloc, coded, &functions, false)?;
+        let ForcedWords { up, down } = forced_words(alloc, coded, &functions)?;
         let held = held_words(alloc, &up, &down)?;
         let passes = everywhere(alloc, 2 * g.signals().len() as u32)?;
         let ones = closures(alloc, g, &passes, &held, &up)?;
@@ -133,38 +131,50 @@ impl FunctionSets {
     }
 }
 
-/// The functions that force the state to the value, a bit for each.
-fn those_forcing(coded: &Coded, functions: &[Function], s: StateId, b: bool) -> u128
+/// The functions that force the state to 1, and those that force it to 0, a bit for each.
+fn those_forcing(coded: &Coded, functions: &[Function], s: StateId) -> (u128, u128)
     requires few { length functions.now ≤ 128 }
     requires within { All (λ f. All (λ s. s < code_width) f.signals.items) functions.now }
     requires state { s < coded.now.graph.states }
-    ensures { TellsForced coded.now functions.now b s result }
+    ensures up { TellsForced coded.now functions.now true s result.0 }
+    ensures down { TellsForced coded.now functions.now false s result.1 }
 {
-    let mut word = 0;
+    let code = coded.code(s);
+    let (mut up, mut down) = (0, 0);
     for k in 0..functions.len() {
-        if is_forced(coded, &functions[k], s, b) {
-            word |= 1 << k;
-        }
+        let (low, high) = functions[k].values(code);
+        up |= u128::from(low) << k;
+        down |= u128::from(!high) << k;
     }
-    word
+    (up, down)
 }
 
-/// For each state the functions that force it to the value.
+/// For each state the functions that force it to 1, and those that force it to 0, a bit for each.
+#[derive(Drop)]
+struct ForcedWords {
+    up: Vec<u128>,
+    down: Vec<u128>,
+}
+
+/// For each state the functions that force it to either value.
 fn forced_words(
     alloc: Global,
     coded: &Coded,
     functions: &[Function],
-    b: bool,
-) -> Result<Vec<u128>, NoMemory>
+) -> Result<ForcedWords, NoMemory>
     requires few { length functions.now ≤ 128 }
     requires within { All (λ f. All (λ s. s < code_width) f.signals.items) functions.now }
-    ensures { IfOk result (λ words. AreForcedWords coded.now functions.now b words.items) }
+    ensures up { IfOk result (λ r. AreForcedWords coded.now functions.now true r.up.items) }
+    ensures down { IfOk result (λ r. AreForcedWords coded.now functions.now false r.down.items) }
 {
-    let mut words = Vec::new(alloc);
+    let mut up = Vec::new(alloc);
+    let mut down = Vec::new(alloc);
     for s in 0..coded.graph().states() {
-        words.push(those_forcing(coded, functions, StateId(s), b))?;
+        let (one, zero) = those_forcing(coded, functions, StateId(s));
+        up.push(one)?;
+        down.push(zero)?;
     }
-    Ok(words)
+    Ok(ForcedWords { up, down })
 }
 
 /// For each state those whose bit neither of its words has.

@@ -40,6 +40,11 @@ out_within g s arcs k a out within item =
     let parts = step_within g a.from a.event a.to out.graph there.0 in
     (parts.0, parts.2)
 
+-- they are out of the state
+pub out_from : (g : StateGraph) (s : ℕ) (arcs : List Edge) (k : ℕ) (a : Edge) → AreOut g s arcs → k < length arcs
+    → a ≡ get_or arcs k a → s ≡ a.from
+out_from g s arcs k a out within item = sym ((out.exactly a).0 (k, within, sym item)).1
+
 -- where a loop over them ends, all are copied
 pub all_copied : (g : StateGraph) (classes : List Class) (x : Copy) (arcs : List Edge) (k : ℕ) (initial new : List Edge)
     → AreOut g x.state arcs → length arcs ≤ k

@@ -14,6 +14,7 @@ ghost use Rattle.si_insert.specs.Insertion;
 ghost use Rattle.si_insert.specs.Insertion.{new_signal};
 ghost use Rattle.si_insert.specs.GraphOfCopies;
 ghost use Rattle.si_insert.specs.GraphOfCopies.{AreFirsts, CanBeMade, new_edges, new_start};
+ghost use Rattle.si_insert.specs.Partition.{class_of};
 
 use crate::accept::{Accepted, count_copies};
 use crate::partition::Class;
@@ -147,39 +148,41 @@ fn add_copied(
 ) -> Result<(), NoMemory>
     requires count { length classes.now ≡ graph.now.states }
     requires firsts { AreFirsts classes.now firsts.now }
+    requires within { x.state < length classes.now }
     ensures { OnOk result
         (edges.new.items ≡ edges.old.items ++ GraphOfCopies.copied_edges graph.now classes.now x) }
 {
     let arcs = graph.arcs_out(x.state);
+    let class = classes[x.state.0 as usize];
+    let from = place(firsts, classes, x.state, x.value);
     for a in arcs {
-        if edge_has_copy(classes, *a, x.value) {
-            edges.push(copied_edge(firsts, classes, *a, x.value))?;
+        if edge_has_copy(classes, class, *a, x.value) {
+            edges.push(copied_edge(firsts, classes, from, *a, x.value))?;
         }
     }
     Ok(())
 }
 
-/// Whether an arc has a copy at the value.
-fn edge_has_copy(classes: &[Class], a: Edge, value: bool) -> bool
-    requires from { a.from < length classes.now }
+/// Whether an arc out of a state of the class has a copy at the value.
+fn edge_has_copy(classes: &[Class], from: Class, a: Edge, value: bool) -> bool
+    requires from { from ≡ class_of classes.now a.from }
     requires to { a.to < length classes.now }
     ensures { result ≡ GraphOfCopies.edge_has_copy classes.now value a }
 {
-    let from = classes[a.from.0 as usize];
     let to = classes[a.to.0 as usize];
     from.has_copy(value) && !from.waits(to, value)
 }
 
-/// The copy of an arc at the value.
-fn copied_edge(firsts: &[StateId], classes: &[Class], a: Edge, value: bool) -> Edge
-    requires from { a.from < length classes.now }
+/// The copy of an arc at the value, out of the copy at that place.
+fn copied_edge(firsts: &[StateId], classes: &[Class], from: StateId, a: Edge, value: bool) -> Edge
+    requires from { from ≡ GraphOfCopies.place classes.now a.from value }
     requires to { a.to < length classes.now }
     requires few { length classes.now ≤ Rattle.si_base.specs.Limits.max_states }
     requires firsts { AreFirsts classes.now firsts.now }
     ensures { result ≡ GraphOfCopies.copied_edge classes.now value a }
 {
     Edge {
-        from: place(firsts, classes, a.from, value),
+        from,
         event: a.event,
         to: place(firsts, classes, a.to, value),
     }

@@ -1,10 +1,14 @@
-use Rattle.std.proofs.Common.{◌∙◌, sym, arith}
-use Rattle.si_divisor.proofs.ManyFunctionLemmas.{none_told, one_set, one_kept}
+use Rattle.std.proofs.Common.{ℕ, ◌<◌, ◌∙◌, Bool, not, true, false, ap, arith}
+use mathlib.Core.Bool.{beq}
+use Rattle.si_divisor.specs.Functions.{function_value}
+use Rattle.si_divisor.proofs.ManyFunctionLemmas.{none_told, one_added, forces_up, forces_down}
 use Rattle.si_divisor.proofs.function_sets.those_forcing.Goals as goal
-use Rattle.si_divisor.proofs.function_sets.those_forcing.Goals.{then-is_forced, else-is_forced}
 
 pub loop-k-init : goal.loop-k-init
-loop-k-init c = none_told c.args.coded.now c.args.functions.now c.args.b c.args.s
+loop-k-init c = record {
+  up = none_told c.args.coded.now c.args.functions.now true c.args.s;
+  down = none_told c.args.coded.now c.args.functions.now false c.args.s;
+}
 
 pub loop-k-preserved : goal.loop-k-preserved
 loop-k-preserved c =
@@ -12,14 +16,21 @@ loop-k-preserved c =
     let functions = c.args.functions.now in
     let k = c.loop-k.k in
     let f = c.index-functions-k.result in
-    elim c.if-is_forced.branch [
-      | then-is_forced w ↦ rw w.word-is (one_set coded functions c.args.b c.args.s k c.loop-k.word f c.loop-k-test.true
-          c.index-functions-k.is c.loop-k.invariant (omega (arith, c.loop-k-test.true, c.requires.few))
-          (sym c.is_forced.ensures ∙ w.if-is_forced.true))
-      | else-is_forced w ↦ rw w.word-is (one_kept coded functions c.args.b c.args.s k c.loop-k.word f
-          c.loop-k-test.true c.index-functions-k.is c.loop-k.invariant
-          (sym c.is_forced.ensures ∙ w.if-is_forced.false))
-    ]
+    let few : k < 128 = omega (arith, c.loop-k-test.true, c.requires.few) in
+    let at_zero = c.values-low.ensures.low ∙ ap (λ (m : ℕ). function_value f m false) c.code-code.ensures in
+    let at_one = c.values-low.ensures.high ∙ ap (λ (m : ℕ). function_value f m true) c.code-code.ensures in
+    record {
+      up = rw c.from.ensures (one_added coded functions true c.args.s k c.loop-k.up f c.loop-k-test.true
+          c.index-functions-k.is c.loop-k.invariant.up c.values-low.result.0 few
+          (forces_up c.values-low.result.0 ∙ ap (λ (v : Bool). beq v true) at_zero));
+      down = rw c.from-in-loop-k.ensures (one_added coded functions false c.args.s k c.loop-k.down f
+          c.loop-k-test.true c.index-functions-k.is c.loop-k.invariant.down (not c.values-low.result.1) few
+          (forces_down c.values-low.result.1 ∙ ap (λ (v : Bool). beq v false) at_one));
+    }
 
-pub returns : goal.returns
-returns c = λ k d inside. c.loop-k.invariant.told k d (omega (arith, inside, c.loop-k-test.false)) inside
+pub returns-clause-up : goal.returns-clause-up
+returns-clause-up c = λ k d inside. c.loop-k.invariant.up.told k d (omega (arith, inside, c.loop-k-test.false)) inside
+
+pub returns-clause-down : goal.returns-clause-down
+returns-clause-down c =
+    λ k d inside. c.loop-k.invariant.down.told k d (omega (arith, inside, c.loop-k-test.false)) inside

@@ -1,15 +1,16 @@
-use Rattle.std.proofs.Common.{subst, arith}
+use Rattle.std.proofs.Common.{◌∙◌, ap, subst, arith}
 use Rattle.si_graph.specs.Arcs.{AreOut}
+use Rattle.si_insert.specs.GraphOfCopies.{place}
 use Rattle.si_insert.specs.Insertion.{Copy}
-use Rattle.si_insert.proofs.CopyArcs.{out_within, all_copied}
+use Rattle.si_insert.specs.Partition.{class_of}
+use Rattle.si_insert.proofs.CopyArcs.{out_from, out_within, all_copied}
 use Rattle.si_insert.proofs.apply.add_copied.Goals as goal
 
 pub edge_has_copy-requires-clause-from : goal.edge_has_copy-requires-clause-from
 edge_has_copy-requires-clause-from c =
-    let within =
-    out_within c.args.graph.now c.x.inside.state c.arcs_out-arcs.result.now c.loop-a.a-index c.a-item.result
-    c.arcs_out-arcs.ensures c.loop-a-test.true c.a-item.is in
-    omega (arith, within.0, c.requires.count)
+    ap (class_of c.args.classes.now) (ap (λ x. x.state) c.x-inside.view_is
+    ∙ out_from c.args.graph.now c.x.inside.state c.arcs_out-arcs.result.now c.loop-a.a-index c.a-item.result
+    c.arcs_out-arcs.ensures c.loop-a-test.true c.a-item.is)
 
 pub edge_has_copy-requires-clause-to : goal.edge_has_copy-requires-clause-to
 edge_has_copy-requires-clause-to c =
@@ -20,10 +21,9 @@ edge_has_copy-requires-clause-to c =
 
 pub copied_edge-requires-clause-from : goal.copied_edge-requires-clause-from
 copied_edge-requires-clause-from c =
-    let within =
-    out_within c.args.graph.now c.x.inside.state c.arcs_out-arcs.result.now c.loop-a.a-index c.a-item.result
-    c.arcs_out-arcs.ensures c.loop-a-test.true c.a-item.is in
-    omega (arith, within.0, c.requires.count)
+    c.place-from.ensures
+    ∙ ap (λ s. place c.args.classes.now s c.x.inside.value) (out_from c.args.graph.now c.x.inside.state
+    c.arcs_out-arcs.result.now c.loop-a.a-index c.a-item.result c.arcs_out-arcs.ensures c.loop-a-test.true c.a-item.is)
 
 pub copied_edge-requires-clause-to : goal.copied_edge-requires-clause-to
 copied_edge-requires-clause-to c =
