@@ -1,6 +1,5 @@
 mod Examples
 pub mod WordLemmas
-pub mod LineLemmas
 pub mod OrderLemmas
 pub mod CubeLemmas
 pub mod CellLemmas

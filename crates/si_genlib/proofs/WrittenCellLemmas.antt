@@ -29,7 +29,7 @@ use Rattle.si_cell.specs.Library.{Cell, IsCell, IsPinName, own}
 use Rattle.si_cell.specs.Limits.{max_cells, max_pins}
 use Rattle.si_cell.proofs.CubeLemmas.{same_name, names_same}
 use Rattle.si_genlib.specs.Written.{cell_line, signals_in}
-use Rattle.si_genlib.proofs.WrittenLineLemmas.{IsWord, AreWords}
+use Rattle.si_words.proofs.WrittenLineLemmas.{IsWord, AreWords}
 use Rattle.si_genlib.proofs.WrittenSumLemmas.{AreNames, SumFits, names_in, place, good_name, literal_spelled, of_sum}
 use Rattle.si_genlib.proofs.WrittenSumLemmas.{sum_good, sum_is, sum_spelled}
 

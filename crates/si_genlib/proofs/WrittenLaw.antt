@@ -17,7 +17,7 @@ use Rattle.si_cell.specs.LibraryText.{library_in, library_fault, library_of}
 use Rattle.si_genlib.specs.Written.{cell_line, library_lines, library_text}
 use Rattle.si_genlib.proofs.WrittenCellLemmas.{at_here, is_new, name_is_word, words_cut, line_good, line_spelled}
 use Rattle.si_genlib.proofs.WrittenCellLemmas.{line_words}
-use Rattle.si_genlib.proofs.WrittenLineLemmas.{AreWords, lines_back, no_bad_byte, words_back}
+use Rattle.si_words.proofs.WrittenLineLemmas.{AreWords, lines_back, lines_in_line, good_line, words_back}
 
 -- the lines with these words, from the n-th on
 abbrev written : ℕ → List (List (List ℕ)) → List Line
@@ -43,8 +43,8 @@ module _ (before : List Cell) (cell : Cell) (later : List Cell) (are : AreCells 
 
   no_fault : cell_line_fault before bytes ≡ None
   no_fault = rw (
-    no_bad_byte (cell_line cell) (line_words cell is_cell),
-    words_back (cell_line cell)
+    good_line (cell_line cell) (line_words cell is_cell),
+    words_back false (cell_line cell)
         (line_words cell is_cell),
     words_cut cell is_cell,
   ) (line_good cell is_cell (names_of before) new_name room)
@@ -64,7 +64,7 @@ cells_read : (last n : ℕ) (before cells : List Cell) → AreCells (before ++ c
 cells_read last n before [] are = record { fault = refl; cells_are = sym (append-nil before) }
 cells_read last n before (cell ∷ cells) are =
     let shift : (before ++ cell ∷ []) ++ cells ≡ before ++ cell ∷ cells = append_assoc before (cell ∷ []) cells in
-    let words = words_back (cell_line cell) (line_words cell (is_cell before cell cells are)) in
+    let words = words_back false (cell_line cell) (line_words cell (is_cell before cell cells are)) in
     let rest : AreRead last (n + 1) (before ++ cell ∷ []) cells =
     cells_read last (n + 1) (before ++ cell ∷ []) cells (subst AreCells (sym shift) are) in
     record {
@@ -92,18 +92,19 @@ module _ (library : Library) (is : IsLibrary library) where
   lines_are : (text : List ℕ) → text ≡ text_of (library_lines library)
       → numbered text ≡ written 1 (library_lines library)
   lines_are text is_text = rw is_text (ap (enumerate_from 1) (lines_back (library_lines library)
-      (head_words, cells_words library.cells (recursion_from_All IsCell library.cells is.cells.each))))
+      (lines_in_line (library_lines library)
+      (head_words, cells_words library.cells (recursion_from_All IsCell library.cells is.cells.each)))))
 
   read : (last : ℕ) → AreRead last 2 [] library.cells
   read last = cells_read last 2 [] library.cells is.cells
 
   lines_good : (last : ℕ) → lines_fault last (written 1 (library_lines library)) ≡ None
-  lines_good last = rw (no_bad_byte head head_words, words_back head head_words, is.name) (read last).fault
+  lines_good last = rw (good_line head head_words, words_back false head head_words, is.name) (read last).fault
 
   lines_spell : library_in (written 1 (library_lines library)) ≡ library
   lines_spell =
       let make : List Cell → Library = λ cs. record { name = library.name; cells = cs } in
-      rw (words_back head head_words) (ap make (read 0).cells_are)
+      rw (words_back false head head_words) (ap make (read 0).cells_are)
 
   no_fault_in_text : library_fault (library_text library) ≡ None
   unfolding library_text

@@ -1,8 +1,7 @@
 -- What gate lines and insert lines without fault are made of.
 use Rattle.std.proofs.Common.{◌≡◌, ℕ, ◌+◌, ◌≤◌, ◌<◌, true, List, [], ◌∷◌, ◌++◌, length, map, take, drop, get_or}
-use Rattle.std.proofs.Common.{MatchResult, false, refl, sym, ap, ◌∙◌, arith, Bor, Vec, Global, Result, Ok, Err, IfOk}
-use Rattle.std.proofs.Common.{Some, None, codes, bytes_eq}
-use Rattle.std.specs.List.{slice_split}
+use Rattle.std.proofs.Common.{MatchResult, false, refl, sym, ap, ◌∙◌, arith, Bor, Result, Ok, Err}
+use Rattle.std.proofs.Common.{Some, None, bytes_eq}
 use Rattle.std.proofs.lemmas.List.{map_push}
 use Rattle.si_base.specs.declared.fault.TextKind.TheVariants.{BadLine}
 use Rattle.si_netlist_reader.specs.Headers.{gate_in}
@@ -12,9 +11,7 @@ use Rattle.si_netlist_reader.specs.Reading.{Reads}
 use Rattle.si_netlist.specs.declared.gate.Gate.{Gate}
 use Rattle.si_base.specs.declared.fault.TextKind.{TextKind}
 use Rattle.si_words.specs.GateLines.{gate_fault, literals_fault, is_gate}
-use Rattle.si_words.specs.Reads.{words_now, parts_now}
-use Rattle.si_words.specs.Sums.{parts_at}
-use Rattle.si_words.proofs.SumWordLemmas.{slice_split-map}
+use Rattle.si_words.specs.Reads.{words_now}
 use Rattle.si_words.proofs.FirstFaultLemmas.{take_word}
 
 -- the line of a gate, by its head and the words behind it

@@ -1,23 +1,23 @@
 -- The text of a netlist has no fault, and spells that netlist.
-use Rattle.std.proofs.Common.{◌≡◌, ◌≢◌, ℕ, ◌<◌, ◌≤◌, true, false, not, List, [], ◌∷◌, ◌++◌, length, map, take, drop}
-use Rattle.std.proofs.Common.{All, AllPairs, refl, sym, ap, ap₂, subst, ◌∙◌, arith, codes, None, suc, zero}
+use Rattle.std.proofs.Common.{◌≡◌, ◌≢◌, ℕ, ◌≤◌, true, false, not, List, [], ◌∷◌, ◌++◌, length, map, take, drop}
+use Rattle.std.proofs.Common.{All, AllPairs, refl, sym, ap, ap₂, subst, ◌∙◌, arith, codes, None, suc}
 use Rattle.std.proofs.Common.{append_assoc}
 use Rattle.std.proofs.lemmas.Bool.{or_from, and_parts, leb-true, le-leb, not_from_true, and_from}
 use Rattle.std.proofs.lemmas.List.{length-map, map-append, take_at, drop_at}
 use Rattle.std.proofs.lemmas.List.Elements.{recursion_from_All, All-filter}
 use Rattle.std.specs.List.{AllByRecursion, list_any, join_with_byte}
 use Rattle.si_base.specs.declared.graph.Signal.{Signal}
-use Rattle.si_base.specs.declared.graph.SigKind.{SigKind}
 use Rattle.si_base.specs.declared.graph.SigKind.TheVariants.{Input, Output, Internal, Inserted}
 use Rattle.si_base.specs.Graph.{is_driven, kind_place}
 use Rattle.si_base.specs.Netlist.{Gate, Insertion, Netlist}
-use Rattle.si_base.specs.NetlistText.{Version, Version1, Version2, version_lines, most_signals, same_kind, names_of}
+use Rattle.si_base.specs.NetlistText.{Version, Version1, Version2, version_lines, most_signals, names_of}
 use Rattle.si_base.specs.NetlistText.{netlist_lines, netlist_text_in, insert_line, gate_words, bits_from, word_if_any}
 use Rattle.si_base.specs.GivenGraph.{signals_of}
 use Rattle.si_base.specs.Words.{text_of, is_signal_name, is_between}
 use Rattle.si_base.specs.WellFormed.{IsGate, IsInsertion, IsNetlist}
 use Rattle.si_base.proofs.WordLemmas.{AreClean, LinesClean, clean_word, words_without}
 use Rattle.si_base.proofs.LinesUnsplit.{split-join}
+use Rattle.si_words.proofs.KindLemmas.{one_kind_after_another}
 use Rattle.si_netlist_reader.specs.NetlistFault.{due, due_in, netlist_fault, version_of, after_version, insert_fault}
 use Rattle.si_netlist_reader.specs.NetlistFault.{word_fault}
 use Rattle.si_words.specs.Lines.{Form, words_of, rest_of, has_bad_byte_here}
@@ -38,84 +38,9 @@ use Rattle.si_netlist_reader.proofs.LawWrittenLineLemmas.{start_good, start_dark
 use Rattle.si_netlist_reader.proofs.ReadLaw.{gates_in, inserts_in, with_rest, gate_rows_at}
 
 -- ---- the signals of each kind, one kind after another
-abbrev in_kinds : List Signal → List Signal
-in_kinds xs = signals_of Input (names_of Input xs) ++ (signals_of Output (names_of Output xs)
-    ++ (signals_of Internal (names_of Internal xs) ++ signals_of Inserted (names_of Inserted xs)))
-
-abbrev Ranked : ℕ → List Signal → Type 0
-Ranked k xs = AllByRecursion (λ (x : Signal). k ≤ kind_place x.kind) xs
-
-abbrev Sorted : List Signal → Type 0
-Sorted [] = Unit {0}
-Sorted (x ∷ xs) = Ranked (kind_place x.kind) xs × Sorted xs
-
-other_kind : (kind k : SigKind) → kind_place kind < kind_place k → same_kind kind k ≡ false
-other_kind Input Input low = absurd (omega arith)
-other_kind Input Output low = refl
-other_kind Input Internal low = refl
-other_kind Input Inserted low = refl
-other_kind Output Input low = absurd (omega arith)
-other_kind Output Output low = absurd (omega arith)
-other_kind Output Internal low = refl
-other_kind Output Inserted low = refl
-other_kind Internal Input low = absurd (omega arith)
-other_kind Internal Output low = absurd (omega arith)
-other_kind Internal Internal low = absurd (omega arith)
-other_kind Internal Inserted low = refl
-other_kind Inserted Input low = absurd (omega arith)
-other_kind Inserted Output low = absurd (omega arith)
-other_kind Inserted Internal low = absurd (omega arith)
-other_kind Inserted Inserted low = absurd (omega arith)
-
-none_of : (kind : SigKind) (k : ℕ) (xs : List Signal) → kind_place kind < k → Ranked k xs → names_of kind xs ≡ []
-none_of kind k [] low ranked = refl
-none_of kind k (x ∷ xs) low ranked =
-    let here : k ≤ kind_place x.kind = ranked.0 in
-    rw (other_kind kind x.kind (omega arith)) (none_of kind k xs low ranked.1)
-
-abbrev cat : List (List ℕ) → List (List ℕ) → List (List ℕ) → List (List ℕ) → List Signal
-cat i o n s = signals_of Input i ++ (signals_of Output o ++ (signals_of Internal n ++ signals_of Inserted s))
-
-one_more : (name : List ℕ) (kind : SigKind) (xs : List Signal) → Ranked (kind_place kind) xs → xs ≡ in_kinds xs
-    → record { name = name; kind = kind } ∷ xs ≡ in_kinds (record { name = name; kind = kind } ∷ xs)
-one_more name Input xs ranked same = ap (λ (l : List Signal). record { name = name; kind = Input } ∷ l) same
-one_more name Output xs ranked same =
-    let i = none_of Input 1 xs (omega arith) ranked in
-    ap (λ (l : List Signal). record { name = name; kind = Output } ∷ l)
-    (same ∙ ap (λ (a : List (List ℕ)). cat a (names_of Output xs) (names_of Internal xs) (names_of Inserted xs)) i)
-    ∙ sym
-    (ap (λ (a : List (List ℕ)). cat a (name ∷ names_of Output xs) (names_of Internal xs) (names_of Inserted xs)) i)
-one_more name Internal xs ranked same =
-    let i = none_of Input 2 xs (omega arith) ranked in
-    let o = none_of Output 2 xs (omega arith) ranked in
-    ap (λ (l : List Signal). record { name = name; kind = Internal } ∷ l)
-    (same ∙ ap₂ (λ (a b : List (List ℕ)). cat a b (names_of Internal xs) (names_of Inserted xs)) i o)
-    ∙ sym (ap₂ (λ (a b : List (List ℕ)). cat a b (name ∷ names_of Internal xs) (names_of Inserted xs)) i o)
-one_more name Inserted xs ranked same =
-    let i = none_of Input 3 xs (omega arith) ranked in
-    let o = none_of Output 3 xs (omega arith) ranked in
-    let n = none_of Internal 3 xs (omega arith) ranked in
-    ap (λ (l : List Signal). record { name = name; kind = Inserted } ∷ l)
-    (same ∙ ap₂ (λ (a b : List (List ℕ)). cat a b (names_of Internal xs) (names_of Inserted xs)) i o
-    ∙ ap (λ (c : List (List ℕ)). cat [] [] c (names_of Inserted xs)) n)
-    ∙ sym (ap₂ (λ (a b : List (List ℕ)). cat a b (names_of Internal xs) (name ∷ names_of Inserted xs)) i o
-    ∙ ap (λ (c : List (List ℕ)). cat [] [] c (name ∷ names_of Inserted xs)) n)
-
-kinds_apart : (xs : List Signal) → Sorted xs → xs ≡ in_kinds xs
-kinds_apart [] sorted = refl
-kinds_apart (x ∷ xs) sorted = one_more x.name x.kind xs sorted.0 (kinds_apart xs sorted.1)
-
-sorted_from : (xs : List Signal) → AllPairs (λ (x y : Signal). kind_place x.kind ≤ kind_place y.kind) xs → Sorted xs
-sorted_from [] pairs = tt
-sorted_from (x ∷ xs) pairs = (
-  recursion_from_All (λ (y : Signal). kind_place x.kind ≤ kind_place y.kind) xs
-      (λ j d within. pairs zero (suc j) d (omega arith) (omega arith)),
-  sorted_from xs (λ i j d before within. pairs (suc i) (suc j) d (omega arith) (omega arith)),
-)
-
 by_kinds : (xs : List Signal) → AllPairs (λ (x y : Signal). kind_place x.kind ≤ kind_place y.kind) xs
     → xs ≡ signals_by (names_of Input xs) (names_of Output xs) (names_of Internal xs) (names_of Inserted xs)
-by_kinds xs pairs = kinds_apart xs (sorted_from xs pairs)
+by_kinds xs pairs = one_kind_after_another xs pairs
     ∙ sym (append_assoc (signals_of Input (names_of Input xs) ++ signals_of Output (names_of Output xs))
     (signals_of Internal (names_of Internal xs)) (signals_of Inserted (names_of Inserted xs))
     ∙ append_assoc (signals_of Input (names_of Input xs)) (signals_of Output (names_of Output xs))

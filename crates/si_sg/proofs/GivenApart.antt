@@ -90,7 +90,7 @@ other_names n (m ∷ names) none =
 no_pairs : AllPairs (λ (a b : List ℕ). a ≢ b) []
 no_pairs i j d before within = absurd (omega arith)
 
-apart_pairs : (names : List (List ℕ)) → Apart names → AllPairs (λ a b. a ≢ b) names
+pub apart_pairs : (names : List (List ℕ)) → Apart names → AllPairs (λ a b. a ≢ b) names
 apart_pairs [] apart = no_pairs
 apart_pairs (n ∷ names) apart = AllPairs-cons (λ (a b : List ℕ). a ≢ b) n names (other_names n names apart.0)
     (apart_pairs names apart.1)

@@ -1,18 +1,15 @@
 -- A text without fault gives a graph.
-use Rattle.std.proofs.Common.{◌≡◌, ◌≢◌, ◌<◌, ◌∙◌, ℕ, false, List, [], ◌∷◌, map, length, get_or, All, AllPairs}
-use Rattle.std.proofs.Common.{bytes_eq, refl, sym, arith, inl, inr, None}
+use Rattle.std.proofs.Common.{◌≡◌, ◌<◌, ℕ, List, [], ◌∷◌, map, length, get_or, All}
+use Rattle.std.proofs.Common.{refl, arith, inl, inr, None}
 use Rattle.std.specs.List.{slice_index_or}
-use Rattle.std.proofs.lemmas.Bool.{cases_Bool, true≢false}
+use Rattle.std.proofs.lemmas.Bool.{cases_Bool}
 use Rattle.std.proofs.lemmas.List.{length-map}
-use Rattle.std.proofs.lemmas.List.Elements.{All-nil, All-cons, All-contains, Contains-get_or}
-use Rattle.std.proofs.lemmas.List.Kept.{AllPairs-cons}
-use Rattle.std.proofs.lemmas.Slice.Eq.{bytes_eq-Decides}
+use Rattle.std.proofs.lemmas.List.Elements.{All-contains, Contains-get_or}
 use Rattle.si_base.specs.declared.graph.Edge.{Edge}
 use Rattle.si_base.specs.declared.graph.Signal.{Signal}
 use Rattle.si_base.specs.Graph.{StateGraph}
 use Rattle.si_base.specs.Lines.{Line, numbered}
 use Rattle.si_base.specs.GivenGraph.{Sg as SgValue}
-use Rattle.si_words.specs.Names.{stands_in}
 use Rattle.si_graph.proofs.ArcsInOrder.{arcs_in_order}
 use Rattle.si_graph.proofs.CutExists.{some_cut}
 use Rattle.si_sg.specs.Header.{Header, no_header, declared, is_state_graph}
@@ -22,8 +19,9 @@ use Rattle.si_words.specs.Ends.{after_last}
 use Rattle.si_sg.specs.GraphText.{words, graph_fault, header_of, section_of, header_line_fault}
 use Rattle.si_sg.specs.GraphText.{header_line_with, header_lines_fault, section_lines_fault, header_says}
 use Rattle.si_sg.specs.GraphText.{after_header}
-use Rattle.si_sg.specs.Reads.{Apart, AreSignals, IsWholeSection}
-use Rattle.si_sg.proofs.HeaderLemmas.{signals_kept, or_parts}
+use Rattle.si_sg.specs.Reads.{AreSignals, IsWholeSection}
+use Rattle.si_sg.proofs.GivenApart.{apart_pairs}
+use Rattle.si_sg.proofs.HeaderLemmas.{signals_kept}
 use Rattle.si_sg.proofs.SectionLemmas.{line_none}
 use Rattle.si_sg.proofs.BuildLemmas.{edges_within, section_read}
 use Rattle.si_sg.proofs.SignalLemmas.{as_many, kinds_in_order, names_apart}
@@ -46,22 +44,6 @@ header_good last h (line ∷ lines) are none =
           let rest = header_good last (header_line_with h line) lines next (rw more at parts.1) in
           rw more (record { section = rest.section; signals = rest.signals })
     ]
-
--- ---- names that are apart
-other_names : (n : List ℕ) (names : List (List ℕ)) → stands_in names n ≡ false → All (λ m. n ≢ m) names
-other_names n [] none = All-nil (λ (m : List ℕ). n ≢ m)
-other_names n (m ∷ names) none =
-    let parts = or_parts (bytes_eq n m) (stands_in names n) none in
-    All-cons (λ (k : List ℕ). n ≢ k) m names (λ same. true≢false (sym ((bytes_eq-Decides n m).1 same) ∙ parts.0))
-    (other_names n names parts.1)
-
-no_pairs : AllPairs (λ (a b : List ℕ). a ≢ b) []
-no_pairs i j d before within = absurd (omega arith)
-
-apart_pairs : (names : List (List ℕ)) → Apart names → AllPairs (λ a b. a ≢ b) names
-apart_pairs [] apart = no_pairs
-apart_pairs (n ∷ names) apart = AllPairs-cons (λ (a b : List ℕ). a ≢ b) n names (other_names n names apart.0)
-    (apart_pairs names apart.1)
 
 -- ---- the graph that a header and a section spell
 module _ (h : Header) (x : Section) (are : AreSignals (declared h))

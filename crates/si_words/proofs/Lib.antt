@@ -9,3 +9,5 @@ pub mod NameLemmas
 pub mod FaultLemmas
 pub mod EndLemmas
 pub mod PartLemmas
+pub mod KindLemmas
+pub mod WrittenLineLemmas
