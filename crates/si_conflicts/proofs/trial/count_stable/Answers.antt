@@ -55,8 +55,9 @@ with-high-requires g c = high_has g (goal.at.with-high-requires g c).After-for_c
 total_now : (g : Over) (c : After-conflicts-in-loop-turn g) (ms : List Member) → AreTurns ms c.args.turns.now
     → c.loop-turn.total + (c.conflicts.result + c.conflicts-in-loop-turn.result)
     ≡ pair_sum (Apart.stable_count (g.C.Classes.classes c.args.classes.now)) (take (c.loop-turn.turn-index + 1) ms)
-total_now g c ms are = total_more (g.C.Classes.classes c.args.classes.now) ms c.args.turns.now are c.loop-turn.turn-index
-    c.turn-item.result c.loop-turn-test.true c.turn-item.is c.of-at_low.result c.of-at_high.result
+total_now g c ms are = total_more (g.C.Classes.classes c.args.classes.now) ms c.args.turns.now are
+    c.loop-turn.turn-index c.turn-item.result c.loop-turn-test.true c.turn-item.is
+    c.of-at_low.result c.of-at_high.result
     (c.of-at_low.ensures ∙ ap (role_at false) c.class-class.ensures)
     (c.of-at_high.ensures ∙ ap (role_at true) c.class-class.ensures)
     _ _ _ _ _ (c.loop-turn.invariant.passed ms are) c.for_change-low.ensures c.for_change-high.ensures
@@ -91,7 +92,8 @@ loop-turn-preserved g c = record {
 pub returns-then-total-bar-clause-more : goal.returns-then-total-bar-clause-more
 returns-then-total-bar-clause-more g c = λ enough ms are. (
     let total = total_now g (goal.at.returns-then-total-bar-clause-more g c).After-conflicts-in-loop-turn ms are in
-    let part = pair_take (Apart.stable_count (g.C.Classes.classes c.args.classes.now)) (c.loop-turn.turn-index + 1) ms in
+    let part = pair_take (Apart.stable_count (g.C.Classes.classes c.args.classes.now)) (c.loop-turn.turn-index + 1)
+    ms in
     omega (arith, total, part, enough))
 
 pub returns-then-total-bar-clause-few : goal.returns-then-total-bar-clause-few
