@@ -1,5 +1,5 @@
 -- Genlib texts with faults, and a text with the library that it spells.
-use Rattle.std.proofs.Common.{◌≡◌, ℕ, List, [], ◌∷◌, true, false, Some, None, codes, refl}
+use Rattle.std.proofs.Common.{◌≡◌, ℕ, List, [], ◌∷◌, ◌++◌, true, false, Some, None, codes, refl}
 use Rattle.si_base.specs.declared.ids.Literal.{Literal}
 use Rattle.si_base.specs.declared.fault.TextKind.TheVariants as kinds
 use Rattle.si_cell.specs.Library.{Cell}
@@ -14,44 +14,56 @@ small : List ℕ
 small = codes "# small\nGATE inv1 1 O=!a; PIN * INV 1 999 0.9 0.3 0.9 0.3\n"
 
 no_fault : genlib_fault small ≡ None
-unfolding small genlib_fault all_cells name_at decimal_at out_at equals_at body_at gate_at phase_at pin_at gate_statement_at pin_statement_at statement_at word word_at tokens step gate_value sum_of cell_of with_gate
+unfolding small genlib_fault all_cells name_at decimal_at out_at equals_at body_at gate_at phase_at pin_at
+    gate_statement_at pin_statement_at statement_at word word_at tokens step gate_value sum_of cell_of with_gate
 no_fault = refl
 
 no_operand : genlib_fault (codes "GATE x 1 O=a+;") ≡ Some (1, kinds.BadExpression)
-unfolding genlib_fault all_cells name_at decimal_at out_at equals_at body_at gate_at phase_at pin_at gate_statement_at pin_statement_at statement_at word word_at tokens step gate_value sum_of cell_of with_gate
+unfolding genlib_fault all_cells name_at decimal_at out_at equals_at body_at gate_at phase_at pin_at
+    gate_statement_at pin_statement_at statement_at word word_at tokens step gate_value sum_of cell_of with_gate
 no_operand = refl
 
 latch : genlib_fault (codes "LATCH d 1 Q=D;") ≡ Some (1, kinds.Latch)
-unfolding genlib_fault all_cells name_at decimal_at out_at equals_at body_at gate_at phase_at pin_at gate_statement_at pin_statement_at statement_at word word_at tokens step gate_value sum_of cell_of with_gate
+unfolding genlib_fault all_cells name_at decimal_at out_at equals_at body_at gate_at phase_at pin_at
+    gate_statement_at pin_statement_at statement_at word word_at tokens step gate_value sum_of cell_of with_gate
 latch = refl
 
 own_falls : genlib_fault (codes "GATE x 1 O=!O*a;") ≡ Some (1, kinds.OwnFalling)
-unfolding genlib_fault all_cells name_at decimal_at out_at equals_at body_at gate_at phase_at pin_at gate_statement_at pin_statement_at statement_at word word_at tokens step gate_value sum_of cell_of with_gate
+unfolding genlib_fault all_cells name_at decimal_at out_at equals_at body_at gate_at phase_at pin_at
+    gate_statement_at pin_statement_at statement_at word word_at tokens step gate_value sum_of cell_of with_gate
 own_falls = refl
 
 word_glued : genlib_fault (codes "GATE x 1O=a;") ≡ Some (1, kinds.BadNumber)
-unfolding genlib_fault all_cells name_at decimal_at out_at equals_at body_at gate_at phase_at pin_at gate_statement_at pin_statement_at statement_at word word_at tokens step gate_value sum_of cell_of with_gate
+unfolding genlib_fault all_cells name_at decimal_at out_at equals_at body_at gate_at phase_at pin_at
+    gate_statement_at pin_statement_at statement_at word word_at tokens step gate_value sum_of cell_of with_gate
 word_glued = refl
 
 not_closed : genlib_fault (codes "GATE \"x 1 O=a;") ≡ Some (1, kinds.BadGate)
-unfolding genlib_fault all_cells name_at decimal_at out_at equals_at body_at gate_at phase_at pin_at gate_statement_at pin_statement_at statement_at word word_at tokens step gate_value sum_of cell_of with_gate
+unfolding genlib_fault all_cells name_at decimal_at out_at equals_at body_at gate_at phase_at pin_at
+    gate_statement_at pin_statement_at statement_at word word_at tokens step gate_value sum_of cell_of with_gate
 not_closed = refl
 
 cut : genlib_fault (codes "GATE x 1 O=\na") ≡ Some (3, kinds.NoEnd)
-unfolding genlib_fault all_cells name_at decimal_at out_at equals_at body_at gate_at phase_at pin_at gate_statement_at pin_statement_at statement_at word word_at tokens step gate_value sum_of cell_of with_gate
+unfolding genlib_fault all_cells name_at decimal_at out_at equals_at body_at gate_at phase_at pin_at
+    gate_statement_at pin_statement_at statement_at word word_at tokens step gate_value sum_of cell_of with_gate
 cut = refl
 
 bad_byte : genlib_fault (codes "GATE x 1 O=\n\u{1}") ≡ Some (2, kinds.BadByte)
-unfolding genlib_fault all_cells name_at decimal_at out_at equals_at body_at gate_at phase_at pin_at gate_statement_at pin_statement_at statement_at word word_at tokens step gate_value sum_of cell_of with_gate
+unfolding genlib_fault all_cells name_at decimal_at out_at equals_at body_at gate_at phase_at pin_at
+    gate_statement_at pin_statement_at statement_at word word_at tokens step gate_value sum_of cell_of with_gate
 bad_byte = refl
 
 pin_first : genlib_fault (codes "PIN") ≡ Some (1, kinds.BadWord)
-unfolding genlib_fault all_cells name_at decimal_at out_at equals_at body_at gate_at phase_at pin_at gate_statement_at pin_statement_at statement_at word word_at tokens step gate_value sum_of cell_of with_gate
+unfolding genlib_fault all_cells name_at decimal_at out_at equals_at body_at gate_at phase_at pin_at
+    gate_statement_at pin_statement_at statement_at word word_at tokens step gate_value sum_of cell_of with_gate
 pin_first = refl
 
 -- ---- a library of several gates
 several : List ℕ
-several = codes "# small\nGATE inv1 1 O=!a; PIN * INV 1 999 0.9 0.3 0.9 0.3\nGATE \"1310:nand\" 2.00 O=!(1A*1B);\n  PIN * INV 1 999 1.0 0.2 1.0 0.2\nGATE one 0 O=CONST1;\nGATE aoi 4 O=(a*b+c*d+e*f)';\nGATE C2 3 O=a b + O (a+b); PIN * UNKNOWN 1 999 1 .2 1 .2\n"
+several =
+    small
+    ++ codes "GATE \"1310:nand\" 2.00 O=!(1A*1B);\n  PIN * INV 1 999 1.0 0.2 1.0 0.2\nGATE one 0 O=CONST1;\n"
+    ++ codes "GATE aoi 4 O=(a*b+c*d+e*f)';\nGATE C2 3 O=a b + O (a+b); PIN * UNKNOWN 1 999 1 .2 1 .2\n"
 
 plain : ℕ → Literal
 plain s = record { sig = s; plain = true }
@@ -84,5 +96,7 @@ several_spell : library_of several ≡ record {
   name = codes "genlib";
   cells = inverter ∷ nand ∷ one ∷ c_element ∷ [];
 }
-unfolding several inverter nand one c_element plain complemented library_of all_cells name_at decimal_at out_at equals_at body_at gate_at phase_at pin_at gate_statement_at pin_statement_at statement_at word word_at tokens step gate_value sum_of cell_of with_gate
+unfolding small several inverter nand one c_element plain complemented library_of all_cells name_at decimal_at out_at
+    equals_at body_at gate_at phase_at pin_at gate_statement_at pin_statement_at statement_at word word_at
+    tokens step gate_value sum_of cell_of with_gate
 several_spell = refl
