@@ -36,8 +36,8 @@ pub belong_on : (g : StateGraph) (highs : List ℕ) (old new : WordProgress) →
 belong_on g highs old new m all k t has = elim (m.sound k t has) [ inl before ↦ all k t before | inr q ↦ q ]
 
 -- a turn goes on from the work that it began with
-pub turn_on : (g : StateGraph) (highs : List ℕ) (sets x : ℕ) (old new : WordProgress) → Grows (BelongsTo g highs) old new
-    → IsTurn g highs sets x old → IsTurn g highs sets x new
+pub turn_on : (g : StateGraph) (highs : List ℕ) (sets x : ℕ) (old new : WordProgress)
+    → Grows (BelongsTo g highs) old new → IsTurn g highs sets x old → IsTurn g highs sets x new
 turn_on g highs sets x old new m turn = record {
   graph = turn.graph;
   deterministic = turn.deterministic;

@@ -1,6 +1,7 @@
 -- What becomes of a search with each candidate.
 use Rattle.std.proofs.Common.{◌≡◌, ℕ, ◌+◌, ◌<◌, ◌≤◌, ◌↔◌, Bool, true, false, List, length, slice_index_or, Option}
-use Rattle.std.proofs.Common.{Some, None, IfNone, IfSome, MatchOption, IsTrue, refl, sym, ap, ap₂, subst, ◌∙◌, arith, inl, inr}
+use Rattle.std.proofs.Common.{Some, None, IfNone, IfSome, MatchOption, IsTrue, refl, sym, ap, ap₂, subst, ◌∙◌, arith}
+use Rattle.std.proofs.Common.{inl, inr}
 use Rattle.std.proofs.lemmas.Bool.{true≢false}
 use Rattle.std.proofs.lemmas.List.{length-map}
 use Rattle.si_base.specs.Graph.{StateGraph, IsGraph}
