@@ -7,7 +7,7 @@ use Rattle.si_base.specs.Bits.{bit}
 use Rattle.si_base.specs.Graph.{StateGraph, Step, IsReachable, rise, fall, enables}
 use Rattle.si_base.specs.GivenGraph.{Sg}
 use Rattle.si_base.specs.Codes.{AreValues, HasValues, IsConsistent, IsDeterministic, IsConnected, CodedGraph, IsCoded}
-use Rattle.si_base.specs.Codes.{code}
+use Rattle.si_base.specs.Codes.{IsIdle, code}
 use Rattle.si_base.specs.Proper.{IsProper, HasNoConflict}
 use Rattle.si_base.proofs.GraphSteps.{enables-step, step_from_enables}
 use Rattle.si_base.proofs.StepCodes.{step_within}
@@ -49,8 +49,8 @@ moved n m e t a p g same at =
     (subst (λ j. phase m j ≡ p) same at, subst (λ j. phase t j ≡ (p + 1) % 4) same (g.next ∙ ap (λ q. (q + 1) % 4) at))
 
 -- a value that is the same in the next phase
-same_value : (v : ℕ → Bool) (p q r : ℕ) → q ≡ (p + 1) % 4 → p ≡ r → v ((r + 1) % 4) ≡ v r → v q ≡ v p
-same_value v p q r next at same = ap v (next ∙ ap (λ x. (x + 1) % 4) at) ∙ same ∙ sym (ap v at)
+same_value : (v : ℕ → Bool) (p r : ℕ) → p ≡ r → v ((r + 1) % 4) ≡ v r → v ((p + 1) % 4) ≡ v p
+same_value v p r at same = ap (λ x. v ((x + 1) % 4)) at ∙ same ∙ sym (ap v at)
 
 -- ---- deterministic, commutative
 one_target : (n m : ℕ) (e : Event) (t u : ℕ) → Goes n m e t → Goes n m e u → t ≡ u
@@ -211,69 +211,68 @@ module _ (n : ℕ) (sg : Sg) (is : IsHandshakes n sg) where
       enables-step sg.graph t e next again
 
   -- ---- consistent
-  requests_switch : (a : ℕ) → a < n → AreValues sg.graph a (λ s. request (phase s a))
-  requests_switch a within = record {
+  -- the phases of the handshake a around an event that only ends its phase p
+  phases_at : (e : Event) (a p s t : ℕ)
+      → ((i q : ℕ) → i < n → q < 4 → e ≡ ending n i q → (i ≡ a) × (q ≡ p))
+      → Step sg.graph s e t → (phase s a ≡ p) × (phase t a ≡ (p + 1) % 4)
+  phases_at e a p s t only step =
+      let g = (goes s e t step).step in
+      let i = g.handshake in
+      let at = only i (phase s i) g.within (phase_below s i) g.event in
+      moved n s e t a p g at.0 at.1
+
+  -- a signal that rises and falls where two phases of the handshake a end has values by the phase
+  switches : (z a : ℕ) (v : ℕ → Bool) (up down : ℕ)
+      → ((i p : ℕ) → i < n → p < 4 → rise z ≡ ending n i p → (i ≡ a) × (p ≡ up))
+      → ((i p : ℕ) → i < n → p < 4 → fall z ≡ ending n i p → (i ≡ a) × (p ≡ down))
+      → (v up ≡ false) × (v ((up + 1) % 4) ≡ true) → (v down ≡ true) × (v ((down + 1) % 4) ≡ false)
+      → ((p : ℕ) → p < 4 → (ending n a p).sig ≢ z → v ((p + 1) % 4) ≡ v p)
+      → (IsIdle sg.graph z → (s : ℕ) → s < sg.graph.states → v (phase s a) ≡ false)
+      → AreValues sg.graph z (λ s. v (phase s a))
+  switches z a v up down at_rise at_fall risen fallen rests never = record {
     rises = λ s t step.
-        (let g = (goes s (rise a) t step).step in
-        let i = g.handshake in
-        let at = request_rises n i a (phase s i) g.within within (phase_below s i) g.event in
-        let phases = moved n s (rise a) t a 0 g at.0 at.1 in
-        (ap request phases.0, ap request phases.1));
+        (let phases = phases_at (rise z) a up s t at_rise step in
+        (ap v phases.0 ∙ risen.0, ap v phases.1 ∙ risen.1));
     falls = λ s t step.
-        (let g = (goes s (fall a) t step).step in
-        let i = g.handshake in
-        let at = request_falls n i a (phase s i) g.within within (phase_below s i) g.event in
-        let phases = moved n s (fall a) t a 2 g at.0 at.1 in
-        (ap request phases.0, ap request phases.1));
+        (let phases = phases_at (fall z) a down s t at_fall step in
+        (ap v phases.0 ∙ fallen.0, ap v phases.1 ∙ fallen.1));
     keeps = λ s t e other step.
         (let g = (goes s e t step).step in
         elim (after n s e t a g) [
-          | inr rests ↦ ap request rests.1
+          | inr stays ↦ ap v stays.1
           | inl moves ↦
               (let event : (ending n a (phase s a)).sig ≡ e.sig =
               ap (λ j. (ending n j (phase s j)).sig) moves.0 ∙ ap (λ (x : Event). x.sig) (sym g.event) in
-              elim (request_rests n a (phase s a) (phase_below s a) (λ same. other (sym event ∙ same))) [
-                | inl second ↦ same_value request (phase s a) (phase t a) 1 moves.1 second refl
-                | inr last ↦ same_value request (phase s a) (phase t a) 3 moves.1 last refl
-              ])
+              ap v moves.1 ∙ rests (phase s a) (phase_below s a) (λ same. other (sym event ∙ same)))
         ]);
-    idle = λ idle s below. absurd (idle 0 (rise a) (put a 0 ((phase 0 a + 1) % 4))
-        (step_by 0 a (rise a) within (power_pos n) (ap (ending n a) (none_at_zero a))) refl);
+    idle = never;
   }
 
+  requests_switch : (a : ℕ) → a < n → AreValues sg.graph a (λ s. request (phase s a))
+  requests_switch a within = switches a a request 0 2
+      (λ i p there small event. request_rises n i a p there within small event)
+      (λ i p there small event. request_falls n i a p there within small event) (refl, refl) (refl, refl)
+      (λ p small other. elim (request_rests n a p small other) [
+        | inl second ↦ same_value request p 1 second refl
+        | inr last ↦ same_value request p 3 last refl
+      ])
+      (λ idle s below. absurd (idle 0 (rise a) (put a 0 ((phase 0 a + 1) % 4))
+      (step_by 0 a (rise a) within (power_pos n) (ap (ending n a) (none_at_zero a))) refl))
+
   acknowledgements_switch : (a : ℕ) → a < n → AreValues sg.graph (n + a) (λ s. acknowledgement (phase s a))
-  acknowledgements_switch a within = record {
-    rises = λ s t step.
-        (let g = (goes s (rise (n + a)) t step).step in
-        let i = g.handshake in
-        let at = acknowledgement_rises n i a (phase s i) g.within within (phase_below s i) g.event in
-        let phases = moved n s (rise (n + a)) t a 1 g at.0 at.1 in
-        (ap acknowledgement phases.0, ap acknowledgement phases.1));
-    falls = λ s t step.
-        (let g = (goes s (fall (n + a)) t step).step in
-        let i = g.handshake in
-        let at = acknowledgement_falls n i a (phase s i) g.within within (phase_below s i) g.event in
-        let phases = moved n s (fall (n + a)) t a 3 g at.0 at.1 in
-        (ap acknowledgement phases.0, ap acknowledgement phases.1));
-    keeps = λ s t e other step.
-        (let g = (goes s e t step).step in
-        elim (after n s e t a g) [
-          | inr rests ↦ ap acknowledgement rests.1
-          | inl moves ↦
-              (let event : (ending n a (phase s a)).sig ≡ e.sig =
-              ap (λ j. (ending n j (phase s j)).sig) moves.0 ∙ ap (λ (x : Event). x.sig) (sym g.event) in
-              elim (acknowledgement_rests n a (phase s a) (phase_below s a) (λ same. other (sym event ∙ same))) [
-                | inl first ↦ same_value acknowledgement (phase s a) (phase t a) 0 moves.1 first refl
-                | inr third ↦ same_value acknowledgement (phase s a) (phase t a) 2 moves.1 third refl
-              ])
-        ]);
-    idle = λ idle s below.
-        (let m : ℕ = put a 0 1 in
-        let at : phase m a ≡ 1 = put_same a 0 1 (omega arith) in
-        let inside : m < 4 ^ n = put_below a n 0 1 (omega arith) within (power_pos n) in
-        absurd (idle m (rise (n + a)) (put a m ((phase m a + 1) % 4))
-        (step_by m a (rise (n + a)) within inside (ap (ending n a) at)) refl));
-  }
+  acknowledgements_switch a within = switches (n + a) a acknowledgement 1 3
+      (λ i p there small event. acknowledgement_rises n i a p there within small event)
+      (λ i p there small event. acknowledgement_falls n i a p there within small event) (refl, refl) (refl, refl)
+      (λ p small other. elim (acknowledgement_rests n a p small other) [
+        | inl first ↦ same_value acknowledgement p 0 first refl
+        | inr third ↦ same_value acknowledgement p 2 third refl
+      ])
+      (λ idle s below.
+      (let m : ℕ = put a 0 1 in
+      let at : phase m a ≡ 1 = put_same a 0 1 (omega arith) in
+      let inside : m < 4 ^ n = put_below a n 0 1 (omega arith) within (power_pos n) in
+      absurd (idle m (rise (n + a)) (put a m ((phase m a + 1) % 4))
+      (step_by m a (rise (n + a)) within inside (ap (ending n a) at)) refl)))
 
   as_many_signals : length sg.graph.signals ≡ n + n
   as_many_signals = ap length is.signals ∙ twice_as_many n

@@ -3,7 +3,6 @@ use Rattle.std.proofs.Common.{ℕ, ◌*◌, ◌^◌, ◌<◌, ◌≤◌, List, l
 use Rattle.std.proofs.lemmas.Nat.{mul-le}
 use Rattle.std.proofs.lemmas.List.Elements.{All-contains, Contains-get_or}
 use Rattle.si_base.specs.declared.graph.Edge.{Edge}
-use Rattle.si_base.specs.declared.graph.Signal.{Signal}
 use Rattle.si_base.specs.GivenGraph.{Sg}
 use Rattle.si_base.specs.Graph.{StateGraph, IsGraph, IsMadeOf}
 use Rattle.si_graph.proofs.ArcsInOrder.{arcs_in_order}

@@ -43,50 +43,42 @@ module _ (signals : List Signal) where
     values = λ v. says.values v ∙ agrees v;
   }
 
-  factor : (text : List ℕ) (value : ℕ → Bool) → Says signals Primary text value → Says signals Factor text value
-  factor text value says = record {
+  -- what is said at one level is said at the next, where what spells a tree there spells it here
+  raised : (lower level : Level)
+      → ((symbols : List Symbol) (tree : Tree) → Spells lower symbols tree → Spells level symbols tree)
+      → (text : List ℕ) (value : ℕ → Bool) → Says signals lower text value → Says signals level text value
+  raised lower level next text value says = record {
     tree = says.tree;
     symbols = says.symbols;
-    spells = as_factor says.spells;
+    spells = next says.symbols says.tree says.spells;
     reads = says.reads;
     values = says.values;
   }
+
+  factor : (text : List ℕ) (value : ℕ → Bool) → Says signals Primary text value → Says signals Factor text value
+  factor = raised Primary Factor (λ symbols tree spelt. as_factor spelt)
 
   term : (text : List ℕ) (value : ℕ → Bool) → Says signals Factor text value → Says signals Term text value
-  term text value says = record {
-    tree = says.tree;
-    symbols = says.symbols;
-    spells = as_term says.spells;
-    reads = says.reads;
-    values = says.values;
-  }
+  term = raised Factor Term (λ symbols tree spelt. as_term spelt)
 
   expression : (text : List ℕ) (value : ℕ → Bool) → Says signals Term text value → Says signals Expression text value
-  expression text value says = record {
-    tree = says.tree;
-    symbols = says.symbols;
-    spells = as_expression says.spells;
-    reads = says.reads;
-    values = says.values;
+  expression = raised Term Expression (λ symbols tree spelt. as_expression spelt)
+
+  constant : (b : Bool) (word : List ℕ) → Spells Primary (Word word ∷ []) (Constant b)
+      → ReadsBefore word (Word word ∷ []) → Says signals Primary word (λ v. b)
+  constant b word spelt read = record {
+    tree = Constant b;
+    symbols = Word word ∷ [];
+    spells = spelt;
+    reads = read;
+    values = λ v. refl;
   }
 
   never : Says signals Primary (codes "1'b0") (λ v. false)
-  never = record {
-    tree = Constant false;
-    symbols = Word (codes "1'b0") ∷ [];
-    spells = zero;
-    reads = zero_read;
-    values = λ v. refl;
-  }
+  never = constant false (codes "1'b0") zero zero_read
 
   always : Says signals Primary (codes "1'b1") (λ v. true)
-  always = record {
-    tree = Constant true;
-    symbols = Word (codes "1'b1") ∷ [];
-    spells = one;
-    reads = one_read;
-    values = λ v. refl;
-  }
+  always = constant true (codes "1'b1") one one_read
 
   complement : (text : List ℕ) (value : ℕ → Bool) → Says signals Primary text value
       → Says signals Factor ((126 ∷ []) ++ text) (λ v. not (value v))
