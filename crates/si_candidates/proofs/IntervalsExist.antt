@@ -9,7 +9,8 @@ use Rattle.si_graph.specs.declared.closure.Along.TheVariants.{OutWithout}
 use Rattle.si_graph.specs.Closure.{IsNext}
 use Rattle.si_graph.proofs.SearchLemmas.{in_below}
 use Rattle.si_regions.specs.Searching.{IsReachedIn, IsSeed}
-use Rattle.si_regions.proofs.SetsExist.{same_bit, listed, some_set, some_marks, some_reached}
+use Rattle.si_checks.proofs.SearchDecisions.{same_value}
+use Rattle.si_regions.proofs.SetsExist.{listed, some_set, some_marks, some_reached}
 use Rattle.si_graph.proofs.ClosureLemmas.{reached_on, reached_seed}
 use Rattle.si_candidates.specs.Interval.{IsReachedBefore, IsInterval}
 use Rattle.si_candidates.proofs.IntervalLemmas.{reached_has, walk_of}
@@ -27,7 +28,7 @@ module _ (g : StateGraph) (stop : Event) where
 
     begins : (states : List ℕ) × ((s : ℕ) → (Contains states s → IsIn from s) × (IsIn from s → Contains states s))
     begins =
-        let all = some_set g (IsIn from) (λ s. same_bit (get_or from s false) true) from_within in
+        let all = some_set g (IsIn from) (λ s. same_value (get_or from s false) true) from_within in
         (all.0, λ s. ((all.1.exactly s).0, (all.1.exactly s).1))
 
     reached_before : (seeds : List ℕ) → ((s : ℕ) → Contains seeds s → IsIn from s) → (t : ℕ)

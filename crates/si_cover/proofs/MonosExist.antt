@@ -19,7 +19,9 @@ use Rattle.si_base.proofs.GraphSteps.{beq-refl}
 use Rattle.si_graph.proofs.ListMembers.{Contains-cons_cases, Contains-here, Contains-there, Contains-nil}
 use Rattle.si_cube.specs.Cubes.{Covers, IsLeastAbove}
 use Rattle.si_cube.specs.Literals.{full_literals}
-use Rattle.si_regions.proofs.SetsExist.{Decided, both, same_bit, some_of, listed}
+use Rattle.si_checks.proofs.SearchDecisions as decide
+use Rattle.si_checks.proofs.SearchDecisions.{Decided, both, same_value, some_of}
+use Rattle.si_regions.proofs.SetsExist.{listed}
 use Rattle.si_cover.specs.Growing.{IsGrowing, IsWider, Demands}
 use Rattle.si_cover.specs.Mono.{IsFallingCover, CoversOutside, IsLeastCube, IsLeastMono, InSignalOrder}
 use Rattle.si_cover.specs.Mono.{ShowsNoMono, state_place}
@@ -141,8 +143,8 @@ module _ (c : CodedGraph) (er qr : List ℕ) (first : ℕ) (in_er : Contains er 
 
   demands_or_not : (cube : List Literal) (a : Edge) → Decided (Demands c qr cube a)
   demands_or_not cube a = elim (both (listed qr a.to) (both
-      (same_bit (list_all (literal_value (code c a.to)) cube) true)
-      (same_bit (list_all (literal_value (code c a.from)) cube) false))) [
+      (same_value (list_all (literal_value (code c a.to)) cube) true)
+      (same_value (list_all (literal_value (code c a.from)) cube) false))) [
         | inl is ↦ inl (record { there = is.0; covers = is.1.0; left = λ held. true≢false (sym held ∙ is.1.1) })
         | inr none ↦ inr (λ d. none (d.there, (d.covers, not_true _ d.left)))
       ]
@@ -197,15 +199,11 @@ module _ (c : CodedGraph) (er qr : List ℕ) (first : ℕ) (in_er : Contains er 
 
   -- ---- states that are covered outside
   outside_or_not : (cube : List Literal) (s : ℕ) → s < c.graph.states → Decided (CoversOutside c er qr cube s)
-  outside_or_not cube s within = elim (both (same_bit (list_all (literal_value (code c s)) cube) true)
-      (both (negated (listed er s)) (negated (listed qr s)))) [
+  outside_or_not cube s within = elim (both (same_value (list_all (literal_value (code c s)) cube) true)
+      (both (decide.not (listed er s)) (decide.not (listed qr s)))) [
         | inl is ↦ inl (record { within = within; covers = is.0; not_er = is.1.0; not_qr = is.1.1 })
         | inr none ↦ inr (λ k. none (k.covers, (k.not_er, k.not_qr)))
       ]
-    where
-      negated : {P : Type 0} → Decided P → Decided (P → ⊥)
-      negated (inl is) = inr (λ none. none is)
-      negated (inr none) = inl none
 
   -- none of the first n states is covered outside, or there is a first that does
   first_outside : (cube : List Literal) (n : ℕ) → n ≤ c.graph.states

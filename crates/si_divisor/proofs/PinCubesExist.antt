@@ -8,7 +8,7 @@ use Rattle.si_base.specs.Graph.{rise}
 use Rattle.si_base.specs.Codes.{CodedGraph, IsCoded}
 use Rattle.si_regions.specs.declared.regions.Region.{Region}
 use Rattle.si_regions.specs.Regions.{IsRegion}
-use Rattle.si_regions.proofs.SetsExist.{both}
+use Rattle.si_checks.proofs.SearchDecisions.{both}
 use Rattle.si_regions.proofs.RegionsExist.{some_regions}
 use Rattle.si_cover.proofs.MonosExist.{least_or_none}
 use Rattle.si_divisor.specs.PinTests.{AreCubesFor, AreCubesOf}

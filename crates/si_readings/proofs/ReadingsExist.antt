@@ -1,5 +1,5 @@
 -- Each stage has a result.
-use Rattle.std.proofs.Common.{◌≡◌, ℕ, zero, suc, ◌+◌, ◌<◌, ◌⊎◌, Bool, true, false, List, [], ◌∷◌, length, Ok, Err}
+use Rattle.std.proofs.Common.{◌≡◌, ℕ, zero, suc, ◌+◌, ◌<◌, ◌⊎◌, true, false, List, [], ◌∷◌, length, Ok, Err}
 use Rattle.std.proofs.Common.{Option, Some, None, slice_get, bytes_eq, refl, sym, ap, ap₂, subst, ◌∙◌, arith}
 use Rattle.std.proofs.Common.{inl, inr}
 use Rattle.std.proofs.lemmas.Bool.{cases_Bool, cases_eq, cases_lt, cases_order, true≢false}
@@ -15,6 +15,7 @@ use Rattle.si_base.specs.Graph.{kind_place}
 use Rattle.si_base.specs.Netlist.{Netlist}
 use Rattle.si_base.specs.System.{IsFor, start}
 use Rattle.si_checks.proofs.BreachesDecided.{proper_or_breach}
+use Rattle.si_checks.proofs.SearchDecisions.{Decided, same_value}
 use Rattle.si_checks.proofs.ByCodesExist.{some_codes}
 use Rattle.si_checks.specs.Laws.{ProperOrBreach, AllHold, HasSplit, HasNoValues, HasFork, HasLoss}
 use Rattle.si_sg.proofs.GivenExists.{some_given}
@@ -29,10 +30,6 @@ use Rattle.si_refusals.specs.Refusal.{BadText, ListsDiffer, Improper}
 use Rattle.si_readings.proofs.CheckNames.{given_named_states}
 
 -- ---- the netlist is for the graph, or there is a first place at which it isn't
-
--- it holds, or it doesn't
-abbrev Decided : Type 0 → Type 0
-Decided P = P ⊎ (P → ⊥)
 
 kind_at : ℕ → SigKind
 kind_at zero = Input
@@ -73,18 +70,12 @@ same_places (Some x) (Some y) = elim (same_signals x y) [
   | inr other ↦ inr (λ same. other cc)
 ]
 
-same_values : (b c : Bool) → Decided (b ≡ c)
-same_values true true = inl refl
-same_values true false = inr true≢false
-same_values false true = inr (λ same. true≢false (sym same))
-same_values false false = inl refl
-
 same_at : (coded : CodedGraph) (net : Netlist) (k : ℕ) → Decided (IsSameAt coded net k)
 same_at coded net k = elim (same_places (slice_get (given net) k) (slice_get coded.graph.signals k)) [
   | inr other ↦ inr (λ same. other same.signal)
   | inl signal ↦ elim (cases_lt k (length coded.graph.signals)) [
     | inr beyond ↦ inl (record { signal = signal; value = λ within. absurd (omega (arith, beyond, within)) })
-    | inl within ↦ elim (same_values (bit net.start k) (bit (code coded coded.graph.start) k)) [
+    | inl within ↦ elim (same_value (bit net.start k) (bit (code coded coded.graph.start) k)) [
       | inl value ↦ inl (record { signal = signal; value = λ inside. value })
       | inr other ↦ inr (λ same. other (same.value within))
     ]

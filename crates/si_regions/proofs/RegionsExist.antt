@@ -1,51 +1,39 @@
 -- Each coded graph has a list of regions.
 use Rattle.std.proofs.Common.{◌≡◌, ℕ, zero, suc, ◌+◌, ◌*◌, ◌<◌, Bool, true, false, List, [], ◌∷◌, ◌++◌, length, get_or}
-use Rattle.std.proofs.Common.{Contains, IsTrue, refl, sym, ap, subst, ◌∙◌, arith, inl, inr}
-use Rattle.std.proofs.lemmas.Bool.{cases_Bool, cases_eq, cases_lt, true≢false}
+use Rattle.std.proofs.Common.{Contains, IsTrue, refl, sym, subst, ◌∙◌, arith, inl, inr}
+use Rattle.std.proofs.lemmas.Bool.{cases_Bool, cases_eq, true≢false}
 use Rattle.si_base.specs.declared.ids.Event.{Event}
 use Rattle.si_base.specs.declared.graph.Edge.{Edge}
 use Rattle.si_base.specs.Bits.{bit}
-use Rattle.si_base.specs.Graph.{arc, rise, fall, enables, event_place, same_event}
+use Rattle.si_base.specs.Graph.{arc, rise, fall, enables, event_place}
 use Rattle.si_base.specs.Codes.{CodedGraph, IsCoded, code}
 use Rattle.si_base.proofs.StepCodes.{step_within}
-use Rattle.si_base.proofs.GraphSteps.{same_event-true, same_event-refl}
 use Rattle.si_graph.specs.declared.closure.Along.TheVariants.{Out, Both}
 use Rattle.si_graph.specs.Reach.{IsIn}
 use Rattle.si_regions.specs.declared.regions.Region.{Region}
 use Rattle.si_regions.specs.Connected.{IsComponent}
 use Rattle.si_regions.specs.Regions.{Enables, IsSetOf, IsEntered, IsQuiet, IsRegion, AreRegions, opposite}
 use Rattle.si_regions.specs.Searching.{AreMarksOf, RegionsTo}
-use Rattle.si_regions.proofs.SetsExist.{Decided, both, same_bit, some_of, listed, some_set, some_marks, some_reached}
+use Rattle.si_checks.proofs.SearchDecisions.{Decided, both, same_value, some_of, equal_events, less}
+use Rattle.si_regions.proofs.SetsExist.{listed, some_set, some_marks, some_reached}
 use Rattle.si_regions.proofs.ComponentLemmas.{is_component, is_rest, er_has, entered_within}
 use Rattle.si_regions.proofs.RegionLemmas.{AreDone, regions_none, regions_pass, regions_more, regions_event}
 use Rattle.si_regions.proofs.RegionLemmas.{regions_all, enables_within, place_below}
 
-same_events : (e f : Event) → Decided (e ≡ f)
-same_events e f = elim (cases_Bool (same_event e f)) [
-  | inl same ↦ inl (same_event-true e f same)
-  | inr other ↦ inr (λ same. true≢false (sym (same_event-refl e) ∙ ap (same_event e) same ∙ other))
-]
-
 -- ---- the region of a state
 module _ (c : CodedGraph) (coded : IsCoded c) (e : Event) where
   enabling : (marks : List Bool) × AreMarksOf c.graph (Enables c.graph e) marks
-  enabling = some_marks c.graph (Enables c.graph e) (λ s. same_bit (enables c.graph s e) true)
+  enabling = some_marks c.graph (Enables c.graph e) (λ s. same_value (enables c.graph s e) true)
       (λ s on. enables_within c.graph s e coded.graph_is on)
 
   quiet : (s : ℕ) → Decided (IsQuiet c e s)
-  quiet s = elim (both (same_bit (bit (code c s) e.sig) e.up) (same_bit (enables c.graph s (opposite e)) false)) [
+  quiet s = elim (both (same_value (bit (code c s) e.sig) e.up) (same_value (enables c.graph s (opposite e)) false)) [
     | inl is ↦ inl (record { value = is.0; stays = is.1 })
     | inr none ↦ inr (λ is. none (is.value, is.stays))
   ]
 
-  below : (s : ℕ) → Decided (s < c.graph.states)
-  below s = elim (cases_lt s c.graph.states) [
-    | inl less ↦ inl less
-    | inr more ↦ inr (λ less. absurd (omega arith))
-  ]
-
   resting : (marks : List Bool) × AreMarksOf c.graph (λ s. (s < c.graph.states) × IsQuiet c e s) marks
-  resting = some_marks c.graph (λ s. (s < c.graph.states) × IsQuiet c e s) (λ s. both (below s) (quiet s))
+  resting = some_marks c.graph (λ s. (s < c.graph.states) × IsQuiet c e s) (λ s. both (less s c.graph.states) (quiet s))
       (λ s is. is.0)
 
   -- an arc by e from the set to t
@@ -54,7 +42,7 @@ module _ (c : CodedGraph) (coded : IsCoded c) (e : Event) where
 
   entered_or_not : (from : List ℕ) (t : ℕ) → Decided (IsEntered c.graph from e t)
   entered_or_not from t = elim (some_of (Enters from t)
-      (λ a. both (listed from a.from) (both (same_events a.event e) (cases_eq a.to t))) c.graph.edges) [
+      (λ a. both (listed from a.from) (both (equal_events a.event e) (cases_eq a.to t))) c.graph.edges) [
         | inl (a, there, is) ↦ inl (
           a.from,
           is.0,
@@ -110,7 +98,7 @@ module _ (c : CodedGraph) (coded : IsCoded c) where
 
   done_or_not : (e : Event) (regions : List Region) (t : ℕ) → Decided (Done e regions t)
   done_or_not e regions t = elim (some_of (λ (r : Region). (r.event ≡ e) × Contains r.er t)
-      (λ r. both (same_events r.event e) (listed r.er t)) regions) [
+      (λ r. both (equal_events r.event e) (listed r.er t)) regions) [
         | inl (r, there, is) ↦ inl (r, there, is.0, is.1)
         | inr none ↦ inr (λ (r, there, by, has). none (r, there, (by, has)))
       ]

@@ -1,6 +1,6 @@
 -- A set of states that can be decided has a list and marks, and so has what is reached in it along arcs.
-use Rattle.std.proofs.Common.{◌≡◌, ◌≢◌, ℕ, zero, suc, ◌+◌, ◌<◌, ◌⊎◌, ◌↔◌, ◌∙◌, Bool, true, false, not, cond, List, []}
-use Rattle.std.proofs.Common.{◌∷◌, ◌++◌, map, filter, length, get_or, set, Contains, refl, sym, ap, subst, arith, inl}
+use Rattle.std.proofs.Common.{◌≡◌, ◌≢◌, ℕ, zero, suc, ◌+◌, ◌<◌, ◌↔◌, ◌∙◌, Bool, true, false, not, cond, List}
+use Rattle.std.proofs.Common.{◌++◌, map, filter, length, get_or, set, Contains, refl, sym, ap, subst, arith, inl}
 use Rattle.std.proofs.Common.{inr, length-set, nat_cmp}
 use Rattle.std.specs.List.{range_with_len}
 use Rattle.std.specs.List.Sorted.{IsStrictlySortedBy}
@@ -20,42 +20,13 @@ use Rattle.si_graph.specs.declared.closure.Along.TheVariants.{Out, OutWithout, I
 use Rattle.si_graph.specs.Closure.{IsBeside, IsNext, Leads}
 use Rattle.si_graph.specs.Reach.{IsIn, unmarked}
 use Rattle.si_graph.proofs.SearchLemmas.{stays_in, in_cases, in_below}
-use Rattle.si_graph.proofs.ListMembers.{Contains-cons_cases, Contains-here, Contains-there, Contains-nil, Contains-map}
+use Rattle.si_graph.proofs.ListMembers.{Contains-nil, Contains-map}
 use Rattle.si_graph.proofs.ListMembers.{Contains-from_map, Contains-filter, Contains-from_filter}
+use Rattle.si_checks.proofs.SearchDecisions.{Decided, both, same_value, some_of}
 use Rattle.si_regions.specs.Regions.{IsSetOf}
 use Rattle.si_regions.specs.Searching.{AreMarksOf, IsReachedIn, IsSeed}
 use Rattle.si_graph.proofs.ClosureLemmas.{reached_on, reached_seed}
 use Rattle.si_regions.proofs.SearchLemmas.{search_finds}
-
--- ---- decisions
--- P holds or it doesn't
-abbrev pub Decided : Type 0 → Type 0
-Decided P = P ⊎ (P → ⊥)
-
-pub both : {P Q : Type 0} → Decided P → Decided Q → Decided (P × Q)
-both (inl p) (inl q) = inl (p, q)
-both (inl p) (inr not_q) = inr (λ pair. not_q pair.1)
-both (inr not_p) q = inr (λ pair. not_p pair.0)
-
-pub same_bit : (a b : Bool) → Decided (a ≡ b)
-same_bit true true = inl refl
-same_bit true false = inr (λ same. true≢false same)
-same_bit false true = inr (λ same. true≢false (sym same))
-same_bit false false = inl refl
-
-pub some_of : {A : Type 0} (R : A → Type 0) → ((x : A) → Decided (R x)) → (xs : List A)
-    → Decided ((x : A) × Contains xs x × R x)
-some_of R decided [] = inr (λ (x, there, is). Contains-nil x there)
-some_of R decided (x ∷ xs) = elim (decided x) [
-  | inl is ↦ inl (x, Contains-here x xs, is)
-  | inr is_not ↦ elim (some_of R decided xs) [
-    | inl found ↦ inl (found.0, Contains-there x xs found.0 found.1, found.2)
-    | inr none ↦ inr (λ (y, there, is). elim (Contains-cons_cases x xs y there) [
-      | inl same ↦ is_not (subst R (sym same) is)
-      | inr later ↦ none (y, later, is)
-    ])
-  ]
-]
 
 pub listed : (xs : List ℕ) (s : ℕ) → Decided (Contains xs s)
 listed xs s = elim (some_of (λ x. x ≡ s) (λ x. cases_eq x s) xs) [
@@ -223,8 +194,8 @@ abbrev Leaves : List Bool → List Bool → ℕ × ℕ → Type 0
 Leaves within marks p = IsIn marks p.0 × (IsIn within p.1 × (get_or marks p.1 false ≡ false))
 
 leaves : (within marks : List Bool) (p : ℕ × ℕ) → Decided (Leaves within marks p)
-leaves within marks p = both (same_bit (get_or marks p.0 false) true)
-    (both (same_bit (get_or within p.1 false) true) (same_bit (get_or marks p.1 false) false))
+leaves within marks p = both (same_value (get_or marks p.0 false) true)
+    (both (same_value (get_or within p.1 false) true) (same_value (get_or marks p.1 false) false))
 
 module _ (g : StateGraph) (along : Along) (within : List Bool) (seeds : List ℕ)
     (states : length within ≡ g.states) where
@@ -266,7 +237,7 @@ module _ (g : StateGraph) (along : Along) (within : List Bool) (seeds : List ℕ
       → (states : List ℕ) × IsSetOf (IsReachedIn g along within seeds) states
   unfolding pairs
   all_reached marks are none =
-      let marked = some_set g (IsIn marks) (λ s. same_bit (get_or marks s false) true)
+      let marked = some_set g (IsIn marks) (λ s. same_value (get_or marks s false) true)
       (λ s is. omega (arith, in_below marks s is, are.size)) in (
         marked.0,
         search_finds g along within seeds marks marked.0 marked.0
@@ -300,7 +271,7 @@ module _ (g : StateGraph) (along : Along) (within : List Bool) (seeds : List ℕ
   ]
 
   seed_or_not : (s : ℕ) → Decided (IsSeed within seeds s)
-  seed_or_not s = both (listed seeds s) (same_bit (get_or within s false) true)
+  seed_or_not s = both (listed seeds s) (same_value (get_or within s false) true)
 
   pub some_reached : (states : List ℕ) × IsSetOf (IsReachedIn g along within seeds) states
   some_reached =
