@@ -9,9 +9,11 @@ use Rattle.si_base.specs.Netlist.{Netlist}
 use Rattle.si_base.specs.NetlistText.{Version2, netlist_text}
 use Rattle.si_base.specs.System.{IsFor}
 use Rattle.si_base.specs.WellFormed.{IsNetlist}
+use Rattle.si_cell.specs.Library.{Library}
 use Rattle.si_circuit.specs.Cells.{cell_gate}
 use Rattle.si_circuit.specs.Gates.{gate_of}
 use Rattle.si_circuit.specs.Spelling.{insertions_of}
+use Rattle.si_circuit.specs.declared.style.Style.{Style}
 use Rattle.si_insert.specs.Lineage.{History, IsLineage, given_history}
 use Rattle.si_inserted.specs.Current.{current_sg}
 use Rattle.si_netlist_reader.specs.NetlistFault.{netlist_fault}
@@ -26,6 +28,9 @@ use Rattle.si_stages.specs.InsertedLaws.{MappedAreInserted, SynthesisedAreInsert
 use Rattle.si_stages.specs.AuditLaws.{MappedPass, PassesAudit, SynthesisedPass}
 use Rattle.si_stages.specs.Audited.{IsCertified, audit_text}
 use Rattle.si_readings.specs.Checks.{IsSound}
+use Rattle.si_stages.specs.Mapping.{IsMapping}
+use Rattle.si_stages.specs.Resolving.{resolution}
+use Rattle.si_stages.specs.Synthesis.{IsSynthesis}
 use Rattle.si_stages.specs.Written.{IsWritten}
 use Rattle.si_stages.proofs.AuditLemmas.{certified_output}
 use Rattle.si_stages.proofs.GivenLineages.{given_lineage}
@@ -40,23 +45,34 @@ pub reads_back : (n : Netlist) → IsNetlist n
 unfolding netlist_text
 reads_back n is = (let read = written_reads Version2 n is is.few in (read.1, read.2))
 
--- a lineage of the given graph certifies the netlist that is written over it, with its insertions
-module _ (text output : List ℕ) (sg : Sg) (l : History) (is : IsGivenBy text sg) (sound : IsSound sg.graph l.given)
-    (line : IsLineage l.given l.trace l.current) (w : IsWritten sg l output)
-    (inserts : w.netlist.inserts ≡ insertions_of sg.states l) where
+-- the output was written for the graph that the text gives, over the lineage, with its insertions
+record IsWrittenOver (text output : List ℕ) (sg : Sg) (l : History) : Type 0 where
+  is_given : IsGivenBy text sg
+  sound : IsSound sg.graph l.given
+  line : IsLineage l.given l.trace l.current
+  written : IsWritten sg l output
+  inserts : written.netlist.inserts ≡ insertions_of sg.states l
+
+-- a lineage of the given graph certifies the netlist that is written over it
+module _ (text output : List ℕ) (sg : Sg) (l : History) (over : IsWrittenOver text output sg l) where
+  abbrev w : IsWritten sg l output
+  w = over.written
+
   read : netlist_of output ≡ w.netlist
   read = ap netlist_of w.text_is ∙ (reads_back w.netlist w.is_netlist).1
+
+  certifies : Certifies sg.states l.given w.netlist l
+  certifies = built_are_certified sg.states l w.netlist over.line w.circuit.built over.inserts
 
   is_certified : IsCertified text output (audit_text l w.netlist)
   is_certified =
       let back : w.netlist ≡ netlist_of output = sym read in
-      let certifies = built_are_certified sg.states l w.netlist line w.circuit.built inserts in
       record {
         given = sg;
-        is_given = is;
+        is_given = over.is_given;
         no_fault = ap netlist_fault w.text_is ∙ (reads_back w.netlist w.is_netlist).0;
         coded = l.given;
-        sound = sound;
+        sound = over.sound;
         is_for = subst (λ (n : Netlist). IsFor l.given n) back w.is_for;
         lineage = l;
         certifies = subst (λ (n : Netlist). Certifies sg.states l.given n l) back certifies;
@@ -69,59 +85,74 @@ module _ (text output : List ℕ) (sg : Sg) (l : History) (is : IsGivenBy text s
   inserts_again g n =
       let circuit : Netlist = netlist_of output in
       let back : w.netlist ≡ circuit = sym read in
-      let certifies = built_are_certified sg.states l w.netlist line w.circuit.built inserts in
       let fits = subst (λ (m : Netlist). IsFor l.given m) back w.is_for in
       let all = subst (λ (m : Netlist). TakesAll sg.states (given_history l.given) m.inserts l) back certifies.taken in
       let readings : AuditReadings = record { given = sg; netlist = circuit } in
-      let reads = Passes sg is (Passes circuit (is_certified.no_fault, refl) refl) in
-      Passes readings reads (Passes l.given sound (Passes tt fits (Passes l all refl)))
+      let reads = Passes sg over.is_given (Passes circuit (is_certified.no_fault, refl) refl) in
+      Passes readings reads (Passes l.given over.sound (Passes tt fits (Passes l all refl)))
 
   written_passes : PassesAudit text output
   written_passes =
       (audit_text l w.netlist, λ g n. certified_output g text n output (audit_text l w.netlist) is_certified)
 
+-- ---- what is synthesised, and what a graph is mapped to
+
+over_synthesis : (style : Style) (text output : List ℕ) (sg : Sg) (l : History) → IsGivenBy text sg
+    → resolution sg.graph sg.states (Ok l) → IsSynthesis style sg l output → IsWrittenOver text output sg l
+over_synthesis style text output sg l given resolved s =
+    let is = resolution_is sg.graph sg.states l resolved in
+    record {
+      is_given = given;
+      sound = is.sound;
+      line = (given_lineage text sg l given is).line;
+      written = s.written;
+      inserts = ap (λ (n : Netlist). n.inserts) s.gates_are
+          ∙ has_insertions (gate_of style l.current.coded) sg l;
+    }
+
+over_mapping : (library : Library) (text output : List ℕ) (sg : Sg) (l : History) → IsGivenBy text sg
+    → resolution sg.graph sg.states (Ok l) → (s : IsMapping library sg l output)
+    → IsWrittenOver text output sg s.lineage
+over_mapping library text output sg l given resolved s =
+    let is = resolution_is sg.graph sg.states l resolved in
+    let m = s.lineage in
+    let first = given_lineage text sg l given is in
+    record {
+      is_given = given;
+      sound = subst (λ (c : CodedGraph). IsSound sg.graph c) (sym s.maps.goes.given_stays) is.sound;
+      line = (mapped_lineage library sg l m s.maps.trace first s.maps.goes s.maps.maps.goes).line;
+      written = s.written;
+      inserts = ap (λ (n : Netlist). n.inserts) s.gates_are
+          ∙ has_insertions (cell_gate m.current.coded library) sg m;
+    }
+
+-- ---- both pass
 pub synthesised_pass : SynthesisedPass
 synthesised_pass style file text output made =
     let given = passed _ _ output made in
     let resolved = passed _ _ output given.2 in
-    let sg = given.0 in
-    let l = resolved.0 in
-    let is = resolution_is sg.graph sg.states l resolved.1 in
-    let line = given_lineage text sg l given.1 is in
-    let s = resolved.2 in
-    let inserts = ap (λ (n : Netlist). n.inserts) s.gates_are ∙ has_insertions (gate_of style l.current.coded) sg l in
-    written_passes text output sg l given.1 is.sound line.line s.written inserts
+    written_passes text output given.0 resolved.0
+    (over_synthesis style text output given.0 resolved.0 given.1 resolved.1 resolved.2)
 
 pub mapped_pass : MappedPass
 mapped_pass format file text library cells output made =
     let read = passed _ _ output made in
     let given = (mapping_readings_are format file text library cells read.0 read.1).given in
     let resolved = passed _ _ output read.2 in
-    let sg = read.0.given in
-    let is = resolution_is sg.graph sg.states resolved.0 resolved.1 in
-    let first = given_lineage text sg resolved.0 given is in
-    let s = resolved.2 in
-    let l = s.lineage in
-    let line = mapped_lineage read.0.library sg resolved.0 l s.maps.trace first s.maps.goes s.maps.maps.goes in
-    let sound = subst (λ (c : CodedGraph). IsSound sg.graph c) (sym s.maps.goes.given_stays) is.sound in
-    let inserts = ap (λ (n : Netlist). n.inserts) s.gates_are
-    ∙ has_insertions (cell_gate l.current.coded read.0.library) sg l in
-    written_passes text output sg l given sound line.line s.written inserts
+    written_passes text output read.0.given resolved.2.lineage
+    (over_mapping read.0.library text output read.0.given resolved.0 given resolved.1 resolved.2)
 
--- ---- and its insertions can be taken
+-- ---- and their insertions can be taken
 pub synthesised_inserted : SynthesisedAreInserted
 synthesised_inserted style file text output made =
     let given = passed _ _ output made in
     let resolved = passed _ _ output given.2 in
     let sg = given.0 in
     let l = resolved.0 in
-    let is = resolution_is sg.graph sg.states l resolved.1 in
-    let line = given_lineage text sg l given.1 is in
-    let s = resolved.2 in
-    let inserts = ap (λ (n : Netlist). n.inserts) s.gates_are ∙ has_insertions (gate_of style l.current.coded) sg l in (
+    let over = over_synthesis style text output sg l given.1 resolved.1 resolved.2 in (
       sg_text (current_sg sg.model sg.states l),
       Passes sg given.1 (Passes l resolved.1 refl),
-      inserts_again text output sg l given.1 is.sound line.line s.written inserts,
+      inserts_again text output sg l over,
     )
 
 pub mapped_inserted : MappedAreInserted
@@ -130,14 +161,8 @@ mapped_inserted format file text library cells output made =
     let given = (mapping_readings_are format file text library cells read.0 read.1).given in
     let resolved = passed _ _ output read.2 in
     let sg = read.0.given in
-    let is = resolution_is sg.graph sg.states resolved.0 resolved.1 in
-    let first = given_lineage text sg resolved.0 given is in
-    let s = resolved.2 in
-    let l = s.lineage in
-    let line = mapped_lineage read.0.library sg resolved.0 l s.maps.trace first s.maps.goes s.maps.maps.goes in
-    let sound = subst (λ (c : CodedGraph). IsSound sg.graph c) (sym s.maps.goes.given_stays) is.sound in
-    let inserts = ap (λ (n : Netlist). n.inserts) s.gates_are
-    ∙ has_insertions (cell_gate l.current.coded read.0.library) sg l in (
-      sg_text (current_sg sg.model sg.states l),
-      inserts_again text output sg l given sound line.line s.written inserts,
+    let m = resolved.2.lineage in
+    let over = over_mapping read.0.library text output sg resolved.0 given resolved.1 resolved.2 in (
+      sg_text (current_sg sg.model sg.states m),
+      inserts_again text output sg m over,
     )

@@ -1,6 +1,5 @@
 -- A text of genlib comes to one answer: its library, or its first fault; and mapping to it is mapping to that library.
-use Rattle.std.proofs.Common.{◌≡◌, ℕ, List, None, Ok, Err, refl, sym, ap, subst, ◌∙◌}
-use Rattle.si_cell.specs.Library.{Library}
+use Rattle.std.proofs.Common.{◌≡◌, ℕ, List, None, Ok, refl, sym, ap, ◌∙◌}
 use Rattle.si_cell.specs.LibraryText.{library_fault, library_of}
 use Rattle.si_genlib.specs.GenlibText.{genlib_fault}
 use Rattle.si_genlib.specs.GenlibText as gates
@@ -8,20 +7,20 @@ use Rattle.si_genlib.specs.Written.{library_text}
 use Rattle.si_genlib.proofs.LibraryLemmas.{is_library}
 use Rattle.si_genlib.proofs.WrittenLaw.{text_reads_back}
 use Rattle.si_refusals.specs.Refusal.{TextRefusal}
-use Rattle.si_refusals.specs.Stages.{Stage, Then, Refuses, Passes, gives}
+use Rattle.si_refusals.specs.Stages.{Stage, Then, Refuses, Passes}
 use Rattle.si_stages.specs.Genlib.{IsItsLibrary, genlib}
 use Rattle.si_readings.specs.Laws.{AtMostOne, HasResult}
 use Rattle.si_stages.specs.Meaning.{mapping}
-use Rattle.si_readings.specs.Readings.{MappingReadings, TellsFault, library_in, mapping_readings}
+use Rattle.si_readings.specs.Readings.{MappingReadings, mapping_readings}
 use Rattle.si_readings.specs.declared.library_format.LibraryFormat.TheVariants.{Own, Genlib}
 use Rattle.si_readings.proofs.ReadingLemmas.{mapping_readings_are}
-use Rattle.si_readings.proofs.StageLemmas.{then_one, then_some, spelled_one, spelled_some, gives_one, gives_some}
+use Rattle.si_stages.proofs.SpelledOutputs.{one_answer, some_answer, output_is_written, written_is_output}
 
 pub genlib_one : (file text : List ℕ) → AtMostOne (genlib file text)
-genlib_one file text = then_one _ _ (spelled_one file _ _) (λ cells spelt. gives_one (library_text cells))
+genlib_one file text = one_answer file (genlib_fault text) (gates.library_of text) library_text
 
 pub genlib_some : (file text : List ℕ) → HasResult (genlib file text)
-genlib_some file text = then_some _ _ (spelled_some file _ _) (λ cells spelt. gives_some (library_text cells))
+genlib_some file text = some_answer file (genlib_fault text) (gates.library_of text) library_text
 
 -- ---- an output is the library that the text spells
 
@@ -36,38 +35,14 @@ is_its_library text output sound is =
       back = ap library_of is ∙ back.1;
     }
 
-by_stages : (file text output : List ℕ)
-    → Then TextRefusal Library (List ℕ) (library_in Genlib file text) (λ l. gives (library_text l)) (Ok output)
-    → IsItsLibrary text output
-by_stages file text output (Refuses refusal is other) = cc
-by_stages file text output (Passes l spelt given) =
-    let same : output ≡ library_text l = cc in
-    is_its_library text output spelt.0 (same ∙ ap library_text spelt.1)
-
 pub output_is_library : (file text output : List ℕ) → genlib file text (Ok output) → IsItsLibrary text output
-output_is_library file text output is = by_stages file text output is
+output_is_library file text output is =
+    let are = output_is_written file (genlib_fault text) (gates.library_of text) library_text output is in
+    is_its_library text output are.0 are.1
 
 pub library_is_output : (file text output : List ℕ) → IsItsLibrary text output → genlib file text (Ok output)
 library_is_output file text output is =
-    Passes (gates.library_of text) (is.sound, refl) (ap (λ (t : List ℕ). Ok t) is.output_is)
-
--- ---- a refusal is the first fault
-
-refused_by_stages : (file text : List ℕ) (refusal : TextRefusal)
-    → Then TextRefusal Library (List ℕ) (library_in Genlib file text) (λ l. gives (library_text l)) (Err refusal)
-    → TellsFault file (genlib_fault text) refusal
-refused_by_stages file text refusal (Refuses other tells same) =
-    let is : other ≡ refusal = cc in
-    subst (TellsFault file (genlib_fault text)) is tells
-refused_by_stages file text refusal (Passes l spelt given) = cc
-
-pub refusal_is_fault : (file text : List ℕ) (refusal : TextRefusal) → genlib file text (Err refusal)
-    → TellsFault file (genlib_fault text) refusal
-refusal_is_fault file text refusal is = refused_by_stages file text refusal is
-
-pub fault_is_refusal : (file text : List ℕ) (refusal : TextRefusal) → TellsFault file (genlib_fault text) refusal
-    → genlib file text (Err refusal)
-fault_is_refusal file text refusal tells = Refuses refusal tells refl
+    written_is_output file (genlib_fault text) (gates.library_of text) library_text output is.sound is.output_is
 
 -- ---- one library, read in either format
 

@@ -1,5 +1,5 @@
 -- The text of a graph after insertions: it comes to one answer, is read back, and gives the same gates.
-use Rattle.std.proofs.Common.{◌≡◌, ◌≢◌, ℕ, List, [], Ok, Err, refl, sym, ap, subst, ◌∙◌, inl, inr}
+use Rattle.std.proofs.Common.{◌≡◌, ◌≢◌, ℕ, List, Ok, Err, refl, sym, ap, subst, ◌∙◌, inl, inr}
 use Rattle.si_audit.proofs.AuditExists.{certified_or_faulty}
 use Rattle.si_audit.proofs.OneCertificate.{one_lineage, rejected_not_taken, two_rejected}
 use Rattle.si_audit.proofs.InsertionFaults.{is_rejected, rejected_or_taken, rejection_shows}
@@ -26,7 +26,6 @@ use Rattle.si_inserted.proofs.CurrentTexts.{texts_read_back}
 use Rattle.si_inserted.proofs.InternalGraphGates.{same_netlist}
 use Rattle.si_inserted.proofs.InternalGraphLemmas.{internal_is_coded, internal_is_distinct, internal_is_proper}
 use Rattle.si_inserted.specs.Current.{current_sg, internal_coded, internal_graph, internal_netlist}
-use Rattle.si_inserted.specs.Laws.{CanBeGiven}
 use Rattle.si_netlist_reader.specs.NetlistValue.{netlist_of}
 use Rattle.si_readings.proofs.CheckLemmas.{graph_one, match_lists_one, proper_one}
 use Rattle.si_readings.proofs.ReadingLemmas.{audit_readings_are, audit_readings_one, audit_readings_some}
@@ -51,9 +50,8 @@ use Rattle.si_stages.proofs.ResolutionLemmas.{resolution_one, resolution_some}
 use Rattle.si_stages.proofs.SynthesisLemmas.{is_synthesis}
 use Rattle.si_stages.specs.Audited.{IsNamedSo, TellsRejection}
 use Rattle.si_stages.specs.Inserted.{IsInsertRejection, insert, resolve, lineage_with_insertions}
-use Rattle.si_stages.specs.InsertedLaws.{HasFewArcs, IsResolvedText, ResolvedAreSynthesised, ResolvedTextsServe}
+use Rattle.si_stages.specs.InsertedLaws.{HasFewArcs, ResolvedAreSynthesised, ResolvedTextsServe}
 use Rattle.si_stages.specs.Meaning.{synth}
-use Rattle.si_stages.specs.Resolving.{resolution}
 
 -- ---- one answer
 pub resolve_one : (file text : List ℕ) → AtMostOne (resolve file text)

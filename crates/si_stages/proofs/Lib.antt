@@ -16,6 +16,7 @@ pub mod FoldLaws
 pub mod AuditLaws
 pub mod WaveLaws
 pub mod ExerciseLemmas
+pub mod SpelledOutputs
 pub mod VerilogLemmas
 pub mod GenlibLemmas
 pub mod VerilogExamples

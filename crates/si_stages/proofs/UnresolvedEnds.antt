@@ -1,5 +1,5 @@
 -- Commands over a graph with a conflict that input events join end unresolved.
-use Rattle.std.proofs.Common.{◌≡◌, ℕ, List, [], refl, sym, subst}
+use Rattle.std.proofs.Common.{ℕ, List, [], refl, sym, subst}
 use Rattle.si_base.specs.Codes.{CodedGraph}
 use Rattle.si_base.specs.GivenGraph.{Sg}
 use Rattle.si_base.specs.Graph.{StateGraph}

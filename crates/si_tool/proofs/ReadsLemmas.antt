@@ -11,20 +11,20 @@ use Rattle.si_tool.specs.Reads.{names_now, texts_now}
 abbrev pub no_name : Bor (List ℕ)
 no_name = record { ref_ptr = (0, 0); now = [] }
 
-pub one_name : (files : List (Bor (List ℕ))) → length files ≡ 1
+one_name : (files : List (Bor (List ℕ))) → length files ≡ 1
     → names_now files ≡ (get_or files 0 no_name).now ∷ []
 one_name [] many = absurd (omega (arith, many))
 one_name (a ∷ []) many = cc
 one_name (a ∷ b ∷ files) many = absurd (omega (arith, many))
 
-pub two_names : (files : List (Bor (List ℕ))) → length files ≡ 2
+two_names : (files : List (Bor (List ℕ))) → length files ≡ 2
     → names_now files ≡ (get_or files 0 no_name).now ∷ (get_or files 1 no_name).now ∷ []
 two_names [] many = absurd (omega (arith, many))
 two_names (a ∷ []) many = absurd (omega (arith, many))
 two_names (a ∷ b ∷ []) many = cc
 two_names (a ∷ b ∷ c ∷ files) many = absurd (omega (arith, many))
 
-pub three_names : (files : List (Bor (List ℕ))) → length files ≡ 3
+three_names : (files : List (Bor (List ℕ))) → length files ≡ 3
     → names_now files
     ≡ (get_or files 0 no_name).now ∷ (get_or files 1 no_name).now ∷ (get_or files 2 no_name).now ∷ []
 three_names [] many = absurd (omega (arith, many))
@@ -33,20 +33,20 @@ three_names (a ∷ b ∷ []) many = absurd (omega (arith, many))
 three_names (a ∷ b ∷ c ∷ []) many = cc
 three_names (a ∷ b ∷ c ∷ d ∷ files) many = absurd (omega (arith, many))
 
-pub one_text : (texts : List (Vec ℕ Global)) (a : Vec ℕ Global) (x : List ℕ) → length texts ≡ 1
+one_text : (texts : List (Vec ℕ Global)) (a : Vec ℕ Global) (x : List ℕ) → length texts ≡ 1
     → a ≡ get_or texts 0 a → x ≡ a.items → texts_now texts ≡ x ∷ []
 one_text [] a x many is same = absurd (omega (arith, many))
 one_text (t ∷ []) a x many is same = cc
 one_text (t ∷ u ∷ texts) a x many is same = absurd (omega (arith, many))
 
-pub two_texts : (texts : List (Vec ℕ Global)) (a b : Vec ℕ Global) (x y : List ℕ) → length texts ≡ 2
+two_texts : (texts : List (Vec ℕ Global)) (a b : Vec ℕ Global) (x y : List ℕ) → length texts ≡ 2
     → a ≡ get_or texts 0 a → b ≡ get_or texts 1 b → x ≡ a.items → y ≡ b.items → texts_now texts ≡ x ∷ y ∷ []
 two_texts [] a b x y many is at same also = absurd (omega (arith, many))
 two_texts (t ∷ []) a b x y many is at same also = absurd (omega (arith, many))
 two_texts (t ∷ u ∷ []) a b x y many is at same also = cc
 two_texts (t ∷ u ∷ v ∷ texts) a b x y many is at same also = absurd (omega (arith, many))
 
-pub three_texts : (texts : List (Vec ℕ Global)) (a b c : Vec ℕ Global) (x y z : List ℕ) → length texts ≡ 3
+three_texts : (texts : List (Vec ℕ Global)) (a b c : Vec ℕ Global) (x y z : List ℕ) → length texts ≡ 3
     → a ≡ get_or texts 0 a → b ≡ get_or texts 1 b → c ≡ get_or texts 2 c → x ≡ a.items → y ≡ b.items
     → z ≡ c.items → texts_now texts ≡ x ∷ y ∷ z ∷ []
 three_texts [] a b c x y z many is at third same also last = absurd (omega (arith, many))
@@ -54,6 +54,30 @@ three_texts (t ∷ []) a b c x y z many is at third same also last = absurd (ome
 three_texts (t ∷ u ∷ []) a b c x y z many is at third same also last = absurd (omega (arith, many))
 three_texts (t ∷ u ∷ v ∷ []) a b c x y z many is at third same also last = cc
 three_texts (t ∷ u ∷ v ∷ w ∷ texts) a b c x y z many is at third same also last = absurd (omega (arith, many))
+
+-- names and texts, where there are as many of these as of those
+pub read_one : (files : List (Bor (List ℕ))) (texts : List (Vec ℕ Global)) (a : Vec ℕ Global) (x : List ℕ)
+    → length files ≡ 1 → length texts ≡ length files → a ≡ get_or texts 0 a → x ≡ a.items
+    → (names_now files ≡ (get_or files 0 no_name).now ∷ []) × (texts_now texts ≡ x ∷ [])
+read_one files texts a x many each is same = (one_name files many, one_text texts a x (each ∙ many) is same)
+
+pub read_two : (files : List (Bor (List ℕ))) (texts : List (Vec ℕ Global)) (a b : Vec ℕ Global) (x y : List ℕ)
+    → length files ≡ 2 → length texts ≡ length files → a ≡ get_or texts 0 a → b ≡ get_or texts 1 b
+    → x ≡ a.items → y ≡ b.items
+    → (names_now files ≡ (get_or files 0 no_name).now ∷ (get_or files 1 no_name).now ∷ [])
+    × (texts_now texts ≡ x ∷ y ∷ [])
+read_two files texts a b x y many each is at same also =
+    (two_names files many, two_texts texts a b x y (each ∙ many) is at same also)
+
+pub read_three : (files : List (Bor (List ℕ))) (texts : List (Vec ℕ Global)) (a b c : Vec ℕ Global)
+    (x y z : List ℕ) → length files ≡ 3 → length texts ≡ length files
+    → a ≡ get_or texts 0 a → b ≡ get_or texts 1 b → c ≡ get_or texts 2 c → x ≡ a.items → y ≡ b.items
+    → z ≡ c.items
+    → (names_now files
+    ≡ (get_or files 0 no_name).now ∷ (get_or files 1 no_name).now ∷ (get_or files 2 no_name).now ∷ [])
+    × (texts_now texts ≡ x ∷ y ∷ z ∷ [])
+read_three files texts a b c x y z many each is at third same also last =
+    (three_names files many, three_texts texts a b c x y z (each ∙ many) is at third same also last)
 
 -- ---- names up to a place, at it and after it
 pub cut_at : (files : List (Bor (List ℕ))) (place : ℕ) → place < length files

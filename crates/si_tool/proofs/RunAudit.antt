@@ -1,18 +1,16 @@
 -- What a run of `audit` puts on `out`.
-use Rattle.std.proofs.Common.{◌≡◌, ℕ, List, [], ◌∷◌, Ok, String, Global, subst}
+use Rattle.std.proofs.Common.{◌≡◌, ℕ, List, [], ◌∷◌, Ok, String, Global}
 use Rattle.si_io.specs.Outside.{Appends}
-use Rattle.si_refusals.specs.Refusal.{Output}
 use Rattle.si_refusals.specs.declared.status.Status.{Status}
 use Rattle.si_refusals.specs.declared.status.Status.TheVariants as status
 use Rattle.si_stages.proofs.AuditLemmas.{output_certified}
 use Rattle.si_tool.specs.Command.{Request, Asks}
 use Rattle.si_tool.specs.Laws.{PutsAudit}
 use Rattle.si_tool.specs.Loads.{Contents, Counts, loads}
-use Rattle.si_tool.specs.Meaning.{ComesTo, meaning}
+use Rattle.si_tool.specs.Meaning.{meaning}
 use Rattle.si_tool.specs.Run.{SinkChange, Ends}
 use Rattle.si_tool.specs.declared.command.Task.TheVariants.{Audit}
-use Rattle.si_tool.proofs.FormOverlap.{one_request}
-use Rattle.si_tool.proofs.RunLemmas.{ends_done}
+use Rattle.si_tool.proofs.RunOutputs.{puts_output}
 
 abbrev audit_of : (graph netlist : List ℕ) → Request
 audit_of graph netlist = record { task = Audit; files = graph ∷ netlist ∷ [] }
@@ -39,8 +37,5 @@ pub audit_puts : (words : List (String Global)) (content : Contents) (before now
     → Ends words (loads content before now) out err result → result ≡ status.Done
     → PutsAudit content before now graph netlist out
 audit_puts words content before now out err result graph netlist asks ends is =
-    let done = ends_done words (loads content before now) out err result ends is in
-    let same = one_request words done.comes.asked (audit_of graph netlist) done.comes.asks asks in
-    let comes = subst (λ (a : Request). ComesTo (loads content before now) a (Output done.output)) same
-    done.comes.comes in
-    puts_audit content before now graph netlist out done.output comes.0 comes.1 comes.2 done.written
+    let puts = puts_output words content before now out err result (audit_of graph netlist) asks ends is in
+    puts_audit content before now graph netlist out puts.output puts.texts puts.loaded puts.means puts.written

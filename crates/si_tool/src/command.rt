@@ -8,7 +8,8 @@ ghost use Rattle.si_tool.specs.Reads.{names_now, request_of};
 ghost use Rattle.si_handshakes.specs.Handshakes.{max_handshakes};
 
 use crate::about::{HelpWord, Topic};
-use crate::form::{Slot, files_in};
+use crate::form::Slot::{File, Word};
+use crate::form::files_in;
 use si_circuit::style::Style;
 use si_readings::library_format::LibraryFormat;
 use si_refusals::refusals::Refusal;
@@ -160,47 +161,25 @@ fn files_for<'w>(
         (λ files. Asks words.now (record { task = task; files = names_now files.items }))) }
 {
     match task {
-        Task::About(topic) => files_in(alloc, words, &[Slot::Word(topic.word())]),
-        Task::Tell(report) => {
-            files_in(alloc, words, &[Slot::Word(report_word(report)), Slot::File])
-        }
+        Task::About(topic) => files_in(alloc, words, &[Word(topic.word())]),
+        Task::Tell(report) => files_in(alloc, words, &[Word(report_word(report)), File]),
         Task::Synth(style) => {
-            let style = Slot::Word(style_word(style));
-            files_in(alloc, words, &[Slot::Word("synth"), Slot::File, style])
+            let style = Word(style_word(style));
+            files_in(alloc, words, &[Word("synth"), File, style])
         }
-        Task::Map(LibraryFormat::Own) => {
-            files_in(alloc, words, &[Slot::Word("map"), Slot::File, Slot::File])
-        }
+        Task::Map(LibraryFormat::Own) => files_in(alloc, words, &[Word("map"), File, File]),
         Task::Map(LibraryFormat::Genlib) => {
-            let form = [
-                Slot::Word("map"),
-                Slot::File,
-                Slot::Word("genlib"),
-                Slot::File,
-            ];
-            files_in(alloc, words, &form)
+            files_in(alloc, words, &[Word("map"), File, Word("genlib"), File])
         }
-        Task::FromGenlib => files_in(alloc, words, &[Slot::Word("genlib"), Slot::File]),
-        Task::Verilog => files_in(alloc, words, &[Slot::Word("verilog"), Slot::File]),
+        Task::FromGenlib => files_in(alloc, words, &[Word("genlib"), File]),
+        Task::Verilog => files_in(alloc, words, &[Word("verilog"), File]),
         Task::Replay(report) => {
-            let word = Slot::Word(replay_word(report));
-            let form = [word, Slot::File, Slot::File, Slot::File];
-            files_in(alloc, words, &form)
+            files_in(alloc, words, &[Word(replay_word(report)), File, File, File])
         }
-        Task::Audit => files_in(alloc, words, &[Slot::Word("audit"), Slot::File, Slot::File]),
-        Task::Resolve => files_in(alloc, words, &[Slot::Word("resolve"), Slot::File]),
-        Task::Insert => files_in(
-            alloc,
-            words,
-            &[Slot::Word("insert"), Slot::File, Slot::File],
-        ),
-        Task::Exercise(count) => {
-            files_in(
-                alloc,
-                words,
-                &[Slot::Word("exercise"), Slot::Word(count.word())],
-            )
-        }
+        Task::Audit => files_in(alloc, words, &[Word("audit"), File, File]),
+        Task::Resolve => files_in(alloc, words, &[Word("resolve"), File]),
+        Task::Insert => files_in(alloc, words, &[Word("insert"), File, File]),
+        Task::Exercise(count) => files_in(alloc, words, &[Word("exercise"), Word(count.word())]),
     }
 }
 
