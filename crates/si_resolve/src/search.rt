@@ -242,7 +242,9 @@ impl Search {
         let Some(partition) = by_sides else {
             return Ok(None);
         };
-        let left = self.chains.trial_below(alloc, graph, partition.classes(), bar)?;
+        let left = self
+            .chains
+            .trial_below(alloc, graph, partition.classes(), bar)?;
         match left {
             None => Ok(None),
             Some(conflicts) => Ok(Some(Found {
