@@ -1,6 +1,6 @@
 //! Ids, events and codes.
 
-ghost use Rattle.std.specs.Prelude.{◌≡◌, ℕ, ◌+◌, ◌<◌, ◌≤◌, ◌^◌, ◌↔◌, IsTrue, Bool};
+ghost use Rattle.std.specs.Prelude.{◌≡◌, ℕ, ◌<◌, ◌≤◌, ◌^◌};
 ghost use Rattle.si_base.specs.Bits.{bit, flip, ones, IsSet};
 ghost use Rattle.si_base.specs.Limits.{code_width};
 

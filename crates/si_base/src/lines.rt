@@ -1,8 +1,8 @@
 //! Lines of a text, and words of a line.
 
-ghost use Rattle.std.specs.Prelude.{take_while, ◌&&◌, ◌||◌, nat_lt, ◌≡◌, ℕ, ◌+◌, ◌<◌, ◌≤◌, ◌^◌};
-ghost use Rattle.std.specs.Prelude.{◌∷◌, [], List, length, MatchOption, not, ◌==◌, slice_index};
-ghost use Rattle.std.specs.Prelude.{true, false, ◌↔◌, IsTrue, IsNone, IfSome};
+ghost use Rattle.std.specs.Prelude.{take_while, ◌&&◌, ◌||◌, ◌≡◌, ℕ, ◌+◌, ◌<◌, ◌≤◌, ◌^◌};
+ghost use Rattle.std.specs.Prelude.{◌∷◌, [], List, length, MatchOption, not, ◌==◌};
+ghost use Rattle.std.specs.Prelude.{◌↔◌, IsTrue, IsNone, IfSome};
 ghost use Rattle.std.specs.List.{enumerate_from, prefix_len, list_any};
 ghost use Rattle.si_base.specs.Bytes.{hash};
 ghost use Rattle.si_base.specs.Lines.{lines_of, words_in, before_comment, is_blank as blank};

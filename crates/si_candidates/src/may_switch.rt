@@ -1,12 +1,11 @@
 //! Where a new signal may switch: 128 blocks in one pass over the arcs.
 
-ghost use Rattle.std.specs.Prelude.{◌≡◌, ℕ, ◌+◌, ◌<◌, ◌≤◌, ◌↔◌, ◌⊎◌, true, IfOk, OnOk, All};
-ghost use Rattle.std.specs.Prelude.{Contains, length, replicate};
-ghost use Rattle.si_base.specs.Bits.{bit};
+ghost use Rattle.std.specs.Prelude.{◌≡◌, ℕ, ◌+◌, ◌<◌, ◌≤◌, ◌↔◌, ◌⊎◌, IfOk, OnOk, All};
+ghost use Rattle.std.specs.Prelude.{Contains, length};
 ghost use Rattle.si_base.specs.Codes.{IsDeterministic};
 ghost use Rattle.si_base.specs.Graph.{IsGraph};
 ghost use Rattle.si_base.specs.Sets.{IsIn};
-ghost use Rattle.si_closures.specs.WordSearch.{column, HasBit};
+ghost use Rattle.si_closures.specs.WordSearch.{HasBit};
 ghost use Rattle.si_candidates.specs.Blocking.{MaySwitch, MayPass, MayLeave, KeepsExit};
 ghost use Rattle.si_candidates.specs.ManySets.{AreAllTold, AreToldBelow, ArePacked, Tells, TellsOf};
 

@@ -1,16 +1,15 @@
 //! Cells, read from the words of their lines.
 
-ghost use Rattle.std.specs.Prelude.{◌≡◌, ◌≢◌, ℕ, ◌≤◌, ◌<◌, ◌+◌, ◌++◌, ◌∷◌, [], List, All, AllPairs};
-ghost use Rattle.std.specs.Prelude.{length, map, IfOk, OnOk, IfErr, None, Some, false};
-ghost use Rattle.std.specs.List.{list_any};
-ghost use Rattle.si_base.specs.Faults.{◌otherwise◌, first_after};
+ghost use Rattle.std.specs.Prelude.{◌≡◌, ◌≢◌, ◌≤◌, ◌<◌, ◌+◌, ◌++◌, ◌∷◌, [], All, AllPairs};
+ghost use Rattle.std.specs.Prelude.{length, IfOk, OnOk, IfErr, None, Some, false};
+ghost use Rattle.si_base.specs.Faults.{first_after};
 ghost use Rattle.si_base.specs.TextFaults.{Tells};
 ghost use Rattle.si_base.specs.declared.fault.LineFault.TheVariants as line_faults;
 ghost use Rattle.si_words.specs.Names.{stands_in};
 ghost use Rattle.si_words.specs.Reads.{words_now};
 ghost use Rattle.si_cell.specs.CellWords.{cell_name_fault, pin_fault, cell_fault, cell_of};
 ghost use Rattle.si_cell.specs.CellWords.{declared};
-ghost use Rattle.si_cell.specs.Library.{IsCell, IsPinName, own};
+ghost use Rattle.si_cell.specs.Library.{IsCell, IsPinName};
 ghost use Rattle.si_cell.specs.LibraryText.{names_of};
 ghost use Rattle.si_cell.specs.Limits.{max_cells, max_pins};
 ghost use Rattle.si_cell.specs.Reads.{cell_words_now};

@@ -1,7 +1,7 @@
 //! The sums of instances.
 
-ghost use Rattle.std.specs.Prelude.{◌≡◌, ◌≢◌, ℕ, ◌<◌, ◌≤◌, ◌+◌, ◌++◌, ◌∷◌, [], All, MatchOption};
-ghost use Rattle.std.specs.Prelude.{IfOk, IsTrue, length, map, not, ◌&&◌, true, false};
+ghost use Rattle.std.specs.Prelude.{◌≡◌, ℕ, ◌<◌, ◌≤◌, All, MatchOption};
+ghost use Rattle.std.specs.Prelude.{IfOk, length, map, not, ◌&&◌, true, false};
 ghost use mathlib.Core.Bool.{beq};
 ghost use Rattle.si_base.specs.Bits.{bit};
 ghost use Rattle.si_base.specs.Limits.{code_width};

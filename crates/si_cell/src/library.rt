@@ -1,6 +1,6 @@
 //! Libraries of cells.
 
-ghost use Rattle.std.specs.Prelude.{◌≡◌, ℕ, ◌<◌, ◌≤◌, All, length};
+ghost use Rattle.std.specs.Prelude.{◌≡◌, ◌<◌, ◌≤◌, All, length};
 ghost use Rattle.si_base.specs.Limits.{code_width};
 ghost use Rattle.si_base.specs.Netlist.{literal_value};
 ghost use Rattle.si_cell.specs.Library.{IsLibrary, IsInstance, cell_at, instance_value, pin_values};

@@ -1,6 +1,6 @@
 //! The reader of library texts.
 
-ghost use Rattle.std.specs.Prelude.{◌≡◌, ℕ, [], IfOk, OnOk, IsTrue, MatchResult, MatchOption, None};
+ghost use Rattle.std.specs.Prelude.{◌≡◌, [], IfOk, OnOk, IsTrue, MatchResult, MatchOption, None};
 ghost use Rattle.std.specs.Prelude.{Some, true, false, if◌then◌else◌};
 ghost use Rattle.si_base.specs.TextFaults.{Tells, ToldBy, Gives};
 ghost use Rattle.si_base.specs.Words.{is_signal_name};

@@ -1,6 +1,6 @@
 //! The words of library lines.
 
-ghost use Rattle.std.specs.Prelude.{◌≡◌, ℕ, ◌≤◌, ◌++◌, List, length, IfOk, option_map, not};
+ghost use Rattle.std.specs.Prelude.{◌≡◌, IfOk, option_map};
 ghost use Rattle.std.specs.List.{list_all};
 ghost use Rattle.si_words.specs.Reads.{words_now};
 ghost use Rattle.si_words.specs.Sums as sums;

@@ -13,7 +13,7 @@ use Rattle.si_base.proofs.GraphSteps.{enables-step, step_from_enables}
 use Rattle.si_checks.specs.Searches.{IsFirstOrNone, EnablesMore, Differ}
 use Rattle.si_checks.proofs.ConflictLemmas.{more_differs, less_differs, none_differ}
 use Rattle.si_checks.proofs.SearchDecisions as decide
-use Rattle.si_checks.proofs.SearchDecisions.{Decided, pairs, in_pairs, of_pairs, first_candidate}
+use Rattle.si_checks.proofs.SearchDecisions.{Decided, pairs, in_pairs, first_candidate}
 
 -- ---- two states
 -- an arc out of p by a non-input event that q doesn't enable

@@ -1,6 +1,6 @@
 //! Proper graphs without conflicts, that is, with complete state coding.
 
-ghost use Rattle.std.specs.Prelude.{◌≡◌, ℕ, IfOk, IfErr};
+ghost use Rattle.std.specs.Prelude.{◌≡◌, IfOk, IfErr};
 ghost use Rattle.si_base.specs.Proper.{HasNoConflict};
 
 use crate::conflicts::first_conflict;

@@ -1,6 +1,6 @@
 //! Proper graphs: deterministic, consistent, commutative and output-persistent.
 
-ghost use Rattle.std.specs.Prelude.{◌≡◌, ℕ, IfOk, IfErr};
+ghost use Rattle.std.specs.Prelude.{◌≡◌, IfOk, IfErr};
 ghost use Rattle.si_base.specs.Proper.{IsProper};
 ghost use Rattle.si_checks.specs.Faults.{told_breach};
 

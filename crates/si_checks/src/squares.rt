@@ -1,6 +1,6 @@
 //! Whether pairs of arcs out of a state close to squares.
 
-ghost use Rattle.std.specs.Prelude.{◌≡◌, ◌<◌, ◌↔◌, IsTrue, All, Contains, length};
+ghost use Rattle.std.specs.Prelude.{◌<◌, ◌↔◌, IsTrue, All, length};
 ghost use Rattle.si_base.specs.Codes.{IsDeterministic};
 ghost use Rattle.si_checks.specs.Squares.{ClosesSquare, ClosesSquares};
 

@@ -1,6 +1,6 @@
 //! Circuits: a lineage without conflicts, with a netlist that implements its given graph.
 
-ghost use Rattle.std.specs.Prelude.{◌≡◌, ℕ, IfOk, IfErr, map};
+ghost use Rattle.std.specs.Prelude.{◌≡◌, IfOk, IfErr, map};
 ghost use Rattle.si_base.specs.Behaviour.{Implements};
 ghost use Rattle.si_base.specs.WellFormed.{IsNetlist};
 ghost use Rattle.si_insert.specs.Built.{IsBuilt};

@@ -1,6 +1,6 @@
 //! How the insertions of a lineage are spelled.
 
-ghost use Rattle.std.specs.Prelude.{◌≡◌, ℕ, ◌<◌, ◌≤◌, ◌++◌, IfOk, OnOk, All, length};
+ghost use Rattle.std.specs.Prelude.{◌≡◌, ◌<◌, ◌≤◌, ◌++◌, IfOk, OnOk, All, length};
 ghost use Rattle.si_base.specs.Limits.{code_width, max_states};
 ghost use Rattle.si_circuit.specs.Spelling as spelled;
 ghost use Rattle.si_circuit.specs.Spelling.{current_word, insertions_of};

@@ -1,6 +1,6 @@
 //! All conflicts of a coded graph, and their number.
 
-ghost use Rattle.std.specs.Prelude.{◌≡◌, ℕ, ◌+◌, ◌<◌, ◌≤◌, IfOk, OnOk, length};
+ghost use Rattle.std.specs.Prelude.{◌+◌, ◌<◌, IfOk, OnOk, length};
 ghost use Rattle.si_conflicts.specs.Conflicts.{HasConflicts, AreFirstConflicts, pairs_of};
 ghost use Rattle.si_conflicts.specs.Keys.{AreKeys};
 ghost use Rattle.si_conflicts.specs.Links.{AreNextEquals, AreNextClashes};

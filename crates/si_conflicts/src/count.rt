@@ -1,6 +1,6 @@
 //! The number of pairs of keys that are a conflict.
 
-ghost use Rattle.std.specs.Prelude.{◌≡◌, ℕ, ◌*◌, ◌<◌, ◌≤◌, IfOk, length};
+ghost use Rattle.std.specs.Prelude.{◌≡◌, ◌*◌, ◌<◌, ◌≤◌, IfOk, length};
 ghost use Rattle.std.specs.List.Sorted.{IsSorted};
 ghost use Rattle.si_base.specs.Limits.{max_states};
 ghost use Rattle.si_conflicts.specs.Keys.{clash_count, key_cmp};

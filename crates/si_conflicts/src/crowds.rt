@@ -1,7 +1,7 @@
 //! Codes that many states share.
 
-ghost use Rattle.std.specs.Prelude.{◌≡◌, ℕ, ◌<◌, ◌≤◌, ◌==◌, All, IfOk, IfSome, IfNone, Contains};
-ghost use Rattle.std.specs.Prelude.{false, length, count_by, slice_index_or};
+ghost use Rattle.std.specs.Prelude.{◌≡◌, ℕ, ◌<◌, ◌≤◌, All, IfOk, IfSome, IfNone, Contains};
+ghost use Rattle.std.specs.Prelude.{false, length, slice_index_or};
 ghost use Rattle.std.specs.BTreeMap.{get};
 ghost use Rattle.std.specs.Map.{count_at};
 ghost use Rattle.std.specs.Ordering.{nat_cmp};

@@ -1,7 +1,7 @@
 //! The states that share their code with others, by their keys.
 
-ghost use Rattle.std.specs.Prelude.{◌≡◌, ℕ, ◌<◌, All, IfOk, length, map};
-ghost use Rattle.si_conflicts.specs.Chains.{AreMembers, AreRings, with_equals};
+ghost use Rattle.std.specs.Prelude.{◌≡◌, ◌<◌, All, IfOk, length, map};
+ghost use Rattle.si_conflicts.specs.Chains.{AreMembers, with_equals};
 ghost use Rattle.si_conflicts.specs.Keys.{IsKey};
 
 use crate::keys::{Key, state_key};

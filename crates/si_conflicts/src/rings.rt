@@ -1,10 +1,10 @@
 //! The states of each code in a ring.
 
-ghost use Rattle.std.specs.Prelude.{◌≡◌, ℕ, ◌+◌, ◌<◌, IfOk, Some, None};
+ghost use Rattle.std.specs.Prelude.{◌≡◌, ℕ, ◌<◌, IfOk, Some, None};
 ghost use Rattle.std.specs.BTreeMap.{get};
 ghost use Rattle.std.specs.Ordering.{nat_cmp};
 ghost use Rattle.si_base.specs.Codes.{code};
-ghost use Rattle.si_conflicts.specs.Chains.{AreRings, IsNextInRing};
+ghost use Rattle.si_conflicts.specs.Chains.{AreRings};
 ghost use Rattle.si_conflicts.specs.Links.{IsFirstOfCode};
 
 use crate::links::{link, next_equals, put_first};

@@ -1,6 +1,6 @@
 //! Copies of states of one code, counted at a value of the new signal.
 
-ghost use Rattle.std.specs.Prelude.{◌≡◌, ◌+◌, ◌<◌, ◌≤◌, ℕ, List, [], ◌∷◌, ◌++◌, cond, count_by};
+ghost use Rattle.std.specs.Prelude.{◌≡◌, ◌+◌, List, [], ◌∷◌, ◌++◌, cond, count_by};
 ghost use Rattle.si_conflicts.specs.Apart as Apart;
 ghost use Rattle.si_conflicts.specs.Apart.{role_at, are_apart, RoleAndKey, HasTally, IsTally};
 ghost use Rattle.si_conflicts.specs.Apart.{IsUpTo};

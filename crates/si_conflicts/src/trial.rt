@@ -1,6 +1,6 @@
 //! The conflicts that an insertion would leave, counted without making it.
 
-ghost use Rattle.std.specs.Prelude.{◌≡◌, ◌+◌, ◌*◌, ◌<◌, ◌≤◌, ◌++◌, ℕ, ◌↔◌, Bool, All, IfOk, OnOk};
+ghost use Rattle.std.specs.Prelude.{◌≡◌, ◌+◌, ◌*◌, ◌<◌, ◌≤◌, ℕ, ◌↔◌, All, IfOk, OnOk};
 ghost use Rattle.std.specs.Prelude.{IsTrue, List, length};
 ghost use Rattle.si_base.specs.Limits.{max_states};
 ghost use Rattle.si_base.specs.Graph.{IsNonInput};

@@ -1,6 +1,6 @@
 //! The sums of a signal's gate: prime and irredundant covers.
 
-ghost use Rattle.std.specs.Prelude.{◌≡◌, ℕ, IfOk};
+ghost use Rattle.std.specs.Prelude.{◌≡◌, IfOk};
 ghost use Rattle.si_base.specs.Graph.{IsNonInput};
 ghost use Rattle.si_checks.specs.Lent.{coded_of};
 ghost use Rattle.si_cover.specs.declared.kind.SumKind.TheVariants.{Next, Set, Reset};

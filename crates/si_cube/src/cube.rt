@@ -1,6 +1,6 @@
 //! Cubes: products of literals.
 
-ghost use Rattle.std.specs.Prelude.{◌≡◌, ℕ, ◌<◌, ◌≤◌, ◌==◌, not, filter};
+ghost use Rattle.std.specs.Prelude.{◌≡◌, ◌<◌, ◌≤◌, ◌==◌, not, filter};
 ghost use Rattle.std.specs.List.{list_all};
 ghost use Rattle.si_base.specs.Limits.{code_width};
 ghost use Rattle.si_base.specs.Netlist.{literal_value};

@@ -1,6 +1,6 @@
 //! Parts of codes in ascending order.
 
-ghost use Rattle.std.specs.Prelude.{◌≡◌, ℕ, ◌<◌};
+ghost use Rattle.std.specs.Prelude.{◌≡◌, ◌<◌};
 ghost use Rattle.std.specs.List.Sorted.{IsNonDecreasing};
 ghost use Rattle.si_base.specs.Limits.{code_width};
 ghost use Rattle.si_cube.specs.Order.{values_from, DifferLastAt};

@@ -1,6 +1,6 @@
 //! Sums: disjunctions of cubes.
 
-ghost use Rattle.std.specs.Prelude.{◌≡◌, ℕ};
+ghost use Rattle.std.specs.Prelude.{◌≡◌};
 ghost use Rattle.si_base.specs.Netlist.{sum_value};
 
 use crate::cube::Cube;

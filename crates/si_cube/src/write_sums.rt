@@ -1,6 +1,6 @@
 //! Writes the words of sums.
 
-ghost use Rattle.std.specs.Prelude.{◌≡◌, ℕ, ◌≤◌, List, [], ◌∷◌, ◌++◌, OnOk, length, map};
+ghost use Rattle.std.specs.Prelude.{◌≡◌, [], ◌∷◌, ◌++◌, OnOk, map};
 ghost use Rattle.std.specs.Prelude.{if◌then◌else◌};
 ghost use Rattle.si_base.specs.Bytes.{space, apostrophe};
 ghost use Rattle.si_base.specs.NetlistText.{cube_words, literal_word, more_cubes, sum_words};

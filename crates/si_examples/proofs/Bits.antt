@@ -1,7 +1,7 @@
 -- Sets and codes as bits: the definitions at work.
-use Rattle.std.proofs.Common.{◌≡◌, ℕ, Bool, true, false, List, [], ◌∷◌, refl}
+use Rattle.std.proofs.Common.{◌≡◌, ℕ, true, false, List, [], ◌∷◌, refl}
 use Rattle.si_base.specs.Bits.{bit}
-use Rattle.si_base.specs.Codes.{CodedGraph, next_value}
+use Rattle.si_base.specs.Codes.{next_value}
 use Rattle.si_base.specs.Sets.{IsIn, flags_of}
 use Rattle.si_closures.specs.WordSearch.{column}
 use Rattle.si_examples.proofs.CElement.{coded}

@@ -1,6 +1,6 @@
 //! Lines of events.
 
-ghost use Rattle.std.specs.Prelude.{◌≡◌, ◌<◌, ◌++◌, ◌∷◌, IfOk, OnOk, All, length};
+ghost use Rattle.std.specs.Prelude.{◌≡◌, ◌<◌, ◌++◌, IfOk, OnOk, All, length};
 ghost use Rattle.si_base.specs.Words.{line};
 ghost use Rattle.si_words.specs.Writing.{spaced};
 ghost use Rattle.si_explain.specs.ExplainText.{enabled_events, events_words, events_line};

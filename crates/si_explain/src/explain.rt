@@ -1,6 +1,6 @@
 //! The text that explains the first conflicts of a graph.
 
-ghost use Rattle.std.specs.Prelude.{◌≡◌, ℕ, ◌<◌, ◌++◌, IfOk, OnOk, length};
+ghost use Rattle.std.specs.Prelude.{◌≡◌, ◌<◌, ◌++◌, IfOk, OnOk, length};
 ghost use Rattle.std.specs.Prelude.{option_map, codes};
 ghost use Rattle.si_base.specs.Words.{line, text_of};
 ghost use Rattle.si_conflicts.specs.Conflicts.{AreFirstConflicts, pairs_of};

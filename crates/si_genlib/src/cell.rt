@@ -1,6 +1,6 @@
 //! The cells that gates become.
 
-ghost use Rattle.std.specs.Prelude.{◌≡◌, ℕ, ◌+◌, ◌<◌, ◌≤◌, ◌^◌, ◌++◌, map, take, length, IfOk, not};
+ghost use Rattle.std.specs.Prelude.{◌≡◌, ◌+◌, ◌<◌, ◌≤◌, take, length, IfOk};
 ghost use Rattle.si_base.specs.Words as words;
 ghost use Rattle.si_words.specs.Names.{stands_in};
 ghost use Rattle.si_cell.specs.LibraryText.{names_of};

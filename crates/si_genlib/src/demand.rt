@@ -1,7 +1,7 @@
 //! The codes at which a gate has to be 1 and those at which it has to be 0, and the sum that is
 //! chosen for them.
 
-ghost use Rattle.std.specs.Prelude.{◌≡◌, ℕ, ◌+◌, ◌≤◌, ◌^◌, not, filter, IfOk};
+ghost use Rattle.std.specs.Prelude.{◌≡◌, ◌+◌, ◌≤◌, ◌^◌, not, filter, IfOk};
 ghost use Rattle.si_cell.specs.Limits.{max_pins};
 ghost use Rattle.si_genlib.specs.Gate as spec;
 ghost use Rattle.si_genlib.specs.Tables.{table_value};

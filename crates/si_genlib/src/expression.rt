@@ -1,6 +1,6 @@
 //! Expressions, read token by token into truth tables.
 
-ghost use Rattle.std.specs.Prelude.{◌≡◌, ℕ, [], ◌∷◌, MatchOption, reverse, None};
+ghost use Rattle.std.specs.Prelude.{◌≡◌, [], ◌∷◌, MatchOption, reverse, None};
 ghost use Rattle.si_genlib.specs.Expression as spec;
 ghost use Rattle.si_genlib.specs.declared.symbol.Symbol.TheVariants as symbols;
 ghost use Rattle.si_genlib.specs.Held.{state_now, Steps};

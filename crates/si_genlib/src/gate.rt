@@ -1,7 +1,6 @@
 //! Gates of a genlib text.
 
-ghost use Rattle.std.specs.Prelude.{◌≡◌, ◌≤◌, ◌==◌, not, length, IfOk};
-ghost use Rattle.std.specs.List.{prefix_len};
+ghost use Rattle.std.specs.Prelude.{◌≡◌, ◌≤◌, ◌==◌, length, IfOk};
 ghost use Rattle.si_cell.specs.Limits.{max_pins};
 ghost use Rattle.si_genlib.specs.Expression as expression;
 ghost use Rattle.si_genlib.specs.Gate.{no_pins, pins_from};

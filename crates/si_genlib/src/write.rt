@@ -4,7 +4,6 @@ ghost use Rattle.std.specs.Prelude.{◌≡◌, ◌++◌, IfOk, OnOk, map};
 ghost use Rattle.si_base.specs.GivenGraph.{signals_of};
 ghost use Rattle.si_base.specs.Words.{line, text_of};
 ghost use Rattle.si_base.specs.declared.graph.SigKind.TheVariants.{Input};
-ghost use Rattle.si_cell.specs.Library.{IsLibrary};
 ghost use Rattle.si_genlib.specs.Written.{cell_line, library_text, signals_in};
 ghost use Rattle.si_words.specs.Writing.{spaced};
 

@@ -1,7 +1,6 @@
 //! A graph with the codes of its states.
 
-ghost use Rattle.std.specs.Prelude.{◌≡◌, ℕ, ◌<◌, ◌≢◌, ◌↔◌, length, IfOk, IfErr, IsTrue, Bool};
-ghost use Rattle.si_base.specs.Bits.{bit};
+ghost use Rattle.std.specs.Prelude.{◌≡◌, ◌<◌, ◌↔◌, length, IfOk, IfErr, IsTrue};
 ghost use Rattle.si_base.specs.Codes.{IsCoded, IsConnected, code, next_value};
 ghost use Rattle.si_graph.specs.Excited.{IsExcitedAt};
 ghost use Rattle.si_graph.specs.NextCodes.{IsNextCode};

@@ -1,8 +1,8 @@
 //! Numbered names, and what has them.
 
-ghost use Rattle.std.specs.Prelude.{◌≡◌, ◌≤◌, ◌^◌, ◌++◌, IfOk, OnOk, codes, decimal};
+ghost use Rattle.std.specs.Prelude.{◌≡◌, ◌++◌, IfOk, OnOk, codes};
 ghost use Rattle.si_base.specs.GivenGraph.{signals_of};
-ghost use Rattle.si_handshakes.specs.Handshakes.{numbered, max_handshakes};
+ghost use Rattle.si_handshakes.specs.Handshakes.{numbered};
 
 use si_base::graph::{SigKind, Signal};
 use si_base::ids::NoMemory;

@@ -1,17 +1,16 @@
 //! Acceptance of a partition, by tests on the arcs of the graph and on two steps from one state.
 
-ghost use Rattle.std.specs.Prelude.{◌≡◌, ℕ, ◌<◌, ◌≤◌, ◌↔◌, ◌&&◌, ◌||◌, not, true, false, IfOk};
-ghost use Rattle.std.specs.Prelude.{IfErr, IfSome, IfNone, IsTrue, MatchOption, length, ◌∷◌, []};
+ghost use Rattle.std.specs.Prelude.{◌≡◌, ◌<◌, ◌≤◌, ◌↔◌, ◌&&◌, ◌||◌, true, false, IfOk};
+ghost use Rattle.std.specs.Prelude.{IfErr, IfSome, IfNone, IsTrue, MatchOption, length};
 ghost use Rattle.si_base.specs.declared.graph.Edge.{Edge};
 ghost use Rattle.si_base.specs.Order.{IsFirst};
-ghost use Rattle.si_insert.specs.Partition.{class_of, edge_place};
+ghost use Rattle.si_insert.specs.Partition.{edge_place};
 ghost use Rattle.si_base.specs.Graph.{IsGraph};
 ghost use Rattle.si_base.specs.Codes.{IsDeterministic};
 ghost use Rattle.si_base.specs.Limits.{max_states};
 ghost use Rattle.si_insert.specs.Partition.{IsLawful};
 ghost use Rattle.si_insert.specs.Accepted.{IsInput, IsAccepted, ShowsRejected, copy_count};
 ghost use Rattle.si_insert.specs.Accepted.{DelaysNoInput, StaysProper};
-ghost use Rattle.si_insert.specs.Insertion;
 ghost use Rattle.si_insert.specs.Pairs.{breaks, IsHeld, IsBroken, ArcWaits, PairBreaks, ArcBreaks};
 
 use crate::partition::{Class, Partition};

@@ -1,5 +1,5 @@
 -- Names of current states, worked out.
-use Rattle.std.proofs.Common.{◌≡◌, List, ℕ, map, codes, refl}
+use Rattle.std.proofs.Common.{◌≡◌, map, codes, refl}
 use Rattle.si_base.specs.declared.graph.SigKind.TheVariants.{Input, Inserted, Internal}
 use Rattle.si_inserted.specs.Current.{given_kind, name_byte}
 

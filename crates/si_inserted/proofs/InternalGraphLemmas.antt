@@ -13,7 +13,7 @@ use Rattle.si_base.specs.Bits.{bit}
 use Rattle.si_base.specs.Codes.{AreValues, CodedGraph, HasValues, IsCoded, code}
 use Rattle.si_base.specs.Graph.{IsGraph, IsMadeOf, IsNonInput, StateGraph, Walk, is_driven, kind_place}
 use Rattle.si_base.specs.Limits.{max_signals}
-use Rattle.si_base.specs.Proper.{HasNoConflict, IsConflict, IsProper}
+use Rattle.si_base.specs.Proper.{HasNoConflict, IsProper}
 use Rattle.si_base.proofs.GivenGraphUnique.{same_edges, same_graph}
 use Rattle.si_inserted.specs.Current.{given_kind, given_signal, internal_coded, internal_graph}
 

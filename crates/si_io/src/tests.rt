@@ -166,8 +166,15 @@ fn reading_up_to_a_limit(rt: HostRuntime) -> Result<(), Fail> {
         assert_eq!(rt; got, fault);
         assert_eq!(rt; faults, faults_after);
     }
+    Ok(())
+}
+
+#[test]
+fn a_long_text_is_taken_no_further(rt: HostRuntime) -> Result<(), Fail> {
+    let alloc = rt.alloc();
     let mut text: &[u8] = b"abcde";
     let mut faults = 0;
+    let long = Some(LoadFault::TooLong { taken: 3 });
     assert_eq!(rt; read_all(alloc, &mut text, 2, &mut faults).err(), long);
     assert_eq!(rt; text, b"de".as_slice());
     assert_eq!(rt;

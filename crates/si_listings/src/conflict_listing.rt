@@ -1,6 +1,6 @@
 //! The text of the conflicts of a graph.
 
-ghost use Rattle.std.specs.Prelude.{◌≡◌, ℕ, ◌<◌, ◌++◌, IfOk, OnOk, All, length, map};
+ghost use Rattle.std.specs.Prelude.{◌≡◌, ◌<◌, ◌++◌, IfOk, OnOk, All, length, map};
 ghost use Rattle.si_base.specs.Words.{text_of};
 ghost use Rattle.si_listings.specs.ConflictText.{IsConflictText, conflicts_text, pair_line};
 ghost use Rattle.si_conflicts.specs.Conflicts.{pairs_of};

@@ -1,7 +1,6 @@
 //! The text of the regions of a graph.
 
-ghost use Rattle.std.specs.Prelude.{◌≡◌, ℕ, ◌+◌, ◌<◌, ◌++◌, ◌∷◌, IfOk, OnOk, All, length, decimal};
-ghost use Rattle.std.specs.Prelude.{codes, take, slice_index_or};
+ghost use Rattle.std.specs.Prelude.{◌≡◌, ◌+◌, ◌<◌, ◌++◌, IfOk, OnOk, All, length};
 ghost use Rattle.si_base.specs.Words.{line, text_of};
 ghost use Rattle.si_regions.specs.Regions.{AreRegions};
 ghost use Rattle.si_listings.specs.RegionText.{set_line, region_lines, regions_text, IsRegionText};

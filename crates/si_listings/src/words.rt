@@ -1,6 +1,6 @@
 //! Words of the listings.
 
-ghost use Rattle.std.specs.Prelude.{◌≡◌, ◌<◌, ◌++◌, ◌∷◌, [], OnOk, All, length, map};
+ghost use Rattle.std.specs.Prelude.{◌≡◌, ◌<◌, ◌++◌, ◌∷◌, OnOk, All, length, map};
 ghost use Rattle.si_base.specs.Bytes.{space};
 ghost use Rattle.si_words.specs.Writing.{spaced};
 ghost use Rattle.si_sg.specs.CanonicalText.{state_at, event_word};

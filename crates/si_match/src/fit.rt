@@ -1,6 +1,6 @@
 //! The first instance that fits a signal.
 
-ghost use Rattle.std.specs.Prelude.{◌≡◌, ℕ, ◌<◌, All, [], length, option_map};
+ghost use Rattle.std.specs.Prelude.{◌≡◌, ℕ, ◌<◌, All, [], length};
 ghost use Rattle.si_base.specs.Graph.{IsNonInput};
 ghost use Rattle.si_checks.specs.Lent.{coded_of};
 ghost use Rattle.si_cell.specs.Library.{cell_at};

@@ -1,6 +1,6 @@
 //! States that refute all instances with some literals at their first pins.
 
-ghost use Rattle.std.specs.Prelude.{◌≡◌, ℕ, ◌<◌, ◌≤◌, ◌-◌, All, length, true, false, Bool};
+ghost use Rattle.std.specs.Prelude.{◌≡◌, ℕ, ◌<◌, ◌≤◌, ◌-◌, All, length, true, false};
 ghost use Rattle.si_base.specs.Codes.{IsCoded, code};
 ghost use Rattle.si_base.specs.Limits.{code_width};
 ghost use Rattle.si_base.specs.Netlist.{sum_value};

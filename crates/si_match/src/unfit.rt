@@ -1,6 +1,6 @@
 //! Signals that fit no cell, and what they add to the weight.
 
-ghost use Rattle.std.specs.Prelude.{◌≡◌, ℕ, ◌<◌, ◌≤◌, All, IfOk, IfSome, IfNone, length};
+ghost use Rattle.std.specs.Prelude.{◌≡◌, ℕ, ◌<◌, ◌≤◌, All, IfOk, IfSome, IfNone};
 ghost use Rattle.std.specs.Prelude.{is_none, is_some, true, false};
 ghost use Rattle.si_base.specs.Bits.{bit, IsSet};
 ghost use Rattle.si_base.specs.Codes.{IsCoded};

@@ -1,5 +1,5 @@
 -- What the writers of a netlist's text have still to add, a step at a time.
-use Rattle.std.proofs.Common.{◌≡◌, ℕ, ◌+◌, ◌<◌, ◌==◌, false, List, [], ◌∷◌, ◌++◌, sym, ap, ◌∙◌, length, get_or, drop}
+use Rattle.std.proofs.Common.{◌≡◌, ℕ, ◌+◌, ◌<◌, ◌==◌, false, List, [], ◌∷◌, ◌++◌, sym, ap, ◌∙◌, length, drop}
 use Rattle.std.proofs.Common.{map, if◌then◌else◌, add-one, append_assoc, drop-cons, Some, slice_get, codes, arith, inl}
 use Rattle.std.proofs.Common.{inr}
 use Rattle.std.proofs.lemmas.Option.{slice_get_cases, slice_get_within, get_or_from_slice_get}

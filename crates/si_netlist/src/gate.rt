@@ -1,6 +1,6 @@
 //! Gates and insertions.
 
-ghost use Rattle.std.specs.Prelude.{◌≡◌, ℕ, ◌<◌};
+ghost use Rattle.std.specs.Prelude.{◌≡◌, ◌<◌};
 ghost use Rattle.si_base.specs.Limits.{max_signals};
 ghost use Rattle.si_netlist.specs.Reads.{MarksExactly, sum_reads};
 

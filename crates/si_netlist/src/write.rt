@@ -1,7 +1,7 @@
 //! Writes the text of a netlist.
 
-ghost use Rattle.std.specs.Prelude.{◌≡◌, ℕ, ◌<◌, ◌≤◌, List, [], ◌∷◌, ◌++◌, IfOk, OnOk, length};
-ghost use Rattle.std.specs.Prelude.{codes, map, if◌then◌else◌};
+ghost use Rattle.std.specs.Prelude.{◌≡◌, ◌<◌, ◌≤◌, [], ◌∷◌, ◌++◌, IfOk, OnOk, length};
+ghost use Rattle.std.specs.Prelude.{map, if◌then◌else◌};
 ghost use Rattle.si_base.specs.Bytes.{digit_zero, digit_one};
 ghost use Rattle.si_base.specs.Words.{line, text_of};
 ghost use Rattle.si_base.specs.Limits.{max_signals};

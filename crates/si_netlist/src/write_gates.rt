@@ -1,6 +1,6 @@
 //! Writes the lines of gates.
 
-ghost use Rattle.std.specs.Prelude.{◌≡◌, ℕ, List, ◌∷◌, ◌++◌, OnOk, map};
+ghost use Rattle.std.specs.Prelude.{◌≡◌, ◌∷◌, ◌++◌, OnOk, map};
 ghost use Rattle.si_base.specs.Words.{line, text_of};
 ghost use Rattle.si_base.specs.NetlistText.{gate_words};
 ghost use Rattle.si_netlist.specs.Parts.{gate_seen};

@@ -1,6 +1,6 @@
 //! Gates, read from the words of gate lines. Each literal is looked up once.
 
-ghost use Rattle.std.specs.Prelude.{◌≡◌, ℕ, ◌≤◌, List, length, codes, ◌<◌, IfOk, IfSome};
+ghost use Rattle.std.specs.Prelude.{◌≡◌, ◌≤◌, length, codes, ◌<◌, IfOk, IfSome};
 ghost use Rattle.std.specs.Prelude.{MatchResult, None, Some, map};
 ghost use Rattle.std.specs.List.{list_all};
 ghost use Rattle.si_base.specs.Limits.{max_signals};

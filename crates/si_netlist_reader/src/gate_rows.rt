@@ -1,6 +1,6 @@
 //! Gate lines, read.
 
-ghost use Rattle.std.specs.Prelude.{◌≡◌, ℕ, ◌≤◌, List, length, IfOk, map, drop, ◌++◌, ◌∷◌};
+ghost use Rattle.std.specs.Prelude.{◌≤◌, List, length, IfOk, map, drop, ◌++◌, ◌∷◌};
 ghost use Rattle.si_base.specs.Limits.{max_signals};
 ghost use Rattle.si_base.specs.TextFaults.{ToldBy};
 ghost use Rattle.si_words.specs.GateLines.{gate_fault};

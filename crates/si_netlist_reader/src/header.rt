@@ -1,6 +1,6 @@
 //! The first six lines of a netlist text, after that of the version.
 
-ghost use Rattle.std.specs.Prelude.{◌≡◌, ℕ, ◌≤◌, List, length, IfOk, ◌∷◌, []};
+ghost use Rattle.std.specs.Prelude.{◌≡◌, ◌≤◌, List, length, IfOk, ◌∷◌, []};
 ghost use Rattle.std.specs.List.{list_all};
 ghost use Rattle.si_base.specs.Bytes.{digit_zero, digit_one};
 ghost use Rattle.si_base.specs.Limits.{max_signals};

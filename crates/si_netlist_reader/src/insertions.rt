@@ -1,8 +1,7 @@
 //! Insert lines.
 
-ghost use Rattle.std.specs.Prelude.{◌≡◌, ℕ, ◌≤◌, ◌&&◌, List, length, codes, bytes_eq, IfOk};
+ghost use Rattle.std.specs.Prelude.{◌≡◌, ◌≤◌, ◌&&◌, List, length, codes, bytes_eq, IfOk};
 ghost use Rattle.std.specs.Prelude.{MatchOption, map, drop, true, false, ◌++◌, ◌∷◌};
-ghost use Rattle.std.specs.List.{list_any};
 ghost use Rattle.si_base.specs.TextFaults.{ToldBy};
 ghost use Rattle.si_words.specs.Lines.{Form};
 ghost use Rattle.si_words.specs.Names.{stands_in};

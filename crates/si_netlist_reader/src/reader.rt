@@ -1,15 +1,12 @@
 //! The reader of the netlist text.
 
-ghost use Rattle.std.specs.Prelude.{◌≡◌, ℕ, ◌≤◌, ◌++◌, ◌-◌, ◌∷◌, [], List, length, IfOk, OnOk, map};
+ghost use Rattle.std.specs.Prelude.{◌≡◌, ◌≤◌, ◌++◌, ◌-◌, ◌∷◌, List, length, IfOk, OnOk};
 ghost use Rattle.std.specs.Prelude.{take, drop};
-ghost use Rattle.si_base.specs.Limits.{max_signals};
 ghost use Rattle.si_base.specs.GivenGraph.{signals_of};
 ghost use Rattle.si_base.specs.NetlistText.{most_signals};
 ghost use Rattle.si_base.specs.TextFaults.{ToldBy, Gives};
 ghost use Rattle.si_words.specs.Lines.{Form};
-ghost use Rattle.si_words.specs.Reads.{words_now};
 ghost use Rattle.si_words.specs.Rows.{fault_of, TakesForm};
-ghost use Rattle.si_words.specs.Sums as sums;
 ghost use Rattle.si_netlist_reader.specs.Headers.{signals_by};
 ghost use Rattle.si_netlist_reader.specs.NetlistFault as netlist;
 ghost use Rattle.si_netlist_reader.specs.NetlistFault.{netlist_fault};
@@ -24,7 +21,6 @@ use si_base::ids::NoMemory;
 use si_base::limits::{MAX_SIGNALS, MAX_SIGNALS_VERSION_1};
 use si_base::names::Names;
 use si_base::text::Name;
-use si_netlist::gate::{Gate, Insert};
 use si_netlist::netlist::Netlist;
 use si_words::gate_lines::is_one;
 use si_words::rows::Rows;

@@ -1,7 +1,7 @@
 //! Regions of a coded graph.
 
 ghost use Rattle.std.specs.Prelude.{◌≡◌, ℕ, ◌+◌, ◌*◌, ◌<◌, ◌↔◌, ◌⊎◌, IfOk, OnOk, All, length};
-ghost use Rattle.std.specs.Prelude.{Contains, IsTrue, [], ◌∷◌};
+ghost use Rattle.std.specs.Prelude.{Contains, IsTrue};
 ghost use Rattle.si_base.specs.Graph.{event_place};
 ghost use Rattle.si_graph.specs.Reach.{IsIn};
 ghost use Rattle.si_regions.specs.Regions.{Enables, IsSetOf, IsEntered, IsQuiet, IsRegion};

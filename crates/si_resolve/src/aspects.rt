@@ -1,11 +1,11 @@
 //! How blocks lie to the states of conflicts, and how many conflicts two blocks leave for certain.
 
-ghost use Rattle.std.specs.Prelude.{◌≡◌, ℕ, ◌<◌, ◌≤◌, ◌↔◌, IfOk, IsTrue, length, map};
+ghost use Rattle.std.specs.Prelude.{◌≡◌, ◌<◌, ◌≤◌, ◌↔◌, IfOk, IsTrue, length, map};
 ghost use Rattle.si_conflicts.specs.Conflicts.{pairs_of};
 ghost use Rattle.si_resolve.specs.Aspects as of_aspects;
 ghost use Rattle.si_resolve.specs.Aspects.{AreWithin, aspect_by, aspect_of};
 
-use si_base::ids::{NoMemory, StateId};
+use si_base::ids::NoMemory;
 use si_base::sets::StateSet;
 use si_conflicts::conflicts::Pair;
 use std::alloc::Global;

@@ -10,7 +10,7 @@ ghost use Rattle.si_conflicts.specs.Chains.{AreChains};
 ghost use Rattle.si_conflicts.specs.Conflicts.{pairs_of};
 ghost use Rattle.si_resolve.specs.Aspects.{AreWithin, HaveAspects, aspect_of};
 ghost use Rattle.si_resolve.specs.Sharing.{HaveCrowds, ShareCrowd};
-ghost use Rattle.si_resolve.specs.Usable.{IsUsable, AreUsable, AreSearched, HaveSides};
+ghost use Rattle.si_resolve.specs.Usable.{AreUsable, AreSearched, HaveSides};
 ghost use Rattle.si_base.specs.Sets.{IsIn};
 
 use crate::aspects::Column;

@@ -1,6 +1,6 @@
 //! Resolving: insertions of best candidates, one after another.
 
-ghost use Rattle.std.specs.Prelude.{◌≡◌, ℕ, ◌++◌, List, IfOk, IfErr, IsTrue, All, MatchOption};
+ghost use Rattle.std.specs.Prelude.{◌≡◌, List, IfOk, IfErr, IsTrue, All, MatchOption};
 ghost use Rattle.std.specs.Prelude.{codes};
 ghost use Rattle.si_base.specs.Words.{is_signal_name};
 ghost use Rattle.si_checks.specs.Faults.{ShowsConflict};

@@ -1,6 +1,6 @@
 //! The search for the best candidate, candidate after candidate.
 
-ghost use Rattle.std.specs.Prelude.{◌≡◌, ℕ, ◌+◌, ◌<◌, ◌≤◌, ◌↔◌, Bool, false, List, IfOk, IfSome};
+ghost use Rattle.std.specs.Prelude.{◌≡◌, ℕ, ◌+◌, ◌<◌, ◌↔◌, Bool, false, List, IfOk, IfSome};
 ghost use Rattle.std.specs.Prelude.{IfNone, OnOk, IsTrue, MatchOption, length, count_by};
 ghost use Rattle.si_base.specs.Codes.{CodedGraph, IsCoded};
 ghost use Rattle.si_base.specs.Sets.{IsIn};

@@ -1,6 +1,6 @@
 //! From the text of a library in genlib to its text in the tool's own format.
 
-ghost use Rattle.std.specs.Prelude.{◌≡◌, ℕ, ◌↔◌, List, IfOk, IfErr, Ok, Err};
+ghost use Rattle.std.specs.Prelude.{ℕ, ◌↔◌, List, IfOk, IfErr, Ok, Err};
 ghost use Rattle.si_genlib.specs.GenlibText.{genlib_fault};
 ghost use Rattle.si_refusals.specs.Ending.{MayStop, ending_of};
 ghost use Rattle.si_refusals.specs.Refusal.{TextRefusal};

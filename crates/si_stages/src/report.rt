@@ -1,7 +1,6 @@
 //! From the text of a graph to a report on it.
 
-ghost use Rattle.std.specs.Prelude.{◌≡◌, ◌≤◌, ◌++◌, IfOk, IfErr, OnOk, length, Ok};
-ghost use Rattle.si_base.specs.Limits.{max_signals};
+ghost use Rattle.std.specs.Prelude.{◌≡◌, ◌++◌, IfOk, IfErr, OnOk, length, Ok};
 ghost use Rattle.si_base.specs.Words.{line};
 ghost use Rattle.si_refusals.specs.Ending.{MayStop, ending_of};
 ghost use Rattle.si_stages.specs.Meaning as stage;

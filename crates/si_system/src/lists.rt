@@ -1,7 +1,7 @@
 //! The first difference between the signals of a graph and the given signals of a netlist.
 
-ghost use Rattle.std.specs.Prelude.{◌≡◌, ℕ, ◌↔◌, ◌≤◌, AllPairs, IfSome, IsTrue, MatchOption};
-ghost use Rattle.std.specs.Prelude.{filter, length, not};
+ghost use Rattle.std.specs.Prelude.{◌≡◌, ◌↔◌, ◌≤◌, AllPairs, IfSome, IsTrue, MatchOption};
+ghost use Rattle.std.specs.Prelude.{filter, not};
 ghost use Rattle.si_base.specs.Graph.{kind_place};
 ghost use Rattle.si_base.specs.Limits.{max_signals};
 ghost use Rattle.si_base.specs.System.{IsFor, is_inserted};

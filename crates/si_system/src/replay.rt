@@ -1,6 +1,6 @@
 //! Replaying a schedule.
 
-ghost use Rattle.std.specs.Prelude.{◌≡◌, ℕ, ◌<◌, All, IfOk, IsSome, MatchResult, length};
+ghost use Rattle.std.specs.Prelude.{◌<◌, All, IfOk, IsSome, MatchResult, length};
 ghost use Rattle.si_base.specs.System.{IsFor, start};
 ghost use Rattle.si_system.specs.Lists.{ShowsDifference};
 ghost use Rattle.si_system.specs.Outcome.{IsOutcome};

@@ -1,6 +1,6 @@
 //! The reader of schedules.
 
-ghost use Rattle.std.specs.Prelude.{◌≡◌, ◌≢◌, ℕ, ◌<◌, ◌≤◌, ◌++◌, length, map, All, AllPairs, IfOk};
+ghost use Rattle.std.specs.Prelude.{◌≡◌, ◌≢◌, ◌<◌, ◌≤◌, ◌++◌, length, map, All, AllPairs, IfOk};
 ghost use Rattle.std.specs.Prelude.{OnOk, false};
 ghost use Rattle.si_base.specs.Faults.{when, ◌otherwise◌, first_in};
 ghost use Rattle.si_base.specs.Limits.{max_signals};

@@ -1,6 +1,6 @@
 //! The system of a coded graph and a netlist.
 
-ghost use Rattle.std.specs.Prelude.{◌≡◌, ℕ, ◌<◌, ◌+◌, ◌↔◌, IfOk, IsTrue, MatchResult, length};
+ghost use Rattle.std.specs.Prelude.{◌≡◌, ◌<◌, ◌+◌, ◌↔◌, IfOk, IsTrue, MatchResult, length};
 ghost use Rattle.si_base.specs.System.{IsFor, start};
 
 use crate::lists::first_difference;
@@ -49,8 +49,8 @@ impl<'a> Model for System<'a> {
 }
 
 impl<'a> System<'a> {
-    ghost use Rattle.std.specs.Prelude.{MatchOption, slice_get};
-    ghost use Rattle.si_base.specs.System.{State, Fires};
+    ghost use Rattle.std.specs.Prelude.{MatchOption};
+    ghost use Rattle.si_base.specs.System.{Fires};
     ghost use Rattle.si_system.specs.Lists.{ShowsDifference};
     ghost use Rattle.si_system.specs.Verdict.{IsStep, IsVerdict};
 

@@ -2,7 +2,7 @@
 
 ghost use Rattle.std.specs.Prelude.{◌≡◌, ◌<◌, ◌≤◌, ℕ, List, IfOk, IfErr, MatchOption};
 ghost use Rattle.si_refusals.specs.Ending.{ending_of};
-ghost use Rattle.si_tool.specs.Command.{Asks, AsksNothing, MayStopAsking};
+ghost use Rattle.si_tool.specs.Command.{Asks, MayStopAsking};
 ghost use Rattle.si_tool.specs.Command as command;
 ghost use Rattle.si_tool.specs.Reads.{names_now, request_of};
 ghost use Rattle.si_handshakes.specs.Handshakes.{max_handshakes};

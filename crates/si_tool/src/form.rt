@@ -1,6 +1,6 @@
 //! The form of a command, and the words that have it.
 
-ghost use Rattle.std.specs.Prelude.{◌≡◌, ℕ, List, IfOk, MatchOption};
+ghost use Rattle.std.specs.Prelude.{ℕ, List, IfOk, MatchOption};
 ghost use Rattle.si_tool.specs.Command.{HasForm, words_of};
 ghost use Rattle.si_tool.specs.Reads.{names_now, slots_now};
 

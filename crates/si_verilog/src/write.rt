@@ -1,6 +1,6 @@
 //! Writes a netlist as a module of Verilog.
 
-ghost use Rattle.std.specs.Prelude.{◌≡◌, ℕ, ◌||◌, Bool, List, [], ◌++◌, IfOk, OnOk, codes};
+ghost use Rattle.std.specs.Prelude.{◌≡◌, ◌||◌, [], ◌++◌, IfOk, OnOk, codes};
 ghost use Rattle.std.specs.Prelude.{flat_map, map, if◌then◌else◌};
 ghost use Rattle.si_base.specs.NetlistText.{names_of, same_kind};
 ghost use Rattle.si_base.specs.Netlist.{Gc};

@@ -1,8 +1,7 @@
 //! Writes sums as expressions.
 
-ghost use Rattle.std.specs.Prelude.{◌≡◌, ℕ, List, [], ◌∷◌, ◌++◌, IfOk, OnOk, codes, flat_map};
+ghost use Rattle.std.specs.Prelude.{◌≡◌, [], ◌∷◌, ◌++◌, IfOk, OnOk, codes, flat_map};
 ghost use Rattle.std.specs.Prelude.{if◌then◌else◌};
-ghost use Rattle.std.specs.List.{join_by};
 ghost use Rattle.si_base.specs.Bytes.{tilde};
 ghost use Rattle.si_verilog.specs.ModuleText.{cube_text, literal_text, sum_text};
 

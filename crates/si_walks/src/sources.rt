@@ -1,7 +1,6 @@
 //! The state from which the fewest arcs lead to two targets.
 
-ghost use Rattle.std.specs.Prelude.{◌≡◌, ◌↔◌, ℕ, ◌<◌, ◌^◌, IsTrue, length};
-ghost use Rattle.si_walks.specs.Distances.{at};
+ghost use Rattle.std.specs.Prelude.{◌≡◌, ◌↔◌, ◌<◌, ◌^◌, IsTrue, length};
 ghost use Rattle.si_walks.specs.Sources.{IsNearestOrNone, IsFewer, arcs_to_both};
 
 use si_base::ids::StateId;

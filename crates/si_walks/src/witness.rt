@@ -1,6 +1,6 @@
 //! A state from which inputs alone lead to both states of a conflict.
 
-ghost use Rattle.std.specs.Prelude.{◌≡◌, ℕ, ◌<◌, IfOk, option_map};
+ghost use Rattle.std.specs.Prelude.{◌<◌, IfOk, option_map};
 ghost use Rattle.si_walks.specs.Joined.{IsSourceOrNone, source_of};
 
 use crate::arcs::Arcs;

@@ -1,6 +1,6 @@
 //! Event words: a signal name, then `+` or `-`, then nothing or `/` with one to nine digits.
 
-ghost use Rattle.std.specs.Prelude.{◌≡◌, ℕ, ◌<◌, ◌≤◌, IfOk, MatchResult, None, Some, length, true};
+ghost use Rattle.std.specs.Prelude.{◌≡◌, ◌<◌, ◌≤◌, IfOk, MatchResult, None, Some, length, true};
 ghost use Rattle.std.specs.List.{prefix_len, list_all};
 ghost use Rattle.si_base.specs.Bytes.{digit_zero, digit_nine};
 ghost use Rattle.si_base.specs.Limits.{max_signals};

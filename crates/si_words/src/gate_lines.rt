@@ -1,6 +1,6 @@
 //! Words of gate lines: a word alone, and the words on both sides of a mark.
 
-ghost use Rattle.std.specs.Prelude.{◌≡◌, ℕ, List, option_map, length, ◌≤◌, not, bytes_eq, codes};
+ghost use Rattle.std.specs.Prelude.{◌≡◌, option_map, length, ◌≤◌, not, bytes_eq, codes};
 ghost use Rattle.std.specs.Prelude.{IfOk};
 ghost use Rattle.std.specs.List.{prefix_len};
 ghost use Rattle.si_words.specs.Reads.{words_now, both_now, parts_now};

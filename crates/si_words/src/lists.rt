@@ -1,6 +1,6 @@
 //! Lists of signals.
 
-ghost use Rattle.std.specs.Prelude.{◌≡◌, ℕ, List, [], ◌∷◌, ◌++◌, OnOk, OnErr, IfErr, position};
+ghost use Rattle.std.specs.Prelude.{◌≡◌, [], ◌∷◌, ◌++◌, OnOk, OnErr, IfErr, position};
 ghost use Rattle.std.specs.Prelude.{bytes_eq, false, ◌<◌, ◌≤◌, length};
 ghost use Rattle.si_base.specs.Faults.{first_after};
 ghost use Rattle.si_base.specs.TextFaults.{Tells};

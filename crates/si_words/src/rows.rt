@@ -1,6 +1,6 @@
 //! Lines of a text, read one after the other.
 
-ghost use Rattle.std.specs.Prelude.{if◌then◌else◌, ◌≡◌, ℕ, ◌≤◌, ◌++◌, List, length, IfOk, IfErr};
+ghost use Rattle.std.specs.Prelude.{if◌then◌else◌, ◌≡◌, ◌≤◌, ◌++◌, List, length, IfOk, IfErr};
 ghost use Rattle.std.specs.Prelude.{OnOk, OnErr, ◌==◌, not, ◌∷◌, [], None};
 ghost use Rattle.std.specs.List.{prefix_len, list_any};
 ghost use Rattle.si_base.specs.Bytes.{line_feed};

@@ -1,6 +1,6 @@
 //! What words are.
 
-ghost use Rattle.std.specs.Prelude.{◌≡◌, ℕ};
+ghost use Rattle.std.specs.Prelude.{◌≡◌};
 ghost use Rattle.std.specs.List.{list_all};
 ghost use Rattle.si_base.specs.Words as words;
 ghost use Rattle.si_words.specs.Sums as sums;

@@ -1,4 +1,4 @@
-use Rattle.std.proofs.Common.{◌≡◌, ◌∙◌, ℕ, List, Ok, ap, sym, subst}
+use Rattle.std.proofs.Common.{◌∙◌, ℕ, List, Ok, ap, sym, subst}
 use Rattle.si_circuit.specs.Circuits.{AreStateNames}
 use Rattle.si_insert.specs.Lineage.{History}
 use Rattle.si_inserted.specs.Current.{current_sg}

@@ -1,4 +1,4 @@
-use Rattle.std.proofs.Common.{◌<◌, ◌∙◌, ℕ, ap, arith, refl, length}
+use Rattle.std.proofs.Common.{◌<◌, ℕ, ap, arith, refl, length}
 use Rattle.si_graph.proofs.ArcFacts.{IsInside}
 use Rattle.si_graph.proofs.GroupLemmas.{all_in_order}
 use Rattle.si_base.specs.declared.graph.Edge.{Edge}
