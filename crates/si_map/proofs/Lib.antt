@@ -6,6 +6,8 @@ pub mod SearchConflicts
 pub mod WaitingLemmas
 pub mod WaitingFits
 pub mod SearchFitted
+pub mod LeastFits
+pub mod LeastLemmas
 pub mod BestDivisors
 pub mod OneBest
 pub mod SearchSteps

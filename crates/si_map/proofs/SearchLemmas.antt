@@ -1,7 +1,7 @@
 -- What becomes of a search with each divisor.
 use Rattle.std.proofs.Common.{◌≡◌, ℕ, ◌+◌, ◌<◌, ◌≤◌, ◌⊎◌, List, [], ◌∷◌, ◌++◌, get_or, All, Option, Some, None}
 use Rattle.std.proofs.Common.{IfSome, IfNone, MatchOption, is_some, not, Bool, true, false, cond, refl, sym, ap, subst}
-use Rattle.std.proofs.Common.{◌∙◌, arith, inl, inr}
+use Rattle.std.proofs.Common.{◌∙◌, arith, inl, inr, Vec, Global}
 use Rattle.std.proofs.lemmas.Bool.{true≢false, cases_Bool}
 use Rattle.std.specs.BTreeMap.{is_at}
 use Rattle.std.specs.BTreeSet.{BTreeSet, Updates, contains}
@@ -30,6 +30,7 @@ use Rattle.si_insert.proofs.AcceptedLosses.{no_delay, proper_if_none}
 use Rattle.si_match.specs.Weight.{weight_of}
 use Rattle.si_map.specs.declared.search.Search.{Search}
 use Rattle.si_map.specs.Best.{Choice, IsDivisorAt, LeavesWeight, Serves}
+use Rattle.si_map.specs.Least.{AreLeast}
 use Rattle.si_map.specs.Progress.{AreFitted, IsReady, IsSearching, HasTried, IsPassed, IsNewBest, IsTried, IsKnown}
 use Rattle.si_map.specs.Progress.{MayHaveRecorded, IsSpent, AreSpent, LeavesBelow, LeavesNoneBelow}
 use Rattle.si_map.proofs.BestDivisors.{one_divisor}
@@ -166,6 +167,7 @@ module _ (c : CodedGraph) (library : Library) (s : Search) (ready : IsReady c li
       chains = subst (AreChains c) (sym is.chains) ready.chains;
       new = subst (λ name. IsTaken c.graph.signals name → ⊥) (sym is.name) ready.new;
       fitted = subst (AreFitted c library) (sym is.fitted) ready.fitted;
+      least = subst (λ (xs : Vec ℕ Global). AreLeast c library xs.items) (sym is.least) ready.least;
       best_known = subst (λ o. IfSome o (λ p. LeavesNoneBelow c library p t.bar)) (sym is.best)
           (subst (λ low. IfSome s.best (λ p. LeavesNoneBelow c library p low)) (sym is.bar) ready.best_known);
       tried_known = subst (λ low. All (λ p. LeavesNoneBelow c library p low) t.tried.items) (sym is.bar)
@@ -192,7 +194,15 @@ module _ (c : CodedGraph) (library : Library) (s : Search) (ready : IsReady c li
   -- the search with a partition as the best so far
   abbrev with_best : List Class → ℕ → Search → Search
   with_best given n m =
-      record { bar = n; best = Some given; tried = m.tried; chains = m.chains; name = m.name; fitted = m.fitted }
+      record {
+        bar = n;
+        best = Some given;
+        tried = m.tried;
+        chains = m.chains;
+        name = m.name;
+        fitted = m.fitted;
+        least = m.least;
+      }
 
   taken_best : (n : ℕ) → IsAccepted c.graph classes → LeavesBelow c library classes s.bar n
       → IsTried c library classes s (with_best classes n s)
@@ -203,6 +213,7 @@ module _ (c : CodedGraph) (library : Library) (s : Search) (ready : IsReady c li
       chains = ready.chains;
       new = ready.new;
       fitted = ready.fitted;
+      least = ready.least;
       best_known = λ m free leaves. (let same = weight_is_one c library classes n m left.leaves leaves in
           omega (arith, same));
       tried_known = λ k d within. lower c library (get_or s.tried.items k d) n s.bar left.below

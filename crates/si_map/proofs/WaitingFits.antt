@@ -49,7 +49,7 @@ module _ (c : CodedGraph) (classes : List Class) (new : Signal) (copies : List C
 
   -- ---- one copy of a state
   module _ (k : ℕ) (x : Copy) (at : slice_get copies k ≡ Some x) where
-    given_bit : (j : ℕ) → (j ≡ n → ⊥) → bit (code d k) j ≡ bit (code c x.state) j
+    pub given_bit : (j : ℕ) → (j ≡ n → ⊥) → bit (code d k) j ≡ bit (code c x.state) j
     given_bit j old = ap (λ v. bit v j) (code_at c copies h k x at) ∙ old_bit c x j old
 
     module _ (z : ℕ) (old : z < n) (never : NeverWaits c.graph classes z) where
@@ -134,7 +134,7 @@ some_first : (o : Option Instance) → is_some o ≡ true → (f : Instance) × 
 some_first None some = absurd (true≢false (sym some))
 some_first (Some f) some = (f, refl)
 
-none_first : (o : Option Instance) → is_some o ≡ false → o ≡ None
+pub none_first : (o : Option Instance) → is_some o ≡ false → o ≡ None
 none_first None none = refl
 none_first (Some f) none = absurd (true≢false none)
 
@@ -190,9 +190,10 @@ module _ (c : CodedGraph) (library : Library) (classes : List Class) (name : Lis
       subst (λ d. AreKnown d library k) (is_made ∙ sym same)
       (known_here k never_here fitted_is (read_is ∙ ap (λ (x : StateGraph). length x.signals) g_is))
 
-pub known_unknown : (g : StateGraph) (classes : List Class) (waiting next new : ℕ) → IsSet waiting new true next
-    → new ≡ length g.signals → ((z : ℕ) → bit waiting z ≡ false → NeverWaits g classes z)
+pub known_unknown : (g h : StateGraph) (classes : List Class) (waiting next : ℕ) → h ≡ g
+    → IsSet waiting (length g.signals) true next → ((z : ℕ) → bit waiting z ≡ false → NeverWaits h classes z)
     → (z : ℕ) → bit next z ≡ false → NeverWaits g classes z × (z ≢ length g.signals)
-known_unknown g classes waiting next new set new_is never z clear =
-    let not_new : z ≢ new = λ same. true≢false (sym set.there ∙ ap (bit next) (sym same) ∙ clear) in
-    (never z (sym (set.others z not_new) ∙ clear), λ same. not_new (same ∙ sym new_is))
+known_unknown g h classes waiting next same set never z clear =
+    let not_new : z ≢ length g.signals = λ at. true≢false (sym set.there ∙ ap (bit next) (sym at) ∙ clear) in
+    let here = never z (sym (set.others z not_new) ∙ clear) in
+    (subst (λ (x : StateGraph). NeverWaits x classes z) same here, not_new)

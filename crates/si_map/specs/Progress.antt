@@ -20,6 +20,7 @@ use Rattle.si_insert.specs.Fresh.{IsTaken}
 use Rattle.si_match.specs.Fit.{first_fit}
 use Rattle.si_match.specs.Weight.{weight_of}
 use Rattle.si_map.specs.Best.{Choice, IsUnfit, IsDivisorAt, LeavesWeight}
+use Rattle.si_map.specs.Least.{AreLeast}
 use Rattle.si_map.specs.Search.{IsBestSoFar, bar}
 use Rattle.si_map.specs.declared.functions.Functions.{Functions}
 use Rattle.si_map.specs.declared.search.Search.{Search}
@@ -66,13 +67,15 @@ AreFitted c library fitted = (z : ℕ) → IsNonInput c.graph.signals z
     → bit fitted z ≡ is_some (first_fit c library z)
 
 -- what a search has for all divisors: c is a proper graph, the chains are those of its codes, no
--- signal has the name, the signals that fit are known, and what was tried leaves none below the bar
+-- signal has the name, the signals that fit are known, and what others add at least, and what was
+-- tried leaves none below the bar
 pub record IsReady (c : CodedGraph) (library : Library) (search : Search) : Type 0 where
   pub coded : IsCoded c
   pub proper : IsProper c.graph
   pub chains : AreChains c search.chains
   pub new : IsTaken c.graph.signals search.name → ⊥
   pub fitted : AreFitted c library search.fitted
+  pub least : AreLeast c library search.least.items
   pub best_known : IfSome search.best (λ p. LeavesNoneBelow c library p search.bar)
   pub tried_known : All (λ p. LeavesNoneBelow c library p search.bar) search.tried.items
 
@@ -107,6 +110,7 @@ pub record MayHaveRecorded (s : Search) (classes : List Class) (t : Search) : Ty
   pub chains : t.chains ≡ s.chains
   pub name : t.name ≡ s.name
   pub fitted : t.fitted ≡ s.fitted
+  pub least : t.least ≡ s.least
   pub tried : (t.tried.items ≡ s.tried.items) ⊎ (t.tried.items ≡ s.tried.items ++ classes ∷ [])
 
 -- ---- what becomes of a search with a partition

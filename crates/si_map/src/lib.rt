@@ -5,6 +5,7 @@ pub mod best;
 pub mod ends;
 mod functions;
 pub mod laws;
+mod least;
 pub mod map;
 mod search;
 mod waiting;

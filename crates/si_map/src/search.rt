@@ -1,8 +1,8 @@
 //! The search for the best divisor, signal after signal and divisor after divisor.
 
-ghost use Rattle.std.specs.Prelude.{◌≡◌, ◌≢◌, ℕ, ◌<◌, ◌≤◌, ◌↔◌, ◌+◌, false, length, IsTrue};
+ghost use Rattle.std.specs.Prelude.{◌≡◌, ℕ, ◌<◌, ◌≤◌, ◌↔◌, ◌+◌, true, length, IsTrue};
 ghost use Rattle.std.specs.Prelude.{All, IfOk, IfSome, IfNone, OnOk};
-ghost use Rattle.si_base.specs.Bits.{bit};
+ghost use Rattle.si_base.specs.Bits.{IsSet};
 ghost use Rattle.si_base.specs.Limits.{max_signals};
 ghost use Rattle.si_base.specs.Graph.{IsNonInput};
 ghost use Rattle.si_cell.specs.Library.{Library as LibraryValue, IsInstance};
@@ -11,13 +11,14 @@ ghost use Rattle.si_divisor.specs.ManyFunctions.{AreFunctionSets};
 ghost use Rattle.si_insert.specs.Accepted.{DelaysNoInput, IsAccepted, StaysProper};
 ghost use Rattle.si_insert.specs.Partition.{IsLawful};
 ghost use Rattle.si_match.specs.Weight.{weight_of};
-ghost use Rattle.si_map.specs.Waiting.{NeverWaits};
+ghost use Rattle.si_map.specs.Least.{AreLeast};
 ghost use Rattle.si_map.specs.Best.{IsBestPartition};
 ghost use Rattle.si_map.specs.Progress.{AreFitted, IsReady, IsSearching, HasTried, IsTried};
 ghost use Rattle.si_map.specs.Progress.{AreUpToDate, IsKnown, MayHaveRecorded, IsSpent};
 ghost use Rattle.si_map.specs.Progress.{LeavesBelow, LeavesNoneBelow};
 
 use crate::functions::Functions;
+use crate::least::{least_weights, sum_without};
 use crate::waiting::waiting_signals;
 use si_base::ids::{Code, NoMemory, Sig};
 use si_base::text::Name;
@@ -32,7 +33,7 @@ use si_graph::graph::Graph;
 use si_insert::accept::{Accepted, accept_by_size};
 use si_insert::apply::apply;
 use si_insert::fresh::fresh_name;
-use si_insert::partition::{Class, Partition};
+use si_insert::partition::Partition;
 use si_match::fit::fit;
 use si_match::functions::LibraryFunctions;
 use si_match::known::KnownFits;
@@ -48,7 +49,8 @@ const MAX_TRIED_CLASSES: usize = 1 << 24;
 /// The weight that the next divisor has to get below, the partition of the best divisor so far,
 /// and what all divisors have in common: the rings of equal codes and the new signal's name. Many
 /// functions have one partition, as where codes at which they differ are no state's; some accepted
-/// ones that leave a conflict or no weight below the bar are kept.
+/// ones that leave a conflict or no weight below the bar are kept. Of each signal it is known
+/// whether some cell fits it, and what it adds to the weight at least where it never waits.
 #[derive(Drop)]
 struct Search {
     bar: u64,
@@ -57,6 +59,7 @@ struct Search {
     chains: CodeChains,
     name: Name,
     fitted: Code,
+    least: Vec<u64>,
 }
 
 /// The partition for the best divisor of a graph of that weight, if a divisor serves.
@@ -69,8 +72,10 @@ pub(crate) fn find_best(
     requires { weight ≡ weight_of (coded_of graph) library.now }
     ensures { IfOk result (IsBestPartition (coded_of graph.entry) library.now) }
 {
-    let fitted = fitted_signals(graph, library.library());
-    let mut search = Search::new(alloc, graph.proper(), weight, fitted)?;
+    let cells = library.library();
+    let fitted = fitted_signals(graph, cells);
+    let least = least_weights(alloc, graph, cells, fitted)?;
+    let mut search = Search::new(alloc, graph.proper(), weight, fitted, least)?;
     let mut functions = Functions::new(alloc);
     let known = graph.proper().coded().graph();
     for i in 0..known.signals().len() {
@@ -85,9 +90,16 @@ pub(crate) fn find_best(
 
 impl Search {
     /// The search before all divisors.
-    fn new(alloc: Global, graph: &Proper, weight: u64, fitted: Code) -> Result<Search, NoMemory>
+    fn new(
+        alloc: Global,
+        graph: &Proper,
+        weight: u64,
+        fitted: Code,
+        least: Vec<u64>,
+    ) -> Result<Search, NoMemory>
         ensures { IfOk result (λ s. (library : LibraryValue) → weight ≡ weight_of graph.now library
-            → AreFitted graph.now library fitted → IsSearching graph.now library 0 0 s) }
+            → AreFitted graph.now library fitted → AreLeast graph.now library least.items
+            → IsSearching graph.now library 0 0 s) }
     {
         Ok(Search {
             bar: weight,
@@ -96,6 +108,7 @@ impl Search {
             chains: CodeChains::new(alloc, graph)?,
             name: fresh_name(alloc, graph.coded().graph(), STEM)?,
             fitted,
+            least,
         })
     }
 
@@ -255,6 +268,7 @@ impl Search {
     }
 
     /// The weight that the partition leaves, if it leaves no conflict and a weight below the bar.
+    /// The graph isn't made where the signals that never wait alone add as much.
     fn weight_left(
         &mut self,
         alloc: Global,
@@ -271,13 +285,17 @@ impl Search {
         ensures same { self.new ≡ self.old }
     {
         let classes = accepted.partition().classes();
+        let waiting = waiting_signals(graph.coded().graph(), classes);
+        if sum_without(self.least.as_slice(), waiting) >= self.bar {
+            return Ok(None);
+        }
         let free = self.chains.trial_below(alloc, graph, classes, 1)?;
         if free.is_none() {
             return Ok(None);
         }
         let inserted = apply(alloc, graph, accepted, &self.name)?;
         let distinct = Distinct::known(&inserted);
-        let known = known_fits(graph.coded().graph(), classes, self.fitted);
+        let known = known_fits(graph.coded().graph(), waiting, self.fitted);
         let weight = weight_below(alloc, distinct, library, &known, self.bar)?;
         Ok(weight)
     }
@@ -299,20 +317,18 @@ fn fitted_signals(graph: Distinct<'_>, library: &Library) -> Code
     fitted
 }
 
-/// What is known of the fits after an insertion, where these signals fitted before: of those that
-/// wait for the new signal, and of that itself, nothing. The others fit as before, and where they
-/// didn't, only an instance that reads the new signal may fit now.
-fn known_fits(graph: &Graph, classes: &[Class], fitted: Code) -> KnownFits
-    requires count { length classes.now ≡ graph.now.states }
-    requires room { length graph.now.signals < max_signals }
-    ensures unknown { (z : ℕ) → bit result.unknown z ≡ false
-        → NeverWaits graph.now classes.now z × (z ≢ length graph.now.signals) }
+/// What is known of the fits after an insertion for which these signals may wait, where those
+/// fitted before: of the ones that may wait, and of the new signal, nothing. The others fit as
+/// before, and where they didn't, only an instance that reads the new signal may fit now.
+fn known_fits(graph: &Graph, waiting: Code, fitted: Code) -> KnownFits
+    requires { length graph.now.signals < max_signals }
+    ensures unknown { IsSet waiting (length graph.now.signals) true result.unknown }
     ensures fitted { result.fitted ≡ fitted }
     ensures read { result.read ≡ length graph.now.signals }
 {
     let new = Sig(graph.signals().len() as u8);
     KnownFits {
-        unknown: waiting_signals(graph, classes).set(new, true),
+        unknown: waiting.set(new, true),
         fitted,
         read: new,
     }

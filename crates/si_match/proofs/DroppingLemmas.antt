@@ -93,7 +93,7 @@ module _ (c : CodedGraph) (z : ℕ) where
   abbrev tested : ℕ → ℕ × ℕ → ℕ × ℕ → Bool
   tested signals s t = not (agree signals s.1 t.1) || beq (next_value c s.0 z) (next_value c t.0 z)
 
-  next_by : (signals s t : ℕ) → determines c z signals ≡ true → s < length c.codes → t < length c.codes
+  pub next_by : (signals s t : ℕ) → determines c z signals ≡ true → s < length c.codes → t < length c.codes
       → agree signals (code c s) (code c t) ≡ true → next_value c s z ≡ next_value c t z
   next_by signals s t determined inside_s inside_t agrees =
       elim (cases_Bool (beq (next_value c s z) (next_value c t z))) [
@@ -108,7 +108,7 @@ module _ (c : CodedGraph) (z : ℕ) where
           (one_fails c (tested signals (s, code c s)) t inside_t fails)
 
   -- what fewer signals determine, more do
-  determined_by_more : (fewer more : ℕ) → ((j : ℕ) → bit fewer j ≡ true → bit more j ≡ true)
+  pub determined_by_more : (fewer more : ℕ) → ((j : ℕ) → bit fewer j ≡ true → bit more j ≡ true)
       → determines c z fewer ≡ true → determines c z more ≡ true
   determined_by_more fewer more within determined =
       all_from c _ (λ s inside_s. all_from c _ (λ t inside_t. by_agree s t inside_s inside_t

@@ -1,11 +1,11 @@
 -- An instance that reads too few triggers fits at no completion.
 use Rattle.std.proofs.Common.{◌≡◌, ◌≢◌, ℕ, zero, suc, ◌+◌, ◌<◌, ◌≤◌, Bool, true, false, List, [], ◌∷◌, ◌++◌, length}
-use Rattle.std.proofs.Common.{map, All, Contains, None, if◌then◌else◌, not}
+use Rattle.std.proofs.Common.{map, get_or, All, Contains, None, if◌then◌else◌, not}
 use Rattle.std.proofs.Common.{refl, sym, ap, subst, ◌∙◌, arith, inl, inr, append_assoc}
 use Rattle.std.specs.List.{AllByRecursion}
 use Rattle.std.proofs.lemmas.Bool.{cases_Bool, true≢false}
 use Rattle.std.proofs.lemmas.Bool.Decides.{eqb_tells}
-use Rattle.std.proofs.lemmas.List.{append-nil, length_push}
+use Rattle.std.proofs.lemmas.List.{append-nil, get_or_default, length_push}
 use Rattle.std.proofs.lemmas.Nat.Bits.{bit_at-zero}
 use Rattle.std.proofs.lemmas.List.Elements.{recursion_from_All, All-nil, All-push}
 use Rattle.si_base.proofs.BitFacts.{flip-same, flip-other}
@@ -206,6 +206,50 @@ one_more_trigger c z i k next trigger set are j there = elim (eqb_tells j i) [
   | inl same ↦ subst (IsTrigger c z) (sym same.1) trigger
   | inr other ↦ are j (sym (set.others j other.1) ∙ there)
 ]
+
+-- ---- all triggers are found
+-- the one set is in the other
+abbrev pub IsWithin : ℕ → ℕ → Type 0
+IsWithin few more = (i : ℕ) → bit few i ≡ true → bit more i ≡ true
+
+pub set_keeps : (k i next : ℕ) → IsSet k i true next → IsWithin k next
+set_keeps k i next set j there = elim (eqb_tells j i) [
+  | inl same ↦ ap (bit next) same.1 ∙ set.there
+  | inr other ↦ set.others j other.1 ∙ there
+]
+
+pub both_set : (few more i next_few next_more : ℕ) → IsWithin few more → IsSet few i true next_few
+    → IsSet more i true next_more → IsWithin next_few next_more
+both_set few more i next_few next_more within set_few set_more j there = elim (eqb_tells j i) [
+  | inl same ↦ ap (bit next_more) same.1 ∙ set_more.there
+  | inr other ↦ set_more.others j other.1 ∙ within j (sym (set_few.others j other.1) ∙ there)
+]
+
+-- across the arc, of another signal than z, the next value of z changes
+abbrev pub Changes : CodedGraph → ℕ → Edge → Type 0
+Changes c z a = (a.event.sig ≢ z) × (next_value c a.to z ≢ next_value c a.from z)
+
+-- of the first arcs, so many, those across which it changes are of signals in the set
+abbrev pub AreFound : CodedGraph → ℕ → List Edge → ℕ → ℕ → Type 0
+AreFound c z edges signals count =
+    (k : ℕ) (a : Edge) → k < count → get_or edges k a ≡ a → Changes c z a → bit signals a.event.sig ≡ true
+
+pub none_found : (c : CodedGraph) (z : ℕ) (edges : List Edge) (signals : ℕ) → AreFound c z edges signals 0
+none_found c z edges signals k a below at changes = absurd (omega (arith, below))
+
+pub one_more_found : (c : CodedGraph) (z : ℕ) (edges : List Edge) (i : ℕ) (item : Edge) (signals next : ℕ)
+    → i < length edges → item ≡ get_or edges i item → AreFound c z edges signals i → IsWithin signals next
+    → (Changes c z item → bit next item.event.sig ≡ true) → AreFound c z edges next (i + 1)
+one_more_found c z edges i item signals next inside is found within here k a below at changes =
+    elim (eqb_tells k i) [
+      | inl same ↦ (
+          let this : item ≡ a =
+          is ∙ get_or_default edges i item a inside ∙ ap (λ n. get_or edges n a) (sym same.1) ∙ at in
+          subst (λ (b : Edge). Changes c z b → bit next b.event.sig ≡ true) this here changes)
+      | inr other ↦ (
+          let not_last = other.1 in
+          within a.event.sig (found k a (grind (arith, below, not_last)) at changes))
+    ]
 
 -- ---- an arc across which the next value changes: the next codes at its ends, cut to the signal, differ
 module _ (c : CodedGraph) (z s t only at_s at_t : ℕ) (test : Bool) (within : z < length c.graph.signals)

@@ -11,11 +11,11 @@ use Rattle.si_match.specs.Weight.{added_weight, size_from, size_of_support}
 use Rattle.si_match.proofs.DroppingLemmas.{triggers_in_support}
 
 -- ---- a set in a greater one
-one_le : (b d : Bool) → (b ≡ true → d ≡ true) → (if b then 1 else 0) ≤ (if d then 1 else 0)
+pub one_le : (b d : Bool) → (b ≡ true → d ≡ true) → (if b then 1 else 0) ≤ (if d then 1 else 0)
 one_le true d within = rw (within refl) (omega arith)
 one_le false d within = omega arith
 
-size_le : (n i few more : ℕ) → ((j : ℕ) → bit few j ≡ true → bit more j ≡ true) → size_from n i few ≤ size_from n i more
+pub size_le : (n i few more : ℕ) → ((j : ℕ) → bit few j ≡ true → bit more j ≡ true) → size_from n i few ≤ size_from n i more
 size_le zero i few more within = omega arith
 size_le (suc n) i few more within =
     let head = one_le (bit few i) (bit more i) (within i) in

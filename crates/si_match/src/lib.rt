@@ -14,6 +14,6 @@ mod rows;
 mod search;
 mod state;
 pub mod support;
-mod triggers;
+pub mod triggers;
 mod unfit;
 pub mod weight;

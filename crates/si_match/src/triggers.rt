@@ -1,14 +1,16 @@
 //! The trigger signals of a signal, and states that refute most gates for it.
 
-ghost use Rattle.std.specs.Prelude.{◌≡◌, ◌≢◌, ℕ, ◌<◌, ◌↔◌, All, IsTrue, length};
-ghost use Rattle.si_base.specs.Bits.{flip};
+ghost use Rattle.std.specs.Prelude.{◌≡◌, ◌≢◌, ℕ, ◌<◌, ◌↔◌, true, All, IsTrue, length};
+ghost use Rattle.si_base.specs.Bits.{bit, flip};
 ghost use Rattle.si_base.specs.Codes.{IsCoded, next_value};
-ghost use Rattle.si_match.specs.Triggers.{AreTriggers};
+ghost use Rattle.si_checks.specs.Lent.{coded_of};
+ghost use Rattle.si_match.specs.Triggers.{AreTriggers, IsTrigger};
 
 use crate::codes::cut;
 use arrayvec::ArrayVec;
 use si_base::graph::Edge;
 use si_base::ids::{Code, Sig};
+use si_checks::distinct::Distinct;
 use si_graph::coded::Coded;
 
 /// The most states that are kept.
@@ -46,11 +48,21 @@ fn add_ends(states: &mut ArrayVec<u32, MAX_WITNESSES>, a: &Edge)
     }
 }
 
+/// The triggers of `z` (the book's trigger signals), a bit for each signal: the other signals whose
+/// switching changes the next value of `z`. Each gate of `z` reads them all.
+pub fn trigger_signals(graph: Distinct<'_>, z: Sig) -> Code
+    requires { z < length (coded_of graph).graph.signals }
+    ensures { (i : ℕ) → (bit result i ≡ true) ↔ IsTrigger (coded_of graph.entry) z i }
+{
+    triggers_of(graph.proper().coded(), z).signals
+}
+
 /// The triggers of `z`, and states beside their arcs.
 pub(crate) fn triggers_of(coded: &Coded, z: Sig) -> Triggers
     requires { z < length coded.now.graph.signals }
     ensures coded { IsCoded coded.now }
     ensures triggers { AreTriggers coded.now z result.signals }
+    ensures all { (i : ℕ) → IsTrigger coded.now z i → bit result.signals i ≡ true }
     ensures witnesses { All (λ s. s < coded.now.graph.states) result.witnesses.items }
 {
     let graph = coded.graph();

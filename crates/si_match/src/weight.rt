@@ -18,7 +18,7 @@ use si_checks::distinct::Distinct;
 use std::alloc::Global;
 
 /// How many of the first `count` signals are in the set.
-pub(crate) fn size(signals: Code, count: usize) -> u64
+pub fn size(signals: Code, count: usize) -> u64
     requires { count ≤ code_width }
     ensures size { result ≡ size_from count 0 signals }
     ensures few { result ≤ count }

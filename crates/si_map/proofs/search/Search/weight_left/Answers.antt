@@ -1,6 +1,8 @@
-use Rattle.std.proofs.Common.{◌∙◌, ap}
+use Rattle.std.proofs.Common.{◌∙◌, ap, subst, sym}
 use Rattle.si_base.specs.Codes.{CodedGraph}
-use Rattle.si_map.proofs.WaitingFits.{kept_known}
+use Rattle.si_map.specs.Least.{AreLeast}
+use Rattle.si_map.proofs.LeastLemmas.{bounded}
+use Rattle.si_map.proofs.WaitingFits.{kept_known, known_unknown}
 use Rattle.si_map.proofs.SearchLemmas.{below_left, conflict_left, free_left, inserted_free, none_below_left}
 use Rattle.si_map.proofs.search.Search.weight_left.Goals as goal
 
@@ -37,8 +39,23 @@ pub weight_below-requires-clause-known : goal.weight_below-requires-clause-known
 weight_below-requires-clause-known c =
     let given = c.classes-classes.ensures ∙ c.partition.ensures in
     let graph = c.graph.ensures.same ∙ ap (λ (d : CodedGraph). d.graph) c.coded.ensures.same in
+    let graph_again = c.graph-2.ensures.same ∙ ap (λ (d : CodedGraph). d.graph) c.coded-2.ensures.same in
+    let never = known_unknown c.graph-2.result.now c.graph.result.now c.classes-classes.result.now
+    c.waiting_signals-waiting.result c.known_fits-known.result.unknown (graph ∙ sym graph_again)
+    c.known_fits-known.ensures.unknown c.waiting_signals-waiting.ensures in
     kept_known c.args.graph.now c.args.library.now c.args.accepted.now c.args.self.now.name c.in_ok-inserted.inserted
     c.requires.ready.coded c.requires.accepted.lawful c.in_ok-inserted.ensures c.args.self.now.fitted
-    c.requires.ready.fitted _ c.known-distinct.ensures c.graph.result.now c.classes-classes.result.now graph given
-    c.known_fits-known.result c.known_fits-known.ensures.unknown c.known_fits-known.ensures.fitted
-    c.known_fits-known.ensures.read
+    c.requires.ready.fitted _ c.known-distinct.ensures c.graph-2.result.now c.classes-classes.result.now graph_again
+    given c.known_fits-known.result never c.known_fits-known.ensures.fitted c.known_fits-known.ensures.read
+
+pub returns-then-sum_without-self-clause-none : goal.returns-then-sum_without-self-clause-none
+returns-then-sum_without-self-clause-none c =
+    let given = c.classes-classes.ensures ∙ c.partition.ensures in
+    let graph = c.graph.ensures.same ∙ ap (λ (d : CodedGraph). d.graph) c.coded.ensures.same in
+    let search = c.args.self.now in
+    let ready = c.requires.ready in
+    let least = subst (AreLeast c.args.graph.now c.args.library.now) (sym c.as_slice.ensures.value) ready.least in
+    bounded c.args.graph.now c.args.library.now c.args.accepted.now search.name c.as_slice.result.now
+    c.waiting_signals-waiting.result c.sum_without.result search.bar ready.coded c.requires.accepted ready.new least
+    c.graph.result.now c.classes-classes.result.now graph given c.waiting_signals-waiting.ensures
+    c.sum_without.ensures c.if-sum_without-self.true
