@@ -192,7 +192,8 @@ module _ (c : CodedGraph) (classes : List Class) (new : Signal) (copies : List C
                   instance = record {
                     cell = instance.cell;
                     pins = pins;
-                    signals = λ k l below. (let low = inside k l below in omega (arith, low, made.graph_is.few_signals));
+                    signals = λ k l below.
+                        (let low = inside k l below in omega (arith, low, made.graph_is.few_signals));
                   };
                   signals = inside;
                 } in

@@ -15,7 +15,8 @@ pub one_le : (b d : Bool) → (b ≡ true → d ≡ true) → (if b then 1 else 
 one_le true d within = rw (within refl) (omega arith)
 one_le false d within = omega arith
 
-pub size_le : (n i few more : ℕ) → ((j : ℕ) → bit few j ≡ true → bit more j ≡ true) → size_from n i few ≤ size_from n i more
+pub size_le : (n i few more : ℕ) → ((j : ℕ) → bit few j ≡ true → bit more j ≡ true)
+    → size_from n i few ≤ size_from n i more
 size_le zero i few more within = omega arith
 size_le (suc n) i few more within =
     let head = one_le (bit few i) (bit more i) (within i) in

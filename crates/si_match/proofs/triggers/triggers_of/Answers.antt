@@ -40,7 +40,8 @@ loop-a-preserved c =
       triggers = one_more_trigger coded z a.event.sig c.loop-a.signals c.set-signals.result trigger
           c.set-signals.ensures so_far.triggers;
       found = one_more_found coded z c.arcs-a-items.result.now c.loop-a.a-index a c.loop-a.signals
-          c.set-signals.result c.loop-a-test.true c.a-item.is so_far.found more (λ changes. c.set-signals.ensures.there);
+          c.set-signals.result c.loop-a-test.true c.a-item.is so_far.found more
+          (λ changes. c.set-signals.ensures.there);
       rising = elim c.if-a-2.branch [
         | then-a-2 w ↦ subst WithinSignals (sym w.rising-is) (both_set c.loop-a.rising c.loop-a.signals a.event.sig
             w.set-rising.result c.set-signals.result so_far.rising w.set-rising.ensures c.set-signals.ensures)
