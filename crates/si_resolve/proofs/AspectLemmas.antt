@@ -41,6 +41,20 @@ none_left : (xs : List Aspect) → unparted_count xs [] ≡ 0
 none_left [] = refl
 none_left (x ∷ xs) = refl
 
+-- they are no more than the conflicts
+one_stays : (x y : Aspect) → stays_by x y ≤ 1
+one_stays x y = elim (cases_Bool (part x y)) [
+  | inl parts ↦ rw parts (omega arith)
+  | inr stay ↦ rw stay (omega arith)
+]
+
+pub unparted_few : (xs ys : List Aspect) → unparted_count xs ys ≤ length xs
+unparted_few [] ys = omega arith
+unparted_few (x ∷ xs) [] = omega arith
+unparted_few (x ∷ xs) (y ∷ ys) =
+    let rest = unparted_few xs ys in
+    omega (arith, one_stays x y, rest)
+
 -- the first n conflicts, and the others
 unparted_split : (n : ℕ) (xs ys : List Aspect)
     → unparted_count xs ys ≡ unparted_count (take n xs) (take n ys) + unparted_count (drop n xs) (drop n ys)

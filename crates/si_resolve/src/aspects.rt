@@ -73,11 +73,14 @@ impl Column {
     }
 
     /// Whether the conflicts that the two blocks don't part are fewer than `bar`. It ends as soon
-    /// as they aren't.
+    /// as they aren't, and at once where there are fewer conflicts anyway.
     pub(crate) fn leaves_below(&self, other: &Column, bar: u64) -> bool
         requires { length other.now ≡ length self.now }
         ensures { IsTrue result ↔ (of_aspects.unparted_count self.now other.now < bar) }
     {
+        if (self.aspects.len() as u64) < bar {
+            return true;
+        }
         are_below(self.aspects.as_slice(), other.aspects.as_slice(), bar)
     }
 }
@@ -101,13 +104,10 @@ fn aspect_for(set: &StateSet, sides: &StateSet, pair: &Pair) -> Aspect
 fn aspect_of_flags(p: bool, q: bool, p_side: bool, q_side: bool) -> Aspect
     ensures { result ≡ aspect_by p q p_side q_side }
 {
-    match (p, q, p_side, q_side) {
-        (true, _, _, _) => Aspect::Touched,
-        (false, true, _, _) => Aspect::Touched,
-        (false, false, true, true) => Aspect::Together,
-        (false, false, true, false) => Aspect::Apart,
-        (false, false, false, true) => Aspect::Apart,
-        (false, false, false, false) => Aspect::Together,
+    match (p | q, p_side != q_side) {
+        (true, _) => Aspect::Touched,
+        (false, true) => Aspect::Apart,
+        (false, false) => Aspect::Together,
     }
 }
 

@@ -133,13 +133,12 @@ insert_some g a n b = then_some _ _ (audit_readings_some g a n b)
     (λ l takes. gives_some (sg_text (current_sg readings.given.model readings.given.states l))))))
 
 -- the states of the given graph keep their names
-pub names_taken : (text : List ℕ) (given : Sg) (coded : CodedGraph) (n : Netlist) (l : History) → IsGivenBy text given
-    → IsSound given.graph coded → TakesAll given.states (given_history coded) n.inserts l
-    → AreStateNames l.given.graph given.states
-names_taken text given coded n l is sound takes =
-    let stays = ap (λ (c : CodedGraph). c.graph) (given_stays given.states (given_history coded) n.inserts l takes) in
-    subst (λ (g : StateGraph). AreStateNames g given.states) (sym (stays ∙ sound.same_graph))
-    (given_state_names text given is)
+pub names_taken : (states : List (List ℕ)) (coded : CodedGraph) (n : Netlist) (l : History)
+    → AreStateNames coded.graph states → TakesAll states (given_history coded) n.inserts l
+    → AreStateNames l.given.graph states
+names_taken states coded n l are takes =
+    let stays = ap (λ (c : CodedGraph). c.graph) (given_stays states (given_history coded) n.inserts l takes) in
+    subst (λ (g : StateGraph). AreStateNames g states) (sym stays) are
 
 -- ---- the refusals of `synth`
 refused_alike : (style : Style) (file text : List ℕ) (refusal : TextRefusal) → resolve file text (Err refusal)

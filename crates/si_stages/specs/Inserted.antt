@@ -6,6 +6,7 @@ use Rattle.si_audit.specs.Faults.{ShowsRejection}
 use Rattle.si_audit.specs.declared.fault.AuditFault.{AuditFault}
 use Rattle.si_base.specs.Codes.{CodedGraph}
 use Rattle.si_base.specs.GivenGraph.{Sg}
+use Rattle.si_base.specs.Graph.{StateGraph}
 use Rattle.si_base.specs.Netlist.{Netlist}
 use Rattle.si_insert.specs.Lineage.{History, given_history}
 use Rattle.si_inserted.specs.Current.{current_sg}
@@ -18,15 +19,23 @@ use Rattle.si_sg.specs.CanonicalText.{sg_text}
 use Rattle.si_stages.specs.Audited.{IsNamedSo}
 use Rattle.si_stages.specs.Resolving.{resolution}
 
--- the text of the current graph of a lineage of the given graph, and no refusal
-abbrev pub current_text : Sg → History → Stage TextRefusal (List ℕ)
-current_text given l = gives (sg_text (current_sg given.model given.states l))
+-- the text of the current graph of a lineage, with that model name, where the given states have
+-- these names; and no refusal
+abbrev pub current_text : (model : List ℕ) (states : List (List ℕ)) → History
+    → Stage TextRefusal (List ℕ)
+current_text model states l = gives (sg_text (current_sg model states l))
+
+-- the text of a graph after the insertions that resolve its conflicts
+abbrev pub resolved_text : (model : List ℕ) (states : List (List ℕ)) → StateGraph
+    → Stage TextRefusal (List ℕ)
+resolved_text model states graph = do
+  lineage ← resolution graph states
+  current_text model states lineage
 
 abbrev pub resolve : (file text : List ℕ) → Stage TextRefusal (List ℕ)
 resolve file text = do
   given ← graph_in file text
-  lineage ← resolution given.graph given.states
-  current_text given lineage
+  resolved_text given.model given.states given.graph
 
 -- the refusal shows the first insertion of the netlist that isn't taken, and the first reason
 -- against it
@@ -45,13 +54,19 @@ abbrev pub lineage_with_insertions : (states : List (List ℕ)) → CodedGraph �
 lineage_with_insertions states coded n (Ok l) = TakesAll states (given_history coded) n.inserts l
 lineage_with_insertions states coded n (Err refusal) = IsInsertRejection states coded n refusal
 
--- the text of a graph after the insertions of a netlist, whose gates aren't looked at
+-- the text of a proper graph after the insertions of a netlist, whose gates aren't looked at
+abbrev pub text_with_insertions : (model : List ℕ) (states : List (List ℕ)) → CodedGraph → Netlist
+    → Stage TextRefusal (List ℕ)
+text_with_insertions model states coded n = do
+  lineage ← lineage_with_insertions states coded n
+  current_text model states lineage
+
+-- the same of a graph that is read
 abbrev pub inserted_text : (netlist : List ℕ) → Sg → Netlist → Stage TextRefusal (List ℕ)
 inserted_text netlist given n = do
   coded ← proper given.graph given.states
   _ ← match_lists netlist coded n
-  lineage ← lineage_with_insertions given.states coded n
-  current_text given lineage
+  text_with_insertions given.model given.states coded n
 
 abbrev pub insert : (graph graph_text netlist netlist_text : List ℕ) → Stage TextRefusal (List ℕ)
 insert graph graph_text netlist netlist_text = do

@@ -2,6 +2,8 @@
 
 ghost use Rattle.std.specs.Prelude.{◌≡◌, ℕ, List, IfOk, IfErr, Ok, length};
 ghost use Rattle.si_base.specs.System.{IsFor};
+ghost use Rattle.si_circuit.specs.Circuits.{AreStateNames};
+ghost use Rattle.si_insert.specs.Lineage.{AllGiven};
 ghost use Rattle.si_readings.specs.Checks.{IsNamed};
 ghost use Rattle.si_refusals.specs.Ending.{MayStop, ending_of};
 ghost use Rattle.si_sg.specs.GivenGraph.{IsGivenBy, sg_now};
@@ -11,8 +13,9 @@ use crate::audited::rejection;
 use crate::resolving::resolution;
 use si_audit::walk::lineage_of;
 use si_base::names::Names;
-use si_base::text::Text;
+use si_base::text::{Name, Text};
 use si_checks::proper::Proper;
+use si_graph::graph::Graph;
 use si_insert::lineage::Lineage;
 use si_inserted::text::current_text;
 use si_netlist::netlist::Netlist;
@@ -40,8 +43,27 @@ pub fn resolve<'w>(alloc: Global, file: &'w str, text: &[u8]) -> Result<Text, Re
         graph,
         states,
     } = graph_in(alloc, file, text)?;
-    let resolved = resolution(alloc, graph, &states)?;
-    let output = current_text(alloc, resolved.lineage(), &model, &states)?;
+    resolved_text(alloc, graph, &model, &states)
+}
+
+/// The text of the graph, whose states have these names, after the insertions that resolve its
+/// conflicts.
+fn resolved_text(
+    alloc: Global,
+    graph: Graph,
+    model: &Name,
+    states: &Names,
+) -> Result<Text, Refusal<'static>>
+    requires given { AllGiven graph.signals }
+    requires named { IsNamed graph states.now }
+    requires states { AreStateNames graph states.now }
+    ensures ok { IfOk result (λ output.
+        stage.resolved_text model.now states.now graph (Ok output)) }
+    ensures err { IfErr result (λ r.
+        MayStop (stage.resolved_text model.now states.now graph) (ending_of r)) }
+{
+    let resolved = resolution(alloc, graph, states)?;
+    let output = current_text(alloc, resolved.lineage(), model, states)?;
     Ok(output)
 }
 
@@ -93,8 +115,27 @@ fn inserted_text<'w>(
     } = given;
     let proper = proper_of(alloc, graph, &states)?;
     match_lists(netlist_file, proper.coded(), netlist)?;
-    let lineage = lineage_with_insertions(alloc, proper, &states, netlist)?;
-    let output = current_text(alloc, &lineage, &model, &states)?;
+    text_with_insertions(alloc, proper, &model, &states, netlist)
+}
+
+/// The text of the graph, whose states have these names, after the insertions of the netlist.
+fn text_with_insertions(
+    alloc: Global,
+    graph: Proper,
+    model: &Name,
+    states: &Names,
+    netlist: &Netlist,
+) -> Result<Text, Refusal<'static>>
+    requires names { AreStateNames graph.graph states.now }
+    requires fits { IsFor graph netlist.now }
+    ensures ok { IfOk result (λ output.
+        stage.text_with_insertions model.now states.now graph netlist.now (Ok output)) }
+    ensures err { IfErr result (λ r.
+        MayStop (stage.text_with_insertions model.now states.now graph netlist.now)
+        (ending_of r)) }
+{
+    let lineage = lineage_with_insertions(alloc, graph, states, netlist)?;
+    let output = current_text(alloc, &lineage, model, states)?;
     Ok(output)
 }
 
