@@ -34,7 +34,7 @@ unparted_count xs ys = 0
 
 -- how many conflicts are looked at so for each candidate
 abbrev pub max_compared : ℕ
-max_compared = 65536
+max_compared = 32768
 
 abbrev pub column_at : List (List Aspect) → ℕ → List Aspect
 column_at columns k = slice_index_or columns k []

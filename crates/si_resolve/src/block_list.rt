@@ -42,7 +42,7 @@ pub(crate) struct BlockList {
 }
 
 /// How many conflicts are compared with each candidate before anything else is done for it.
-const MAX_COMPARED: u32 = 65_536;
+const MAX_COMPARED: u32 = 32_768;
 
 impl BlockList {
     ghost use Rattle.si_resolve.specs.Aspects as of_aspects;
