@@ -4,6 +4,7 @@ pub mod LawfulParts
 pub mod BlockingLemmas
 pub mod BlockCopyCount
 mod BlockStates
+mod EarlierLemmas
 mod MaySwitchArcs
 mod MaySwitchWords
 mod PartLemmas

@@ -1,7 +1,7 @@
 -- Where a new signal may switch, for many sets at once: what the bits of words say.
 use Rattle.std.proofs.Common.{◌≡◌, ◌≢◌, ℕ, ◌+◌, ◌-◌, ◌*◌, ◌%◌, ◌^◌, ◌<◌, ◌≤◌, ◌==◌}
-use Rattle.std.proofs.Common.{Bool, true, false, List, [], ◌∷◌, ◌++◌, length, get_or, set, Contains, Option}
-use Rattle.std.proofs.Common.{sym, ap, subst, ◌∙◌, arith, inl, inr, ◌⊎◌, ◌↔◌, bit_and, bit_or}
+use Rattle.std.proofs.Common.{Bool, true, false, List, [], ◌∷◌, ◌++◌, length, get_or, set, Contains}
+use Rattle.std.proofs.Common.{refl, sym, ap, subst, ◌∙◌, arith, inl, inr, ◌⊎◌, ◌↔◌, bit_and, bit_or}
 use Rattle.std.proofs.Common.{get_or-set_same, get_or-set_other}
 use Rattle.std.proofs.lemmas.Bool.{cases_eq, cases_Bool, true≢false, false_from_ne_true}
 use Rattle.std.proofs.lemmas.List.{get_or_default, length-map}
@@ -10,21 +10,20 @@ use Rattle.std.proofs.lemmas.Nat.Bits.{bit_at_set_same, bit_at_set_other}
 use Rattle.std.specs.Int.{w128}
 use Rattle.si_base.specs.declared.graph.Edge.{Edge}
 use Rattle.si_base.specs.Bits.{bit}
-use Rattle.si_base.specs.Codes.{IsDeterministic}
-use Rattle.si_base.specs.Graph.{StateGraph, IsGraph, IsNonInput, Step}
+use Rattle.si_base.specs.Graph.{StateGraph, IsGraph, IsNonInput, Step, arc}
 use Rattle.si_base.specs.Sets.{IsIn}
-use Rattle.si_graph.specs.Arcs.{edge_at, no_edge, IsFirstPlace, IsInto}
-use Rattle.si_graph.proofs.ClosureLemmas.{place_in_walk, later_place}
+use Rattle.si_graph.specs.Arcs.{edge_at, no_edge}
 use Rattle.si_closures.specs.WordSearch.{column, HasBit}
 use Rattle.si_closures.proofs.WordBits.{in_and, in_or, in_not}
 use Rattle.si_closures.proofs.WordSearchLemmas.{in_column}
 use Rattle.si_closures.proofs.WordLemmas.{full_bit}
 use Rattle.si_candidates.specs.Blocks.{block_at}
-use Rattle.si_candidates.specs.Blocking.{MaySwitch, MayPass, MayLeave, KeepsExit}
+use Rattle.si_candidates.specs.declared.earlier.EarlierStep.{EarlierStep}
+use Rattle.si_candidates.specs.Blocking.{MaySwitch, MayPass, MayLeave}
+use Rattle.si_candidates.specs.Earlier.{AreEarlier}
 use Rattle.si_candidates.specs.ManySets.{AreToldBelow, ArePacked, Tells, TellsOf}
 use Rattle.si_candidates.proofs.BlockStates.{same_sets}
-use Rattle.si_candidates.proofs.MaySwitchArcs.{AreKept, kept_none, kept_more, kept_all, switch_passes, passes_switch}
-use Rattle.si_candidates.proofs.MaySwitchArcs.{keeps_at}
+use Rattle.si_candidates.proofs.MaySwitchArcs.{switch_passes, passes_switch}
 
 -- ---- bits
 pub not_is : (x k : ℕ) → x < 2 ^ 128 → k < 128
@@ -107,32 +106,27 @@ abbrev pub PassBelow : StateGraph → List Bool → ℕ → Type 0
 PassBelow g set n = (j : ℕ) → j < n → j < length g.edges → IsIn set (edge_at g.edges j).from
     → MayPass g (IsIn set) (edge_at g.edges j)
 
-pub item_at : (g : StateGraph) (arcs : List Edge) (n : ℕ) (a : Edge) → arcs ≡ g.edges → n < length arcs
-    → a ≡ get_or arcs n a → a ≡ edge_at g.edges n
-item_at g arcs n a same inside at = at ∙ ap (λ (es : List Edge). get_or es n a) same
-    ∙ sym (get_or_default g.edges n no_edge a (omega (arith, inside, ap length same)))
-
 module _ (g : StateGraph) (words : List ℕ) where
   pub no_arc_yet : Tells words (λ set. PassBelow g set 0) (2 ^ 128 - 1)
   no_arc_yet k few = (λ h j early. absurd (omega arith), λ passes. full_bit k few)
 
-  pub one_arc_more : (n may next : ℕ) (a : Edge) → n < length g.edges → a ≡ edge_at g.edges n
-      → Tells words (λ set. PassBelow g set n) may
-      → TellsOf may words (λ set. IsIn set a.from → MayPass g (IsIn set) a) next
+  pub one_arc_more : (n may next : ℕ) → n < length g.edges → Tells words (λ set. PassBelow g set n) may
+      → TellsOf may words
+      (λ set. IsIn set (edge_at g.edges n).from → MayPass g (IsIn set) (edge_at g.edges n)) next
       → Tells words (λ set. PassBelow g set (n + 1)) next
-  one_arc_more n may next a there is before one k few = (
+  one_arc_more n may next there before one k few = (
     λ h j early inside. elim (cases_eq j n) [
-      | inl same ↦ subst At (is ∙ ap (edge_at g.edges) (sym same)) ((one k few).0 h).1
+      | inl same ↦ subst At (sym same) ((one k few).0 h).1
       | inr other ↦ (before k few).0 ((one k few).0 h).0 j (omega arith) inside
     ],
     λ passes. (one k few).1 (
       (before k few).1 (λ j early inside. passes j (omega arith) inside),
-      subst At (sym is) (passes n (omega arith) there),
+      passes n (omega arith) there,
     ),
   )
     where
-      At : Edge → Type 0
-      At b = IsIn (column k words) b.from → MayPass g (IsIn (column k words)) b
+      At : ℕ → Type 0
+      At i = IsIn (column k words) (edge_at g.edges i).from → MayPass g (IsIn (column k words)) (edge_at g.edges i)
 
   pub all_arcs : (n may : ℕ) → IsGraph g → length g.edges ≤ n → Tells words (λ set. PassBelow g set n) may
       → Tells words (λ set. MaySwitch g (IsIn set)) may
@@ -151,62 +145,87 @@ module _ (g : StateGraph) (words : List ℕ) where
       same_at : (j : ℕ) → j < length g.edges → get_or g.edges j (edge_at g.edges j) ≡ edge_at g.edges j
       same_at j inside = get_or_default g.edges j (edge_at g.edges j) no_edge inside
 
--- ---- the arcs into the source of an exit
-module _ (g : StateGraph) (words : List ℕ) (exit : Edge) where
-  abbrev pub KeptBelow : ℕ → List Bool → Type 0
-  KeptBelow n set = AreKept g set exit n
+-- ---- the earlier steps of an arc
+-- the step leads out of the set
+abbrev pub LeadsOut : List Bool → EarlierStep → Type 0
+LeadsOut set step = IsIn set step.from × (IsIn set step.to → ⊥)
 
-  pub none_kept_yet : (at : Option ℕ) → IsFirstPlace (IsInto g.edges exit.from) 0 (length g.edges) at
-      → Tells words (KeptBelow (place_in_walk g at)) (2 ^ 128 - 1)
-  none_kept_yet at first k few = (λ h. kept_none g (column k words) exit at first, λ kept. full_bit k few)
+-- the first n steps do
+abbrev pub LeadOutBelow : List EarlierStep → List Bool → ℕ → Type 0
+LeadOutBelow steps set n = (step : EarlierStep) (j : ℕ) → j < n → j < length steps → get_or steps j step ≡ step
+    → LeadsOut set step
 
-  pub one_kept_more : (m kept keep : ℕ) (next : Option ℕ) → (m < length g.edges) × IsInto g.edges exit.from m
-      → IsFirstPlace (IsInto g.edges exit.from) (m + 1) (length g.edges) next → Tells words (KeptBelow m) kept
-      → Tells words (λ set. KeepsExit g (IsIn set) exit (edge_at g.edges m)) keep
-      → Tells words (KeptBelow (place_in_walk g next)) (bit_and kept keep)
-  one_kept_more m kept keep next stands first before here k few = (
+module _ (words : List ℕ) (step : EarlierStep) (x y k : ℕ) (few : k < 128) (y_fits : y < 2 ^ 128)
+    (x_is : x ≡ get_or words step.from 0) (y_is : y ≡ get_or words step.to 0) where
+  out_by_bits : (bit (bit_and x (2 ^ 128 - 1 - y)) k ≡ true) ↔ LeadsOut (column k words) step
+  out_by_bits = (
     λ h. (
-        let parts = (in_and kept keep k).0 h in
-        kept_more g (column k words) exit m next first ((here k few).0 parts.1) ((before k few).0 parts.0)),
-    λ all. (
-        let later = later_place g (column k words) exit.from m next stands.0 first in
-        (in_and kept keep k).1 (
-          (before k few).1 (λ j early. all j (omega (arith, early, later))),
-          (here k few).1 (all m later stands.0 stands.1),
+        let parts = (in_and x (2 ^ 128 - 1 - y) k).0 h in (
+          (in_column k words step.from).1 (ap (λ w. bit w k) (sym x_is) ∙ parts.0),
+          λ there. (not_is y k y_fits few).0 parts.1 (ap (λ w. bit w k) y_is ∙ (in_column k words step.to).0 there),
         )),
+    λ both. (in_and x (2 ^ 128 - 1 - y) k).1 (
+      ap (λ w. bit w k) x_is ∙ (in_column k words step.from).0 both.0,
+      (not_is y k y_fits few).1 (λ has. both.1 ((in_column k words step.to).1 (ap (λ w. bit w k) (sym y_is) ∙ has))),
+    ),
   )
 
-  pub may_leave_by : (kept : ℕ) → IsNonInput g.signals exit.event.sig → Tells words (KeptBelow (length g.edges)) kept
-      → Tells words (λ set. MayLeave g (IsIn set) exit) kept
-  may_leave_by kept non_input tells k few = (
-    λ h. record { non_input = non_input; keeps = kept_all g (column k words) exit ((tells k few).0 h) },
-    λ may. (tells k few).1 (λ j early inside into. may.keeps (edge_at g.edges j)
-        (j, inside, get_or_default g.edges j (edge_at g.edges j) no_edge inside) into),
-  )
+module _ (words : List ℕ) (steps : List EarlierStep) where
+  pub none_out_yet : Tells words (λ set. LeadOutBelow steps set 0) (2 ^ 128 - 1)
+  none_out_yet k few = (λ h step j early. absurd (omega arith), λ all. full_bit k few)
 
-pub each_keeps : (g : StateGraph) (words : List ℕ) (exit before : Edge)
-    → ((set : List Bool) → KeepsExit g (IsIn set) exit before)
-    → Tells words (λ set. KeepsExit g (IsIn set) exit before) (2 ^ 128 - 1)
-each_keeps g words exit before keeps k few = (λ h. keeps (column k words), λ _. full_bit k few)
-
-module _ (g : StateGraph) (words : List ℕ) (exit before : Edge) (t x y : ℕ) (y_fits : y < 2 ^ 128)
-    (x_is : x ≡ get_or words before.from 0) (y_is : y ≡ get_or words t 0) (one : IsDeterministic g)
-    (step : Step g before.from exit.event t) (apart : before.event ≢ exit.event) where
-  pub keeps_by_bits : Tells words (λ set. KeepsExit g (IsIn set) exit before) (bit_and x (2 ^ 128 - 1 - y))
-  keeps_by_bits k few = (
-    λ h. (
-        let parts = (in_and x (2 ^ 128 - 1 - y) k).0 h in
-        keeps_at g (IsIn (column k words)) exit before t one step
-        ((in_column k words before.from).1 (ap (λ w. bit w k) (sym x_is) ∙ parts.0))
-        (λ there. (not_is y k y_fits few).0 parts.1 (ap (λ w. bit w k) y_is ∙ (in_column k words t).0 there))),
-    λ keeps. (
-        let both = keeps apart t step in
-        (in_and x (2 ^ 128 - 1 - y) k).1 (
-          ap (λ w. bit w k) x_is ∙ (in_column k words before.from).0 both.0,
-          (not_is y k y_fits few).1
-              (λ has. both.1 ((in_column k words t).1 (ap (λ w. bit w k) (sym y_is) ∙ has))),
-        )),
+  pub one_out_more : (n kept x y : ℕ) (step : EarlierStep) → n < length steps → step ≡ get_or steps n step
+      → y < 2 ^ 128 → x ≡ get_or words step.from 0 → y ≡ get_or words step.to 0
+      → Tells words (λ set. LeadOutBelow steps set n) kept
+      → Tells words (λ set. LeadOutBelow steps set (n + 1)) (bit_and kept (bit_and x (2 ^ 128 - 1 - y)))
+  one_out_more n kept x y step there is y_fits x_is y_is before k few = (
+    λ h other j early inside at. (
+        let parts = (in_and kept out k).0 h in
+        elim (cases_eq j n) [
+          | inl last ↦ subst (LeadsOut (column k words)) (sym (step_is other j last at)) (by_bits.0 parts.1)
+          | inr first ↦ (before k few).0 parts.0 other j (omega (arith, early, first)) inside at
+        ]),
+    λ all. (in_and kept out k).1 (
+      (before k few).1 (λ other j early. all other j (omega (arith, early))),
+      by_bits.1 (all step n (omega arith) there (sym is)),
+    ),
   )
+    where
+      out : ℕ
+      out = bit_and x (2 ^ 128 - 1 - y)
+
+      by_bits : (bit out k ≡ true) ↔ LeadsOut (column k words) step
+      by_bits = out_by_bits words step x y k few y_fits x_is y_is
+
+      step_is : (other : EarlierStep) (j : ℕ) → j ≡ n → get_or steps j other ≡ other → other ≡ step
+      step_is other j last at = sym at ∙ ap (λ (i : ℕ). get_or steps i other) last
+          ∙ get_or_default steps n other step there ∙ sym is
+
+-- an arc by an event of the circuit may lead out of the sets out of which its earlier steps lead
+pub may_leave_by : (g : StateGraph) (words : List ℕ) (exit : Edge) (steps : List EarlierStep) (n kept : ℕ)
+    → length steps ≤ n → IsNonInput g.signals exit.event.sig → Contains g.edges exit
+    → AreEarlier g exit steps → Tells words (λ set. LeadOutBelow steps set n) kept
+    → Tells words (λ set. MayLeave g (IsIn set) exit) kept
+may_leave_by g words exit steps n kept all non_input there are tells k few = (
+  λ h. record {
+    non_input = non_input;
+    keeps = λ before arc_in into apart t step. (
+        let at = (are (record { from = before.from; to = t })).1 (
+          before.event,
+          record {
+            non_input = non_input;
+            apart = λ same. apart (sym same);
+            first = step;
+            other = subst (λ (s : ℕ). Step g before.from before.event s) into arc_in;
+            next = there;
+          },
+        ) in
+        (tells k few).0 h (record { from = before.from; to = t }) at.0 (omega (arith, at.1, all)) at.1 at.2);
+  },
+  λ may. (tells k few).1 (λ step j early inside at. (
+      let is = (are step).0 (j, inside, at) in
+      may.keeps (arc step.from is.0 exit.from) is.1.other refl (λ same. is.1.apart (sym same)) step.to is.1.first)),
+)
 
 -- ---- blocks as words
 -- the first n states of the set have bit k, too

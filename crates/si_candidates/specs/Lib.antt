@@ -5,6 +5,7 @@ pub mod Adding
 pub mod Parts
 pub mod Blocking
 pub mod ManySets
+pub mod Earlier
 pub mod Laws
 pub mod Tree
 pub mod Sides

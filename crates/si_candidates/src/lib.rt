@@ -5,6 +5,7 @@ pub mod block;
 pub mod blocks;
 pub mod by_sides;
 pub mod classes;
+mod earlier;
 pub mod interval;
 mod intervals;
 pub mod laws;

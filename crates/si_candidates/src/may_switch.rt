@@ -2,14 +2,16 @@
 
 ghost use Rattle.std.specs.Prelude.{◌≡◌, ℕ, ◌+◌, ◌<◌, ◌≤◌, ◌↔◌, ◌⊎◌, IfOk, OnOk, All};
 ghost use Rattle.std.specs.Prelude.{Contains, length};
-ghost use Rattle.si_base.specs.Codes.{IsDeterministic};
 ghost use Rattle.si_base.specs.Graph.{IsGraph};
 ghost use Rattle.si_base.specs.Sets.{IsIn};
+ghost use Rattle.si_graph.specs.Arcs.{edge_at};
 ghost use Rattle.si_closures.specs.WordSearch.{HasBit};
-ghost use Rattle.si_candidates.specs.Blocking.{MaySwitch, MayPass, MayLeave, KeepsExit};
+ghost use Rattle.si_candidates.specs.Blocking.{MaySwitch, MayPass, MayLeave};
+ghost use Rattle.si_candidates.specs.Earlier.{AreEarlier, AreEarlierByArc};
 ghost use Rattle.si_candidates.specs.ManySets.{AreAllTold, AreToldBelow, ArePacked, Tells, TellsOf};
 
 use crate::block::Block;
+use crate::earlier::{EarlierByArc, EarlierStep};
 use si_base::graph::Edge;
 use si_base::ids::{NoMemory, StateId};
 use si_base::sets::StateSet;
@@ -21,7 +23,8 @@ use std::alloc::Global;
 /// For each block whether a new signal may switch in it: no input leads out of it, and what leads
 /// out of it and was enabled before led out of it then too. It fails only where memory runs out.
 ///
-/// It takes a pass over the arcs for each 128 blocks.
+/// It takes a pass over the arcs for each 128 blocks. What each arc's event could do earlier is
+/// looked up once for all of them.
 pub fn which_may_switch(
     alloc: Global,
     graph: &Proper,
@@ -31,8 +34,12 @@ pub fn which_may_switch(
     ensures { IfOk result (λ may. AreAllTold graph.now.graph blocks.now may.items) }
 {
     let mut may: Vec<bool> = Vec::new(alloc);
+    if blocks.is_empty() {
+        return Ok(may);
+    }
+    let earlier = EarlierByArc::of(alloc, graph.coded().graph())?;
     while may.len() < blocks.len() {
-        add_answers(alloc, graph, blocks, &mut may)?;
+        add_answers(alloc, graph, &earlier, blocks, &mut may)?;
     }
     Ok(may)
 }
@@ -41,9 +48,11 @@ pub fn which_may_switch(
 fn add_answers(
     alloc: Global,
     graph: &Proper,
+    earlier: &EarlierByArc,
     blocks: &[Block],
     may: &mut Vec<bool>,
 ) -> Result<(), NoMemory>
+    requires earlier { AreEarlierByArc graph.now.graph earlier.now }
     requires sizes { All (λ b. length b ≡ graph.now.graph.states) blocks.now }
     requires before { AreToldBelow graph.now.graph blocks.now may.old.items }
     requires more { length may.old.items < length blocks.now }
@@ -54,7 +63,7 @@ fn add_answers(
     let g = graph.coded().graph();
     let first = may.len();
     let words = block_words(alloc, g.states(), blocks, first)?;
-    let sets = which_sets_may_switch(g, &words);
+    let sets = which_sets_may_switch(g, earlier, &words);
     let count = (blocks.len() - first).min(SETS);
     for k in 0..count {
         may.push(has_bit(sets, k as u32))?;
@@ -98,67 +107,54 @@ fn put_set(words: &mut [u128], k: u32, set: &StateSet)
 }
 
 /// Those of the 128 sets in which a new signal may switch.
-fn which_sets_may_switch(graph: &Graph, words: &[u128]) -> u128
-    requires deterministic { IsDeterministic graph.now }
+fn which_sets_may_switch(graph: &Graph, earlier: &EarlierByArc, words: &[u128]) -> u128
     requires size { length words.now ≡ graph.now.states }
+    requires earlier { AreEarlierByArc graph.now earlier.now }
     ensures { Tells words.now (λ set. MaySwitch graph.now (IsIn set)) result }
 {
     let mut may = u128::MAX;
-    for arc in graph.arcs() {
-        may = those_that_pass(graph, words, may, arc);
+    for k in 0..graph.arcs().len() {
+        may = those_that_pass(graph, earlier, words, may, k);
     }
     may
 }
 
-/// Those of the given sets out of which the arc doesn't lead, or may lead.
-fn those_that_pass(graph: &Graph, words: &[u128], given: u128, arc: &Edge) -> u128
-    requires graph { IsGraph graph.now }
-    requires deterministic { IsDeterministic graph.now }
+/// Those of the given sets out of which the arc at that place doesn't lead, or may lead.
+fn those_that_pass(
+    graph: &Graph,
+    earlier: &EarlierByArc,
+    words: &[u128],
+    given: u128,
+    k: usize,
+) -> u128
     requires size { length words.now ≡ graph.now.states }
-    requires there { Contains graph.now.edges arc.now }
-    ensures { TellsOf given words.now
-        (λ set. IsIn set arc.now.from → MayPass graph.now (IsIn set) arc.now) result }
+    requires earlier { AreEarlierByArc graph.now earlier.now }
+    requires inside { k < length graph.now.edges }
+    ensures { let arc = edge_at graph.now.edges k in TellsOf given words.now
+        (λ set. IsIn set arc.from → MayPass graph.now (IsIn set) arc) result }
 {
+    let arc = &graph.arcs()[k];
     let stays = given & (!words[arc.from.0 as usize] | words[arc.to.0 as usize]);
     if stays == given {
         return given;
     }
-    stays | given & those_to_leave(graph, words, arc)
+    stays | given & those_to_leave(graph, words, arc, earlier.of_arc(k))
 }
 
-/// The sets out of which the arc may lead.
-fn those_to_leave(graph: &Graph, words: &[u128], arc: &Edge) -> u128
+/// The sets out of which the arc may lead, by its earlier steps.
+fn those_to_leave(graph: &Graph, words: &[u128], arc: &Edge, earlier: &[EarlierStep]) -> u128
     requires graph { IsGraph graph.now }
-    requires deterministic { IsDeterministic graph.now }
     requires size { length words.now ≡ graph.now.states }
-    requires sig { arc.now.event.sig < length graph.now.signals }
+    requires there { Contains graph.now.edges arc.now }
+    requires earlier { AreEarlier graph.now arc.now earlier.now }
     ensures { Tells words.now (λ set. MayLeave graph.now (IsIn set) arc.now) result }
 {
     if !graph.is_driven(arc.event.sig) {
         return 0;
     }
     let mut kept = u128::MAX;
-    let mut at = graph.first_in(arc.from);
-    while let Some(k) = at {
-        kept &= those_that_keep(graph, words, arc, &graph.edge(k));
-        at = graph.next_in(k);
+    for step in earlier {
+        kept &= words[step.from.0 as usize] & !words[step.to.0 as usize];
     }
     kept
-}
-
-/// The sets that the event of the exit left before `before` too, if it was enabled then.
-fn those_that_keep(graph: &Graph, words: &[u128], exit: &Edge, before: &Edge) -> u128
-    requires graph { IsGraph graph.now }
-    requires deterministic { IsDeterministic graph.now }
-    requires size { length words.now ≡ graph.now.states }
-    requires from { before.now.from < graph.now.states }
-    ensures { Tells words.now (λ set. KeepsExit graph.now (IsIn set) exit.now before.now) result }
-{
-    if before.event == exit.event {
-        return u128::MAX;
-    }
-    match graph.succ(before.from, exit.event) {
-        None => u128::MAX,
-        Some(t) => words[before.from.0 as usize] & !words[t.0 as usize],
-    }
 }

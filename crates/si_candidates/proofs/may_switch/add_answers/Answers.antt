@@ -1,17 +1,12 @@
 use Rattle.std.proofs.Common.{◌≡◌, ◌↔◌, ◌+◌, ◌<◌, ◌∙◌, Bool, true, [], length, ap, sym, subst, arith}
 use Rattle.std.proofs.lemmas.List.{length_push}
 use Rattle.si_base.specs.Graph.{StateGraph}
-use Rattle.si_base.specs.Codes.{CodedGraph, IsDeterministic}
+use Rattle.si_base.specs.Codes.{CodedGraph}
 use Rattle.si_base.specs.Sets.{IsIn}
 use Rattle.si_candidates.specs.Blocks.{block_at}
 use Rattle.si_candidates.specs.Blocking.{MaySwitch}
 use Rattle.si_candidates.proofs.MaySwitchWords.{told_of_block, told_more}
 use Rattle.si_candidates.proofs.may_switch.add_answers.Goals as goal
-
-pub which_sets_may_switch-sets-requires-clause-deterministic :
-    goal.which_sets_may_switch-sets-requires-clause-deterministic
-which_sets_may_switch-sets-requires-clause-deterministic c =
-    subst (λ (h : StateGraph). IsDeterministic h) (sym c.graph-g.ensures.same) c.graph-g.ensures.coded.deterministic
 
 pub loop-k-preserved : goal.loop-k-preserved
 loop-k-preserved c =

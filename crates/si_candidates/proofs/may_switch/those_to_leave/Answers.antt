@@ -1,42 +1,35 @@
-use Rattle.std.proofs.Common.{◌+◌, ℕ, [], length, subst}
-use Rattle.si_base.specs.declared.graph.Edge.{Edge}
-use Rattle.si_base.specs.Sets.{IsIn}
-use Rattle.si_graph.specs.Arcs.{IsFirstPlace, IsInto}
-use Rattle.si_graph.proofs.ClosureLemmas.{stands_first}
-use Rattle.si_candidates.specs.Blocking.{KeepsExit}
-use Rattle.si_candidates.specs.ManySets.{Tells}
-use Rattle.si_candidates.proofs.MaySwitchWords.{none_kept_yet, one_kept_more, may_leave_by}
+use Rattle.std.proofs.Common.{ap, sym, get_or, arith}
+use Rattle.si_candidates.specs.declared.earlier.EarlierStep.{EarlierStep}
+use Rattle.si_candidates.proofs.EarlierLemmas.{earlier_within}
+use Rattle.si_candidates.proofs.MaySwitchWords.{none_out_yet, one_out_more, may_leave_by}
 use Rattle.si_candidates.proofs.may_switch.those_to_leave.Goals as goal
 
-pub loop-at-init : goal.loop-at-init
-loop-at-init c =
-    let g = c.args.graph.now in
-    let exit = c.args.arc.now in
-    let at = c.first_in-at.result in
-    record {
-      stands = stands_first g [] exit.from 0 at c.first_in-at.ensures;
-      kept = none_kept_yet g c.args.words.now exit at c.first_in-at.ensures;
-    }
+pub loop-step-init : goal.loop-step-init
+loop-step-init c = none_out_yet c.args.words.now c.args.earlier.now
 
-pub loop-at-preserved : goal.loop-at-preserved
-loop-at-preserved c =
-    let g = c.args.graph.now in
+pub bounds-words-step-inside : goal.bounds-words-step-inside
+bounds-words-step-inside c =
+    let step = c.step-item.result in
+    let is = (c.requires.earlier step).0 (c.loop-step.step-index, c.loop-step-test.true, sym c.step-item.is) in
+    let within = earlier_within c.args.graph.now c.args.arc.now step c.requires.graph is in
+    omega (arith, within.0, ap (λ (s : EarlierStep). s.from) c.step.view_is, c.requires.size)
+
+pub bounds-words-step-inside-in-loop-step : goal.bounds-words-step-inside-in-loop-step
+bounds-words-step-inside-in-loop-step c =
+    let step = c.step-item.result in
+    let is = (c.requires.earlier step).0 (c.loop-step.step-index, c.loop-step-test.true, sym c.step-item.is) in
+    let within = earlier_within c.args.graph.now c.args.arc.now step c.requires.graph is in
+    omega (arith, within.1, ap (λ (s : EarlierStep). s.to) c.step.view_is, c.requires.size)
+
+pub loop-step-preserved : goal.loop-step-preserved
+loop-step-preserved c =
     let words = c.args.words.now in
-    let exit = c.args.arc.now in
-    let k = c.in-Some.k in
-    let keeps = c.those_that_keep-kept.result in
-    let after = c.next_in-at.result in
-    let stands = rw c.in-Some.is at c.loop-at.invariant.stands in
-    let kept = rw c.in-Some.is at c.loop-at.invariant.kept in
-    let First : ℕ → Type 0 = λ t. IsFirstPlace (IsInto g.edges t) (k + 1) (length g.edges) after in
-    let next = subst First stands.1 c.next_in-at.ensures in
-    let Told : Edge → Type 0 = λ a. Tells words (λ set. KeepsExit g (IsIn set) exit a) keeps in
-    let here = subst Told c.edge.ensures.edge c.those_that_keep-kept.ensures in
-    record {
-      stands = stands_first g [] exit.from (k + 1) after next;
-      kept = one_kept_more g words exit k c.loop-at.kept keeps after stands next kept here;
-    }
+    one_out_more words c.args.earlier.now c.loop-step.step-index c.loop-step.kept _ _ c.step-item.result
+    c.loop-step-test.true c.step-item.is (c.type_inv.words c.step.inside.0.1.0.0).fits
+    (ap (λ s. get_or words s 0) (ap (λ (s : EarlierStep). s.from) c.step.view_is))
+    (ap (λ s. get_or words s 0) (ap (λ (s : EarlierStep). s.to) c.step.view_is)) c.loop-step.invariant
 
 pub returns : goal.returns
-returns c = may_leave_by c.args.graph.now c.args.words.now c.args.arc.now c.loop-at.kept
-    (c.is_driven.ensures.0 c.if-not-is_driven.false) (rw c.in_default.is at c.loop-at.invariant.kept)
+returns c = may_leave_by c.args.graph.now c.args.words.now c.args.arc.now c.args.earlier.now c.loop-step.step-index
+    c.loop-step.kept (omega (arith, c.loop-step-test.false)) (c.is_driven.ensures.0 c.if-not-is_driven.false)
+    c.requires.there c.requires.earlier c.loop-step.invariant

@@ -1,21 +1,18 @@
 use Rattle.std.proofs.Common.{◌<◌, length, ap, arith}
-use Rattle.si_candidates.proofs.MaySwitchWords.{item_at, no_arc_yet, one_arc_more, all_arcs}
+use Rattle.si_candidates.proofs.MaySwitchWords.{no_arc_yet, one_arc_more, all_arcs}
 use Rattle.si_candidates.proofs.may_switch.which_sets_may_switch.Goals as goal
 
-pub loop-arc-init : goal.loop-arc-init
-loop-arc-init c = no_arc_yet c.args.graph.now c.args.words.now
+pub loop-k-init : goal.loop-k-init
+loop-k-init c = no_arc_yet c.args.graph.now c.args.words.now
 
-pub loop-arc-preserved : goal.loop-arc-preserved
-loop-arc-preserved c =
+pub loop-k-preserved : goal.loop-k-preserved
+loop-k-preserved c =
     let g = c.args.graph.now in
-    let n = c.loop-arc.arc-index in
-    let same = c.arcs-arc-items.ensures.arcs in
-    let there : n < length g.edges = omega (arith, c.loop-arc-test.true, ap length same) in
-    one_arc_more g c.args.words.now n c.loop-arc.may c.those_that_pass-may.result c.arc-item.result there
-    (item_at g c.arcs-arc-items.result.now n c.arc-item.result same c.loop-arc-test.true c.arc-item.is)
-    c.loop-arc.invariant c.those_that_pass-may.ensures
+    let n = c.loop-k.k in
+    let there : n < length g.edges = omega (arith, c.loop-k-test.true, ap length c.arcs-k-end.ensures.arcs) in
+    one_arc_more g c.args.words.now n c.loop-k.may c.those_that_pass-may.result there c.loop-k.invariant
+    c.those_that_pass-may.ensures
 
 pub returns : goal.returns
-returns c = all_arcs c.args.graph.now c.args.words.now c.loop-arc.arc-index c.loop-arc.may
-    c.arcs-arc-items.ensures.graph
-    (omega (arith, c.loop-arc-test.false, ap length c.arcs-arc-items.ensures.arcs)) c.loop-arc.invariant
+returns c = all_arcs c.args.graph.now c.args.words.now c.loop-k.k c.loop-k.may c.arcs-k-end.ensures.graph
+    (omega (arith, c.loop-k-test.false, ap length c.arcs-k-end.ensures.arcs)) c.loop-k.invariant
