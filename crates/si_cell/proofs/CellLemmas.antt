@@ -129,14 +129,21 @@ literal_within names w there =
     let is : (literal_of names w).sig ≡ k = ap (λ (o : Option ℕ). unwrap_or o 0) (sym at) in
     rw is (passes_at (λ n. bytes_eq (literal_name w) n) names k at).0
 
+any_words : (ws : List (List ℕ)) → list_all (λ w. true) ws ≡ true
+any_words [] = refl
+any_words (w ∷ ws) = any_words ws
+
 pub sum_there : (names ws : List (List ℕ)) → sum_fault names ws ≡ None
     → All (All (λ (l : Literal). l.sig < length names)) (sum_of names ws)
 sum_there names ws none = sum_all names (λ (l : Literal). l.sig < length names) (λ w. true)
-    (λ w there _. literal_within names w there) ws none (all_true ws)
-  where
-    all_true : (ws : List (List ℕ)) → list_all (λ w. true) ws ≡ true
-    all_true [] = refl
-    all_true (w ∷ ws) = all_true ws
+    (λ w there _. literal_within names w there) ws none (any_words ws)
+
+-- the literals of a cube are those of pins and of the own output
+pub cube_low : (names ws : List (List ℕ)) (cube : List Literal) → length names ≤ max_pins + 1
+    → cube_fault names ws ≡ None → cube ≡ cube_of names ws → All (λ (l : Literal). l.sig ≤ max_pins) cube
+cube_low names ws cube few none is = subst (All (λ (l : Literal). l.sig ≤ max_pins)) (sym is)
+    (cube_all names (λ (l : Literal). l.sig ≤ max_pins) (λ w. true)
+    (λ w there _. (let within = literal_within names w there in omega (arith, within, few))) ws none (any_words ws))
 
 -- ---- cubes whose literals rise
 no_some : {A : Type 0} (x : A) → Some x ≡ None → ⊥

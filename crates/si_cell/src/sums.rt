@@ -6,11 +6,11 @@ ghost use Rattle.si_words.specs.Reads.{words_now};
 ghost use Rattle.si_cell.specs.CellWords.{cube_fault, cube_of, sum_fault, sum_of};
 ghost use Rattle.si_cell.specs.Limits.{max_pins};
 
+use crate::pin_sum::{PinCube, PinSum};
 use si_base::fault::{LineFault, TextKind};
 use si_base::ids::{Code, Sig};
 use si_base::names::Names;
 use si_cube::cube::Cube;
-use si_cube::sum::Sum;
 use si_words::gate_lines::{is_one, parts_of};
 use si_words::lists::place_of;
 use si_words::words::literal_name;
@@ -50,18 +50,23 @@ fn read_cube(declared: &Names, words: &[&[u8]]) -> Result<Cube, TextKind>
 /// between them.
 ///
 /// Fails with the first fault of a cube, and where memory runs out.
-pub(crate) fn read_sum(alloc: Global, declared: &Names, words: &[&[u8]]) -> Result<Sum, LineFault>
+pub(crate) fn read_sum(
+    alloc: Global,
+    declared: &Names,
+    words: &[&[u8]],
+) -> Result<PinSum, LineFault>
     requires { length declared.now ≤ max_pins + 1 }
     ensures fault { Tells result (sum_fault declared.now (words_now words.now)) }
     ensures value { IfOk result (λ sum. sum ≡ sum_of declared.now (words_now words.now)) }
 {
     if is_one(b"0", words) {
-        return Ok(Sum::new(Vec::new(alloc)));
+        return Ok(PinSum::new(alloc));
     }
     let parts = parts_of(alloc, words)?;
-    let mut cubes = Vec::new(alloc);
+    let mut sum = PinSum::new(alloc);
     for part in &parts {
-        cubes.push(read_cube(declared, *part)?)?;
+        let cube = read_cube(declared, *part)?;
+        sum.push(PinCube::of(&cube))?;
     }
-    Ok(Sum::new(cubes))
+    Ok(sum)
 }

@@ -10,5 +10,5 @@ invariant-loop-part l = record {
   parts : parts_now l.part-items ≡ parts_at (codes "+") (words_now l.words);
   told : first_in (cube_fault l.declared) (drop l.part-index (parts_now l.part-items)) ≡ first_in
       (cube_fault l.declared) (parts_now l.part-items);
-  built : l.cubes.items ≡ map (cube_of l.declared) (take l.part-index (parts_now l.part-items));
+  built : l.sum ≡ map (cube_of l.declared) (take l.part-index (parts_now l.part-items));
 }
