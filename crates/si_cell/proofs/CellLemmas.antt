@@ -1,7 +1,8 @@
 -- Pins, sums and cells of lines without fault.
 use Rattle.std.proofs.Common.{◌≡◌, ◌≢◌, ℕ, ◌+◌, ◌<◌, ◌≤◌, ◌==◌, ◌||◌, not, Bool, true, false, List, [], ◌∷◌, ◌++◌}
 use Rattle.std.proofs.Common.{length, map, get_or, filter, bytes_eq, codes, Option, Some, None, refl, sym, ap, ◌∙◌}
-use Rattle.std.proofs.Common.{arith, inl, inr, append_assoc, unwrap_or, subst, AllPairs, All, IsTrue, nat_le}
+use Rattle.std.proofs.Common.{arith, if◌then◌else◌, inl, inr, append_assoc, unwrap_or, subst, AllPairs, All, IsTrue}
+use Rattle.std.proofs.Common.{nat_le}
 use Rattle.std.specs.List.{list_any, list_all, slice_split, onto_first}
 use Rattle.std.proofs.lemmas.Bool.{true≢false, cases_Bool, false_from_ne_true}
 use Rattle.std.proofs.lemmas.Bool.Decides.{eqb_tells, leb_tells}
@@ -9,19 +10,22 @@ use Rattle.std.proofs.lemmas.List.{length_push, length-map, get_or-map, get_or_a
 use Rattle.std.proofs.lemmas.List.Quantifiers.{all_pairs_push}
 use Rattle.std.proofs.lemmas.List.Elements.{All-nil, All-cons, All-push, filter_passes}
 use Rattle.std.proofs.lemmas.List.Folds.{list_any_none, list_any_at}
-use Rattle.si_base.specs.Faults.{when, first_after, first_in}
+use Rattle.si_base.specs.Faults.{when, ◌otherwise◌, first_after, first_in}
 use Rattle.si_base.specs.Netlist.{Sum}
 use Rattle.si_base.specs.Words.{is_signal_name}
-use Rattle.si_base.specs.declared.fault.TextKind.TheVariants.{Repeated, Undeclared, BadName, TooManyPins, TooManyCells}
+use Rattle.si_base.specs.declared.fault.TextKind.TheVariants.{BadLine, Repeated, Undeclared, BadName}
+use Rattle.si_base.specs.declared.fault.TextKind.TheVariants.{TooManyPins, TooManyCells}
+use Rattle.si_base.specs.declared.fault.TextKind.{TextKind}
+use Rattle.si_base.specs.declared.fault.LineFault.{LineFault}
+use Rattle.si_base.specs.declared.fault.LineFault.TheVariants.{NoMemory, Kind}
+use Rattle.si_base.specs.TextFaults.{ShowsKind}
 use Rattle.si_base.specs.declared.ids.Literal.{Literal}
 use Rattle.si_words.proofs.FaultLemmas.{both, not_when}
 use Rattle.si_words.proofs.SumWordLemmas.{list_any-map, unmarked}
 use Rattle.si_words.specs.GateLines.{place_in}
 use Rattle.si_words.specs.Names.{stands_in}
 use Rattle.si_words.specs.Sums.{is_one, is_sum, literal_name, parts_at}
-use Rattle.si_base.specs.Lines.{has_bad_byte}
-use Rattle.si_cell.specs.LibraryText.{is_end, names_of, cell_words_fault, cell_line_fault, words, with_line}
-use Rattle.si_cell.specs.CellWords.{CellWords, cell_of, is_cell_sum, cell_words, cell_fault, cell_name_fault, pin_fault}
+use Rattle.si_cell.specs.CellWords.{is_cell_sum, cell_fault, cell_name_fault, pin_fault}
 use Rattle.si_cell.specs.CellWords.{literal_fault, cube_fault, sum_fault, literal_of, cube_of, sum_of, declared}
 use Rattle.si_cell.specs.Library.{Cell, IsCell, AreCells, IsPinName, own}
 use Rattle.si_cell.specs.Limits.{max_cells, max_pins}
@@ -129,14 +133,21 @@ literal_within names w there =
     let is : (literal_of names w).sig ≡ k = ap (λ (o : Option ℕ). unwrap_or o 0) (sym at) in
     rw is (passes_at (λ n. bytes_eq (literal_name w) n) names k at).0
 
+any_words : (ws : List (List ℕ)) → list_all (λ w. true) ws ≡ true
+any_words [] = refl
+any_words (w ∷ ws) = any_words ws
+
 pub sum_there : (names ws : List (List ℕ)) → sum_fault names ws ≡ None
     → All (All (λ (l : Literal). l.sig < length names)) (sum_of names ws)
 sum_there names ws none = sum_all names (λ (l : Literal). l.sig < length names) (λ w. true)
-    (λ w there _. literal_within names w there) ws none (all_true ws)
-  where
-    all_true : (ws : List (List ℕ)) → list_all (λ w. true) ws ≡ true
-    all_true [] = refl
-    all_true (w ∷ ws) = all_true ws
+    (λ w there _. literal_within names w there) ws none (any_words ws)
+
+-- the literals of a cube are those of pins and of the own output
+pub cube_low : (names ws : List (List ℕ)) (cube : List Literal) → length names ≤ max_pins + 1
+    → cube_fault names ws ≡ None → cube ≡ cube_of names ws → All (λ (l : Literal). l.sig ≤ max_pins) cube
+cube_low names ws cube few none is = subst (All (λ (l : Literal). l.sig ≤ max_pins)) (sym is)
+    (cube_all names (λ (l : Literal). l.sig ≤ max_pins) (λ w. true)
+    (λ w there _. (let within = literal_within names w there in omega (arith, within, few))) ws none (any_words ws))
 
 -- ---- cubes whose literals rise
 no_some : {A : Type 0} (x : A) → Some x ≡ None → ⊥
@@ -301,43 +312,12 @@ more_cells cells cell good is new few = record {
   few = rw length_push (omega (arith, few));
 }
 
--- the line of a cell
-pub cell_line_is : (cells : List Cell) (ws : List (List ℕ)) → (length ws == 0) ≡ false → is_end ws ≡ false
-    → cell_words_fault cells ws ≡ cell_fault (names_of cells) (cell_words ws)
-cell_line_is cells [] some other = absurd (true≢false some)
-cell_line_is cells (w ∷ ws) some other = rw other refl
-
 pub plain_words : (ws : List (List ℕ)) → is_cell_sum ws ≡ true → stands_in ws (codes "q'") ≡ false
 plain_words ws form = not_false (stands_in ws (codes "q'")) (and_second (is_sum ws) _ form)
   where
     not_false : (b : Bool) → not b ≡ true → b ≡ false
     not_false true e = absurd (true≢false (sym e))
     not_false false e = refl
-
--- the cell that was read from these words
-pub cell_read : (cells : List (List ℕ)) (named : List ℕ) (words ws : List (List ℕ)) (name : List ℕ) (pins table : List
-    (List ℕ)) (sum : Sum)
-    → cell_name_fault cells named ≡ None → is_cell_sum ws ≡ true → name ≡ named → pins ≡ words → table ≡ declared words
-    → All IsPinName words → AllPairs (λ x y. x ≢ y) table → length words ≤ max_pins → sum ≡ sum_of table ws
-    → sum_fault table ws ≡ None → IsCell (record { name = name; pins = pins; sum = sum })
-cell_read cells named words ws name pins table sum good form name_is pins_are table_is pins_good distinct few is none =
-    rw (name_is, pins_are) (is_cell named words ws sum (good_name cells named good).0 pins_good
-    (subst (AllPairs (λ x y. x ≢ y)) table_is distinct) few (is ∙ ap (λ (t : List (List ℕ)). sum_of t ws) table_is)
-    (ap (λ (t : List (List ℕ)). sum_fault t ws) (sym table_is) ∙ none) (plain_words ws form))
-
--- a line of this form that has no bad byte
-pub line_told : (cells : List Cell) (line : List ℕ) (ws : List (List ℕ)) (w : CellWords) → has_bad_byte line ≡ false
-    → ws ≡ words line
-    → (length ws == 0) ≡ false → is_end ws ≡ false → Some w ≡ cell_words ws
-    → cell_line_fault cells line ≡ cell_fault (names_of cells) (Some w)
-line_told cells line ws w clean are some other form =
-    rw clean (ap (cell_words_fault cells) (sym are) ∙ cell_line_is cells ws some other
-    ∙ ap (cell_fault (names_of cells)) (sym form))
-
-pub line_adds : (cells : List Cell) (line : List ℕ) (ws : List (List ℕ)) (w : CellWords) → ws ≡ words line
-    → Some w ≡ cell_words ws
-    → with_line cells line ≡ cells ++ cell_of w ∷ []
-line_adds cells line ws w are form = rw (← are, ← form) refl
 
 -- pins without fault
 pins_from : (before pins : List (List ℕ)) → All IsPinName before → AllPairs (λ x y. x ≢ y) before
@@ -362,3 +342,52 @@ good_pins pins none =
     let (good, distinct, few) = pins_from [] pins (All-nil IsPinName) (λ j k d order within. absurd (omega arith))
     (omega arith) none in
     (good, all_pairs_push (λ x y. x ≢ y) pins own distinct (λ k d inside e. (good k d inside).other e), few)
+
+-- ---- the front and the sum of a line
+module _ (cells : List (List ℕ)) (named : List ℕ) (words : List (List ℕ)) where
+  abbrev front_fault : Option TextKind
+  front_fault = cell_name_fault cells named otherwise first_after pin_fault [] words
+
+  pub few_declared : (names : List (List ℕ)) → front_fault ≡ None → names ≡ declared words
+      → length names ≤ max_pins + 1
+  few_declared names none is =
+      let (good, distinct, few) = good_pins words (both (cell_name_fault cells named) _ none).1 in
+      let count : length (declared words) ≡ length words + 1 = length_push words own in
+      rw is (omega (arith, few, count))
+
+  -- where the front has a fault, it is the line's, but where the sum has another form
+  pub fault_before_sum : (ws : List (List ℕ)) (fault first : LineFault)
+      → first ≡ (if is_cell_sum ws then fault else Kind BadLine) → ShowsKind fault front_fault
+      → ShowsKind first (cell_fault cells (Some (record { name = named; pins = words; sum = ws })))
+  fault_before_sum ws fault first is shown = rw is (by_form (is_cell_sum ws) fault (cell_name_fault cells named)
+      (first_after pin_fault [] words) (sum_fault (declared words) ws) shown)
+    where
+      by_form : (form : Bool) (fault : LineFault) (name pins sum : Option TextKind)
+          → ShowsKind fault (name otherwise pins) → ShowsKind (if form then fault else Kind BadLine)
+          (when (not form) BadLine otherwise name otherwise pins otherwise sum)
+      by_form false fault name pins sum shown = refl
+      by_form true NoMemory name pins sum shown = tt
+      by_form true (Kind kind) (Some k) pins sum shown = shown
+      by_form true (Kind kind) None (Some k) sum shown = shown
+      by_form true (Kind kind) None None sum shown = absurd cc
+
+  -- where it has none, it is that of the sum
+  pub fault_of_sum : (ws names : List (List ℕ)) → front_fault ≡ None → names ≡ declared words
+      → cell_fault cells (Some (record { name = named; pins = words; sum = ws }))
+      ≡ (when (not (is_cell_sum ws)) BadLine otherwise sum_fault names ws)
+  fault_of_sum ws names none is =
+      let parts = both (cell_name_fault cells named) _ none in
+      rw (parts.0, parts.1, is) refl
+
+  -- the cell that was read
+  pub cell_read : (ws names : List (List ℕ)) (name : List ℕ) (pins : List (List ℕ)) (sum : Sum) → front_fault ≡ None
+      → names ≡ declared words → (when (not (is_cell_sum ws)) BadLine otherwise sum_fault names ws) ≡ None
+      → name ≡ named → pins ≡ words → sum ≡ sum_of names ws → IsCell (record { name = name; pins = pins; sum = sum })
+  cell_read ws names name pins sum none is no_fault name_is pins_are sum_is =
+      let front = both (cell_name_fault cells named) _ none in
+      let back = both (when (not (is_cell_sum ws)) BadLine) _ no_fault in
+      let (good, distinct, few) = good_pins words front.1 in
+      let form : is_cell_sum ws ≡ true = not_true _ (not_when _ BadLine back.0) in
+      rw (name_is, pins_are) (is_cell named words ws sum (good_name cells named front.0).0 good distinct few
+      (sum_is ∙ ap (λ (t : List (List ℕ)). sum_of t ws) is)
+      (ap (λ (t : List (List ℕ)). sum_fault t ws) (sym is) ∙ back.1) (plain_words ws form))

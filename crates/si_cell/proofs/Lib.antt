@@ -3,6 +3,7 @@ pub mod WordLemmas
 pub mod OrderLemmas
 pub mod CubeLemmas
 pub mod CellLemmas
+mod PinCubeLemmas
 pub mod PartLemmas
 pub mod PlacedLemmas
 pub mod ExpandedLemmas

@@ -12,7 +12,7 @@ use Rattle.si_base.specs.Netlist.{Sum}
 use Rattle.si_base.specs.Words.{is_signal_name}
 use Rattle.si_words.specs.GateLines.{place_in}
 use Rattle.si_words.specs.Names.{stands_in}
-use Rattle.si_words.specs.Sums.{is_one, is_sum, cut_at, parts_at, literal_name}
+use Rattle.si_words.specs.Sums.{is_one, is_cube, is_sum, cut_at, parts_at, literal_name}
 use Rattle.si_cell.specs.Library.{Cell, own}
 use Rattle.si_cell.specs.Limits.{max_cells, max_pins}
 use Rattle.si_cell.specs.Literals.{in_literal_order}
@@ -33,6 +33,10 @@ abbrev pub cell_words : List (List ℕ) → Option CellWords
 cell_words (head ∷ name ∷ ws) =
     if bytes_eq (codes ".cell") head then option_map (around name) (cut_at (codes "=") ws) else None
 cell_words _ = None
+
+-- a cube in which the own output stands only plain
+abbrev pub is_cell_cube : List (List ℕ) → Bool
+is_cell_cube cube = is_cube cube && not (stands_in cube (codes "q'"))
 
 -- a sum in which the own output stands only plain
 abbrev pub is_cell_sum : List (List ℕ) → Bool

@@ -1,18 +1,24 @@
 -- (loop) What readers hold and answer, as the definitions see it.
-use Rattle.std.specs.Prelude.{◌≡◌, ℕ, List, [], IsTrue}
+use Rattle.std.specs.Prelude.{◌≡◌, ℕ, Bool, List, [], IsTrue, if◌then◌else◌}
 use Rattle.si_base.specs.Lines.{Line}
 use Rattle.si_base.specs.Words.{is_signal_name}
 use Rattle.si_words.specs.Reads.{words_now}
-use Rattle.si_cell.specs.declared.words.CellWords.{CellWords as CellWordsHeld}
+use Rattle.si_words.specs.Sums.{parts_at}
+use Rattle.si_cell.specs.declared.words.Front.{Front}
 use Rattle.si_cell.specs.CellWords.{CellWords}
 use Rattle.si_cell.specs.LibraryText.{lines_fault, library_in, cell_lines_fault, cells_in}
 
-abbrev pub cell_words_now : CellWordsHeld → CellWords
-cell_words_now words = record {
-  name = words.name.now;
-  pins = words_now words.pins.now;
-  sum = words_now words.sum.now;
+-- the words of a cell's line, where those of the sum are left
+abbrev pub cell_words_now : Front → List (List ℕ) → CellWords
+cell_words_now front sum = record {
+  name = front.name.now;
+  pins = words_now front.pins.items;
+  sum = sum;
 }
+
+-- the parts of the words left, if there are more
+abbrev pub parts_left : List ℕ → Bool → List (List ℕ) → List (List (List ℕ))
+parts_left mark more words = if more then parts_at mark words else []
 
 -- the line that names the library was read: the old lines up to it were taken, and the new ones
 -- stand behind it

@@ -5,10 +5,10 @@ ghost use Rattle.si_base.specs.Netlist.{sum_value};
 ghost use Rattle.si_cell.specs.Library as spec;
 
 use crate::limits::{MAX_PINS, TABLE_CODES};
+use crate::pin_sum::PinSum;
 use arrayvec::ArrayVec;
 use si_base::ids::{Code, Literal, Sig};
 use si_base::text::Name;
-use si_cube::sum::Sum;
 use std::marker::Model;
 
 /// A cell of a library.
@@ -19,7 +19,7 @@ pub struct Cell {
     pub pins: Vec<Name>,
     /// What it computes: signal i is the i-th pin, from 0, and the signal after the last pin is the
     /// cell's own output.
-    pub sum: Sum,
+    pub sum: PinSum,
     table: u32,
 }
 
@@ -33,7 +33,7 @@ impl Model for Cell {
 
 impl Cell {
     /// The cell of this name, these pins and this sum.
-    pub fn new(name: Name, pins: Vec<Name>, sum: Sum) -> Cell
+    pub fn new(name: Name, pins: Vec<Name>, sum: PinSum) -> Cell
         ensures { result ≡ record { name = name; pins = pins.items; sum = sum } }
     {
         let table = table_of(&sum);
@@ -59,7 +59,7 @@ impl Cell {
 }
 
 /// The truth table of a sum: bit i is its value at the code i.
-fn table_of(sum: &Sum) -> u32
+fn table_of(sum: &PinSum) -> u32
     ensures { result ≡ spec.table_of sum.now }
 {
     let mut table = 0;

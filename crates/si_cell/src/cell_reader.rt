@@ -1,14 +1,15 @@
 //! Cells, read from the words of their lines.
 
 ghost use Rattle.std.specs.Prelude.{◌≡◌, ◌≢◌, ◌≤◌, ◌<◌, ◌+◌, ◌++◌, ◌∷◌, [], All, AllPairs};
-ghost use Rattle.std.specs.Prelude.{length, IfOk, OnOk, IfErr, None, Some, false};
-ghost use Rattle.si_base.specs.Faults.{first_after};
+ghost use Rattle.std.specs.Prelude.{length, IfOk, OnOk, IfErr, None, Some, false, if◌then◌else◌};
+ghost use Rattle.si_base.specs.Faults.{◌otherwise◌, first_after};
 ghost use Rattle.si_base.specs.TextFaults.{Tells};
 ghost use Rattle.si_base.specs.declared.fault.LineFault.TheVariants as line_faults;
+ghost use Rattle.si_base.specs.declared.fault.TextKind.TheVariants as text_kinds;
 ghost use Rattle.si_words.specs.Names.{stands_in};
 ghost use Rattle.si_words.specs.Reads.{words_now};
 ghost use Rattle.si_cell.specs.CellWords.{cell_name_fault, pin_fault, cell_fault, cell_of};
-ghost use Rattle.si_cell.specs.CellWords.{declared};
+ghost use Rattle.si_cell.specs.CellWords.{declared, is_cell_sum};
 ghost use Rattle.si_cell.specs.Library.{IsCell, IsPinName};
 ghost use Rattle.si_cell.specs.LibraryText.{names_of};
 ghost use Rattle.si_cell.specs.Limits.{max_cells, max_pins};
@@ -17,9 +18,10 @@ ghost use Rattle.si_cell.specs.Reads.{cell_words_now};
 use crate::cell::Cell;
 use crate::limits::{MAX_CELLS, MAX_PINS};
 use crate::sums::read_sum;
-use crate::words::{CellWords, is_cell_sum};
+use crate::words::{Front, is_cell_sum};
 use si_base::fault::{LineFault, TextKind};
 use si_base::ids::NoMemory;
+use si_base::lines::Words;
 use si_base::names::Names;
 use si_base::text::Name;
 use si_words::lists::has;
@@ -86,9 +88,6 @@ fn push(names: &mut Names, name: &[u8]) -> Result<(), LineFault>
 fn declared_names(alloc: Global, pins: &[&[u8]]) -> Result<Names, LineFault>
     ensures fault { Tells result (first_after pin_fault [] (words_now pins.now)) }
     ensures value { IfOk result (λ names. names ≡ declared (words_now pins.now)) }
-    ensures distinct { IfOk result (AllPairs (λ x y. x ≢ y)) }
-    ensures good { IfOk result (λ names. All IsPinName (words_now pins.now)) }
-    ensures few { IfOk result (λ names. length (words_now pins.now) ≤ max_pins) }
 {
     let mut names = Names::new(alloc)?;
     for pin in pins {
@@ -112,30 +111,55 @@ fn names_of(alloc: Global, words: &[&[u8]]) -> Result<Vec<Name>, NoMemory>
     Ok(names)
 }
 
-/// The cell of these words, after these cells.
+/// The names that the literals of a cell may have, where its front has no fault after these cells.
+///
+/// Fails with the first fault of the name and the pins, and where memory runs out.
+fn names_for(alloc: Global, cells: &[Cell], front: &Front<'_>) -> Result<Names, LineFault>
+    ensures fault { Tells result (cell_name_fault (names_of cells.now) front.now.name.now
+        otherwise first_after pin_fault [] (words_now front.now.pins.items)) }
+    ensures value { IfOk result (λ names. names ≡ declared (words_now front.now.pins.items)) }
+{
+    if let Some(kind) = cell_name_kind(cells, front.name) {
+        return Err(LineFault::Kind(kind));
+    }
+    declared_names(alloc, &front.pins)
+}
+
+/// The fault of a line that has this one before its sum, whose words are left. That they have
+/// another form comes first.
+fn line_fault(alloc: Global, fault: LineFault, words: &mut Words<'_>) -> Result<LineFault, NoMemory>
+    ensures { IfOk result (λ first. first ≡ (if is_cell_sum words.old then fault
+        else line_faults.Kind text_kinds.BadLine)) }
+{
+    if is_cell_sum(alloc, words)? {
+        Ok(fault)
+    } else {
+        Ok(LineFault::Kind(TextKind::BadLine))
+    }
+}
+
+/// The cell of this front, after these cells, where the words of its sum are left.
 ///
 /// Fails with the first fault of the line, and where memory runs out.
 pub(crate) fn read_cell(
     alloc: Global,
     cells: &[Cell],
-    words: CellWords<'_, '_>,
+    front: &Front<'_>,
+    words: &mut Words<'_>,
 ) -> Result<Cell, LineFault>
     ensures fault { Tells result
-        (cell_fault (names_of cells.now) (Some (cell_words_now words.entry))) }
-    ensures value { IfOk result (λ cell. cell ≡ cell_of (cell_words_now words.entry)) }
+        (cell_fault (names_of cells.now) (Some (cell_words_now front.now words.old))) }
+    ensures value { IfOk result (λ cell. cell ≡ cell_of (cell_words_now front.now words.old)) }
     ensures cell { IfOk result IsCell }
     ensures new { IfOk result (λ cell. stands_in (names_of cells.now) cell.name ≡ false) }
     ensures room { IfOk result (λ cell. length cells.now < max_cells) }
 {
-    if !is_cell_sum(words.sum) {
-        return Err(LineFault::Kind(TextKind::BadLine));
-    }
-    if let Some(kind) = cell_name_kind(cells, words.name) {
-        return Err(LineFault::Kind(kind));
-    }
-    let declared = declared_names(alloc, words.pins)?;
-    let sum = read_sum(alloc, &declared, words.sum)?;
-    let name = Name::copy_of(alloc, words.name)?;
-    let pins = names_of(alloc, words.pins)?;
+    let declared = match names_for(alloc, cells, front) {
+        Ok(declared) => declared,
+        Err(fault) => return Err(line_fault(alloc, fault, words)?),
+    };
+    let sum = read_sum(alloc, &declared, words)?;
+    let name = Name::copy_of(alloc, front.name)?;
+    let pins = names_of(alloc, &front.pins)?;
     Ok(Cell::new(name, pins, sum))
 }

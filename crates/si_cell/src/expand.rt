@@ -115,7 +115,8 @@ pub fn expand(
     let at_pins = sources_of(instance, z);
     let mut cubes = Vec::new(alloc);
     for cube in cell.sum.cubes() {
-        if let Some(made) = placed_cube(cube.care, cube.value, at_pins.as_slice()) {
+        let wide = cube.widened();
+        if let Some(made) = placed_cube(wide.care, wide.value, at_pins.as_slice()) {
             cubes.push(made)?;
         }
     }

@@ -7,6 +7,7 @@ pub mod expand;
 pub mod laws;
 pub mod library;
 pub mod limits;
+pub mod pin_sum;
 pub mod reader;
 mod sums;
 mod words;

@@ -1,10 +1,9 @@
 //! The reader of library texts.
 
-ghost use Rattle.std.specs.Prelude.{◌≡◌, [], IfOk, OnOk, IsTrue, MatchResult, MatchOption, None};
-ghost use Rattle.std.specs.Prelude.{Some, true, false, if◌then◌else◌};
+ghost use Rattle.std.specs.Prelude.{◌≡◌, [], ◌∷◌, IfOk, OnOk, IsTrue, MatchResult, MatchOption};
+ghost use Rattle.std.specs.Prelude.{None, Some, true, false, if◌then◌else◌};
 ghost use Rattle.si_base.specs.TextFaults.{Tells, ToldBy, Gives};
 ghost use Rattle.si_base.specs.Words.{is_signal_name};
-ghost use Rattle.si_words.specs.Reads.{words_now};
 ghost use Rattle.si_words.specs.Sums.{is_empty};
 ghost use Rattle.si_cell.specs.Library.{AreCells};
 ghost use Rattle.si_words.specs.Ends as text_ends;
@@ -14,30 +13,31 @@ ghost use Rattle.si_cell.specs.Reads.{ReadsName};
 use crate::cell::Cell;
 use crate::cell_reader::read_cell;
 use crate::library::Library;
-use crate::words::{cell_words, is_end, words_of};
+use crate::words::take_front;
 use si_base::fault::{LineFault, TextFault, TextKind, at_line};
-use si_base::lines::{Lines, has_bad_byte};
+use si_base::lines::{Lines, Words, has_bad_byte};
 use si_base::text::Name;
 use si_words::ends::after_last;
 use si_words::words::is_signal_name;
 use std::alloc::Global;
 
-/// The name in the words of the line that names the library, or the fault of the line.
-fn name_in<'a>(words: &[&'a [u8]]) -> Result<&'a [u8], TextKind>
-    ensures { MatchResult result (λ name. (library_text.name_fault (words_now words.now) ≡ None)
-        × (name.now ≡ library_text.name_in (words_now words.now)))
-        (λ kind. library_text.name_fault (words_now words.now) ≡ Some kind) }
+/// The name in the line that names the library, whose first word this is, or the fault of the line.
+fn name_after<'a>(head: &[u8], words: &mut Words<'a>) -> Result<&'a [u8], TextKind>
+    ensures { MatchResult result
+        (λ name. (library_text.name_fault (head.now ∷ words.old) ≡ None)
+        × (name.now ≡ library_text.name_in (head.now ∷ words.old)))
+        (λ kind. library_text.name_fault (head.now ∷ words.old) ≡ Some kind) }
 {
-    let [head, name] = words else {
+    let (Some(name), None) = (words.next_word(), words.next_word()) else {
         return Err(TextKind::BadLine);
     };
-    if b".library".as_slice() != *head {
+    if b".library".as_slice() != head {
         return Err(TextKind::BadLine);
     }
-    if !is_signal_name(*name) {
+    if !is_signal_name(name) {
         return Err(TextKind::BadName);
     }
-    Ok(*name)
+    Ok(name)
 }
 
 /// The name of the library, where the line has words.
@@ -52,11 +52,11 @@ fn name_of_line(alloc: Global, line: &[u8]) -> Result<Option<Name>, LineFault>
     if has_bad_byte(line) {
         return Err(LineFault::Kind(TextKind::BadByte));
     }
-    let words = words_of(alloc, line)?;
-    if words.is_empty() {
+    let mut words = Words::new(line, false);
+    let Some(head) = words.next_word() else {
         return Ok(None);
-    }
-    let name = name_in(&words)?;
+    };
+    let name = name_after(head, &mut words)?;
     Ok(Some(Name::copy_of(alloc, name)?))
 }
 
@@ -93,17 +93,17 @@ fn add_line(alloc: Global, cells: &mut Vec<Cell>, line: &[u8]) -> Result<bool, L
     if has_bad_byte(line) {
         return Err(LineFault::Kind(TextKind::BadByte));
     }
-    let words = words_of(alloc, line)?;
-    if words.is_empty() {
+    let mut words = Words::new(line, false);
+    let Some(head) = words.next_word() else {
         return Ok(false);
-    }
-    if is_end(&words) {
+    };
+    if b".end".as_slice() == head {
         return Ok(true);
     }
-    let Some(words) = cell_words(&words) else {
+    let Some(front) = take_front(alloc, head, &mut words)? else {
         return Err(LineFault::Kind(TextKind::BadLine));
     };
-    let cell = read_cell(alloc, cells, words)?;
+    let cell = read_cell(alloc, cells, &front, &mut words)?;
     cells.push(cell)?;
     Ok(false)
 }

@@ -1,17 +1,25 @@
 //! The sums of cells, read from their words.
 
 ghost use Rattle.std.specs.Prelude.{◌≡◌, ◌≤◌, ◌+◌, length, IfOk, MatchResult, None, Some};
+ghost use Rattle.std.specs.Prelude.{if◌then◌else◌, not, codes};
+ghost use Rattle.std.specs.List.{list_all};
+ghost use Rattle.si_base.specs.Faults.{when, ◌otherwise◌};
 ghost use Rattle.si_base.specs.TextFaults.{Tells};
+ghost use Rattle.si_base.specs.declared.fault.TextKind.TheVariants as text_kinds;
 ghost use Rattle.si_words.specs.Reads.{words_now};
 ghost use Rattle.si_cell.specs.CellWords.{cube_fault, cube_of, sum_fault, sum_of};
+ghost use Rattle.si_cell.specs.CellWords.{is_cell_cube, is_cell_sum};
 ghost use Rattle.si_cell.specs.Limits.{max_pins};
+ghost use Rattle.si_cell.specs.Reads.{parts_left};
 
+use crate::pin_sum::{PinCube, PinSum};
+use crate::words::{are_cell_cubes, is_cell_cube, is_zero, take_before};
 use si_base::fault::{LineFault, TextKind};
-use si_base::ids::{Code, Sig};
+use si_base::ids::{Code, NoMemory, Sig};
+use si_base::lines::Words;
 use si_base::names::Names;
 use si_cube::cube::Cube;
-use si_cube::sum::Sum;
-use si_words::gate_lines::{is_one, parts_of};
+use si_words::gate_lines::is_one;
 use si_words::lists::place_of;
 use si_words::words::literal_name;
 use std::alloc::Global;
@@ -46,22 +54,59 @@ fn read_cube(declared: &Names, words: &[&[u8]]) -> Result<Cube, TextKind>
     Ok(Cube { care, value })
 }
 
-/// The sum of words that have its form, where these names are declared: `0`, or cubes with `+`
-/// between them.
-///
-/// Fails with the first fault of a cube, and where memory runs out.
-pub(crate) fn read_sum(alloc: Global, declared: &Names, words: &[&[u8]]) -> Result<Sum, LineFault>
-    requires { length declared.now ≤ max_pins + 1 }
-    ensures fault { Tells result (sum_fault declared.now (words_now words.now)) }
-    ensures value { IfOk result (λ sum. sum ≡ sum_of declared.now (words_now words.now)) }
+/// The fault of a sum that has this one, where these parts are left. That one of them has another
+/// form comes first.
+fn sum_fault_kind<'a>(
+    kind: TextKind,
+    words: &mut Words<'a>,
+    part: &mut Vec<&'a [u8]>,
+    more: bool,
+) -> Result<TextKind, NoMemory>
+    ensures { IfOk result (λ first. first ≡
+        (if list_all is_cell_cube (parts_left (codes "+") more words.old) then kind
+        else text_kinds.BadLine)) }
 {
-    if is_one(b"0", words) {
-        return Ok(Sum::new(Vec::new(alloc)));
+    if are_cell_cubes(words, part, more)? {
+        Ok(kind)
+    } else {
+        Ok(TextKind::BadLine)
     }
-    let parts = parts_of(alloc, words)?;
-    let mut cubes = Vec::new(alloc);
-    for part in &parts {
-        cubes.push(read_cube(declared, *part)?)?;
+}
+
+/// The sum of the words left, where these names are declared: `0`, or cubes with `+` between them.
+/// The words are taken one after the other, and only those of one cube are held.
+///
+/// Fails where they have another form, then with the first fault of a cube, and where memory runs
+/// out.
+pub(crate) fn read_sum(
+    alloc: Global,
+    declared: &Names,
+    words: &mut Words<'_>,
+) -> Result<PinSum, LineFault>
+    requires { length declared.now ≤ max_pins + 1 }
+    ensures fault { Tells result (when (not (is_cell_sum words.old)) text_kinds.BadLine
+        otherwise sum_fault declared.now words.old) }
+    ensures value { IfOk result (λ sum. sum ≡ sum_of declared.now words.old) }
+{
+    let mut sum = PinSum::new(alloc);
+    let mut part = Vec::new(alloc);
+    let mut more = true;
+    while more {
+        more = take_before(b"+", words, &mut part)?;
+        if !is_cell_cube(&part) {
+            return if sum.is_empty() && is_zero(&part, more) {
+                Ok(sum)
+            } else {
+                Err(LineFault::Kind(TextKind::BadLine))
+            };
+        }
+        match read_cube(declared, &part) {
+            Ok(cube) => sum.push(PinCube::of(&cube))?,
+            Err(kind) => {
+                let first = sum_fault_kind(kind, words, &mut part, more)?;
+                return Err(LineFault::Kind(first));
+            }
+        }
     }
-    Ok(Sum::new(cubes))
+    Ok(sum)
 }

@@ -12,7 +12,7 @@ use Rattle.si_base.specs.WellFormed.{IsCube, IsSum}
 use Rattle.si_base.specs.Words.{is_signal_name}
 use Rattle.si_base.specs.declared.fault.TextKind.TheVariants.{OwnFalling, TooManyCells}
 use Rattle.si_words.specs.Names.{stands_in}
-use Rattle.si_cell.specs.Limits.{max_cells}
+use Rattle.si_cell.specs.Limits.{max_cells, max_pins}
 use Rattle.si_cell.specs.Library.{own, Cell, IsPinName, IsCell, AreCells}
 use Rattle.si_cell.specs.LibraryText.{names_of}
 use Rattle.si_cell.proofs.CubeLemmas.{same_name}
@@ -82,6 +82,14 @@ wider m n more sum is = All-weaker (IsCube m) (IsCube n) (λ cube c. record {
   there = All-weaker (λ (l : Literal). l.sig < m) (λ (l : Literal). l.sig < n)
       (λ l less. omega (arith, less, more)) cube c.there;
 }) sum is
+
+-- the literals of the chosen sum are those of pins and of the own output
+pub over_pins : (bits : ℕ) (value : ℕ → Bool) (sum : Sum) → bits ≤ max_pins + 1 → sum ≡ sum_of bits value
+    → All (All (λ (l : Literal). l.sig ≤ max_pins)) sum
+over_pins bits value sum few is = subst (All (All (λ (l : Literal). l.sig ≤ max_pins))) (sym is)
+    (All-weaker (IsCube bits) (All (λ (l : Literal). l.sig ≤ max_pins)) (λ cube c.
+    All-weaker (λ (l : Literal). l.sig < bits) (λ (l : Literal). l.sig ≤ max_pins)
+    (λ l less. omega (arith, less, few)) cube c.there) (sum_of bits value) (sum_well_formed bits value))
 
 -- the own output stands plain in the sum of so many bits
 abbrev OwnIsPlain : ℕ → Sum → Type 0

@@ -19,6 +19,7 @@ use si_base::ids::NoMemory;
 use si_base::text::Name;
 use si_cell::cell::Cell;
 use si_cell::limits::MAX_CELLS;
+use si_cell::pin_sum::PinSum;
 use si_tokens::fault::{ReadFault, Stop};
 use si_words::words::is_name_byte;
 use std::alloc::Global;
@@ -126,7 +127,8 @@ fn cell_of(alloc: Global, cells: &[Cell], gate: &Gate<'_>) -> Result<Cell, NoMem
     let name = fresh(cells, lawful(alloc, gate.name)?)?;
     let name = Name::copy_of(alloc, name.as_slice())?;
     let pins = pin_names(alloc, count)?;
-    let sum = sum_of(alloc, bits, count, gate.table)?;
+    let cover = sum_of(alloc, bits, count, gate.table)?;
+    let sum = PinSum::of(alloc, &cover)?;
     Ok(Cell::new(name, pins, sum))
 }
 

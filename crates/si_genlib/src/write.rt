@@ -50,7 +50,8 @@ fn add_cell_line(alloc: Global, text: &mut Text, cell: &Cell) -> Result<(), NoMe
     add_word(text, cell.name.bytes())?;
     add_pins(text, &cell.pins)?;
     add_word(text, b"=")?;
-    add_sum(text, &signals, &cell.sum)?;
+    let sum = cell.sum.widened(alloc)?;
+    add_sum(text, &signals, &sum)?;
     text.add(b"\n")
 }
 

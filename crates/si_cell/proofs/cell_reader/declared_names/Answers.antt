@@ -1,8 +1,7 @@
 use Rattle.std.proofs.Common.{◌≡◌, ◌<◌, sym, ◌∙◌, ap, None, rules, subst, arith, length, [], All}
-use Rattle.std.proofs.lemmas.List.{take_all, length-map, length_push}
+use Rattle.std.proofs.lemmas.List.{length_push}
 use Rattle.std.proofs.lemmas.List.Elements.{All-push}
 use Rattle.si_words.proofs.FirstFaultLemmas.{stops, goes, takes}
-use Rattle.si_words.specs.Reads.{words_now}
 use Rattle.si_cell.specs.CellWords.{pin_fault}
 use Rattle.si_cell.specs.Library.{IsPinName}
 use Rattle.si_cell.proofs.CellLemmas.{good_pin, no_own}
@@ -29,8 +28,3 @@ loop-pin-preserved c =
 
 pub push-requires-2-clause-new : goal.push-requires-2-clause-new
 push-requires-2-clause-new c = no_own c.loop-pin.names c.loop-pin.invariant.good
-
-pub returns-clause-good : goal.returns-clause-good
-returns-clause-good c =
-    let whole = take_all c.loop-pin.pin-index (words_now c.args.pins.now) (rw length-map c.loop-pin-test.false) in
-    subst (All IsPinName) (c.loop-pin.invariant.value ∙ whole) c.loop-pin.invariant.good

@@ -39,7 +39,7 @@ placed_cube-requires-clause-pins c =
     c.instance.view_is
     c.cell-cell.ensures.cell (ap (λ (x : Cell). x.sum) c.cell.view_is) c.cubes-cube-items.ensures in
     let count = ap length (sym (c.as_slice.ensures.value ∙ c.sources_of-at_pins.ensures)) in
-    subst (All (λ (l : Literal). l.sig < length c.as_slice.result.now)) (sym c.cube.view_is)
+    subst (All (λ (l : Literal). l.sig < length c.as_slice.result.now)) (sym (c.wide.view_is ∙ c.widened-wide.ensures))
     (inside_of _ c.cubes-cube-items.result.now c.loop-cube.cube-index c.cube-item.result _ _ inside cubes
     c.loop-cube-test.true c.cube-item.is count)
 

@@ -9,7 +9,7 @@ returns c =
     let name : c.bytes.result.now ≡ c.args.cell.now.name =
     c.bytes.ensures ∙ ap (λ (x : Cell). x.name) c.cell.view_is in
     let pins = c.deref.ensures.value ∙ ap (λ (x : Cell). x.pins) c.cell.view_is in
-    let sum = ap (λ (x : Cell). x.sum) c.cell.view_is in
+    let sum = c.in_ok-sum.ensures ∙ ap (λ (x : Cell). x.sum) c.cell.view_is in
     let signals = c.deref-2.ensures.value ∙ c.in_ok-signals.ensures in
     left_as _ _ _ _ (cell_by_calls c.args.cell.now c.args.text.now _ _ _ _ _
     c.in_ok-add.ensures.added
