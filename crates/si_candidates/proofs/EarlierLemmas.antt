@@ -1,13 +1,10 @@
 -- Earlier steps: which ones a list grows by, and the lists of all arcs in one list.
-use Rattle.std.proofs.Common.{◌≡◌, ◌≢◌, ℕ, ◌+◌, ◌<◌, ◌≤◌, ◌∙◌, List, [], ◌∷◌, ◌++◌, length, get_or, drop}
+use Rattle.std.proofs.Common.{◌≡◌, ◌≢◌, ℕ, ◌+◌, ◌<◌, ◌∙◌, List, [], ◌∷◌, ◌++◌, length, get_or}
 use Rattle.std.proofs.Common.{Contains, Option, ◌⊎◌, ◌↔◌, inl, inr, refl, sym, ap, subst, arith}
-use Rattle.std.proofs.lemmas.Bool.{cases_eq, cases_order}
-use Rattle.std.proofs.lemmas.List.{append-nil, append_assoc, length-append, length_push, get_or_default}
-use Rattle.std.proofs.lemmas.List.{get_or_push, get_or_append_left, take-append-le, drop_at}
+use Rattle.std.proofs.lemmas.Bool.{cases_order}
+use Rattle.std.proofs.lemmas.List.{append-nil, append_assoc, get_or_default}
 use Rattle.std.proofs.lemmas.List.Elements.{Contains-push, Contains-push_cases}
 use Rattle.std.proofs.lemmas.List.Elements.{Contains-append_left, Contains-append_right, Contains-append_cases}
-use Rattle.std.proofs.lemmas.Slice.{between_is, between_to_end}
-use Rattle.std.specs.List.{between}
 use Rattle.si_base.specs.declared.graph.Edge.{Edge}
 use Rattle.si_base.specs.Codes.{IsDeterministic}
 use Rattle.si_base.specs.Graph.{StateGraph, Step, IsGraph, IsNonInput, arc}
@@ -15,8 +12,7 @@ use Rattle.si_base.proofs.StepCodes.{step_within}
 use Rattle.si_graph.specs.Arcs.{edge_at, no_edge, IsFirstPlace, IsInto}
 use Rattle.si_graph.proofs.ClosureLemmas.{place_in_walk, none_between, later_place}
 use Rattle.si_candidates.specs.declared.earlier.EarlierStep.{EarlierStep}
-use Rattle.si_candidates.specs.Earlier.{IsEarlier, IsEarlierBy, Adds, start_at, list_between}
-use Rattle.si_candidates.specs.Earlier.{AreEarlier, AreInOrder, AreEarlierBelow}
+use Rattle.si_candidates.specs.Earlier.{AreEarlier, IsEarlier, IsEarlierBy, Adds}
 
 -- ---- what a list grows by
 pub adds_none : (P : EarlierStep → Type 0) (old : List EarlierStep) → ((step : EarlierStep) → P step → ⊥)
@@ -159,82 +155,16 @@ pub earlier_within : (g : StateGraph) (exit : Edge) (step : EarlierStep) → IsG
 earlier_within g exit step graph (by, d) =
     let within = step_within g step.from exit.event step.to graph d.first in (within.0, within.2)
 
--- ---- one list after another
-same_before : (xs ys : List EarlierStep) (i j : ℕ) → j ≤ length xs → between i j (xs ++ ys) ≡ between i j xs
-same_before xs ys i j inside = between_is (xs ++ ys) i j ∙ ap (drop i) (take-append-le j xs ys inside)
-    ∙ sym (between_is xs i j)
+-- a list that was empty has them alone
+pub added_to_none : (g : StateGraph) (exit : Edge) (old new : List EarlierStep) → old ≡ []
+    → Adds (IsEarlier g exit) old new → AreEarlier g exit new
+added_to_none g exit old new empty adds = subst (AreEarlier g exit) (sym is) adds.exactly
+  where
+    is : new ≡ adds.more
+    is = adds.are ∙ ap (λ (xs : List EarlierStep). xs ++ adds.more) empty
 
-last_part : (xs ys : List EarlierStep) (n : ℕ) → length (xs ++ ys) ≤ n → between (length xs) n (xs ++ ys) ≡ ys
-last_part xs ys n all = between_to_end (xs ++ ys) (length xs) n all ∙ drop_at xs ys (length xs) refl
-
+-- the arc at a place
 pub item_at : (g : StateGraph) (arcs : List Edge) (n : ℕ) (a : Edge) → arcs ≡ g.edges → n < length g.edges
     → a ≡ get_or arcs n a → a ≡ edge_at g.edges n
 item_at g arcs n a same inside at = at ∙ ap (λ (es : List Edge). get_or es n a) same
     ∙ get_or_default g.edges n a no_edge inside
-
--- the lists of the first n arcs
-pub record AreListed (g : StateGraph) (n : ℕ) (steps : List EarlierStep) (starts : List ℕ) : Type 0 where
-  pub count : length starts ≡ n + 1
-  pub last : start_at starts n ≡ length steps
-  pub ordered : AreInOrder steps starts
-  pub each : AreEarlierBelow g n steps starts
-
-pub one_listed_more : (g : StateGraph) (n : ℕ) (steps new : List EarlierStep) (starts : List ℕ)
-    → AreListed g n steps starts → Adds (IsEarlier g (edge_at g.edges n)) steps new
-    → AreListed g (n + 1) new (starts ++ length new ∷ [])
-one_listed_more g n steps new starts before adds = record {
-  count = omega (arith, longer, before.count);
-  last = end;
-  ordered = λ k inside. elim (cases_eq k n) [
-    | inl same ↦ (
-      omega (arith, ap (start_at after) same, starts_there, ap (λ (i : ℕ). start_at after (i + 1)) same, end, grows),
-      omega (arith, ap (λ (i : ℕ). start_at after (i + 1)) same, end),
-    )
-    | inr other ↦ (
-        let early : k + 1 < length starts = omega (arith, inside, longer, before.count, other) in
-        let was = before.ordered k early in (
-          omega (arith, was.0, kept k (omega (arith, early)), kept (k + 1) early),
-          omega (arith, was.1, kept (k + 1) early, grows),
-        ))
-  ];
-  each = λ k early. elim (cases_eq k n) [
-    | inl same ↦ subst Is (sym same) (subst (AreEarlier g (edge_at g.edges n)) (sym list_last) adds.exactly)
-    | inr other ↦ (
-        let less : k < n = omega (arith, early, other) in
-        subst (AreEarlier g (edge_at g.edges k)) (sym (list_kept k less)) (before.each k less))
-  ];
-}
-  where
-    after : List ℕ
-    after = starts ++ length new ∷ []
-
-    Is : ℕ → Type 0
-    Is i = AreEarlier g (edge_at g.edges i) (list_between new after i)
-
-    longer : length after ≡ length starts + 1
-    longer = length_push starts (length new)
-
-    grows : length steps ≤ length new
-    grows = omega (arith, ap length adds.are, length-append steps adds.more)
-
-    kept : (k : ℕ) → k < length starts → start_at after k ≡ start_at starts k
-    kept k inside = get_or_append_left starts (length new ∷ []) 0 k inside
-
-    starts_there : start_at after n ≡ length steps
-    starts_there = kept n (omega (arith, before.count)) ∙ before.last
-
-    end : start_at after (n + 1) ≡ length new
-    end = get_or_push starts (length new) 0 (n + 1) before.count
-
-    list_last : list_between new after n ≡ adds.more
-    list_last = ap (λ (i : ℕ). between i (start_at after (n + 1)) new) starts_there
-        ∙ ap (λ (xs : List EarlierStep). between (length steps) (start_at after (n + 1)) xs) adds.are
-        ∙ last_part steps adds.more (start_at after (n + 1)) (omega (arith, end, ap length adds.are))
-
-    list_kept : (k : ℕ) → k < n → list_between new after k ≡ list_between steps starts k
-    list_kept k less =
-        let here : k + 1 < length starts = omega (arith, less, before.count) in
-        ap (λ (i : ℕ). between i (start_at after (k + 1)) new) (kept k (omega (arith, here)))
-        ∙ ap (λ (j : ℕ). between (start_at starts k) j new) (kept (k + 1) here)
-        ∙ ap (λ (xs : List EarlierStep). between (start_at starts k) (start_at starts (k + 1)) xs) adds.are
-        ∙ same_before steps adds.more (start_at starts k) (start_at starts (k + 1)) (before.ordered k here).1

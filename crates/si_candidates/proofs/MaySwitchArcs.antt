@@ -9,8 +9,8 @@ use Rattle.si_closures.proofs.SignalKinds.{input_is_no_other, input_or_not}
 use Rattle.si_candidates.specs.Blocking.{MaySwitch, MayPass, KeepsExit}
 
 -- ---- the arcs out of the set
-not_in : (set : List Bool) (s : ℕ) → (IsIn set s) ⊎ (IsIn set s → ⊥)
-not_in set s = elim (cases_Bool (get_or set s false)) [
+pub in_or_out : (set : List Bool) (s : ℕ) → (IsIn set s) ⊎ (IsIn set s → ⊥)
+in_or_out set s = elim (cases_Bool (get_or set s false)) [
   | inl there ↦ inl there
   | inr out ↦ inr (λ there. true≢false (sym there ∙ out))
 ]
@@ -39,7 +39,7 @@ switch_passes g set a is may there from out = record { non_input = non_input; ke
 pub passes_switch : (g : StateGraph) (set : List Bool)
     → ((a : Edge) → Contains g.edges a → IsIn set a.from → MayPass g (IsIn set) a) → MaySwitch g (IsIn set)
 passes_switch g set passes = record {
-  inputs = λ s e t input step from. elim (not_in set t) [
+  inputs = λ s e t input step from. elim (in_or_out set t) [
     | inl stays ↦ stays
     | inr out ↦ absurd (input_is_no_other g.signals e.sig input (passes (arc s e t) step from out).non_input)
   ];

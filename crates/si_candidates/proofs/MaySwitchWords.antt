@@ -1,13 +1,14 @@
 -- Where a new signal may switch, for many sets at once: what the bits of words say.
-use Rattle.std.proofs.Common.{◌≡◌, ◌≢◌, ℕ, ◌+◌, ◌-◌, ◌*◌, ◌%◌, ◌^◌, ◌<◌, ◌≤◌, ◌==◌}
-use Rattle.std.proofs.Common.{Bool, true, false, List, [], ◌∷◌, ◌++◌, length, get_or, set, Contains}
+use Rattle.std.proofs.Common.{◌≡◌, ◌≢◌, ℕ, ◌+◌, ◌-◌, ◌*◌, ◌/◌, ◌%◌, ◌^◌, ◌<◌, ◌≤◌, ◌==◌}
+use Rattle.std.proofs.Common.{Bool, true, false, List, [], ◌∷◌, ◌++◌, length, get_or, set, replicate, Contains}
 use Rattle.std.proofs.Common.{refl, sym, ap, subst, ◌∙◌, arith, inl, inr, ◌⊎◌, ◌↔◌, bit_and, bit_or}
-use Rattle.std.proofs.Common.{get_or-set_same, get_or-set_other}
-use Rattle.std.proofs.lemmas.Bool.{cases_eq, cases_Bool, true≢false, false_from_ne_true}
-use Rattle.std.proofs.lemmas.List.{get_or_default, length-map}
+use Rattle.std.proofs.Common.{get_or-set_same, get_or-set_other, eqb-true, eq-eqb}
+use Rattle.std.proofs.lemmas.Bool.{cases_eq, true≢false, false_from_ne_true}
+use Rattle.std.proofs.lemmas.List.{get_or_default, get_or-replicate, length-map, length-replicate, length-set}
 use Rattle.std.proofs.lemmas.List.{get_or_push, get_or_append_left, length_push}
 use Rattle.std.proofs.lemmas.Nat.Bits.{bit_at_set_same, bit_at_set_other}
-use Rattle.std.specs.Int.{w128}
+use Rattle.std.proofs.lemmas.Nat.Bits.{bit_at-lt, same_from_bits_below}
+use Rattle.std.specs.Int.{w128, bit_at}
 use Rattle.si_base.specs.declared.graph.Edge.{Edge}
 use Rattle.si_base.specs.Bits.{bit}
 use Rattle.si_base.specs.Graph.{StateGraph, IsGraph, IsNonInput, Step, arc}
@@ -22,8 +23,9 @@ use Rattle.si_candidates.specs.declared.earlier.EarlierStep.{EarlierStep}
 use Rattle.si_candidates.specs.Blocking.{MaySwitch, MayPass, MayLeave}
 use Rattle.si_candidates.specs.Earlier.{AreEarlier}
 use Rattle.si_candidates.specs.ManySets.{AreToldBelow, ArePacked, Tells, TellsOf}
+use Rattle.si_candidates.specs.ManySets.{AreAllPacked, EachTells, EachTellsOf, words_at}
 use Rattle.si_candidates.proofs.BlockStates.{same_sets}
-use Rattle.si_candidates.proofs.MaySwitchArcs.{switch_passes, passes_switch}
+use Rattle.si_candidates.proofs.MaySwitchArcs.{in_or_out, switch_passes, passes_switch}
 
 -- ---- bits
 pub not_is : (x k : ℕ) → x < 2 ^ 128 → k < 128
@@ -33,72 +35,78 @@ not_is x k fits few = (
   λ none. (in_not x k fits few).1 (false_from_ne_true (bit x k) none),
 )
 
+both_one : (m n : ℕ) → m < 2 → n < 2 → (m ≡ 1 → n ≡ 1) → (n ≡ 1 → m ≡ 1) → m ≡ n
+both_one m n m_bit n_bit there back = elim (cases_eq m 1) [
+  | inl one ↦ one ∙ sym (there one)
+  | inr not_m ↦ elim (cases_eq n 1) [
+    | inl one ↦ absurd (not_m (back one))
+    | inr not_n ↦ omega (arith, m_bit, n_bit, not_m, not_n)
+  ]
+]
+
+-- just one word tells of a property of sets
+pub one_word_tells : (given : ℕ) (words : List ℕ) (P : List Bool → Type 0) (x y : ℕ) → x < 2 ^ 128 → y < 2 ^ 128
+    → TellsOf given words P x → TellsOf given words P y → x ≡ y
+one_word_tells given words P x y x_fits y_fits first second = same_from_bits_below 128 x y x_fits y_fits (λ k few.
+    both_one (bit_at x k) (bit_at y k) (bit_at-lt x k) (bit_at-lt y k)
+    (λ one. eqb-true (bit_at y k) 1 ((second k few).1 ((first k few).0 (eq-eqb (bit_at x k) 1 one))))
+    (λ one. eqb-true (bit_at x k) 1 ((first k few).1 ((second k few).0 (eq-eqb (bit_at y k) 1 one)))))
+
 -- ---- one arc
-module _ (g : StateGraph) (words : List ℕ) (a : Edge) (given x y : ℕ) (x_fits : x < 2 ^ 128)
+module _ (words : List ℕ) (a : Edge) (given x y : ℕ) (x_fits : x < 2 ^ 128)
     (x_is : x ≡ get_or words a.from 0) (y_is : y ≡ get_or words a.to 0) where
-  abbrev pub stays : ℕ
-  stays = bit_and given (bit_or (2 ^ 128 - 1 - x) y)
-
-  abbrev Passes : ℕ → Type 0
-  Passes k = IsIn (column k words) a.from → MayPass g (IsIn (column k words)) a
-
-  begins : (k : ℕ) → (bit x k ≡ true) ↔ IsIn (column k words) a.from
-  begins k = (
-    λ h. (in_column k words a.from).1 (ap (λ w. bit w k) (sym x_is) ∙ h),
-    λ here. ap (λ w. bit w k) x_is ∙ (in_column k words a.from).0 here,
+  pub stay_by_bits : TellsOf given words (λ set. IsIn set a.from → IsIn set a.to)
+      (bit_and given (bit_or (2 ^ 128 - 1 - x) y))
+  stay_by_bits k few = (
+    λ h. (
+        let parts = (in_and given (bit_or (2 ^ 128 - 1 - x) y) k).0 h in (
+          parts.0,
+          λ here. elim ((in_or (2 ^ 128 - 1 - x) y k).0 parts.1) [
+            | inl elsewhere ↦ absurd ((not_is x k x_fits few).0 elsewhere (ap (λ w. bit w k) x_is
+                ∙ (in_column k words a.from).0 here))
+            | inr there ↦ (in_column k words a.to).1 (ap (λ w. bit w k) (sym y_is) ∙ there)
+          ],
+        )),
+    λ (has, stays). (in_and given (bit_or (2 ^ 128 - 1 - x) y) k).1 (
+      has,
+      (in_or (2 ^ 128 - 1 - x) y k).1 (elim (in_or_out (column k words) a.from) [
+        | inl here ↦ inr (ap (λ w. bit w k) y_is ∙ (in_column k words a.to).0 (stays here))
+        | inr elsewhere ↦ inl ((not_is x k x_fits few).1 (λ has. elsewhere ((in_column k words a.from).1
+            (ap (λ w. bit w k) (sym x_is) ∙ has))))
+      ]),
+    ),
   )
 
-  ends : (k : ℕ) → (bit y k ≡ true) ↔ IsIn (column k words) a.to
-  ends k = (
-    λ h. (in_column k words a.to).1 (ap (λ w. bit w k) (sym y_is) ∙ h),
-    λ here. ap (λ w. bit w k) y_is ∙ (in_column k words a.to).0 here,
-  )
+module _ (g : StateGraph) (words : List ℕ) (a : Edge) (given : ℕ) where
+  abbrev pub Passes : List Bool → Type 0
+  Passes set = IsIn set a.from → MayPass g (IsIn set) a
 
-  -- a set from which the arc doesn't lead out
-  stay_passes : (k : ℕ) → k < 128 → bit stays k ≡ true → (bit given k ≡ true) × Passes k
-  stay_passes k few h =
-      let parts = (in_and given (bit_or (2 ^ 128 - 1 - x) y) k).0 h in (
-        parts.0,
-        λ here out. absurd (elim ((in_or (2 ^ 128 - 1 - x) y k).0 parts.1) [
-          | inl not_here ↦ (not_is x k x_fits few).0 not_here ((begins k).1 here)
-          | inr there ↦ out ((ends k).0 there)
-        ]),
-      )
+  pub all_stay : TellsOf given words (λ set. IsIn set a.from → IsIn set a.to) given
+      → TellsOf given words Passes given
+  all_stay stay k few =
+      (λ h. (h, λ here out. absurd (out (((stay k few).0 h).1 here))), λ (has, passes). has)
 
-  pub all_stay : stays ≡ given → TellsOf given words (λ set. IsIn set a.from → MayPass g (IsIn set) a) given
-  all_stay same k few = (λ h. stay_passes k few (ap (λ w. bit w k) same ∙ h), λ (h, passes). h)
-
-  module _ (leave : ℕ) (tells : Tells words (λ set. MayLeave g (IsIn set) a) leave) where
-    abbrev left : ℕ
-    left = bit_or stays (bit_and given leave)
-
-    leaves : (k : ℕ) → k < 128 → bit (bit_and given leave) k ≡ true → (bit given k ≡ true) × Passes k
-    leaves k few h =
-        let parts = (in_and given leave k).0 h in (parts.0, λ here out. (tells k few).0 parts.1)
-
-    by_stay : (k : ℕ) → bit given k ≡ true → bit (bit_or (2 ^ 128 - 1 - x) y) k ≡ true → bit left k ≡ true
-    by_stay k has stay =
-        (in_or stays (bit_and given leave) k).1 (inl ((in_and given (bit_or (2 ^ 128 - 1 - x) y) k).1 (has, stay)))
-
-    back : (k : ℕ) → k < 128 → bit given k ≡ true → Passes k → bit left k ≡ true
-    back k few has passes = elim (cases_Bool (bit y k)) [
-      | inl there ↦ by_stay k has ((in_or (2 ^ 128 - 1 - x) y k).1 (inr there))
-      | inr out ↦ elim (cases_Bool (bit x k)) [
-        | inl here ↦ (in_or stays (bit_and given leave) k).1 (inr ((in_and given leave k).1
-            (has, (tells k few).1 (passes ((begins k).0 here) (λ there. true≢false (sym ((ends k).1 there) ∙ out))))))
-        | inr elsewhere ↦ by_stay k has ((in_or (2 ^ 128 - 1 - x) y k).1
-            (inl ((not_is x k x_fits few).1 (λ here. true≢false (sym here ∙ elsewhere)))))
+  pub stay_or_leave : (stays leave : ℕ) → TellsOf given words (λ set. IsIn set a.from → IsIn set a.to) stays
+      → Tells words (λ set. MayLeave g (IsIn set) a) leave
+      → TellsOf given words Passes (bit_or stays (bit_and given leave))
+  stay_or_leave stays leave stay may k few = (
+    λ h. elim ((in_or stays (bit_and given leave) k).0 h) [
+      | inl inside ↦ (
+          let both = (stay k few).0 inside in (both.0, λ here out. absurd (out (both.1 here))))
+      | inr leaves ↦ (
+          let both = (in_and given leave k).0 leaves in (both.0, λ here out. (may k few).0 both.1))
+    ],
+    λ (has, passes). (in_or stays (bit_and given leave) k).1 (elim (in_or_out set a.to) [
+      | inl there ↦ inl ((stay k few).1 (has, λ here. there))
+      | inr out ↦ elim (in_or_out set a.from) [
+        | inl here ↦ inr ((in_and given leave k).1 (has, (may k few).1 (passes here out)))
+        | inr elsewhere ↦ inl ((stay k few).1 (has, λ here. absurd (elsewhere here)))
       ]
-    ]
-
-    pub stay_or_leave : TellsOf given words (λ set. IsIn set a.from → MayPass g (IsIn set) a) left
-    stay_or_leave k few = (
-      λ h. elim ((in_or stays (bit_and given leave) k).0 h) [
-        | inl stay ↦ stay_passes k few stay
-        | inr leave_it ↦ leaves k few leave_it
-      ],
-      λ (has, passes). back k few has passes,
-    )
+    ]),
+  )
+    where
+      set : List Bool
+      set = column k words
 
 -- ---- all arcs
 -- the first n arcs pass
@@ -144,6 +152,83 @@ module _ (g : StateGraph) (words : List ℕ) where
 
       same_at : (j : ℕ) → j < length g.edges → get_or g.edges j (edge_at g.edges j) ≡ edge_at g.edges j
       same_at j inside = get_or_default g.edges j (edge_at g.edges j) no_edge inside
+
+-- ---- many lists of words
+module _ (g : StateGraph) (lists : List (List ℕ)) where
+  pub none_passed_yet : (may : List ℕ) → may ≡ replicate (length lists) (2 ^ 128 - 1)
+      → EachTells (λ set. PassBelow g set 0) lists may
+  none_passed_yet may is = record {
+    count = ap length is ∙ length-replicate (length lists) (2 ^ 128 - 1);
+    each = λ b inside. subst (Tells (words_at lists b) (λ set. PassBelow g set 0))
+        (sym (ap (λ (xs : List ℕ). get_or xs b 0) is ∙ get_or-replicate (length lists) b (2 ^ 128 - 1) 0 inside))
+        (no_arc_yet g (words_at lists b));
+  }
+
+  pub one_passed_more : (n : ℕ) (may next : List ℕ) → n < length g.edges
+      → EachTells (λ set. PassBelow g set n) lists may
+      → EachTellsOf may (λ set. IsIn set (edge_at g.edges n).from → MayPass g (IsIn set) (edge_at g.edges n))
+      lists next
+      → EachTells (λ set. PassBelow g set (n + 1)) lists next
+  one_passed_more n may next there before one = record {
+    count = one.count ∙ before.count;
+    each = λ b inside. one_arc_more g (words_at lists b) n (get_or may b 0) (get_or next b 0) there
+        (before.each b inside) (one.each b inside);
+  }
+
+  pub passed_by_staying : (n : ℕ) (may : List ℕ) → n < length g.edges → EachTells (λ set. PassBelow g set n) lists may
+      → EachTellsOf may (λ set. IsIn set (edge_at g.edges n).from → IsIn set (edge_at g.edges n).to) lists may
+      → EachTells (λ set. PassBelow g set (n + 1)) lists may
+  passed_by_staying n may there before stay = one_passed_more n may may there before (record {
+    count = refl;
+    each = λ b inside. all_stay g (words_at lists b) (edge_at g.edges n) (get_or may b 0) (stay.each b inside);
+  })
+
+  pub all_passed : (n : ℕ) (may : List ℕ) → IsGraph g → length g.edges ≤ n
+      → EachTells (λ set. PassBelow g set n) lists may → EachTells (λ set. MaySwitch g (IsIn set)) lists may
+  all_passed n may graph all tells = record {
+    count = tells.count;
+    each = λ b inside. all_arcs g (words_at lists b) n (get_or may b 0) graph all (tells.each b inside);
+  }
+
+-- ---- list after list
+pub list_is : (lists : List (List ℕ)) (b : ℕ) (words : List ℕ) → b < length lists → words ≡ get_or lists b words
+    → words ≡ words_at lists b
+list_is lists b words inside at = at ∙ get_or_default lists b words [] inside
+
+-- at the lists before n the sets that pass are kept, and nothing else is changed
+pub record ArePassed (g : StateGraph) (lists : List (List ℕ)) (a : Edge) (given : List ℕ) (n : ℕ) (may : List ℕ)
+    : Type 0 where
+  pub size : length may ≡ length given
+  pub passed : (j : ℕ) → j < n → TellsOf (get_or given j 0) (words_at lists j)
+      (λ set. IsIn set a.from → MayPass g (IsIn set) a) (get_or may j 0)
+  pub rest : (j : ℕ) → n ≤ j → get_or may j 0 ≡ get_or given j 0
+
+pub one_list_more : (g : StateGraph) (lists : List (List ℕ)) (a : Edge) (given may : List ℕ) (n next : ℕ)
+    → n < length given → ArePassed g lists a given n may
+    → TellsOf (get_or may n 0) (words_at lists n) (λ set. IsIn set a.from → MayPass g (IsIn set) a) next
+    → ArePassed g lists a given (n + 1) (set may n next)
+one_list_more g lists a given may n next inside before here = record {
+  size = length-set may n next ∙ before.size;
+  passed = λ j early. elim (cases_eq j n) [
+    | inl same ↦ subst (λ (i : ℕ). Told i (get_or (set may n next) i 0)) (sym same) (subst (Told n) (sym last) told)
+    | inr other ↦ subst (Told j) (sym (get_or-set_other may n j next 0 other))
+        (before.passed j (omega (arith, early, other)))
+  ];
+  rest = λ j late. get_or-set_other may n j next 0 (λ same. absurd (omega (arith, late, same)))
+      ∙ before.rest j (omega (arith, late));
+}
+  where
+    Told : ℕ → ℕ → Type 0
+    Told j answer = TellsOf (get_or given j 0) (words_at lists j) (λ set. IsIn set a.from → MayPass g (IsIn set) a)
+        answer
+
+    last : get_or (set may n next) n 0 ≡ next
+    last = get_or-set_same may n next 0 (omega (arith, inside, before.size))
+
+    told : Told n next
+    told = subst
+        (λ (w : ℕ). TellsOf w (words_at lists n) (λ set. IsIn set a.from → MayPass g (IsIn set) a) next)
+        (before.rest n (omega arith)) here
 
 -- ---- the earlier steps of an arc
 -- the step leads out of the set
@@ -329,6 +414,34 @@ module _ (states : ℕ) (blocks : List (List Bool)) (first : ℕ) where
   told_of_block g words word k few inside size are tells =
       subst (λ (x : List Bool). (bit word k ≡ true) ↔ MaySwitch g (IsIn x))
       (packed_column words k few inside size are) (tells k few)
+
+pub told_in_lists : (states : ℕ) (blocks : List (List Bool)) (g : StateGraph) (lists : List (List ℕ)) (sets : List ℕ)
+    (k word : ℕ) → k < length blocks → length (block_at blocks k) ≡ states → AreAllPacked states blocks lists
+    → EachTells (λ set. MaySwitch g (IsIn set)) lists sets → word ≡ get_or sets (k / 128) word
+    → (bit word (k % 128) ≡ true) ↔ MaySwitch g (IsIn (block_at blocks k))
+told_in_lists states blocks g lists sets k word inside size packed tells at =
+    subst Says parts (told_of_block states blocks (k / 128 * 128) g words word (k % 128) (omega arith)
+    (omega (arith, inside, parts)) (ap (λ (n : ℕ). length (block_at blocks n)) parts ∙ size)
+    (packed.each (k / 128) there) told)
+  where
+    words : List ℕ
+    words = words_at lists (k / 128)
+
+    Says : ℕ → Type 0
+    Says n = (bit word (k % 128) ≡ true) ↔ MaySwitch g (IsIn (block_at blocks n))
+
+    parts : k / 128 * 128 + k % 128 ≡ k
+    parts = omega arith
+
+    there : k / 128 < length lists
+    there = omega (arith, inside, packed.all)
+
+    word_is : word ≡ get_or sets (k / 128) 0
+    word_is = at ∙ get_or_default sets (k / 128) word 0 (omega (arith, there, tells.count))
+
+    told : Tells words (λ set. MaySwitch g (IsIn set)) word
+    told = subst (λ (w : ℕ). Tells words (λ set. MaySwitch g (IsIn set)) w) (sym word_is)
+        (tells.each (k / 128) there)
 
 -- ---- one flag more
 pub told_more : (g : StateGraph) (blocks : List (List Bool)) (flags : List Bool) (flag : Bool) (m : ℕ)

@@ -1,9 +1,0 @@
-use Rattle.std.proofs.Common.{◌≡◌, ◌+◌, length}
-use Rattle.si_candidates.specs.ManySets.{AreToldBelow}
-use Rattle.si_candidates.proofs.may_switch.add_answers.Given as goal
-
-abbrev pub invariant-loop-k : goal.invariant-loop-k
-invariant-loop-k l = record {
-  size : length l.may.items ≡ l.first + l.k;
-  told : AreToldBelow l.graph.graph l.blocks l.may.items;
-}
