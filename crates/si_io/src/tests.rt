@@ -25,27 +25,41 @@ fn one_file(alloc: Global) -> Result<Vec<MemFile>, NoMemory>
     Ok(vec![in alloc; MemFile { name, content }]?)
 }
 
+/// What was loaded, nothing where it failed, and the fault.
+fn told(alloc: Global, loaded: Result<Vec<u8>, LoadFault>) -> (Vec<u8>, Option<LoadFault>) {
+    match loaded {
+        Ok(bytes) => (bytes, None),
+        Err(fault) => (Vec::new(alloc), Some(fault)),
+    }
+}
+
 #[test]
 fn shelves_in_memory(rt: HostRuntime) -> Result<(), Fail> {
     let alloc = rt.alloc();
     let mut shelf = MemShelf::new(one_file(alloc)?, vec![in alloc; 1]?);
-    let loaded = shelf.load(alloc, "wire.sg", 3)?;
-    assert_eq!(rt; loaded.as_slice(), b"abc".as_slice());
-    assert_eq!(rt;
-        shelf.load(alloc, "wire.sg", 3).err(),
-        Some(LoadFault::Failed)
-    );
-    assert_eq!(rt;
-        shelf.load(alloc, "other.sg", 3).err(),
-        Some(LoadFault::Failed)
-    );
-    assert_eq!(rt;
-        shelf.load(alloc, "wire.sg", 2).err(),
-        Some(LoadFault::TooLong { taken: 3 })
-    );
+    let failed = Some(LoadFault::Failed);
+    let long = Some(LoadFault::TooLong { taken: 3 });
+    for (file, limit, content, fault) in [
+        ("wire.sg", 3, "abc", None),
+        ("wire.sg", 3, "", failed),
+        ("other.sg", 3, "", failed),
+        ("wire.sg", 2, "", long),
+    ] {
+        let (bytes, got) = told(alloc, shelf.load(alloc, file, limit));
+        assert_eq!(rt; bytes.as_slice(), content.as_bytes());
+        assert_eq!(rt; got, fault);
+    }
+    Ok(())
+}
+
+#[test]
+fn sure_shelves_in_memory(rt: HostRuntime) -> Result<(), Fail> {
+    let alloc = rt.alloc();
     let mut sure = SureShelf::new(one_file(alloc)?);
-    assert_eq!(rt; sure.load(alloc, "wire.sg", 3)?.len(), 3);
-    assert_eq!(rt; sure.load(alloc, "other.sg", 3)?.len(), 0);
+    for (file, content) in [("wire.sg", "abc"), ("other.sg", "")] {
+        let bytes = sure.load(alloc, file, 3)?;
+        assert_eq!(rt; bytes.as_slice(), content.as_bytes());
+    }
     Ok(())
 }
 
@@ -158,10 +172,7 @@ fn reading_up_to_a_limit(rt: HostRuntime) -> Result<(), Fail> {
             calls: 0,
         };
         let mut faults = 0;
-        let (bytes, got) = match read_all(alloc, &mut reader, limit, &mut faults) {
-            Ok(bytes) => (bytes, None),
-            Err(fault) => (Vec::new(alloc), Some(fault)),
-        };
+        let (bytes, got) = told(alloc, read_all(alloc, &mut reader, limit, &mut faults));
         assert_eq!(rt; bytes.as_slice(), answer.as_bytes());
         assert_eq!(rt; got, fault);
         assert_eq!(rt; faults, faults_after);
@@ -222,52 +233,63 @@ fn host_sinks_over_slow_writers(rt: HostRuntime) -> Result<(), Fail> {
     Ok(())
 }
 
+/// Writes a file of these pieces.
+fn write_file(rt: &HostRuntime, name: &str, pieces: [&[u8]; 2]) -> Result<(), Fail> {
+    let mut sink = HostSink::new(fs::create(rt, name)?);
+    for piece in pieces {
+        sink.put(piece)?;
+    }
+    Ok(())
+}
+
 #[test]
 fn host_forms_on_files(rt: HostRuntime) -> Result<(), Fail> {
     let alloc = rt.alloc();
     let name = "si_io_host_forms.txt";
     let other = "si_io_other_file.txt";
-    {
-        let mut sink = HostSink::new(fs::create(&rt, name)?);
-        sink.put(b"01234")?;
-        sink.put(b"56789")?;
-        let mut other_sink = HostSink::new(fs::create(&rt, other)?);
-        other_sink.put(b"abc")?;
-    }
+    write_file(&rt, name, [b"01234", b"56789"])?;
+    write_file(&rt, other, [b"ab", b"c"])?;
     let mut shelf = HostShelf::new(&rt);
-    for (file, content) in [(name, "0123456789"), (other, "abc"), (name, "0123456789")] {
-        let whole = shelf.load(alloc, file, 10)?;
-        assert_eq!(rt; whole.as_slice(), content.as_bytes());
-    }
-    for (limit, taken) in [(9, 10), (4, 5), (0, 1)] {
-        assert_eq!(rt;
-            shelf.load(alloc, name, limit).err(),
-            Some(LoadFault::TooLong { taken })
-        );
+    for (file, limit, content, fault) in [
+        (name, 10, "0123456789", None),
+        (other, 10, "abc", None),
+        (name, 9, "", Some(LoadFault::TooLong { taken: 10 })),
+        (name, 0, "", Some(LoadFault::TooLong { taken: 1 })),
+        (name, 10, "0123456789", None),
+        ("si_io_no_file.txt", 10, "", Some(LoadFault::Failed)),
+    ] {
+        let (bytes, got) = told(alloc, shelf.load(alloc, file, limit));
+        assert_eq!(rt; bytes.as_slice(), content.as_bytes());
+        assert_eq!(rt; got, fault);
     }
     fs::remove_file(&rt, name)?;
-    assert_eq!(rt; shelf.load(alloc, name, 10).err(), Some(LoadFault::Failed));
-    assert_eq!(rt; shelf.load(alloc, other, 10)?.len(), 3);
     fs::remove_file(&rt, other)?;
     Ok(())
 }
 
 #[test]
 fn the_longest_text_is_loaded_and_no_longer_one(rt: HostRuntime) -> Result<(), Fail> {
-    let alloc = rt.alloc();
     let name = "si_io_longest_text.txt";
-    let mut piece = vec![in alloc; b'x'; MAX_TEXT as usize]?;
-    HostSink::new(fs::create(&rt, name)?).put(&piece)?;
-    let mut shelf = HostShelf::new(&rt);
-    let loaded = shelf.load(alloc, name, MAX_TEXT)?;
-    assert!(rt; loaded.as_slice() == piece.as_slice());
-    piece.push(b'x')?;
-    HostSink::new(fs::create(&rt, name)?).put(&piece)?;
-    let taken = MAX_TEXT + 1;
-    assert_eq!(rt;
-        shelf.load(alloc, name, MAX_TEXT).err(),
-        Some(LoadFault::TooLong { taken })
-    );
+    let long = Some(LoadFault::TooLong {
+        taken: MAX_TEXT + 1,
+    });
+    for (len, loaded, fault) in [(MAX_TEXT, MAX_TEXT, None), (MAX_TEXT + 1, 0, long)] {
+        write_letters(&rt, name, len)?;
+        let (bytes, got) = told(
+            rt.alloc(),
+            HostShelf::new(&rt).load(rt.alloc(), name, MAX_TEXT),
+        );
+        assert_eq!(rt; bytes.len() as u64, loaded);
+        assert!(rt; bytes.iter().all(|b| *b == b'x'));
+        assert_eq!(rt; got, fault);
+    }
     fs::remove_file(&rt, name)?;
+    Ok(())
+}
+
+/// Writes a file of that many letters.
+fn write_letters(rt: &HostRuntime, name: &str, len: u64) -> Result<(), Fail> {
+    let letters = vec![in rt.alloc(); b'x'; len as usize]?;
+    HostSink::new(fs::create(rt, name)?).put(&letters)?;
     Ok(())
 }
