@@ -1,8 +1,11 @@
 -- What is known of each signal before an insertion bounds the weight after it.
-use Rattle.std.proofs.Common.{◌≡◌, ℕ, ◌+◌, ◌<◌, ◌≤◌, ◌↔◌, true, false, List, [], ◌∷◌, ◌++◌, All, length, get_or, drop}
+use Rattle.std.proofs.Common.{◌≡◌, ℕ, suc, ◌+◌, ◌<◌, ◌≤◌, ◌↔◌, true, false, List, [], ◌∷◌, ◌++◌, All, length, drop}
+use Rattle.std.proofs.Common.{get_or}
 use Rattle.std.proofs.Common.{slice_get, slice_index_or, Some, None, refl, sym, ap, subst, ◌∙◌, arith, inl, inr}
-use Rattle.std.proofs.lemmas.Bool.{cases_Bool, cases_lt, cases_order}
-use Rattle.std.proofs.lemmas.List.{get_or_append_left, get_or_default, get_or_past, get_or_push, length_push}
+use Rattle.std.proofs.lemmas.Bool.{cases_Bool, cases_lt, cases_order, true≢false}
+use Rattle.std.proofs.Common.{add-one}
+use Rattle.std.proofs.Math.Seq.{drop-cons}
+use Rattle.std.proofs.lemmas.List.{drop_all, get_or_append_left, get_or_default, get_or_past, get_or_push, length_push}
 use Rattle.std.proofs.lemmas.List.Elements.{All-nil, All-push}
 use Rattle.std.proofs.lemmas.Option.{slice_get-get_or, slice_get_within}
 use Rattle.si_base.specs.Bits.{bit}
@@ -22,12 +25,14 @@ use Rattle.si_insert.proofs.AcceptedLosses.{driven_after}
 use Rattle.si_insert.proofs.InsertionCodes.{is_coded}
 use Rattle.si_insert.proofs.InsertionsExist.{some_insertion}
 use Rattle.si_match.specs.Fit.{first_fit}
-use Rattle.si_match.specs.Support.{support_of}
-use Rattle.si_match.specs.Triggers.{IsTrigger}
+use Rattle.si_match.specs.Support.{determines, support_of}
 use Rattle.si_match.specs.Weight.{added_weight, size_from, weight_from, weight_of}
+use Rattle.si_match.proofs.DroppingLemmas.{determined_by_more}
+use Rattle.si_match.proofs.UnfitLemmas.{size_le}
 use Rattle.si_match.proofs.WeightLemmas.{begins, driven, input}
 use Rattle.si_map.specs.Best.{LeavesWeight}
-use Rattle.si_map.specs.Least.{AddsAtLeast, AddsTo, AreLeast, HaveFewPins, IsLeast}
+use Rattle.si_map.specs.Least.{AddsAtLeast, AddsTo, AreAllTriggers, AreLeast, HaveFewPins, IsLeast}
+use Rattle.si_map.specs.Least.{TellsEnough, sum_outside}
 use Rattle.si_map.specs.Progress.{LeavesNoneBelow}
 use Rattle.si_map.specs.Waiting.{NeverWaits}
 use Rattle.si_map.proofs.BestWeight.{weight_is_one}
@@ -74,7 +79,7 @@ all_known c library count least all before =
 
 -- ---- one signal
 module _ (c : CodedGraph) (z triggers size most : ℕ) (is : IsCoded c) (driven : IsNonInput c.graph.signals z)
-    (are : (i : ℕ) → (bit triggers i ≡ true) ↔ IsTrigger c z i)
+    (are : AreAllTriggers c z triggers)
     (size_is : size ≡ size_from (length c.graph.signals) 0 triggers) (many : most ≤ size) (library : Library)
     (unfit : first_fit c library z ≡ None) (few : HaveFewPins library most) where
   old : z < length c.graph.signals
@@ -95,10 +100,69 @@ module _ (c : CodedGraph) (z triggers size most : ℕ) (is : IsCoded c) (driven 
       (λ i there. (are i).0 there) most unfit few many_there none driven other in
       omega (arith, adds, size_is)
 
+-- ---- and no less is told of it
+module _ (c : CodedGraph) (z own size most : ℕ) (are : AreAllTriggers c z own)
+    (size_is : size ≡ size_from (length c.graph.signals) 0 own) where
+  -- sets of all triggers have one size
+  same_size : (set : ℕ) → AreAllTriggers c z set → size ≡ size_from (length c.graph.signals) 0 set
+  same_size set all =
+      let n : ℕ = length c.graph.signals in
+      let low = size_le n 0 own set (λ i there. (all i).1 ((are i).0 there)) in
+      let high = size_le n 0 set own (λ i there. (are i).1 ((all i).0 there)) in
+      omega (arith, low, high, size_is)
+
+  pub too_few : size < most → TellsEnough c most z 0
+  too_few low = record {
+    triggers = λ set all many. absurd (let same = same_size set all in omega (arith, low, many, same));
+    further = λ set all many undecided. absurd (let same = same_size set all in omega (arith, low, many, same));
+  }
+
+  pub one_enough : support_of c z ≡ own → determines c z (support_of c z) ≡ true → TellsEnough c most z (1 + size)
+  one_enough is_support determined = record {
+    triggers = λ set all many. (let same = same_size set all in omega (arith, same));
+    further = λ set all many undecided. absurd (
+        let also : determines c z set ≡ true =
+        determined_by_more c z own set (λ i there. (all i).1 ((are i).0 there)) own_determines in
+        true≢false (sym also ∙ undecided));
+  }
+    where
+      own_determines : determines c z own ≡ true
+      own_determines = sym (ap (determines c z) is_support) ∙ determined
+
+  pub two_enough : TellsEnough c most z (2 + size)
+  two_enough = record {
+    triggers = λ set all many. (let same = same_size set all in omega (arith, same));
+    further = λ set all many undecided. (let same = same_size set all in omega (arith, same));
+  }
+
 -- ---- the sum
 -- the signals outside of the set add to the weight what the list has
 abbrev pub AllAdd : CodedGraph → Library → ℕ → List ℕ → Type 0
 AllAdd c library waiting least = (z : ℕ) → bit waiting z ≡ false → AddsTo c library z (slice_index_or least z 0)
+
+-- the sum so far, and what is still to be added
+module _ (waiting i sum whole : ℕ) (least : List ℕ) (inside : i < length least) where
+  next : drop i least ≡ get_or least i 0 ∷ drop (i + 1) least
+  next = rw add-one (drop-cons least i 0 inside)
+
+  pub sums_passed : bit waiting i ≡ true → sum + sum_outside waiting i (drop i least) ≡ whole
+      → sum + sum_outside waiting (i + 1) (drop (i + 1) least) ≡ whole
+  sums_passed waits told =
+      let here : sum + (0 + sum_outside waiting (i + 1) (drop (i + 1) least)) ≡ whole = rw (next, waits) at told in
+      omega (arith, here)
+
+  pub sums_added : bit waiting i ≡ false → sum + sum_outside waiting i (drop i least) ≡ whole
+      → sum + get_or least i 0 + sum_outside waiting (i + 1) (drop (i + 1) least) ≡ whole
+  sums_added never told =
+      let here : sum + (get_or least i 0 + sum_outside waiting (i + 1) (drop (i + 1) least)) ≡ whole =
+      rw (next, never) at told in
+      omega (arith, here)
+
+pub sums_end : (waiting i sum whole : ℕ) (least : List ℕ) → length least ≤ i
+    → sum + sum_outside waiting i (drop i least) ≡ whole → sum ≡ whole
+sums_end waiting i sum whole least past told =
+    let none_left : drop i least ≡ [] = drop_all i least past in
+    let same : sum + 0 ≡ whole = rw none_left at told in omega (arith, same)
 
 -- what the first signals add is no less than the sum so far
 pub record IsBelow (c : CodedGraph) (library : Library) (i sum : ℕ) : Type 0 where
@@ -162,16 +226,50 @@ module _ (c : CodedGraph) (library : Library) where
             let same : y ≡ get_or c.graph.signals i here = cc in
             subst (λ (s : Signal). is_driven s.kind ≡ true) (same ∙ sym here_is) is
 
+-- the same of the rest of the list, from signal i on
+abbrev AllAddFrom : CodedGraph → Library → ℕ → ℕ → List ℕ → Type 0
+AllAddFrom c library waiting i left = (z k : ℕ) → z ≡ i + k → k < length left → bit waiting z ≡ false
+    → AddsTo c library z (slice_index_or left k 0)
+
+sum_below : (c : CodedGraph) (library : Library) (waiting i sum : ℕ) (left : List ℕ)
+    → i + length left ≤ length c.graph.signals → AllAddFrom c library waiting i left
+    → IsBelow c library i sum → sum + sum_outside waiting i left ≤ weight_of c library
+sum_below c library waiting i sum [] count adds below =
+    let low = below_weight c library i sum below in omega (arith, low)
+sum_below c library waiting i sum (w ∷ left) count adds below =
+    let inside : i < length c.graph.signals = omega (arith, count) in
+    let later : AllAddFrom c library waiting (i + 1) left =
+    λ z k is within never. adds z (suc k) (omega (arith, is)) (omega (arith, within)) never in
+    let room : i + 1 + length left ≤ length c.graph.signals = omega (arith, count) in
+    elim (cases_Bool (bit waiting i)) [
+      | inl waits ↦ (let passed = passed_below c library i sum inside below in
+          let rest = sum_below c library waiting (i + 1) sum left room later passed in
+          rw waits (omega (arith, rest)))
+      | inr never ↦ (let own : AddsTo c library i w = adds i 0 (omega arith) (omega arith) never in
+          let added = added_below c library i sum inside below w own in
+          let rest = sum_below c library waiting (i + 1) (sum + w) left room later added in
+          rw never (omega (arith, rest)))
+    ]
+
+-- what the list tells of the signals outside of the set is no more than the weight
+outside_below : (c : CodedGraph) (library : Library) (waiting : ℕ) (least : List ℕ)
+    → length least ≤ length c.graph.signals → AllAdd c library waiting least
+    → sum_outside waiting 0 least ≤ weight_of c library
+outside_below c library waiting least count adds =
+    let from : AllAddFrom c library waiting 0 least = λ z k is within never.
+    subst (λ (j : ℕ). AddsTo c library z (slice_index_or least j 0)) (omega (arith, is)) (adds z never) in
+    let room : 0 + length least ≤ length c.graph.signals = omega (arith, count) in
+    let all = sum_below c library waiting 0 0 least room from (starts_below c library) in omega (arith, all)
+
 -- ---- an insertion
 -- where signals that never wait add that much, none leaves less
 pub bounded : (c : CodedGraph) (library : Library) (classes : List Class) (name least : List ℕ)
     (waiting sum bar : ℕ) → IsCoded c → IsAccepted c.graph classes → (IsTaken c.graph.signals name → ⊥)
     → AreLeast c library least → (g : StateGraph) (given : List Class) → g ≡ c.graph → given ≡ classes
     → ((z : ℕ) → bit waiting z ≡ false → NeverWaits g given z)
-    → ((d : CodedGraph) (library : Library) → length least ≤ length d.graph.signals
-    → AllAdd d library waiting least → sum ≤ weight_of d library)
+    → sum ≡ sum_outside waiting 0 least
     → bar ≤ sum → LeavesNoneBelow c library classes bar
-bounded c library classes name least waiting sum bar is accepts fresh are g given g_is given_is never low high n free
+bounded c library classes name least waiting sum bar is accepts fresh are g given g_is given_is never sum_is high n free
     leaves =
     let (h, inserted, graph) = some_insertion c classes name is accepts fresh in
     let d : CodedGraph = coded c (copies_of classes) h in
@@ -194,4 +292,5 @@ bounded c library classes name least waiting sum bar is accepts fresh are g give
     )) in
     let count : length least ≤ length h.signals =
     omega (arith, are.count, ap (length {A = Signal}) inserted.signals, length_push c.graph.signals new) in
-    omega (arith, low d library count adds, one, high)
+    let below = outside_below d library waiting least count adds in
+    omega (arith, sum_is, below, one, high)

@@ -1,18 +1,18 @@
 //! What signals that never wait for a new one add to the weight at least: a bound by which most
 //! insertions are dropped before they are made.
 
-ghost use Rattle.std.specs.Prelude.{◌≡◌, ℕ, ◌<◌, ◌≤◌, ◌+◌, false, All, IfOk, None, length};
-ghost use Rattle.std.specs.Prelude.{slice_index_or};
-ghost use Rattle.si_base.specs.Bits.{bit};
-ghost use Rattle.si_base.specs.Codes.{CodedGraph};
+ghost use Rattle.std.specs.Prelude.{◌≡◌, ◌<◌, ◌≤◌, ◌+◌, All, IfOk, None, length};
+ghost use Rattle.si_base.specs.Codes.{IsCoded};
 ghost use Rattle.si_base.specs.Graph.{IsNonInput};
 ghost use Rattle.si_base.specs.Limits.{code_width};
+ghost use Rattle.si_base.specs.Proper.{HasNoConflict};
 ghost use Rattle.si_cell.specs.Library.{Library as LibraryValue};
 ghost use Rattle.si_cell.specs.Limits.{max_pins};
 ghost use Rattle.si_checks.specs.Lent.{coded_of};
 ghost use Rattle.si_match.specs.Fit.{first_fit};
-ghost use Rattle.si_match.specs.Weight.{weight_of};
-ghost use Rattle.si_map.specs.Least.{AddsAtLeast, AddsTo, AreLeast, HaveFewPins};
+ghost use Rattle.si_match.specs.Weight.{size_from};
+ghost use Rattle.si_map.specs.Least.{AddsAtLeast, AreAllTriggers, AreLeast, HaveFewPins};
+ghost use Rattle.si_map.specs.Least.{TellsEnough, sum_outside};
 ghost use Rattle.si_map.specs.Progress.{AreFitted};
 
 use si_base::ids::{Code, NoMemory, Sig};
@@ -73,11 +73,10 @@ fn least_weight(alloc: Global, graph: Distinct<'_>, z: Sig, most: u64) -> Result
     ensures adds { IfOk result (λ least. (library : LibraryValue)
         → first_fit (coded_of graph.entry) library z ≡ None → HaveFewPins library most
         → AddsAtLeast (coded_of graph.entry) library z least) }
+    ensures enough { IfOk result (TellsEnough (coded_of graph.entry) most z) }
     ensures small { IfOk result (λ least. least ≤ 2 + code_width) }
 {
-    let count = graph.proper().coded().graph().signals().len();
-    let triggers = trigger_signals(graph, z);
-    let size = size(triggers, count);
+    let (triggers, size) = counted_triggers(graph, z);
     if size < most {
         return Ok(0);
     }
@@ -89,14 +88,26 @@ fn least_weight(alloc: Global, graph: Distinct<'_>, z: Sig, most: u64) -> Result
     }
 }
 
+/// All triggers of a signal, how many they are, and what holds of each graph without conflicts.
+fn counted_triggers(graph: Distinct<'_>, z: Sig) -> (Code, u64)
+    requires { z < length (coded_of graph).graph.signals }
+    ensures triggers { AreAllTriggers (coded_of graph.entry) z result.0 }
+    ensures size { result.1
+        ≡ size_from (length (coded_of graph.entry).graph.signals) 0 result.0 }
+    ensures few { result.1 ≤ code_width }
+    ensures coded { IsCoded (coded_of graph.entry) }
+    ensures distinct { HasNoConflict (coded_of graph.entry) }
+{
+    let count = graph.proper().coded().graph().signals().len();
+    let triggers = trigger_signals(graph, z);
+    (triggers, size(triggers, count))
+}
+
 /// What the signals outside of the set add together.
 pub(crate) fn sum_without(least: &[u64], waiting: Code) -> u64
     requires few { length least.now ≤ code_width }
     requires small { All (λ w. w ≤ 2 + code_width) least.now }
-    ensures { (c : CodedGraph) (library : LibraryValue)
-        → length least.now ≤ length c.graph.signals
-        → ((z : ℕ) → bit waiting z ≡ false → AddsTo c library z (slice_index_or least.now z 0))
-        → result ≤ weight_of c library }
+    ensures { result ≡ sum_outside waiting 0 least.now }
 {
     let mut sum = 0;
     for i in 0..least.len() {
