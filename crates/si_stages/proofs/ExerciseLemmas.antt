@@ -30,6 +30,10 @@ use Rattle.si_stages.proofs.ResolutionLemmas.{IsResolution}
 use Rattle.si_readings.proofs.StageLemmas.{shows_one, shows_some}
 use Rattle.si_stages.proofs.SynthesisLemmas.{is_synthesis}
 
+-- a graph with its model and the names of its states
+abbrev pub given_sg : (model : List ℕ) → StateGraph → (states : List (List ℕ)) → Sg
+given_sg model graph states = record { model = model; graph = graph; states = states }
+
 -- the netlist that is counted
 abbrev pub own_netlist : Sg → CodedGraph → Netlist
 own_netlist sg coded = circuit_of Complex sg.model sg.states (given_history coded)

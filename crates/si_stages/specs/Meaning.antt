@@ -1,5 +1,9 @@
 -- (command) What each command means over the text of its file, or the texts of its files.
 use Rattle.std.specs.Prelude.{ℕ, List}
+use Rattle.si_base.specs.GivenGraph.{Sg}
+use Rattle.si_base.specs.Graph.{StateGraph}
+use Rattle.si_base.specs.Netlist.{Netlist}
+use Rattle.si_cell.specs.Library.{Library}
 use Rattle.si_circuit.specs.declared.style.Style.{Style}
 use Rattle.si_refusals.specs.Refusal.{TextRefusal}
 use Rattle.si_refusals.specs.Stages.{Stage, ◌>>=◌}
@@ -16,11 +20,17 @@ use Rattle.si_readings.specs.declared.library_format.LibraryFormat.{LibraryForma
 use Rattle.si_stages.specs.declared.replay_kind.ReplayReport.{ReplayReport}
 use Rattle.si_stages.specs.declared.report_kind.Report.{Report}
 
+-- the report on a graph, of this model and with these names of its states
+abbrev pub report_on : Report → (model : List ℕ) → (states : List (List ℕ)) → StateGraph
+    → Stage TextRefusal (List ℕ)
+report_on what model states graph = do
+  coded ← proper graph states
+  report_text what model states coded
+
 abbrev pub report : Report → (file text : List ℕ) → Stage TextRefusal (List ℕ)
 report what file text = do
   given ← graph_in file text
-  coded ← proper given.graph given.states
-  report_text what given.model given.states coded
+  report_on what given.model given.states given.graph
 
 abbrev pub synth : Style → (file text : List ℕ) → Stage TextRefusal (List ℕ)
 synth style file text = do
@@ -28,13 +38,18 @@ synth style file text = do
   lineage ← resolution given.graph given.states
   synthesis style given lineage
 
+-- the netlist of a graph that was read, from the cells of a library
+abbrev pub mapped_text : Library → Sg → Stage TextRefusal (List ℕ)
+mapped_text library given = do
+  lineage ← resolution given.graph given.states
+  cells_text library given lineage
+
 -- each file with its text, and the library read in either format
 abbrev pub mapping : LibraryFormat → (graph graph_text library library_text : List ℕ)
     → Stage TextRefusal (List ℕ)
 mapping format graph graph_text library library_text = do
   readings ← mapping_readings format graph graph_text library library_text
-  lineage ← resolution readings.given.graph readings.given.states
-  cells_text readings.library readings.given lineage
+  mapped_text readings.library readings.given
 
 abbrev pub replay : ReplayReport
     → (graph graph_text netlist netlist_text schedule schedule_text : List ℕ)
@@ -43,9 +58,15 @@ replay what graph graph_text netlist netlist_text schedule schedule_text = do
   readings ← replay_readings graph graph_text netlist netlist_text schedule schedule_text
   replayed_text what netlist readings.given readings.netlist readings.events
 
+-- the audit of a netlist for a graph whose states have these names
+abbrev pub audited_on : (netlist : List ℕ) → StateGraph → (states : List (List ℕ)) → Netlist
+    → Stage TextRefusal (List ℕ)
+audited_on netlist graph states n = do
+  coded ← proper graph states
+  _ ← match_lists netlist coded n
+  certification states coded n
+
 abbrev pub audit : (graph graph_text netlist netlist_text : List ℕ) → Stage TextRefusal (List ℕ)
 audit graph graph_text netlist netlist_text = do
   readings ← audit_readings graph graph_text netlist netlist_text
-  coded ← proper readings.given.graph readings.given.states
-  _ ← match_lists netlist coded readings.netlist
-  certification readings.given.states coded readings.netlist
+  audited_on netlist readings.given.graph readings.given.states readings.netlist

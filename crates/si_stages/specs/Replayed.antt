@@ -71,10 +71,16 @@ replay_end what graph states netlist events (Ok output) =
 replay_end what graph states netlist events (Err refusal) =
     IsDifference graph netlist events refusal
 
--- the same over a graph that was read: it is proper, and the netlist has its lists
+-- the same, where the graph is proper, and the netlist has its lists
+abbrev pub replay_on : ReplayReport → (netlist : List ℕ) → StateGraph → (states : List (List ℕ))
+    → Netlist → List Event → Stage TextRefusal (List ℕ)
+replay_on what netlist graph states n events = do
+  coded ← proper graph states
+  _ ← match_lists netlist coded n
+  replay_end what graph states n events
+
+-- the same over a graph that was read
 abbrev pub replayed_text : ReplayReport → (netlist : List ℕ) → Sg → Netlist → List Event
     → Stage TextRefusal (List ℕ)
-replayed_text what netlist given n events = do
-  coded ← proper given.graph given.states
-  _ ← match_lists netlist coded n
-  replay_end what given.graph given.states n events
+replayed_text what netlist given n events =
+    replay_on what netlist given.graph given.states n events

@@ -4,6 +4,7 @@ ghost use Rattle.std.specs.Prelude.{◌≡◌, ℕ, ◌↔◌, List, IfOk, IfErr
 ghost use Rattle.si_audit.specs.FaultSignals.{AreAmong, TellsOf};
 ghost use Rattle.si_audit.specs.declared.fault.AuditFault.TheVariants.{Refused};
 ghost use Rattle.si_base.specs.System.{IsFor};
+ghost use Rattle.si_readings.specs.Checks.{IsNamed};
 ghost use Rattle.si_refusals.specs.Ending.{MayStop, ending_of};
 ghost use Rattle.si_stages.specs.Audited as stage;
 ghost use Rattle.si_stages.specs.Audited.{IsAudit, IsCertified, IsNamedSo, TellsRejection};
@@ -18,6 +19,7 @@ use si_base::names::Names;
 use si_base::text::{Name, Text};
 use si_checks::proper::Proper;
 use si_circuit::circuit::Circuit;
+use si_graph::graph::Graph;
 use si_insert::accept::Rejected;
 use si_netlist::netlist::Netlist;
 use si_readings::checks::{match_lists, proper_of};
@@ -52,9 +54,26 @@ pub fn audit_texts<'w>(
     let readings = audit_readings(alloc, graph_file, graph, netlist_file, netlist)?;
     let AuditReadings { given, netlist } = readings;
     let Sg { graph, states, .. } = given;
-    let proper = proper_of(alloc, graph, &states)?;
+    audited_on(alloc, graph, &states, netlist_file, netlist)
+}
+
+/// What is told of the netlist, where it is certified for the graph, whose states have these names.
+fn audited_on<'w>(
+    alloc: Global,
+    graph: Graph,
+    states: &Names,
+    netlist_file: &'w str,
+    netlist: Netlist,
+) -> Result<Text, Refusal<'w>>
+    requires { IsNamed graph states.now }
+    ensures ok { IfOk result (λ output.
+        meaning.audited_on netlist_file.now graph states.now netlist (Ok output)) }
+    ensures err { IfErr result (λ r.
+        MayStop (meaning.audited_on netlist_file.now graph states.now netlist) (ending_of r)) }
+{
+    let proper = proper_of(alloc, graph, states)?;
     match_lists(netlist_file, proper.coded(), &netlist)?;
-    audited_text(alloc, proper, &states, netlist)
+    audited_text(alloc, proper, states, netlist)
 }
 
 /// What is told of the netlist, where it is certified for the graph, whose states have these names,

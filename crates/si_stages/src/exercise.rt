@@ -3,7 +3,10 @@
 ghost use Rattle.std.specs.Prelude.{◌≡◌, ◌<◌, ◌≤◌, IfOk, IfErr, Ok};
 ghost use Rattle.si_base.specs.Codes.{IsConnected};
 ghost use Rattle.si_base.specs.Proper.{HasNoConflict, IsProper};
-ghost use Rattle.si_handshakes.specs.Handshakes.{max_handshakes};
+ghost use Rattle.si_circuit.specs.Circuits.{AreStateNames, circuit_of};
+ghost use Rattle.si_circuit.specs.Spelled.{AreSpelled};
+ghost use Rattle.si_circuit.specs.declared.style.Style.TheVariants.{Complex};
+ghost use Rattle.si_handshakes.specs.Handshakes.{IsHandshakes, max_handshakes};
 ghost use Rattle.si_insert.specs.Lineage.{AllGiven, given_history};
 ghost use Rattle.si_refusals.specs.Ending.{MayStop, ending_of};
 ghost use Rattle.si_readings.specs.Checks.{IsSound};
@@ -13,7 +16,8 @@ ghost use Rattle.si_stages.specs.Exercise.{IsExercise, exercise_text};
 use crate::literals::literals_of;
 use crate::report::add_count;
 use si_base::ids::NoMemory;
-use si_base::text::Text;
+use si_base::names::Names;
+use si_base::text::{Name, Text};
 use si_checks::distinct::NotDistinct;
 use si_checks::proper::{Improper, Proper};
 use si_circuit::circuit::Circuit;
@@ -56,14 +60,50 @@ fn circuit_sizes(alloc: Global, n: u32) -> Result<Text, NoMemory>
         graph,
         states,
     } = handshakes(alloc, n)?;
+    sizes_of_handshakes(alloc, n, graph, &model, &states)
+}
+
+/// The sizes of this graph of so many handshakes, and of its netlist of complex gates.
+fn sizes_of_handshakes(
+    alloc: Global,
+    n: u32,
+    graph: Graph,
+    model: &Name,
+    states: &Names,
+) -> Result<Text, NoMemory>
+    requires few { n ≤ max_handshakes }
+    requires connected { IsConnected graph }
+    requires handshakes { IsHandshakes n
+        (record { model = model.now; graph = graph; states = states.now }) }
+    ensures { IfOk result (IsExercise n) }
+{
     let state_count = graph.states();
     let arc_count = graph.edges();
     let proper = proper_graph(alloc, graph)?;
-    let resolved = resolved_as_given(alloc, proper)?;
-    let Ok(circuit) = Circuit::of_sums(alloc, resolved, &model, &states) else {
-        return Err(NoMemory);
-    };
+    let circuit = circuit_as_given(alloc, proper, model, states)?;
     sizes(alloc, n, state_count, arc_count, circuit.netlist())
+}
+
+/// The circuit of complex gates for the graph, of which no states are in conflict, with nothing
+/// inserted.
+fn circuit_as_given(
+    alloc: Global,
+    graph: Proper,
+    model: &Name,
+    states: &Names,
+) -> Result<Circuit, NoMemory>
+    requires given { AllGiven graph.graph.signals }
+    requires free { HasNoConflict graph }
+    requires spelled { AreSpelled model.now graph.graph.signals }
+    requires states { AreStateNames graph.graph states.now }
+    ensures { IfOk result (λ circuit. circuit.netlist
+        ≡ circuit_of Complex model.now states.now (given_history graph)) }
+{
+    let resolved = resolved_as_given(alloc, graph)?;
+    match Circuit::of_sums(alloc, resolved, model, states) {
+        Ok(circuit) => Ok(circuit),
+        Err(_) => Err(NoMemory),
+    }
 }
 
 /// The graph with its codes, where no check refuses it.

@@ -1,11 +1,14 @@
 //! From the texts of a graph and a library to the text of a netlist of cells.
 
-ghost use Rattle.std.specs.Prelude.{◌≡◌, IfOk, IfErr, Ok, length};
+ghost use Rattle.std.specs.Prelude.{◌≡◌, ℕ, List, IfOk, IfErr, Ok, length};
 ghost use Rattle.si_refusals.specs.Ending.{MayStop, ending_of};
 ghost use Rattle.si_base.specs.NetlistText.{netlist_text};
+ghost use Rattle.si_cell.specs.Library.{IsLibrary};
 ghost use Rattle.si_circuit.specs.Circuits.{AreStateNames};
 ghost use Rattle.si_circuit.specs.Spelled.{AreSpelled};
+ghost use Rattle.si_readings.specs.Checks.{IsNamed};
 ghost use Rattle.si_refusals.specs.Ending as ending;
+ghost use Rattle.si_sg.specs.GivenGraph.{IsGivenBy, sg_now};
 ghost use Rattle.si_stages.specs.Mapping.{IsCellsText, TellsStuck, shows_unfit};
 ghost use Rattle.si_stages.specs.Meaning as meaning;
 
@@ -53,14 +56,25 @@ pub fn map_texts<'w>(
 {
     let readings = mapping_readings(alloc, format, graph_file, graph, library_file, library)?;
     let MappingReadings { given, library } = readings;
+    mapped_text(alloc, given, &library)
+}
+
+/// The text of the netlist of cells of the library for a graph that was read.
+fn mapped_text(alloc: Global, given: Sg, cells: &Library) -> Result<Text, Refusal<'static>>
+    requires library { IsLibrary cells.now }
+    requires given { (text : List ℕ) × IsGivenBy text (sg_now given) }
+    requires named { IsNamed given.graph given.states }
+    ensures ok { IfOk result (λ output. meaning.mapped_text cells.now (sg_now given) (Ok output)) }
+    ensures err { IfErr result
+        (λ r. MayStop (meaning.mapped_text cells.now (sg_now given)) (ending_of r)) }
+{
     let Sg {
         model,
         graph,
         states,
     } = given;
     let resolved = resolution(alloc, graph, &states)?;
-    let output = cells_text(alloc, resolved, &library, &model, &states)?;
-    Ok(output)
+    cells_text(alloc, resolved, cells, &model, &states)
 }
 
 /// The text of the netlist of cells that mapping makes for the lineage, or the first signal that

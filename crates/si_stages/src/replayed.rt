@@ -18,6 +18,7 @@ use si_base::ids::{Code, Event, NoMemory, Sig};
 use si_base::names::Names;
 use si_base::text::Text;
 use si_graph::coded::Coded;
+use si_graph::graph::Graph;
 use si_netlist::netlist::Netlist;
 use si_netlist::write::add_values_line;
 use si_readings::checks::{match_lists, proper_of};
@@ -89,10 +90,31 @@ fn replayed_text<'w>(
         (sg_now given) netlist.now events.now.items) (ending_of r)) }
 {
     let Sg { graph, states, .. } = given;
-    let proper = proper_of(alloc, graph, &states)?;
+    replay_on(alloc, what, graph, &states, netlist_file, netlist, events)
+}
+
+/// What is told of the schedule, over the netlist beside the graph whose states have these names.
+fn replay_on<'w>(
+    alloc: Global,
+    what: ReplayReport,
+    graph: Graph,
+    states: &Names,
+    netlist_file: &'w str,
+    netlist: &Netlist,
+    events: &Vec<Event>,
+) -> Result<Text, Refusal<'w>>
+    requires few { length netlist.now.signals ≤ max_signals }
+    requires within { All (λ e. e.sig < length netlist.now.signals) events.now.items }
+    requires named { IsNamed graph states.now }
+    ensures ok { IfOk result (λ output. stage.replay_on what netlist_file.now graph states.now
+        netlist.now events.now.items (Ok output)) }
+    ensures err { IfErr result (λ r. MayStop (stage.replay_on what netlist_file.now graph
+        states.now netlist.now events.now.items) (ending_of r)) }
+{
+    let proper = proper_of(alloc, graph, states)?;
     let coded = proper.coded();
     match_lists(netlist_file, coded, netlist)?;
-    replay_end(alloc, what, coded, netlist, events, &states)
+    replay_end(alloc, what, coded, netlist, events, states)
 }
 
 /// What is told of the schedule, over the netlist beside the graph for which it is, or the first

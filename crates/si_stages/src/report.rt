@@ -2,6 +2,7 @@
 
 ghost use Rattle.std.specs.Prelude.{◌≡◌, ◌++◌, IfOk, IfErr, OnOk, length, Ok};
 ghost use Rattle.si_base.specs.Words.{line};
+ghost use Rattle.si_readings.specs.Checks.{IsNamed};
 ghost use Rattle.si_refusals.specs.Ending.{MayStop, ending_of};
 ghost use Rattle.si_stages.specs.Meaning as stage;
 ghost use Rattle.si_stages.specs.Reports as reports;
@@ -15,6 +16,7 @@ use si_base::text::{Name, Text};
 use si_checks::proper::Proper;
 use si_explain::explain::explain;
 use si_graph::coded::Coded;
+use si_graph::graph::Graph;
 use si_listings::conflict_listing::list_conflicts;
 use si_listings::cover_listing::list_covers;
 use si_listings::region_listing::list_regions;
@@ -49,8 +51,25 @@ pub fn report<'w>(
         graph,
         states,
     } = graph_in(alloc, file, text)?;
-    let proper = proper_of(alloc, graph, &states)?;
-    match report_text(alloc, what, &proper, &model, &states) {
+    report_on(alloc, what, graph, &model, &states)
+}
+
+/// The report on the graph with this model and these names of its states.
+fn report_on(
+    alloc: Global,
+    what: Report,
+    graph: Graph,
+    model: &Name,
+    states: &Names,
+) -> Result<Text, Refusal<'static>>
+    requires { IsNamed graph states.now }
+    ensures ok { IfOk result
+        (λ output. stage.report_on what model.now states.now graph (Ok output)) }
+    ensures err { IfErr result
+        (λ r. MayStop (stage.report_on what model.now states.now graph) (ending_of r)) }
+{
+    let proper = proper_of(alloc, graph, states)?;
+    match report_text(alloc, what, &proper, model, states) {
         Ok(text) => Ok(text),
         Err(_) => Err(Refusal::NoMemory),
     }

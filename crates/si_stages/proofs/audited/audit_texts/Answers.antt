@@ -1,63 +1,34 @@
-use Rattle.std.proofs.Common.{Ok, subst}
-use Rattle.si_base.specs.Codes.{CodedGraph}
-use Rattle.si_base.specs.System.{IsFor}
+use Rattle.std.proofs.Common.{ℕ, List, Ok}
 use Rattle.si_refusals.specs.Ending.{MayStop}
 use Rattle.si_refusals.specs.Stages.{Passes}
-use Rattle.si_stages.specs.Audited.{IsAudit, certification}
-use Rattle.si_stages.specs.Meaning.{audit}
 use Rattle.si_readings.specs.Readings.{audit_readings_now}
 use Rattle.si_readings.proofs.ReadingRefusals.{err_map, ok_map, stops}
-use Rattle.si_readings.proofs.CheckLemmas.{match_over}
 use Rattle.si_readings.proofs.StageLemmas.{stop_first, stop_next}
+use Rattle.si_stages.specs.Meaning.{audit, audited_on}
 use Rattle.si_stages.proofs.audited.audit_texts.Goals as goal
 
--- ---- where a stage refuses
 pub returns-in_err-readings-clause-err : goal.returns-in_err-readings-clause-err
 returns-in_err-readings-clause-err c =
     let a = c.args in
     stops (audit a.graph_file.now a.graph.now a.netlist_file.now a.netlist.now) c.from_residual.result _
     c.from_residual.ensures.1 (stop_first _ _ _ c.in_err-readings.ensures.err)
 
-pub returns-in_err-proper-clause-err : goal.returns-in_err-proper-clause-err
-returns-in_err-proper-clause-err c =
-    let a = c.args in
-    stops (audit a.graph_file.now a.graph.now a.netlist_file.now a.netlist.now)
-    c.from_residual-in_err-proper.result _ c.from_residual-in_err-proper.ensures.1
-    (stop_next _ _ (audit_readings_now c.in_ok-readings.readings) _ c.in_ok-readings.ensures.ok
-    (stop_first _ _ _ c.in_err-proper.ensures.err))
-
-pub returns-in_err-match_lists-clause-err : goal.returns-in_err-match_lists-clause-err
-returns-in_err-match_lists-clause-err c =
-    let a = c.args in
-    let read = audit_readings_now c.in_ok-readings.readings in
-    stops (audit a.graph_file.now a.graph.now a.netlist_file.now a.netlist.now)
-    c.from_residual-in_err-match_lists.result _ c.from_residual-in_err-match_lists.ensures.1
-    (stop_next _ _ read _ c.in_ok-readings.ensures.ok
-    (stop_next _ _ c.in_ok-proper.proper _ c.in_ok-proper.ensures.ok
-    (stop_first _ _ _ (match_over a.netlist_file.now _ _ read.netlist _ c.coded.ensures.same
-    c.in_err-match_lists.ensures.err))))
-
--- ---- whether the netlist is certified
 pub returns-clause-ok : goal.returns-clause-ok
 returns-clause-ok c =
     let a = c.args in
     let read = audit_readings_now c.in_ok-readings.readings in
-    let proper = c.in_ok-proper.proper in
-    let fits = subst (λ (k : CodedGraph). IsFor k read.netlist) c.coded.ensures.same c.in_ok-match_lists.ensures.ok in
-    ok_map c.audited_text.result (λ text. IsAudit read.given.states proper read.netlist text)
-    (λ text. audit a.graph_file.now a.graph.now a.netlist_file.now a.netlist.now (Ok text))
-    (λ text told. Passes read c.in_ok-readings.ensures.ok (Passes proper c.in_ok-proper.ensures.ok
-    (Passes tt fits told)))
-    c.audited_text.ensures.ok
+    ok_map c.audited_on.result
+    (λ (text : List ℕ). audited_on a.netlist_file.now read.given.graph read.given.states read.netlist (Ok text))
+    (λ (text : List ℕ). audit a.graph_file.now a.graph.now a.netlist_file.now a.netlist.now (Ok text))
+    (λ text told. Passes read c.in_ok-readings.ensures.ok told)
+    c.audited_on.ensures.ok
 
 pub returns-clause-err : goal.returns-clause-err
 returns-clause-err c =
     let a = c.args in
     let read = audit_readings_now c.in_ok-readings.readings in
-    let proper = c.in_ok-proper.proper in
-    let fits = subst (λ (k : CodedGraph). IsFor k read.netlist) c.coded.ensures.same c.in_ok-match_lists.ensures.ok in
-    err_map c.audited_text.result (MayStop (certification read.given.states proper read.netlist))
+    err_map c.audited_on.result
+    (MayStop (audited_on a.netlist_file.now read.given.graph read.given.states read.netlist))
     (MayStop (audit a.graph_file.now a.graph.now a.netlist_file.now a.netlist.now))
-    (λ e may. stop_next _ _ read e c.in_ok-readings.ensures.ok (stop_next _ _ proper e c.in_ok-proper.ensures.ok
-    (stop_next _ _ tt e fits may)))
-    c.audited_text.ensures.err
+    (λ e may. stop_next _ _ read e c.in_ok-readings.ensures.ok may)
+    c.audited_on.ensures.err
