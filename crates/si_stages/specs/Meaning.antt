@@ -12,7 +12,7 @@ use Rattle.si_readings.specs.Checks.{proper, match_lists}
 use Rattle.si_stages.specs.Mapping.{cells_text}
 use Rattle.si_readings.specs.Readings.{graph_in, mapping_readings}
 use Rattle.si_readings.specs.Readings.{audit_readings, replay_readings}
-use Rattle.si_stages.specs.Replayed.{replayed_text}
+use Rattle.si_stages.specs.Replayed.{replay_on}
 use Rattle.si_stages.specs.Reports.{report_text}
 use Rattle.si_stages.specs.Resolving.{resolution}
 use Rattle.si_stages.specs.Synthesis.{synthesis}
@@ -56,7 +56,7 @@ abbrev pub replay : ReplayReport
     → Stage TextRefusal (List ℕ)
 replay what graph graph_text netlist netlist_text schedule schedule_text = do
   readings ← replay_readings graph graph_text netlist netlist_text schedule schedule_text
-  replayed_text what netlist readings.given readings.netlist readings.events
+  replay_on what netlist readings.given.graph readings.given.states readings.netlist readings.events
 
 -- the audit of a netlist for a graph whose states have these names
 abbrev pub audited_on : (netlist : List ℕ) → StateGraph → (states : List (List ℕ)) → Netlist

@@ -3,7 +3,6 @@ use Rattle.std.specs.Prelude.{◌≡◌, ℕ, List, [], ◌∷◌, length, codes
 use Rattle.std.specs.Prelude.{Some, slice_get, Ok, Err}
 use Rattle.si_base.specs.declared.ids.Event.{Event}
 use Rattle.si_base.specs.declared.graph.Signal.{Signal}
-use Rattle.si_base.specs.GivenGraph.{Sg}
 use Rattle.si_base.specs.Netlist.{Netlist}
 use Rattle.si_base.specs.Graph.{StateGraph}
 use Rattle.si_base.specs.NetlistText.{bits_from, name_of, word_if_any}
@@ -78,9 +77,3 @@ replay_on what netlist graph states n events = do
   coded ← proper graph states
   _ ← match_lists netlist coded n
   replay_end what graph states n events
-
--- the same over a graph that was read
-abbrev pub replayed_text : ReplayReport → (netlist : List ℕ) → Sg → Netlist → List Event
-    → Stage TextRefusal (List ℕ)
-replayed_text what netlist given n events =
-    replay_on what netlist given.graph given.states n events

@@ -76,8 +76,7 @@ fn audited_on<'w>(
     audited_text(alloc, proper, states, netlist)
 }
 
-/// What is told of the netlist, where it is certified for the graph, whose states have these names,
-/// or the first reason against it.
+/// What is told of the netlist, where it is certified, or the first reason against it.
 fn audited_text(
     alloc: Global,
     graph: Proper,

@@ -84,8 +84,7 @@ fn sizes_of_handshakes(
     sizes(alloc, n, state_count, arc_count, circuit.netlist())
 }
 
-/// The circuit of complex gates for the graph, of which no states are in conflict, with nothing
-/// inserted.
+/// The circuit of complex gates for a graph without conflicts, with nothing inserted.
 fn circuit_as_given(
     alloc: Global,
     graph: Proper,

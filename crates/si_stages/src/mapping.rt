@@ -77,8 +77,7 @@ fn mapped_text(alloc: Global, given: Sg, cells: &Library) -> Result<Text, Refusa
     cells_text(alloc, resolved, cells, &model, &states)
 }
 
-/// The text of the netlist of cells that mapping makes for the lineage, or the first signal that
-/// fits none.
+/// The text of the netlist of cells for the lineage, or the first signal that fits none.
 fn cells_text(
     alloc: Global,
     resolved: Resolved,

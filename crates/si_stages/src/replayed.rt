@@ -4,7 +4,6 @@ ghost use Rattle.std.specs.Prelude.{◌≡◌, ◌<◌, ◌≤◌, All, IfOk, If
 ghost use Rattle.si_base.specs.Limits.{max_signals};
 ghost use Rattle.si_base.specs.NetlistText.{name_of};
 ghost use Rattle.si_base.specs.System.{IsFor};
-ghost use Rattle.si_sg.specs.GivenGraph.{sg_now};
 ghost use Rattle.si_stages.specs.Meaning as meaning;
 ghost use Rattle.si_readings.specs.Checks.{IsNamed};
 ghost use Rattle.si_refusals.specs.Ending.{MayStop, ending_of};
@@ -69,28 +68,8 @@ pub fn replay_texts<'w>(
         netlist,
         events,
     } = readings;
-    replayed_text(alloc, what, given, netlist_file, &netlist, &events)
-}
-
-/// What is told of the schedule, over the netlist beside a graph that was read.
-fn replayed_text<'w>(
-    alloc: Global,
-    what: ReplayReport,
-    given: Sg,
-    netlist_file: &'w str,
-    netlist: &Netlist,
-    events: &Vec<Event>,
-) -> Result<Text, Refusal<'w>>
-    requires few { length netlist.now.signals ≤ max_signals }
-    requires within { All (λ e. e.sig < length netlist.now.signals) events.now.items }
-    requires named { IsNamed given.graph given.states }
-    ensures ok { IfOk result (λ output. stage.replayed_text what netlist_file.now (sg_now given)
-        netlist.now events.now.items (Ok output)) }
-    ensures err { IfErr result (λ r. MayStop (stage.replayed_text what netlist_file.now
-        (sg_now given) netlist.now events.now.items) (ending_of r)) }
-{
     let Sg { graph, states, .. } = given;
-    replay_on(alloc, what, graph, &states, netlist_file, netlist, events)
+    replay_on(alloc, what, graph, &states, netlist_file, &netlist, &events)
 }
 
 /// What is told of the schedule, over the netlist beside the graph whose states have these names.
@@ -117,8 +96,7 @@ fn replay_on<'w>(
     replay_end(alloc, what, coded, netlist, events, states)
 }
 
-/// What is told of the schedule, over the netlist beside the graph for which it is, or the first
-/// event that departs from the graph.
+/// What is told of the schedule, or the first event that departs from the graph.
 fn replay_end(
     alloc: Global,
     what: ReplayReport,

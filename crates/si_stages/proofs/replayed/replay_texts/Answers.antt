@@ -3,7 +3,7 @@ use Rattle.si_refusals.specs.Ending.{MayStop}
 use Rattle.si_refusals.specs.Stages.{Passes}
 use Rattle.si_stages.specs.Meaning.{replay}
 use Rattle.si_readings.specs.Readings.{replay_readings_now}
-use Rattle.si_stages.specs.Replayed.{replayed_text}
+use Rattle.si_stages.specs.Replayed.{replay_on}
 use Rattle.si_readings.proofs.ReadingRefusals.{err_map, ok_map, stops}
 use Rattle.si_readings.proofs.StageLemmas.{stop_first, stop_next}
 use Rattle.si_stages.proofs.replayed.replay_texts.Goals as goal
@@ -21,20 +21,21 @@ pub returns-clause-ok : goal.returns-clause-ok
 returns-clause-ok c =
     let a = c.args in
     let read = replay_readings_now c.in_ok-readings.readings in
-    ok_map c.replayed_text.result
-    (λ text. replayed_text a.what a.netlist_file.now read.given read.netlist read.events (Ok text))
+    ok_map c.replay_on.result
+    (λ text. replay_on a.what a.netlist_file.now read.given.graph read.given.states read.netlist read.events (Ok text))
     (λ text. replay a.what a.graph_file.now a.graph.now a.netlist_file.now a.netlist.now a.schedule_file.now
     a.schedule.now (Ok text))
     (λ text told. Passes read c.in_ok-readings.ensures.ok told)
-    c.replayed_text.ensures.ok
+    c.replay_on.ensures.ok
 
 pub returns-clause-err : goal.returns-clause-err
 returns-clause-err c =
     let a = c.args in
     let read = replay_readings_now c.in_ok-readings.readings in
-    err_map c.replayed_text.result
-    (MayStop (replayed_text a.what a.netlist_file.now read.given read.netlist read.events))
+    err_map c.replay_on.result
+    (MayStop
+    (replay_on a.what a.netlist_file.now read.given.graph read.given.states read.netlist read.events))
     (MayStop
     (replay a.what a.graph_file.now a.graph.now a.netlist_file.now a.netlist.now a.schedule_file.now a.schedule.now))
     (λ e may. stop_next _ _ read e c.in_ok-readings.ensures.ok may)
-    c.replayed_text.ensures.err
+    c.replay_on.ensures.err
