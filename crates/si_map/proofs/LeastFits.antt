@@ -1,6 +1,6 @@
 -- What a signal that never waits for a new one adds to the weight of the inserted graph at least.
 use Rattle.std.proofs.Common.{◌≡◌, ◌≢◌, ℕ, zero, suc, ◌+◌, ◌<◌, ◌≤◌, ◌⊎◌, ◌||◌, not, Bool, true, false, List, [], ◌∷◌}
-use Rattle.std.proofs.Common.{length, slice_get, is_none, Option, Some, None, All, refl, sym, ap, subst, ◌∙◌, arith}
+use Rattle.std.proofs.Common.{length, slice_get, is_none, Option, Some, None, refl, sym, ap, subst, ◌∙◌, arith}
 use Rattle.std.proofs.Common.{inl, inr, length-append, if◌then◌else◌}
 use Rattle.std.proofs.lemmas.Bool.{cases_Bool, cases_lt, true≢false}
 use Rattle.std.proofs.lemmas.Bool.Decides.{eqb_tells}
@@ -27,7 +27,7 @@ use Rattle.si_insert.proofs.PartitionClasses.{entry_there}
 use Rattle.si_match.specs.Fit.{first_fit, fits, IsOver}
 use Rattle.si_match.specs.Support.{agree, determines, support_of}
 use Rattle.si_match.specs.Triggers.{IsTrigger, IsUnread, IsNeeded, AreMissing, AreTriggers}
-use Rattle.si_match.specs.Weight.{added_weight, size_from, size_of_support}
+use Rattle.si_match.specs.Weight.{added_weight, size_from}
 use Rattle.si_match.proofs.CodeLemmas.{all_from}
 use Rattle.si_match.proofs.DroppingLemmas.{agree_by_bits, bits_of_agree, next_by, triggers_are_support}
 use Rattle.si_match.proofs.DroppingLemmas.{triggers_in_support}

@@ -43,7 +43,7 @@ use Rattle.si_sg.specs.CanonicalText.{sg_text}
 use Rattle.si_sg.specs.GivenGraph.{IsGivenBy}
 use Rattle.si_stages.proofs.AuditLaws.{reads_back}
 use Rattle.si_stages.proofs.AuditLemmas.{not_memory, one_name, readings_can, some_name}
-use Rattle.si_stages.proofs.GivenLineages.{IsGivenLineage, given_lineage, given_state_names}
+use Rattle.si_stages.proofs.GivenLineages.{IsGivenLineage, given_lineage}
 use Rattle.si_stages.proofs.MeaningLemmas.{own_resolution, synth_one}
 use Rattle.si_stages.proofs.ResolutionLemmas.{IsResolution, resolution_is, resolution_of}
 use Rattle.si_stages.proofs.ResolutionLemmas.{resolution_one, resolution_some}

@@ -1,4 +1,4 @@
-use Rattle.std.proofs.Common.{◌∙◌, List, Ok, ℕ, ap, subst, sym}
+use Rattle.std.proofs.Common.{List, Ok, ℕ, subst, sym}
 use Rattle.si_base.specs.Codes.{CodedGraph}
 use Rattle.si_base.specs.Graph.{StateGraph}
 use Rattle.si_base.specs.System.{IsFor}
