@@ -1,6 +1,6 @@
 //! Cells, read from the words of their lines.
 
-ghost use Rattle.std.specs.Prelude.{◌≡◌, ◌≢◌, ◌≤◌, ◌<◌, ◌+◌, ◌++◌, ◌∷◌, [], All, AllPairs};
+ghost use Rattle.std.specs.Prelude.{◌≡◌, ◌≢◌, ◌≤◌, ◌<◌, ◌+◌, ◌++◌, ◌∷◌, [], AllPairs};
 ghost use Rattle.std.specs.Prelude.{length, IfOk, OnOk, IfErr, None, Some, false, if◌then◌else◌};
 ghost use Rattle.si_base.specs.Faults.{◌otherwise◌, first_after};
 ghost use Rattle.si_base.specs.TextFaults.{Tells};
@@ -10,7 +10,7 @@ ghost use Rattle.si_words.specs.Names.{stands_in};
 ghost use Rattle.si_words.specs.Reads.{words_now};
 ghost use Rattle.si_cell.specs.CellWords.{cell_name_fault, pin_fault, cell_fault, cell_of};
 ghost use Rattle.si_cell.specs.CellWords.{declared, is_cell_sum};
-ghost use Rattle.si_cell.specs.Library.{IsCell, IsPinName};
+ghost use Rattle.si_cell.specs.Library.{IsCell};
 ghost use Rattle.si_cell.specs.LibraryText.{names_of};
 ghost use Rattle.si_cell.specs.Limits.{max_cells, max_pins};
 ghost use Rattle.si_cell.specs.Reads.{cell_words_now};

@@ -1,6 +1,6 @@
 //! The search for the best divisor, signal after signal and divisor after divisor.
 
-ghost use Rattle.std.specs.Prelude.{◌≡◌, ℕ, ◌<◌, ◌≤◌, ◌↔◌, ◌+◌, true, length, IsTrue};
+ghost use Rattle.std.specs.Prelude.{◌≡◌, ◌<◌, ◌≤◌, ◌↔◌, ◌+◌, true, length, IsTrue};
 ghost use Rattle.std.specs.Prelude.{All, IfOk, IfSome, IfNone, OnOk};
 ghost use Rattle.si_base.specs.Bits.{IsSet};
 ghost use Rattle.si_base.specs.Limits.{max_signals};
