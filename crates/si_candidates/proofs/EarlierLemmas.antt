@@ -1,4 +1,4 @@
--- Earlier steps: which ones a list grows by, and the lists of all arcs in one list.
+-- Earlier steps: which ones a list grows by.
 use Rattle.std.proofs.Common.{◌≡◌, ◌≢◌, ℕ, ◌+◌, ◌<◌, ◌∙◌, List, [], ◌∷◌, ◌++◌, length, get_or}
 use Rattle.std.proofs.Common.{Contains, Option, ◌⊎◌, ◌↔◌, inl, inr, refl, sym, ap, subst, arith}
 use Rattle.std.proofs.lemmas.Bool.{cases_order}
@@ -92,7 +92,7 @@ module _ (g : StateGraph) (exit : Edge) where
   one_more k next old mid new stands first before here =
       adds_as (λ step. IsEarlierOf k step ⊎ Here step) (IsEarlierOf (place_in_walk g next)) old new
       (λ step. (
-        λ h. elim h [
+        λ either. elim either [
           | inl (j, early, inside, into, by) ↦ (j, omega (arith, early, later), inside, into, by)
           | inr by ↦ (k, later, stands.0, stands.1, by)
         ],
