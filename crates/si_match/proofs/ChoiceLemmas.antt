@@ -13,6 +13,7 @@ use Rattle.si_base.specs.Codes.{CodedGraph, IsCoded}
 use Rattle.si_base.specs.declared.ids.Literal.{Literal}
 use Rattle.si_cell.specs.Library.{Library, Instance, IsCell, IsLibrary, cell_at, no_cell}
 use Rattle.si_cell.specs.Limits.{max_pins}
+use Rattle.si_match.specs.Apart.{NoneFitsWith}
 use Rattle.si_match.specs.Choices.{AreAmong, AreOwed, Ascends, NoneFitsOver}
 use Rattle.si_match.specs.Fit.{first_fit}
 use Rattle.si_match.specs.Known.{FitsByReading, IsFitted}
@@ -32,7 +33,7 @@ chosen_again chosen old new y is rest =
 
 -- ---- the signals of literals in signal order
 module _ (n : ℕ) where
-  with_one : (y first : ℕ) (ys : List ℕ) → y < n → first ≤ y → Ascends n first ys → (zs : List ℕ)
+  pub with_one : (y first : ℕ) (ys : List ℕ) → y < n → first ≤ y → Ascends n first ys → (zs : List ℕ)
       × (length zs ≡ suc (length ys)) × Ascends n first zs × ((v : ℕ) → In v (y ∷ ys) → In v zs)
   with_one y first [] small low up = (y ∷ [], refl, (low, small, tt), λ v here. here)
   with_one y first (x ∷ xs) small low (x_low, x_small, up) = elim (cases_lt x y) [
@@ -76,6 +77,11 @@ module _ (n : ℕ) where
   chosen_for z z_small k ls small few =
       let (ys, count, ascends, holds) = in_order z z_small k ls small few in
       (ys, count, ascends, λ i d within. contains_from_in (z ∷ ys) (get_or ls i d).sig (inr (holds i d within)))
+
+ascending_small : (n first : ℕ) (ys : List ℕ) → Ascends n first ys → All (λ y. y < n) ys
+ascending_small n first [] up = All-nil (λ (y : ℕ). y < n)
+ascending_small n first (y ∷ ys) (low, small, up) =
+    All-cons (λ (x : ℕ). x < n) y ys small (ascending_small n y ys up)
 
 -- ---- signals that are missing
 module _ (c : CodedGraph) (library : Library) (z : ℕ) where
@@ -182,8 +188,7 @@ module _ (c : CodedGraph) (library : Library) (z : ℕ) where
         by_first None none = absurd (none_fits c library z i is none over fit)
         by_first (Some f) some = refl
 
-    pub unfitted_first : IsLibrary library → z < length c.graph.signals → ((rest : List ℕ) → length rest ≡ max_pins
-        → Ascends (length c.graph.signals) 0 rest → NoneFitsOver c library z rest)
+    pub unfitted_first : IsLibrary library → z < length c.graph.signals → NoneFitsWith c library z [] max_pins
         → is_some (first_fit c library z) ≡ false
     unfitted_first library_is z_small none = by_first (first_fit c library z) refl
       where
@@ -195,4 +200,4 @@ module _ (c : CodedGraph) (library : Library) (z : ℕ) where
             let few : length i.literals ≤ max_pins = omega (arith, over.instance.pins, cell.few_pins) in
             let (ys, count, up, among) = chosen_for (length c.graph.signals) z z_small max_pins i.literals
             over.signals few in
-            absurd (none ys count up i over fit among)
+            absurd (none ys count (ascending_small (length c.graph.signals) 0 ys up) i over fit among)

@@ -12,5 +12,6 @@ pub mod UnfitLemmas
 pub mod FunctionLemmas
 pub mod PlaceLemmas
 pub mod ChoiceLemmas
+pub mod ApartLemmas
 pub mod ColumnLemmas
 pub mod RowLemmas

@@ -11,3 +11,4 @@ pub mod Columns
 pub mod Places
 pub mod Rows
 pub mod Choices
+pub mod Apart

@@ -1,13 +1,17 @@
 //! Whether some instance fits, by the signals that it reads.
 
-ghost use Rattle.std.specs.Prelude.{◌≡◌, ℕ, ◌<◌, ◌≤◌, ◌+◌, ◌++◌, List, All, length, true, false};
+ghost use Rattle.std.specs.Prelude.{◌≡◌, ℕ, ◌<◌, ◌≤◌, ◌+◌, ◌∷◌, ◌++◌, List, All, Contains};
+ghost use Rattle.std.specs.Prelude.{length, true, false};
+ghost use Rattle.si_base.specs.Bits.{bit};
 ghost use Rattle.si_base.specs.Codes.{IsCoded};
 ghost use Rattle.si_base.specs.Limits.{code_width};
 ghost use Rattle.si_cell.specs.Library.{IsLibrary};
 ghost use Rattle.si_cell.specs.Limits.{max_pins};
+ghost use Rattle.si_match.specs.Apart.{NoneFitsWith};
 ghost use Rattle.si_match.specs.Choices.{AreOwed, Ascends, NoneFitsOver};
 ghost use Rattle.si_match.specs.Known.{IsFitted};
 
+use crate::apart::fewest_apart;
 use crate::functions::LibraryFunctions;
 use crate::places::some_table_agrees;
 use crate::triggers::MAX_WITNESSES;
@@ -17,11 +21,63 @@ use si_base::ids::{Code, Sig};
 use si_cell::limits::MAX_PINS;
 use si_graph::coded::Coded;
 
+/// Whether some instance fits `z` that reads no signals but `z`, the chosen ones and so many more;
+/// `read` has a bit for `z` and for each chosen one. While two witnesses have to be told apart,
+/// only signals at which they differ are tried. If no instance fits, the chosen signals are as
+/// before.
+pub(crate) fn some_reading_fits(
+    coded: &Coded,
+    library: &LibraryFunctions<'_>,
+    z: Sig,
+    witnesses: &mut ArrayVec<u32, MAX_WITNESSES>,
+    missing: Code,
+    chosen: &mut ArrayVec<u8, MAX_PINS>,
+    read: Code,
+    more: usize,
+) -> bool
+    requires coded { IsCoded coded.now }
+    requires signal { z < length coded.now.graph.signals }
+    requires width { length coded.now.graph.signals ≤ code_width }
+    requires witnesses { All (λ s. s < coded.now.graph.states) witnesses.old.items }
+    requires missing { AreOwed coded.now library.now z chosen.old.items missing }
+    requires pins { length chosen.old.items + more ≡ max_pins }
+    requires signals { All (λ y. y < length coded.now.graph.signals) chosen.old.items }
+    requires read { (y : ℕ) → Contains (z ∷ chosen.old.items) y → bit read y ≡ true }
+    ensures fits { result ≡ true → IsFitted coded.now library.now z }
+    ensures none { result ≡ false → NoneFitsWith coded.now library.now z chosen.old.items more }
+    ensures kept { result ≡ false → chosen.new.items ≡ chosen.old.items }
+    ensures library { IsLibrary library.now }
+    ensures witnesses { All (λ s. s < coded.now.graph.states) witnesses.new.items }
+{
+    // What holds of each library comes with its tables.
+    let _tables = library.tables();
+    if more == 0 {
+        return some_choice_fits(coded, library, z, witnesses, missing, chosen, 0, more);
+    }
+    let Some(differing) = fewest_apart(coded, z, read, witnesses.as_slice()) else {
+        return some_choice_fits(coded, library, z, witnesses, missing, chosen, 0, more);
+    };
+    for y in 0..coded.graph().signals().len() {
+        let signal = Sig(y as u8);
+        if !differing.get(signal) {
+            continue;
+        }
+        let still = missing.set(signal, false);
+        let also = read.set(signal, true);
+        chosen.push(signal.0);
+        if some_reading_fits(coded, library, z, witnesses, still, chosen, also, more - 1) {
+            return true;
+        }
+        chosen.pop();
+    }
+    false
+}
+
 /// Whether some instance fits `z` that reads no signals but `z`, the chosen ones and so many more
 /// of the signals from `first` on. Each fitting instance reads the missing signals: the search ends
 /// where more of them are missing than can come. If no instance fits, the chosen signals are as
 /// before. States at which a truth table differs join the witnesses, as far as there is room.
-pub(crate) fn some_choice_fits(
+fn some_choice_fits(
     coded: &Coded,
     library: &LibraryFunctions<'_>,
     z: Sig,

@@ -11,7 +11,7 @@ ghost use Rattle.si_match.specs.Known.{AreKnown};
 ghost use Rattle.si_match.specs.Triggers.{AreTriggers};
 ghost use Rattle.si_match.specs.Weight.{added_weight};
 
-use crate::choices::some_choice_fits;
+use crate::choices::some_reading_fits;
 use crate::functions::LibraryFunctions;
 use crate::known::KnownFits;
 use crate::support::support_from;
@@ -24,7 +24,7 @@ use si_graph::coded::Coded;
 use std::alloc::Global;
 
 /// Whether a cell fits `z`, which has these triggers, where some fits are known.
-fn fits_some(
+pub(crate) fn fits_some(
     coded: &Coded,
     library: &LibraryFunctions<'_>,
     known: &KnownFits,
@@ -46,14 +46,14 @@ fn fits_some(
     } = triggers;
     let missing = needed_signals(known, z, signals);
     let mut chosen = ArrayVec::new();
-    some_choice_fits(
+    some_reading_fits(
         coded,
         library,
         z,
         &mut witnesses,
         missing,
         &mut chosen,
-        0,
+        Code(0).set(z, true),
         MAX_PINS,
     )
 }

@@ -1,13 +1,16 @@
-use Rattle.std.proofs.Common.{◌∙◌, ℕ, List, inl, inr, refl, sym, subst}
+use Rattle.std.proofs.Common.{◌∙◌, ℕ, List, inl, inr, sym, subst}
 use Rattle.std.proofs.lemmas.Bool.{cases_Bool}
 use Rattle.std.proofs.lemmas.Option.{slice_get_within}
 use Rattle.si_base.specs.Bits.{bit}
-use Rattle.si_match.specs.Choices.{AreOwed, NoneFitsOver}
+use Rattle.si_cell.specs.Limits.{max_pins}
+use Rattle.si_match.specs.Apart.{NoneFitsWith}
+use Rattle.si_match.specs.Choices.{AreOwed}
+use Rattle.si_match.proofs.ApartLemmas.{all_read_first}
 use Rattle.si_match.proofs.ChoiceLemmas.{all_but, also_read, fitted_first, owed_first, trigger_read, unfitted_first}
 use Rattle.si_match.proofs.unfit.fits_some.Goals as goal
 
-pub some_choice_fits-requires-clause-missing : goal.some_choice_fits-requires-clause-missing
-some_choice_fits-requires-clause-missing c =
+pub some_reading_fits-requires-clause-missing : goal.some_reading_fits-requires-clause-missing
+some_reading_fits-requires-clause-missing c =
     let coded = c.args.coded.now in
     let library = c.args.library.now in
     let z = c.args.z in
@@ -28,6 +31,10 @@ some_choice_fits-requires-clause-missing c =
           set.there)
     ])
 
+pub some_reading_fits-requires-clause-read : goal.some_reading_fits-requires-clause-read
+some_reading_fits-requires-clause-read c =
+    all_read_first c.args.z c.set.result c.new-chosen.result.items c.new-chosen.ensures c.set.ensures
+
 pub returns : goal.returns
 returns c =
     let coded = c.args.coded.now in
@@ -35,9 +42,9 @@ returns c =
     let z = c.args.z in
     let (x, at, driven) = c.requires.driven in
     let z_small = slice_get_within coded.graph.signals z x at in
-    elim (cases_Bool c.some_choice_fits.result) [
-      | inl fits ↦ fits ∙ sym (fitted_first coded library z c.requires.coded (c.some_choice_fits.ensures.fits fits))
-      | inr unfit ↦ unfit ∙ sym (unfitted_first coded library z c.requires.coded c.some_choice_fits.ensures.library
-          z_small (λ rest count up. subst (NoneFitsOver coded library z)
-          (rw c.new-chosen.ensures refl) (c.some_choice_fits.ensures.none unfit rest count up)))
+    elim (cases_Bool c.some_reading_fits.result) [
+      | inl fits ↦ fits ∙ sym (fitted_first coded library z c.requires.coded (c.some_reading_fits.ensures.fits fits))
+      | inr unfit ↦ unfit ∙ sym (unfitted_first coded library z c.requires.coded c.some_reading_fits.ensures.library
+          z_small (subst (λ (ys : List ℕ). NoneFitsWith coded library z ys max_pins) c.new-chosen.ensures
+          (c.some_reading_fits.ensures.none unfit)))
     ]
