@@ -18,10 +18,13 @@ use Rattle.si_map.proofs.SearchSteps.{search_signal, search_ends}
 
 module _ (c : CodedGraph) (library : Library) where
   -- ---- one divisor after another
-  pub unfit_by : (z : ℕ) → IsNonInput c.graph.signals z → (o : Option Instance) → o ≡ first_fit c library z
-      → is_some o ≡ false → IsUnfit c library z
-  unfit_by z driven None is none = record { driven = driven; unfit = sym is }
-  unfit_by z driven (Some i) is none = absurd (true≢false none)
+  pub unfit_by : (z : ℕ) → IsNonInput c.graph.signals z → is_some (first_fit c library z) ≡ false
+      → IsUnfit c library z
+  unfit_by z driven none = by_first (first_fit c library z) refl none
+    where
+      by_first : (o : Option Instance) → first_fit c library z ≡ o → is_some o ≡ false → IsUnfit c library z
+      by_first None is unfit = record { driven = driven; unfit = is }
+      by_first (Some i) is unfit = absurd (true≢false unfit)
 
   pub next_divisor : (d : CodedGraph) (z k : ℕ) (divisor : Instance) (divisors : List Instance) (s t : Search)
       → d ≡ c → IsUnfit c library z → AreDivisors c library z divisors → k < length divisors

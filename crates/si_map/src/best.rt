@@ -1,16 +1,20 @@
 //! The best divisor of a graph.
 
 ghost use Rattle.std.specs.Prelude.{◌≡◌, IfOk, MatchOption};
+ghost use Rattle.si_checks.specs.Lent.{coded_of};
+ghost use Rattle.si_match.specs.Weight.{weight_of};
 ghost use Rattle.si_map.specs.Best.{Choice, IsBest, IsBestPartition, NoneServes};
 
 use crate::search::find_best;
 use si_base::ids::NoMemory;
 use si_base::limits::MAX_SIGNALS;
 use si_cell::library::Library;
+use si_checks::distinct::Distinct;
 use si_insert::accept::Accepted;
 use si_insert::resolved::Resolved;
 use si_match::functions::LibraryFunctions;
-use si_match::weight::weight;
+use si_match::known::KnownFits;
+use si_match::weight::{weight, weight_below};
 use std::alloc::Global;
 
 /// The partition for the best divisor of the lineage's current graph: of the divisors of signals
@@ -45,7 +49,23 @@ pub(crate) fn best_by_functions(
     if graph.proper().coded().graph().signals().len() >= MAX_SIGNALS {
         return Ok(None);
     }
-    let weight = weight(alloc, graph, library.library())?;
+    let weight = weight_by_functions(alloc, graph, library)?;
     let best = find_best(alloc, graph, library, weight)?;
     Ok(best)
+}
+
+/// The weight of the graph, mostly by the functions of cells alone.
+fn weight_by_functions(
+    alloc: Global,
+    graph: Distinct<'_>,
+    library: &LibraryFunctions<'_>,
+) -> Result<u64, NoMemory>
+    ensures { IfOk result (λ w. w ≡ weight_of (coded_of graph.entry) library.now) }
+{
+    // What holds of each coded graph comes with its graph.
+    let _known = graph.proper().coded().graph();
+    match weight_below(alloc, graph, library, &KnownFits::nothing(), u64::MAX)? {
+        Some(weight) => Ok(weight),
+        None => weight(alloc, graph, library.library()),
+    }
 }

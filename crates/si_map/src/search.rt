@@ -23,7 +23,6 @@ use crate::waiting::waiting_signals;
 use si_base::ids::{Code, NoMemory, Sig};
 use si_base::text::Name;
 use si_cell::cell::Instance;
-use si_cell::library::Library;
 use si_checks::distinct::Distinct;
 use si_checks::proper::Proper;
 use si_conflicts::chains::CodeChains;
@@ -34,7 +33,7 @@ use si_insert::accept::{Accepted, accept_by_size};
 use si_insert::apply::apply;
 use si_insert::fresh::fresh_name;
 use si_insert::partition::Partition;
-use si_match::fit::fit;
+use si_match::fit::fits;
 use si_match::functions::LibraryFunctions;
 use si_match::known::KnownFits;
 use si_match::weight::weight_below;
@@ -72,9 +71,8 @@ pub(crate) fn find_best(
     requires { weight ≡ weight_of (coded_of graph) library.now }
     ensures { IfOk result (IsBestPartition (coded_of graph.entry) library.now) }
 {
-    let cells = library.library();
-    let fitted = fitted_signals(graph, cells);
-    let least = least_weights(alloc, graph, cells, fitted)?;
+    let fitted = fitted_signals(graph, library);
+    let least = least_weights(alloc, graph, library.library(), fitted)?;
     let mut search = Search::new(alloc, graph.proper(), weight, fitted, least)?;
     let mut functions = Functions::new(alloc);
     let known = graph.proper().coded().graph();
@@ -130,11 +128,10 @@ impl Search {
         ensures known { OnOk result
             (AreUpToDate (coded_of graph.entry) library.now self.new.bar functions.new) }
     {
-        let cells = library.library();
-        if fit(graph, cells, z).is_some() {
+        if self.fitted.get(z) {
             return Ok(());
         }
-        let divisors = divisors(alloc, graph, cells, z)?;
+        let divisors = divisors(alloc, graph, library.library(), z)?;
         for k in 0..divisors.len() {
             let others = &divisors[k + 1..];
             self.try_once(
@@ -302,7 +299,7 @@ impl Search {
 }
 
 /// The signals that the circuit drives and that some cell fits.
-fn fitted_signals(graph: Distinct<'_>, library: &Library) -> Code
+fn fitted_signals(graph: Distinct<'_>, library: &LibraryFunctions<'_>) -> Code
     ensures { AreFitted (coded_of graph.entry) library.now result }
 {
     let known = graph.proper().coded().graph();
@@ -312,7 +309,7 @@ fn fitted_signals(graph: Distinct<'_>, library: &Library) -> Code
         if !known.is_driven(z) {
             continue;
         }
-        fitted = fitted.set(z, fit(graph, library, z).is_some());
+        fitted = fitted.set(z, fits(graph, library, z));
     }
     fitted
 }

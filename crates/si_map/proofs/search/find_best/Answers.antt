@@ -16,10 +16,9 @@ loop-i-init c =
     λ d. (library : Library) → c.args.weight ≡ weight_of d library → AreFitted d library c.fitted_signals-fitted.result
     → AreLeast d library c.in_ok-least.least.items → IsSearching d library 0 0 c.in_ok-search.search in
     let starts : Starts (coded_of c.args.graph) = subst Starts c.proper.ensures.same c.in_ok-search.ensures in
-    let fitted = rw c.library-cells.ensures at c.fitted_signals-fitted.ensures in
-    let least = rw c.library-cells.ensures at c.in_ok-least.ensures in
+    let least = rw c.library.ensures at c.in_ok-least.ensures in
     record {
-      searching = starts c.args.library.now c.requires fitted least;
+      searching = starts c.args.library.now c.requires c.fitted_signals-fitted.ensures least;
       known = record {
         spent = none_yet (coded_of c.args.graph) c.args.library.now c.in_ok-search.search.bar
             c.new-functions.result.tried c.new-functions.ensures.tried;

@@ -1,7 +1,6 @@
-use Rattle.std.proofs.Common.{◌≤◌, ◌∙◌, length, is_some, Option, ap, arith}
+use Rattle.std.proofs.Common.{◌≤◌, ◌∙◌, length, ap, arith}
 use Rattle.si_base.specs.Graph.{StateGraph}
 use Rattle.si_base.specs.Codes.{CodedGraph}
-use Rattle.si_cell.specs.Library.{Instance}
 use Rattle.si_checks.specs.Lent.{coded_of}
 use Rattle.si_map.proofs.SearchFitted.{none_before, input_passed, signal_added, all_fitted}
 use Rattle.si_map.proofs.search.fitted_signals.Goals as goal
@@ -18,9 +17,8 @@ loop-i-preserved-then-not-is_driven c =
 
 pub loop-i-preserved : goal.loop-i-preserved
 loop-i-preserved c =
-    let fits = c.is_some.ensures ∙ ap (λ (o : Option Instance). is_some o) c.fit.ensures in
     signal_added (coded_of c.args.graph) c.args.library.now c.loop-i.i c.loop-i.fitted c.set-fitted.result
-    c.is_some.result c.set-fitted.ensures fits c.loop-i.invariant
+    c.fits.result c.set-fitted.ensures c.fits.ensures c.loop-i.invariant
 
 pub returns : goal.returns
 returns c =
