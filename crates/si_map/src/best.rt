@@ -6,6 +6,7 @@ ghost use Rattle.si_match.specs.Weight.{weight_of};
 ghost use Rattle.si_map.specs.Best.{Choice, IsBest, IsBestPartition, NoneServes};
 
 use crate::search::find_best;
+use crate::weight::weight_below;
 use si_base::ids::NoMemory;
 use si_base::limits::MAX_SIGNALS;
 use si_cell::library::Library;
@@ -14,7 +15,7 @@ use si_insert::accept::Accepted;
 use si_insert::resolved::Resolved;
 use si_match::functions::LibraryFunctions;
 use si_match::known::KnownFits;
-use si_match::weight::{weight, weight_below};
+use si_match::weight::weight;
 use std::alloc::Global;
 
 /// The partition for the best divisor of the lineage's current graph: of the divisors of signals

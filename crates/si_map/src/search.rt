@@ -19,7 +19,9 @@ ghost use Rattle.si_map.specs.Progress.{LeavesBelow, LeavesNoneBelow};
 
 use crate::functions::Functions;
 use crate::least::{least_weights, sum_without};
+use crate::unfit::fits;
 use crate::waiting::waiting_signals;
+use crate::weight::weight_below;
 use si_base::ids::{Code, NoMemory, Sig};
 use si_base::text::Name;
 use si_cell::cell::Instance;
@@ -33,10 +35,8 @@ use si_insert::accept::{Accepted, accept_by_size};
 use si_insert::apply::apply;
 use si_insert::fresh::fresh_name;
 use si_insert::partition::Partition;
-use si_match::fit::fits;
 use si_match::functions::LibraryFunctions;
 use si_match::known::KnownFits;
-use si_match::weight::weight_below;
 use std::alloc::Global;
 
 /// With what the names of signals begin that are inserted for the gates of others.

@@ -10,7 +10,7 @@ use si_graph::coded::Coded;
 use std::alloc::Global;
 
 /// The values of these signals in the code; each other signal has 0.
-pub(crate) fn cut(code: Code, signals: Code) -> Code
+pub fn cut(code: Code, signals: Code) -> Code
     ensures { result ≡ bit_and code signals }
 {
     Code(code.0 & signals.0)

@@ -1,17 +1,14 @@
 //! The first instance that fits a signal.
 
-ghost use Rattle.std.specs.Prelude.{◌≡◌, ℕ, ◌<◌, All, [], is_some, length};
+ghost use Rattle.std.specs.Prelude.{◌≡◌, ℕ, ◌<◌, All, [], length};
 ghost use Rattle.si_base.specs.Graph.{IsNonInput};
 ghost use Rattle.si_checks.specs.Lent.{coded_of};
 ghost use Rattle.si_cell.specs.Library.{cell_at};
 ghost use Rattle.si_match.specs.Fit.{first_fit};
 ghost use Rattle.si_match.specs.Triggers.{AreMissing};
 
-use crate::functions::LibraryFunctions;
-use crate::known::KnownFits;
 use crate::search::complete;
 use crate::triggers::{Triggers, triggers_of};
-use crate::unfit::fits_some;
 use arrayvec::ArrayVec;
 use si_base::ids::Sig;
 use si_cell::cell::Instance;
@@ -34,17 +31,6 @@ pub fn fit(graph: Distinct<'_>, library: &Library, z: Sig) -> Option<Instance>
     let coded = graph.proper().coded();
     let triggers = triggers_of(coded, z);
     first_fitting(coded, library, z, triggers)
-}
-
-/// Whether some instance of the library fits `z`. It is asked of the functions that cells compute,
-/// which takes less time than to look for the first.
-pub fn fits(graph: Distinct<'_>, library: &LibraryFunctions<'_>, z: Sig) -> bool
-    requires { IsNonInput (coded_of graph).graph.signals z }
-    ensures { result ≡ is_some (first_fit (coded_of graph.entry) library.now z) }
-{
-    let coded = graph.proper().coded();
-    let triggers = triggers_of(coded, z);
-    fits_some(coded, library, &KnownFits::nothing(), z, triggers)
 }
 
 /// The first instance that fits `z`, where each cell needs the signals of that set.

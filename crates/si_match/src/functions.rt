@@ -58,7 +58,7 @@ impl<'a> LibraryFunctions<'a> {
     }
 
     /// The truth tables.
-    pub(crate) fn tables(&self) -> &[u32]
+    pub fn tables(&self) -> &[u32]
         ensures tables { AreFunctions self.now result.now }
         ensures library { IsLibrary self.now }
     {

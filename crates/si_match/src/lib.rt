@@ -1,20 +1,17 @@
 //! Cells for the signals of a graph: the first instance that fits, supports, and the weight.
 #![tactic(auto)]
 
-mod apart;
-mod choices;
-mod codes;
+pub mod codes;
 mod columns;
 pub mod fit;
 pub mod functions;
 pub mod known;
 pub mod laws;
-mod places;
+pub mod places;
 mod refute;
 mod rows;
 mod search;
 mod state;
 pub mod support;
 pub mod triggers;
-mod unfit;
 pub mod weight;

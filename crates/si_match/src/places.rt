@@ -128,7 +128,7 @@ fn first_differing(coded: &Coded, z: Sig, chosen: &[u8], table: u32) -> Option<u
 /// Whether one of the tables has the next value of `z` at every state, where `z` stands first and
 /// then the chosen signals. States at which a table hasn't join the witnesses, as far as there is
 /// room.
-pub(crate) fn some_table_agrees(
+pub fn some_table_agrees(
     coded: &Coded,
     z: Sig,
     chosen: &[u8],

@@ -39,12 +39,7 @@ pub fn support(alloc: Global, graph: Distinct<'_>, z: Sig) -> Result<Code, NoMem
 /// triggers are the support where they determine the next value. Where they do so together with
 /// `z` itself, all other signals before `z` are dropped; and those behind it too, unless they and
 /// the triggers make `z` needless. Else all signals but the triggers are tried.
-pub(crate) fn support_from(
-    alloc: Global,
-    coded: &Coded,
-    z: Sig,
-    triggers: Code,
-) -> Result<Code, NoMemory>
+pub fn support_from(alloc: Global, coded: &Coded, z: Sig, triggers: Code) -> Result<Code, NoMemory>
     requires coded { IsCoded coded.now }
     requires signal { z < length coded.now.graph.signals }
     requires triggers { AreTriggers coded.now z triggers }

@@ -14,14 +14,14 @@ use si_checks::distinct::Distinct;
 use si_graph::coded::Coded;
 
 /// The most states that are kept.
-pub(crate) const MAX_WITNESSES: usize = 32;
+pub const MAX_WITNESSES: usize = 32;
 
 /// The triggers of a signal (the book's trigger signals), and, as far as there is room, for each of
 /// them and each direction the ends of an arc across which the next value changes.
 #[derive(Drop)]
-pub(crate) struct Triggers {
-    pub(crate) signals: Code,
-    pub(crate) witnesses: ArrayVec<u32, MAX_WITNESSES>,
+pub struct Triggers {
+    pub signals: Code,
+    pub witnesses: ArrayVec<u32, MAX_WITNESSES>,
 }
 
 /// Whether the arc is of another signal than `z`, and the next value of `z`, the only signal in
@@ -58,7 +58,7 @@ pub fn trigger_signals(graph: Distinct<'_>, z: Sig) -> Code
 }
 
 /// The triggers of `z`, and states beside their arcs.
-pub(crate) fn triggers_of(coded: &Coded, z: Sig) -> Triggers
+pub fn triggers_of(coded: &Coded, z: Sig) -> Triggers
     requires { z < length coded.now.graph.signals }
     ensures coded { IsCoded coded.now }
     ensures triggers { AreTriggers coded.now z result.signals }

@@ -1,6 +1,6 @@
 use Rattle.std.proofs.Common.{◌≡◌, ◌<◌, ◌-◌, All, length}
 use Rattle.si_match.proofs.ChoiceLemmas.{NoneBefore}
-use Rattle.si_match.proofs.choices.+some_choice_fits.Given as goal
+use Rattle.si_map.proofs.choices.+some_choice_fits.Given as goal
 
 abbrev pub decreases-some_choice_fits : goal.decreases-some_choice_fits
 decreases-some_choice_fits l = l.more

@@ -12,14 +12,14 @@ ghost use Rattle.si_match.specs.Choices.{AreOwed, Ascends, NoneFitsOver};
 ghost use Rattle.si_match.specs.Known.{IsFitted};
 
 use crate::apart::fewest_apart;
-use crate::functions::LibraryFunctions;
-use crate::places::some_table_agrees;
-use crate::triggers::MAX_WITNESSES;
-use crate::weight::size;
 use arrayvec::ArrayVec;
 use si_base::ids::{Code, Sig};
 use si_cell::limits::MAX_PINS;
 use si_graph::coded::Coded;
+use si_match::functions::LibraryFunctions;
+use si_match::places::some_table_agrees;
+use si_match::triggers::MAX_WITNESSES;
+use si_match::weight::size;
 
 /// Whether some instance fits `z` that reads no signals but `z`, the chosen ones and so many more;
 /// `read` has a bit for `z` and for each chosen one. While two witnesses have to be told apart,

@@ -7,7 +7,7 @@ use Rattle.si_match.specs.Apart.{NoneFitsWith}
 use Rattle.si_match.specs.Choices.{AreOwed}
 use Rattle.si_match.proofs.ApartLemmas.{all_read_first}
 use Rattle.si_match.proofs.ChoiceLemmas.{all_but, also_read, fitted_first, owed_first, trigger_read, unfitted_first}
-use Rattle.si_match.proofs.unfit.fits_some.Goals as goal
+use Rattle.si_map.proofs.unfit.fits_some.Goals as goal
 
 pub some_reading_fits-requires-clause-missing : goal.some_reading_fits-requires-clause-missing
 some_reading_fits-requires-clause-missing c =

@@ -4,9 +4,9 @@ ghost use Rattle.std.specs.Prelude.{◌≡◌, ◌<◌, ◌≤◌, ◌⊎◌, Al
 ghost use Rattle.si_base.specs.Limits.{code_width};
 ghost use Rattle.si_match.specs.Apart.{AreApart};
 
-use crate::codes::cut;
 use si_base::ids::{Code, Sig, StateId};
 use si_graph::coded::Coded;
+use si_match::codes::cut;
 
 /// The signals at which two of the states differ that have different next values of `z`, but the
 /// same values of all signals that are read. An instance that fits `z` reads one of them. Of such

@@ -1,7 +1,7 @@
 use Rattle.std.proofs.Common.{◌∙◌, sym}
 use Rattle.std.proofs.lemmas.Option.{slice_get_within}
 use Rattle.si_match.proofs.KnownLemmas.{fitted_some}
-use Rattle.si_match.proofs.unfit.unfit_triggers.Goals as goal
+use Rattle.si_map.proofs.unfit.unfit_triggers.Goals as goal
 
 pub returns-then-not-get-clause-unfit : goal.returns-then-not-get-clause-unfit
 returns-then-not-get-clause-unfit c =

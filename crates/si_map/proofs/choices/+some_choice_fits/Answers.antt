@@ -9,7 +9,7 @@ use Rattle.si_match.specs.Places.{Agrees, Differs}
 use Rattle.si_match.specs.Weight.{size_from}
 use Rattle.si_match.proofs.ChoiceLemmas.{all_passed, chosen_again, none_left, one_passed, owed_next, owed_unfit}
 use Rattle.si_match.proofs.PlaceLemmas.{agreeing_fits, differing_unfit}
-use Rattle.si_match.proofs.choices.+some_choice_fits.Goals as goal
+use Rattle.si_map.proofs.choices.+some_choice_fits.Goals as goal
 
 pub returns-then-most-more-clause-none : goal.returns-then-most-more-clause-none
 returns-then-most-more-clause-none t c = λ _ rest size up. (

@@ -1,6 +1,6 @@
 use Rattle.std.proofs.Common.{◌≡◌, ◌<◌, ◌-◌, All}
 use Rattle.si_match.proofs.ApartLemmas.{NoneByThen}
-use Rattle.si_match.proofs.choices.+some_reading_fits.Given as goal
+use Rattle.si_map.proofs.choices.+some_reading_fits.Given as goal
 
 abbrev pub decreases-some_reading_fits : goal.decreases-some_reading_fits
 decreases-some_reading_fits l = l.more

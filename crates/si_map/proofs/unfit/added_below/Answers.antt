@@ -2,7 +2,7 @@ use Rattle.std.proofs.Common.{◌≡◌, ◌∙◌, ℕ, sym, ap, arith, rules, 
 use Rattle.std.proofs.lemmas.Option.{slice_get_within}
 use Rattle.si_match.specs.Weight.{size_from}
 use Rattle.si_match.proofs.UnfitLemmas.{triggers_le, unfit_adds}
-use Rattle.si_match.proofs.unfit.added_below.Goals as goal
+use Rattle.si_map.proofs.unfit.added_below.Goals as goal
 
 pub returns-then-size-bar-clause-none : goal.returns-then-size-bar-clause-none
 returns-then-size-bar-clause-none c =

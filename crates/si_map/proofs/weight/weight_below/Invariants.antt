@@ -1,7 +1,7 @@
 use Rattle.std.proofs.Common.{◌≡◌, ◌+◌, ◌≤◌, drop}
 use Rattle.si_checks.specs.Lent.{coded_of}
 use Rattle.si_match.specs.Weight.{weight_from, weight_of}
-use Rattle.si_match.proofs.weight.weight_below.Given as goal
+use Rattle.si_map.proofs.weight.weight_below.Given as goal
 
 abbrev pub invariant-loop-i : goal.invariant-loop-i
 invariant-loop-i l = record {

@@ -3,7 +3,7 @@ use Rattle.std.proofs.lemmas.Bool.{true≢false}
 use mathlib.Core.Bool.{beq}
 use Rattle.si_base.proofs.GraphSteps.{beq-refl}
 use Rattle.si_match.proofs.ApartLemmas.{apart_states}
-use Rattle.si_match.proofs.apart.differing.Goals as goal
+use Rattle.si_map.proofs.apart.differing.Goals as goal
 
 pub returns-then-cut-code-eq0 : goal.returns-then-cut-code-eq0
 returns-then-cut-code-eq0 c =

@@ -6,25 +6,39 @@ ghost use Rattle.si_base.specs.Bits.{bit, IsSet};
 ghost use Rattle.si_base.specs.Codes.{IsCoded};
 ghost use Rattle.si_base.specs.Graph.{IsNonInput};
 ghost use Rattle.si_base.specs.Limits.{code_width};
+ghost use Rattle.si_checks.specs.Lent.{coded_of};
 ghost use Rattle.si_match.specs.Fit.{first_fit};
 ghost use Rattle.si_match.specs.Known.{AreKnown};
 ghost use Rattle.si_match.specs.Triggers.{AreTriggers};
 ghost use Rattle.si_match.specs.Weight.{added_weight};
 
 use crate::choices::some_reading_fits;
-use crate::functions::LibraryFunctions;
-use crate::known::KnownFits;
-use crate::support::support_from;
-use crate::triggers::{Triggers, triggers_of};
-use crate::weight::{below, size};
+use crate::weight::below;
 use arrayvec::ArrayVec;
 use si_base::ids::{Code, NoMemory, Sig};
 use si_cell::limits::MAX_PINS;
+use si_checks::distinct::Distinct;
 use si_graph::coded::Coded;
+use si_match::functions::LibraryFunctions;
+use si_match::known::KnownFits;
+use si_match::support::support_from;
+use si_match::triggers::{Triggers, triggers_of};
+use si_match::weight::size;
 use std::alloc::Global;
 
+/// Whether some instance of the library fits `z`. It is asked of the functions that cells compute,
+/// which takes less time than to look for the first.
+pub(crate) fn fits(graph: Distinct<'_>, library: &LibraryFunctions<'_>, z: Sig) -> bool
+    requires { IsNonInput (coded_of graph).graph.signals z }
+    ensures { result ≡ is_some (first_fit (coded_of graph.entry) library.now z) }
+{
+    let coded = graph.proper().coded();
+    let triggers = triggers_of(coded, z);
+    fits_some(coded, library, &KnownFits::nothing(), z, triggers)
+}
+
 /// Whether a cell fits `z`, which has these triggers, where some fits are known.
-pub(crate) fn fits_some(
+fn fits_some(
     coded: &Coded,
     library: &LibraryFunctions<'_>,
     known: &KnownFits,

@@ -9,7 +9,7 @@ use Rattle.si_match.specs.Apart.{NoneFitsWith}
 use Rattle.si_match.specs.Choices.{AreOwed}
 use Rattle.si_match.proofs.ApartLemmas.{all_read_next, all_tried, any_order, none_by_now}
 use Rattle.si_match.proofs.ChoiceLemmas.{chosen_again, owed_next}
-use Rattle.si_match.proofs.choices.+some_reading_fits.Goals as goal
+use Rattle.si_map.proofs.choices.+some_reading_fits.Goals as goal
 
 -- ---- no signal may be chosen any more
 pub returns-then-more-eq0-clause-none : goal.returns-then-more-eq0-clause-none
