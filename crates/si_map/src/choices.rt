@@ -11,7 +11,7 @@ ghost use Rattle.si_match.specs.Apart.{NoneFitsWith};
 ghost use Rattle.si_match.specs.Choices.{AreOwed, Ascends, NoneFitsOver};
 ghost use Rattle.si_match.specs.Known.{IsFitted};
 
-use crate::apart::fewest_apart;
+use crate::apart::told_apart;
 use arrayvec::ArrayVec;
 use si_base::ids::{Code, Sig};
 use si_cell::limits::MAX_PINS;
@@ -22,7 +22,7 @@ use si_match::triggers::MAX_WITNESSES;
 use si_match::weight::size;
 
 /// Whether some instance fits `z` that reads no signals but `z`, the chosen ones and so many more;
-/// `read` has a bit for `z` and for each chosen one. While two witnesses have to be told apart,
+/// `read` has a bit for `z` and for each chosen one. While two states have to be told apart,
 /// only signals at which they differ are tried. If no instance fits, the chosen signals are as
 /// before.
 pub(crate) fn some_reading_fits(
@@ -54,7 +54,7 @@ pub(crate) fn some_reading_fits(
     if more == 0 {
         return some_choice_fits(coded, library, z, witnesses, missing, chosen, 0, more);
     }
-    let Some(differing) = fewest_apart(coded, z, read, witnesses.as_slice()) else {
+    let Some(differing) = told_apart(coded, z, read, witnesses) else {
         return some_choice_fits(coded, library, z, witnesses, missing, chosen, 0, more);
     };
     for y in 0..coded.graph().signals().len() {

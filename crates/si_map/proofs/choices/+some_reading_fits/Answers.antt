@@ -89,5 +89,5 @@ returns-clause-none t c = λ _.
     let count : length c.signals-y-end.result.now ≡ length coded.graph.signals = search rules in
     let all : c.args.more - 1 + 1 ≡ c.args.more = omega (arith, c.if-more-eq0.false) in
     subst (NoneFitsWith coded library z chosen) all
-    (all_tried coded library z c.args.read c.in-Some.differing chosen c.in-Some.ensures c.requires.read
+    (all_tried coded library z c.args.read c.in-Some.differing chosen c.in-Some.ensures.apart c.requires.read
     (c.args.more - 1) c.loop-y.y (omega (arith, c.loop-y-test.false, count)) c.loop-y.invariant.none))
