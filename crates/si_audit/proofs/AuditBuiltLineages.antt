@@ -6,7 +6,8 @@ use Rattle.std.proofs.lemmas.List.{append-nil, length-map, length_push}
 use Rattle.std.specs.List.{range_with_len, slice_index_or}
 use Rattle.si_base.specs.Codes.{CodedGraph}
 use Rattle.si_base.specs.Netlist.{Insertion, Netlist}
-use Rattle.si_base.specs.Sets.{IsIn}
+use Rattle.si_base.specs.Sets.{IsIn, IsDisjoint}
+use Rattle.si_base.proofs.Booleans.{same_if}
 use Rattle.si_insert.specs.declared.lineage.TraceStep.{TraceStep}
 use Rattle.si_insert.specs.declared.partition.Class.{Class}
 use Rattle.si_insert.specs.declared.partition.Class.TheVariants.{Low, Rising, High, Falling}
@@ -17,7 +18,6 @@ use Rattle.si_insert.specs.GraphOfCopies.{switches}
 use Rattle.si_insert.specs.Partition.{class_of}
 use Rattle.si_insert.proofs.InsertionKeeps.{keeps}
 use Rattle.si_insert.proofs.OneInsertion.{lineage_on}
-use Rattle.si_candidates.specs.Blocks.{AreDisjoint}
 use Rattle.si_candidates.proofs.LawfulParts.{lawful_are_classes}
 use Rattle.si_circuit.specs.declared.spelling.Descent.{Descent}
 use Rattle.si_circuit.specs.Spelling.{AreDescents, current_word, descent, descents_after, given_descents}
@@ -68,22 +68,17 @@ in_falling classes s = (
   λ there. falls_there (class_of classes s) (sym (in_set false classes s) ∙ there),
 )
 
-switches_once : (classes : List Class) → AreDisjoint (switching_set true classes) (switching_set false classes)
+switches_once : (classes : List Class) → IsDisjoint (switching_set true classes) (switching_set false classes)
 switches_once classes s up down =
     let rising : class_of classes s ≡ Rising = (in_rising classes s).1 up in
     let falling : class_of classes s ≡ Falling = (in_falling classes s).1 down in
     cc
 
-both_or_neither : (a b : Bool) → (a ≡ true → b ≡ true) → (b ≡ true → a ≡ true) → a ≡ b
-both_or_neither true b to from = sym (to refl)
-both_or_neither false true to from = from refl
-both_or_neither false false to from = refl
-
 -- a flag that is set just where the class switches
 same_flag : (up : Bool) (c : Class) (b : Bool) → (c ≡ switching up ↔ b ≡ true) → switches up c ≡ b
-same_flag true c b same = both_or_neither (switches true c) b (λ is. same.0 (rises_there c is))
+same_flag true c b same = same_if (switches true c) b (λ is. same.0 (rises_there c is))
     (λ set. ap (switches true) (same.1 set))
-same_flag false c b same = both_or_neither (switches false c) b (λ is. same.0 (falls_there c is))
+same_flag false c b same = same_if (switches false c) b (λ is. same.0 (falls_there c is))
     (λ set. ap (switches false) (same.1 set))
 
 -- ---- words of the chosen of so many numbers from a on

@@ -4,22 +4,20 @@ use Rattle.std.proofs.Common.{[], ◌∷◌, if◌then◌else◌, get_or, drop, 
 use Rattle.std.proofs.Common.{subst, ◌∙◌, arith}
 use Rattle.std.specs.List.{list_all}
 use Rattle.std.proofs.lemmas.List.{drop_more}
-use Rattle.std.proofs.lemmas.Nat.Bits.{bit_at-zero, bit_at_ones}
+use Rattle.std.proofs.lemmas.Nat.Bits.{bit_at_ones}
+use Rattle.std.proofs.Math.Bool.{or-false, and_assoc, or_assoc}
 use mathlib.Core.Bool.{beq}
 use Rattle.si_base.specs.declared.ids.Literal.{Literal}
 use Rattle.si_base.specs.Bits.{bit}
 use Rattle.si_base.specs.Limits.{code_width}
 use Rattle.si_base.specs.Netlist.{literal_value, sum_value}
 use Rattle.si_base.specs.Sets.{flag}
-use Rattle.si_base.proofs.SetsAsWords.{bit_of_and, bit_of_or}
+use Rattle.si_base.proofs.BitFacts.{bit-zero, bit-or, bit-and}
 use Rattle.si_cube.specs.Literals.{literals_from, literals_of}
 use Rattle.si_cube.proofs.LiteralLemmas.{bit-xor}
-use Rattle.si_audit.specs.Columns.{is_value}
+use Rattle.si_audit.specs.Loops.Columns.{is_value}
 
 -- ---- words
-zero_bit : (i : ℕ) → bit 0 i ≡ false
-zero_bit i = ap (λ (b : ℕ). b == 1) (bit_at-zero i)
-
 one_bit : (i : ℕ) → i < 64 → bit (2 ^ 64 - 1) i ≡ true
 one_bit i low = ap (λ (b : ℕ). b == 1) (bit_at_ones 64 i low)
 
@@ -36,7 +34,7 @@ same_as_false false = refl
 
 turned_bit : (v : Bool) (w i : ℕ) → i < 64 → bit (bit_xor w (if v then 0 else 2 ^ 64 - 1)) i ≡ is_value v (bit w i)
 turned_bit true w i low =
-    bit-xor w 0 i ∙ ap (λ (b : Bool). not (beq (bit w i) b)) (zero_bit i) ∙ same_as_true (bit w i)
+    bit-xor w 0 i ∙ ap (λ (b : Bool). not (beq (bit w i) b)) (bit-zero i) ∙ same_as_true (bit w i)
 turned_bit false w i low =
     bit-xor w (2 ^ 64 - 1) i ∙ ap (λ (b : Bool). not (beq (bit w i) b)) (one_bit i low) ∙ same_as_false (bit w i)
 
@@ -48,20 +46,16 @@ narrowed_flag old other new v s is =
     let a : ℕ = get_or old (s / 64) 0 in
     let b : ℕ = get_or other (s / 64) 0 in
     let i : ℕ = s % 64 in
-    ap (λ (w : ℕ). bit w i) is ∙ bit_of_and a (bit_xor b (if v then 0 else 2 ^ 64 - 1)) i
+    ap (λ (w : ℕ). bit w i) is ∙ bit-and a (bit_xor b (if v then 0 else 2 ^ 64 - 1)) i
     ∙ ap (λ (x : Bool). bit a i && x) (turned_bit v b i (omega arith))
 
 pub joined_flag : (old other new : List ℕ) (s : ℕ)
     → get_or new (s / 64) 0 ≡ bit_or (get_or old (s / 64) 0) (get_or other (s / 64) 0)
     → flag new s ≡ (flag old s || flag other s)
 joined_flag old other new s is =
-    ap (λ (w : ℕ). bit w (s % 64)) is ∙ bit_of_or (get_or old (s / 64) 0) (get_or other (s / 64) 0) (s % 64)
+    ap (λ (w : ℕ). bit w (s % 64)) is ∙ bit-or (get_or old (s / 64) 0) (get_or other (s / 64) 0) (s % 64)
 
 -- ---- cubes
-and_assoc : (a b c : Bool) → ((a && b) && c) ≡ (a && (b && c))
-and_assoc true b c = refl
-and_assoc false b c = refl
-
 -- at the code k, the value of the cube's literals from signal z on
 abbrev pub rest_value : (k z care value : ℕ) → Bool
 rest_value k z care value = list_all (literal_value k) (literals_from (code_width - z) z care value)
@@ -112,10 +106,6 @@ all_literals k z care value a total end known =
     sym (and_true a) ∙ subst P end known
 
 -- ---- sums
-or_assoc : (a b c : Bool) → ((a || b) || c) ≡ (a || (b || c))
-or_assoc true b c = refl
-or_assoc false b c = refl
-
 pub cube_joined : (k j : ℕ) (cubes : List (List Literal)) (cube : List Literal) (a b total : Bool)
     → j < length cubes → cube ≡ get_or cubes j cube → b ≡ list_all (literal_value k) cube
     → (a || sum_value k (drop j cubes)) ≡ total → ((a || b) || sum_value k (drop (j + 1) cubes)) ≡ total
@@ -126,14 +116,10 @@ cube_joined k j cubes cube a b total within is same known =
     ap (λ (x : Bool). (a || x) || rest) same ∙ or_assoc a (list_all (literal_value k) cube) rest
     ∙ ap (λ (cs : List (List Literal)). a || sum_value k cs) (sym more) ∙ known
 
-or_false : (a : Bool) → (a || false) ≡ a
-or_false true = refl
-or_false false = refl
-
 pub all_cubes : (k : ℕ) (left : List (List Literal)) (a total : Bool) → left ≡ []
     → (a || sum_value k left) ≡ total → a ≡ total
 all_cubes k left a total none known =
-    sym (or_false a) ∙ ap (λ (cs : List (List Literal)). a || sum_value k cs) (sym none) ∙ known
+    sym (or-false a) ∙ ap (λ (cs : List (List Literal)). a || sum_value k cs) (sym none) ∙ known
 
 -- ---- generalised C-elements
 own_or_reset : (own reset : Bool) → ((true && is_value true own) && is_value false reset) ≡ (own && not reset)

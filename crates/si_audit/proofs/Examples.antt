@@ -13,11 +13,11 @@ use Rattle.si_insert.specs.Lineage.{given_current, given_history}
 use Rattle.si_circuit.specs.Spelling.{current_word}
 use Rattle.si_audit.specs.declared.fault.AuditFault.TheVariants.{Refused, Start}
 use Rattle.si_audit.specs.Audit.{Certifies}
-use Rattle.si_audit.specs.Columns.{DifferFirstAt, column, is_value, words_for}
+use Rattle.si_audit.specs.Loops.Columns.{DifferFirstAt, column, is_value, words_for}
 use Rattle.si_audit.specs.Faults.{IsWrong, StartsOtherwise, refused_word}
 use Rattle.si_audit.specs.Named.{AreWordsOf, states_in}
-use Rattle.si_audit.specs.FaultSignals.{TellsOf}
-use Rattle.si_audit.specs.Within.{IsWithin, TellsRefusal}
+use Rattle.si_audit.specs.Loops.FaultSignals.{TellsOf}
+use Rattle.si_audit.specs.Loops.Within.{IsWithin, TellsRefusal}
 
 abbrev a : Signal
 a = record { name = codes "a"; kind = Input }

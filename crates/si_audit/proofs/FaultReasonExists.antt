@@ -8,7 +8,7 @@ use Rattle.si_base.specs.Codes.{CodedGraph, IsCoded}
 use Rattle.si_base.specs.Graph.{StateGraph, IsNonInput, Step, arc}
 use Rattle.si_base.specs.Limits.{max_signals, max_states}
 use Rattle.si_base.specs.Proper.{IsProper, Loss, loss_place}
-use Rattle.si_checks.specs.Searches.{IsFirstOrNone}
+use Rattle.si_checks.specs.Loops.Searches.{IsFirstOrNone}
 use Rattle.si_checks.proofs.SearchDecisions as decide
 use Rattle.si_checks.proofs.SearchDecisions.{Decided, both, driven, equal_events, first_candidate, in_pairs, of_pairs}
 use Rattle.si_checks.proofs.SearchDecisions.{pairs, same_value}
@@ -18,7 +18,7 @@ use Rattle.si_insert.specs.declared.accept.Rejected.TheVariants.{DelaysInput, Br
 use Rattle.si_insert.specs.Partition.{class_of, IsLawful}
 use Rattle.si_insert.specs.Insertion.{has_copy, waits}
 use Rattle.si_insert.specs.Accepted.{IsAccepted, IsInput, ShowsRejected, copy_count, Delay, delay_place}
-use Rattle.si_insert.specs.Tests.{InputWaits, WaitsAfter}
+use Rattle.si_insert.specs.Loops.Tests.{InputWaits, WaitsAfter}
 use Rattle.si_insert.proofs.AcceptedByTests.{accepted_if, first_delay, first_loss}
 use Rattle.si_insert.proofs.AcceptedLosses.{no_delay, proper_if_none}
 use Rattle.si_candidates.proofs.BlockDecisions.{either, input_or_not}

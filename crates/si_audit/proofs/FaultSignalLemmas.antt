@@ -23,7 +23,7 @@ use Rattle.si_audit.specs.declared.fault.AuditFault.TheVariants.{NoMemory, State
 use Rattle.si_audit.specs.Audit.{TakesAll}
 use Rattle.si_audit.specs.Faults.{ShowsFault}
 use Rattle.si_audit.specs.Laws.{CanBeAudited}
-use Rattle.si_audit.specs.FaultSignals.{AreAmong, TellsOf}
+use Rattle.si_audit.specs.Loops.FaultSignals.{AreAmong, TellsOf}
 use Rattle.si_audit.proofs.OneAudit.{spelled_all, spelled_first}
 use Rattle.si_audit.proofs.WalkSignals.{new_of, signals_are}
 use Rattle.si_audit.proofs.WalkLemmas.{signals_grow}

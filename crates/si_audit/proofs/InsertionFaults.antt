@@ -1,29 +1,15 @@
 -- What a fault of one insertion shows.
-use Rattle.std.proofs.Common.{◌≡◌, ℕ, ◌⊎◌, ◌<◌, List, refl, sym, subst, inl, inr}
+use Rattle.std.proofs.Common.{◌≡◌, ℕ, ◌⊎◌, List, refl, sym, subst, inl, inr}
 use Rattle.si_base.specs.Codes.{CodedGraph}
-use Rattle.si_base.specs.Graph.{StateGraph}
 use Rattle.si_base.specs.Netlist.{Insertion, Netlist}
 use Rattle.si_insert.specs.declared.accept.Rejected.{Rejected}
-use Rattle.si_insert.specs.declared.accept.Rejected.TheVariants.{DelaysInput, BreaksPersistency, TooLarge, NoCodeBit}
-use Rattle.si_insert.specs.declared.partition.Class.{Class}
-use Rattle.si_insert.specs.Accepted.{ShowsRejected}
 use Rattle.si_insert.specs.Lineage.{History, given_history}
 use Rattle.si_audit.specs.declared.fault.AuditFault.{AuditFault}
 use Rattle.si_audit.specs.declared.fault.AuditFault.TheVariants.{NoMemory, States, Classes, Refused, Start, Gate}
 use Rattle.si_audit.specs.Audit.{TakesAll}
 use Rattle.si_audit.specs.Faults.{IsRefused, IsRejected, IsUnbuilt, ShowsFault, ShowsRejection}
 use Rattle.si_audit.specs.Faults.{StopsAt, StopsLast, refused_word}
-use Rattle.si_audit.specs.Within.{IsWithin, TellsRefusal}
-
--- a reason shows a state of the graph
-pub shown_within : (g : StateGraph) (classes : List Class) (why : Rejected) → ShowsRejected g classes why
-    → IsWithin g why
-shown_within g classes (DelaysInput s e) shows =
-    subst (λ (t : ℕ). t < g.states) shows.holds.at shows.holds.is_copy.within
-shown_within g classes (BreaksPersistency s lost by) shows =
-    subst (λ (t : ℕ). t < g.states) shows.1.holds.at shows.1.holds.is_copy.within
-shown_within g classes (TooLarge count) shows = tt
-shown_within g classes NoCodeBit shows = tt
+use Rattle.si_audit.specs.Loops.Within.{TellsRefusal}
 
 -- the fault that is told of a refused partition
 pub told_stops : (states : List (List ℕ)) (l : History) (i : Insertion) (k : ℕ) (why : Rejected) (fault : AuditFault)

@@ -1,5 +1,5 @@
 -- Start values and gates beside the current graph of a lineage.
-use Rattle.std.proofs.Common.{◌≡◌, ℕ, ◌<◌, ◌&&◌, ◌||◌, not, Bool, true, false, List, length, map, refl, sym, ap, subst}
+use Rattle.std.proofs.Common.{◌≡◌, ℕ, ◌<◌, ◌&&◌, ◌||◌, not, Bool, true, false, List, length, refl, sym, ap, subst}
 use Rattle.std.proofs.Common.{◌∙◌, arith, inl, inr}
 use Rattle.std.proofs.lemmas.Bool.{cases_lt, true≢false}
 use Rattle.std.proofs.lemmas.Option.{slice_get_within}
@@ -14,14 +14,11 @@ use Rattle.si_base.specs.RightGates.{GivesNextValues}
 use Rattle.si_base.specs.System.{IsFor}
 use Rattle.si_base.specs.WellFormed.{IsNetlist}
 use Rattle.si_base.proofs.BitFacts.{same_codes}
-use Rattle.si_base.proofs.StepCodes.{code_fits}
+use Rattle.si_base.proofs.StepCodes.{code_fits, no_bit}
 use Rattle.si_base.proofs.GraphSteps.{step_from_enables}
-use Rattle.si_netlist.specs.declared.gate.Gate.{Gate}
-use Rattle.si_netlist.specs.Parts.{gate_seen}
-use Rattle.si_netlist.proofs.GateLemmas.{StandsBehind, stands_behind}
+use Rattle.si_base.proofs.Booleans.{same_not}
 use Rattle.si_insert.specs.Built.{IsBuilt}
 use Rattle.si_insert.specs.Lineage.{Current, Keeps}
-use Rattle.si_insert.proofs.InsertionProper.{no_bit}
 use Rattle.si_audit.specs.Faults.{IsWrong, Spot, StartsOtherwise, signal_place, spot_place}
 
 -- ---- the first
@@ -66,12 +63,6 @@ or_false true false same = absurd (true≢false same)
 or_false false true same = absurd (true≢false (sym same))
 or_false false false same = refl
 
-not_one_way : (f y : Bool) → not f ≡ not y → f ≡ y
-not_one_way true true same = refl
-not_one_way true false same = absurd (true≢false (sym same))
-not_one_way false true same = absurd (true≢false same)
-not_one_way false false same = refl
-
 falls_low : (f b : Bool) → (f ≡ true → b ≡ true) → b ≡ false → f ≡ false
 falls_low true b high low = absurd (true≢false (sym (high refl) ∙ low))
 falls_low false b high low = refl
@@ -83,7 +74,7 @@ rises_high false b low high = refl
 same_falls : (r f x y : Bool) → r ≡ false → x ≡ false → (r || (true && not f)) ≡ (x || (true && not y)) → f ≡ y
 same_falls true f x y one other same = absurd (true≢false one)
 same_falls false f true y one other same = absurd (true≢false other)
-same_falls false f false y one other same = not_one_way f y same
+same_falls false f false y one other same = same_not f y same
 
 -- at one value, what a signal is about to do follows from its next value
 same_events : (b r f x y : Bool) → (r || (b && not f)) ≡ (x || (b && not y)) → (r ≡ true → b ≡ false)
@@ -131,13 +122,6 @@ module _ (c : CodedGraph) (is : IsCoded c) where
       (rise_low s z within) (λ e. value ∙ rise_low t z within e) (fall_high s z within)
       (λ e. value ∙ fall_high t z within e) in
       conflict.differ (by_direction s t z conflict.event.up both.0 both.1)
-
--- ---- the place of a gate, over what the calls hand out
-pub place_of_gate : (n : Netlist) (gates : List Gate) (signals : List Signal) (z : ℕ) → IsNetlist n
-    → IsNonInput n.signals z → map gate_seen gates ≡ n.gates → signals ≡ n.signals
-    → StandsBehind n z (length signals) (length gates)
-place_of_gate n gates signals z is there seen same =
-    stands_behind n n gates z (length signals) (length gates) refl is there seen (ap (length {A = Signal}) same) refl
 
 -- ---- the start
 pub same_start : (c : CodedGraph) (v : Current) (n : Netlist) → IsNetlist n → IsFor c n → Keeps c v

@@ -1,10 +1,9 @@
 -- The words of a list, read along the states.
 use Rattle.std.proofs.Common.{◌≡◌, ℕ, zero, suc, ◌+◌, ◌-◌, ◌<◌, ◌≤◌, Bool, true, false, cond, List, [], ◌∷◌, ◌++◌}
-use Rattle.std.proofs.Common.{length, map, filter, get_or, set, take, drop, replicate, Some, slice_get, refl, sym, ap}
-use Rattle.std.proofs.Common.{ap₂, subst, ◌∙◌, arith, inl, inr}
-use Rattle.std.proofs.lemmas.Bool.{cases_lt}
-use Rattle.std.proofs.lemmas.List.{append-nil, drop_more, get_or-replicate, get_or-set_other, get_or-set_same}
-use Rattle.std.proofs.lemmas.List.{get_or_past, length-drop, length-replicate, length-set, map-append, take_all}
+use Rattle.std.proofs.Common.{length, map, filter, get_or, set, take, drop, Some, slice_get, refl, sym, ap}
+use Rattle.std.proofs.Common.{ap₂, subst, ◌∙◌, arith}
+use Rattle.std.proofs.lemmas.List.{append-nil, drop_more, get_or-set_other, get_or-set_same}
+use Rattle.std.proofs.lemmas.List.{length-drop, length-set, map-append}
 use Rattle.std.proofs.lemmas.List.{take_more}
 use Rattle.std.proofs.lemmas.List.Elements.{filter-append}
 use Rattle.std.proofs.lemmas.Option.{get_or_from_slice_get, slice_get_within}
@@ -63,23 +62,6 @@ passed_on true word s rest ws not_next same = absurd (not_next (map word rest) s
 passed_on false word s rest ws not_next same = same
 
 -- ---- the loop
-pub reading_starts : (states : List (List ℕ)) (l : History) (words : List (List ℕ)) (size : ℕ) (found : List Bool)
-    → size ≡ l.current.coded.graph.states → found ≡ replicate size false → IsReadTo states l words size 0 0 found
-reading_starts states l words size found size_is empty =
-    let P : List Bool → Type 0 = λ set. IsReadTo states l words size 0 0 set in
-    subst P (sym empty) (record {
-      size_is = length-replicate size false;
-      few = omega arith;
-      so_far = refl;
-      none_after = λ t above. elim (cases_lt t size) [
-        | inl within ↦ get_or-replicate size t false false within
-        | inr past ↦ get_or_past (replicate size false) t false (omega (arith, length-replicate size false))
-      ];
-      others = λ other left at are. (
-          let same : length other ≡ left = omega (arith, at, are.size, size_is) in
-          subst (λ m. words ≡ map (current_word states l) (members other 0 m)) same are.words_are);
-    })
-
 module _ (states : List (List ℕ)) (l : History) (words : List (List ℕ)) (size s taken : ℕ) (found : List Bool)
     (spelled : HasStateNames states l) (size_ok : size ≡ l.current.coded.graph.states) (within : s < size)
     (so : IsReadTo states l words size s taken found) where
@@ -132,15 +114,6 @@ module _ (states : List (List ℕ)) (l : History) (words : List (List ℕ)) (siz
         (λ vs e. not_next (get_from_drop words taken (current_word states l s) vs e))
         (so.others other (suc left) (omega arith) are);
   }
-
-pub all_read : (states : List (List ℕ)) (l : History) (words : List (List ℕ)) (size s taken : ℕ) (found : List Bool)
-    → size ≡ l.current.coded.graph.states → s ≡ size → taken ≡ length words
-    → IsReadTo states l words size s taken found → AreWordsOf states l words found
-all_read states l words size s taken found size_ok end all so = record {
-  size = so.size_is ∙ size_ok;
-  words_are = sym (take_all taken words (omega arith)) ∙ so.so_far
-      ∙ ap (λ (m : ℕ). map (current_word states l) (members found 0 m)) (end ∙ sym so.size_is);
-}
 
 pub some_left : (states : List (List ℕ)) (l : History) (words : List (List ℕ)) (size s taken : ℕ) (found : List Bool)
     → s ≡ size → (taken ≡ length words → ⊥) → IsReadTo states l words size s taken found

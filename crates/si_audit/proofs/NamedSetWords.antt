@@ -4,10 +4,9 @@ use Rattle.std.proofs.Common.{get_or, refl, sym, subst, subst₂, ◌∙◌, ari
 use Rattle.std.proofs.lemmas.Bool.{cases_Bool, cases_eq}
 use Rattle.std.proofs.lemmas.List.{same_lists, get_or_default}
 use Rattle.std.specs.List.{range_with_len}
-use Rattle.si_base.specs.Sets.{IsIn}
+use Rattle.si_base.specs.Sets.{IsIn, IsDisjoint}
 use Rattle.si_base.specs.Netlist.{Insertion}
 use Rattle.si_insert.specs.Lineage.{History}
-use Rattle.si_candidates.specs.Blocks.{AreDisjoint}
 use Rattle.si_circuit.specs.Spelling.{current_word}
 use Rattle.si_audit.specs.Named.{AreWordsOf, NamesNone}
 use Rattle.si_audit.proofs.StateWords.{HasStateNames, one_word}
@@ -100,11 +99,11 @@ some_state states l words set are some =
 -- where the sets of both lists meet, the insertion names no two sets
 pub none_if_met : (states : List (List ℕ)) (l : History) (i : Insertion) (ups downs : List (List ℕ)) (x y : List Bool)
     → HasStateNames states l → ups ≡ i.up → downs ≡ i.down → AreWordsOf states l ups x → AreWordsOf states l downs y
-    → (AreDisjoint x y → ⊥) → NamesNone states l i
+    → (IsDisjoint x y → ⊥) → NamesNone states l i
 none_if_met states l i ups downs x y spelled ups_are downs_are one other met plus minus names =
     let P : List (List ℕ) → List Bool → Type 0 = λ words set. AreWordsOf states l words set in
     let up : plus ≡ x =
     one_set states l i.up plus x spelled names.up (subst (λ (ws : List (List ℕ)). P ws x) ups_are one) in
     let down : minus ≡ y =
     one_set states l i.down minus y spelled names.down (subst (λ (ws : List (List ℕ)). P ws y) downs_are other) in
-    met (subst₂ (λ (a b : List Bool). AreDisjoint a b) up down names.apart)
+    met (subst₂ (λ (a b : List Bool). IsDisjoint a b) up down names.apart)

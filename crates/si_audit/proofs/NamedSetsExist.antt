@@ -5,9 +5,9 @@ use Rattle.std.proofs.lemmas.Bool.{cases_Bool, true≢false}
 use Rattle.std.proofs.lemmas.List.{get_or_at, length_push}
 use Rattle.std.proofs.lemmas.Slice.Eq.{bytes_eq-Decides}
 use Rattle.si_base.specs.Netlist.{Insertion}
+use Rattle.si_base.specs.Sets.{IsDisjoint}
 use Rattle.si_checks.proofs.SearchDecisions.{Decided, both}
 use Rattle.si_insert.specs.Lineage.{History}
-use Rattle.si_candidates.specs.Blocks.{AreDisjoint}
 use Rattle.si_candidates.proofs.BlockDecisions.{disjoint_or_not}
 use Rattle.si_circuit.specs.Spelling.{current_word}
 use Rattle.si_audit.specs.Named.{AreWordsOf, NamesSets}
@@ -115,7 +115,7 @@ sets_or_none states l i spelled = elim (both (set_or_none states l i.up) (set_or
   | inl ((p, up), (q, down)) ↦ elim (disjoint_or_not p q) [
     | inl apart ↦ inl (p, q, record { up = up; down = down; apart = apart })
     | inr meet ↦ inr (λ (x, y, names).
-        meet (subst₂ (λ (a b : List Bool). AreDisjoint a b) (one_set states l i.up x p spelled names.up up)
+        meet (subst₂ (λ (a b : List Bool). IsDisjoint a b) (one_set states l i.up x p spelled names.up up)
         (one_set states l i.down y q spelled names.down down) names.apart))
   ]
   | inr none ↦ inr (λ (x, y, names). none ((x, names.up), (y, names.down)))

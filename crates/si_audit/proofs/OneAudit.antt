@@ -29,7 +29,7 @@ use Rattle.si_audit.proofs.NamedSetWords.{one_set, some_state}
 use Rattle.si_audit.proofs.WalkSignals.{none_inserted}
 
 -- ---- lineages
-same_history : (l m : History) → l.given ≡ m.given → l.trace ≡ m.trace → l.current ≡ m.current → l ≡ m
+pub same_history : (l m : History) → l.given ≡ m.given → l.trace ≡ m.trace → l.current ≡ m.current → l ≡ m
 same_history l m given trace current = λ i. record { given = given i; trace = trace i; current = current i }
 
 pub goes_on : (states : List (List ℕ)) (l : History) (i : Insertion) (m : History)

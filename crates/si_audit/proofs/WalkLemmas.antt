@@ -1,13 +1,13 @@
 -- Insertion after insertion of a netlist.
-use Rattle.std.proofs.Common.{◌≡◌, ◌≢◌, ℕ, ◌+◌, ◌<◌, ◌≤◌, List, [], ◌∷◌, ◌++◌, length, map, get_or, take, drop}
+use Rattle.std.proofs.Common.{◌≡◌, ◌≢◌, ℕ, ◌+◌, ◌<◌, List, [], ◌∷◌, ◌++◌, length, map, get_or, take, drop}
 use Rattle.std.proofs.Common.{AllPairs, append_assoc, refl, sym, ap, subst, ◌∙◌, arith}
-use Rattle.std.proofs.lemmas.List.{append-nil, drop_more, length-take-le, map-append, take-append-drop, take_all}
+use Rattle.std.proofs.lemmas.List.{append-nil, drop_more, length-take-le, map-append, take-append-drop}
 use Rattle.std.proofs.lemmas.List.{take_more}
 use Rattle.si_base.specs.declared.graph.Signal.{Signal}
 use Rattle.si_base.specs.Codes.{CodedGraph}
 use Rattle.si_base.specs.Netlist.{Insertion, Netlist}
 use Rattle.si_base.specs.System.{IsFor}
-use Rattle.si_base.specs.WellFormed.{IsNetlist, IsInsertion}
+use Rattle.si_base.specs.WellFormed.{IsNetlist}
 use Rattle.si_insert.specs.declared.lineage.TraceStep.{TraceStep}
 use Rattle.si_insert.specs.Fresh.{IsTaken}
 use Rattle.si_insert.specs.Insertion.{new_signal}
@@ -122,9 +122,6 @@ module _ (states : List (List ℕ)) (c : CodedGraph) (n : Netlist) (k : ℕ) (l 
         stops = subst (λ (m : ℕ). StopsAt states l i m f) count also;
       }) stops
 
-  pub next_words : IsNetlist n → IsInsertion i
-  next_words is = subst IsInsertion item_is (is.inserts k i there)
-
   pub next_free : IsNetlist n → IsFor c n → IsTaken l.current.coded.graph.signals i.name → ⊥
   next_free is fits = free_at states c n l (take k n.inserts) i (drop (k + 1) n.inserts) cut taken is fits
 
@@ -134,11 +131,6 @@ module _ (states : List (List ℕ)) (c : CodedGraph) (n : Netlist) (k : ℕ) (l 
       (sym (given_stays states (given_history c) (take k n.inserts) l taken))
 
 -- ---- the end
-pub all_taken : (states : List (List ℕ)) (c : CodedGraph) (n : Netlist) (k : ℕ) (l : History) → length n.inserts ≤ k
-    → TakesAll states (given_history c) (take k n.inserts) l → TakesAll states (given_history c) n.inserts l
-all_taken states c n k l all taken =
-    subst (λ (xs : List Insertion). TakesAll states (given_history c) xs l) (take_all k n.inserts all) taken
-
 pub last_signals : (states : List (List ℕ)) (c : CodedGraph) (n : Netlist) (l : History) → IsNetlist n → IsFor c n
     → TakesAll states (given_history c) n.inserts l → n.signals ≡ l.current.coded.graph.signals
 last_signals states c n l is fits taken =

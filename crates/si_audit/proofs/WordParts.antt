@@ -1,10 +1,9 @@
 -- The parts of a word: a name, and a mark of digits.
-use Rattle.std.proofs.Common.{◌≡◌, ℕ, zero, suc, ◌+◌, ◌<◌, List, [], ◌∷◌, ◌++◌, length, get_or, take, drop, add-one}
+use Rattle.std.proofs.Common.{◌≡◌, ℕ, zero, suc, ◌+◌, ◌<◌, List, ◌++◌, length, get_or, take, drop, add-one}
 use Rattle.std.proofs.Common.{refl, sym, ap, ap₂, ◌∙◌, arith}
 use Rattle.std.proofs.lemmas.List.{take-append-drop, take_at, drop_at}
 use Rattle.std.proofs.lemmas.List.FromFn.{fill_by_all, length-map-range_with_len}
 use Rattle.si_base.specs.Bits.{bit}
-use Rattle.si_base.specs.Bytes.{at_sign}
 use Rattle.si_circuit.specs.Spelling.{digit, digits, mark}
 use Rattle.si_circuit.proofs.SpellingMarks.{digit_at}
 
@@ -23,27 +22,6 @@ pub mark_size : (k bits : ℕ) → 0 < k → length (mark k bits) ≡ k + 1
 mark_size zero bits some = absurd (omega arith)
 mark_size (suc k) bits some =
     ap (λ (n : ℕ). suc n) (length-map-range_with_len (λ (i : ℕ). digit (bit bits i)) 0 (suc k)) ∙ sym (add-one (suc k))
-
--- where some signal is inserted, a mark begins with `@`
-pub mark_cut : (k bits : ℕ) → 0 < k → mark k bits ≡ at_sign ∷ digits k bits
-mark_cut zero bits some = absurd (omega arith)
-mark_cut (suc k) bits some = refl
-
-pub cut_mark : (k bits : ℕ) (bytes head rest : List ℕ) → 0 < k → head ≡ take 1 bytes → rest ≡ drop 1 bytes
-    → length bytes ≡ k + 1 → get_or head 0 0 ≡ at_sign → rest ≡ digits k bits → bytes ≡ mark k bits
-cut_mark k bits [] head rest some head_is rest_is size begins ends = absurd (omega (arith, size))
-cut_mark k bits (b ∷ bytes) head rest some head_is rest_is size begins ends =
-    let first : b ≡ at_sign = sym (ap (λ (xs : List ℕ). get_or xs 0 0) head_is) ∙ begins in
-    let others : bytes ≡ digits k bits = sym rest_is ∙ ends in
-    ap₂ (λ (x : ℕ) (xs : List ℕ). x ∷ xs) first others ∙ sym (mark_cut k bits some)
-
-pub mark_parts : (k bits : ℕ) (bytes head rest : List ℕ) → 0 < k → head ≡ take 1 bytes → rest ≡ drop 1 bytes
-    → bytes ≡ mark k bits → (get_or head 0 0 ≡ at_sign) × (rest ≡ digits k bits)
-mark_parts k bits bytes head rest some head_is rest_is same =
-    let cut : bytes ≡ at_sign ∷ digits k bits = same ∙ mark_cut k bits some in (
-      ap (λ (xs : List ℕ). get_or xs 0 0) head_is ∙ ap (λ (xs : List ℕ). get_or (take 1 xs) 0 0) cut,
-      rest_is ∙ ap (λ (xs : List ℕ). drop 1 xs) cut,
-    )
 
 -- ---- a word that is cut where the name ends
 pub cut_word : (word front rest name ending : List ℕ) → front ≡ take (length name) word → rest ≡ drop (length name) word

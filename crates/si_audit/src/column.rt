@@ -5,7 +5,7 @@ ghost use Rattle.std.specs.Prelude.{replicate};
 ghost use Rattle.std.specs.Prelude.{true, slice_index, bit_and, bit_or, bit_xor};
 ghost use Rattle.std.specs.Prelude.{if◌then◌else◌};
 ghost use Rattle.si_base.specs.Sets.{flag};
-ghost use Rattle.si_audit.specs.Columns.{is_value, words_for};
+ghost use Rattle.si_audit.specs.Loops.Columns.{is_value, words_for};
 
 use si_base::ids::{NoMemory, StateId};
 use std::alloc::Global;

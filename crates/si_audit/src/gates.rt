@@ -7,7 +7,7 @@ ghost use Rattle.si_base.specs.Netlist.{gate_value};
 ghost use Rattle.si_base.specs.Order.{IsFirst};
 ghost use Rattle.si_base.specs.RightGates.{GivesNextValues};
 ghost use Rattle.si_base.specs.Sets.{flag};
-ghost use Rattle.si_audit.specs.Columns.{Agree, AreColumnsOf, DifferFirstAt, words_for};
+ghost use Rattle.si_audit.specs.Loops.Columns.{Agree, AreColumnsOf, DifferFirstAt, words_for};
 ghost use Rattle.si_audit.specs.Faults.{IsWrong, spot_place};
 
 use crate::column::Column;

@@ -7,8 +7,8 @@ ghost use Rattle.si_base.specs.Codes.{code};
 ghost use Rattle.si_base.specs.Limits.{code_width};
 ghost use Rattle.si_base.specs.Netlist.{literal_value, sum_value, value_of};
 ghost use Rattle.si_base.specs.Sets.{flag};
-ghost use Rattle.si_netlist.specs.Parts.{gate_seen};
-ghost use Rattle.si_audit.specs.Columns.{AreColumns, AreColumnsOf, Computes, words_for};
+ghost use Rattle.si_netlist.specs.Loops.Parts.{gate_seen};
+ghost use Rattle.si_audit.specs.Loops.Columns.{AreColumns, AreColumnsOf, Computes, words_for};
 
 use crate::column::Column;
 use si_base::ids::{NoMemory, Sig, StateId};

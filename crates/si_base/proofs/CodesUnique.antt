@@ -1,5 +1,5 @@
 -- A graph has one code for each state.
-use Rattle.std.proofs.Common.{◌≡◌, ◌≢◌, ℕ, ◌⊎◌, ◌<◌, ◌==◌, Bool, List, length, sym, ap, subst, ◌∙◌, inl, inr, arith}
+use Rattle.std.proofs.Common.{◌≡◌, ◌≢◌, ℕ, ◌⊎◌, ◌<◌, ◌==◌, Bool, List, length, sym, ap, subst, ◌∙◌, inl, inr}
 use Rattle.std.proofs.Common.{eqb-true, eq-eqb}
 use Rattle.std.proofs.lemmas.Bool.{cases_Bool, cases_lt, true≢false}
 use Rattle.std.proofs.lemmas.List.Folds.{list_any_at, Any-from_list_any}
@@ -7,9 +7,8 @@ use Rattle.std.specs.List.{list_any}
 use Rattle.si_base.specs.declared.ids.Event.{Event}
 use Rattle.si_base.specs.declared.graph.Edge.{Edge}
 use Rattle.si_base.specs.Bits.{bit}
-use Rattle.si_base.specs.Graph.{StateGraph, Step, arc, IsNonInput, enables}
+use Rattle.si_base.specs.Graph.{StateGraph, Step, arc}
 use Rattle.si_base.specs.Codes.{AreValues, IsIdle, CodedGraph, IsCoded, IsConnected, code}
-use Rattle.si_base.specs.Proper.{IsConflict}
 use Rattle.si_base.proofs.BitFacts.{same_codes}
 use Rattle.si_base.proofs.StepCodes.{step_within, code_fits, no_bit}
 use Rattle.si_base.proofs.CodeParity.{values_along, start_shown, parity, turn}
@@ -62,20 +61,3 @@ code_unique c d s is also same there = go d.graph d.codes same also
           | inr above ↦ no_bit _ _ i (code_fits c s is there) above
               ∙ sym (no_bit _ _ i (code_fits e s here there) above)
         ])
-
--- so the conflicts of a graph are those of its codes, whichever are taken
-pub conflict_unique : (c d : CodedGraph) (pair : ℕ × ℕ) → IsCoded c → IsCoded d → c.graph ≡ d.graph → IsConflict c pair
-    → IsConflict d pair
-conflict_unique c d pair is also same conflict =
-    let within_d : pair.1 < d.graph.states = subst (λ (g : StateGraph). pair.1 < g.states) same conflict.within in
-    let first : pair.0 < c.graph.states = omega (arith, conflict.order, conflict.within) in
-    record {
-      order = conflict.order;
-      within = within_d;
-      same_code = sym (code_unique c d pair.0 is also same first) ∙ conflict.same_code
-          ∙ code_unique c d pair.1 is also same conflict.within;
-      event = conflict.event;
-      non_input = subst (λ (g : StateGraph). IsNonInput g.signals conflict.event.sig) same conflict.non_input;
-      differ = subst (λ (g : StateGraph). enables g pair.0 conflict.event ≢ enables g pair.1 conflict.event) same
-          conflict.differ;
-    }

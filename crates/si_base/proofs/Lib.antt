@@ -14,3 +14,5 @@ pub mod CodeParity
 pub mod NameLemmas
 pub mod CodesUnique
 pub mod LineLemmas
+pub mod Booleans
+pub mod NumberedNames

@@ -1,4 +1,4 @@
-use Rattle.std.proofs.Common.{◌≡◌, ℕ, suc, ◌+◌, ◌<◌, ◌≤◌, max, Bool, true, false, not, ap, ◌∙◌, refl, arith, List, []}
+use Rattle.std.proofs.Common.{◌≡◌, ℕ, suc, ◌<◌, ◌≤◌, max, Bool, true, false, not, ap, ◌∙◌, refl, arith, List, []}
 use Rattle.std.proofs.Common.{◌∷◌, length, take, drop, get_or, eqb, inl, inr}
 use Rattle.std.specs.List.{prefix_len}
 use Rattle.std.proofs.lemmas.Bool.{cases_Bool, not-true, and_parts}
@@ -8,9 +8,6 @@ use Rattle.si_base.specs.Lines.{put_first, lines_of, is_blank, is_plain, words_i
 
 abbrev inside_line : ℕ → Bool
 inside_line b = not (eqb b 10)
-
-next : (n : ℕ) → 1 + n ≡ suc n
-next n = omega arith
 
 -- the first line of a text that is not empty, and the lines after it
 pub first_line : (b : ℕ) (bs : List ℕ) (n : ℕ) → n ≡ prefix_len inside_line (b ∷ bs)

@@ -1,5 +1,8 @@
 -- A list without repetitions whose elements stand in another list is no longer than that.
-use Rattle.std.proofs.Common.{◌≡◌, suc, ◌≤◌, List, [], ◌∷◌, length, refl, sym, subst, ◌∙◌, arith, inl, inr}
+use Rattle.std.specs.List.{range_with_len}
+use Rattle.std.proofs.Common.{◌≡◌, suc, ◌≤◌, List, [], ◌∷◌, length, refl, sym, subst, ◌∙◌, arith, inl, inr, ℕ, zero}
+use Rattle.std.proofs.Common.{◌+◌, ◌<◌}
+use Rattle.std.proofs.lemmas.Bool.{cases_lt}
 use Rattle.si_base.proofs.OrderAscending.{In}
 
 -- each element of a list stands there once
@@ -51,3 +54,17 @@ at_most_related R (x ∷ xs) ys once to one =
       z.2,
     ))) one in
     omega (arith, w.1.shorter)
+
+-- ---- a range of numbers
+pub in_range : (i n a : ℕ) → i ≤ a → a < i + n → In a (range_with_len i n)
+in_range i zero a from below = absurd (omega (arith, from, below))
+in_range i (suc n) a from below = elim (cases_lt i a) [
+  | inl more ↦ inr (in_range (i + 1) n a (omega (arith, more)) (omega (arith, below)))
+  | inr same ↦ inl (omega (arith, from, same))
+]
+
+pub range_bounds : (i n a : ℕ) → In a (range_with_len i n) → (i ≤ a) × (a < i + n)
+range_bounds i zero a there = absurd there
+range_bounds i (suc n) a (inl same) = (omega arith, omega arith)
+range_bounds i (suc n) a (inr later) = let r =
+    range_bounds (i + 1) n a later in (omega (arith, r.0), omega (arith, r.1))

@@ -1,6 +1,6 @@
 -- Lists in an order of places: two with the same elements are equal.
 use Rattle.std.proofs.Common.{◌≡◌, ℕ, suc, List, [], ◌∷◌, get_or, Contains, AllPairs, refl, sym, ap₂, subst, ◌∙◌, arith}
-use Rattle.std.proofs.Common.{inl, inr}
+use Rattle.std.proofs.Common.{inl, inr, ◌<◌, ◌⊎◌}
 use Rattle.si_base.specs.Order.{Before}
 use Rattle.si_base.proofs.OrderAscending.{In}
 use Rattle.si_base.proofs.GivenGraphUnique.{in_from_contains, contains_from_in}
@@ -15,6 +15,11 @@ before_apart (x ∷ xs) (y ∷ ys) (inr h) (inr k) = before_apart xs ys h.1 k.1
 
 pub before_itself : (xs : List ℕ) → Before xs xs → ⊥
 before_itself xs h = before_apart xs xs h h
+
+pub at_places : (a b x y : ℕ) → Before (a ∷ b ∷ []) (x ∷ y ∷ []) → (a < x) ⊎ ((a ≡ x) × (b < y))
+at_places a b x y (inl h) = inl h
+at_places a b x y (inr (same, inl h)) = inr (same, h)
+at_places a b x y (inr (same, inr h)) = absurd h.1
 
 abbrev pub InOrder : {A : Type 0} → (A → List ℕ) → List A → Type 0
 InOrder place xs = AllPairs (λ x y. Before (place x) (place y)) xs

@@ -1,24 +1,24 @@
 -- Sets of states whose flags stand 64 to a word.
 use Rattle.std.proofs.Common.{◌≡◌, ℕ, zero, suc, mod-lt, ◌↔◌, IsTrue, ◌+◌, ◌*◌, ◌/◌, ◌%◌, ◌^◌, ◌<◌, ◌≤◌, ◌==◌, Bool}
-use Rattle.std.proofs.Common.{true, false, cond, ◌||◌, ◌&&◌, ◌⊎◌, ◌-◌, refl, sym, ap, ◌∙◌, arith, inl, inr, List}
+use Rattle.std.proofs.Common.{true, false, cond, ◌||◌, ◌&&◌, ◌-◌, refl, sym, ap, ◌∙◌, arith, inl, inr, List}
 use Rattle.std.proofs.Common.{length, map, get_or, set, replicate, count_by, count_ones, bit_or, bit_and}
 use Rattle.std.specs.List.{range_with_len}
 use Rattle.std.specs.Int.{bit_at, w64}
 use Rattle.std.specs.Int.Count.{count_trailing_zeros}
-use Rattle.std.proofs.lemmas.Bool.{cases_eq, cases_lt, true≢false}
+use Rattle.std.proofs.lemmas.Bool.{cases_eq, cases_lt, true≢false, or_left, or_right, or_cases, and_from}
 use Rattle.std.proofs.lemmas.List.{get_or_past, get_or-set_same, get_or-set_other, get_or-replicate, length-set}
 use Rattle.std.proofs.lemmas.List.{length-replicate}
 use Rattle.std.proofs.lemmas.List.FromFn.{length-map-range_with_len, get_or-map-range_with_len, fill_by_all}
 use Rattle.std.proofs.lemmas.List.FromFn.{sum_by-map-range_with_len_more}
 use Rattle.std.proofs.lemmas.List.Sums.{count_by-le-length}
 use Rattle.std.proofs.lemmas.Nat.{pow_pos, shr-shr, shr_le, mod-pow-add, ones_cat, or_lt, and_le_l}
-use Rattle.std.proofs.lemmas.Nat.Bits.{bit_at-lt, bit_at-zero, bit_at_or, bit_at_and, bit_at_above}
+use Rattle.std.proofs.lemmas.Nat.Bits.{bit_at-lt, bit_at_above}
 use Rattle.std.proofs.lemmas.Nat.Bits.{bit_at-trailing_zeros, shr_and_one, bit_at_set_same, bit_at_set_other}
 use Rattle.std.proofs.lemmas.Nat.Bits.{bit_at_clear_same, bit_at_clear_other}
 use Rattle.si_base.specs.Bits.{bit}
 use Rattle.si_base.specs.Sets.{flag, flags_of, HasNoFlagFrom, HasNoneFrom, IsFirstFlag, IsFirstFrom, AreWithin}
 use Rattle.si_base.specs.Sets.{AreApart, IsSubset, IsUnion, IsDisjoint}
-use Rattle.si_base.proofs.BitFacts.{below_two, same_codes}
+use Rattle.si_base.proofs.BitFacts.{below_two, same_codes, bit-zero, bit-or, bit-and}
 
 -- ---- the list of the flags
 
@@ -47,9 +47,6 @@ word_within n s count size within = omega arith
 
 -- ---- no flags
 
-bit_of_zero : (i : ℕ) → bit 0 i ≡ false
-bit_of_zero i = ap (λ b. b == 1) (bit_at-zero i)
-
 abbrev no_words : ℕ → List ℕ
 no_words count = replicate count 0
 
@@ -62,10 +59,7 @@ get_zero count k =
     ]
 
 pub no_flags : (count s : ℕ) → flag (no_words count) s ≡ false
-no_flags count s = ap (λ w. bit w (s % 64)) (get_zero count (s / 64)) ∙ bit_of_zero (s % 64)
-
-pub none_from : (count n : ℕ) → HasNoFlagFrom (no_words count) n
-none_from count n s past = no_flags count s
+no_flags count s = ap (λ w. bit w (s % 64)) (get_zero count (s / 64)) ∙ bit-zero (s % 64)
 
 pub empty_flags : (n count : ℕ) → flags_of n (no_words count) ≡ replicate n false
 empty_flags n count = flags_by n (no_words count) (replicate n false) (length-replicate n false)
@@ -142,32 +136,6 @@ set_seen n s t v old new flags view same within is =
 
 -- ---- words of both sets
 
-pub bit_of_or : (a b i : ℕ) → bit (bit_or a b) i ≡ (bit a i || bit b i)
-bit_of_or a b i =
-    elim (below_two (bit_at a i) (bit_at-lt a i)) [
-      | inl a0 ↦ elim (below_two (bit_at b i) (bit_at-lt b i)) [
-        | inl b0 ↦ rw (bit_at_or, a0, b0) refl
-        | inr b1 ↦ rw (bit_at_or, a0, b1) refl
-      ]
-      | inr a1 ↦ elim (below_two (bit_at b i) (bit_at-lt b i)) [
-        | inl b0 ↦ rw (bit_at_or, a1, b0) refl
-        | inr b1 ↦ rw (bit_at_or, a1, b1) refl
-      ]
-    ]
-
-pub bit_of_and : (a b i : ℕ) → bit (bit_and a b) i ≡ (bit a i && bit b i)
-bit_of_and a b i =
-    elim (below_two (bit_at a i) (bit_at-lt a i)) [
-      | inl a0 ↦ elim (below_two (bit_at b i) (bit_at-lt b i)) [
-        | inl b0 ↦ rw (bit_at_and, a0, b0) refl
-        | inr b1 ↦ rw (bit_at_and, a0, b1) refl
-      ]
-      | inr a1 ↦ elim (below_two (bit_at b i) (bit_at-lt b i)) [
-        | inl b0 ↦ rw (bit_at_and, a1, b0) refl
-        | inr b1 ↦ rw (bit_at_and, a1, b1) refl
-      ]
-    ]
-
 -- each word has the bits of both
 abbrev pub AreUnited : List ℕ → List ℕ → List ℕ → Type 0
 AreUnited words others both = (k : ℕ) → get_or both k 0 ≡ bit_or (get_or words k 0) (get_or others k 0)
@@ -175,18 +143,7 @@ AreUnited words others both = (k : ℕ) → get_or both k 0 ≡ bit_or (get_or w
 united_flag : (words others both : List ℕ) → AreUnited words others both → (s : ℕ)
     → flag both s ≡ (flag words s || flag others s)
 united_flag words others both are s =
-    ap (λ x. bit x (s % 64)) (are (s / 64)) ∙ bit_of_or (get_or words (s / 64) 0) (get_or others (s / 64) 0) (s % 64)
-
-or_first : (a b : Bool) → a ≡ true → (a || b) ≡ true
-or_first a b is = rw is refl
-
-or_second : (a b : Bool) → b ≡ true → (a || b) ≡ true
-or_second true b is = refl
-or_second false b is = is
-
-or_parts : (a b : Bool) → (a || b) ≡ true → (a ≡ true) ⊎ (b ≡ true)
-or_parts true b is = inl refl
-or_parts false b is = inr is
+    ap (λ x. bit x (s % 64)) (are (s / 64)) ∙ bit-or (get_or words (s / 64) 0) (get_or others (s / 64) 0) (s % 64)
 
 pub none_after_union : (n : ℕ) (words others both : List ℕ) → AreUnited words others both → HasNoFlagFrom words n
     → HasNoFlagFrom others n → HasNoFlagFrom both n
@@ -200,9 +157,9 @@ is_union n words others both are none none_other =
     flag_told n both s (none_after_union n words others both are none none_other)
     ∙ united_flag words others both are s in record {
       size = flag_count n both ∙ sym (flag_count n words);
-      has_one = λ s is. united s ∙ or_first _ _ (sym (flag_told n words s none) ∙ is);
-      has_other = λ s is. united s ∙ or_second _ _ (sym (flag_told n others s none_other) ∙ is);
-      no_more = λ s is. elim (or_parts _ _ (sym (united s) ∙ is)) [
+      has_one = λ s is. united s ∙ or_left _ _ (sym (flag_told n words s none) ∙ is);
+      has_other = λ s is. united s ∙ or_right _ _ (sym (flag_told n others s none_other) ∙ is);
+      no_more = λ s is. elim (or_cases _ _ (sym (united s) ∙ is)) [
         | inl one ↦ inl (flag_told n words s none ∙ one)
         | inr other ↦ inr (flag_told n others s none_other ∙ other)
       ];
@@ -232,7 +189,7 @@ bit_past w i fits past = ap (λ b. b == 1) (bit_at_above w 64 i fits past)
 pub flags_within : (words others : List ℕ) → EachWithin words others → AreWithin words others
 flags_within words others each s set =
     ap (λ x. bit x (s % 64)) (sym (each (s / 64)))
-    ∙ bit_of_or (get_or words (s / 64) 0) (get_or others (s / 64) 0) (s % 64) ∙ or_first _ _ set
+    ∙ bit-or (get_or words (s / 64) 0) (get_or others (s / 64) 0) (s % 64) ∙ or_left _ _ set
 
 or_within : (a b : Bool) → (a ≡ true → b ≡ true) → (a || b) ≡ b
 or_within true b h = sym (h refl)
@@ -247,13 +204,10 @@ words_within words others fit others_fit are k =
       | inl low ↦
           let told : bit a i ≡ true → bit b i ≡ true = λ set.
           place others k i low ∙ are (64 * k + i) (sym (place words k i low) ∙ set) in
-          bit_of_or a b i ∙ or_within (bit a i) (bit b i) told
+          bit-or a b i ∙ or_within (bit a i) (bit b i) told
       | inr past ↦ bit_past (bit_or a b) i (or_lt 64 a b (fit k) (others_fit k)) past
           ∙ sym (bit_past b i (others_fit k) past)
     ])
-
-and_both : (a b : Bool) → a ≡ true → b ≡ true → (a && b) ≡ true
-and_both a b is other = rw (is, other) refl
 
 -- a loop over the words has seen all of them
 pub all_within : (words others : List ℕ) (n : ℕ) → length words ≡ length others → length others ≤ n
@@ -278,8 +232,8 @@ all_apart words others n all each k = elim (cases_lt k n) [
 pub flags_apart : (words others : List ℕ) → EachApart words others → AreApart words others
 flags_apart words others each s set other_set =
     let both : bit (bit_and (get_or words (s / 64) 0) (get_or others (s / 64) 0)) (s % 64) ≡ true =
-    bit_of_and (get_or words (s / 64) 0) (get_or others (s / 64) 0) (s % 64) ∙ and_both _ _ set other_set in
-    true≢false (sym both ∙ ap (λ x. bit x (s % 64)) (each (s / 64)) ∙ bit_of_zero (s % 64))
+    bit-and (get_or words (s / 64) 0) (get_or others (s / 64) 0) (s % 64) ∙ and_from _ _ set other_set in
+    true≢false (sym both ∙ ap (λ x. bit x (s % 64)) (each (s / 64)) ∙ bit-zero (s % 64))
 
 and_apart : (a b : Bool) → (a ≡ true → b ≡ true → ⊥) → (a && b) ≡ false
 and_apart true true h = absurd (h refl refl)
@@ -294,8 +248,8 @@ words_apart words others fit are k =
       | inl low ↦
           let told : bit a i ≡ true → bit b i ≡ true → ⊥ = λ set other_set.
           are (64 * k + i) (sym (place words k i low) ∙ set) (sym (place others k i low) ∙ other_set) in
-          bit_of_and a b i ∙ and_apart (bit a i) (bit b i) told ∙ sym (bit_of_zero i)
-      | inr past ↦ bit_past (bit_and a b) i (omega (arith, and_le_l a b, fit k)) past ∙ sym (bit_of_zero i)
+          bit-and a b i ∙ and_apart (bit a i) (bit b i) told ∙ sym (bit-zero i)
+      | inr past ↦ bit_past (bit_and a b) i (omega (arith, and_le_l a b, fit k)) past ∙ sym (bit-zero i)
     ])
 
 -- ---- sets as contracts see them
@@ -471,7 +425,7 @@ no_flag_in_rest words from at none before u late early = elim (cases_lt u at) [
   | inr past ↦
       let same : u ≡ at + (u - at) = omega (arith, past) in
       ap (flag words) same ∙ sym (rest_flag words at (u - at) (omega (arith, past, early)))
-      ∙ ap (λ x. bit x (u - at)) none ∙ bit_of_zero (u - at)
+      ∙ ap (λ x. bit x (u - at)) none ∙ bit-zero (u - at)
 ]
 
 -- t is the place of the lowest bit of the rest

@@ -3,10 +3,11 @@ use Rattle.std.proofs.Common.{◌≡◌, ℕ, ◌⊎◌, ◌<◌, ◌≤◌, ◌
 use Rattle.std.proofs.Common.{arith, length, inl, inr}
 use Rattle.std.proofs.lemmas.Bool.{cases_eq, cases_lt}
 use Rattle.std.proofs.lemmas.Nat.Bits.{bit_at_above}
+use Rattle.std.proofs.lemmas.Option.{slice_get_within}
 use Rattle.si_base.specs.declared.ids.Event.{Event}
 use Rattle.si_base.specs.declared.graph.Edge.{Edge}
 use Rattle.si_base.specs.Bits.{bit, flip}
-use Rattle.si_base.specs.Graph.{StateGraph, Step, arc, IsGraph}
+use Rattle.si_base.specs.Graph.{StateGraph, Step, arc, IsGraph, IsNonInput}
 use Rattle.si_base.specs.Codes.{CodedGraph, code, IsCoded, AreValues}
 use Rattle.si_base.proofs.BitFacts.{flip-same, flip-other, same_codes}
 
@@ -59,3 +60,6 @@ pub code_of_step : (c : CodedGraph) (s : ℕ) (e : Event) (t : ℕ) → IsCoded 
     → code c t ≡ flip (code c s) e.sig
 code_of_step c s e t is step = same_codes (code c t) (flip (code c s) e.sig)
     (λ i. bit_of_step c s e t i is step (cases_eq i e.sig))
+
+pub signal_there : (c : CodedGraph) (z : ℕ) → IsNonInput c.graph.signals z → z < length c.graph.signals
+signal_there c z driven = slice_get_within c.graph.signals z driven.0 driven.1

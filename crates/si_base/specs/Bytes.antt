@@ -18,17 +18,49 @@ space = 32
 abbrev pub first_visible : ℕ
 first_visible = 33
 
+-- `!`
+abbrev pub exclamation_mark : ℕ
+exclamation_mark = 33
+
+-- `"`
+abbrev pub double_quote : ℕ
+double_quote = 34
+
 -- `#`
 abbrev pub hash : ℕ
 hash = 35
+
+-- `$`
+abbrev pub dollar : ℕ
+dollar = 36
+
+-- `&`
+abbrev pub ampersand : ℕ
+ampersand = 38
 
 -- `'`
 abbrev pub apostrophe : ℕ
 apostrophe = 39
 
+-- `(`
+abbrev pub opening_parenthesis : ℕ
+opening_parenthesis = 40
+
+-- `)`
+abbrev pub closing_parenthesis : ℕ
+closing_parenthesis = 41
+
+-- `*`
+abbrev pub asterisk : ℕ
+asterisk = 42
+
 -- `+`
 abbrev pub plus : ℕ
 plus = 43
+
+-- `,`
+abbrev pub comma : ℕ
+comma = 44
 
 -- `-`
 abbrev pub minus : ℕ
@@ -58,9 +90,17 @@ digit_one = 49
 abbrev pub digit_nine : ℕ
 digit_nine = 57
 
+-- `;`
+abbrev pub semicolon : ℕ
+semicolon = 59
+
 -- `<`
 abbrev pub less_sign : ℕ
 less_sign = 60
+
+-- `=`
+abbrev pub equals_sign : ℕ
+equals_sign = 61
 
 -- `>`
 abbrev pub greater_sign : ℕ
@@ -81,6 +121,10 @@ last_capital = 90
 -- `[`
 abbrev pub opening_bracket : ℕ
 opening_bracket = 91
+
+-- `\`
+abbrev pub backslash : ℕ
+backslash = 92
 
 -- `]`
 abbrev pub closing_bracket : ℕ

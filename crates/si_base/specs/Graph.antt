@@ -1,6 +1,6 @@
 -- (field) State graphs: steps, walks, reachable states, and the cut to these.
 use Rattle.std.specs.Prelude.{◌≡◌, ℕ, ◌+◌, ◌*◌, ◌<◌, ◌≤◌, ◌^◌, ◌==◌, ◌&&◌, ◌↔◌, Bool, true, false}
-use Rattle.std.specs.Prelude.{List, [], ◌∷◌, length, Contains, All, AllPairs, slice_index}
+use Rattle.std.specs.Prelude.{List, [], ◌∷◌, length, Contains, All, AllPairs, slice_index, map}
 use Rattle.std.specs.Prelude.{slice_get, Some, unwrap_or, option_map, if◌then◌else◌, IsTrue}
 use mathlib.Core.Bool.{beq}
 use Rattle.std.specs.List.{list_any}
@@ -52,6 +52,10 @@ same_event e f = (e.sig == f.sig) && beq e.up f.up
 -- some arc leaves s by e
 abbrev pub enables : StateGraph → ℕ → Event → Bool
 enables g s e = list_any (λ a. (a.from == s) && same_event a.event e) g.edges
+
+-- the names of all signals, in signal order
+abbrev pub names_in : List Signal → List (List ℕ)
+names_in signals = map (λ x. x.name) signals
 
 -- the name of signal z, empty where there is no such signal
 abbrev pub name_of : List Signal → ℕ → List ℕ

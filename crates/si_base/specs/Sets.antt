@@ -36,6 +36,10 @@ AreWithin words others = (s : ℕ) → flag words s ≡ true → flag others s �
 abbrev pub AreApart : List ℕ → List ℕ → Type 0
 AreApart words others = (s : ℕ) → flag words s ≡ true → flag others s ≡ true → ⊥
 
+-- whether the state is in the set
+abbrev pub is_in : List Bool → ℕ → Bool
+is_in set s = slice_index_or set s false
+
 abbrev pub IsIn : List Bool → ℕ → Type 0
 IsIn set s = slice_index_or set s false ≡ true
 

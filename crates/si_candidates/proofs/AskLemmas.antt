@@ -2,25 +2,24 @@
 use Rattle.std.proofs.Common.{◌≡◌, ◌≢◌, ℕ, ◌+◌, ◌*◌, ◌%◌, ◌^◌, ◌<◌, ◌≤◌, ◌==◌, ◌∙◌, Bool, true, List, [], ◌∷◌, ◌++◌}
 use Rattle.std.proofs.Common.{length, get_or, set, take, drop, refl, sym, ap, ap₂, subst, arith, inl, inr, ◌⊎◌, ◌↔◌}
 use Rattle.std.proofs.Common.{All, Contains, append_assoc, bit_or, get_or-set_same, get_or-set_other}
-use Rattle.std.proofs.lemmas.Bool.{cases_eq, true≢false}
+use Rattle.std.proofs.lemmas.Bool.{cases_eq}
 use Rattle.std.proofs.lemmas.List.{append-nil, take-append-le, take_more, take_all, map-append, length-map}
-use Rattle.std.proofs.lemmas.List.{length-append, length-take, get_or_default}
+use Rattle.std.proofs.lemmas.List.{length-take, get_or_default}
 use Rattle.std.proofs.lemmas.Nat.Bits.{bit_at_set_same, bit_at_set_other}
 use Rattle.std.proofs.Math.Seq.{take-add}
 use Rattle.std.specs.Int.{w128}
 use Rattle.si_base.specs.declared.ids.Event.{Event}
 use Rattle.si_base.specs.Bits.{bit}
 use Rattle.si_base.specs.Graph.{StateGraph, IsGraph, rise}
-use Rattle.si_graph.proofs.ValueLemmas.{bit-zero}
-use Rattle.si_closures.specs.WordSearch.{column, HasBit}
-use Rattle.si_closures.specs.Words.{IsEventAt}
+use Rattle.si_closures.specs.Loops.WordSearch.{column, HasBit}
+use Rattle.si_closures.specs.Loops.Words.{IsEventAt}
 use Rattle.si_closures.proofs.SameStates.{same_states}
 use Rattle.si_closures.proofs.WordBits.{in_or}
 use Rattle.si_closures.proofs.WordSearchLemmas.{in_column}
 use Rattle.si_regions.specs.declared.regions.Component.{Component}
 use Rattle.si_candidates.specs.Interval.{IsInterval}
-use Rattle.si_candidates.specs.Asked.{Ask, asks_from, asks_of, asked_on, asked_for, AreReady, AreIntervalsOf}
-use Rattle.si_candidates.specs.Adding.{with_block, with_blocks, AddsAsked, AddsFirst, AddsIntervals}
+use Rattle.si_candidates.specs.Loops.Asked.{Ask, asks_from, asks_of, asked_on, asked_for, AreReady, AreIntervalsOf}
+use Rattle.si_candidates.specs.Loops.Adding.{with_block, with_blocks, AddsAsked, AddsFirst, AddsIntervals}
 use Rattle.si_candidates.specs.Blocks.{state_set, max_blocks, AreIntervalsFrom, AreIntervals}
 use Rattle.si_candidates.proofs.BlockLists.{with_blocks-append, full_blocks}
 use Rattle.si_candidates.proofs.IntervalsExist.{some_interval}
@@ -30,9 +29,6 @@ use Rattle.si_candidates.proofs.BlockMarks.{marked_has, length-marked}
 -- the bits from the first one to the one before k
 abbrev pub IsRun : ℕ → ℕ → ℕ → Type 0
 IsRun first k bits = (j : ℕ) → j < 128 → (bit bits j ≡ true) ↔ ((first ≤ j) × (j < k))
-
-pub no_run : (first : ℕ) → IsRun first first 0
-no_run first j few = (λ has. absurd (true≢false (sym has ∙ bit-zero j)), λ both. absurd (omega (arith, both.0, both.1)))
 
 pub longer_run : (first k bits : ℕ) → first ≤ k → k < 128 → IsRun first k bits
     → IsRun first (k + 1) (bit_or bits (1 * 2 ^ k % 2 ^ 128))
@@ -59,12 +55,6 @@ IsAmong states n s = (j : ℕ) × (j < n) × (j < length states) × (get_or stat
 abbrev pub AreGiven : List ℕ → List ℕ → ℕ → ℕ → List ℕ → Type 0
 AreGiven old states bits n words =
     (k s : ℕ) → HasBit words k s ↔ (HasBit old k s ⊎ ((bit bits k ≡ true) × IsAmong states n s))
-
-pub none_given : (old states : List ℕ) (bits : ℕ) → AreGiven old states bits 0 old
-none_given old states bits k s = (
-  λ has. inl has,
-  λ given. elim given [ inl has ↦ has | inr (has, among) ↦ absurd (let early = among.1 in omega (arith, early)) ],
-)
 
 module _ (old states words : List ℕ) (bits n x w : ℕ) (inside : n < length states) (at : x ≡ get_or states n x)
     (within : x < length words) (is : w ≡ get_or words x 0) where
@@ -119,19 +109,6 @@ module _ (old states words : List ℕ) (bits n x w : ℕ) (inside : n < length s
           → HasBit old k s ⊎ ((bit bits k ≡ true) × IsAmong states (n + 1) s)
       old_or_new s k (inl first) = inl first
       old_or_new s k (inr (new, among)) = inr (new, still_among s among)
-
-pub all_given : (old states words : List ℕ) (bits n : ℕ) → length states ≤ n → AreGiven old states bits n words
-    → (k s : ℕ) → HasBit words k s ↔ (HasBit old k s ⊎ ((bit bits k ≡ true) × Contains states s))
-all_given old states words bits n all given k s = (
-  λ has. elim ((given k s).0 has) [
-    | inl first ↦ inl first
-    | inr (new, among) ↦ inr (new, (among.0, among.2, among.3))
-  ],
-  λ either. (given k s).1 (elim either [
-    | inl first ↦ inl first
-    | inr (new, there) ↦ inr (new, (there.0, (let inside = there.1 in omega (arith, inside, all)), there.1, there.2))
-  ]),
-)
 
 -- ---- what words and events ask for
 asked-append : (k : ℕ) (words : List ℕ) (xs ys : List Event)
@@ -191,17 +168,6 @@ module _ (old new from : List ℕ) (stops more : List Event) (bits : ℕ) (ready
     where
       listed_below : (s : ℕ) → Contains from s → s < length old
       listed_below s (j, inside, at) = subst (λ t. t < length old) at (below j s inside)
-
-  pub ready_more : AreReady (length old) new (stops ++ more)
-  ready_more = record {
-    size = size;
-    few = (let both = length-append stops more in omega (arith, both, room));
-    free = λ k s late few has. elim ((each k s).0 has) [
-      | inl was ↦ ready.free k s (let both = length-append stops more in omega (arith, both, late)) few was
-      | inr (new_bit, _) ↦ (let both = length-append stops more in
-          let in_run = (run k few).0 new_bit in omega (arith, both, late, in_run.1))
-    ];
-  }
 
   pub asked_more : asked_for new (stops ++ more) ≡ asked_for old stops ++ asks_from (state_set (length old) from) more
   asked_more = asked-append 0 new stops more ∙ ap₂ (λ (xs ys : List Ask). xs ++ ys)
@@ -321,16 +287,9 @@ module _ (g : StateGraph) where
       subst (λ es. AddsAsked g (asked_for seeds es) old found) (take_all k stops all) before
 
   -- ---- the first ones of them, while the others wait
-  pub all_wait : (waited : List Ask) (found : List (List Bool)) → AddsFirst g [] waited found waited found
-  all_wait waited found = record { first = []; parts = append-nil waited; adds = adds_none found }
-
   pub more_wait : (asks waited waiting : List Ask) (found : List (List Bool)) → waiting ≡ waited ++ asks
       → AddsFirst g asks waited found waiting found
   more_wait asks waited waiting found is = record { first = []; parts = sym is; adds = adds_none found }
-
-  pub none_waits : (waited : List Ask) (old new : List (List Bool)) → AddsAsked g waited old new
-      → AddsFirst g [] waited old [] new
-  none_waits waited old new adds = record { first = waited; parts = refl; adds = adds }
 
   pub first_both : (xs ys a b c : List Ask) (old mid new : List (List Bool)) → AddsFirst g xs a old b mid
       → AddsFirst g ys b mid c new → AddsFirst g (xs ++ ys) a old c new

@@ -9,11 +9,10 @@ use Rattle.si_base.specs.declared.graph.Signal.{Signal}
 use Rattle.si_base.specs.declared.graph.SigKind.{SigKind}
 use Rattle.si_base.specs.declared.graph.SigKind.TheVariants.{Input, Output, Internal, Inserted}
 use Rattle.si_base.specs.Graph.{StateGraph, Step, arc, IsNonInput}
-use Rattle.si_base.specs.Sets.{IsIn}
+use Rattle.si_base.specs.Sets.{IsIn, IsDisjoint}
 use Rattle.si_checks.proofs.SearchDecisions as decide
 use Rattle.si_checks.proofs.SearchDecisions.{Decided, both, all_of, same_value, equal_events, driven}
 use Rattle.si_insert.specs.Accepted.{IsInput}
-use Rattle.si_candidates.specs.Blocks.{AreDisjoint}
 use Rattle.si_insert.specs.Diamond.{Diamond}
 use Rattle.si_candidates.specs.Blocking.{IsClosedUnderInputs, KeepsExits, MaySwitch}
 
@@ -51,7 +50,7 @@ meet_or_not (b ∷ x) (d ∷ y) = elim (both (same_value b true) (same_value d t
   ]
 ]
 
-pub disjoint_or_not : (x y : List Bool) → Decided (AreDisjoint x y)
+pub disjoint_or_not : (x y : List Bool) → Decided (IsDisjoint x y)
 disjoint_or_not x y = elim (meet_or_not x y) [
   | inl (s, one, other) ↦ inr (λ apart. apart s one other)
   | inr none ↦ inl (λ s one other. none (s, one, other))

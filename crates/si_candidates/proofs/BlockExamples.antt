@@ -11,20 +11,20 @@ use Rattle.si_base.specs.Bits.{bit}
 use Rattle.si_base.specs.Graph.{StateGraph, Step, arc, rise, fall, same_event, IsNonInput}
 use Rattle.si_base.specs.Sets.{IsIn}
 use Rattle.si_base.proofs.GraphSteps.{all_arcs, same_event-true}
+use Rattle.si_base.proofs.BitFacts.{bit-zero}
 use Rattle.si_graph.proofs.ListMembers.{Contains-cons_cases}
-use Rattle.si_graph.proofs.ValueLemmas.{bit-zero}
-use Rattle.si_closures.specs.WordSearch.{column, HasBit}
+use Rattle.si_closures.specs.Loops.WordSearch.{column, HasBit}
 use Rattle.si_closures.proofs.SignalKinds.{input_is_no_other, apart_events}
 use Rattle.si_closures.proofs.WordSearchLemmas.{in_column}
 use Rattle.si_regions.specs.declared.regions.Component.{Component}
 use Rattle.si_regions.proofs.StateLists.{only_in}
 use Rattle.si_insert.specs.Accepted.{IsInput}
 use Rattle.si_candidates.specs.Interval.{IsReachedBefore, IsInterval}
-use Rattle.si_candidates.specs.Asked.{asked_for, asks_from, asks_of, AreIntervalsOf}
-use Rattle.si_candidates.specs.Adding.{AddsFirst}
+use Rattle.si_candidates.specs.Loops.Asked.{asked_for, asks_from, asks_of, AreIntervalsOf}
+use Rattle.si_candidates.specs.Loops.Adding.{AddsFirst}
 use Rattle.si_candidates.specs.Blocks.{state_set, driven_events, blocks_of, block_at}
 use Rattle.si_candidates.specs.Blocking.{MaySwitch}
-use Rattle.si_candidates.specs.ManySets.{AreAllTold, AreToldBelow, ArePacked}
+use Rattle.si_candidates.specs.Loops.ManySets.{AreAllTold, AreToldBelow, ArePacked}
 use Rattle.si_candidates.proofs.BlockMarks.{marked_has}
 
 abbrev pulses : StateGraph

@@ -10,7 +10,7 @@ use Rattle.std.specs.List.{list_any}
 use Rattle.si_base.specs.declared.ids.Event.{Event}
 use Rattle.si_base.specs.declared.graph.Signal.{Signal}
 use Rattle.si_base.specs.Graph.{rise, fall, is_driven}
-use Rattle.si_candidates.specs.Adding.{with_block, with_blocks}
+use Rattle.si_candidates.specs.Loops.Adding.{with_block, with_blocks}
 use Rattle.si_candidates.specs.Blocks.{same_set, without_repeats, max_blocks, driven_events}
 use Rattle.si_candidates.proofs.BlockSameSets.{same_set-true}
 

@@ -7,12 +7,13 @@ use Rattle.si_base.specs.Codes.{CodedGraph, IsCoded}
 use Rattle.si_base.specs.Proper.{IsProper, Loss}
 use Rattle.si_base.proofs.RightGateLemmas.{step_within}
 use Rattle.si_base.specs.Sets.{IsIn}
+use Rattle.si_base.proofs.Booleans.{at_each}
 use Rattle.si_insert.specs.declared.partition.Class.{Class}
 use Rattle.si_insert.specs.declared.partition.Class.TheVariants.{Rising, Falling}
 use Rattle.si_insert.specs.Partition.{class_of, IsLawful}
 use Rattle.si_insert.specs.Insertion.{waits}
 use Rattle.si_insert.specs.Accepted.{IsAccepted, copy_count, Delay}
-use Rattle.si_insert.specs.Tests.{InputWaits, WaitsAfter}
+use Rattle.si_insert.specs.Loops.Tests.{InputWaits, WaitsAfter}
 use Rattle.si_insert.proofs.PairWaiting.{waiting, is_or_not, waits_at, waits_if, goes_elsewhere, goes_within}
 use Rattle.si_insert.proofs.DiamondLosses.{lost_after, diamond_of}
 use Rattle.si_insert.proofs.AcceptedByTests.{accepts_at_tests}
@@ -67,10 +68,6 @@ none_lost g classes keeps l w =
     let h = waits_at (class_of classes w.u) (class_of classes w.w) b w.late in
     let k = keeps b l.s l.lost l.by w.t w.u w.w (diamond_of g classes l w) h.0 h.1 in
     true≢false (sym (waits_if (class_of classes l.s) (class_of classes w.t) b k.0 k.1) ∙ w.first_goes)
-
-at_each : (P : Bool → Type 0) → P false → P true → (b : Bool) → P b
-at_each P low high true = high
-at_each P low high false = low
 
 pub inputs_by_block : (g : StateGraph) (classes : List Class)
     → ((d : Delay) → InputWaits g classes d → ⊥) ↔

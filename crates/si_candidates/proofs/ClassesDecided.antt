@@ -5,13 +5,12 @@ use Rattle.si_base.specs.Graph.{StateGraph}
 use Rattle.si_base.specs.Codes.{CodedGraph, IsCoded}
 use Rattle.si_base.specs.Limits.{max_signals, max_states}
 use Rattle.si_base.specs.Proper.{IsProper}
-use Rattle.si_base.specs.Sets.{IsIn}
+use Rattle.si_base.specs.Sets.{IsIn, IsDisjoint}
 use Rattle.si_regions.proofs.SetsExist.{some_set}
 use Rattle.si_checks.proofs.SearchDecisions.{Decided, both, less}
 use Rattle.si_insert.specs.declared.partition.Class.{Class}
 use Rattle.si_insert.specs.Partition.{IsLawful}
 use Rattle.si_insert.specs.Accepted.{IsAccepted, copy_count}
-use Rattle.si_candidates.specs.Blocks.{AreDisjoint}
 use Rattle.si_candidates.specs.Parts.{AreClasses}
 use Rattle.si_candidates.proofs.ClassesExist.{first_of, classes_or_torn_within}
 use Rattle.si_candidates.proofs.BlockDecisions.{member, may_switch_or_not}
@@ -81,7 +80,7 @@ module _ (c : CodedGraph) (plus minus : List Bool) (coded : IsCoded c) (proper :
               none (subst (IsAccepted c.graph) same is.1)))
         ]
 
-    of_parts : AreDisjoint plus minus → Decided ((found : List Class) × Accepts found)
+    of_parts : IsDisjoint plus minus → Decided ((found : List Class) × Accepts found)
     of_parts disjoint =
         let (r, r_in, in_plus) = rises in
         elim (classes_or_torn_within c.graph plus minus r coded.graph_is coded.connected disjoint in_plus r_in) [
@@ -89,7 +88,7 @@ module _ (c : CodedGraph) (plus minus : List Bool) (coded : IsCoded c) (proper :
           | inr (s, torn) ↦ inr (λ (found, is). torn_have_none c.graph plus minus found s is.0 torn)
         ]
 
-  pub accepted_classes_or_none : AreDisjoint plus minus → Decided ((found : List Class) × Accepts found)
+  pub accepted_classes_or_none : IsDisjoint plus minus → Decided ((found : List Class) × Accepts found)
   accepted_classes_or_none disjoint =
       elim (both (occurs_or_not c.graph plus) (occurs_or_not c.graph minus)) [
         | inl occur ↦ of_parts occur.0 occur.1 disjoint

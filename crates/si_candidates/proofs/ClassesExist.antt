@@ -7,14 +7,14 @@ use Rattle.std.proofs.lemmas.List.FromFn.{length-map-range_with_len, get_or-map-
 use Rattle.si_base.specs.declared.graph.Edge.{Edge}
 use Rattle.si_base.specs.Graph.{StateGraph, IsGraph, arc}
 use Rattle.si_base.specs.Codes.{IsConnected}
-use Rattle.si_base.specs.Sets.{IsIn}
+use Rattle.si_base.specs.Sets.{IsIn, IsDisjoint}
 use Rattle.si_graph.specs.declared.closure.Along.TheVariants.{Both}
 use Rattle.si_graph.specs.Closure.{IsNext, Path}
 use Rattle.si_graph.proofs.SearchLemmas.{in_below}
 use Rattle.si_graph.proofs.ListMembers.{Contains-here, Contains-nil}
-use Rattle.si_regions.specs.Connected.{Adjoins, PathOf}
+use Rattle.si_regions.specs.Connected.{PathOf}
 use Rattle.si_regions.specs.Regions.{IsSetOf}
-use Rattle.si_regions.specs.Searching.{AreMarksOf, IsReachedIn, IsSeed}
+use Rattle.si_regions.specs.Loops.Searching.{AreMarksOf, IsReachedIn, IsSeed}
 use Rattle.si_graph.proofs.ClosureLemmas.{reached_on, reached_seed}
 use Rattle.si_regions.proofs.SetsExist.{listed, some_set, some_marks, some_reached}
 use Rattle.si_checks.proofs.SearchDecisions as decide
@@ -22,7 +22,7 @@ use Rattle.si_checks.proofs.SearchDecisions.{Decided, both, some_of, less}
 use Rattle.si_insert.specs.declared.partition.Class.{Class}
 use Rattle.si_insert.specs.declared.partition.Class.TheVariants.{Low, Rising, High, Falling}
 use Rattle.si_insert.specs.Partition.{class_of}
-use Rattle.si_candidates.specs.Blocks.{AreDisjoint}
+use Rattle.si_regions.proofs.ComponentLemmas.{adjoins_back}
 use Rattle.si_candidates.specs.Parts.{IsOther, ComesFrom, GoesInto, PartMeets, IsHigh, IsLow, AreClasses, HasBothLevels}
 use Rattle.si_candidates.proofs.BlockDecisions.{either, member}
 use Rattle.si_candidates.proofs.PartLaws.{drawn_on}
@@ -79,10 +79,6 @@ module _ (g : StateGraph) (plus minus : List Bool) where
     reached : (states : List ℕ) × IsSetOf Reached states
     reached = some_reached g Both others.0 seeds.0 others.1.size
 
-    adjoins_back : (s t : ℕ) → Adjoins g s t → Adjoins g t s
-    adjoins_back s t (inl leads) = inr leads
-    adjoins_back s t (inr leads) = inl leads
-
     -- what is reached from a seed meets them
     drawn_along : (s : ℕ) (path : List ℕ) (t : ℕ) → PartMeets g plus minus from into s → Path g Both others.0 s path t
         → PartMeets g plus minus from into t
@@ -90,7 +86,7 @@ module _ (g : StateGraph) (plus minus : List Bool) where
     drawn_along s (u ∷ us) t drawn leads =
         let other = (others.1.exactly u).0 leads.0.1 in
         drawn_along u us t
-        (drawn_on g plus minus from into u s other (adjoins_back s u leads.0.0) drawn) leads.1
+        (drawn_on g plus minus from into u s other (adjoins_back g s u leads.0.0) drawn) leads.1
 
     reached_drawn : (s : ℕ) → Reached s → PartMeets g plus minus from into s
     reached_drawn s r =
@@ -110,7 +106,7 @@ module _ (g : StateGraph) (plus minus : List Bool) where
     reached_back s [] t here leads end = subst Reached (sym leads) end
     reached_back s (u ∷ us) t here leads end =
         reached_on (IsNext g Both others.0) (IsSeed others.0 seeds.0) u s (reached_back u us t leads.1 leads.2 end)
-        (adjoins_back s u leads.0, (others.1.exactly s).1 here)
+        (adjoins_back g s u leads.0, (others.1.exactly s).1 here)
 
     drawn_reached : (s : ℕ) → PartMeets g plus minus from into s → Reached s
     drawn_reached s d =
@@ -171,7 +167,7 @@ low_is false false false = ((λ e. (no_bit, no_bit, no_bit)), (λ k. refl))
 
 -- ---- the classes of two blocks
 module _ (g : StateGraph) (plus minus : List Bool) (r : ℕ) (graph : IsGraph g) (connected : IsConnected g)
-    (disjoint : AreDisjoint plus minus) (in_plus : IsIn plus r) (r_in : r < g.states) where
+    (disjoint : IsDisjoint plus minus) (in_plus : IsIn plus r) (r_in : r < g.states) where
   highs : (marks : List Bool) × AreMarksOf g (IsHigh g plus minus) marks
   highs = some_marks g (IsHigh g plus minus) (drawn_or_not g plus minus plus minus) (λ s is. is.part.begins.within)
 
@@ -239,7 +235,7 @@ module _ (g : StateGraph) (plus minus : List Bool) (r : ℕ) (graph : IsGraph g)
   ]
 
 pub classes_or_torn : (g : StateGraph) (plus minus : List Bool) (r f : ℕ) → IsGraph g → IsConnected g
-    → length plus ≡ g.states → length minus ≡ g.states → AreDisjoint plus minus → IsIn plus r → IsIn minus f
+    → length plus ≡ g.states → length minus ≡ g.states → IsDisjoint plus minus → IsIn plus r → IsIn minus f
     → ((classes : List Class) × AreClasses g plus minus classes) ⊎ ((s : ℕ) × HasBothLevels g plus minus s)
 classes_or_torn g plus minus r f graph connected plus_size minus_size disjoint in_plus in_minus =
     let r_in : r < g.states = omega (arith, in_below plus r in_plus, plus_size) in

@@ -9,10 +9,10 @@ use Rattle.si_base.specs.declared.graph.Edge.{Edge}
 use Rattle.si_base.specs.Codes.{IsDeterministic}
 use Rattle.si_base.specs.Graph.{StateGraph, Step, IsGraph, IsNonInput, arc}
 use Rattle.si_base.proofs.StepCodes.{step_within}
-use Rattle.si_graph.specs.Arcs.{edge_at, no_edge, IsFirstPlace, IsInto}
+use Rattle.si_graph.specs.Loops.Arcs.{edge_at, no_edge, IsFirstPlace, IsInto}
 use Rattle.si_graph.proofs.ClosureLemmas.{place_in_walk, none_between, later_place}
 use Rattle.si_candidates.specs.declared.earlier.EarlierStep.{EarlierStep}
-use Rattle.si_candidates.specs.Earlier.{AreEarlier, IsEarlier, IsEarlierBy, Adds}
+use Rattle.si_candidates.specs.Loops.Earlier.{AreEarlier, IsEarlier, IsEarlierBy, Adds}
 
 -- ---- what a list grows by
 pub adds_none : (P : EarlierStep → Type 0) (old : List EarlierStep) → ((step : EarlierStep) → P step → ⊥)

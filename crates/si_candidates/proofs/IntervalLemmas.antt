@@ -6,8 +6,8 @@ use Rattle.si_base.specs.Sets.{IsIn}
 use Rattle.si_base.proofs.StepCodes.{step_within}
 use Rattle.si_graph.specs.declared.closure.Along.TheVariants.{OutWithout}
 use Rattle.si_graph.specs.Closure.{IsBeside, Path, PathBy, IsClosure}
-use Rattle.si_closures.specs.WordSearch.{column, Passes, IsNextBy, IsClosureBy}
-use Rattle.si_closures.specs.Words.{HasAll, IsEventAt}
+use Rattle.si_closures.specs.Loops.WordSearch.{column, Passes, IsNextBy, IsClosureBy}
+use Rattle.si_closures.specs.Loops.Words.{HasAll, IsEventAt}
 use Rattle.si_closures.proofs.SameStates.{same_states}
 use Rattle.si_closures.proofs.WordSearchLemmas.{in_column}
 use Rattle.si_candidates.specs.Interval.{WalkWithout, IsReachedBefore, IsInterval}

@@ -8,7 +8,7 @@ use Rattle.si_base.proofs.StepCodes.{step_within}
 use Rattle.si_graph.specs.declared.closure.Along.TheVariants.{OutWithout}
 use Rattle.si_graph.specs.Closure.{IsNext}
 use Rattle.si_graph.proofs.SearchLemmas.{in_below}
-use Rattle.si_regions.specs.Searching.{IsReachedIn, IsSeed}
+use Rattle.si_regions.specs.Loops.Searching.{IsReachedIn, IsSeed}
 use Rattle.si_checks.proofs.SearchDecisions.{same_value}
 use Rattle.si_regions.proofs.SetsExist.{listed, some_set, some_marks, some_reached}
 use Rattle.si_graph.proofs.ClosureLemmas.{reached_on, reached_seed}

@@ -13,17 +13,17 @@ use Rattle.si_base.specs.declared.graph.Edge.{Edge}
 use Rattle.si_base.specs.Bits.{bit}
 use Rattle.si_base.specs.Graph.{StateGraph, IsGraph, IsNonInput, Step, arc}
 use Rattle.si_base.specs.Sets.{IsIn}
-use Rattle.si_graph.specs.Arcs.{edge_at, no_edge}
-use Rattle.si_closures.specs.WordSearch.{column, HasBit}
+use Rattle.si_graph.specs.Loops.Arcs.{edge_at, no_edge}
+use Rattle.si_closures.specs.Loops.WordSearch.{column, HasBit}
 use Rattle.si_closures.proofs.WordBits.{in_and, in_or, in_not}
 use Rattle.si_closures.proofs.WordSearchLemmas.{in_column}
 use Rattle.si_closures.proofs.WordLemmas.{full_bit}
 use Rattle.si_candidates.specs.Blocks.{block_at}
 use Rattle.si_candidates.specs.declared.earlier.EarlierStep.{EarlierStep}
 use Rattle.si_candidates.specs.Blocking.{MaySwitch, MayPass, MayLeave}
-use Rattle.si_candidates.specs.Earlier.{AreEarlier}
-use Rattle.si_candidates.specs.ManySets.{AreToldBelow, ArePacked, Tells, TellsOf}
-use Rattle.si_candidates.specs.ManySets.{AreAllPacked, EachTells, EachTellsOf, words_at}
+use Rattle.si_candidates.specs.Loops.Earlier.{AreEarlier}
+use Rattle.si_candidates.specs.Loops.ManySets.{AreToldBelow, ArePacked, Tells, TellsOf}
+use Rattle.si_candidates.specs.Loops.ManySets.{AreAllPacked, EachTells, EachTellsOf, words_at}
 use Rattle.si_candidates.proofs.BlockStates.{same_sets}
 use Rattle.si_candidates.proofs.MaySwitchArcs.{in_or_out, switch_passes, passes_switch}
 

@@ -6,8 +6,9 @@ use Rattle.si_base.specs.Graph.{StateGraph, arc, rise, fall}
 use Rattle.si_insert.specs.declared.partition.Class.{Class}
 use Rattle.si_insert.specs.declared.partition.Class.TheVariants.{Low, Rising, High, Falling}
 use Rattle.si_insert.specs.Partition.{class_of}
+use Rattle.si_insert.proofs.PartitionClasses.{same_classes}
 use Rattle.si_candidates.specs.Parts.{IsOther, IsHigh, IsLow, AreClasses, HasBothLevels}
-use Rattle.si_candidates.proofs.PartLaws.{torn_have_none, same_list}
+use Rattle.si_candidates.proofs.PartLaws.{torn_have_none}
 
 -- ---- y and z rise in any order, then y falls, then z; the new signal is to rise in s1 and to fall in s4
 abbrev lagging : StateGraph
@@ -125,7 +126,7 @@ halves = Low ∷ Low ∷ Rising ∷ High ∷ High ∷ Falling ∷ []
 
 -- they have no other classes
 these : (classes : List Class) → AreClasses pulses in_s2 in_s5 classes → classes ≡ halves
-these classes are = same_list classes halves are.count (λ s below. each s (omega (arith, below, are.count)))
+these classes are = same_classes classes halves are.count (λ s below. each s (omega (arith, below, are.count)))
   where
     each : (s : ℕ) → s < 6 → class_of classes s ≡ class_of halves s
     each zero below = (are.low 0 below).1 low_0

@@ -1,5 +1,5 @@
 -- The classes of two blocks are a lawful partition, the only one.
-use Rattle.std.proofs.Common.{◌≡◌, ◌≢◌, ℕ, suc, ◌<◌, ◌⊎◌, Bool, true, List, [], ◌∷◌, length, refl, sym, ◌∙◌, arith, inl}
+use Rattle.std.proofs.Common.{◌≡◌, ◌≢◌, ℕ, ◌<◌, ◌⊎◌, Bool, true, List, [], ◌∷◌, refl, sym, ◌∙◌, arith, inl}
 use Rattle.std.proofs.Common.{inr}
 use Rattle.si_base.specs.declared.ids.Event.{Event}
 use Rattle.si_base.specs.Graph.{StateGraph, Step, IsGraph}
@@ -11,6 +11,7 @@ use Rattle.si_insert.specs.declared.partition.Class.{Class}
 use Rattle.si_insert.specs.declared.partition.Class.TheVariants.{Low, Rising, High, Falling}
 use Rattle.si_insert.specs.Partition.{class_of, may_lead, IsLawful, HasSameSwitches}
 use Rattle.si_insert.proofs.OnePartition.{one_partition}
+use Rattle.si_insert.proofs.PartitionClasses.{same_classes}
 use Rattle.si_candidates.specs.Parts.{IsOther, ComesFrom, GoesInto, PartMeets, IsHigh, IsLow, AreClasses, HasBothLevels}
 
 -- a state is in one class
@@ -111,15 +112,6 @@ same_switches g plus minus xs ys a b s within = (
   ((λ h. (b.falling s within).1 ((a.falling s within).0 h)), (λ h. (a.falling s within).1 ((b.falling s within).0 h))),
 )
 
-pub same_list : (xs ys : List Class) → length xs ≡ length ys
-    → ((s : ℕ) → s < length xs → class_of xs s ≡ class_of ys s) → xs ≡ ys
-same_list [] [] size same = refl
-same_list [] (y ∷ ys) size same = absurd (omega arith)
-same_list (x ∷ xs) [] size same = absurd (omega arith)
-same_list (x ∷ xs) (y ∷ ys) size same =
-    let head : x ≡ y = same 0 (omega arith) in
-    let tail : xs ≡ ys = same_list xs ys (omega arith) (λ s h. same (suc s) (omega arith)) in cc
-
 pub classes_unique : (g : StateGraph) (plus minus : List Bool) (xs ys : List Class) (r f : ℕ) → IsGraph g
     → IsConnected g → IsIn plus r → r < g.states → IsIn minus f → f < g.states → AreClasses g plus minus xs
     → AreClasses g plus minus ys → xs ≡ ys
@@ -127,6 +119,6 @@ classes_unique g plus minus xs ys r f graph connected in_r r_in in_f f_in a b =
     let lx = classes_lawful g plus minus xs r f graph a in_r r_in in_f f_in in
     let ly = classes_lawful g plus minus ys r f graph b in_r r_in in_f f_in in
     let switches = same_switches g plus minus xs ys a b in
-    same_list xs ys (a.count ∙ sym b.count)
+    same_classes xs ys (a.count ∙ sym b.count)
     (λ s h. (let within : s < g.states = omega (arith, a.count) in
     one_partition g xs ys s graph connected lx ly switches within))

@@ -6,23 +6,23 @@ use Rattle.std.proofs.lemmas.List.FromFn.{get_or-map-range_with_len, length-map-
 use Rattle.si_base.specs.Graph.{StateGraph, IsGraph}
 use Rattle.si_base.specs.Codes.{IsConnected}
 use Rattle.si_base.specs.Order.{IsFirst}
-use Rattle.si_base.specs.Sets.{IsIn, IsDisjoint}
+use Rattle.si_base.specs.Sets.{IsIn, IsDisjoint, is_in}
 use Rattle.si_graph.specs.declared.closure.Along.TheVariants.{Out, In, Both}
 use Rattle.si_graph.specs.Closure.{IsNext}
-use Rattle.si_graph.specs.Reach.{Marks, MarksAll}
+use Rattle.si_graph.specs.Loops.Reach.{Marks, MarksAll}
 use Rattle.si_graph.proofs.SearchLemmas.{Explores, explores_more, in_below, in_none, marks_all_as, marks_both}
 use Rattle.si_graph.proofs.SearchLemmas.{marks_same}
 use Rattle.si_graph.proofs.ListMembers.{Contains-nil}
-use Rattle.si_regions.specs.Connected.{Adjoins, PathOf}
-use Rattle.si_regions.specs.Searching.{AreMarksOf}
+use Rattle.si_regions.specs.Connected.{PathOf}
+use Rattle.si_regions.specs.Loops.Searching.{AreMarksOf}
 use Rattle.si_regions.proofs.RegionLemmas.{IsStateOf, MadeTo, states_all}
 use Rattle.si_insert.specs.declared.partition.Class.{Class}
 use Rattle.si_insert.specs.declared.partition.Class.TheVariants.{Low, Rising, High, Falling}
 use Rattle.si_insert.specs.Partition.{class_of, IsLawful}
-use Rattle.si_candidates.specs.Blocks.{AreDisjoint}
+use Rattle.si_regions.proofs.ComponentLemmas.{adjoins_back}
 use Rattle.si_candidates.specs.Parts.{IsOther, ComesFrom, GoesInto, PartMeets, IsHigh, IsLow, AreClasses, HasBothLevels}
 use Rattle.si_candidates.specs.Parts.{IsFirstWithBothLevels}
-use Rattle.si_candidates.specs.Sides.{class_by, classes_by, flag}
+use Rattle.si_candidates.specs.Loops.Sides.{class_by, classes_by}
 use Rattle.si_candidates.proofs.LawfulParts.{each_is_drawn}
 use Rattle.si_candidates.proofs.PartLaws.{alone, classes_lawful, drawn_on}
 use Rattle.si_candidates.proofs.SideLemmas.{falling_is, high_is, low_is, rising_is}
@@ -111,16 +111,13 @@ module _ (g : StateGraph) (plus minus others : List Bool) (are : AreMarksOf g (I
           (λ t k. (inr (k.0, k.2.0.0, k.1, k.2.0.1), (are.exactly t).0 k.2.1))
           entered.marks_are leading.marks_are
 
-  turned : (s t : ℕ) → Adjoins g s t → Adjoins g t s
-  turned s t (inl leads) = inr leads
-  turned s t (inr leads) = inl leads
-
   pub spreads_more : (s : ℕ) (A : List Bool) (rest : List ℕ) (B : List Bool) (v : List ℕ)
       → Spreads g plus minus others A (rest ++ s ∷ []) → MarksAll (IsNext g Both others s) A rest B v
       → Spreads g plus minus others B v
   spreads_more s A rest B v x one =
       explores_more (IsNext g Both others) (IsSeed g plus minus) (IsHigh g plus minus) s A rest B v
-      (λ t here next. drawn_on g plus minus plus minus t s ((are.exactly t).0 next.1) (turned s t next.0) here) x one
+      (λ t here next. drawn_on g plus minus plus minus t s ((are.exactly t).0 next.1)
+      (adjoins_back g s t next.0) here) x one
 
   -- the end of a path that begins beside a block is reached
   back_path : (marks : List Bool) → Spreads g plus minus others marks [] → (s : ℕ) (path : List ℕ) (t : ℕ)
@@ -130,7 +127,7 @@ module _ (g : StateGraph) (plus minus others : List Bool) (are : AreMarksOf g (I
       x.begun s (subst (λ (u : ℕ). ComesFrom g plus u ⊎ GoesInto g minus u) (sym path) by, other)
   back_path marks x s (u ∷ us) t other path by = elim (x.closed u (back_path marks x u us t path.1 path.2 by)) [
     | inl none ↦ absurd (Contains-nil u none)
-    | inr done ↦ done s (turned s u path.0, (are.exactly s).1 other)
+    | inr done ↦ done s (adjoins_back g s u path.0, (are.exactly s).1 other)
   ]
 
   pub spreads_end : (marks : List Bool) → length marks ≡ g.states → Spreads g plus minus others marks []
@@ -190,18 +187,18 @@ module _ (g : StateGraph) (plus minus high low : List Bool) (highs : AreMarksOf 
   }
 
   module _ (graph : IsGraph g) (connected : IsConnected g) (size : length plus ≡ g.states)
-      (apart : AreDisjoint plus minus) (r : ℕ) (r_in : r < g.states) (rises : IsIn plus r)
+      (apart : IsDisjoint plus minus) (r : ℕ) (r_in : r < g.states) (rises : IsIn plus r)
       (none : IsDisjoint high low) where
     abbrev told : ℕ → Class
-    told s = class_by (flag plus s) (flag minus s) (flag high s)
+    told s = class_by (is_in plus s) (is_in minus s) (is_in high s)
 
     class_at : (s : ℕ) → s < g.states → class_of (classes_by plus minus high) s ≡ told s
     class_at s within = get_or-map-range_with_len told 0 (length plus) s s Low (omega (arith, size)) (omega arith)
 
-    out : (set : List Bool) (s : ℕ) → (IsIn set s → ⊥) → flag set s ≡ false
-    out set s not = elim (cases_Bool (flag set s)) [ inl there ↦ absurd (not there) | inr is ↦ is ]
+    out : (set : List Bool) (s : ℕ) → (IsIn set s → ⊥) → is_in set s ≡ false
+    out set s not = elim (cases_Bool (is_in set s)) [ inl there ↦ absurd (not there) | inr is ↦ is ]
 
-    not_in : (set : List Bool) (s : ℕ) → flag set s ≡ false → IsIn set s → ⊥
+    not_in : (set : List Bool) (s : ℕ) → is_in set s ≡ false → IsIn set s → ⊥
     not_in set s is there = true≢false (sym there ∙ is)
 
     is_high : (s : ℕ) → s < g.states → (told s ≡ High) ↔ IsHigh g plus minus s
@@ -224,7 +221,7 @@ module _ (g : StateGraph) (plus minus high low : List Bool) (highs : AreMarksOf 
       ),
     )
       where
-        low_from : (flag plus s ≡ false) × (flag minus s ≡ false) × (flag high s ≡ false) → IsLow g plus minus s
+        low_from : (is_in plus s ≡ false) × (is_in minus s ≡ false) × (is_in high s ≡ false) → IsLow g plus minus s
         low_from is = elim (each_is_drawn g plus minus r s graph connected rises r_in within (record {
           within = within;
           not_plus = not_in plus s is.0;
@@ -249,7 +246,7 @@ module _ (g : StateGraph) (plus minus high low : List Bool) (highs : AreMarksOf 
             (λ is. tells.0 (sym (class_at s within) ∙ is), λ p. class_at s within ∙ tells.1 p)
 
   pub told_classes : IsGraph g → IsConnected g → length plus ≡ g.states → length minus ≡ g.states
-      → AreDisjoint plus minus → ((s : ℕ) × IsIn plus s) → ((s : ℕ) × IsIn minus s) → IsDisjoint high low
+      → IsDisjoint plus minus → ((s : ℕ) × IsIn plus s) → ((s : ℕ) × IsIn minus s) → IsDisjoint high low
       → AreClasses g plus minus (classes_by plus minus high) × IsLawful g (classes_by plus minus high)
   told_classes graph connected plus_size minus_size apart r f none =
       let r_in : r.0 < g.states = omega (arith, in_below plus r.0 r.1, plus_size) in

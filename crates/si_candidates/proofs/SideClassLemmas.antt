@@ -7,17 +7,16 @@ use Rattle.std.proofs.lemmas.List.{ext_get_or}
 use Rattle.std.proofs.lemmas.List.FromFn.{get_or-map-range_with_len, length-map-range_with_len}
 use Rattle.si_base.specs.Graph.{StateGraph, IsGraph}
 use Rattle.si_base.specs.Codes.{IsConnected}
-use Rattle.si_base.specs.Sets.{IsIn}
+use Rattle.si_base.specs.Sets.{IsIn, is_in, IsDisjoint}
 use Rattle.si_graph.proofs.SearchLemmas.{in_below}
 use Rattle.si_insert.specs.declared.partition.Class.{Class}
 use Rattle.si_insert.specs.declared.partition.Class.TheVariants.{Low, Rising, Falling}
 use Rattle.si_insert.specs.declared.partition.Unlawful.{Unlawful}
 use Rattle.si_insert.specs.declared.partition.Unlawful.TheVariants.{NoRise, NoFall, Arc}
 use Rattle.si_insert.specs.Partition.{class_of, IsLawful, ShowsUnlawful}
-use Rattle.si_candidates.specs.Blocks.{AreDisjoint}
 use Rattle.si_candidates.specs.Parts.{AreClasses, HaveNoClasses}
-use Rattle.si_candidates.specs.Sides.{AreOfOneSize, AreSided, IsPartitionOfBlocks, between, class_by, differ, flag}
-use Rattle.si_candidates.specs.Sides.{side_classes}
+use Rattle.si_candidates.specs.Loops.Sides.{AreOfOneSize, AreSided, IsPartitionOfBlocks, between, class_by, differ}
+use Rattle.si_candidates.specs.Loops.Sides.{side_classes}
 use Rattle.si_candidates.proofs.LawfulParts.{lawful_are_classes}
 use Rattle.si_candidates.proofs.PartLaws.{classes_lawful}
 use Rattle.si_candidates.proofs.SideLemmas.{classes_told, rising_is, falling_is}
@@ -42,7 +41,7 @@ never_refused g classes (Arc s e t) lawful shown =
 
 module _ (plus minus plus_sides minus_sides : List Bool) (turn : Bool) where
   abbrev told : ℕ → Class
-  told s = class_by (flag plus s) (flag minus s) (differ turn (between plus_sides minus_sides s))
+  told s = class_by (is_in plus s) (is_in minus s) (differ turn (between plus_sides minus_sides s))
 
   pub size_is : length (side_classes plus minus plus_sides minus_sides turn) ≡ length plus
   size_is = length-map-range_with_len told 0 (length plus)
@@ -88,7 +87,7 @@ module _ (g : StateGraph) (plus minus plus_sides minus_sides : List Bool) (turn 
       let is = class_at plus minus plus_sides minus_sides turn s (omega (arith, within, plus_size)) in
       (λ h. tells.0 (sym is ∙ h), λ p. is ∙ tells.1 p)
 
-  pub told_are_classes : IsGraph g → IsConnected g → AreDisjoint plus minus → IsLawful g classes_here
+  pub told_are_classes : IsGraph g → IsConnected g → IsDisjoint plus minus → IsLawful g classes_here
       → AreClasses g plus minus classes_here
   told_are_classes graph connected apart lawful =
       lawful_are_classes g plus minus classes_here graph connected lawful

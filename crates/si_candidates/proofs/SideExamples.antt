@@ -1,9 +1,10 @@
 -- Worked examples: a tree of arcs, the sides of a block along it, and the classes that sides tell.
 use Rattle.std.proofs.Common.{◌≡◌, ℕ, Bool, true, false, List, [], ◌∷◌, refl, arith, inl, inr}
+use Rattle.si_base.specs.Sets.{is_in}
 use Rattle.si_insert.specs.declared.partition.Class.TheVariants.{Low, Rising, High, Falling}
 use Rattle.si_candidates.specs.declared.tree.Link.{Link}
-use Rattle.si_candidates.specs.Tree.{IsMet}
-use Rattle.si_candidates.specs.Sides.{between, class_by, classes_by, differ, flag, leaves, side_classes}
+use Rattle.si_candidates.specs.Loops.Tree.{IsMet}
+use Rattle.si_candidates.specs.Loops.Sides.{between, class_by, classes_by, differ, leaves, side_classes}
 
 -- from s0, the start, to s1, from there to s2, and on to s3
 abbrev three_links : List Link
@@ -22,13 +23,13 @@ second = false ∷ true ∷ false ∷ false ∷ []
 abbrev sides_of_second : List Bool
 sides_of_second = false ∷ false ∷ true ∷ true ∷ []
 
-into_it : flag sides_of_second 1 ≡ differ (flag sides_of_second 0) (leaves second 0 1)
+into_it : is_in sides_of_second 1 ≡ differ (is_in sides_of_second 0) (leaves second 0 1)
 into_it = refl
 
-out_of_it : flag sides_of_second 2 ≡ differ (flag sides_of_second 1) (leaves second 1 2)
+out_of_it : is_in sides_of_second 2 ≡ differ (is_in sides_of_second 1) (leaves second 1 2)
 out_of_it = refl
 
-past_it : flag sides_of_second 3 ≡ differ (flag sides_of_second 2) (leaves second 2 3)
+past_it : is_in sides_of_second 3 ≡ differ (is_in sides_of_second 2) (leaves second 2 3)
 past_it = refl
 
 -- s3 alone: it is left nowhere
@@ -42,16 +43,16 @@ sides_of_fourth = false ∷ false ∷ false ∷ false ∷ []
 abbrev turned : ℕ → Bool
 turned s = differ (between sides_of_second sides_of_fourth 1) (between sides_of_second sides_of_fourth s)
 
-low_at_start : class_by (flag second 0) (flag fourth 0) (turned 0) ≡ Low
+low_at_start : class_by (is_in second 0) (is_in fourth 0) (turned 0) ≡ Low
 low_at_start = refl
 
-rises_there : class_by (flag second 1) (flag fourth 1) (turned 1) ≡ Rising
+rises_there : class_by (is_in second 1) (is_in fourth 1) (turned 1) ≡ Rising
 rises_there = refl
 
-high_between : class_by (flag second 2) (flag fourth 2) (turned 2) ≡ High
+high_between : class_by (is_in second 2) (is_in fourth 2) (turned 2) ≡ High
 high_between = refl
 
-falls_there : class_by (flag second 3) (flag fourth 3) (turned 3) ≡ Falling
+falls_there : class_by (is_in second 3) (is_in fourth 3) (turned 3) ≡ Falling
 falls_there = refl
 
 -- s2 alone: there the value is 1 on the way

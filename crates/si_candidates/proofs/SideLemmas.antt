@@ -1,21 +1,20 @@
 -- Sides of blocks along a tree of arcs, and the classes that they tell.
 use Rattle.std.proofs.Common.{◌≡◌, ◌≢◌, ℕ, zero, suc, ◌+◌, ◌<◌, ◌≤◌, ◌&&◌, ◌↔◌, ◌∙◌, not, Bool, true, false}
-use Rattle.std.proofs.Common.{List, length, get_or, set, replicate, refl, sym, ap, ap₂, subst, arith, inl, inr}
+use Rattle.std.proofs.Common.{List, length, get_or, set, refl, sym, ap, ap₂, subst, arith, inl, inr}
 use Rattle.std.proofs.Common.{get_or-set_same, get_or-set_other, length-set}
 use Rattle.std.proofs.lemmas.Bool.{cases_eq, cases_Bool, true≢false}
-use Rattle.std.proofs.lemmas.List.{get_or_default, ext_get_or, length-replicate}
+use Rattle.std.proofs.lemmas.List.{get_or_default, ext_get_or}
 use Rattle.si_base.specs.declared.ids.Event.{Event}
 use Rattle.si_base.specs.Graph.{StateGraph, Step, IsGraph}
 use Rattle.si_base.proofs.StepCodes.{step_within}
-use Rattle.si_graph.proofs.SearchLemmas.{in_none}
 use Rattle.si_insert.specs.declared.partition.Class.{Class}
 use Rattle.si_insert.specs.declared.partition.Class.TheVariants.{Low, Rising, High, Falling}
 use Rattle.si_insert.specs.Partition.{class_of, may_lead}
 use Rattle.si_insert.specs.Insertion.{entry}
-use Rattle.si_base.specs.Sets.{IsIn}
+use Rattle.si_base.specs.Sets.{IsIn, is_in}
 use Rattle.si_candidates.specs.declared.tree.Link.{Link}
-use Rattle.si_candidates.specs.Tree.{IsLinkAt, IsMet, IsTree}
-use Rattle.si_candidates.specs.Sides.{differ, flag, leaves, between, class_by, AreSides, IsPartitionOfBlocks}
+use Rattle.si_candidates.specs.Loops.Tree.{IsLinkAt, IsMet, IsTree}
+use Rattle.si_candidates.specs.Loops.Sides.{differ, leaves, between, class_by, AreSides, IsPartitionOfBlocks}
 
 -- ---- one of the two, and not both
 differ_not : (a b : Bool) → differ (not a) b ≡ not (differ a b)
@@ -54,15 +53,15 @@ no_difference false false h = refl
 
 -- ---- the sides of a set, link after link
 abbrev pub side_after : List Bool → List Bool → Link → Bool
-side_after block sides l = differ (flag sides l.from) (leaves block l.from l.to)
+side_after block sides l = differ (is_in sides l.from) (leaves block l.from l.to)
 
 -- the sides of the states that the first n links meet; the others wait at the side of the start
 pub record AreSidesTo (g : StateGraph) (tree : List Link) (block : List Bool) (n : ℕ) (sides : List Bool)
     : Type 0 where
   pub size : length sides ≡ g.states
-  pub start : flag sides g.start ≡ false
-  pub along : (k : ℕ) (l : Link) → k < n → IsLinkAt tree k l → flag sides l.to ≡ side_after block sides l
-  pub waits : (t : ℕ) → (IsMet g.start tree n t → ⊥) → flag sides t ≡ false
+  pub start : is_in sides g.start ≡ false
+  pub along : (k : ℕ) (l : Link) → k < n → IsLinkAt tree k l → is_in sides l.to ≡ side_after block sides l
+  pub waits : (t : ℕ) → (IsMet g.start tree n t → ⊥) → is_in sides t ≡ false
 
 met_later : (g : StateGraph) (tree : List Link) (n m t : ℕ) → n ≤ m → IsMet g.start tree n t → IsMet g.start tree m t
 met_later g tree n m t few (inl same) = inl same
@@ -72,36 +71,22 @@ module _ (g : StateGraph) (tree : List Link) (is : IsTree g tree) (block : List 
   abbrev To : ℕ → List Bool → Type 0
   To n sides = AreSidesTo g tree block n sides
 
-  none_set : (t : ℕ) → flag (replicate g.states false) t ≡ false
-  none_set t = elim (cases_Bool (flag (replicate g.states false) t)) [
-    | inl there ↦ absurd (in_none g.states t there)
-    | inr out ↦ out
-  ]
-
-  pub sides_start : To 0 (replicate g.states false)
-  sides_start = record {
-    size = length-replicate g.states false;
-    start = none_set g.start;
-    along = λ k l early at. absurd (omega (arith, early));
-    waits = λ t none. none_set t;
-  }
-
   module _ (n : ℕ) (l : Link) (inside : n < length tree) (at : l ≡ get_or tree n l) (sides after : List Bool)
       (before : To n sides) (size : length after ≡ length sides)
-      (here : flag after l.to ≡ side_after block sides l)
-      (others : (t : ℕ) → t ≢ l.to → flag after t ≡ flag sides t) where
+      (here : is_in after l.to ≡ side_after block sides l)
+      (others : (t : ℕ) → t ≢ l.to → is_in after t ≡ is_in sides t) where
     fresh : (t : ℕ) → IsMet g.start tree n t → t ≢ l.to
     fresh t met same = (is.each n l (inside, sym at)).new (subst (IsMet g.start tree n) same met)
 
-    along_before : (k : ℕ) (m : Link) → k < n → IsLinkAt tree k m → flag after m.to ≡ side_after block after m
+    along_before : (k : ℕ) (m : Link) → k < n → IsLinkAt tree k m → is_in after m.to ≡ side_after block after m
     along_before k m early there =
         let from_met = met_later g tree k n m.from (omega (arith, early)) (is.each k m there).from_met in
         others m.to (fresh m.to (inr (k, m, early, there, refl)))
         ∙ before.along k m early there
         ∙ ap (λ b. differ b (leaves block m.from m.to)) (sym (others m.from (fresh m.from from_met)))
 
-    along_last : (m : Link) → m ≡ l → flag after m.to ≡ side_after block after m
-    along_last m same = subst (λ (x : Link). flag after x.to ≡ side_after block after x) (sym same)
+    along_last : (m : Link) → m ≡ l → is_in after m.to ≡ side_after block after m
+    along_last m same = subst (λ (x : Link). is_in after x.to ≡ side_after block after x) (sym same)
         (here ∙ ap (λ b. differ b (leaves block l.from l.to))
         (sym (others l.from (fresh l.from (is.each n l (inside, sym at)).from_met))))
 
@@ -131,13 +116,6 @@ module _ (g : StateGraph) (tree : List Link) (is : IsTree g tree) (block : List 
     pub sides_same : side_after block sides l ≡ false → To (n + 1) sides
     sides_same even = sides_more n l inside at sides sides before refl
         (before.waits l.to (is.each n l (inside, sym at)).new ∙ sym even) (λ t apart. refl)
-
-  pub sides_all : (n : ℕ) (sides : List Bool) → length tree ≤ n → To n sides → AreSides g tree block sides
-  sides_all n sides all to = record {
-    size = to.size;
-    start = to.start;
-    along = λ k l there. to.along k l (let inside = there.0 in omega (arith, inside, all)) there;
-  }
 
   pub link_within : IsGraph g → (n : ℕ) (l : Link) → n < length tree → l ≡ get_or tree n l
       → (l.from < g.states) × (l.to < g.states)
@@ -234,12 +212,12 @@ low_is false false false = (λ h. (refl, refl, refl), λ h. refl)
 -- ---- two blocks
 module _ (g : StateGraph) (graph : IsGraph g) (plus minus : List Bool) (others : List Class)
     (from : IsPartitionOfBlocks g plus minus others) where
-  rises : (s : ℕ) → s < g.states → flag plus s ≡ is_rising (class_of others s)
-  rises s within = by_test is_rising Rising (flag plus s) (class_of others s) only_rising refl (from.rising s within)
+  rises : (s : ℕ) → s < g.states → is_in plus s ≡ is_rising (class_of others s)
+  rises s within = by_test is_rising Rising (is_in plus s) (class_of others s) only_rising refl (from.rising s within)
 
-  falls : (s : ℕ) → s < g.states → flag minus s ≡ is_falling (class_of others s)
+  falls : (s : ℕ) → s < g.states → is_in minus s ≡ is_falling (class_of others s)
   falls s within =
-      by_test is_falling Falling (flag minus s) (class_of others s) only_falling refl (from.falling s within)
+      by_test is_falling Falling (is_in minus s) (class_of others s) only_falling refl (from.falling s within)
 
   abbrev value : ℕ → Bool
   value s = entry (class_of others s)
@@ -272,7 +250,7 @@ module _ (g : StateGraph) (graph : IsGraph g) (plus minus : List Bool) (others :
         subst (λ (s : ℕ). value s ≡ differ (value g.start) (turned s)) leads (
         one_step l.from grows.along.0 l.to grows.along.1
         ∙ ap (λ b. differ b (differ (leaves plus l.from l.to) (leaves minus l.from l.to))) (value_met n l.from before)
-        ∙ differ_parts (value g.start) (flag plus_sides l.from) (flag minus_sides l.from) _ _
+        ∙ differ_parts (value g.start) (is_in plus_sides l.from) (is_in minus_sides l.from) _ _
         ∙ ap₂ (λ a b. differ (value g.start) (differ a b)) (sym (one.along k l there)) (sym (two.along k l there)))
 
     value_told : (r : ℕ) → r < g.states → IsIn plus r → (s : ℕ) → s < g.states
@@ -284,16 +262,16 @@ module _ (g : StateGraph) (graph : IsGraph g) (plus minus : List Bool) (others :
         value_met (length tree) s (is.all s s_in) ∙ ap (λ b. differ b (turned s)) start
 
     pub class_is : (r : ℕ) → r < g.states → IsIn plus r → (s : ℕ) → s < g.states
-        → class_of others s ≡ class_by (flag plus s) (flag minus s) (differ (turned r) (turned s))
+        → class_of others s ≡ class_by (is_in plus s) (is_in minus s) (differ (turned r) (turned s))
     class_is r r_in rising s s_in =
         class_told (class_of others s)
         ∙ ap₂ (λ a b. class_by a b (value s)) (sym (rises s s_in)) (sym (falls s s_in))
-        ∙ ap (class_by (flag plus s) (flag minus s)) (value_told r r_in rising s s_in)
+        ∙ ap (class_by (is_in plus s) (is_in minus s)) (value_told r r_in rising s s_in)
 
     pub classes_told : (r : ℕ) → r < g.states → IsIn plus r → (classes : List Class)
         → length classes ≡ g.states
         → ((s : ℕ) → s < g.states
-        → class_of classes s ≡ class_by (flag plus s) (flag minus s) (differ (turned r) (turned s)))
+        → class_of classes s ≡ class_by (is_in plus s) (is_in minus s) (differ (turned r) (turned s)))
         → others ≡ classes
     classes_told r r_in rising classes size each =
         ext_get_or Low others classes (from.lawful.count ∙ sym size)

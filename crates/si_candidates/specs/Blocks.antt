@@ -8,7 +8,7 @@ use Rattle.si_base.specs.declared.ids.Event.{Event}
 use Rattle.si_base.specs.declared.graph.Signal.{Signal}
 use Rattle.si_base.specs.Graph.{StateGraph, rise, fall, is_driven}
 use Rattle.si_base.specs.Codes.{CodedGraph}
-use Rattle.si_base.specs.Sets.{IsIn}
+use Rattle.si_base.specs.Sets.{IsDisjoint}
 use Rattle.si_regions.specs.declared.regions.Component.{Component}
 use Rattle.si_regions.specs.Regions.{AreComponents}
 use Rattle.si_candidates.specs.Interval.{IsInterval}
@@ -71,12 +71,8 @@ pub record AreBlocks (c : CodedGraph) (blocks : List (List Bool)) : Type 0 where
 abbrev pub block_at : List (List Bool) → ℕ → List Bool
 block_at blocks k = slice_index_or blocks k []
 
--- no state is in both
-abbrev pub AreDisjoint : List Bool → List Bool → Type 0
-AreDisjoint x y = (s : ℕ) → IsIn x s → IsIn y s → ⊥
-
 -- i and j are the places of two disjoint blocks, i the lower one
 pub record IsCandidate (blocks : List (List Bool)) (i j : ℕ) : Type 0 where
   pub order : i < j
   pub within : j < length blocks
-  pub disjoint : AreDisjoint (block_at blocks i) (block_at blocks j)
+  pub disjoint : IsDisjoint (block_at blocks i) (block_at blocks j)

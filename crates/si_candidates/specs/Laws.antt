@@ -5,14 +5,14 @@ use Rattle.si_base.specs.Graph.{StateGraph, IsGraph}
 use Rattle.si_base.specs.Limits.{max_signals, max_states}
 use Rattle.si_base.specs.Codes.{CodedGraph, IsCoded, IsConnected}
 use Rattle.si_base.specs.Proper.{IsProper, Loss}
-use Rattle.si_base.specs.Sets.{IsIn}
+use Rattle.si_base.specs.Sets.{IsIn, IsDisjoint}
 use Rattle.si_insert.specs.declared.partition.Class.{Class}
 use Rattle.si_insert.specs.declared.partition.Class.TheVariants.{Rising, Falling}
 use Rattle.si_insert.specs.Partition.{class_of, IsLawful}
 use Rattle.si_insert.specs.Accepted.{IsAccepted, copy_count, Delay}
-use Rattle.si_insert.specs.Tests.{InputWaits, WaitsAfter}
+use Rattle.si_insert.specs.Loops.Tests.{InputWaits, WaitsAfter}
 use Rattle.si_candidates.specs.Interval.{IsInterval}
-use Rattle.si_candidates.specs.Blocks.{AreBlocks, AreDisjoint}
+use Rattle.si_candidates.specs.Blocks.{AreBlocks}
 use Rattle.si_candidates.specs.Parts.{AreClasses, HasBothLevels}
 use Rattle.si_candidates.specs.Blocking.{IsClosedUnderInputs, KeepsExits, MaySwitch}
 
@@ -70,7 +70,7 @@ BothLevelsHaveNone = (g : StateGraph) (plus minus : List Bool) (classes : List C
 abbrev pub ClassesOrBothLevels : Type 0
 ClassesOrBothLevels = (g : StateGraph) (plus minus : List Bool) (r f : ℕ)
     → IsGraph g → IsConnected g → length plus ≡ g.states → length minus ≡ g.states
-    → AreDisjoint plus minus → IsIn plus r → IsIn minus f
+    → IsDisjoint plus minus → IsIn plus r → IsIn minus f
     → ((classes : List Class) × AreClasses g plus minus classes)
     ⊎ ((s : ℕ) × HasBothLevels g plus minus s)
 

@@ -1,11 +1,6 @@
 pub mod Interval
 pub mod Blocks
-pub mod Asked
-pub mod Adding
 pub mod Parts
 pub mod Blocking
-pub mod ManySets
-pub mod Earlier
 pub mod Laws
-pub mod Tree
-pub mod Sides
+pub mod Loops

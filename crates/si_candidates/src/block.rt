@@ -1,7 +1,8 @@
 //! A block with what a search asks of it again and again.
 
 ghost use Rattle.std.specs.Prelude.{◌≡◌, ◌↔◌, IfOk, IsTrue, count_by, length};
-ghost use Rattle.si_candidates.specs.Blocks.{AreDisjoint, same_set};
+ghost use Rattle.si_base.specs.Sets.{IsDisjoint};
+ghost use Rattle.si_candidates.specs.Blocks.{same_set};
 
 use si_base::ids::NoMemory;
 use si_base::sets::StateSet;
@@ -61,7 +62,7 @@ impl Block {
     /// Whether no state is in both blocks.
     pub fn is_apart(&self, other: &Block) -> bool
         requires { length self.now ≡ length other.now }
-        ensures { IsTrue result ↔ AreDisjoint self.now other.now }
+        ensures { IsTrue result ↔ IsDisjoint self.now other.now }
     {
         self.set().is_disjoint(other.set())
     }

@@ -4,11 +4,11 @@ ghost use Rattle.std.specs.Prelude.{◌≡◌, ◌≤◌, ◌<◌, [], IfOk, OnO
 ghost use Rattle.std.specs.List.{list_any};
 ghost use Rattle.si_base.specs.Graph.{IsGraph};
 ghost use Rattle.si_base.specs.Limits.{max_signals};
-ghost use Rattle.si_closures.specs.WordSearch.{column};
+ghost use Rattle.si_closures.specs.Loops.WordSearch.{column};
 ghost use Rattle.si_regions.specs.Regions.{AreComponents};
-ghost use Rattle.si_candidates.specs.Adding.{with_block, with_blocks, AddsAsked, AddsFirst};
-ghost use Rattle.si_candidates.specs.Adding.{AddsIntervals};
-ghost use Rattle.si_candidates.specs.Asked.{asked_for, asks_from, AreReady};
+ghost use Rattle.si_candidates.specs.Loops.Adding.{with_block, with_blocks, AddsAsked, AddsFirst};
+ghost use Rattle.si_candidates.specs.Loops.Adding.{AddsIntervals};
+ghost use Rattle.si_candidates.specs.Loops.Asked.{asked_for, asks_from, AreReady};
 ghost use Rattle.si_candidates.specs.Blocks.{AreBlocks, driven_events, state_set, same_set};
 
 use crate::block::Block;

@@ -1,12 +1,11 @@
 //! The only classes that a candidate can have, by the sides of its blocks.
 
 ghost use Rattle.std.specs.Prelude.{◌≡◌, ℕ, ◌<◌, Bool, List, IfOk, IfSome, IfNone, length};
-ghost use Rattle.si_base.specs.Sets.{IsIn};
+ghost use Rattle.si_base.specs.Sets.{IsIn, IsDisjoint};
 ghost use Rattle.si_insert.specs.declared.partition.Class.{Class};
 ghost use Rattle.si_insert.specs.Partition.{IsLawful, class_of};
-ghost use Rattle.si_candidates.specs.Blocks.{AreDisjoint};
 ghost use Rattle.si_candidates.specs.Parts.{AreClasses, HaveNoClasses};
-ghost use Rattle.si_candidates.specs.Sides.{AreSided, IsPartitionOfBlocks, side_classes};
+ghost use Rattle.si_candidates.specs.Loops.Sides.{AreSided, IsPartitionOfBlocks, side_classes};
 
 use crate::sides::{class_by, differ, first_of, is_between};
 use si_base::ids::{NoMemory, StateId};
@@ -32,7 +31,7 @@ pub struct SideClasses<'a> {
 impl<'a> Model for SideClasses<'a> {
     ghost use Rattle.std.specs.Prelude.{List};
     ghost use Rattle.si_insert.specs.declared.partition.Class.{Class};
-    ghost use Rattle.si_candidates.specs.Sides.{AreOfOneSize, side_classes};
+    ghost use Rattle.si_candidates.specs.Loops.Sides.{AreOfOneSize, side_classes};
 
     ghost Value = { List Class };
 
@@ -113,7 +112,7 @@ pub fn classes_by_sides(
     requires sided { AreSided graph.now.graph plus.now minus.now plus_sides.now minus_sides.now }
     requires some_plus { (s : ℕ) × IsIn plus.now s }
     requires some_minus { (s : ℕ) × IsIn minus.now s }
-    requires disjoint { AreDisjoint plus.now minus.now }
+    requires disjoint { IsDisjoint plus.now minus.now }
     ensures classes { IfOk result
         (λ o. IfSome o (AreClasses graph.now.graph plus.now minus.now)) }
     ensures lawful { IfOk result (λ o. IfSome o (IsLawful graph.now.graph)) }

@@ -5,9 +5,8 @@ ghost use Rattle.std.specs.Prelude.{length};
 ghost use Rattle.si_base.specs.Order.{IsFirst};
 ghost use Rattle.si_base.specs.Sets.{IsDisjoint, IsIn};
 ghost use Rattle.si_insert.specs.Partition.{IsLawful};
-ghost use Rattle.si_candidates.specs.Blocks.{AreDisjoint};
 ghost use Rattle.si_candidates.specs.Parts.{AreClasses, ShowsNoClasses};
-ghost use Rattle.si_candidates.specs.Sides.{classes_by};
+ghost use Rattle.si_candidates.specs.Loops.Sides.{classes_by};
 
 use crate::parts::{high_states, states_outside};
 use crate::sides::class_by;
@@ -49,7 +48,7 @@ pub fn classes(
     requires minus_size { length minus.now ≡ graph.now.graph.states }
     requires some_plus { (s : ℕ) × IsIn plus.now s }
     requires some_minus { (s : ℕ) × IsIn minus.now s }
-    requires disjoint { AreDisjoint plus.now minus.now }
+    requires disjoint { IsDisjoint plus.now minus.now }
     ensures classes { IfOk result (AreClasses graph.now.graph plus.now minus.now) }
     ensures lawful { IfOk result (IsLawful graph.now.graph) }
     ensures fault { IfErr result (ShowsNoClasses graph.now.graph plus.now minus.now) }

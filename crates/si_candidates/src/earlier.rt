@@ -3,7 +3,7 @@
 ghost use Rattle.std.specs.Prelude.{OnOk, Contains};
 ghost use Rattle.si_base.specs.Graph.{IsGraph};
 ghost use Rattle.si_base.specs.Codes.{IsDeterministic};
-ghost use Rattle.si_candidates.specs.Earlier.{IsEarlier, IsEarlierBy, Adds};
+ghost use Rattle.si_candidates.specs.Loops.Earlier.{IsEarlier, IsEarlierBy, Adds};
 
 use si_base::graph::Edge;
 use si_base::ids::{NoMemory, StateId};

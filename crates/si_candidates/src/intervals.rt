@@ -4,9 +4,9 @@ ghost use Rattle.std.specs.Prelude.{◌≡◌, ◌≤◌, ◌<◌, ◌+◌, ◌+
 ghost use Rattle.std.specs.Prelude.{IfOk, OnOk, All, Contains, length};
 ghost use Rattle.si_base.specs.declared.ids.Event.{Event};
 ghost use Rattle.si_base.specs.Bits.{bit};
-ghost use Rattle.si_closures.specs.WordSearch.{column, HasBit};
-ghost use Rattle.si_closures.specs.Words.{IsEventAt};
-ghost use Rattle.si_candidates.specs.Asked.{asked_for, asks_from, AreReady};
+ghost use Rattle.si_closures.specs.Loops.WordSearch.{column, HasBit};
+ghost use Rattle.si_closures.specs.Loops.Words.{IsEventAt};
+ghost use Rattle.si_candidates.specs.Loops.Asked.{asked_for, asks_from, AreReady};
 ghost use Rattle.si_candidates.specs.Blocks.{state_set};
 ghost use Rattle.si_candidates.specs.Interval.{IsInterval};
 

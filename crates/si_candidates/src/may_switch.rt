@@ -5,11 +5,11 @@ ghost use Rattle.std.specs.Prelude.{Contains, length};
 ghost use Rattle.si_base.specs.Graph.{IsGraph};
 ghost use Rattle.si_base.specs.Sets.{IsIn};
 ghost use Rattle.si_base.specs.Codes.{IsDeterministic};
-ghost use Rattle.si_closures.specs.WordSearch.{HasBit};
+ghost use Rattle.si_closures.specs.Loops.WordSearch.{HasBit};
 ghost use Rattle.si_candidates.specs.Blocking.{MaySwitch, MayPass, MayLeave};
-ghost use Rattle.si_candidates.specs.Earlier.{AreEarlier};
-ghost use Rattle.si_candidates.specs.ManySets.{AreAllTold, ArePacked, AreAllPacked};
-ghost use Rattle.si_candidates.specs.ManySets.{Tells, TellsOf, EachTells, EachTellsOf};
+ghost use Rattle.si_candidates.specs.Loops.Earlier.{AreEarlier};
+ghost use Rattle.si_candidates.specs.Loops.ManySets.{AreAllTold, ArePacked, AreAllPacked};
+ghost use Rattle.si_candidates.specs.Loops.ManySets.{Tells, TellsOf, EachTells, EachTellsOf};
 
 use crate::block::Block;
 use crate::earlier::{EarlierStep, add_steps};

@@ -3,8 +3,8 @@
 ghost use Rattle.std.specs.Prelude.{◌≡◌, ℕ, ◌<◌, ◌↔◌, IfOk, OnOk, IsTrue, length};
 ghost use Rattle.si_base.specs.Sets.{IsIn};
 ghost use Rattle.si_graph.specs.Closure.{IsNext};
-ghost use Rattle.si_graph.specs.Reach.{MarksAll};
-ghost use Rattle.si_regions.specs.Searching.{AreMarksOf};
+ghost use Rattle.si_graph.specs.Loops.Reach.{MarksAll};
+ghost use Rattle.si_regions.specs.Loops.Searching.{AreMarksOf};
 ghost use Rattle.si_candidates.specs.Parts.{IsHigh, IsOther};
 
 use si_base::ids::{NoMemory, StateId};

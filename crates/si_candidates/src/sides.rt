@@ -3,9 +3,9 @@
 
 ghost use Rattle.std.specs.Prelude.{◌≡◌, ℕ, ◌<◌, IfOk, length};
 ghost use Rattle.si_base.specs.Sets.{IsIn};
-ghost use Rattle.si_candidates.specs.Sides as of_sides;
-ghost use Rattle.si_candidates.specs.Sides.{AreSides, between};
-ghost use Rattle.si_candidates.specs.Tree.{IsTree};
+ghost use Rattle.si_candidates.specs.Loops.Sides as of_sides;
+ghost use Rattle.si_candidates.specs.Loops.Sides.{AreSides, between};
+ghost use Rattle.si_candidates.specs.Loops.Tree.{IsTree};
 
 use crate::tree::Link;
 use si_base::ids::{NoMemory, StateId};

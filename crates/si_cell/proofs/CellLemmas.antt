@@ -4,7 +4,7 @@ use Rattle.std.proofs.Common.{length, map, get_or, filter, bytes_eq, codes, Opti
 use Rattle.std.proofs.Common.{arith, if◌then◌else◌, inl, inr, append_assoc, unwrap_or, subst, AllPairs, All, IsTrue}
 use Rattle.std.proofs.Common.{nat_le}
 use Rattle.std.specs.List.{list_any, list_all, slice_split, onto_first}
-use Rattle.std.proofs.lemmas.Bool.{true≢false, cases_Bool, false_from_ne_true}
+use Rattle.std.proofs.lemmas.Bool.{true≢false, cases_Bool, false_from_ne_true, not-false, or_parts}
 use Rattle.std.proofs.lemmas.Bool.Decides.{eqb_tells, leb_tells}
 use Rattle.std.proofs.lemmas.List.{length_push, length-map, get_or-map, get_or_append_left, append-nil}
 use Rattle.std.proofs.lemmas.List.Quantifiers.{all_pairs_push}
@@ -22,29 +22,23 @@ use Rattle.si_base.specs.TextFaults.{ShowsKind}
 use Rattle.si_base.specs.declared.ids.Literal.{Literal}
 use Rattle.si_words.proofs.FaultLemmas.{both, not_when}
 use Rattle.si_words.proofs.SumWordLemmas.{list_any-map, unmarked}
-use Rattle.si_words.specs.GateLines.{place_in}
+use Rattle.si_words.specs.GateLines.{place_in, literal_of}
 use Rattle.si_words.specs.Names.{stands_in}
 use Rattle.si_words.specs.Sums.{is_one, is_sum, literal_name, parts_at}
 use Rattle.si_cell.specs.CellWords.{is_cell_sum, cell_fault, cell_name_fault, pin_fault}
-use Rattle.si_cell.specs.CellWords.{literal_fault, cube_fault, sum_fault, literal_of, cube_of, sum_of, declared}
+use Rattle.si_cell.specs.CellWords.{literal_fault, cube_fault, sum_fault, cube_of, sum_of, declared}
 use Rattle.si_cell.specs.Library.{Cell, IsCell, AreCells, IsPinName, own}
 use Rattle.si_cell.specs.Limits.{max_cells, max_pins}
-use Rattle.si_cell.specs.Literals.{has_literal, same_literal, in_literal_order, both_from, IsRising}
+use Rattle.si_cell.specs.Literals.{has_literal, same_literal, in_literal_order, both_from}
 use Rattle.si_base.proofs.BitFacts.{set_same, set_flip, beq_false}
 use Rattle.si_base.proofs.GraphSteps.{beq-true}
 use Rattle.si_base.specs.Bits.{bit, flip, IsSet}
 use mathlib.Core.Bool.{beq}
-use Rattle.si_cell.proofs.OrderLemmas.{rising_of, makes_in_order}
+use Rattle.si_cube.specs.Literals.{InSignalOrder}
+use Rattle.si_cube.proofs.LiteralLemmas.{rising_of}
+use Rattle.si_cell.proofs.OrderLemmas.{makes_in_order}
 use Rattle.si_cell.proofs.CubeLemmas.{InCube, in_none, in_more, repeated, undeclared, is_declared, found, same_is}
 use Rattle.si_cell.proofs.CubeLemmas.{some_of, passes_at, names_same, same_name, and_first, and_second}
-
-pub not_true : (b : Bool) → not b ≡ false → b ≡ true
-not_true true e = refl
-not_true false e = absurd (true≢false e)
-
-or_false : (a b : Bool) → (a || b) ≡ false → (a ≡ false) × (b ≡ false)
-or_false true b e = absurd (true≢false e)
-or_false false b e = (refl, e)
 
 -- ---- pins
 pub good_pin : (before : List (List ℕ)) (pin : List ℕ) → pin_fault before pin ≡ None
@@ -52,9 +46,9 @@ pub good_pin : (before : List (List ℕ)) (pin : List ℕ) → pin_fault before 
 good_pin before pin none =
     let parts = both (when (not (is_signal_name pin) || bytes_eq own pin) BadName) _ none in
     let later = both (when (stands_in before pin) Repeated) _ parts.1 in
-    let name = or_false _ _ (not_when _ BadName parts.0) in
+    let name = or_parts _ _ (not_when _ BadName parts.0) in
     let room = not_when (nat_le max_pins (length before)) TooManyPins later.1 in (
-      record { signal_name = not_true _ name.0; other = λ e. true≢false (sym (same_name own pin (sym e)) ∙ name.1) },
+      record { signal_name = not-false _ name.0; other = λ e. true≢false (sym (same_name own pin (sym e)) ∙ name.1) },
       not_when _ Repeated later.0,
       elim (leb_tells max_pins (length before)) [
         | inl full ↦ absurd (true≢false (sym full.0 ∙ room))
@@ -73,7 +67,7 @@ each_declared names before [] none = refl
 each_declared names before (w ∷ ws) none =
     let parts = both (literal_fault names before w) _ none in
     let here = both (when (list_any (λ v. bytes_eq (literal_name w) (literal_name v)) before) Repeated) _ parts.0 in
-    rw (not_true _ (not_when _ Undeclared here.1)) (each_declared names (before ++ w ∷ []) ws parts.1)
+    rw (not-false _ (not_when _ Undeclared here.1)) (each_declared names (before ++ w ∷ []) ws parts.1)
 
 split_all : (q p : List ℕ → Bool) (ws : List (List ℕ)) → list_all q ws ≡ true
     → list_all (list_all q) (slice_split p ws) ≡ true
@@ -184,7 +178,7 @@ makes_cube names before (w ∷ ws) care value so_far none =
     let (care3, value3, whole) = makes_cube names (before ++ w ∷ []) ws care2 value2 more parts.1 in
     (care3, value3, rw append_assoc at whole)
 
-cube_rising : (names ws : List (List ℕ)) → cube_fault names ws ≡ None → IsRising (cube_of names ws)
+cube_rising : (names ws : List (List ℕ)) → cube_fault names ws ≡ None → InSignalOrder (cube_of names ws)
 cube_rising names ws none = elim (cases_Bool (is_one (codes "1") ws)) [
   | inl one ↦ rw one (λ j k d order within. absurd (omega arith))
   | inr many ↦
@@ -192,18 +186,18 @@ cube_rising names ws none = elim (cases_Bool (is_one (codes "1") ws)) [
       rw (many, ← makes_in_order (map (literal_of names) ws) care value made.made) (rising_of care value)
 ]
 
-sum_rising : (names ws : List (List ℕ)) → sum_fault names ws ≡ None → All IsRising (sum_of names ws)
+sum_rising : (names ws : List (List ℕ)) → sum_fault names ws ≡ None → All InSignalOrder (sum_of names ws)
 sum_rising names ws none = elim (cases_Bool (is_one (codes "0") ws)) [
-  | inl one ↦ rw one (All-nil IsRising)
+  | inl one ↦ rw one (All-nil InSignalOrder)
   | inr many ↦ rw many (each_cube (parts_at (codes "+") ws) (rw many at none))
 ]
   where
     each_cube : (parts : List (List (List ℕ))) → first_in (cube_fault names) parts ≡ None
-        → All IsRising (map (cube_of names) parts)
-    each_cube [] none = All-nil IsRising
+        → All InSignalOrder (map (cube_of names) parts)
+    each_cube [] none = All-nil InSignalOrder
     each_cube (part ∷ parts) none =
         let faults = both (cube_fault names part) _ none in
-        All-cons IsRising _ _ (cube_rising names part faults.0) (each_cube parts faults.1)
+        All-cons InSignalOrder _ _ (cube_rising names part faults.0) (each_cube parts faults.1)
 
 -- a word whose name is that of the own output, and that is not complemented
 plain_own : (w : List ℕ) → literal_name w ≡ codes "q" → bytes_eq (codes "q'") w ≡ false → w ≡ codes "q"
@@ -245,7 +239,7 @@ own_plain pins ws none other =
     none_all : (ws : List (List ℕ)) → stands_in ws (codes "q'") ≡ false
         → list_all (λ w. not (bytes_eq (codes "q'") w)) ws ≡ true
     none_all [] e = refl
-    none_all (w ∷ ws) e = let parts = or_false (bytes_eq (codes "q'") w) _ e in rw parts.0 (none_all ws parts.1)
+    none_all (w ∷ ws) e = let parts = or_parts (bytes_eq (codes "q'") w) _ e in rw parts.0 (none_all ws parts.1)
 
     each : (w : List ℕ) → is_declared (declared pins) w ≡ true → not (bytes_eq (codes "q'") w) ≡ true
         → (literal_of (declared pins) w).sig ≡ length pins → IsTrue (bytes_eq w (literal_name w))
@@ -267,7 +261,7 @@ good_name cells name none =
     let parts = both (when (not (is_signal_name name)) BadName) _ none in
     let later = both (when (stands_in cells name) Repeated) _ parts.1 in
     let room = not_when (nat_le max_cells (length cells)) TooManyCells later.1 in (
-      not_true _ (not_when _ BadName parts.0),
+      not-false _ (not_when _ BadName parts.0),
       not_when _ Repeated later.0,
       elim (leb_tells max_cells (length cells)) [
         | inl full ↦ absurd (true≢false (sym full.0 ∙ room))
@@ -293,7 +287,7 @@ is_cell name pins ws sum good pins_good distinct few is none other =
           λ e. distinct j k d order wider (at_j ∙ e ∙ sym at_k));
       few_pins = few;
       sum = λ k d inside. record {
-        rising = subst (All IsRising) (sym is) (sum_rising (declared pins) ws none) k d inside;
+        rising = subst (All InSignalOrder) (sym is) (sum_rising (declared pins) ws none) k d inside;
         there = λ i l within. (let below = there k d inside i l within in omega (arith, count, below));
       };
       own_plain = subst (All (All (λ (l : Literal). l.sig ≡ length pins
@@ -387,7 +381,7 @@ module _ (cells : List (List ℕ)) (named : List ℕ) (words : List (List ℕ)) 
       let front = both (cell_name_fault cells named) _ none in
       let back = both (when (not (is_cell_sum ws)) BadLine) _ no_fault in
       let (good, distinct, few) = good_pins words front.1 in
-      let form : is_cell_sum ws ≡ true = not_true _ (not_when _ BadLine back.0) in
+      let form : is_cell_sum ws ≡ true = not-false _ (not_when _ BadLine back.0) in
       rw (name_is, pins_are) (is_cell named words ws sum (good_name cells named front.0).0 good distinct few
       (sum_is ∙ ap (λ (t : List (List ℕ)). sum_of t ws) is)
       (ap (λ (t : List (List ℕ)). sum_fault t ws) (sym is) ∙ back.1) (plain_words ws form))

@@ -1,9 +1,9 @@
 -- The cube of a cell's line, read one word after the other.
-use Rattle.std.proofs.Common.{◌≡◌, ℕ, zero, suc, filter, ◌+◌, ◌<◌, ◌≤◌, ◌&&◌, ◌||◌, Bool, true, false, List, [], ◌∷◌}
+use Rattle.std.proofs.Common.{◌≡◌, ℕ, zero, suc, filter, ◌+◌, ◌<◌, ◌≤◌, ◌&&◌, Bool, true, false, List, [], ◌∷◌}
 use Rattle.std.proofs.Common.{◌++◌, length, map, take, drop, get_or, position, bytes_eq, codes, Bor, Option, Some, None}
 use Rattle.std.proofs.Common.{refl, sym, ap, ◌∙◌, arith, inl, inr, unwrap_or}
 use Rattle.std.specs.List.{list_any, list_all, position_or_len}
-use Rattle.std.proofs.lemmas.Bool.{true≢false, cases_Bool, cases_lt, false_from_ne_true}
+use Rattle.std.proofs.lemmas.Bool.{true≢false, cases_Bool, cases_lt, false_from_ne_true, or_right}
 use Rattle.std.proofs.lemmas.Bool.Decides.{eqb_tells}
 use Rattle.std.proofs.lemmas.List.{length-map, take_all, drop_all, map_push}
 use Rattle.std.proofs.lemmas.List.Folds.{list_any_at, list_any_none, list_all-append}
@@ -17,24 +17,19 @@ use Rattle.si_base.specs.Faults.{first_after}
 use Rattle.si_base.specs.declared.fault.TextKind.TheVariants.{Repeated, Undeclared}
 use Rattle.si_base.specs.declared.ids.Literal.{Literal}
 use Rattle.si_cube.specs.Literals.{literals_of}
-use Rattle.si_words.specs.GateLines.{place_in}
+use Rattle.si_words.specs.GateLines.{place_in, literal_of}
 use Rattle.si_words.specs.Names.{stands_in}
-use Rattle.si_words.specs.Reads.{words_now}
+use Rattle.si_words.specs.Loops.Reads.{words_now}
 use Rattle.si_words.specs.Sums.{is_one, literal_name}
 use Rattle.si_words.proofs.FirstFaultLemmas.{take_word, stops, goes}
 use Rattle.si_words.proofs.SumWordLemmas.{list_any-map}
-use Rattle.si_cell.specs.CellWords.{literal_fault, cube_fault, literal_of, cube_of}
+use Rattle.si_words.proofs.EventLemmas.{none_passes}
+use Rattle.si_cell.specs.CellWords.{literal_fault, cube_fault, cube_of}
 use Rattle.si_cell.specs.Literals.{same_literal, has_literal, both_from, in_literal_order}
 use Rattle.si_cell.proofs.OrderLemmas.{Makes, makes_none, makes_more, there_is, cared_for, makes_in_order}
 
 -- ---- places
 module _ (p : List ℕ → Bool) (names : List (List ℕ)) where
-  pub none_passes : None ≡ position p names → list_any p names ≡ false
-  none_passes none = elim (cases_lt (position_or_len p names) (length names)) [
-    | inl within ↦ absurd (grind arith)
-    | inr past ↦ list_any_none p names (λ k d below. fails_before_first p names k d (omega arith))
-  ]
-
   pub passes_at : (k : ℕ) → Some k ≡ position p names → (k < length names) × (p (get_or names k []) ≡ true)
   passes_at k some = elim (cases_lt (position_or_len p names) (length names)) [
     | inl within ↦ (let e : k ≡ position_or_len p names = grind arith in rw e
@@ -80,10 +75,6 @@ pub and_second : (a b : Bool) → (a && b) ≡ true → b ≡ true
 and_second true b e = e
 and_second false b e = absurd (true≢false (sym e))
 
-or_second : (a b : Bool) → b ≡ true → (a || b) ≡ true
-or_second true b e = refl
-or_second false b e = e
-
 -- one that passes a test: it passes each test that all pass, and shows that one passes each test that it passes
 pub found : {A : Type 0} (p : A → Bool) (xs : List A) → list_any p xs ≡ true
     → (x : A) × (p x ≡ true) × ((q : A → Bool) → list_all q xs ≡ true → q x ≡ true) × ((r : A → Bool) → r x ≡ true
@@ -97,7 +88,7 @@ found {A} p (x ∷ xs) any = elim (cases_Bool (p x)) [
         y,
         passes,
         (λ q every. all q (and_second (q x) (list_all q xs) every)),
-        (λ r one. or_second (r x)
+        (λ r one. or_right (r x)
             (list_any r xs) (some r one)),
       )
 ]
@@ -198,9 +189,6 @@ module _ (declared : List (List ℕ)) (words : List (Bor (List ℕ))) where
     pub told : first_after (literal_fault declared) (take i (words_now words)) (drop i (words_now words))
         ≡ first_after (literal_fault declared) [] (words_now words)
     pub so_far : InCube declared (take i (words_now words)) care value
-
-  pub start : Reading 0 0 0
-  start = record { told = refl; so_far = in_none declared }
 
   module _ (i : ℕ) (d : Bor (List ℕ)) (inside : i < length words) (care value : ℕ)
       (reading : Reading i care value) where

@@ -1,5 +1,5 @@
 -- An instance's sum has its value.
-use Rattle.std.proofs.Common.{◌≡◌, ℕ, zero, suc, ◌⊎◌, ◌+◌, ◌*◌, ◌/◌, ◌%◌, ◌<◌, ◌≤◌, ◌==◌, ◌&&◌, ◌||◌, not, Bool, true}
+use Rattle.std.proofs.Common.{◌≡◌, ℕ, zero, suc, ◌⊎◌, ◌+◌, ◌<◌, ◌≤◌, ◌==◌, ◌&&◌, ◌||◌, not, Bool, true}
 use Rattle.std.proofs.Common.{false, List, [], ◌∷◌, ◌++◌, length, map, filter, get_or, if◌then◌else◌, All, refl, sym}
 use Rattle.std.proofs.Common.{ap, ◌∙◌, arith, inl, inr}
 use Rattle.std.specs.List.{list_all}
@@ -14,6 +14,8 @@ use Rattle.si_base.specs.Bits.{bit}
 use Rattle.si_base.specs.Limits.{code_width}
 use Rattle.si_base.specs.Netlist.{Sum, literal_value, sum_value}
 use Rattle.si_base.specs.declared.ids.Literal.{Literal}
+use Rattle.si_base.proofs.Booleans.{same_if}
+use Rattle.si_base.proofs.BitFacts.{lowest_bit, without_lowest}
 use Rattle.si_cell.specs.Expanded.{placed, placed_sum, plain, sources, expanded}
 use Rattle.si_cell.specs.Library.{Library, Instance, IsLibrary, IsInstance, cell_at, no_cell, code_of, pin_values}
 use Rattle.si_cell.specs.Library.{instance_value}
@@ -21,19 +23,11 @@ use Rattle.si_cell.specs.Literals.{same_literal, has_literal, complement, both_f
 use Rattle.si_cell.proofs.CubeLemmas.{found, same_is, same_self, and_first, and_second}
 
 -- ---- the bits of a code of values
-doubled : (b : Bool) (m : ℕ) → ((if b then 1 else 0) + 2 * m) / 2 ≡ m
-doubled true m = omega arith
-doubled false m = omega arith
-
-lowest : (b : Bool) (m : ℕ) → (((if b then 1 else 0) + 2 * m) % 2 == 1) ≡ b
-lowest true m = let e : (1 + 2 * m) % 2 ≡ 1 = omega arith in rw e refl
-lowest false m = let e : (0 + 2 * m) % 2 ≡ 0 = omega arith in rw e refl
-
 pub bit_of : (values : List Bool) (k : ℕ) → bit (code_of values) k ≡ get_or values k false
 bit_of [] k = rw (bit_at-zero k) refl
-bit_of (v ∷ vs) zero = ap (λ (x : ℕ). x == 1) (bit_at_lowest (code_of (v ∷ vs))) ∙ lowest v (code_of vs)
+bit_of (v ∷ vs) zero = ap (λ (x : ℕ). x == 1) (bit_at_lowest (code_of (v ∷ vs))) ∙ lowest_bit v (code_of vs)
 bit_of (v ∷ vs) (suc k) = ap (λ (n : ℕ). n == 1) (bit_at-suc (code_of (v ∷ vs)) k
-    ∙ ap (λ (n : ℕ). bit_at n k) (doubled v (code_of vs))) ∙ bit_of vs k
+    ∙ ap (λ (n : ℕ). bit_at n k) (without_lowest v (code_of vs))) ∙ bit_of vs k
 
 -- ---- literals
 value_complement : (code : ℕ) (m : Literal) → literal_value code (complement m) ≡ not (literal_value code m)
@@ -102,12 +96,6 @@ clash_zero code cube meets =
     let two : literal_value code (complement l) ≡ true = ap (literal_value code) (same_is (complement l) m same)
     ∙ every (literal_value code) both in
     true≢false (sym two ∙ value_complement code l ∙ ap not one))
-
-ext : (a b : Bool) → (a ≡ true → b ≡ true) → (b ≡ true → a ≡ true) → a ≡ b
-ext true true f g = refl
-ext true false f g = sym (f refl)
-ext false true f g = g refl
-ext false false f g = refl
 
 -- literals in literal order have the same value
 module _ (p : Literal → Bool) (cube : List Literal) where
@@ -180,7 +168,7 @@ pub order_value : (code : ℕ) (cube : List Literal) → All (λ (l : Literal). 
     → list_all (literal_value code) (in_literal_order cube) ≡ list_all (literal_value code) cube
 unfolding in_literal_order
 order_value code cube small =
-    ext _ _ (λ all. everyone (literal_value code) cube cube (λ l there.
+    same_if _ _ (λ all. everyone (literal_value code) cube cube (λ l there.
     at_literal (literal_value code) cube (both_from code_width 0) l (both_there code_width 0 l (omega arith) (omega
     (arith, all_small code_width cube small l there))) there all))
     (λ all. kept (literal_value code) cube (both_from code_width 0) all)

@@ -2,21 +2,21 @@
 use Rattle.std.proofs.Common.{◌≡◌, ℕ, zero, suc, ◌+◌, ◌<◌, ◌≤◌, not, Bool, true, false, List, [], ◌∷◌, ◌++◌, length}
 use Rattle.std.proofs.Common.{map, filter, if◌then◌else◌, bytes_eq, codes, Option, Some, None, All, refl, sym, ◌∙◌}
 use Rattle.std.proofs.Common.{arith, inl, inr}
-use Rattle.std.proofs.lemmas.Bool.{true≢false, cases_Bool}
+use Rattle.std.proofs.lemmas.Bool.{true≢false, cases_Bool, not-false}
 use Rattle.std.proofs.lemmas.List.{append-nil, length-map}
 use Rattle.std.proofs.lemmas.List.Elements.{All-nil, All-cons, All-push, filter_passes}
 use Rattle.std.proofs.lemmas.List.Kept.{AllPairs-cons}
-use Rattle.si_base.specs.Faults.{when, ◌otherwise◌, first_after, at_line}
+use Rattle.si_base.specs.Faults.{when, first_after}
 use Rattle.si_base.specs.Limits.{code_width}
 use Rattle.si_base.specs.Lines.{Line, has_bad_byte, numbered}
 use Rattle.si_base.specs.Netlist.{Sum}
 use Rattle.si_base.specs.WellFormed.{IsCube, IsSum}
 use Rattle.si_base.specs.Words.{is_signal_name}
-use Rattle.si_base.specs.declared.fault.TextKind.{TextKind}
 use Rattle.si_base.specs.declared.fault.TextKind.TheVariants.{BadByte, BadLine, BadName}
 use Rattle.si_base.specs.declared.ids.Literal.{Literal}
-use Rattle.si_words.proofs.FaultLemmas.{both, not_when}
+use Rattle.si_words.proofs.FaultLemmas.{both, not_when, line_none}
 use Rattle.si_words.specs.Sums.{is_empty}
+use Rattle.si_cube.specs.Literals.{InSignalOrder}
 use Rattle.si_cell.specs.CellWords.{CellWords, cell_words, cell_fault, cell_name_fault, pin_fault, cell_of, is_cell_sum}
 use Rattle.si_cell.specs.Expanded.{placed, placed_sum, plain, sources, expanded}
 use Rattle.si_cell.specs.Library.{Library, Instance, Cell, IsCell, AreCells, IsLibrary, IsInstance, cell_at}
@@ -24,9 +24,8 @@ use Rattle.si_cell.specs.LibraryText.{words, name_words_fault, name_fault, name_
 use Rattle.si_cell.specs.LibraryText.{cell_words_fault, cell_line_fault, with_line, spelled, cell_lines_fault, cells_in}
 use Rattle.si_cell.specs.LibraryText.{lines_fault, library_in, library_fault, library_of}
 use Rattle.si_cell.specs.Literals.{same_literal, has_literal, complement, both_from, clashes, in_literal_order}
-use Rattle.si_cell.specs.Literals.{IsRising}
 use Rattle.si_cell.proofs.CubeLemmas.{found, same_is}
-use Rattle.si_cell.proofs.CellLemmas.{not_true, good_pins, good_name, is_cell, more_cells, plain_words}
+use Rattle.si_cell.proofs.CellLemmas.{good_pins, good_name, is_cell, more_cells, plain_words}
 use Rattle.si_cell.proofs.ExpandedLemmas.{all_small, placed_small, sum_inside}
 
 -- ---- expanded sums
@@ -60,15 +59,15 @@ module _ (cube : List Literal) (apart : clashes cube ≡ false) where
           (omega arith) later
       by_there false false rest later = later
 
-  rises : (n i : ℕ) → IsRising (filter (has_literal cube) (both_from n i))
+  rises : (n i : ℕ) → InSignalOrder (filter (has_literal cube) (both_from n i))
   rises zero i = λ j k d order within. absurd (omega arith)
   rises (suc n) i = by_there (has_literal cube (record { sig = i; plain = true })) (has_literal cube
       (record { sig = i; plain = false })) (filter (has_literal cube) (both_from n (i + 1))) (not_both i)
       (λ k d inside. (let low = above n (i + 1) k d inside in omega (arith, low))) (rises n (i + 1))
     where
       by_there : (one other : Bool) (rest : List Literal) → (one ≡ true → other ≡ true → ⊥)
-          → All (λ (l : Literal). i < l.sig) rest → IsRising rest
-          → IsRising (if one then record { sig = i; plain = true } ∷
+          → All (λ (l : Literal). i < l.sig) rest → InSignalOrder rest
+          → InSignalOrder (if one then record { sig = i; plain = true } ∷
           (if other then record { sig = i; plain = false } ∷ rest else rest) else
           (if other then record { sig = i; plain = false } ∷ rest else rest))
       by_there true true rest never low later = absurd (never refl refl)
@@ -107,11 +106,6 @@ expanded_is_sum n library i z good is small within =
     (sum_inside library i z good is)
 
 -- ---- libraries of texts
-line_none : (n : ℕ) (fault : Option TextKind) (later : Option (ℕ × TextKind)) → (at_line n fault otherwise later) ≡ None
-    → (fault ≡ None) × (later ≡ None)
-line_none n None later none = (refl, none)
-line_none n (Some kind) later none = absurd cc
-
 cell_added : (cells : List Cell) (o : Option CellWords) → AreCells cells → cell_fault (names_of cells) o ≡ None
     → AreCells (cells ++ spelled o)
 cell_added cells None good none = absurd (no_some none)
@@ -124,7 +118,7 @@ cell_added cells (Some w) good none =
     let pinned = both (first_after pin_fault [] w.pins) _ named.1 in
     let name = good_name (names_of cells) w.name named.0 in
     let pins = good_pins w.pins pinned.0 in
-    let plain_form = plain_words w.sum (not_true _ (not_when _ BadLine form.0)) in
+    let plain_form = plain_words w.sum (not-false _ (not_when _ BadLine form.0)) in
     more_cells cells (cell_of w) good (is_cell w.name w.pins w.sum _ name.0 pins.0 pins.1 pins.2 refl pinned.1
     plain_form) name.1
     (rw length-map at name.2)
@@ -147,7 +141,7 @@ cells_good last cells (line ∷ lines) good none =
           (words line.1) good other here.1) (rw other at parts.1))
     ]
 
-no_cells : AreCells []
+pub no_cells : AreCells []
 no_cells = record {
   each = All-nil IsCell;
   distinct = λ j k d order within. absurd (omega arith);
@@ -160,7 +154,7 @@ name_good (a ∷ []) none = absurd cc
 name_good (a ∷ b ∷ c ∷ ws) none = absurd cc
 name_good (head ∷ name ∷ []) none =
     let parts = both (when (not (bytes_eq (codes ".library") head)) BadLine) _ none in
-    not_true _ (not_when _ BadName parts.1)
+    not-false _ (not_when _ BadName parts.1)
 
 lines_good : (last : ℕ) (lines : List Line) → lines_fault last lines ≡ None → IsLibrary (library_in lines)
 lines_good last [] none = absurd cc

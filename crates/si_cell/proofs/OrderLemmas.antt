@@ -1,19 +1,18 @@
 -- Cubes that are built one literal after the other, and their literals in literal order.
-use Rattle.std.proofs.Common.{◌≡◌, ℕ, zero, suc, ◌+◌, ◌<◌, ◌≤◌, ◌&&◌, ◌||◌, Bool, true, false, List, [], ◌∷◌, ◌++◌}
-use Rattle.std.proofs.Common.{filter, if◌then◌else◌, All, refl, sym, ◌∙◌, arith, inl, inr}
+use Rattle.std.proofs.Common.{◌≡◌, ℕ, zero, suc, ◌+◌, ◌&&◌, ◌||◌, Bool, true, false, List, [], ◌∷◌, ◌++◌}
+use Rattle.std.proofs.Common.{filter, if◌then◌else◌, refl, sym, ◌∙◌, inl, inr}
 use Rattle.std.proofs.lemmas.Bool.{true≢false}
 use Rattle.std.proofs.lemmas.Bool.Decides.{eqb_tells}
 use Rattle.std.proofs.lemmas.List.Folds.{list_any-append}
-use Rattle.std.proofs.lemmas.List.Elements.{All-nil, All-cons}
-use Rattle.std.proofs.lemmas.List.Kept.{AllPairs-cons}
 use Rattle.std.proofs.lemmas.Nat.Bits.{bit_at-zero}
+use Rattle.std.proofs.Math.Bool.{or-false}
 use mathlib.Core.Bool.{beq}
 use Rattle.si_base.proofs.GraphSteps.{beq-refl}
 use Rattle.si_base.specs.Bits.{bit, IsSet}
 use Rattle.si_base.specs.Limits.{code_width}
 use Rattle.si_base.specs.declared.ids.Literal.{Literal}
 use Rattle.si_cube.specs.Literals.{literals_from, literals_of, IsWithin}
-use Rattle.si_cell.specs.Literals.{same_literal, has_literal, both_from, in_literal_order, IsRising}
+use Rattle.si_cell.specs.Literals.{same_literal, has_literal, both_from, in_literal_order}
 
 -- these literals make the cube of this care and these values
 pub record Makes (literals : List Literal) (care value : ℕ) : Type 0 where
@@ -43,10 +42,6 @@ either false one plain other same = by_bits plain other
     by_bits false true = refl
     by_bits false false = refl
 
-or_false : (b : Bool) → (b || false) ≡ b
-or_false true = refl
-or_false false = refl
-
 -- one more literal, which its complement doesn't precede
 pub makes_more : (literals : List Literal) (m : Literal) (care value care2 value2 : ℕ) → Makes literals care value
     → (bit care m.sig ≡ true → bit value m.sig ≡ m.plain) → IsSet care m.sig true care2
@@ -63,9 +58,9 @@ makes_more literals m care value care2 value2 made agree s t = record {
     by_sig : (l : Literal) → ((bit care l.sig && beq (bit value l.sig) l.plain) || (same_literal l m
         || false)) ≡ (bit care2 l.sig && beq (bit value2 l.sig) l.plain)
     by_sig l = elim (eqb_tells l.sig m.sig) [
-      | inl same ↦ rw (or_false (same_literal l m), same.0, same.1, s.there, t.there) (either (bit care m.sig)
+      | inl same ↦ rw (or-false (same_literal l m), same.0, same.1, s.there, t.there) (either (bit care m.sig)
           (bit value m.sig) m.plain l.plain agree)
-      | inr other ↦ rw (other.0, s.others l.sig other.1, t.others l.sig other.1) (or_false (bit care l.sig
+      | inr other ↦ rw (other.0, s.others l.sig other.1, t.others l.sig other.1) (or-false (bit care l.sig
           && beq (bit value l.sig) l.plain))
     ]
 
@@ -107,33 +102,3 @@ pub makes_in_order : (literals : List Literal) (care value : ℕ) → Makes lite
     → literals_of care value ≡ in_literal_order literals
 unfolding literals_of in_literal_order
 makes_in_order literals care value made = in_order_from literals care value made code_width 0
-
--- ---- the literals of a cube rise
-
-pub from_on : (n i care value : ℕ) → All (λ (l : Literal). i ≤ l.sig) (literals_from n i care value)
-from_on zero i care value = All-nil (λ (l : Literal). i ≤ l.sig)
-from_on (suc n) i care value = by_bit (bit care i) (λ k d inside. (let above = from_on n
-    (i + 1) care value k d inside in omega (arith, above)))
-  where
-    by_bit : (b : Bool) → All (λ (l : Literal). i ≤ l.sig) (literals_from n (i + 1) care value)
-        → All (λ (l : Literal). i ≤ l.sig) (if b then record { sig = i; plain = bit value i } ∷ literals_from n
-        (i + 1) care value else literals_from n (i + 1) care value)
-    by_bit true later = All-cons (λ (l : Literal). i ≤ l.sig) _ _ (omega arith) later
-    by_bit false later = later
-
-rising_from : (n i care value : ℕ) → IsRising (literals_from n i care value)
-rising_from zero i care value = λ j k d order within. absurd (omega arith)
-rising_from (suc n) i care value = by_bit (bit care i) (λ k d inside. (let above = from_on n
-    (i + 1) care value k d inside in omega (arith, above))) (rising_from n (i + 1) care value)
-  where
-    by_bit : (b : Bool) → All (λ (l : Literal). i < l.sig) (literals_from n (i + 1) care value)
-        → IsRising (literals_from n (i + 1) care value)
-        → IsRising (if b then record { sig = i; plain = bit value i } ∷ literals_from n
-        (i + 1) care value else literals_from n (i + 1) care value)
-    by_bit true above later = AllPairs-cons (λ (k l : Literal). k.sig < l.sig)
-        (record { sig = i; plain = bit value i }) _ above later
-    by_bit false above later = later
-
-pub rising_of : (care value : ℕ) → IsRising (literals_of care value)
-unfolding literals_of
-rising_of care value = rising_from code_width 0 care value

@@ -10,7 +10,7 @@ use Rattle.si_base.specs.declared.fault.TextKind.TheVariants.{BadLine}
 use Rattle.si_words.specs.Names.{stands_in}
 use Rattle.si_words.specs.Sums.{is_one, is_cube, is_empty, parts_at}
 use Rattle.si_cell.specs.CellWords.{is_cell_cube, is_cell_sum, cube_fault, cube_of, sum_fault, sum_of}
-use Rattle.si_cell.specs.Reads.{parts_left}
+use Rattle.si_cell.specs.Loops.Reads.{parts_left}
 use Rattle.si_cell.proofs.CubeLemmas.{names_same}
 
 abbrev plus : List ℕ

@@ -8,9 +8,9 @@ use Rattle.std.specs.Int.Bits.{and_mask}
 use Rattle.si_base.specs.Bits.{bit}
 use Rattle.si_base.specs.Limits.{code_width}
 use Rattle.si_base.specs.declared.ids.Literal.{Literal}
-use Rattle.si_base.proofs.BitFacts.{same_codes}
+use Rattle.si_base.proofs.BitFacts.{same_codes, bit-and}
 use Rattle.si_cube.specs.Literals.{literals_from, literals_of, IsWithin}
-use Rattle.si_cube.proofs.LiteralLemmas.{below_width, bit-and, bit-ones}
+use Rattle.si_cube.proofs.LiteralLemmas.{below_width, bit-ones}
 use Rattle.si_cell.specs.Limits.{max_pins}
 
 abbrev AreLow : List Literal → Type 0

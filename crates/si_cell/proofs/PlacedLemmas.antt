@@ -1,21 +1,20 @@
 -- The cube of an instance, built pin after pin.
 use Rattle.std.proofs.Common.{◌≡◌, ℕ, zero, suc, ◌+◌, ◌-◌, ◌<◌, ◌≤◌, ◌&&◌, ◌||◌, not, Bool, true, false, List, [], ◌∷◌}
-use Rattle.std.proofs.Common.{◌++◌, length, map, filter, take, get_or, All, refl, sym, ap, ◌∙◌, arith, inl, inr, subst}
+use Rattle.std.proofs.Common.{◌++◌, length, map, get_or, All, refl, sym, ap, ◌∙◌, arith, inl, inr, subst}
 use Rattle.std.proofs.lemmas.Bool.{true≢false, cases_Bool}
-use Rattle.std.proofs.lemmas.List.{map-append, map_push, append-nil, take_more, length-append}
+use Rattle.std.proofs.lemmas.List.{map-append, map_push, append-nil, length-append}
 use Rattle.std.proofs.Math.Seq.{get_or-append_seam}
-use Rattle.std.proofs.lemmas.List.Elements.{filter-append}
 use Rattle.std.proofs.lemmas.List.Folds.{list_any-append, list_any_none, list_any_at}
 use mathlib.Core.Bool.{beq}
 use Rattle.si_base.specs.Bits.{bit, IsSet}
 use Rattle.si_base.specs.Limits.{code_width}
-use Rattle.si_base.specs.Netlist.{Sum}
 use Rattle.si_base.specs.declared.ids.Literal.{Literal}
 use Rattle.si_cube.specs.Literals.{literals_from, literals_of}
-use Rattle.si_cell.specs.Expanded.{placed, placed_sum}
+use Rattle.si_cube.proofs.LiteralLemmas.{from_on}
+use Rattle.si_cell.specs.Expanded.{placed}
 use Rattle.si_cell.specs.Literals.{same_literal, has_literal, complement, clashes, in_literal_order}
 use Rattle.si_cell.proofs.CubeLemmas.{same_self}
-use Rattle.si_cell.proofs.OrderLemmas.{Makes, makes_none, makes_more, makes_in_order, from_on}
+use Rattle.si_cell.proofs.OrderLemmas.{Makes, makes_none, makes_more, makes_in_order}
 
 -- ---- literals of a cube, up to a signal and behind it
 split : (n m i j total care value : ℕ) → total ≡ n + m → j ≡ i + n
@@ -154,29 +153,3 @@ module _ (at_pins : List Literal) (cube_care cube_value : ℕ) where
   all_placed i care value within below so_far =
       rw (whole_at i cube_care cube_value within below)
       (no_clash _ care value so_far.made, makes_in_order _ care value so_far.made)
-
--- ---- cube after cube
-placed_sum-append : (at_pins : List Literal) (xs ys : Sum) → placed_sum at_pins (xs ++ ys) ≡ placed_sum at_pins xs
-    ++ placed_sum at_pins ys
-placed_sum-append at_pins xs ys = rw (
-  map-append (map (placed at_pins)) xs ys,
-  filter-append (λ cube. not (clashes cube)) (map (map (placed at_pins)) xs) (map (map (placed at_pins)) ys),
-  map-append in_literal_order (filter (λ cube. not (clashes cube)) (map (map (placed at_pins)) xs)) (filter
-      (λ cube. not (clashes cube)) (map (map (placed at_pins)) ys)),
-) refl
-
-pub cube_left_out : (at_pins : List Literal) (sum : Sum) (i : ℕ) (d : List Literal) (cubes : Sum) → i < length sum
-    → cubes ≡ placed_sum at_pins (take i sum) → clashes (map (placed at_pins) (get_or sum i d)) ≡ true
-    → cubes ≡ placed_sum at_pins (take (i + 1) sum)
-cube_left_out at_pins sum i d cubes inside so_far meets =
-    let none : placed_sum at_pins (get_or sum i d ∷ []) ≡ [] = rw meets refl in
-    rw (take_more sum i d inside, placed_sum-append at_pins (take i sum) (get_or sum i d ∷ []), none, append-nil) so_far
-
-pub cube_added : (at_pins : List Literal) (sum : Sum) (i : ℕ) (d made : List Literal) (cubes more : Sum)
-    → i < length sum
-    → cubes ≡ placed_sum at_pins (take i sum) → clashes (map (placed at_pins) (get_or sum i d)) ≡ false
-    → made ≡ in_literal_order (map (placed at_pins) (get_or sum i d)) → more ≡ cubes ++ made ∷ []
-    → more ≡ placed_sum at_pins (take (i + 1) sum)
-cube_added at_pins sum i d made cubes more inside so_far apart is pushed =
-    let one : placed_sum at_pins (get_or sum i d ∷ []) ≡ made ∷ [] = rw (apart, is) refl in
-    rw (take_more sum i d inside, placed_sum-append at_pins (take i sum) (get_or sum i d ∷ []), one, ← so_far) pushed

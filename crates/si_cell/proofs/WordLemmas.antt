@@ -7,9 +7,9 @@ use Rattle.std.proofs.Math.Seq.{take-append_seam, drop-append-add}
 use Rattle.std.proofs.lemmas.List.{append-nil, length-append}
 use Rattle.std.proofs.lemmas.List.Elements.{All-head, All-tail}
 use Rattle.std.proofs.lemmas.List.Splits.{slice_split_none, slice_split_at}
-use Rattle.si_words.specs.Reads.{words_now}
+use Rattle.si_words.specs.Loops.Reads.{words_now}
 use Rattle.si_words.specs.Sums.{cut_at, len_before, parts_at}
-use Rattle.si_cell.specs.Reads.{parts_left}
+use Rattle.si_cell.specs.Loops.Reads.{parts_left}
 
 pub list_all-map : {A B : Type 0} (f : A → B) (p : B → Bool) (xs : List A)
     → list_all (λ x. p (f x)) xs ≡ list_all p (map f xs)

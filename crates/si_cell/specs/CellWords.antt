@@ -1,7 +1,6 @@
 -- (text) The line of a cell: its fault, and the cell that it spells.
 use Rattle.std.specs.Prelude.{ℕ, ◌&&◌, ◌||◌, not, Bool, List, [], ◌∷◌, ◌++◌, length, map, nat_le}
 use Rattle.std.specs.Prelude.{bytes_eq, codes, if◌then◌else◌, Option, Some, None, option_map}
-use Rattle.std.specs.Prelude.{unwrap_or}
 use Rattle.std.specs.List.{list_any}
 use Rattle.si_base.specs.declared.ids.Literal.{Literal}
 use Rattle.si_base.specs.declared.fault.TextKind.{TextKind}
@@ -10,7 +9,7 @@ use Rattle.si_base.specs.declared.fault.TextKind.TheVariants.{Undeclared, TooMan
 use Rattle.si_base.specs.Faults.{when, ◌otherwise◌, first_after, first_in}
 use Rattle.si_base.specs.Netlist.{Sum}
 use Rattle.si_base.specs.Words.{is_signal_name}
-use Rattle.si_words.specs.GateLines.{place_in}
+use Rattle.si_words.specs.GateLines.{literal_of}
 use Rattle.si_words.specs.Names.{stands_in}
 use Rattle.si_words.specs.Sums.{is_one, is_cube, is_sum, cut_at, parts_at, literal_name}
 use Rattle.si_cell.specs.Library.{Cell, own}
@@ -87,13 +86,6 @@ cell_fault cells (Some words) =
     otherwise sum_fault (declared words.pins) words.sum
 
 -- ---- the cell
-
--- the literal of a word, where these names are declared: signal i has the i-th name
-abbrev pub literal_of : List (List ℕ) → List ℕ → Literal
-literal_of declared word = record {
-  sig = unwrap_or (place_in declared word) 0;
-  plain = bytes_eq word (literal_name word);
-}
 
 -- the literals in the order of the names, whatever their order in the text
 abbrev pub cube_of : List (List ℕ) → List (List ℕ) → List Literal

@@ -4,4 +4,4 @@ pub mod CellWords
 pub mod LibraryText
 pub mod Literals
 pub mod Expanded
-pub mod Reads
+pub mod Loops

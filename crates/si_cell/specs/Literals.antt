@@ -1,5 +1,5 @@
 -- (field) Literals in literal order: signal order, with plain before complemented.
-use Rattle.std.specs.Prelude.{ℕ, ◌+◌, ◌==◌, ◌&&◌, not, Bool, true, false, ◌<◌, AllPairs, List, []}
+use Rattle.std.specs.Prelude.{ℕ, ◌+◌, ◌==◌, ◌&&◌, not, Bool, true, false, List, []}
 use Rattle.std.specs.Prelude.{◌∷◌, zero, suc, filter}
 use Rattle.std.specs.List.{list_any}
 use mathlib.Core.Bool.{beq}
@@ -30,7 +30,3 @@ in_literal_order literals = filter (has_literal literals) (both_from code_width 
 -- a literal and its complement are both there
 abbrev pub clashes : List Literal → Bool
 clashes literals = list_any (λ l. has_literal literals (complement l)) literals
-
--- in strictly rising signal order
-abbrev pub IsRising : List Literal → Type 0
-IsRising literals = AllPairs (λ k l. k.sig < l.sig) literals

@@ -7,13 +7,13 @@ ghost use Rattle.si_base.specs.TextFaults.{Tells};
 ghost use Rattle.si_base.specs.declared.fault.LineFault.TheVariants as line_faults;
 ghost use Rattle.si_base.specs.declared.fault.TextKind.TheVariants as text_kinds;
 ghost use Rattle.si_words.specs.Names.{stands_in};
-ghost use Rattle.si_words.specs.Reads.{words_now};
+ghost use Rattle.si_words.specs.Loops.Reads.{words_now};
 ghost use Rattle.si_cell.specs.CellWords.{cell_name_fault, pin_fault, cell_fault, cell_of};
 ghost use Rattle.si_cell.specs.CellWords.{declared, is_cell_sum};
 ghost use Rattle.si_cell.specs.Library.{IsCell};
 ghost use Rattle.si_cell.specs.LibraryText.{names_of};
 ghost use Rattle.si_cell.specs.Limits.{max_cells, max_pins};
-ghost use Rattle.si_cell.specs.Reads.{cell_words_now};
+ghost use Rattle.si_cell.specs.Loops.Reads.{cell_words_now};
 
 use crate::cell::Cell;
 use crate::limits::{MAX_CELLS, MAX_PINS};

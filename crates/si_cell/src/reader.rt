@@ -8,7 +8,7 @@ ghost use Rattle.si_words.specs.Sums.{is_empty};
 ghost use Rattle.si_cell.specs.Library.{AreCells};
 ghost use Rattle.si_words.specs.Ends as text_ends;
 ghost use Rattle.si_cell.specs.LibraryText as library_text;
-ghost use Rattle.si_cell.specs.Reads.{ReadsName};
+ghost use Rattle.si_cell.specs.Loops.Reads.{ReadsName};
 
 use crate::cell::Cell;
 use crate::cell_reader::read_cell;

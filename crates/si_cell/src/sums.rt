@@ -6,11 +6,11 @@ ghost use Rattle.std.specs.List.{list_all};
 ghost use Rattle.si_base.specs.Faults.{when, ◌otherwise◌};
 ghost use Rattle.si_base.specs.TextFaults.{Tells};
 ghost use Rattle.si_base.specs.declared.fault.TextKind.TheVariants as text_kinds;
-ghost use Rattle.si_words.specs.Reads.{words_now};
+ghost use Rattle.si_words.specs.Loops.Reads.{words_now};
 ghost use Rattle.si_cell.specs.CellWords.{cube_fault, cube_of, sum_fault, sum_of};
 ghost use Rattle.si_cell.specs.CellWords.{is_cell_cube, is_cell_sum};
 ghost use Rattle.si_cell.specs.Limits.{max_pins};
-ghost use Rattle.si_cell.specs.Reads.{parts_left};
+ghost use Rattle.si_cell.specs.Loops.Reads.{parts_left};
 
 use crate::pin_sum::{PinCube, PinSum};
 use crate::words::{are_cell_cubes, is_cell_cube, is_zero, take_before};

@@ -3,11 +3,11 @@
 ghost use Rattle.std.specs.Prelude.{◌≡◌, ◌&&◌, ◌∷◌, not, codes, IfOk, Some, None};
 ghost use Rattle.std.specs.Prelude.{if◌then◌else◌, option_map};
 ghost use Rattle.std.specs.List.{list_all};
-ghost use Rattle.si_words.specs.Reads.{words_now};
+ghost use Rattle.si_words.specs.Loops.Reads.{words_now};
 ghost use Rattle.si_words.specs.Sums as sums;
 ghost use Rattle.si_words.specs.Names as names;
 ghost use Rattle.si_cell.specs.CellWords as cell;
-ghost use Rattle.si_cell.specs.Reads.{cell_words_now, parts_left};
+ghost use Rattle.si_cell.specs.Loops.Reads.{cell_words_now, parts_left};
 
 use si_base::ids::NoMemory;
 use si_base::lines::Words;

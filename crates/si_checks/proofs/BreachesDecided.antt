@@ -10,7 +10,7 @@ use Rattle.si_base.specs.Proper.{IsCommutative, Split, Splits, split_place, Fork
 use Rattle.si_base.specs.Proper.{loss_place}
 use Rattle.si_base.proofs.GraphSteps.{enables-step, step_from_enables}
 use Rattle.si_checks.specs.Laws.{ProperOrBreach, AllHold, HasSplit, HasNoValues, HasFork, HasLoss}
-use Rattle.si_checks.specs.Searches.{IsFirstOrNone}
+use Rattle.si_checks.specs.Loops.Searches.{IsFirstOrNone}
 use Rattle.si_checks.proofs.SearchDecisions as decide
 use Rattle.si_checks.proofs.SearchDecisions.{Decided, pairs, in_pairs, of_pairs, first_candidate}
 use Rattle.si_checks.proofs.ForkLemmas.{no_fork_commutes}

@@ -1,5 +1,5 @@
 -- Graphs that are proper by their codes.
-use Rattle.std.proofs.Common.{◌≡◌, ◌≢◌, ℕ, ◌+◌, ◌<◌, ◌≤◌, ◌⊎◌, ◌&&◌, ◌||◌, ◌^◌, ◌↔◌, Bool, true, false, not, List}
+use Rattle.std.proofs.Common.{◌≡◌, ◌≢◌, ℕ, ◌+◌, ◌<◌, ◌≤◌, ◌⊎◌, ◌&&◌, ◌||◌, ◌↔◌, Bool, true, false, not, List}
 use Rattle.std.proofs.Common.{length, Contains, All, IsTrue, bit_xor, bit_or, refl, sym, ap, subst, ◌∙◌, arith, inl}
 use Rattle.std.proofs.Common.{inr}
 use Rattle.std.proofs.lemmas.Bool.{cases_eq, cases_lt, cases_Bool, true≢false}
@@ -11,14 +11,14 @@ use Rattle.si_base.specs.Bits.{bit, flip, IsSet}
 use Rattle.si_base.specs.Codes.{CodedGraph, IsCoded, code}
 use Rattle.si_base.specs.Graph.{arc, enables, rise, fall, IsNonInput}
 use Rattle.si_base.specs.Proper.{IsCommutative, IsPersistent, IsProper}
-use Rattle.si_base.proofs.BitFacts.{same_codes}
+use Rattle.si_base.proofs.BitFacts.{same_codes, bit-or}
 use Rattle.si_base.proofs.CodeParity.{turn}
 use Rattle.si_base.proofs.StepCodes.{step_within, old_value, code_of_step, code_fits, no_bit}
 use Rattle.si_base.proofs.GraphSteps.{enables-step, step_from_enables}
 use Rattle.si_graph.specs.NextCodes.{IsNextCode}
-use Rattle.si_graph.proofs.ValueLemmas.{bit-xor, bit-or, bit-zero}
-use Rattle.si_checks.specs.ByCodes.{HasUniqueCodes, MaySwitch, LeavesOthers, AreInputs, IsProperByCodes}
-use Rattle.si_checks.proofs.ConflictLemmas.{IsAt}
+use Rattle.si_graph.proofs.ValueLemmas.{bit-xor}
+use Rattle.si_graph.proofs.SpreadLemmas.{flip_swap}
+use Rattle.si_checks.specs.Loops.ByCodes.{HasUniqueCodes, MaySwitch, LeavesOthers, AreInputs, IsProperByCodes}
 
 -- ---- signals that may switch
 -- a value and the next one differ where the signal is enabled to rise or to fall
@@ -165,21 +165,6 @@ module _ (c : CodedGraph) (is : IsCoded c) where
   )
 
   -- ---- both orders of two events lead to one code
-  turn_swap : (v p q : Bool) → turn (turn v p) q ≡ turn (turn v q) p
-  turn_swap true true true = refl
-  turn_swap true true false = refl
-  turn_swap true false true = refl
-  turn_swap true false false = refl
-  turn_swap false true true = refl
-  turn_swap false true false = refl
-  turn_swap false false true = refl
-  turn_swap false false false = refl
-
-  flip_swap : (k i j : ℕ) → flip (flip k i) j ≡ flip (flip k j) i
-  flip_swap k i j = same_codes (flip (flip k i) j) (flip (flip k j) i)
-      (λ z. bit-xor (flip k i) (2 ^ j) z ∙ ap (λ (v : Bool). turn v (bit (2 ^ j) z)) (bit-xor k (2 ^ i) z)
-      ∙ turn_swap (bit k z) (bit (2 ^ i) z) (bit (2 ^ j) z)
-      ∙ sym (bit-xor (flip k j) (2 ^ i) z ∙ ap (λ (v : Bool). turn v (bit (2 ^ i) z)) (bit-xor k (2 ^ j) z)))
 
   pub unique_commutes : HasUniqueCodes c → IsCommutative c.graph
   unique_commutes unique s a b t w u w2 first then other after =
@@ -202,29 +187,10 @@ module _ (c : CodedGraph) (is : IsCoded c) where
 abbrev pub HasUniqueBelow : CodedGraph → ℕ → Type 0
 HasUniqueBelow c n = (s t : ℕ) → s < n → t < n → code c s ≡ code c t → s ≡ t
 
-pub unique_more : (c : CodedGraph) (n p : ℕ) → IsAt c n p → p ≡ n → HasUniqueBelow c n → HasUniqueBelow c (n + 1)
-unique_more c n p at own unique s t below_s below_t same = elim (cases_eq s n) [
-  | inl last_s ↦ elim (cases_eq t n) [
-    | inl last_t ↦ last_s ∙ sym last_t
-    | inr other ↦ absurd (at.first.first t (omega arith) (sym same ∙ ap (λ (k : ℕ). code c k) last_s))
-  ]
-  | inr earlier ↦ elim (cases_eq t n) [
-    | inl last_t ↦ absurd (at.first.first s (omega arith) (same ∙ ap (λ (k : ℕ). code c k) last_t))
-    | inr other ↦ unique s t (omega arith) (omega arith) same
-  ]
-]
-
-pub not_unique : (c : CodedGraph) (n p : ℕ) → IsAt c n p → p ≢ n → HasUniqueCodes c → ⊥
-not_unique c n p at other unique =
-    other (unique p n (omega (arith, at.le, at.within)) at.within at.first.has_code)
-
 -- ---- one more signal
 pub record AreInputsBelow (signals : List Signal) (n inputs : ℕ) : Type 0 where
   pub told : (z : ℕ) → z < n → (bit inputs z ≡ false) ↔ IsNonInput signals z
   pub past : (z : ℕ) → n ≤ z → bit inputs z ≡ false
-
-pub inputs_none : (signals : List Signal) → AreInputsBelow signals 0 0
-inputs_none signals = record { told = λ z less. absurd (omega arith); past = λ z from. bit-zero z }
 
 pub input_more : (signals : List Signal) (n old new : ℕ) → IsSet old n true new → (IsNonInput signals n → ⊥)
     → AreInputsBelow signals n old → AreInputsBelow signals (n + 1) new

@@ -1,5 +1,5 @@
 -- The first conflict among the first states, as one more state is looked at.
-use Rattle.std.proofs.Common.{◌≡◌, ◌≢◌, ℕ, ◌+◌, ◌<◌, ◌≤◌, ◌⊎◌, Bool, true, false, List, length, get_or, refl, sym, ap}
+use Rattle.std.proofs.Common.{◌≡◌, ◌≢◌, ℕ, ◌+◌, ◌<◌, ◌≤◌, ◌⊎◌, true, false, List, length, get_or, refl, sym, ap}
 use Rattle.std.proofs.Common.{subst, ◌∙◌, arith, inl, inr, Option, Some, None, unwrap_or}
 use Rattle.std.specs.Cmp.{nat_cmp_is}
 use Rattle.std.specs.Ordering.{nat_cmp, is_eq}
@@ -10,11 +10,12 @@ use Rattle.si_base.specs.Order.{IsFirst}
 use Rattle.si_base.specs.declared.graph.Edge.{Edge}
 use Rattle.si_base.specs.Graph.{StateGraph, enables, IsNonInput, arc}
 use Rattle.si_base.proofs.GraphSteps.{enables-step, step_from_enables}
-use Rattle.si_graph.specs.Arcs.{AreOut}
+use Rattle.si_graph.specs.Loops.Arcs.{AreOut}
 use Rattle.si_checks.proofs.ForkOrder.{out_item, out_place}
 use Rattle.si_base.specs.Codes.{CodedGraph, code}
 use Rattle.si_base.specs.Proper.{IsConflict, pair_place}
-use Rattle.si_checks.specs.Searches.{IsFirstOrNone, EnablesMore, Differ, Keeps}
+use Rattle.si_base.proofs.Booleans.{same_or_not}
+use Rattle.si_checks.specs.Loops.Searches.{IsFirstOrNone, EnablesMore, Differ, Keeps}
 
 -- ---- what the loop over the states keeps
 -- p is the first state with the code k
@@ -33,15 +34,9 @@ pub record IsConflictBelow (c : CodedGraph) (n : ℕ) (pair : ℕ × ℕ) : Type
   pub below : pair.1 < n
 
 -- ---- events that two states enable
-cases_same : (a b : Bool) → (a ≡ b) ⊎ (a ≢ b)
-cases_same true true = inl refl
-cases_same true false = inr (λ same. cc)
-cases_same false true = inr (λ same. cc)
-cases_same false false = inl refl
-
 agrees : (g : StateGraph) (p q : ℕ) → (Differ g p q → ⊥) → (e : Event) → IsNonInput g.signals e.sig
     → enables g p e ≡ enables g q e
-agrees g p q same e non_input = elim (cases_same (enables g p e) (enables g q e)) [
+agrees g p q same e non_input = elim (same_or_not (enables g p e) (enables g q e)) [
   | inl equal ↦ equal
   | inr differ ↦ absurd (same (record { event = e; non_input = non_input; differ = differ }))
 ]

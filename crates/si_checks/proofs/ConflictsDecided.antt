@@ -10,7 +10,7 @@ use Rattle.si_base.specs.Graph.{StateGraph, IsNonInput, arc, enables}
 use Rattle.si_base.specs.Order.{IsFirst}
 use Rattle.si_base.specs.Proper.{HasNoConflict, IsConflict, pair_place}
 use Rattle.si_base.proofs.GraphSteps.{enables-step, step_from_enables}
-use Rattle.si_checks.specs.Searches.{IsFirstOrNone, EnablesMore, Differ}
+use Rattle.si_checks.specs.Loops.Searches.{IsFirstOrNone, EnablesMore, Differ}
 use Rattle.si_checks.proofs.ConflictLemmas.{more_differs, less_differs, none_differ}
 use Rattle.si_checks.proofs.SearchDecisions as decide
 use Rattle.si_checks.proofs.SearchDecisions.{Decided, pairs, in_pairs, first_candidate}

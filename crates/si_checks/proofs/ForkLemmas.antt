@@ -7,8 +7,8 @@ use Rattle.si_base.specs.Codes.{IsDeterministic}
 use Rattle.si_base.specs.Proper.{IsCommutative, Fork, Forks}
 use Rattle.si_base.specs.System.{IsLeastTarget}
 use Rattle.si_base.proofs.StepCodes.{step_within}
-use Rattle.si_checks.specs.Searches.{EndsApart, ForksAt, ForksBy}
-use Rattle.si_checks.proofs.ForkOrder.{event_same}
+use Rattle.si_graph.proofs.OrderLemmas.{event_from_place}
+use Rattle.si_checks.specs.Loops.Searches.{EndsApart, ForksAt, ForksBy}
 
 -- ---- forks and the ends that they have
 pub by_step : (g : StateGraph) (s : ℕ) (a : Event) (b : Fork) → ForksBy g s a b → (t : ℕ) × Step g s b.c t
@@ -59,7 +59,7 @@ no_fork_commutes g det none s a c t w u w2 s_t t_w s_u u_w2 = elim (cases_eq w w
   | inl same ↦ same
   | inr apart ↦ elim (cases_order (event_place a) (event_place c)) [
     | inl tied ↦ (
-        let same : a ≡ c = event_same a c tied in
+        let same : a ≡ c = event_from_place a c tied in
         let to_u : Step g s c t = subst (λ (e : Event). Step g s e t) same s_t in
         let targets : t ≡ u = det s c t u to_u s_u in
         let to_w : Step g u a w =

@@ -1,9 +1,8 @@
 -- Event order by places, and the arcs out of a state in that order.
 use Rattle.std.proofs.Common.{◌≡◌, ℕ, ◌+◌, ◌*◌, ◌<◌, ◌≤◌, ◌⊎◌, Bool, true, false, if◌then◌else◌, List, length, get_or}
-use Rattle.std.proofs.Common.{Contains, refl, sym, ap, ap₂, subst, ◌∙◌, arith, inl, inr}
+use Rattle.std.proofs.Common.{Contains, refl, sym, ap, subst, ◌∙◌, arith, inl, inr}
 use Rattle.std.specs.Cmp.{nat_cmp_is}
 use Rattle.std.specs.Ordering.{nat_cmp, bool_cmp, ordering_then, is_le}
-use Rattle.std.specs.declared.cmp.Ordering.{Ordering}
 use Rattle.std.specs.declared.cmp.Ordering.TheVariants.{Less, Equal, Greater}
 use Rattle.std.proofs.lemmas.Bool.{cases_eq, cases_lt, cases_order, true≢false}
 use Rattle.std.proofs.lemmas.List.{get_or_default}
@@ -12,8 +11,9 @@ use Rattle.si_base.specs.declared.graph.Edge.{Edge}
 use Rattle.si_base.specs.EdgeOrder.{event_cmp, edge_cmp}
 use Rattle.si_base.specs.Graph.{StateGraph, Step, arc, event_place}
 use Rattle.si_base.proofs.StepCodes.{step_within}
-use Rattle.si_base.proofs.OrderAscending.{sorted_at, nat_same}
-use Rattle.si_graph.specs.Arcs.{AreOut}
+use Rattle.si_base.proofs.OrderAscending.{sorted_at}
+use Rattle.si_graph.specs.Loops.Arcs.{AreOut}
+use Rattle.si_graph.proofs.OrderLemmas.{place_le}
 
 small : (b : Bool) → (if b then 0 else 1) ≤ 1
 small true = omega arith
@@ -50,38 +50,6 @@ later_event e f not_le = elim (cases_order (event_place e) (event_place f)) [
   | inr (inr more) ↦ more
 ]
 
-same_parts : (m n : ℕ) (a b : Bool) → 2 * m + (if a then 0 else 1) ≡ 2 * n + (if b then 0 else 1) → (m ≡ n) × (a ≡ b)
-same_parts m n true true same = (omega arith, refl)
-same_parts m n true false same = absurd (omega arith)
-same_parts m n false true same = absurd (omega arith)
-same_parts m n false false same = (omega arith, refl)
-
-pub event_same : (e f : Event) → event_place e ≡ event_place f → e ≡ f
-event_same e f same =
-    let parts = same_parts e.sig f.sig e.up f.up same in
-    let make : ℕ → Bool → Event = λ x y. record { sig = x; up = y } in
-    ap₂ make parts.0 parts.1
-
-not_greater : (o p : Ordering) → ordering_then o p ≡ Less → o ≡ Greater → ⊥
-not_greater Less p less greater = cc
-not_greater Equal p less greater = cc
-not_greater Greater p less greater = cc
-
--- an arc from the same state that stands later has no earlier event
-no_fall : (x y : Edge) → edge_cmp x y ≡ Less → x.from ≡ y.from → event_place x.event ≤ event_place y.event
-no_fall x y less from = elim (cases_lt (event_place y.event) (event_place x.event)) [
-  | inr le ↦ le
-  | inl falls ↦ (
-      let greater : event_cmp x.event y.event ≡ Greater =
-      event_order x.event y.event ∙ sym (nat_cmp_is _ _ Greater falls) in
-      let From : ℕ → Type 0 =
-      λ s. ordering_then (nat_cmp s y.from) (ordering_then (event_cmp x.event y.event) (nat_cmp x.to y.to)) ≡ Less in
-      let Tied : Ordering → Type 0 =
-      λ o. ordering_then o (ordering_then (event_cmp x.event y.event) (nat_cmp x.to y.to)) ≡ Less in
-      absurd (not_greater (event_cmp x.event y.event) (nat_cmp x.to y.to)
-      (subst Tied (nat_same y.from) (subst From from less)) greater))
-]
-
 -- no breach with P has the event of one of the first n arcs
 abbrev pub NoneWithin : {A : Type 0} → List Edge → (A → Type 0) → (A → Event) → ℕ → Type 0
 NoneWithin arcs P event n = (k : ℕ) (d : Edge) → k < n → (b : _) → P b → event b ≡ (get_or arcs k d).event → ⊥
@@ -116,7 +84,7 @@ module _ (g : StateGraph) (s : ℕ) (arcs : List Edge) (out : AreOut g s arcs) w
   pub out_rises : (i j : ℕ) (d : Edge) → i < j → j < length arcs
       → event_place (get_or arcs i d).event ≤ event_place (get_or arcs j d).event
   out_rises i j d before within =
-      no_fall (get_or arcs i d) (get_or arcs j d) (sorted_at edge_cmp arcs out.ordered i j d before within)
+      place_le (get_or arcs i d) (get_or arcs j d) (sorted_at edge_cmp arcs out.ordered i j d before within)
       (out_from i d (omega arith) ∙ sym (out_from j d within))
 
   -- breaches at s, each with an event by which s leads somewhere

@@ -7,7 +7,7 @@ use Rattle.si_base.specs.Codes.{IsDeterministic}
 use Rattle.si_base.specs.Proper.{IsPersistent, Loss, Loses}
 use Rattle.si_base.proofs.StepCodes.{step_within}
 use Rattle.si_base.proofs.GraphSteps.{step_from_enables, same_event-refl}
-use Rattle.si_checks.specs.Searches.{LosesAt, LosesOf}
+use Rattle.si_checks.specs.Loops.Searches.{LosesAt, LosesOf}
 
 -- ---- losses and the steps that they have
 pub of_step : (g : StateGraph) (s : ℕ) (lost : Event) (b : Loss) → LosesOf g s lost b → (t : ℕ) × Step g s b.by t

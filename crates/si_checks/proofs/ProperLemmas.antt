@@ -7,7 +7,7 @@ use Rattle.si_base.specs.Proper.{IsProper, Fork, Forks, Loss, Loses, loss_place}
 use Rattle.si_checks.specs.declared.breaches.Breach.{Breach}
 use Rattle.si_checks.specs.declared.breaches.Breach.TheVariants.{Fork as AsFork, Loss as AsLoss}
 use Rattle.si_checks.specs.Faults.{ShowsImproper, told_breach}
-use Rattle.si_checks.specs.Searches.{IsFirstBreach, IsFirstOrNone, LosesBelow}
+use Rattle.si_checks.specs.Loops.Searches.{IsFirstBreach, IsFirstOrNone, LosesBelow}
 use Rattle.si_checks.proofs.ForkLemmas.{no_fork_commutes, fork_within}
 use Rattle.si_checks.proofs.LossLemmas.{no_loss_persists, loss_within}
 use Rattle.si_checks.proofs.SearchLemmas.{found_of_all}

@@ -9,7 +9,7 @@ use Rattle.si_base.specs.declared.graph.Signal.{Signal}
 use Rattle.si_base.specs.declared.graph.SigKind.TheVariants.{Input}
 use Rattle.si_base.specs.Graph.{IsNonInput, is_driven, same_event}
 use Rattle.si_base.proofs.GraphSteps.{same_event-true, same_event-refl}
-use Rattle.si_checks.specs.Searches.{IsFirstOrNone}
+use Rattle.si_checks.specs.Loops.Searches.{IsFirstOrNone}
 use Rattle.si_checks.proofs.SearchFirst.{first_or_none}
 use Rattle.si_graph.proofs.ListMembers.{Contains-cons_cases, Contains-here, Contains-there, Contains-nil, Contains-map}
 use Rattle.si_graph.proofs.ListMembers.{Contains-from_map}

@@ -3,15 +3,11 @@ use Rattle.std.proofs.Common.{◌≡◌, ℕ, ◌⊎◌, List, [], ◌∷◌, le
 use Rattle.std.proofs.Common.{◌∙◌, arith, inl, inr}
 use Rattle.std.proofs.lemmas.Bool.{cases_order}
 use Rattle.si_base.specs.Order.{Before, IsFirst}
-use Rattle.si_checks.specs.Searches.{IsFirstOrNone}
+use Rattle.si_base.proofs.OrderLemmas.{before_itself}
+use Rattle.si_checks.specs.Loops.Searches.{IsFirstOrNone}
 use Rattle.si_graph.proofs.ListMembers.{Contains-cons_cases, Contains-here, Contains-there, Contains-nil}
 
 -- ---- the order of places
-pub before_itself : (xs : List ℕ) → Before xs xs → ⊥
-before_itself [] before = before
-before_itself (x ∷ xs) (inl less) = absurd (omega arith)
-before_itself (x ∷ xs) (inr tied) = before_itself xs tied.1
-
 before_more : (xs ys zs : List ℕ) → Before xs ys → Before ys zs → Before xs zs
 before_more [] ys zs one other = one
 before_more (x ∷ xs) [] zs one other = absurd one

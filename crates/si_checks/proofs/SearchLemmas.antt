@@ -6,9 +6,10 @@ use Rattle.si_base.specs.declared.ids.Event.{Event}
 use Rattle.si_base.specs.declared.graph.Edge.{Edge}
 use Rattle.si_base.specs.Order.{IsFirst}
 use Rattle.si_base.specs.Graph.{StateGraph, Step, event_place}
-use Rattle.si_graph.specs.Arcs.{AreOut}
-use Rattle.si_checks.specs.Searches.{IsFirstOrNone, IsAt, IsBy, IsBelow}
-use Rattle.si_checks.proofs.ForkOrder.{event_same, NoneWithin, none_before}
+use Rattle.si_graph.specs.Loops.Arcs.{AreOut}
+use Rattle.si_graph.proofs.OrderLemmas.{event_from_place}
+use Rattle.si_checks.specs.Loops.Searches.{IsFirstOrNone, IsAt, IsBy, IsBelow}
+use Rattle.si_checks.proofs.ForkOrder.{NoneWithin, none_before}
 
 module _ {B : Type 0} (P : B → Type 0) (state : B → ℕ) (one two : B → Event) where
   abbrev pub place : B → List ℕ
@@ -57,7 +58,7 @@ module _ {B : Type 0} (P : B → Type 0) (state : B → ℕ) (one two : B → Ev
                 | inr same ↦ first.none_before f (record {
                   holds = also.holds;
                   at = also.at;
-                  by = event_same (one f) (one b) same ∙ is.by;
+                  by = event_from_place (one f) (one b) same ∙ is.by;
                 }) before
               ];
         }
@@ -71,19 +72,6 @@ module _ {B : Type 0} (P : B → Type 0) (state : B → ℕ) (one two : B → Ev
     | inl same ↦ here b (record { holds = is; at = same })
     | inr other ↦ none b is (omega arith)
   ]
-
-  pub first_of_all : (b : B) (n : ℕ) → IsFirst place (IsAt state P n) b → NoneBelow n → IsFirst place P b
-  first_of_all b n first none = record {
-    holds = first.holds.holds;
-    none_before = λ f also before.
-        let at : state b ≡ n = first.holds.at in
-        let rest : (state f < state b) ⊎ (state f ≡ state b) =
-        elim before [ inl less ↦ inl less | inr tied ↦ inr tied.0 ] in
-        elim rest [
-          | inl less ↦ none f also (omega arith)
-          | inr same ↦ first.none_before f (record { holds = also; at = same ∙ at }) before
-        ];
-  }
 
   -- what was found at the first n states is kept
   pub keep_found : (n : ℕ) (b : B) → IsFirst place (IsBelow state P n) b → IsFirst place (IsBelow state P (n + 1)) b

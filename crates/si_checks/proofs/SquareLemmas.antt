@@ -12,11 +12,11 @@ use Rattle.si_base.specs.Proper.{Fork, Loss}
 use Rattle.si_base.specs.System.{IsLeastTarget}
 use Rattle.si_base.proofs.OrderAscending.{sorted_at}
 use Rattle.si_base.proofs.GraphSteps.{enables-step, step_from_enables}
-use Rattle.si_graph.specs.Arcs.{AreOut}
-use Rattle.si_graph.proofs.OrderLemmas.{to_lt}
-use Rattle.si_checks.specs.Searches.{ForksAt, LosesAt}
-use Rattle.si_checks.specs.Squares.{ClosesSquare, ClosesSquares}
-use Rattle.si_checks.proofs.ForkOrder.{event_same, out_from, out_arc, out_rises, out_item, out_signal}
+use Rattle.si_graph.specs.Loops.Arcs.{AreOut}
+use Rattle.si_graph.proofs.OrderLemmas.{to_lt, event_from_place}
+use Rattle.si_checks.specs.Loops.Searches.{ForksAt, LosesAt}
+use Rattle.si_checks.specs.Loops.Squares.{ClosesSquare, ClosesSquares}
+use Rattle.si_checks.proofs.ForkOrder.{out_from, out_arc, out_rises, out_item, out_signal}
 
 -- ---- one pair
 module _ (g : StateGraph) (x y : Edge) where
@@ -111,7 +111,7 @@ module _ (g : StateGraph) (s : ℕ) (arcs : List Edge) (out : AreOut g s arcs) w
       let rises = out_rises g s arcs out i j d less within in
       elim (cases_eq (event_place x.event) (event_place y.event)) [
         | inl tied ↦ (
-            let event : x.event ≡ y.event = event_same x.event y.event tied in
+            let event : x.event ≡ y.event = event_from_place x.event y.event tied in
             let to_x : Step g s x.event x.to =
             out_item g s arcs out i x (omega arith) (get_or_default arcs i d x (omega arith)) in
             let to_y : Step g s y.event y.to = out_item g s arcs out j y within (get_or_default arcs j d y within) in
@@ -151,7 +151,7 @@ no_loss g s closes b is =
     let t = step_from_enables g b.s b.lost loses.enabled in
     let u = loses.after.0 in
     elim (cases_order (event_place b.lost) (event_place b.by)) [
-      | inl tied ↦ loses.by_another (event_same b.lost b.by tied)
+      | inl tied ↦ loses.by_another (event_from_place b.lost b.by tied)
       | inr (inl less) ↦ (
           let square = closes (arc b.s b.lost t.0) (arc b.s b.by u) t.1 loses.after.1 is.at is.at less in
           loses.after.2 (square.one_stays loses.non_input))

@@ -1,6 +1,3 @@
-pub mod ByCodes
 pub mod Faults
-pub mod Lent
-pub mod Searches
 pub mod Laws
-pub mod Squares
+pub mod Loops

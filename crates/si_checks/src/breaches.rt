@@ -4,7 +4,7 @@ ghost use Rattle.std.specs.Prelude.{◌+◌};
 ghost use Rattle.si_base.specs.Codes.{IsDeterministic};
 ghost use Rattle.si_base.specs.Graph.{IsGraph};
 ghost use Rattle.si_base.specs.Proper.{loss_place};
-ghost use Rattle.si_checks.specs.Searches.{IsFirstBreach, IsFirstOrNone, LosesBelow};
+ghost use Rattle.si_checks.specs.Loops.Searches.{IsFirstBreach, IsFirstOrNone, LosesBelow};
 
 use crate::forks::{Fork, first_fork_at};
 use crate::losses::{Loss, first_loss_at};

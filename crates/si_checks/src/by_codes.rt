@@ -5,8 +5,9 @@ ghost use Rattle.si_base.specs.Bits.{bit};
 ghost use Rattle.si_base.specs.Codes.{IsCoded};
 ghost use Rattle.si_base.specs.Limits.{max_signals};
 ghost use Rattle.si_base.specs.Proper.{IsPersistent, IsProper};
-ghost use Rattle.si_checks.specs.ByCodes.{AreInputs, HasUniqueCodes, IsProperByCodes, LeavesOthers};
-ghost use Rattle.si_checks.specs.ByCodes.{MaySwitch};
+ghost use Rattle.si_checks.specs.Loops.ByCodes.{AreInputs, HasUniqueCodes, IsProperByCodes};
+ghost use Rattle.si_checks.specs.Loops.ByCodes.{LeavesOthers};
+ghost use Rattle.si_checks.specs.Loops.ByCodes.{MaySwitch};
 
 use crate::conflicts::first_of_code;
 use si_base::graph::Edge;

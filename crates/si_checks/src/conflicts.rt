@@ -4,7 +4,7 @@ ghost use Rattle.std.specs.Prelude.{◌≡◌, ◌≢◌, ℕ, ◌↔◌, IsTrue
 ghost use Rattle.std.specs.BTreeMap.{get};
 ghost use Rattle.std.specs.Ordering.{nat_cmp};
 ghost use Rattle.si_base.specs.Proper.{IsConflict, pair_place};
-ghost use Rattle.si_checks.specs.Searches.{IsFirstOrNone, EnablesMore, Differ, Keeps};
+ghost use Rattle.si_checks.specs.Loops.Searches.{IsFirstOrNone, EnablesMore, Differ, Keeps};
 
 use si_base::ids::{Code, NoMemory, StateId};
 use si_graph::coded::Coded;

@@ -27,7 +27,7 @@ pub enum NotDistinct {
 
 impl<'a> Distinct<'a> {
     ghost use Rattle.si_checks.specs.Faults.{ShowsConflict};
-    ghost use Rattle.si_checks.specs.Lent.{coded_of};
+    ghost use Rattle.si_checks.specs.Loops.Lent.{coded_of};
 
     /// The graph where it has no conflict (the book's complete state coding), or its first
     /// conflict.

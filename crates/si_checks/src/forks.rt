@@ -3,7 +3,8 @@
 ghost use Rattle.std.specs.Prelude.{Contains};
 ghost use Rattle.si_base.specs.Codes.{IsDeterministic};
 ghost use Rattle.si_base.specs.Proper.{fork_place};
-ghost use Rattle.si_checks.specs.Searches.{IsFirstOrNone, IsOneOrNone, EndsApart, ForksAt, ForksBy};
+ghost use Rattle.si_checks.specs.Loops.Searches.{IsFirstOrNone, IsOneOrNone, EndsApart, ForksAt};
+ghost use Rattle.si_checks.specs.Loops.Searches.{ForksBy};
 
 use si_base::graph::Edge;
 use si_base::ids::{Event, StateId};

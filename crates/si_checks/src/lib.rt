@@ -1,4 +1,5 @@
-//! Checks of coded graphs: proper graphs, and proper graphs without conflicts.
+//! Checks of coded graphs: proper graphs, and proper graphs without conflicts. That a graph which
+//! fails one has a first breach, or a first conflict, is a law.
 #![tactic(auto)]
 
 mod breaches;

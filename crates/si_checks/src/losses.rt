@@ -4,7 +4,7 @@ ghost use Rattle.std.specs.Prelude.{IsTrue};
 ghost use Rattle.si_base.specs.Graph.{IsNonInput, enables};
 ghost use Rattle.si_base.specs.Codes.{IsDeterministic};
 ghost use Rattle.si_base.specs.Proper.{loss_place};
-ghost use Rattle.si_checks.specs.Searches.{IsFirstOrNone, LosesAt, LosesOf};
+ghost use Rattle.si_checks.specs.Loops.Searches.{IsFirstOrNone, LosesAt, LosesOf};
 
 use si_base::ids::{Event, StateId};
 use si_graph::graph::Graph;

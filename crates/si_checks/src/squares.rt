@@ -2,7 +2,7 @@
 
 ghost use Rattle.std.specs.Prelude.{◌<◌, ◌↔◌, IsTrue, All, length};
 ghost use Rattle.si_base.specs.Codes.{IsDeterministic};
-ghost use Rattle.si_checks.specs.Squares.{ClosesSquare, ClosesSquares};
+ghost use Rattle.si_checks.specs.Loops.Squares.{ClosesSquare, ClosesSquares};
 
 use si_base::graph::Edge;
 use si_base::ids::StateId;

@@ -4,22 +4,20 @@ use Rattle.std.proofs.Common.{inl, inr}
 use Rattle.std.specs.Option.{IsSome}
 use Rattle.std.proofs.lemmas.Bool.{false≢true}
 use Rattle.std.proofs.lemmas.Bool.Decides.{eqb_tells}
-use Rattle.std.proofs.lemmas.Option.{slice_get_cases}
 use Rattle.si_base.specs.Codes.{CodedGraph, IsCoded, code, next_value}
 use Rattle.si_base.specs.Graph.{IsNonInput}
 use Rattle.si_base.specs.Limits.{code_width}
 use Rattle.si_base.specs.Netlist.{Gate, Insertion, value_of, value_if_there}
 use Rattle.si_base.specs.RightGates.{GivesNextValues}
 use Rattle.si_base.specs.WellFormed.{IsGate, IsNetlist}
+use Rattle.si_base.proofs.StepCodes.{signal_there}
 use Rattle.si_cell.specs.Library.{Library, Instance, IsLibrary, IsInstance, no_cell}
 use Rattle.si_cell.proofs.ExpandedLemmas.{expanded_value}
 use Rattle.si_cell.proofs.LawLemmas.{expanded_is_sum}
 use Rattle.si_match.specs.Fit.{first_fit, IsOver, Fits}
 use Rattle.si_match.proofs.FitLemmas.{fit_fits}
-use Rattle.si_circuit.specs.Cells.{AllFit, IsFirstUnfit, ShowsUnfit, ShowsUnfitAt, cell_gate, gate_if_any}
+use Rattle.si_circuit.specs.Cells.{AllFit, cell_gate, gate_if_any}
 use Rattle.si_circuit.specs.Cells.{instance_gate}
-use Rattle.si_circuit.specs.declared.cells.CellsFault.{CellsFault}
-use Rattle.si_circuit.specs.declared.cells.CellsFault.TheVariants.{NoMemory, Unfit}
 use Rattle.si_circuit.specs.Gates.{netlist_of}
 use Rattle.si_circuit.specs.Spelled.{AreSpelled, AreInserted}
 use Rattle.si_circuit.proofs.GateLemmas.{is_netlist}
@@ -45,12 +43,6 @@ gate_found c library z is some =
     let found = gate_when c library z (first_fit c library z) refl some in
     let held = fit_fits c library z found.0 is found.1 in
     (found.0, record { gate = ap (gate_if_any library z) found.1; over = held.0; fits = held.1 })
-
-pub signal_there : (c : CodedGraph) (z : ℕ) → IsNonInput c.graph.signals z → z < length c.graph.signals
-signal_there c z driven = elim (slice_get_cases c.graph.signals z).1 [
-  | inl there ↦ there.1
-  | inr past ↦ absurd cc
-]
 
 value_given : (c : CodedGraph) (library : Library) (z s : ℕ) → IsCoded c → IsLibrary library
     → IsNonInput c.graph.signals z
@@ -109,16 +101,7 @@ pub all_fit : (c : CodedGraph) (library : Library) (i : ℕ) → FitBefore c lib
     → AllFit c library
 all_fit c library i before past z driven = before z (omega (arith, past, signal_there c z driven)) driven
 
-pub shows_first : (c : CodedGraph) (library : Library) (z : ℕ) (fault : CellsFault) → FitBefore c library z
-    → IsNonInput c.graph.signals z → ShowsUnfitAt c library z fault → ShowsUnfit c library fault
-shows_first c library z NoMemory before driven shown = shown
-shows_first c library z (Unfit sig) before driven shown =
-    subst (IsFirstUnfit c library) (sym shown.0) (record { driven = driven; unfit = shown.1; others = before })
-
 pub instance_of : (c : CodedGraph) (library : Library) (z : ℕ) (i : Instance) → IsCoded c
     → first_fit c library z ≡ Some i
     → IsInstance library i
 instance_of c library z i is found = (fit_fits c library z i is found).0.instance
-
-pub signal_small : (c : CodedGraph) (z : ℕ) → IsCoded c → IsNonInput c.graph.signals z → z < code_width
-signal_small c z is driven = omega (signal_there c z driven, few_signals c is, arith)

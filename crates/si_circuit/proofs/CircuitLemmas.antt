@@ -9,7 +9,7 @@ use Rattle.si_insert.specs.Lineage.{History, IsLineage}
 use Rattle.si_insert.proofs.LineageChain.{implements}
 use Rattle.si_insert.proofs.InsertionKeeps.{keeps}
 use Rattle.si_circuit.specs.declared.style.Style.{Style}
-use Rattle.si_circuit.specs.Circuits.{AreStateNames, IsCircuit, circuit_of}
+use Rattle.si_circuit.specs.Circuits.{AreStateNames, IsCircuit}
 use Rattle.si_circuit.specs.Gates.{gate_of, netlist_of}
 use Rattle.si_circuit.specs.Spelled.{AreInserted}
 use Rattle.si_circuit.specs.Spelling.{insertions_of}
@@ -54,15 +54,6 @@ circuit_with gate model read states l seen k inserts n same lineage graph_is rea
     (inserts_are ∙ ap (insertions_of states) same) in
     subst (IsCircuit l) (sym is) (gates_circuit (gate c) model states l (subst L same lineage)
     (subst₂ (λ (g : CodedGraph) (m : Netlist). GivesNextValues g m) graph_is is gives))
-
--- and for the chosen gates
-pub is_circuit : (style : Style) (model : List ℕ) (states : List (List ℕ)) (l : History)
-    → IsLineage l.given l.trace l.current → HasNoConflict l.current.coded
-    → IsCircuit l (circuit_of style model states l)
-is_circuit style model states l lineage none =
-    gates_circuit (gate_of style l.current.coded) model states l lineage
-    (chosen_give style l.current.coded model (insertions_of states l) (keeps l.given l.trace l.current lineage).coded
-    none)
 
 pub circuit_made : (style : Style) (model read : List ℕ) (states : List (List ℕ)) (l seen : History) (k : CodedGraph)
     (inserts : List Insertion) (n : Netlist) → seen ≡ l → IsLineage seen.given seen.trace seen.current

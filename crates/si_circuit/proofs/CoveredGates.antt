@@ -1,7 +1,7 @@
 -- Gates that are covers give the next values, and the chosen gates are such.
 use Rattle.std.proofs.Common.{◌≡◌, ℕ, zero, suc, ◌+◌, ◌<◌, not, Bool, true, false, List, [], ◌∷◌, ◌++◌, length, refl}
 use Rattle.std.proofs.Common.{sym, ap, ◌∙◌, arith, inl, inr, slice_get, Some, Option, one-add, zero-add, if◌then◌else◌}
-use Rattle.std.proofs.lemmas.Bool.{cases_Bool, or_left, or_right, and_from}
+use Rattle.std.proofs.lemmas.Bool.{cases_Bool, or_left, or_right, and_from, not_from_false}
 use Rattle.si_base.specs.declared.graph.Signal.{Signal}
 use Rattle.si_base.specs.Behaviour.{Implements}
 use Rattle.si_base.specs.Bits.{bit}
@@ -11,12 +11,12 @@ use Rattle.si_base.specs.Proper.{HasNoConflict, IsProper}
 use Rattle.si_base.specs.Netlist.{Sum, Gate, SumGate, Gc, Cell, Insertion, Netlist, gate_place, sum_value, value_of}
 use Rattle.si_base.specs.Netlist.{value_if_there}
 use Rattle.si_base.specs.RightGates.{GivesNextValues, HasNoneInserted, IsRight}
+use Rattle.si_base.proofs.GivenGraphUnique.{contains_from_in}
 use Rattle.si_insert.proofs.LineageChain.{right_implement}
 use Rattle.si_cover.specs.declared.kind.SumKind.{SumKind}
 use Rattle.si_cover.specs.declared.kind.SumKind.TheVariants.{Next, Set, Reset}
 use Rattle.si_cover.specs.Demands.{is_required, is_forbidden, demand}
 use Rattle.si_cube.specs.Covers.{IsCover}
-use Rattle.si_cube.proofs.NeededLemmas.{Contains_from_in}
 use Rattle.si_cover.proofs.DemandLemmas.{code_in, chosen_is_prime_cover}
 use Rattle.si_circuit.specs.declared.style.Style.{Style}
 use Rattle.si_circuit.specs.declared.style.Style.TheVariants.{Complex, GeneralisedC}
@@ -27,16 +27,12 @@ use Rattle.si_circuit.specs.Gates.{gate_of, gates_from, netlist_of, chosen_netli
 covered : (kind : SumKind) (c : CodedGraph) (z s : ℕ) (sum : Sum) → IsCover (demand kind c z) sum → s < length c.codes
     → is_required kind c z s ≡ true → sum_value (code c s) sum ≡ true
 covered kind c z s sum cover within holds =
-    cover.covers (code c s) (Contains_from_in _ (code c s) (code_in c (is_required kind c z) s within holds))
+    cover.covers (code c s) (contains_from_in _ (code c s) (code_in c (is_required kind c z) s within holds))
 
 avoided : (kind : SumKind) (c : CodedGraph) (z s : ℕ) (sum : Sum) → IsCover (demand kind c z) sum → s < length c.codes
     → is_forbidden kind c z s ≡ true → sum_value (code c s) sum ≡ false
 avoided kind c z s sum cover within holds =
-    cover.avoids (code c s) (Contains_from_in _ (code c s) (code_in c (is_forbidden kind c z) s within holds))
-
-not_from_false : (b : Bool) → b ≡ false → not b ≡ true
-not_from_false true h = sym h
-not_from_false false h = refl
+    cover.avoids (code c s) (contains_from_in _ (code c s) (code_in c (is_forbidden kind c z) s within holds))
 
 sum_gives : (c : CodedGraph) (z s : ℕ) (sum : Sum) → IsCover (demand Next c z) sum → s < length c.codes
     → sum_value (code c s) sum ≡ next_value c s z

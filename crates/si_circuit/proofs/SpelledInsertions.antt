@@ -89,7 +89,7 @@ insertion_names states l = names_spelled states 0 (given_descents l.given.graph.
 abbrev shown : ℕ → Bool
 shown = is_between first_visible tilde
 
-abbrev no_at : ℕ → Bool
+abbrev pub no_at : ℕ → Bool
 no_at b = not (b == at_sign)
 
 word_byte_shown : (b : ℕ) → is_word_byte b ≡ true → shown b ≡ true

@@ -13,7 +13,7 @@ use Rattle.si_base.specs.Bits.{bit, flip}
 use Rattle.si_base.specs.Limits.{code_width, max_states}
 use Rattle.si_base.specs.Codes.{CodedGraph, code, IsCoded}
 use Rattle.si_base.proofs.BitFacts.{flip-same, flip-other}
-use Rattle.si_base.proofs.StepCodes.{code_fits}
+use Rattle.si_base.proofs.StepCodes.{code_fits, no_bit}
 use Rattle.si_insert.specs.declared.lineage.TraceStep.{TraceStep}
 use Rattle.si_insert.specs.Insertion.{Copy, new_signal}
 use Rattle.si_insert.specs.GraphOfCopies.{copies_of}
@@ -21,7 +21,7 @@ use Rattle.si_insert.specs.Lineage.{Current, Inserts, Grows, IsLineage, Keeps, g
 use Rattle.si_insert.proofs.InsertionKeeps.{keeps_next, keeps_first, origin_at}
 use Rattle.si_insert.proofs.ApplyInserts.{made_is_insertion}
 use Rattle.si_insert.proofs.OneInsertion.{same_copies}
-use Rattle.si_insert.proofs.InsertionProper.{code_at, no_bit}
+use Rattle.si_insert.proofs.InsertionProper.{code_at}
 use Rattle.si_circuit.specs.declared.spelling.Descent.{Descent}
 use Rattle.si_circuit.specs.Spelling.{AreDescents, descent, copy_descent, descents_after, descents_along}
 use Rattle.si_circuit.specs.Spelling.{given_descents}

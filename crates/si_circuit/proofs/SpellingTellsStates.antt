@@ -7,13 +7,12 @@ use Rattle.std.specs.List.{slice_index_or}
 use Rattle.si_base.specs.declared.graph.Signal.{Signal}
 use Rattle.si_base.specs.Bits.{bit}
 use Rattle.si_base.specs.Codes.{code}
-use Rattle.si_base.proofs.StepCodes.{code_fits}
+use Rattle.si_base.proofs.StepCodes.{code_fits, no_bit}
 use Rattle.si_insert.specs.declared.lineage.TraceStep.{TraceStep}
 use Rattle.si_insert.specs.Insertion.{new_signal}
 use Rattle.si_insert.specs.Lineage.{History, IsLineage, given_current, origin}
 use Rattle.si_insert.proofs.LineageGrowth.{later_bit}
 use Rattle.si_insert.proofs.InsertionKeeps.{keeps}
-use Rattle.si_insert.proofs.InsertionProper.{no_bit}
 use Rattle.si_circuit.specs.Spelling.{current_word, mark, WordsTellStates}
 use Rattle.si_circuit.proofs.SpelledInsertions.{new_signals, signals_grow}
 use Rattle.si_circuit.proofs.SpellingMarks.{mark_length, mark_one_way, same_split, one_place}

@@ -1,6 +1,5 @@
 -- The insertions of a trace, one step after another.
-use Rattle.std.proofs.lemmas.List.{append-nil, drop_all}
-use Rattle.std.proofs.Common.{◌≡◌, ℕ, suc, ◌+◌, ◌<◌, ◌≤◌, List, [], ◌∷◌, ◌++◌, length, get_or, drop, drop-cons}
+use Rattle.std.proofs.Common.{◌≡◌, ℕ, suc, ◌+◌, ◌<◌, List, [], ◌∷◌, ◌++◌, length, get_or, drop, drop-cons}
 use Rattle.std.proofs.Common.{append_assoc, add-one, refl, sym, ap, subst, ◌∙◌}
 use Rattle.si_base.specs.Netlist.{Insertion}
 use Rattle.si_insert.specs.declared.lineage.TraceStep.{TraceStep}
@@ -8,7 +7,7 @@ use Rattle.si_insert.specs.declared.partition.Class.{Class}
 use Rattle.si_insert.specs.Lineage.{History, IsLineage}
 use Rattle.si_circuit.specs.declared.spelling.Descent.{Descent}
 use Rattle.si_circuit.specs.Spelling.{insertion_of, insertions_from, insertions_of, descents_after, given_descents}
-use Rattle.si_circuit.proofs.SpellingDescents.{At, StepFits, at_start, at_next, step_fits}
+use Rattle.si_circuit.proofs.SpellingDescents.{At, at_start, at_next}
 
 -- k insertions are spelled, and these are the descents after them
 pub record IsSpelledTo (states : List (List ℕ)) (l : History) (k : ℕ) (ds : List Descent) (done : List Insertion)
@@ -51,12 +50,6 @@ one_spelled states l k ds next done more p within item next_is made is =
     record { at = at_next l.given p rest l.current k ds here; so_far = joined } in
     subst (P next) (sym made) (subst (λ to. P to (done ++ insertion_of states k ds p ∷ [])) (sym next_is) step)
 
-pub all_spelled : (states : List (List ℕ)) (l : History) (k : ℕ) (ds : List Descent) (done : List Insertion)
-    → length l.trace ≤ k → IsSpelledTo states l k ds done → done ≡ insertions_of states l
-all_spelled states l k ds done all is =
-    let P : List TraceStep → Type 0 = λ rest. done ++ insertions_from states k ds rest ≡ insertions_of states l in
-    sym (append-nil done) ∙ subst P (drop_all k l.trace all) is.so_far
-
 -- over what the calls of the loop hand out
 pub step_spelled : (states : List (List ℕ)) (l : History) (k : ℕ) (trace : List TraceStep)
     (ds read again next : List Descent) (classes : List Class) (done more : List Insertion) (p : TraceStep)
@@ -74,12 +67,3 @@ step_spelled states l k trace ds read again next classes done more p insert same
     (made ∙ ap (λ (i : Insertion). done ++ i ∷ [])
     (insert_is ∙ ap (λ (xs : List Descent). insertion_of states k xs p) read_is))
     is
-
-pub next_step_fits : (states : List (List ℕ)) (l : History) (k : ℕ) (trace : List TraceStep) (ds : List Descent)
-    (done : List Insertion) (p : TraceStep) → trace ≡ l.trace → k < length trace → p ≡ get_or trace k p
-    → IsSpelledTo states l k ds done → StepFits l.given p k ds
-next_step_fits states l k trace ds done p same within item is =
-    let W : List TraceStep → Type 0 = λ xs. k < length xs in
-    let I : List TraceStep → Type 0 = λ xs. p ≡ get_or xs k p in
-    step_fits l.given p (drop (k + 1) l.trace) l.current k ds
-    (at_step states l k ds done p (subst W same within) (subst I same item) is)

@@ -2,8 +2,8 @@
 
 ghost use Rattle.std.specs.Prelude.{◌≡◌, IfOk, map};
 ghost use Rattle.si_base.specs.Graph.{IsNonInput};
-ghost use Rattle.si_checks.specs.Lent.{coded_of};
-ghost use Rattle.si_netlist.specs.Parts.{gate_seen};
+ghost use Rattle.si_checks.specs.Loops.Lent.{coded_of};
+ghost use Rattle.si_netlist.specs.Loops.Parts.{gate_seen};
 ghost use Rattle.si_circuit.specs.Covered.{HasPrimeGates};
 ghost use Rattle.si_circuit.specs.Gates as chosen;
 ghost use Rattle.si_circuit.specs.Spelled.{AreInserted, AreSpelled};

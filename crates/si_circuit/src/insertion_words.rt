@@ -2,7 +2,7 @@
 
 ghost use Rattle.std.specs.Prelude.{◌≡◌, ◌++◌, OnOk};
 ghost use Rattle.si_circuit.specs.InsertionWords.{all_insertion_words, insertion_words as words_of};
-ghost use Rattle.si_words.specs.Writing.{spaced};
+ghost use Rattle.si_words.specs.Loops.Writing.{spaced};
 
 use si_base::ids::NoMemory;
 use si_base::text::Text;

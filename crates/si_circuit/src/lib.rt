@@ -1,5 +1,5 @@
-//! Netlists of a graph without conflicts: a gate of one style for each signal that the circuit
-//! drives.
+//! Netlists of a graph without conflicts, and circuits of a lineage: a gate of one style, or a cell
+//! of a library, for each signal that the circuit drives.
 #![tactic(auto)]
 
 pub mod cells;

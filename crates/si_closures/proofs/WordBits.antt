@@ -1,22 +1,12 @@
 -- Bits of words of 128.
-use Rattle.std.proofs.Common.{◌≡◌, ℕ, ◌+◌, ◌-◌, ◌%◌, ◌^◌, ◌<◌, ◌==◌, ◌&&◌, ◌||◌, ◌⊎◌, ◌↔◌, min, not, Bool, true, false}
+use Rattle.std.proofs.Common.{◌≡◌, ℕ, ◌+◌, ◌-◌, ◌%◌, ◌^◌, ◌<◌, ◌==◌, ◌||◌, ◌⊎◌, ◌↔◌, not, Bool, true, false}
 use Rattle.std.proofs.Common.{refl, sym, ap, ◌∙◌, inl, inr, bit_and, bit_or, bit_xor}
 use Rattle.std.proofs.lemmas.Bool.{cases_lt, true≢false, and_parts, and_from, or_cases}
-use Rattle.std.proofs.lemmas.Nat.Bits.{bit_at_and, bit_at-lt, bit_at_not, bit_at_xor}
+use Rattle.std.proofs.lemmas.Nat.Bits.{bit_at-lt, bit_at_not, bit_at_xor}
 use Rattle.std.specs.Int.{bit_at, w128}
 use Rattle.si_base.specs.Bits.{bit}
-use Rattle.si_base.proofs.BitFacts.{below_two}
+use Rattle.si_base.proofs.BitFacts.{below_two, bit-zero, bit-or, bit-and}
 use Rattle.si_base.proofs.StepCodes.{no_bit}
-use Rattle.si_graph.proofs.ValueLemmas.{bit-or, bit-zero}
-
-both_bits : (x y : ℕ) → x < 2 → y < 2 → (min x y == 1) ≡ ((x == 1) && (y == 1))
-both_bits x y lx ly = elim (below_two x lx) [
-  | inl x0 ↦ elim (below_two y ly) [ inl y0 ↦ rw (x0, y0) refl | inr y1 ↦ rw (x0, y1) refl ]
-  | inr x1 ↦ elim (below_two y ly) [ inl y0 ↦ rw (x1, y0) refl | inr y1 ↦ rw (x1, y1) refl ]
-]
-
-pub and_is : (x y k : ℕ) → bit (bit_and x y) k ≡ (bit x k && bit y k)
-and_is x y k = rw (bit_at_and x y k) (both_bits (bit_at x k) (bit_at y k) (bit_at-lt x k) (bit_at-lt y k))
 
 one_bit : (x y : ℕ) → x < 2 → y < 2 → (((x + y) % 2 == 1) ≡ true) ↔ ((y == 1) ≡ not (x == 1))
 one_bit x y lx ly = elim (below_two x lx) [
@@ -51,8 +41,8 @@ no_bit_of_none x k none has = true≢false (sym has ∙ ap (λ (w : ℕ). bit w 
 
 pub in_and : (x y k : ℕ) → (bit (bit_and x y) k ≡ true) ↔ ((bit x k ≡ true) × (bit y k ≡ true))
 in_and x y k = (
-  λ h. and_parts (bit x k) (bit y k) (sym (and_is x y k) ∙ h),
-  λ (one, other). and_is x y k ∙ and_from (bit x k) (bit y k) one other,
+  λ h. and_parts (bit x k) (bit y k) (sym (bit-and x y k) ∙ h),
+  λ (one, other). bit-and x y k ∙ and_from (bit x k) (bit y k) one other,
 )
 
 pub in_both : (x y z k : ℕ) → (bit (bit_and (bit_and x y) z) k ≡ true)

@@ -1,20 +1,20 @@
 -- Words for states or events: what their bits say, one set beside another.
-use Rattle.std.proofs.Common.{◌≡◌, ◌≢◌, ℕ, ◌+◌, ◌-◌, ◌*◌, ◌%◌, ◌^◌, ◌<◌, ◌≤◌, ◌==◌, Bool, true, false, if◌then◌else◌}
-use Rattle.std.proofs.Common.{◌∙◌, sym, refl, ap, ap₂, subst, arith, List, [], ◌∷◌, ◌++◌, length, map, take, get_or}
+use Rattle.std.proofs.Common.{◌≡◌, ◌≢◌, ℕ, ◌+◌, ◌-◌, ◌*◌, ◌%◌, ◌^◌, ◌<◌, ◌≤◌, ◌==◌, Bool, true, false}
+use Rattle.std.proofs.Common.{◌∙◌, sym, refl, ap, ap₂, subst, arith, List, length, get_or}
 use Rattle.std.proofs.Common.{set, replicate, inl, inr, ◌⊎◌, ◌↔◌, get_or-set_same, get_or-set_other, length-set}
 use Rattle.std.proofs.Common.{bit_and}
-use Rattle.std.proofs.lemmas.Bool.{cases_eq, cases_lt, cases_Bool, true≢false}
-use Rattle.std.proofs.lemmas.List.{get_or_default, get_or_past, ext_get_or, length-replicate, get_or-replicate}
-use Rattle.std.proofs.lemmas.List.{take_more, map-append, length-map}
+use Rattle.std.proofs.lemmas.Bool.{cases_eq, cases_Bool, true≢false}
+use Rattle.std.proofs.lemmas.List.{get_or_default, ext_get_or, length-replicate, get_or-replicate}
+use Rattle.std.proofs.lemmas.List.{length-map}
 use Rattle.std.proofs.lemmas.Nat.Bits.{bit_at_ones, bit_at_clear_same, bit_at_clear_other}
 use Rattle.std.specs.Int.{w128}
 use Rattle.si_base.specs.declared.ids.Event.{Event}
 use Rattle.si_base.specs.Bits.{bit}
 use Rattle.si_base.specs.Graph.{event_place}
+use Rattle.si_base.proofs.BitFacts.{bit-zero}
 use Rattle.si_graph.proofs.OrderLemmas.{event_from_place}
-use Rattle.si_graph.proofs.ValueLemmas.{bit-zero}
-use Rattle.si_closures.specs.WordSearch.{column, HasBit, Passes}
-use Rattle.si_closures.specs.Words.{HasAll, IsEventAt}
+use Rattle.si_closures.specs.Loops.WordSearch.{column, HasBit, Passes}
+use Rattle.si_closures.specs.Loops.Words.{HasAll, IsEventAt}
 use Rattle.si_closures.proofs.WordSearchLemmas.{in_column, column-at}
 
 -- ---- each bit
@@ -27,27 +27,6 @@ full_at n k s few inside =
 
 pub has_all : (n : ℕ) → HasAll n (replicate n (2 ^ 128 - 1))
 has_all n = record { size = length-replicate n (2 ^ 128 - 1); each = full_at n }
-
--- ---- one set again and again
--- the word of a state that is in each set, or in none
-abbrev pub all_or_none : Bool → ℕ
-all_or_none x = if x then 2 ^ 128 - 1 else 0
-
-told_back : (x : Bool) (k : ℕ) → k < 128 → bit (all_or_none x) k ≡ x
-told_back true k few = full_bit k few
-told_back false k few = bit-zero k
-
-pub column_back : (xs : List Bool) (k : ℕ) → k < 128 → column k (map all_or_none xs) ≡ xs
-column_back [] k few = refl
-column_back (x ∷ xs) k few = ap₂ (λ y ys. y ∷ ys) (told_back x k few) (column_back xs k few)
-
-pub repeated_more : (xs : List Bool) (s word : ℕ) (x : Bool) (words : List ℕ) → s < length xs
-    → get_or xs s false ≡ x → word ≡ all_or_none x → words ≡ map all_or_none (take s xs)
-    → words ++ word ∷ [] ≡ map all_or_none (take (s + 1) xs)
-repeated_more xs s word x words inside at is so =
-    ap₂ (λ (ws : List ℕ) (w : ℕ). ws ++ w ∷ []) so (is ∙ ap all_or_none (sym at))
-    ∙ sym (map-append all_or_none (take s xs) (get_or xs s false ∷ []))
-    ∙ ap (map all_or_none) (sym (take_more xs s false inside))
 
 -- ---- events that don't pass
 -- of the first n stops, that of the set k is at the place p
@@ -195,43 +174,7 @@ pub record AreTold (words : List ℕ) (k n : ℕ) (marks : List Bool) : Type 0 w
   pub told : (s : ℕ) → s < n → get_or marks s false ≡ bit (get_or words s 0) k
   pub later : (s : ℕ) → n ≤ s → get_or marks s false ≡ false
 
-pub none_told : (words : List ℕ) (k m : ℕ) → m ≡ length words → AreTold words k 0 (replicate m false)
-none_told words k m same = record {
-  size = length-replicate m false ∙ same;
-  told = λ s early. absurd (omega arith);
-  later = λ s late. none_in m s;
-}
-  where
-    none_in : (n s : ℕ) → get_or (replicate n false) s false ≡ false
-    none_in n s = elim (cases_lt s n) [
-      | inl below ↦ get_or-replicate n s false false below
-      | inr past ↦ get_or_past (replicate n false) s false (omega (arith, length-replicate n false, past))
-    ]
-
 module _ (words : List ℕ) (k n : ℕ) (marks : List Bool) (before : AreTold words k n marks) where
-  pub one_told : n < length words → bit (get_or words n 0) k ≡ true → AreTold words k (n + 1) (set marks n true)
-  one_told inside has = record {
-    size = length-set marks n true ∙ before.size;
-    told = λ s early. elim (cases_eq s n) [
-      | inl same ↦ ap (λ j. get_or (set marks n true) j false) same
-          ∙ get_or-set_same marks n true false (omega (arith, inside, before.size))
-          ∙ sym (ap (λ j. bit (get_or words j 0) k) same ∙ has)
-      | inr other ↦ get_or-set_other marks n s true false other ∙ before.told s (omega (arith, early, other))
-    ];
-    later = λ s late. get_or-set_other marks n s true false (λ same. absurd (omega (arith, late, same)))
-        ∙ before.later s (omega (arith, late));
-  }
-
-  pub none_more_told : bit (get_or words n 0) k ≡ false → AreTold words k (n + 1) marks
-  none_more_told none = record {
-    size = before.size;
-    told = λ s early. elim (cases_eq s n) [
-      | inl same ↦ before.later s (omega (arith, same)) ∙ sym (ap (λ j. bit (get_or words j 0) k) same ∙ none)
-      | inr other ↦ before.told s (omega (arith, early, other))
-    ];
-    later = λ s late. before.later s (omega (arith, late));
-  }
-
   pub all_told : length words ≤ n → marks ≡ column k words
   all_told all = ext_get_or false marks (column k words) (before.size ∙ sym (length-map words (λ (w : ℕ). bit w k)))
       (λ s inside. before.told s (omega (arith, inside, before.size, all)) ∙ sym (column-at k words s))

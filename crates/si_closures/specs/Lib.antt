@@ -1,2 +1,1 @@
-pub mod WordSearch
-pub mod Words
+pub mod Loops

@@ -4,8 +4,8 @@ ghost use Rattle.std.specs.Prelude.{◌≡◌, ◌≢◌, ◌≤◌, ◌<◌, �
 ghost use Rattle.si_base.specs.declared.ids.Event.{Event};
 ghost use Rattle.si_base.specs.Bits.{bit};
 ghost use Rattle.si_base.specs.Graph.{event_place};
-ghost use Rattle.si_closures.specs.WordSearch.{column, Passes};
-ghost use Rattle.si_closures.specs.Words.{HasAll, IsEventAt};
+ghost use Rattle.si_closures.specs.Loops.WordSearch.{column, Passes};
+ghost use Rattle.si_closures.specs.Loops.Words.{HasAll, IsEventAt};
 
 use si_base::ids::{Event, NoMemory, StateId};
 use si_base::sets::StateSet;
@@ -19,18 +19,6 @@ pub fn everywhere(alloc: Global, states: u32) -> Result<Vec<u128>, NoMemory>
     ensures { IfOk result (λ words. HasAll states words.items) }
 {
     let words = vec![in alloc; u128::MAX; states as usize]?;
-    Ok(words)
-}
-
-/// The words by which each set is this one. It fails only where memory runs out.
-pub fn repeated(alloc: Global, set: &StateSet) -> Result<Vec<u128>, NoMemory>
-    ensures { IfOk result (λ words. (k : ℕ) → k < 128 → column k words.items ≡ set.now) }
-{
-    let mut words: Vec<u128> = Vec::new(alloc);
-    for s in 0..set.size() {
-        let word = if set.has(StateId(s)) { u128::MAX } else { 0 };
-        words.push(word)?;
-    }
     Ok(words)
 }
 

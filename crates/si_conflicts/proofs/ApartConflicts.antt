@@ -1,19 +1,20 @@
 -- When two copies at one value are a conflict, by their roles, the keys of their states and what stays excited.
 use Rattle.std.proofs.Common.{◌≡◌, ◌≢◌, ℕ, ◌+◌, ◌<◌, ◌==◌, ◌&&◌, Bool, true, false, not, cond, length, refl, sym, ap}
 use Rattle.std.proofs.Common.{ap₂, subst, ◌∙◌, arith, inl, inr, eqb-true, eq-eqb, ne_eqb}
-use Rattle.std.proofs.lemmas.Bool.{cases_eq, true≢false}
+use Rattle.std.proofs.lemmas.Bool.{cases_eq, true≢false, and_right}
 use Rattle.si_base.specs.Bits.{bit, flip}
 use Rattle.si_base.specs.Codes.{CodedGraph, IsCoded, code}
 use Rattle.si_base.proofs.BitFacts.{flip-same, flip-other, same_codes}
 use Rattle.si_base.proofs.StepCodes.{code_fits, no_bit}
+use Rattle.si_base.proofs.Booleans.{same_if}
 use Rattle.si_insert.specs.Insertion.{copy_code}
 use Rattle.si_insert.proofs.InsertionCopies.{copy}
 use Rattle.si_insert.proofs.InsertionProper.{old_bit, new_bit}
 use Rattle.si_conflicts.specs.declared.keys.Key.{Key}
 use Rattle.si_conflicts.specs.declared.tally.Role.{Role}
 use Rattle.si_conflicts.specs.declared.tally.Role.TheVariants.{Absent, Plain, Switching}
-use Rattle.si_conflicts.specs.Keys.{clashes}
-use Rattle.si_conflicts.specs.Apart.{is_switching, are_apart}
+use Rattle.si_conflicts.specs.Loops.Keys.{clashes}
+use Rattle.si_conflicts.specs.Loops.Apart.{is_switching, are_apart}
 use Rattle.si_conflicts.proofs.CountLemmas.{eq_back, clash_back}
 use Rattle.si_conflicts.proofs.CopyKeys.{excited_there}
 
@@ -31,20 +32,11 @@ meets Switching x m Absent y n = false
 meets Switching x m Plain y n = x.code == y.code
 meets Switching x m Switching y n = clashes (staying_key x m) (staying_key y n)
 
-pub same_test : (a b : Bool) → (a ≡ true → b ≡ true) → (b ≡ true → a ≡ true) → a ≡ b
-same_test true b there back = sym (there refl)
-same_test false true there back = back refl
-same_test false false there back = refl
-
 pub itself : (n : ℕ) → (n == n) ≡ true
 itself n = eq-eqb n n refl
 
-and_false : (a b : Bool) → b ≡ false → (a && b) ≡ false
-and_false true b is = is
-and_false false b is = refl
-
 pub clashes_itself : (x : Key) → clashes x x ≡ false
-clashes_itself x = and_false (x.code == x.code) (not (x.excited == x.excited)) (ap not (itself x.excited))
+clashes_itself x = and_right (x.code == x.code) (not (x.excited == x.excited)) (ap not (itself x.excited))
 
 pub clashes_other : (x y : Key) → (x.code == y.code) ≡ false → clashes x y ≡ false
 clashes_other x y other = ap (λ b. b && not (x.excited == y.excited)) other
@@ -108,7 +100,7 @@ flip_back k m i k_off m_off same = same_codes k m (λ z. elim (cases_eq z i) [
 ])
 
 flip_equal : (k m i : ℕ) → bit k i ≡ false → bit m i ≡ false → (flip k i == flip m i) ≡ (k == m)
-flip_equal k m i k_off m_off = same_test (flip k i == flip m i) (k == m)
+flip_equal k m i k_off m_off = same_if (flip k i == flip m i) (k == m)
     (λ is. eq-eqb k m (flip_back k m i k_off m_off (eqb-true (flip k i) (flip m i) is)))
     (λ is. eq-eqb (flip k i) (flip m i) (ap (λ n. flip n i) (eqb-true k m is)))
 
@@ -155,7 +147,7 @@ module _ (c : CodedGraph) (is : IsCoded c) (s t : ℕ) (s_in : s < c.graph.state
   same_copy_code false same = same
 
   pub copies_equal : (b : Bool) → (copy_code c (copy s b) == copy_code c (copy t b)) ≡ (code c s == code c t)
-  copies_equal b = same_test (copy_code c (copy s b) == copy_code c (copy t b)) (code c s == code c t)
+  copies_equal b = same_if (copy_code c (copy s b) == copy_code c (copy t b)) (code c s == code c t)
       (λ e. eq-eqb (code c s) (code c t)
       (same_state_code b b (eqb-true (copy_code c (copy s b)) (copy_code c (copy t b)) e)))
       (λ e. eq-eqb (copy_code c (copy s b)) (copy_code c (copy t b))

@@ -1,5 +1,5 @@
 -- As many pairs of copies clash as the members of chains tell.
-use Rattle.std.proofs.Common.{◌≡◌, ◌≢◌, ℕ, zero, suc, ◌+◌, ◌<◌, ◌≤◌, ◌==◌, ◌&&◌, Bool, true, false, not, cond, List, []}
+use Rattle.std.proofs.Common.{◌≡◌, ◌≢◌, ℕ, suc, ◌+◌, ◌<◌, ◌==◌, ◌&&◌, Bool, true, false, not, cond, List, []}
 use Rattle.std.proofs.Common.{◌∷◌, length, map, filter, get_or, refl, sym, ap, ap₂, subst, ◌∙◌, arith, inl, inr}
 use Rattle.std.proofs.Common.{eqb-true, ne_eqb}
 use Rattle.std.proofs.lemmas.Bool.{cases_Bool, cases_eq, cases_order, true≢false}
@@ -9,6 +9,8 @@ use Rattle.std.specs.List.{sum_by, range_with_len}
 use Rattle.si_base.specs.Bits.{bit}
 use Rattle.si_base.specs.Codes.{CodedGraph, IsCoded, code}
 use Rattle.si_base.proofs.OrderAscending.{In}
+use Rattle.si_base.proofs.Booleans.{one_if}
+use Rattle.si_base.proofs.ListLemmas.{range_bounds}
 use Rattle.si_insert.specs.declared.partition.Class.{Class}
 use Rattle.si_insert.specs.declared.partition.Class.TheVariants.{Low, Rising, High, Falling}
 use Rattle.si_insert.specs.Partition.{class_of}
@@ -19,10 +21,11 @@ use Rattle.si_conflicts.specs.declared.keys.Key.{Key}
 use Rattle.si_conflicts.specs.declared.members.Member.{Member}
 use Rattle.si_conflicts.specs.declared.tally.Role.{Role}
 use Rattle.si_conflicts.specs.declared.tally.Role.TheVariants.{Absent}
-use Rattle.si_conflicts.specs.Keys.{IsKey, clashes, clash_count}
-use Rattle.si_conflicts.specs.Chains.{AreRings, AreMembers, IsNextInRing, has_equal, with_equals}
-use Rattle.si_conflicts.specs.Apart.{AreStaying, role_at, is_switching, are_apart, role_and_key, stable_count, pair_sum}
-use Rattle.si_conflicts.specs.Apart.{switching_keys, switching_count}
+use Rattle.si_conflicts.specs.Loops.Keys.{IsKey, clashes, clash_count}
+use Rattle.si_conflicts.specs.Loops.Chains.{AreRings, AreMembers, IsNextInRing, has_equal, with_equals}
+use Rattle.si_conflicts.specs.Loops.Apart.{AreStaying, role_at, is_switching, are_apart, role_and_key, stable_count}
+use Rattle.si_conflicts.specs.Loops.Apart.{pair_sum}
+use Rattle.si_conflicts.specs.Loops.Apart.{switching_keys, switching_count}
 use Rattle.si_conflicts.proofs.CountLemmas.{clash_back}
 use Rattle.si_conflicts.proofs.CopyKeys.{copy_key, there_or_absent}
 use Rattle.si_conflicts.proofs.KeyNumbers.{driven_within, one_key}
@@ -32,15 +35,6 @@ use Rattle.si_conflicts.proofs.ApartConflicts.{meets_absent, meets_parts, copy_c
 use Rattle.si_conflicts.proofs.ApartPairSums.{all_in, same_sum, sum_none, sum_two, sum_map, sum_kept, pair_same}
 use Rattle.si_conflicts.proofs.ApartPairSums.{pair_two}
 use Rattle.si_conflicts.proofs.ApartPairSums.{pair_map, pair_filter, twice, clash_pairs}
-
-abbrev one_if : Bool → ℕ
-one_if b = cond b 1 0
-
--- ---- a range
-pub in_range : (i n a : ℕ) → In a (range_with_len i n) → (i ≤ a) × (a < i + n)
-in_range i zero a there = absurd there
-in_range i (suc n) a (inl same) = (omega arith, omega arith)
-in_range i (suc n) a (inr later) = let r = in_range (i + 1) n a later in (omega (arith, r.0), omega (arith, r.1))
 
 -- ---- a sum over copies, state by state
 module _ (classes : List Class) (f : Copy → ℕ) where
@@ -145,7 +139,7 @@ module _ (c : CodedGraph) (is : IsCoded c) (classes : List Class) (count : lengt
   pair x y = cond (clashes (key x) (key y)) 1 0
 
   within : (s : ℕ) → In s states → s < c.graph.states
-  within s there = let r = in_range 0 c.graph.states s there in omega (arith, r.1)
+  within s there = let r = range_bounds 0 c.graph.states s there in omega (arith, r.1)
 
   own_off : (s : ℕ) → bit (own s).excited last ≡ false
   own_off s = elim (cases_Bool (bit (own s).excited last)) [

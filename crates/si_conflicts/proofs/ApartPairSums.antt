@@ -8,8 +8,8 @@ use Rattle.std.specs.List.{sum_by}
 use Rattle.si_base.proofs.OrderAscending.{In}
 use Rattle.si_base.proofs.GivenGraphUnique.{contains_from_in}
 use Rattle.si_conflicts.specs.declared.keys.Key.{Key}
-use Rattle.si_conflicts.specs.Keys.{clashes, clash_count}
-use Rattle.si_conflicts.specs.Apart.{pair_sum}
+use Rattle.si_conflicts.specs.Loops.Keys.{clashes, clash_count}
+use Rattle.si_conflicts.specs.Loops.Apart.{pair_sum}
 
 pub all_in : {A : Type 0} (P : A → Type 0) (xs : List A) (a : A) → All P xs → In a xs → P a
 all_in P xs a all there = All-contains P xs a all (contains_from_in xs a there)

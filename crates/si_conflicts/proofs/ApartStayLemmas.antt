@@ -5,12 +5,12 @@ use Rattle.std.proofs.lemmas.List.{map-append}
 use Rattle.std.proofs.lemmas.List.Elements.{filter_more}
 use Rattle.si_base.specs.declared.graph.Edge.{Edge}
 use Rattle.si_base.specs.Graph.{StateGraph, Step, IsNonInput, arc}
-use Rattle.si_graph.specs.Arcs.{AreOut}
+use Rattle.si_graph.specs.Loops.Arcs.{AreOut}
 use Rattle.si_insert.specs.declared.partition.Class.{Class}
 use Rattle.si_insert.specs.Partition.{class_of}
 use Rattle.si_conflicts.specs.declared.keys.Key.{Key}
 use Rattle.si_conflicts.specs.declared.members.Member.{Member}
-use Rattle.si_conflicts.specs.Apart.{Stays, AreStaying, role_at, is_switching, switching_keys}
+use Rattle.si_conflicts.specs.Loops.Apart.{Stays, AreStaying, role_at, is_switching, switching_keys}
 use Rattle.si_conflicts.proofs.KeyLemmas.{ExcitedTo}
 
 -- the arc is of a non-input and leads to a state of the same class

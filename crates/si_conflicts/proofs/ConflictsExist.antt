@@ -13,7 +13,7 @@ use Rattle.si_base.proofs.GraphSteps.{step_from_enables}
 use Rattle.si_checks.proofs.SearchDecisions as decide
 use Rattle.si_checks.proofs.SearchDecisions.{Decided}
 use Rattle.si_conflicts.specs.Conflicts.{AreConflicts, HasConflicts, AreFirstConflicts}
-use Rattle.si_conflicts.specs.Search.{AreBelow}
+use Rattle.si_conflicts.specs.Loops.Search.{AreBelow}
 use Rattle.si_conflicts.proofs.SearchLemmas.{below_none, below_gap, below_take, below_row, below_all}
 
 -- ---- whether two states are a conflict

@@ -13,6 +13,7 @@ use Rattle.si_base.specs.Codes.{CodedGraph, IsCoded}
 use Rattle.si_base.proofs.BitFacts.{flip-same, flip-other}
 use Rattle.si_base.proofs.StepCodes.{step_within}
 use Rattle.si_base.proofs.GraphSteps.{enables-step, step_from_enables}
+use Rattle.si_base.proofs.Booleans.{twice_not}
 use Rattle.si_insert.specs.declared.partition.Class.{Class}
 use Rattle.si_insert.specs.declared.partition.Class.TheVariants.{Low, Rising, High, Falling}
 use Rattle.si_insert.specs.Partition.{class_of, IsLawful}
@@ -26,8 +27,8 @@ use Rattle.si_insert.proofs.InsertionProper.{leads, goes_on, code_at}
 use Rattle.si_conflicts.specs.declared.keys.Key.{Key}
 use Rattle.si_conflicts.specs.declared.tally.Role.{Role}
 use Rattle.si_conflicts.specs.declared.tally.Role.TheVariants.{Absent, Plain, Switching}
-use Rattle.si_conflicts.specs.Keys.{IsExcitedNonInput, AreExcited, IsKey, AreKeys, no_key}
-use Rattle.si_conflicts.specs.Apart.{Stays, AreStaying, role_at}
+use Rattle.si_conflicts.specs.Loops.Keys.{IsExcitedNonInput, AreExcited, IsKey, AreKeys, no_key}
+use Rattle.si_conflicts.specs.Loops.Apart.{Stays, AreStaying, role_at}
 use Rattle.si_conflicts.proofs.KeyLemmas.{HaveValues}
 use Rattle.si_conflicts.proofs.KeyNumbers.{driven_within}
 
@@ -79,10 +80,6 @@ role_cases true Rising there = inl (refl, rising_goes, λ (e : Rising ≡ Fallin
     rising_goes Falling = refl
 role_cases true High there = inl (refl, (λ d. refl), λ (e : High ≡ Falling). cc)
 role_cases true Falling there = inr (refl, refl)
-
-not_not : (b : Bool) → b ≡ not (not b)
-not_not true = refl
-not_not false = refl
 
 other_way : (a b : Bool) → a ≡ not b → b ≡ not a
 other_way a true same = sym (ap not same)
@@ -192,7 +189,7 @@ module _ (c : CodedGraph) (is : IsCoded c) (classes : List Class) (lawful : IsLa
         non_input = new_driven;
         up = not x.value;
         enabled = enabled (event last (not x.value)) (copy x.state (not x.value))
-            (inr (record { new = refl; stays = refl; from = not_not x.value; to = refl; class = may }));
+            (inr (record { new = refl; stays = refl; from = twice_not x.value; to = refl; class = may }));
       }
 
       same_class_goes : (t : ℕ) → class_of classes t ≡ class → waits class (class_of classes t) x.value ≡ false
@@ -203,7 +200,7 @@ module _ (c : CodedGraph) (is : IsCoded c) (classes : List Class) (lawful : IsLa
       goes_same_class t goes = stays_within (not x.value) (class_of classes t) there ∙ sym may
         where
           there : waits (switching (not x.value)) (class_of classes t) (not (not x.value)) ≡ false
-          there = subst (λ b. waits (switching (not x.value)) (class_of classes t) b ≡ false) (not_not x.value)
+          there = subst (λ b. waits (switching (not x.value)) (class_of classes t) b ≡ false) (twice_not x.value)
               (subst (λ d. waits d (class_of classes t) x.value ≡ false) may goes)
 
       is_staying : (z : ℕ) → Goes z → Stays c.graph classes x.state z

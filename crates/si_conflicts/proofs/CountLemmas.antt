@@ -8,12 +8,9 @@ use Rattle.std.proofs.lemmas.List.Sums.{count_by-le-length, sum_by_push}
 use Rattle.std.specs.Map.{count_at}
 use Rattle.std.specs.Cmp.{unsigned_ties}
 use Rattle.std.specs.Ordering.{nat_cmp, is_eq}
+use Rattle.si_base.proofs.Booleans.{one_if}
 use Rattle.si_conflicts.specs.declared.keys.Key.{Key}
-use Rattle.si_conflicts.specs.Keys.{clashes}
-
--- what an element adds to a count
-abbrev one_if : Bool → ℕ
-one_if b = cond b 1 0
+use Rattle.si_conflicts.specs.Loops.Keys.{clashes}
 
 -- ---- a count with one element more at the end
 count_last : {A : Type 0} (f : A → Bool) (xs : List A) (x : A)

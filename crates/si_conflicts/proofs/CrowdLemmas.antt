@@ -13,6 +13,7 @@ use Rattle.si_base.specs.Sets.{IsIn}
 use Rattle.si_base.proofs.OrderLemmas.{in_contains}
 use Rattle.si_base.proofs.OrderAscending.{In}
 use Rattle.si_base.proofs.GivenGraphUnique.{contains_from_in}
+use Rattle.si_base.proofs.Booleans.{one_if}
 use Rattle.si_insert.specs.declared.partition.Class.{Class}
 use Rattle.si_insert.specs.declared.partition.Class.TheVariants.{Low, Rising, High, Falling}
 use Rattle.si_insert.specs.Partition.{class_of, IsLawful}
@@ -22,9 +23,9 @@ use Rattle.si_conflicts.specs.declared.keys.Key.{Key}
 use Rattle.si_conflicts.specs.declared.members.Member.{Member}
 use Rattle.si_conflicts.specs.declared.tally.Role.{Role}
 use Rattle.si_conflicts.specs.declared.tally.Role.TheVariants.{Absent, Plain, Switching}
-use Rattle.si_conflicts.specs.Apart.{are_apart, pair_sum, role_at, stable_count}
-use Rattle.si_conflicts.specs.Chains.{AreChains, Chains}
-use Rattle.si_conflicts.specs.Crowds.{HasOfCrowd, code_count, crowd_of, crowded_of, is_crowded}
+use Rattle.si_conflicts.specs.Loops.Apart.{are_apart, pair_sum, role_at, stable_count}
+use Rattle.si_conflicts.specs.Loops.Chains.{AreChains, Chains}
+use Rattle.si_conflicts.specs.Loops.Crowds.{HasOfCrowd, code_count, crowd_of, crowded_of, is_crowded}
 use Rattle.si_conflicts.specs.Left.{LeavesConflicts}
 use Rattle.si_conflicts.proofs.ApartConflicts.{clashes_itself, itself}
 use Rattle.si_conflicts.proofs.ApartPairSums.{sum_two}
@@ -94,9 +95,6 @@ module _ {A : Type 0} where
         omega (arith, rest, both, one_turned, other_turned, sum_by-cons (d x) z zs, sum_by-cons (d y) z zs)
 
 -- ---- what a Rising and a Falling state of one code leave
-abbrev one_if : Bool → ℕ
-one_if b = cond b 1 0
-
 -- at how many values copies of states with those classes are a conflict
 abbrev weight : Class → Class → Key → Key → ℕ
 weight c d x y =

@@ -6,10 +6,10 @@ use Rattle.si_insert.specs.declared.partition.Class.TheVariants.{Low, Rising, Hi
 use Rattle.si_conflicts.specs.declared.keys.Key.{Key}
 use Rattle.si_conflicts.specs.declared.members.Member.{Member}
 use Rattle.si_conflicts.specs.declared.turns.Change.TheVariants.{SameKey, NewKey, NewCode}
-use Rattle.si_conflicts.specs.Keys.{clashes, clash_count, no_key}
-use Rattle.si_conflicts.specs.Turns.{turns_after}
-use Rattle.si_conflicts.specs.Apart.{stable_count, pair_sum, switching_count}
-use Rattle.si_conflicts.specs.Crowds.{code_count, crowded_of}
+use Rattle.si_conflicts.specs.Loops.Keys.{clashes, clash_count, no_key}
+use Rattle.si_conflicts.specs.Loops.Turns.{turns_after}
+use Rattle.si_conflicts.specs.Loops.Apart.{stable_count, pair_sum, switching_count}
+use Rattle.si_conflicts.specs.Loops.Crowds.{code_count, crowded_of}
 
 abbrev key : ℕ → ℕ → Key
 key code excited = record { code = code; excited = excited }

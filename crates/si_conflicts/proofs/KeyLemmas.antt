@@ -4,7 +4,6 @@ use Rattle.std.proofs.Common.{◌∷◌, ◌++◌, length, get_or, Contains, ref
 use Rattle.std.proofs.Common.{eq-eqb}
 use Rattle.std.proofs.lemmas.Bool.{cases_Bool, cases_eq, cases_lt, and_parts, and_from, true≢false}
 use Rattle.std.proofs.lemmas.List.{get_or_default, get_or_push, get_or_append_left}
-use Rattle.std.proofs.lemmas.Option.{slice_get_within}
 use Rattle.si_base.specs.declared.ids.Event.{Event}
 use Rattle.si_base.specs.declared.graph.Edge.{Edge}
 use Rattle.si_base.specs.Bits.{bit, IsSet}
@@ -12,12 +11,13 @@ use Rattle.si_base.specs.Graph.{StateGraph, Step, IsNonInput, arc, enables}
 use Rattle.si_base.specs.Codes.{CodedGraph, AreValues, code}
 use Rattle.si_base.specs.Proper.{IsConflict}
 use Rattle.si_base.proofs.BitFacts.{same_codes}
-use Rattle.si_base.proofs.StepCodes.{no_bit, old_value}
+use Rattle.si_base.proofs.StepCodes.{old_value, signal_there}
 use Rattle.si_base.proofs.GraphSteps.{enables-step, step_from_enables}
-use Rattle.si_graph.specs.Arcs.{AreOut}
-use Rattle.si_checks.specs.Searches.{Differ}
+use Rattle.si_base.proofs.Booleans.{same_not}
+use Rattle.si_graph.specs.Loops.Arcs.{AreOut}
+use Rattle.si_checks.specs.Loops.Searches.{Differ}
 use Rattle.si_conflicts.specs.declared.keys.Key.{Key}
-use Rattle.si_conflicts.specs.Keys.{IsExcitedNonInput, AreExcited, IsKey, clashes, key_at, no_key}
+use Rattle.si_conflicts.specs.Loops.Keys.{IsExcitedNonInput, AreExcited, IsKey, clashes, key_at, no_key}
 
 -- ---- the signals of those of the first n arcs that are P
 abbrev pub ExcitedTo : (Edge → Type 0) → List Edge → ℕ → ℕ → Type 0
@@ -28,12 +28,6 @@ ExcitedTo P arcs n excited = (z : ℕ) → (bit excited z ≡ true)
 -- the arc is of a non-input
 abbrev pub IsDrivenArc : StateGraph → Edge → Type 0
 IsDrivenArc g a = IsNonInput g.signals a.event.sig
-
-pub excited_none : (P : Edge → Type 0) (arcs : List Edge) → ExcitedTo P arcs 0 0
-excited_none P arcs z = (
-  λ is. absurd (true≢false (sym is ∙ no_bit 0 0 z (omega arith) (omega arith))),
-  λ found. absurd (let l = found.2 in omega arith),
-)
 
 module _ (P : Edge → Type 0) (arcs : List Edge) (k : ℕ) (a : Edge) (old : ℕ) (inside : k < length arcs)
     (at : a ≡ get_or arcs k a) (x : ExcitedTo P arcs k old) where
@@ -97,15 +91,6 @@ excited_all g s arcs n excited out all x z = (
         (record { non_input = non_input; up = a.event.up; enabled = enables-step g s a.event a.to step })
 
 -- ---- which keys clash
-not_same : (a b : Bool) → not a ≡ not b → a ≡ b
-not_same true true same = refl
-not_same true false same = sym same
-not_same false true same = sym same
-not_same false false same = refl
-
-signal_within : (c : CodedGraph) (z : ℕ) → IsNonInput c.graph.signals z → z < length c.graph.signals
-signal_within c z non_input = slice_get_within c.graph.signals z non_input.0 non_input.1
-
 -- the codes are values of each signal
 abbrev pub HaveValues : CodedGraph → Type 0
 HaveValues c = (a : ℕ) → a < length c.graph.signals → AreValues c.graph a (λ s. bit (code c s) a)
@@ -148,11 +133,11 @@ module _ (c : CodedGraph) (coded : HaveValues c) where
   carries p q x y is_x is_y same codes e non_input on =
       let here = (is_x.excited_are e.sig).1 (record { non_input = non_input; up = e.up; enabled = on }) in
       let there = (is_y.excited_are e.sig).0 (subst (λ n. bit n e.sig ≡ true) same here) in
-      let within = signal_within c e.sig non_input in
+      let within = signal_there c e.sig non_input in
       let one = value_at c p e.sig e.up coded within on in
       let other = value_at c q e.sig there.up coded within there.enabled in
       let up : there.up ≡ e.up =
-      not_same there.up e.up (sym other ∙ ap (λ k. bit k e.sig) (sym codes) ∙ one) in
+      same_not there.up e.up (sym other ∙ ap (λ k. bit k e.sig) (sym codes) ∙ one) in
       subst (λ b. enables c.graph q (record { sig = e.sig; up = b }) ≡ true) up there.enabled
 
   same_agree : (p q : ℕ) (x y : Key) → IsKey c p x → IsKey c q y → x.excited ≡ y.excited → code c p ≡ code c q
@@ -167,7 +152,7 @@ module _ (c : CodedGraph) (coded : HaveValues c) where
 
   no_switch : (s : ℕ) (x : Key) → IsKey c s x → (z : ℕ) → length c.graph.signals ≤ z → bit x.excited z ≡ false
   no_switch s x is z past = elim (cases_Bool (bit x.excited z)) [
-    | inl on ↦ (let within = signal_within c z ((is.excited_are z).0 on).non_input in absurd (omega arith))
+    | inl on ↦ (let within = signal_there c z ((is.excited_are z).0 on).non_input in absurd (omega arith))
     | inr off ↦ off
   ]
 

@@ -16,8 +16,8 @@ use Rattle.si_insert.specs.declared.partition.Class.{Class}
 use Rattle.si_insert.specs.declared.partition.Class.TheVariants.{Low, Rising, High, Falling}
 use Rattle.si_insert.specs.Partition.{class_of}
 use Rattle.si_conflicts.specs.declared.keys.Key.{Key}
-use Rattle.si_conflicts.specs.Keys.{IsExcitedNonInput, IsKey}
-use Rattle.si_conflicts.specs.Apart.{Stays, AreStaying}
+use Rattle.si_conflicts.specs.Loops.Keys.{IsExcitedNonInput, IsKey}
+use Rattle.si_conflicts.specs.Loops.Apart.{Stays, AreStaying}
 
 -- the bits of the number are the places where P holds
 abbrev pub AreBits : (ℕ → Type 0) → ℕ → Type 0

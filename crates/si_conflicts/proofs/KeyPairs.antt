@@ -13,7 +13,7 @@ use Rattle.si_base.proofs.GivenGraphUnique.{contains_from_in}
 use Rattle.si_base.proofs.OrderLemmas.{InOrder, in_contains}
 use Rattle.si_conflicts.specs.declared.keys.Key.{Key}
 use Rattle.si_conflicts.specs.Conflicts.{HasConflicts}
-use Rattle.si_conflicts.specs.Keys.{IsKey, AreKeys, clashes, clash_count, no_key}
+use Rattle.si_conflicts.specs.Loops.Keys.{IsKey, AreKeys, clashes, clash_count, no_key}
 use Rattle.si_conflicts.proofs.KeyLemmas.{HaveValues, clash_conflict, conflict_clash}
 
 -- ---- pairs in order, one by one
@@ -59,7 +59,7 @@ ordered_append (x ∷ xs) ys one two before = (
 )
 
 -- ---- the pairs of one state with those from n on, and of all states from p on
-abbrev with_last : Bool → ℕ × ℕ → List (ℕ × ℕ) → List (ℕ × ℕ)
+abbrev pub with_last : Bool → ℕ × ℕ → List (ℕ × ℕ) → List (ℕ × ℕ)
 with_last true pair pairs = pair ∷ pairs
 with_last false pair pairs = pairs
 

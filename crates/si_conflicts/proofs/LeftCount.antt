@@ -14,9 +14,9 @@ use Rattle.si_insert.proofs.OneInsertion.{same_copies}
 use Rattle.si_conflicts.specs.declared.keys.Key.{Key}
 use Rattle.si_conflicts.specs.declared.members.Member.{Member}
 use Rattle.si_conflicts.specs.Conflicts.{HasConflicts}
-use Rattle.si_conflicts.specs.Keys.{IsKey, clash_count}
-use Rattle.si_conflicts.specs.Chains.{AreRings, AreMembers}
-use Rattle.si_conflicts.specs.Apart.{AreStaying, AllStaying, stable_count, pair_sum, switching_count}
+use Rattle.si_conflicts.specs.Loops.Keys.{IsKey, clash_count}
+use Rattle.si_conflicts.specs.Loops.Chains.{AreRings, AreMembers}
+use Rattle.si_conflicts.specs.Loops.Apart.{AreStaying, AllStaying, stable_count, pair_sum, switching_count}
 use Rattle.si_conflicts.specs.Left.{LeavesConflicts}
 use Rattle.si_conflicts.proofs.OneConflictList.{one_count}
 use Rattle.si_conflicts.proofs.ApartCopyCount.{copies_clash}

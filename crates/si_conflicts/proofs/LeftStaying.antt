@@ -1,5 +1,5 @@
 -- Conflicts whose states an insertion doesn't part stay, so that as many are left at least.
-use Rattle.std.proofs.Common.{◌≡◌, ◌≢◌, ◌⊎◌, ℕ, zero, suc, ◌+◌, ◌<◌, ◌≤◌, ◌==◌, ◌&&◌, ◌∙◌, Bool, true, false, not, cond}
+use Rattle.std.proofs.Common.{◌≡◌, ◌≢◌, ◌⊎◌, ℕ, ◌+◌, ◌<◌, ◌≤◌, ◌==◌, ◌&&◌, ◌∙◌, Bool, true, false, not, cond}
 use Rattle.std.proofs.Common.{List, [], ◌∷◌, ◌++◌, length, map, filter, slice_index, Contains, refl, sym, ap}
 use Rattle.std.proofs.Common.{subst, arith, inl, inr, ltb, lt-ltb, le-ltb, eqb-true}
 use Rattle.std.proofs.lemmas.Bool.{cases_Bool, cases_lt, true≢false}
@@ -9,31 +9,29 @@ use Rattle.std.proofs.lemmas.List.Sums.{sum_by-cons}
 use Rattle.std.specs.List.{sum_by, range_with_len}
 use Rattle.si_base.specs.Codes.{CodedGraph, IsCoded, code}
 use Rattle.si_base.specs.Proper.{IsConflict, pair_place}
-use Rattle.si_base.proofs.ListLemmas.{Once, at_most}
+use Rattle.si_base.proofs.ListLemmas.{Once, at_most, in_range}
 use Rattle.si_base.proofs.OrderLemmas.{InOrder, in_contains}
 use Rattle.si_base.proofs.OrderAscending.{In}
 use Rattle.si_base.proofs.GivenGraphUnique.{contains_from_in}
+use Rattle.si_base.proofs.Booleans.{one_if}
 use Rattle.si_insert.specs.declared.partition.Class.{Class}
 use Rattle.si_insert.specs.declared.partition.Class.TheVariants.{Low, Rising, High, Falling}
 use Rattle.si_insert.specs.Partition.{class_of, IsLawful}
 use Rattle.si_conflicts.specs.declared.keys.Key.{Key}
 use Rattle.si_conflicts.specs.declared.members.Member.{Member}
-use Rattle.si_conflicts.specs.Apart.{are_apart, pair_sum, role_at, stable_count}
-use Rattle.si_conflicts.specs.Chains.{Chains, AreChains, IsNextInRing, has_equal, with_equals}
-use Rattle.si_conflicts.specs.Keys.{IsKey, clashes}
+use Rattle.si_conflicts.specs.Loops.Apart.{are_apart, pair_sum, role_at, stable_count}
+use Rattle.si_conflicts.specs.Loops.Chains.{Chains, AreChains, IsNextInRing, has_equal, with_equals}
+use Rattle.si_conflicts.specs.Loops.Keys.{IsKey, clashes}
 use Rattle.si_conflicts.specs.Left.{LeavesConflicts, are_parted, stays}
 use Rattle.si_conflicts.proofs.ApartCopyCount.{alone}
 use Rattle.si_conflicts.proofs.OneConflictList.{once_in_order}
 use Rattle.si_conflicts.proofs.CountLemmas.{clash_back}
 use Rattle.si_conflicts.proofs.KeyLemmas.{conflict_clash}
 use Rattle.si_conflicts.proofs.LeftCount.{at_least}
-use Rattle.si_conflicts.proofs.KeyPairs.{in_left, in_right}
+use Rattle.si_conflicts.proofs.KeyPairs.{in_left, in_right, with_last}
 use Rattle.si_conflicts.proofs.ApartPairSums.{all_in}
 
 -- ---- two keys that clash, of states that aren't parted
-abbrev one_if : Bool → ℕ
-one_if b = cond b 1 0
-
 one_holds : (a b : Bool) → (a ≡ true) ⊎ (b ≡ true) → 1 ≤ one_if a + one_if b
 one_holds a b (inl is) = (let one = ap one_if is in omega (arith, one))
 one_holds a b (inr is) = (let one = ap one_if is in omega (arith, one))
@@ -93,21 +91,17 @@ place_up s t less = ap (λ b. cond b (s, t) (t, s)) (lt-ltb s t less)
 place_down : (s t : ℕ) → s < t → place t s ≡ (s, t)
 place_down s t less = ap (λ b. cond b (t, s) (s, t)) (le-ltb t s (omega (arith, less)))
 
-abbrev put_if : Bool → ℕ × ℕ → List (ℕ × ℕ) → List (ℕ × ℕ)
-put_if true pair pairs = pair ∷ pairs
-put_if false pair pairs = pairs
-
 module _ (weight : Member → Member → ℕ) where
   abbrev row : Member → List Member → List (ℕ × ℕ)
   row x [] = []
-  row x (y ∷ ys) = put_if (ltb 0 (weight x y)) (place x.state y.state) (row x ys)
+  row x (y ∷ ys) = with_last (ltb 0 (weight x y)) (place x.state y.state) (row x ys)
 
   abbrev rows : List Member → List (ℕ × ℕ)
   rows [] = []
   rows (x ∷ xs) = row x xs ++ rows xs
 
   put_length : (n : ℕ) (pair : ℕ × ℕ) (pairs : List (ℕ × ℕ)) (b : Bool) → ltb 0 n ≡ b
-      → length (put_if b pair pairs) ≤ n + length pairs
+      → length (with_last b pair pairs) ≤ n + length pairs
   put_length n pair pairs true is = elim (cases_lt 0 n) [
     | inl some ↦ omega (arith, some)
     | inr none ↦ absurd (true≢false (sym is ∙ le-ltb 0 n none))
@@ -128,18 +122,18 @@ module _ (weight : Member → Member → ℕ) where
       let rest = rows_few xs in
       omega (arith, here, rest, length-append (row x xs) (rows xs))
 
-  put_there : (pair : ℕ × ℕ) (pairs : List (ℕ × ℕ)) (b : Bool) → b ≡ true → In pair (put_if b pair pairs)
+  put_there : (pair : ℕ × ℕ) (pairs : List (ℕ × ℕ)) (b : Bool) → b ≡ true → In pair (with_last b pair pairs)
   put_there pair pairs true is = inl refl
   put_there pair pairs false is = absurd (true≢false (sym is))
 
-  put_behind : (a pair : ℕ × ℕ) (pairs : List (ℕ × ℕ)) (b : Bool) → In a pairs → In a (put_if b pair pairs)
+  put_behind : (a pair : ℕ × ℕ) (pairs : List (ℕ × ℕ)) (b : Bool) → In a pairs → In a (with_last b pair pairs)
   put_behind a pair pairs true there = inr there
   put_behind a pair pairs false there = there
 
   in_row : (x y : Member) (ys : List Member) → In y ys → 0 < weight x y → In (place x.state y.state) (row x ys)
   in_row x y [] there some = absurd there
   in_row x y (z ∷ ys) (inl same) some =
-      subst (λ (u : Member). In (place x.state y.state) (put_if (ltb 0 (weight x u)) (place x.state u.state)
+      subst (λ (u : Member). In (place x.state y.state) (with_last (ltb 0 (weight x u)) (place x.state u.state)
       (row x ys))) same (put_there (place x.state y.state) (row x ys) (ltb 0 (weight x y)) (lt-ltb 0 (weight x y) some))
   in_row x y (z ∷ ys) (inr later) some =
       put_behind (place x.state y.state) (place x.state z.state) (row x ys) (ltb 0 (weight x z))
@@ -173,13 +167,6 @@ in_filter q (x ∷ xs) a (inr later) is = elim (cases_Bool (q x)) [
       (in_filter q xs a later is)
 ]
 
-in_range_from : (i n a : ℕ) → i ≤ a → a < i + n → In a (range_with_len i n)
-in_range_from i zero a from below = absurd (omega (arith, from, below))
-in_range_from i (suc n) a from below = elim (cases_lt i a) [
-  | inl more ↦ inr (in_range_from (i + 1) n a (omega (arith, more)) (omega (arith, below)))
-  | inr same ↦ inl (omega (arith, from, same))
-]
-
 from_map : (ms : List Member) (s : ℕ) → In s (map (λ (m : Member). m.state) ms)
     → (m : Member) × In m ms × (m.state ≡ s)
 from_map [] s there = absurd there
@@ -194,7 +181,7 @@ module _ (c : CodedGraph) (chains : Chains) (are : AreChains c chains) where
       (Contains-permutation (with_equals chains.next c.graph.states) (map (λ (m : Member). m.state) chains.members) s
       are.members_are.states (contains_from_in (with_equals chains.next c.graph.states) s
       (in_filter (has_equal chains.next) (range_with_len 0 c.graph.states) s
-      (in_range_from 0 c.graph.states s (omega arith) (omega (arith, s_in))) has_other))))
+      (in_range 0 c.graph.states s (omega arith) (omega (arith, s_in))) has_other))))
     where
       has_other : has_equal chains.next s ≡ true
       has_other = elim (cases_Bool (slice_index chains.next s == s)) [

@@ -5,10 +5,10 @@ use Rattle.std.proofs.Common.{inr, eqb-true, eq-eqb}
 use Rattle.std.proofs.lemmas.Bool.{cases_Bool, cases_eq, cases_order, true≢false}
 use Rattle.si_base.specs.Codes.{CodedGraph, IsCoded, code}
 use Rattle.si_base.specs.Proper.{IsConflict}
-use Rattle.si_graph.specs.Arcs.{IsFirstPlace}
+use Rattle.si_graph.specs.Loops.Arcs.{IsFirstPlace}
 use Rattle.si_conflicts.specs.declared.keys.Key.{Key}
-use Rattle.si_conflicts.specs.Keys.{IsKey}
-use Rattle.si_conflicts.specs.Links.{IsFirstOfCode, IsFirstClash, HasNextClash}
+use Rattle.si_conflicts.specs.Loops.Keys.{IsKey}
+use Rattle.si_conflicts.specs.Loops.Links.{IsFirstOfCode, IsFirstClash, HasNextClash}
 use Rattle.si_conflicts.proofs.KeyLemmas.{apart_conflict, same_no_conflict}
 
 -- ---- the first place
@@ -79,9 +79,6 @@ signals_same r x y u v is none at_u at_v = elim (cases_Bool (y.excited == x.exci
 -- ---- the first state in conflict, by the first later state of the code
 module _ (c : CodedGraph) (coded : IsCoded c) (s low : ℕ) (x : Key) (within : s < c.graph.states) (before : s < low)
     (is_x : IsKey c s x) where
-  pub clash_none : IsFirstOfCode c low (code c s) None → IsFirstClash c s low None
-  clash_none none j from below is = none j from below (sym is.same_code)
-
   pub clash_here : (t : ℕ) (y : Key) → IsKey c t y → x.excited ≢ y.excited → IsFirstOfCode c low (code c s) (Some t)
       → IsFirstClash c s low (Some t)
   clash_here t y is_y apart first =

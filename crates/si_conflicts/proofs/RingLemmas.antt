@@ -12,8 +12,8 @@ use Rattle.std.specs.List.{range_with_len}
 use Rattle.si_base.specs.Limits.{max_states}
 use Rattle.si_base.specs.Codes.{CodedGraph, IsCoded, code}
 use Rattle.si_conflicts.specs.declared.members.Member.{Member}
-use Rattle.si_conflicts.specs.Links.{IsFirstOfCode}
-use Rattle.si_conflicts.specs.Chains.{IsNextInRing, has_equal, with_equals, AreMembers}
+use Rattle.si_conflicts.specs.Loops.Links.{IsFirstOfCode}
+use Rattle.si_conflicts.specs.Loops.Chains.{IsNextInRing, has_equal, with_equals, AreMembers}
 
 pub next_is : (c : CodedGraph) (s : ℕ) (later first : Option ℕ) (t : ℕ) → s < c.graph.states
     → IsFirstOfCode c (s + 1) (code c s) later → IsFirstOfCode c 0 (code c s) first

@@ -7,9 +7,10 @@ use Rattle.std.proofs.lemmas.List.Quantifiers.{all_pairs_push}
 use Rattle.si_base.specs.Order.{Before}
 use Rattle.si_base.specs.Codes.{CodedGraph}
 use Rattle.si_base.specs.Proper.{IsConflict, pair_place}
+use Rattle.si_base.proofs.OrderLemmas.{at_places}
 use Rattle.si_conflicts.specs.Conflicts.{AreConflicts, AreFirstConflicts}
-use Rattle.si_conflicts.specs.Links.{IsFirstClash}
-use Rattle.si_conflicts.specs.Search.{AreBelow}
+use Rattle.si_conflicts.specs.Loops.Links.{IsFirstClash}
+use Rattle.si_conflicts.specs.Loops.Search.{AreBelow}
 
 -- ---- where a walk along the conflicts of a state stands
 abbrev pub low : ℕ → Option ℕ → ℕ
@@ -30,11 +31,6 @@ pub at_first : (c : CodedGraph) (p from : ℕ) (o : Option ℕ) → IsFirstClash
 at_first c p from None first = tt
 at_first c p from (Some q) first = first.holds
 
-pub left_falls : (c : CodedGraph) (p q : ℕ) (o : Option ℕ) → q < c.graph.states → IsFirstClash c p (q + 1) o
-    → left c.graph.states o < left c.graph.states (Some q)
-left_falls c p q None within first = omega arith
-left_falls c p q (Some r) within first = (let f = first.from in let b = first.below in omega arith)
-
 low_more : (c : CodedGraph) (p from : ℕ) (o : Option ℕ) → from ≤ c.graph.states → IsFirstClash c p from o
     → from ≤ low c.graph.states o
 low_more c p from None within first = within
@@ -46,11 +42,6 @@ none_between c p from None first t more less is = first t more less is
 none_between c p from (Some q) first t more less is = first.none_before t more less is
 
 -- ---- places of pairs
-pub at_places : (a b x y : ℕ) → Before (a ∷ b ∷ []) (x ∷ y ∷ []) → (a < x) ⊎ ((a ≡ x) × (b < y))
-at_places a b x y (inl h) = inl h
-at_places a b x y (inr (same, inl h)) = inr (same, h)
-at_places a b x y (inr (same, inr h)) = absurd h.1
-
 same_pair : (a b : ℕ × ℕ) → a.0 ≡ b.0 → a.1 ≡ b.1 → a ≡ b
 same_pair a b p q = λ i. (p i, q i)
 

@@ -11,8 +11,8 @@ use Rattle.si_base.specs.Limits.{max_states}
 use Rattle.si_conflicts.specs.declared.keys.Key.{Key}
 use Rattle.si_conflicts.specs.declared.tally.Role.TheVariants.{Plain}
 use Rattle.si_conflicts.specs.declared.tally.Tally.{Tally}
-use Rattle.si_conflicts.specs.Apart.{AreUpTo, HasTally, IsTally, IsUpTo, RoleAndKey, are_apart}
-use Rattle.si_conflicts.specs.Keys.{clashes, clash_count, key_cmp}
+use Rattle.si_conflicts.specs.Loops.Apart.{AreUpTo, HasTally, IsTally, IsUpTo, RoleAndKey, are_apart}
+use Rattle.si_conflicts.specs.Loops.Keys.{clashes, clash_count, key_cmp}
 use Rattle.si_conflicts.proofs.ApartConflicts.{clashes_itself}
 use Rattle.si_conflicts.proofs.ApartPairSums.{clash_pairs, pair_push, same_sum, sum_map, twice}
 use Rattle.si_conflicts.proofs.CountLemmas.{clash_back}

@@ -1,42 +1,34 @@
 -- Tallies of copies, and the order of keys.
-use Rattle.std.proofs.Common.{◌≡◌, ◌≢◌, ℕ, ◌+◌, ◌<◌, ◌≤◌, ◌==◌, ◌&&◌, Bool, true, false, not, cond, List}
+use Rattle.std.proofs.Common.{◌≡◌, ◌≢◌, ℕ, ◌+◌, ◌≤◌, ◌==◌, ◌&&◌, Bool, true, false, not, cond, List}
 use Rattle.std.proofs.Common.{All, count_by, refl, sym, ap, ap₂, ◌∙◌, arith, inl, inr}
-use Rattle.std.proofs.Common.{eq-eqb, ne_eqb, lt-ltb}
-use Rattle.std.proofs.lemmas.Bool.{cases_eq, cases_order, true≢false}
+use Rattle.std.proofs.Common.{eq-eqb, ne_eqb}
+use Rattle.std.proofs.lemmas.Bool.{cases_eq, cases_order, true≢false, and_right}
 use Rattle.std.proofs.lemmas.List.Elements.{All-weaker}
 use Rattle.std.proofs.lemmas.List.Sums.{sum_by-le-sum_by}
 use Rattle.std.specs.Ordering.{nat_cmp, is_lt, ordering_then}
 use Rattle.std.specs.declared.cmp.Ordering.{Ordering}
 use Rattle.std.specs.declared.cmp.Ordering.TheVariants.{Less, Equal, Greater}
 use Rattle.si_base.proofs.OrderAscending.{nat_same}
+use Rattle.si_base.proofs.Booleans.{one_if}
+use Rattle.si_graph.proofs.OrderLemmas.{less_nat}
 use Rattle.si_conflicts.specs.declared.keys.Key.{Key}
 use Rattle.si_conflicts.specs.declared.members.Member.{Member}
 use Rattle.si_conflicts.specs.declared.tally.Role.{Role}
 use Rattle.si_conflicts.specs.declared.tally.Role.TheVariants.{Absent, Plain, Switching}
 use Rattle.si_conflicts.specs.declared.tally.Tally.{Tally}
-use Rattle.si_conflicts.specs.Chains.{member_cmp}
-use Rattle.si_conflicts.specs.Keys.{key_cmp}
-use Rattle.si_conflicts.specs.Apart.{is_plain, is_switching, RoleAndKey, are_apart}
-use Rattle.si_conflicts.specs.Apart.{IsUpTo, AreUpTo, equal_keys, IsTally}
+use Rattle.si_conflicts.specs.Loops.Chains.{member_cmp}
+use Rattle.si_conflicts.specs.Loops.Keys.{key_cmp}
+use Rattle.si_conflicts.specs.Loops.Apart.{is_plain, is_switching, RoleAndKey, are_apart}
+use Rattle.si_conflicts.specs.Loops.Apart.{IsUpTo, AreUpTo, equal_keys, IsTally}
 use Rattle.si_conflicts.specs.declared.turns.Change.{Change}
 use Rattle.si_conflicts.specs.declared.turns.Change.TheVariants.{SameKey, NewKey, NewCode}
-use Rattle.si_conflicts.specs.Turns.{change_between, keeps_code, keeps_key}
+use Rattle.si_conflicts.specs.Loops.Turns.{change_between, keeps_code, keeps_key}
 use Rattle.si_conflicts.proofs.ApartPairSums.{all_in, same_sum, sum_none, sum_two}
-
-abbrev one_if : Bool → ℕ
-one_if b = cond b 1 0
 
 -- ---- counts
 count_none : {A : Type 0} (q : A → Bool) (xs : List A) → All (λ x. q x ≡ false) xs → count_by q xs ≡ 0
 count_none q xs none = sum_none (λ x. cond (q x) 1 0) xs
     (λ x there. ap one_if (all_in (λ x. q x ≡ false) xs x none there))
-
-count_same : {A : Type 0} (p q : A → Bool) (xs : List A) → ((x : A) → p x ≡ q x) → count_by p xs ≡ count_by q xs
-count_same p q xs same = same_sum (λ x. cond (p x) 1 0) (λ x. cond (q x) 1 0) xs (λ x there. ap one_if (same x))
-
-and_false : (a b : Bool) → b ≡ false → (a && b) ≡ false
-and_false true b is = is
-and_false false b is = refl
 
 -- ---- what one copy more meets
 pub meets_none : (key : Key) (copies : List RoleAndKey) → count_by (λ e. are_apart e (Absent, key)) copies ≡ 0
@@ -80,17 +72,6 @@ meets_plain key copies t is =
     at Plain x = one (x.code == key.code) (x.excited == key.excited)
     at Switching x = omega arith
 
-pub meets_switching : (key : Key) (copies : List RoleAndKey) (t : Tally) → IsTally key copies t
-    → t.plain ≡ count_by (λ e. are_apart e (Switching, key)) copies
-meets_switching key copies t is = is.plain
-    ∙ count_same (λ e. is_plain e.0 && (e.1.code == key.code)) (λ e. are_apart e (Switching, key)) copies
-    (λ e. at e.0 e.1)
-  where
-    at : (r : Role) (x : Key) → (is_plain r && (x.code == key.code)) ≡ are_apart (r, x) (Switching, key)
-    at Absent x = refl
-    at Plain x = refl
-    at Switching x = refl
-
 pub fewer_equal : (key : Key) (copies : List RoleAndKey) (t : Tally) → IsTally key copies t → t.equal ≤ t.plain
 fewer_equal key copies t is =
     let less = sum_by-le-sum_by (λ e. cond (is_plain e.0 && equal_keys e.1 key) 1 0)
@@ -129,7 +110,7 @@ other_key x y z (inl a) (inr b) other =
 other_key x y z (inr a) (inl b) other =
     ap (λ w. w && (x.excited == z.excited)) (ne_eqb x.code z.code (λ same. let e = a.0 in omega arith))
 other_key x y z (inr a) (inr b) other =
-    and_false (x.code == z.code) (x.excited == z.excited) (ne_eqb x.excited z.excited (λ same.
+    and_right (x.code == z.code) (x.excited == z.excited) (ne_eqb x.excited z.excited (λ same.
     other (let l = a.1 in let m = b.1 in omega arith)))
 
 module _ (from to : Key) (order : IsUpTo from to) (copies : List RoleAndKey) (all : AreUpTo copies from) where
@@ -143,22 +124,22 @@ module _ (from to : Key) (order : IsUpTo from to) (copies : List RoleAndKey) (al
         ∙ ap (λ k. count_by (λ e. q e.0 && (e.1.code == k)) copies) same
     | inr other ↦ ap (λ w. cond w n 0) (ne_eqb from.code to.code other)
         ∙ sym (none_of (λ e. q e.0 && (e.1.code == to.code))
-        (λ e up. and_false (q e.0) (e.1.code == to.code) (other_code e.1 from to up order other)))
+        (λ e up. and_right (q e.0) (e.1.code == to.code) (other_code e.1 from to up order other)))
   ]
 
   kept_by_key : (n : ℕ) → n ≡ count_by (λ e. is_plain e.0 && equal_keys e.1 from) copies
       → cond (equal_keys from to) n 0 ≡ count_by (λ e. is_plain e.0 && equal_keys e.1 to) copies
   kept_by_key n is = elim (cases_eq from.code to.code) [
     | inr other ↦ ap (λ w. cond (w && (from.excited == to.excited)) n 0) (ne_eqb from.code to.code other)
-        ∙ sym (none_of (λ e. is_plain e.0 && equal_keys e.1 to) (λ e up. and_false (is_plain e.0) (equal_keys e.1 to)
+        ∙ sym (none_of (λ e. is_plain e.0 && equal_keys e.1 to) (λ e up. and_right (is_plain e.0) (equal_keys e.1 to)
         (ap (λ w. w && (e.1.excited == to.excited)) (other_code e.1 from to up order other))))
     | inl code ↦ elim (cases_eq from.excited to.excited) [
       | inl same ↦ ap₂ (λ v w. cond (v && w) n 0) (eq-eqb from.code to.code code)
           (eq-eqb from.excited to.excited same) ∙ is
           ∙ ap₂ (λ k l. count_by (λ e. is_plain e.0 && ((e.1.code == k) && (e.1.excited == l))) copies) code same
-      | inr other ↦ ap (λ w. cond w n 0) (and_false (from.code == to.code) (from.excited == to.excited)
+      | inr other ↦ ap (λ w. cond w n 0) (and_right (from.code == to.code) (from.excited == to.excited)
           (ne_eqb from.excited to.excited other))
-          ∙ sym (none_of (λ e. is_plain e.0 && equal_keys e.1 to) (λ e up. and_false (is_plain e.0)
+          ∙ sym (none_of (λ e. is_plain e.0 && equal_keys e.1 to) (λ e up. and_right (is_plain e.0)
           (equal_keys e.1 to) (other_key e.1 from to up order other)))
     ]
   ]
@@ -191,19 +172,16 @@ module _ (from to : Key) (order : IsUpTo from to) (copies : List RoleAndKey) (al
       key = ap keeps_key change_is ∙ key_kept (from.code == to.code) (from.excited == to.excited)
 
 -- ---- the order of keys and of members
-less_code : (a b : ℕ) → a < b → nat_cmp a b ≡ Less
-less_code a b below = rw (lt-ltb a b below) refl
-
 pub key_up_to : (x y : Key) → is_lt (key_cmp y x) ≡ false → IsUpTo x y
 key_up_to x y sorted = elim (cases_order x.code y.code) [
   | inr (inl before) ↦ inl before
-  | inr (inr after) ↦ absurd (true≢false (rw (less_code y.code x.code after) at sorted))
+  | inr (inr after) ↦ absurd (true≢false (rw (less_nat y.code x.code after) at sorted))
   | inl same ↦ elim (cases_order x.excited y.excited) [
     | inl equal ↦ inr (same, omega arith)
     | inr (inl before) ↦ inr (same, omega arith)
     | inr (inr after) ↦ absurd (true≢false (rw (
       ap (λ k. nat_cmp y.code k) same ∙ nat_same y.code,
-      less_code y.excited x.excited after,
+      less_nat y.excited x.excited after,
     ) at sorted))
   ]
 ]

@@ -16,11 +16,11 @@ use Rattle.si_conflicts.specs.declared.tally.Role.{Role}
 use Rattle.si_conflicts.specs.declared.tally.Tally.{Tally}
 use Rattle.si_conflicts.specs.declared.turns.Change.{Change}
 use Rattle.si_conflicts.specs.declared.turns.Turn.{Turn}
-use Rattle.si_conflicts.specs.Keys.{no_key}
-use Rattle.si_conflicts.specs.Chains.{AreMembers, member_cmp}
-use Rattle.si_conflicts.specs.Turns.{change_between, turns_after, AreTurns, HaveMembers}
-use Rattle.si_conflicts.specs.Apart.{role_at, RoleAndKey, are_apart, role_and_key, stable_count, pair_sum}
-use Rattle.si_conflicts.specs.Apart.{IsUpTo, AreUpTo, IsTally, HasTally}
+use Rattle.si_conflicts.specs.Loops.Keys.{no_key}
+use Rattle.si_conflicts.specs.Loops.Chains.{AreMembers, member_cmp}
+use Rattle.si_conflicts.specs.Loops.Turns.{change_between, turns_after, AreTurns, HaveMembers}
+use Rattle.si_conflicts.specs.Loops.Apart.{role_at, RoleAndKey, are_apart, role_and_key, stable_count, pair_sum}
+use Rattle.si_conflicts.specs.Loops.Apart.{IsUpTo, AreUpTo, IsTally, HasTally}
 use Rattle.si_conflicts.proofs.ApartPairSums.{sum_two, sum_map, pair_push}
 use Rattle.si_conflicts.proofs.RingLemmas.{few_given}
 use Rattle.si_conflicts.proofs.TallyLemmas.{first_key, up_to, up_to_later}

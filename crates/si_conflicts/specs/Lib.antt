@@ -1,10 +1,4 @@
 pub mod Conflicts
-pub mod Keys
-pub mod Links
-pub mod Chains
-pub mod Turns
-pub mod Apart
 pub mod Left
-pub mod Crowds
-pub mod Search
 pub mod Laws
+pub mod Loops

@@ -4,10 +4,10 @@ ghost use Rattle.std.specs.Prelude.{◌≡◌, ℕ, ◌<◌, ◌≤◌, ◌↔�
 ghost use Rattle.std.specs.Prelude.{length, slice_index};
 ghost use Rattle.si_insert.specs.Accepted.{IsAccepted};
 ghost use Rattle.si_insert.specs.Partition.{IsLawful};
-ghost use Rattle.si_conflicts.specs.Apart as Apart;
-ghost use Rattle.si_conflicts.specs.Apart.{pair_sum};
-ghost use Rattle.si_conflicts.specs.Chains.{AreChains};
-ghost use Rattle.si_conflicts.specs.Crowds.{crowded_of};
+ghost use Rattle.si_conflicts.specs.Loops.Apart as Apart;
+ghost use Rattle.si_conflicts.specs.Loops.Apart.{pair_sum};
+ghost use Rattle.si_conflicts.specs.Loops.Chains.{AreChains};
+ghost use Rattle.si_conflicts.specs.Loops.Crowds.{crowded_of};
 ghost use Rattle.si_conflicts.specs.Left.{LeavesConflicts};
 
 use crate::classes::Classes;
@@ -36,8 +36,8 @@ pub struct CodeChains {
 }
 
 impl Model for CodeChains {
-    ghost use Rattle.si_conflicts.specs.Chains.{Chains};
-    ghost use Rattle.si_conflicts.specs.Turns.{AreTurns};
+    ghost use Rattle.si_conflicts.specs.Loops.Chains.{Chains};
+    ghost use Rattle.si_conflicts.specs.Loops.Turns.{AreTurns};
 
     ghost Value = { Chains };
 

@@ -2,9 +2,9 @@
 
 ghost use Rattle.std.specs.Prelude.{◌+◌, ◌<◌, IfOk, OnOk, length};
 ghost use Rattle.si_conflicts.specs.Conflicts.{HasConflicts, AreFirstConflicts, pairs_of};
-ghost use Rattle.si_conflicts.specs.Keys.{AreKeys};
-ghost use Rattle.si_conflicts.specs.Links.{AreNextEquals, AreNextClashes};
-ghost use Rattle.si_conflicts.specs.Search.{AreBelow, AreFoundTo};
+ghost use Rattle.si_conflicts.specs.Loops.Keys.{AreKeys};
+ghost use Rattle.si_conflicts.specs.Loops.Links.{AreNextEquals, AreNextClashes};
+ghost use Rattle.si_conflicts.specs.Loops.Search.{AreBelow, AreFoundTo};
 
 use crate::count::count_clashes;
 use crate::keys::{Key, keys};

@@ -3,7 +3,7 @@
 ghost use Rattle.std.specs.Prelude.{◌≡◌, ◌*◌, ◌<◌, ◌≤◌, IfOk, length};
 ghost use Rattle.std.specs.List.Sorted.{IsSorted};
 ghost use Rattle.si_base.specs.Limits.{max_states};
-ghost use Rattle.si_conflicts.specs.Keys.{clash_count, key_cmp};
+ghost use Rattle.si_conflicts.specs.Loops.Keys.{clash_count, key_cmp};
 
 use crate::keys::Key;
 use crate::tally::{Role, Tally};

@@ -7,7 +7,7 @@ ghost use Rattle.std.specs.Map.{count_at};
 ghost use Rattle.std.specs.Ordering.{nat_cmp};
 ghost use Rattle.si_base.specs.Limits.{max_states};
 ghost use Rattle.si_base.specs.Sets.{IsIn};
-ghost use Rattle.si_conflicts.specs.Crowds.{code_count, crowded_of};
+ghost use Rattle.si_conflicts.specs.Loops.Crowds.{code_count, crowded_of};
 
 use crate::members::Member;
 use si_base::ids::{Code, NoMemory, StateId};

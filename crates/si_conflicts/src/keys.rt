@@ -1,7 +1,7 @@
 //! What tells whether two states are a conflict.
 
 ghost use Rattle.std.specs.Prelude.{◌≡◌, ◌<◌, IfOk, length, true};
-ghost use Rattle.si_conflicts.specs.Keys.{AreExcited, AreKeys, IsKey, key_at};
+ghost use Rattle.si_conflicts.specs.Loops.Keys.{AreExcited, AreKeys, IsKey, key_at};
 
 use si_base::ids::{Code, NoMemory, StateId};
 use si_graph::coded::Coded;

@@ -6,9 +6,9 @@ ghost use Rattle.std.specs.BTreeMap.{get};
 ghost use Rattle.std.specs.Ordering.{nat_cmp};
 ghost use Rattle.si_base.specs.Codes.{code};
 ghost use Rattle.si_base.specs.Proper.{IsConflict};
-ghost use Rattle.si_conflicts.specs.Keys.{AreKeys};
-ghost use Rattle.si_conflicts.specs.Links.{AreNextEquals, AreNextClashes, IsFirstOfCode};
-ghost use Rattle.si_conflicts.specs.Links.{IsFirstClash, HasNextClash};
+ghost use Rattle.si_conflicts.specs.Loops.Keys.{AreKeys};
+ghost use Rattle.si_conflicts.specs.Loops.Links.{AreNextEquals, AreNextClashes, IsFirstOfCode};
+ghost use Rattle.si_conflicts.specs.Loops.Links.{IsFirstClash, HasNextClash};
 
 use crate::keys::{Key, key_of};
 use si_base::ids::{Code, NoMemory, StateId};

@@ -1,8 +1,8 @@
 //! The states that share their code with others, by their keys.
 
 ghost use Rattle.std.specs.Prelude.{◌≡◌, ◌<◌, All, IfOk, length, map};
-ghost use Rattle.si_conflicts.specs.Chains.{AreMembers, with_equals};
-ghost use Rattle.si_conflicts.specs.Keys.{IsKey};
+ghost use Rattle.si_conflicts.specs.Loops.Chains.{AreMembers, with_equals};
+ghost use Rattle.si_conflicts.specs.Loops.Keys.{IsKey};
 
 use crate::keys::{Key, state_key};
 use si_base::ids::{NoMemory, StateId};

@@ -4,8 +4,8 @@ ghost use Rattle.std.specs.Prelude.{◌≡◌, ℕ, ◌<◌, IfOk, Some, None};
 ghost use Rattle.std.specs.BTreeMap.{get};
 ghost use Rattle.std.specs.Ordering.{nat_cmp};
 ghost use Rattle.si_base.specs.Codes.{code};
-ghost use Rattle.si_conflicts.specs.Chains.{AreRings};
-ghost use Rattle.si_conflicts.specs.Links.{IsFirstOfCode};
+ghost use Rattle.si_conflicts.specs.Loops.Chains.{AreRings};
+ghost use Rattle.si_conflicts.specs.Loops.Links.{IsFirstOfCode};
 
 use crate::links::{link, next_equals, put_first};
 use si_base::ids::{Code, NoMemory, StateId};

@@ -1,12 +1,12 @@
 //! Copies of states of one code, counted at a value of the new signal.
 
 ghost use Rattle.std.specs.Prelude.{◌≡◌, ◌+◌, List, [], ◌∷◌, ◌++◌, cond, count_by};
-ghost use Rattle.si_conflicts.specs.Apart as Apart;
-ghost use Rattle.si_conflicts.specs.Apart.{role_at, are_apart, RoleAndKey, HasTally, IsTally};
-ghost use Rattle.si_conflicts.specs.Apart.{IsUpTo};
-ghost use Rattle.si_conflicts.specs.Apart.{AreUpTo};
+ghost use Rattle.si_conflicts.specs.Loops.Apart as Apart;
+ghost use Rattle.si_conflicts.specs.Loops.Apart.{role_at, are_apart, RoleAndKey, HasTally, IsTally};
+ghost use Rattle.si_conflicts.specs.Loops.Apart.{IsUpTo};
+ghost use Rattle.si_conflicts.specs.Loops.Apart.{AreUpTo};
 ghost use Rattle.si_conflicts.specs.declared.keys.Key.{Key};
-ghost use Rattle.si_conflicts.specs.Turns.{change_between};
+ghost use Rattle.si_conflicts.specs.Loops.Turns.{change_between};
 
 use crate::turns::Change;
 use si_insert::partition::Class;

@@ -5,9 +5,9 @@ ghost use Rattle.std.specs.Prelude.{IsTrue, List, length};
 ghost use Rattle.si_base.specs.Limits.{max_states};
 ghost use Rattle.si_base.specs.Graph.{IsNonInput};
 ghost use Rattle.si_insert.specs.Partition.{class_of};
-ghost use Rattle.si_conflicts.specs.Apart as Apart;
-ghost use Rattle.si_conflicts.specs.Apart.{AreStaying, AllStaying, pair_sum};
-ghost use Rattle.si_conflicts.specs.Turns.{AreTurns, HaveMembers};
+ghost use Rattle.si_conflicts.specs.Loops.Apart as Apart;
+ghost use Rattle.si_conflicts.specs.Loops.Apart.{AreStaying, AllStaying, pair_sum};
+ghost use Rattle.si_conflicts.specs.Loops.Turns.{AreTurns, HaveMembers};
 
 use crate::classes::Classes;
 use crate::count::count_clashes;

@@ -1,9 +1,9 @@
 //! Members as they are counted: each by its state, and by how its key follows the one before.
 
 ghost use Rattle.std.specs.Prelude.{◌≡◌, IfOk};
-ghost use Rattle.si_conflicts.specs.Keys.{no_key};
-ghost use Rattle.si_conflicts.specs.Turns.{change_between, turns_after};
-ghost use Rattle.si_conflicts.specs.Turns as Turns;
+ghost use Rattle.si_conflicts.specs.Loops.Keys.{no_key};
+ghost use Rattle.si_conflicts.specs.Loops.Turns.{change_between, turns_after};
+ghost use Rattle.si_conflicts.specs.Loops.Turns as Turns;
 
 use crate::keys::Key;
 use crate::members::Member;

@@ -12,12 +12,12 @@ use Rattle.std.proofs.lemmas.List.Elements.{Contains-get_or}
 use Rattle.si_base.specs.WellFormed.{IsSum}
 use Rattle.si_base.proofs.StepCodes.{code_fits, step_within, old_value}
 use Rattle.si_base.proofs.OrderAscending.{In}
+use Rattle.si_base.proofs.OrderLemmas.{in_contains}
 use Rattle.si_checks.proofs.ConflictFree.{same_enables, same_next}
 use Rattle.si_cover.specs.declared.kind.SumKind.{SumKind}
 use Rattle.si_cover.specs.declared.kind.SumKind.TheVariants.{Next, Set, Reset}
 use Rattle.si_cover.specs.Demands.{codes_where, is_required, is_forbidden, demand, chosen_sum}
 use Rattle.si_cube.specs.Covers.{IsMeetable, IsPrimeCover}
-use Rattle.si_cube.proofs.NeededLemmas.{in_from_Contains}
 use Rattle.si_cube.specs.Order.{HaveSame}
 use Rattle.si_cube.specs.Rule.{chosen}
 use Rattle.si_cube.proofs.OrderLemmas.{same_chosen}
@@ -158,8 +158,8 @@ apart Reset c z p q pair required forbidden =
 pub meetable : (kind : SumKind) (c : CodedGraph) (z : ℕ) → IsCoded c → HasNoConflict c → IsNonInput c.graph.signals z
     → IsMeetable (demand kind c z)
 meetable kind c z is none non_input k required forbidden =
-    let one = state_of c (is_required kind c z) k (in_from_Contains _ k required) in
-    let other = state_of c (is_forbidden kind c z) k (in_from_Contains _ k forbidden) in
+    let one = state_of c (is_required kind c z) k (in_contains _ k required) in
+    let other = state_of c (is_forbidden kind c z) k (in_contains _ k forbidden) in
     apart kind c z one.state other.state (record {
       coded = is;
       none = none;
@@ -203,7 +203,7 @@ all_fit c test signals codes others is signals_are codes_are same = λ i d withi
     (let there = (same (get_or others i d)).0 (Contains-get_or others i d within) in
     let fits =
     codes_fit c test is (get_or others i d)
-    (subst (λ (ks : List ℕ). In (get_or others i d) ks) codes_are (in_from_Contains codes (get_or others i d) there)) in
+    (subst (λ (ks : List ℕ). In (get_or others i d) ks) codes_are (in_contains codes (get_or others i d) there)) in
     rw signals_are fits)
 
 pub still_meetable : (kind : SumKind) (c : CodedGraph) (z : ℕ) (required forbidden ordered : List ℕ)

@@ -18,7 +18,7 @@ use Rattle.si_cube.specs.Literals.{full_literals}
 use Rattle.si_regions.specs.declared.regions.Region.{Region}
 use Rattle.si_regions.specs.Regions.{IsRegion}
 use Rattle.si_regions.proofs.RegionLemmas.{enables_within}
-use Rattle.si_cover.specs.Growing.{IsGrowing, IsWider, IsDemanded}
+use Rattle.si_cover.specs.Loops.Growing.{IsGrowing, IsWider, IsDemanded}
 use Rattle.si_cover.specs.Mono.{IsOf, IsFallingCover, IsLeastCube}
 use Rattle.si_cube.proofs.CubeFacts.{full_bits}
 

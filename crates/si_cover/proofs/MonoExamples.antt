@@ -19,7 +19,7 @@ use Rattle.si_base.proofs.GivenGraphUnique.{contains_from_in, in_from_contains}
 use Rattle.si_cube.specs.Cubes.{Covers}
 use Rattle.si_cube.specs.Literals.{literals_of}
 use Rattle.si_cube.proofs.LeastLemmas.{supercube_least}
-use Rattle.si_cover.specs.Growing.{IsGrowing, IsWider, IsDemanded, Demands}
+use Rattle.si_cover.specs.Loops.Growing.{IsGrowing, IsWider, IsDemanded, Demands}
 use Rattle.si_cover.specs.Mono.{CoversOutside, IsLeastCube, IsFallingCover, IsMono, IsLeastMono, ShowsNoMono}
 use Rattle.si_cube.proofs.NeededLemmas.{all_in, any_in, any_from_in}
 use Rattle.si_cover.proofs.Examples.{coded, plain, complemented}

@@ -1,8 +1,8 @@
 -- Monotonous cubes: two meet in a third, and two least ones have the same literals.
-use Rattle.std.proofs.Common.{◌≡◌, ℕ, suc, ◌<◌, ◌++◌, ◌↔◌, not, Bool, true, false, List, [], ◌∷◌, length, All, Contains}
-use Rattle.std.proofs.Common.{refl, sym, ap, ap₂, ◌∙◌, arith, inl, inr}
+use Rattle.std.proofs.Common.{◌≡◌, ℕ, ◌<◌, ◌++◌, ◌↔◌, not, Bool, true, false, List, [], ◌∷◌, length, Contains}
+use Rattle.std.proofs.Common.{refl, sym, ap, ap₂, ◌∙◌, inl, inr}
 use Rattle.std.proofs.lemmas.Bool.{true≢false, and_parts, cases_order, cases_eq, cases_Bool}
-use Rattle.std.proofs.lemmas.List.Elements.{All-cons}
+use Rattle.std.proofs.lemmas.List.Elements.{All-append}
 use Rattle.std.proofs.lemmas.List.Folds.{list_all-append}
 use Rattle.std.specs.List.{list_all}
 use mathlib.Core.Bool.{beq}
@@ -19,12 +19,6 @@ use Rattle.si_cover.specs.Mono.{IsFallingCover, CoversOutside, IsMono, IsLeastCu
 use Rattle.si_cube.proofs.NeededLemmas.{all_in}
 
 -- ---- two cubes
-all_both : {A : Type 0} (P : A → Type 0) (xs ys : List A) → All P xs → All P ys → All P (xs ++ ys)
-all_both P [] ys a b = b
-all_both P (x ∷ xs) ys a b =
-    let rest : All P xs = λ k d within. a (suc k) d (omega (arith, within)) in
-    All-cons P x (xs ++ ys) (a 0 x (omega arith)) (all_both P xs ys rest b)
-
 covers_both : (x y : List Literal) (k : ℕ) → Covers x k → Covers y k → Covers (x ++ y) k
 covers_both x y k a b = list_all-append (literal_value k) x y ∙ rw a b
 
@@ -36,7 +30,7 @@ covers_parts x y k h =
 falling_both : (c : CodedGraph) (er qr : List ℕ) (x y : List Literal) → IsFallingCover c er qr x
     → IsFallingCover c er qr y → IsFallingCover c er qr (x ++ y)
 falling_both c er qr x y a b = record {
-  of = all_both (λ (l : Literal). l.sig < length c.graph.signals) x y a.of b.of;
+  of = All-append (λ (l : Literal). l.sig < length c.graph.signals) x y a.of b.of;
   covers = λ s there. covers_both x y (code c s) (a.covers s there) (b.covers s there);
   never_rises = λ s e t step there h.
       let parts = covers_parts x y (code c t) h in

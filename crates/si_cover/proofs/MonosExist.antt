@@ -1,6 +1,6 @@
 -- Each component has a least monotonous cube, or a state that shows that it has none.
 use Rattle.std.proofs.Common.{◌≡◌, ◌⊎◌, ℕ, zero, suc, ◌+◌, ◌<◌, ◌≤◌, Bool, true, false, List, [], ◌∷◌, length, filter}
-use Rattle.std.proofs.Common.{All, Contains, refl, sym, ap, subst, ◌∙◌, arith, inl, inr}
+use Rattle.std.proofs.Common.{All, Contains, refl, sym, subst, ◌∙◌, arith, inl, inr}
 use Rattle.std.specs.List.{list_all}
 use Rattle.std.proofs.lemmas.Bool.{cases_Bool, cases_eq, true≢false, and_parts}
 use Rattle.std.proofs.lemmas.List.Elements.{All-cons}
@@ -18,26 +18,20 @@ use Rattle.si_base.proofs.GivenGraphUnique.{contains_from_in}
 use Rattle.si_base.proofs.GraphSteps.{beq-refl}
 use Rattle.si_graph.proofs.ListMembers.{Contains-cons_cases, Contains-here, Contains-there, Contains-nil}
 use Rattle.si_cube.specs.Cubes.{Covers, IsLeastAbove}
-use Rattle.si_cube.specs.Literals.{full_literals}
+use Rattle.si_cube.specs.Literals.{full_literals, InSignalOrder}
 use Rattle.si_checks.proofs.SearchDecisions as decide
 use Rattle.si_checks.proofs.SearchDecisions.{Decided, both, same_value, some_of}
 use Rattle.si_regions.proofs.SetsExist.{listed}
-use Rattle.si_cover.specs.Growing.{IsGrowing, IsWider, Demands}
-use Rattle.si_cover.specs.Mono.{IsFallingCover, CoversOutside, IsLeastCube, IsLeastMono, InSignalOrder}
+use Rattle.si_cover.specs.Loops.Growing.{IsGrowing, IsWider, Demands}
+use Rattle.si_cover.specs.Mono.{IsFallingCover, CoversOutside, IsLeastCube, IsLeastMono}
 use Rattle.si_cover.specs.Mono.{ShowsNoMono, state_place}
-use Rattle.si_cube.proofs.NeededLemmas.{all_in}
+use Rattle.si_cube.proofs.NeededLemmas.{all_in, in_kept}
+use Rattle.si_cube.proofs.LeastLemmas.{covers-filter_itself}
 use Rattle.si_cover.proofs.MonoLemmas.{falling_is_mono, outside_is_none, has_literals}
 use Rattle.si_cover.proofs.GrowingLemmas.{growth_begins, growth_takes, growth_goes_on, growth_ends, none_demanded}
 use Rattle.si_cover.proofs.GrowingLemmas.{turns_drop}
 
 -- ---- a wider cube
-own_kept : (p : Literal → Bool) (xs : List Literal) → list_all p (filter p xs) ≡ true
-own_kept p [] = refl
-own_kept p (x ∷ xs) = elim (cases_Bool (p x)) [
-  | inl on ↦ rw (on, on) (own_kept p xs)
-  | inr off ↦ rw off (own_kept p xs)
-]
-
 all_kept : (p q : Literal → Bool) (xs : List Literal) → list_all p xs ≡ true → list_all p (filter q xs) ≡ true
 all_kept p q [] all = refl
 all_kept p q (x ∷ xs) all =
@@ -46,14 +40,6 @@ all_kept p q (x ∷ xs) all =
       | inl on ↦ (let here = parts.0 in rw (on, here) (all_kept p q xs parts.1))
       | inr off ↦ rw off (all_kept p q xs parts.1)
     ]
-
-in_kept : (p : Literal → Bool) (xs : List Literal) (l : Literal) → In l xs → p l ≡ true → In l (filter p xs)
-in_kept p [] l there on = absurd there
-in_kept p (x ∷ xs) l (inl same) on = let here : p x ≡ true = ap p (sym same) ∙ on in rw here (inl same)
-in_kept p (x ∷ xs) l (inr later) on = elim (cases_Bool (p x)) [
-  | inl here ↦ rw here (inr (in_kept p xs l later on))
-  | inr not_here ↦ rw not_here (in_kept p xs l later on)
-]
 
 all_of : (p : Literal → Bool) (xs : List Literal) → ((l : Literal) → In l xs → p l ≡ true) → list_all p xs ≡ true
 all_of p [] each = refl
@@ -64,7 +50,7 @@ wider_is : (cube : List Literal) (covered other : ℕ) → Covers cube covered
     → IsLeastAbove cube other (filter (literal_value other) cube)
 wider_is cube covered other here = record {
   above = record {
-    covers = own_kept (literal_value other) cube;
+    covers = covers-filter_itself (literal_value other) cube;
     keeps = λ k all. all_kept (literal_value k) (literal_value other) cube all;
   };
   least = λ larger above k covers. all_of (literal_value k) larger (λ l there.

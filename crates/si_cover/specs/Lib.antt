@@ -1,4 +1,4 @@
 pub mod Demands
 pub mod Mono
-pub mod Growing
 pub mod MonoLaws
+pub mod Loops

@@ -1,6 +1,6 @@
 -- (field) Monotonous cubes of a component of excited states, and of the states where its signal
 -- then rests. Both sets are lists of states. Source: the book, on monotonous covers.
-use Rattle.std.specs.Prelude.{ℕ, ◌<◌, List, [], ◌∷◌, length, All, AllPairs, Contains}
+use Rattle.std.specs.Prelude.{ℕ, ◌<◌, List, [], ◌∷◌, length, All, Contains}
 use Rattle.si_base.specs.declared.ids.Event.{Event}
 use Rattle.si_base.specs.declared.ids.Literal.{Literal}
 use Rattle.si_base.specs.Order.{IsFirst}
@@ -11,10 +11,6 @@ use Rattle.si_cube.specs.Cubes.{Covers}
 -- the literals are of signals of the graph
 abbrev pub IsOf : CodedGraph → List Literal → Type 0
 IsOf c cube = All (λ (l : Literal). l.sig < length c.graph.signals) cube
-
--- the literals stand in signal order, each signal once
-abbrev pub InSignalOrder : List Literal → Type 0
-InSignalOrder cube = AllPairs (λ k l. k.sig < l.sig) cube
 
 -- a cube over the signals; it covers each state of the component; and its value never rises on an
 -- arc into a state where the signal rests: if it covers the target, it covers the source

@@ -6,10 +6,10 @@ use Rattle.si_base.specs.Graph.{Step}
 use Rattle.si_base.specs.Codes.{CodedGraph, code}
 use Rattle.si_base.specs.Netlist.{literal_value}
 use Rattle.si_cube.specs.Cubes.{Covers}
-use Rattle.si_cube.specs.Literals.{full_literals}
-use Rattle.si_cover.specs.Growing.{IsGrowing, IsWider}
+use Rattle.si_cube.specs.Literals.{full_literals, InSignalOrder}
+use Rattle.si_cover.specs.Loops.Growing.{IsGrowing, IsWider}
 use Rattle.si_cover.specs.Mono.{IsFallingCover, CoversOutside, IsMono, IsLeastCube, IsLeastMono}
-use Rattle.si_cover.specs.Mono.{InSignalOrder, ShowsNoMono}
+use Rattle.si_cover.specs.Mono.{ShowsNoMono}
 
 -- the literals of two monotonous cubes make a third
 abbrev pub MonosMeet : Type 0

@@ -2,7 +2,7 @@
 
 ghost use Rattle.std.specs.Prelude.{◌≡◌, IfOk};
 ghost use Rattle.si_base.specs.Graph.{IsNonInput};
-ghost use Rattle.si_checks.specs.Lent.{coded_of};
+ghost use Rattle.si_checks.specs.Loops.Lent.{coded_of};
 ghost use Rattle.si_cover.specs.declared.kind.SumKind.TheVariants.{Next, Set, Reset};
 ghost use Rattle.si_cube.specs.Covers.{IsPrimeCover};
 ghost use Rattle.si_cover.specs.Demands.{chosen_sum, demand};

@@ -4,10 +4,10 @@ ghost use Rattle.std.specs.Prelude.{ℕ, ◌<◌, ◌↔◌, Contains, IfOk, IfE
 ghost use Rattle.std.specs.Prelude.{IsTrue};
 ghost use Rattle.si_base.specs.Codes.{code};
 ghost use Rattle.si_base.specs.Order.{IsFirst};
-ghost use Rattle.si_checks.specs.Lent.{coded_of};
+ghost use Rattle.si_checks.specs.Loops.Lent.{coded_of};
 ghost use Rattle.si_cube.specs.Cubes.{Covers};
 ghost use Rattle.si_regions.specs.Regions.{IsRegion};
-ghost use Rattle.si_cover.specs.Growing.{IsGrowing, IsDemanded, Demands};
+ghost use Rattle.si_cover.specs.Loops.Growing.{IsGrowing, IsDemanded, Demands};
 ghost use Rattle.si_cover.specs.Mono.{IsFallingCover, CoversOutside, IsLeastCube, IsLeastMono};
 ghost use Rattle.si_cover.specs.Mono.{ShowsNoMono, state_place};
 

@@ -22,7 +22,8 @@ pub fn there_is_one_or_none()
     ensures { MonoOrNone }
 {}
 
-/// The turns of growth reach it.
+/// Growth from the full cube of a state reaches the least falling cover, and each turn drops a
+/// literal.
 pub fn growth_reaches_it()
     ensures begins { GrowthBegins }
     ensures takes { GrowthTakes }

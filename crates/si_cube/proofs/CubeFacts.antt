@@ -1,21 +1,18 @@
 -- Full cubes, and what a cube covers.
-use Rattle.std.proofs.Common.{◌≡◌, ◌≢◌, ℕ, zero, suc, ◌+◌, ◌<◌, ◌≤◌, ◌==◌, ◌^◌, not, Bool, true, false, List, [], ◌∷◌}
+use Rattle.std.proofs.Common.{◌≡◌, ◌≢◌, ℕ, zero, suc, ◌+◌, ◌<◌, ◌≤◌, ◌==◌, ◌^◌, not, Bool, true, List, [], ◌∷◌}
 use Rattle.std.proofs.Common.{refl, sym, ap, subst, ◌∙◌, arith, inl, inr, get_or, filter, eq-eqb}
 use Rattle.std.proofs.lemmas.Bool.{cases_Bool, cases_eq, cases_lt, true≢false, and_parts, and_from, not-true}
-use Rattle.std.proofs.lemmas.Nat.Bits.{bit_at_above}
 use Rattle.si_base.specs.declared.ids.Literal.{Literal}
 use Rattle.si_base.specs.Bits.{bit}
 use Rattle.si_base.specs.Netlist.{literal_value}
 use Rattle.si_base.proofs.BitFacts.{same_codes}
 use Rattle.si_base.proofs.GraphSteps.{beq-refl, beq-true}
 use Rattle.si_base.proofs.OrderAscending.{In}
+use Rattle.si_base.proofs.StepCodes.{no_bit}
 use Rattle.si_cube.specs.Literals.{full_literals}
 use Rattle.si_cube.specs.Covers.{without}
 use Rattle.si_cube.specs.Rule.{covers, covers_any}
 use Rattle.si_cube.proofs.NeededLemmas.{IsWithin, others, all_in, all_from_in, any_in, any_from_in, differs_in_others}
-
-pub no_bit : (k n i : ℕ) → k < 2 ^ n → n ≤ i → bit k i ≡ false
-no_bit k n i small above = ap (λ (x : ℕ). x == 1) (bit_at_above k n i small above)
 
 pub full_holds : (n i code : ℕ) → covers (full_literals n i code) code ≡ true
 full_holds zero i code = refl

@@ -1,17 +1,16 @@
 -- The turns by which a cube grows, and the grown cubes of a list of codes.
-use Rattle.std.proofs.Common.{◌≡◌, ℕ, zero, suc, ◌+◌, ◌-◌, ◌<◌, ◌≤◌, ◌==◌, not, true, false, List, [], ◌∷◌, ◌++◌}
-use Rattle.std.proofs.Common.{length, get_or, drop, refl, sym, ap, ap₂, ◌∙◌, arith, inl, inr, append_assoc, add-one}
-use Rattle.std.proofs.Common.{drop-cons, eq-eqb}
+use Rattle.std.proofs.Common.{◌≡◌, ℕ, zero, suc, ◌+◌, ◌-◌, ◌<◌, ◌==◌, not, true, false, List, [], ◌∷◌, ◌++◌}
+use Rattle.std.proofs.Common.{refl, sym, ap, ap₂, ◌∙◌, arith, inl, inr, append_assoc}
+use Rattle.std.proofs.Common.{eq-eqb}
 use Rattle.std.proofs.lemmas.Bool.{ne_eqb}
 use Rattle.std.proofs.lemmas.List.Elements.{filter-append}
 use Rattle.si_base.specs.declared.ids.Literal.{Literal}
 use Rattle.si_base.specs.Bits.{bit}
-use Rattle.si_base.specs.Netlist.{Sum, sum_value}
 use Rattle.si_base.proofs.OrderAscending.{In}
 use Rattle.si_cube.specs.Literals.{full_literals}
 use Rattle.si_cube.specs.Covers.{without}
 use Rattle.si_cube.specs.Needed.{needed_from}
-use Rattle.si_cube.specs.Rule.{covers_any, is_needless_literal, grown, grown_cubes}
+use Rattle.si_cube.specs.Rule.{covers_any, is_needless_literal, grown}
 use Rattle.si_cube.proofs.NeededLemmas.{in_append}
 
 -- ---- a cube that is growing
@@ -28,14 +27,6 @@ pub growth_start : (signals : ℕ) (forbidden : List ℕ) (code : ℕ)
 growth_start signals forbidden code =
     let all : signals - 0 ≡ signals = omega arith in
     record { stays = []; below = λ l none. absurd none; is = rw all refl; goes_on = rw all refl }
-
-pub growth_end : (signals : ℕ) (forbidden : List ℕ) (code s : ℕ) (cube : List Literal) → signals ≤ s
-    → IsGrowing signals forbidden code s cube → cube ≡ grown signals forbidden code
-growth_end signals forbidden code s cube past growing =
-    let none : signals - s ≡ 0 = omega arith in
-    let is : cube ≡ growing.stays ++ [] = rw none at growing.is in
-    let goes_on : growing.stays ++ [] ≡ grown signals forbidden code = rw none at growing.goes_on in
-    is ∙ goes_on
 
 keeps_below : (s : ℕ) (ls : List Literal) → ((l : Literal) → In l ls → l.sig < s) → without s ls ≡ ls
 keeps_below s [] below = refl
@@ -110,31 +101,3 @@ growth_keep signals forbidden code s cube within holds growing =
           append_assoc growing.stays (l ∷ [])
           (needed_from (is_needless_literal forbidden) (growing.stays ++ l ∷ []) rest) ∙ goes_on;
     }
-
--- ---- the grown cubes
-first_again : (signals : ℕ) (forbidden : List ℕ) (sofar : Sum) (k : ℕ) (ks : List ℕ) → sum_value k sofar ≡ true
-    → grown_cubes signals forbidden sofar (k ∷ ks) ≡ grown_cubes signals forbidden sofar ks
-first_again signals forbidden sofar k ks covered = rw covered refl
-
-first_new : (signals : ℕ) (forbidden : List ℕ) (sofar : Sum) (k : ℕ) (ks : List ℕ) → sum_value k sofar ≡ false
-    → grown_cubes signals forbidden sofar (k ∷ ks) ≡ grown_cubes signals forbidden
-    (sofar ++ grown signals forbidden k ∷ []) ks
-first_new signals forbidden sofar k ks new = rw new refl
-
-pub cubes_again : (signals : ℕ) (forbidden : List ℕ) (sofar : Sum) (codes : List ℕ) (i : ℕ) → i < length codes
-    → sum_value (get_or codes i 0) sofar ≡ true
-    → grown_cubes signals forbidden sofar (drop (i + 1) codes) ≡ grown_cubes signals forbidden sofar (drop i codes)
-cubes_again signals forbidden sofar codes i within covered =
-    ap (λ (n : ℕ). grown_cubes signals forbidden sofar (drop n codes)) (add-one i)
-    ∙ sym (ap (grown_cubes signals forbidden sofar) (drop-cons codes i 0 within)
-    ∙ first_again signals forbidden sofar (get_or codes i 0) (drop (suc i) codes) covered)
-
-pub cubes_new : (signals : ℕ) (forbidden : List ℕ) (sofar : Sum) (codes : List ℕ) (i : ℕ) → i < length codes
-    → sum_value (get_or codes i 0) sofar ≡ false
-    → grown_cubes signals forbidden (sofar ++ grown signals forbidden (get_or codes i 0) ∷ []) (drop (i + 1) codes)
-    ≡ grown_cubes signals forbidden sofar (drop i codes)
-cubes_new signals forbidden sofar codes i within new =
-    ap (λ (n : ℕ). grown_cubes signals forbidden (sofar ++ grown signals forbidden (get_or codes i 0) ∷ [])
-    (drop n codes)) (add-one i)
-    ∙ sym (ap (grown_cubes signals forbidden sofar) (drop-cons codes i 0 within)
-    ∙ first_new signals forbidden sofar (get_or codes i 0) (drop (suc i) codes) new)

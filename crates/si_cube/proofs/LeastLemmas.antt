@@ -3,22 +3,22 @@ use Rattle.std.proofs.Common.{◌≡◌, ℕ, ◌<◌, ◌^◌, bit_and, bit_xor
 use Rattle.std.proofs.Common.{sym, ap, ◌∙◌, arith, subst}
 use Rattle.std.specs.List.{list_all}
 use Rattle.std.specs.Int.{w128, bit_not}
-use Rattle.std.proofs.lemmas.Bool.{true≢false}
+use Rattle.std.proofs.lemmas.Bool.{true≢false, and_from, and_parts}
 use Rattle.std.proofs.lemmas.List.Elements.{filter_passes, All-filter}
 use Rattle.std.proofs.lemmas.List.Sums.{AllPass-from_list_all, list_all-from_AllPass}
 use mathlib.Core.Bool.{beq}
 use Rattle.si_base.specs.declared.ids.Literal.{Literal}
 use Rattle.si_base.specs.Bits.{bit, flip}
 use Rattle.si_base.specs.Netlist.{literal_value}
-use Rattle.si_base.proofs.BitFacts.{flip-same, flip-other}
+use Rattle.si_base.proofs.BitFacts.{flip-same, flip-other, bit-and}
 use Rattle.si_base.proofs.GraphSteps.{beq-refl, beq-true}
 use Rattle.si_base.specs.Limits.{code_width}
 use Rattle.si_cube.specs.Literals.{literals_of}
 use Rattle.si_cube.specs.Cubes.{Covers, IsLeastAbove}
-use Rattle.si_cube.proofs.LiteralLemmas.{bit-and, bit-agree, and_parts, and_both, and_same, below_width}
+use Rattle.si_cube.proofs.LiteralLemmas.{bit-agree, and_same, below_width}
 use Rattle.si_cube.proofs.LiteralLemmas.{values_from_literals, literals_from_values, supercube_is}
 
-covers-filter_itself : (p : Literal → Bool) (cube : List Literal) → list_all p (filter p cube) ≡ true
+pub covers-filter_itself : (p : Literal → Bool) (cube : List Literal) → list_all p (filter p cube) ≡ true
 covers-filter_itself p cube = list_all-from_AllPass p (filter p cube) (filter_passes p cube)
 
 covers-filter : (p q : Literal → Bool) (cube : List Literal) → list_all q cube ≡ true
@@ -57,7 +57,7 @@ kept_literal care value code small_care small_value small_code l at_code at_valu
     let agree : beq (bit value l.sig) (bit code l.sig) ≡ true = rw (value_bit, code_bit) (beq-refl l.plain) in
     let kept : bit (bit_and care (bit_not w128 (bit_xor value code))) l.sig ≡ true =
     bit-and care (bit_not w128 (bit_xor value code)) l.sig
-    ∙ and_both _ _ there (bit-agree value code l.sig small_value small_code within ∙ agree) in
+    ∙ and_from _ _ there (bit-agree value code l.sig small_value small_code within ∙ agree) in
     let same : bit c l.sig ≡ l.plain =
     values_from_literals code_width 0 (bit_and care (bit_not w128 (bit_xor value code))) (bit_and value code) c covers
     l.sig (omega arith) within kept
@@ -74,7 +74,7 @@ kept_literals care value code small_care small_value small_code (l ∷ ls) at_co
     let code_parts = and_parts _ _ at_code in
     let value_parts = and_parts _ _ at_value in
     let there = has_literal care value l value_parts.0 (λ e. (and_parts _ _ (flipped l.sig e)).0) in
-    and_both _ _
+    and_from _ _
     (kept_literal care value code small_care small_value small_code l code_parts.0 value_parts.0 there c covers)
     (kept_literals care value code small_care small_value small_code ls code_parts.1 value_parts.1
     (λ s e. (and_parts _ _ (flipped s e)).1) c covers)

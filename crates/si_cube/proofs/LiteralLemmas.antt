@@ -1,41 +1,32 @@
 -- The literals of a cube that is kept as two codes.
-use Rattle.std.proofs.Common.{◌≡◌, ◌≢◌, ℕ, ◌⊎◌, ◌<◌, ◌≤◌, ◌==◌, ◌&&◌, ◌+◌, ◌-◌, ◌*◌, ◌%◌, ◌^◌, bit_and, bit_xor, not}
+use Rattle.std.proofs.Common.{◌≡◌, ◌≢◌, ℕ, ◌<◌, ◌≤◌, ◌==◌, ◌&&◌, ◌+◌, ◌-◌, ◌*◌, ◌%◌, ◌^◌, bit_and, bit_xor, not, All}
 use Rattle.std.proofs.Common.{Bool, true, false, List, [], ◌∷◌, filter, zero, suc, if◌then◌else◌, nat_lt, refl, sym, ap}
 use Rattle.std.proofs.Common.{◌∙◌, arith, inl, inr}
 use Rattle.std.specs.List.{list_all}
 use Rattle.std.specs.Int.{w128, bit_at, bit_not}
 use Rattle.std.specs.Int.Bits.{xor_lt}
 use mir.Val.{bits}
-use Rattle.std.proofs.lemmas.Bool.{true≢false}
-use Rattle.std.proofs.lemmas.Nat.Bits.{bit_at_and, bit_at_xor, bit_at_not, bit_at_ones, bit_at_ones_above, bit_at-lt}
+use Rattle.std.proofs.lemmas.Bool.{true≢false, and_from, and_parts}
+use Rattle.std.proofs.lemmas.Nat.Bits.{bit_at_xor, bit_at_not, bit_at_ones, bit_at_ones_above, bit_at-lt}
 use Rattle.std.proofs.lemmas.Nat.Bits.{bit_at-pow_same, bit_at-pow_other, bit_at_above}
 use Rattle.std.proofs.lemmas.Nat.{one_shl}
 use Rattle.std.proofs.lemmas.Bool.{eq-eqb, eqb-true}
 use Rattle.std.proofs.lemmas.Bool.Decides.{eqb_tells, leb_tells}
 use Rattle.std.proofs.Math.Pow.{pow-lt}
 use Rattle.std.proofs.Math.Bool.{and-true}
+use Rattle.std.proofs.lemmas.List.Elements.{All-nil, All-cons}
+use Rattle.std.proofs.lemmas.List.Kept.{AllPairs-cons}
 use mathlib.Core.Bool.{beq}
 use Rattle.si_base.specs.declared.ids.Literal.{Literal}
 use Rattle.si_base.specs.Bits.{bit, ones}
 use Rattle.si_base.specs.Netlist.{literal_value}
-use Rattle.si_base.proofs.BitFacts.{same_codes}
+use Rattle.si_base.proofs.BitFacts.{same_codes, below_two, bit-and}
 use Rattle.si_base.proofs.GraphSteps.{beq-refl, beq-true}
 use Rattle.si_base.specs.Limits.{code_width}
-use Rattle.si_cube.specs.Literals.{literals_from, literals_of, IsWithin, full_literals}
+use Rattle.si_base.proofs.Booleans.{same_if, beq_swap}
+use Rattle.si_cube.specs.Literals.{literals_from, literals_of, IsWithin, full_literals, InSignalOrder}
 
 -- ---- bits
-
-below_two : (n : ℕ) → n < 2 → (n ≡ 0) ⊎ (n ≡ 1)
-below_two n h = grind arith
-
-pub bit-and : (a b i : ℕ) → bit (bit_and a b) i ≡ bit a i && bit b i
-bit-and a b i =
-    elim (below_two (bit_at a i) (bit_at-lt a i)) [
-      | inl a0 ↦ elim (below_two (bit_at b i) (bit_at-lt b i))
-          [ inl b0 ↦ rw (bit_at_and, a0, b0) refl | inr b1 ↦ rw (bit_at_and, a0, b1) refl ]
-      | inr a1 ↦ elim (below_two (bit_at b i) (bit_at-lt b i))
-          [ inl b0 ↦ rw (bit_at_and, a1, b0) refl | inr b1 ↦ rw (bit_at_and, a1, b1) refl ]
-    ]
 
 pub bit-xor : (a b i : ℕ) → bit (bit_xor a b) i ≡ not (beq (bit a i) (bit b i))
 bit-xor a b i =
@@ -80,12 +71,6 @@ bit-ones n i =
       | inr above ↦ rw (above.0, bit_at_ones_above n i (omega arith)) refl
     ]
 
-false_from : (a b : Bool) → (a ≡ true → b ≡ true) → (b ≡ true → a ≡ true) → a ≡ b
-false_from true true f g = refl
-false_from true false f g = sym (f refl)
-false_from false true f g = g refl
-false_from false false f g = refl
-
 -- ---- lists of literals
 
 kept_step : (kept : Literal → Bool) (is_there is_kept is_left : Bool) (l m : Literal) (rest left : List Literal)
@@ -108,10 +93,6 @@ literals_from-filter kept (suc n) i care value other_care other_value cares valu
     (λ there. ap (λ (b : Bool). record { sig = i; plain = b }) (values i there))
     (literals_from-filter kept n (i + 1) care value other_care other_value
     (λ k low high. cares k (omega arith) (omega arith)) values)
-
-pub and_parts : (a b : Bool) → (a && b) ≡ true → (a ≡ true) × (b ≡ true)
-and_parts true b h = (refl, h)
-and_parts false b h = absurd (true≢false (sym h))
 
 hold_parts : (p : Literal → Bool) (is_there : Bool) (l : Literal) (rest : List Literal)
     → list_all p (if is_there then l ∷ rest else rest) ≡ true
@@ -174,7 +155,7 @@ pub covers_is : (care value code : ℕ) → care < 2 ^ code_width → IsWithin c
     → (bit_and code care == value) ≡ list_all (literal_value code) (literals_of care value)
 unfolding literals_of
 covers_is care value code small within =
-    false_from _ _
+    same_if _ _
     (λ same. literals_from_values code_width 0 care value code (λ k there.
     let all : bit (bit_and code care) k ≡ bit value k =
     ap (λ (n : ℕ). bit n k) (eqb-true (bit_and code care) value same) in
@@ -186,17 +167,8 @@ covers_is care value code small within =
 
 -- ---- the cubes that calls make
 
-pub and_both : (a b : Bool) → a ≡ true → b ≡ true → (a && b) ≡ true
-and_both a b ha hb = rw (ha, hb) refl
-
 both_true : (a b : Bool) → a ≡ true → b ≡ true → beq a b ≡ true
 both_true a b ha hb = rw (ha, hb) refl
-
-beq_swap : (a b : Bool) → beq a b ≡ beq b a
-beq_swap true true = refl
-beq_swap true false = refl
-beq_swap false true = refl
-beq_swap false false = refl
 
 pub and_same : (a b : Bool) → a ≡ b → (a && b) ≡ a
 and_same true b same = sym same
@@ -229,7 +201,7 @@ pub within-supercube : (care value code : ℕ) → value < 2 ^ code_width → co
 within-supercube care value code small_value small_code within i there =
     let parts = and_parts (bit value i) (bit code i) (sym (bit-and value code i) ∙ there) in
     bit-and care (bit_not w128 (bit_xor value code)) i
-    ∙ and_both _ _ (within i parts.0)
+    ∙ and_from _ _ (within i parts.0)
     (bit-agree value code i small_value small_code (below_width value i small_value parts.0)
     ∙ both_true (bit value i) (bit code i) parts.0 parts.1)
 
@@ -248,9 +220,9 @@ drop_is care value s small =
 pub within-and : (care value mask : ℕ) → IsWithin care value → IsWithin (bit_and care mask) (bit_and value mask)
 within-and care value mask within i there =
     let parts = and_parts (bit value i) (bit mask i) (sym (bit-and value mask i) ∙ there) in
-    bit-and care mask i ∙ and_both _ _ (within i parts.0) parts.1
+    bit-and care mask i ∙ and_from _ _ (within i parts.0) parts.1
 
-literals_from-none : (count i care value : ℕ) → ((k : ℕ) → i ≤ k → bit care k ≡ false)
+pub literals_from-none : (count i care value : ℕ) → ((k : ℕ) → i ≤ k → bit care k ≡ false)
     → literals_from count i care value ≡ []
 literals_from-none zero i care value none = refl
 literals_from-none (suc count) i care value none =
@@ -282,3 +254,31 @@ of_code_is n code small = full_from_ones n code_width 0 n code (omega arith) sma
 
 pub within-mask : (code care : ℕ) → IsWithin care (bit_and code care)
 within-mask code care i there = (and_parts (bit code i) (bit care i) (sym (bit-and code care i) ∙ there)).1
+
+pub from_on : (n i care value : ℕ) → All (λ (l : Literal). i ≤ l.sig) (literals_from n i care value)
+from_on zero i care value = All-nil (λ (l : Literal). i ≤ l.sig)
+from_on (suc n) i care value = by_bit (bit care i) (λ k d inside. (let above = from_on n
+    (i + 1) care value k d inside in omega (arith, above)))
+  where
+    by_bit : (b : Bool) → All (λ (l : Literal). i ≤ l.sig) (literals_from n (i + 1) care value)
+        → All (λ (l : Literal). i ≤ l.sig) (if b then record { sig = i; plain = bit value i } ∷ literals_from n
+        (i + 1) care value else literals_from n (i + 1) care value)
+    by_bit true later = All-cons (λ (l : Literal). i ≤ l.sig) _ _ (omega arith) later
+    by_bit false later = later
+
+rising_from : (n i care value : ℕ) → InSignalOrder (literals_from n i care value)
+rising_from zero i care value = λ j k d order within. absurd (omega arith)
+rising_from (suc n) i care value = by_bit (bit care i) (λ k d inside. (let above = from_on n
+    (i + 1) care value k d inside in omega (arith, above))) (rising_from n (i + 1) care value)
+  where
+    by_bit : (b : Bool) → All (λ (l : Literal). i < l.sig) (literals_from n (i + 1) care value)
+        → InSignalOrder (literals_from n (i + 1) care value)
+        → InSignalOrder (if b then record { sig = i; plain = bit value i } ∷ literals_from n
+        (i + 1) care value else literals_from n (i + 1) care value)
+    by_bit true above later = AllPairs-cons (λ (k l : Literal). k.sig < l.sig)
+        (record { sig = i; plain = bit value i }) _ above later
+    by_bit false above later = later
+
+pub rising_of : (care value : ℕ) → InSignalOrder (literals_of care value)
+unfolding literals_of
+rising_of care value = rising_from code_width 0 care value

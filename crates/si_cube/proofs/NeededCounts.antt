@@ -1,21 +1,14 @@
 -- The numbers of cubes that cover a code tell which cubes are needed.
-use Rattle.std.proofs.Common.{◌≡◌, ℕ, zero, suc, ◌+◌, ◌-◌, ◌<◌, ◌≤◌, ◌||◌, not, nat_le, Bool, true, false, List, []}
+use Rattle.std.proofs.Common.{◌≡◌, ℕ, zero, suc, ◌+◌, ◌-◌, ◌<◌, ◌||◌, not, nat_le, Bool, true, false, List, []}
 use Rattle.std.proofs.Common.{◌∷◌, ◌++◌, length, get_or, drop, map, zip, count_by, refl, sym, ap, ap₂, ◌∙◌, arith, inl}
 use Rattle.std.proofs.Common.{inr, append_assoc, add-one, drop-cons, if◌then◌else◌, ◌&&◌, cond, zero-add}
 use Rattle.std.specs.List.{list_all}
 use Rattle.std.proofs.lemmas.Bool.{cases_Bool, cases_lt, le-leb, lt-leb}
 use Rattle.std.proofs.lemmas.List.Sums.{sum_by-append, sum_by-cons}
-use Rattle.std.proofs.lemmas.List.{append-nil}
 use Rattle.si_base.specs.declared.ids.Literal.{Literal}
 use Rattle.si_base.specs.Netlist.{Sum, sum_value}
 use Rattle.si_cube.specs.Needed.{needed_from, needed}
 use Rattle.si_cube.specs.Rule.{covers, is_needless_cube}
-
-pub drop_past : {A : Type 0} (xs : List A) (i : ℕ) → length xs ≤ i → drop i xs ≡ []
-drop_past [] zero past = refl
-drop_past [] (suc i) past = refl
-drop_past (x ∷ xs) zero past = absurd (omega arith)
-drop_past (x ∷ xs) (suc i) past = drop_past xs i (omega arith)
 
 -- ---- the numbers of cubes that cover a code
 abbrev pub count : Sum → ℕ → ℕ
@@ -81,17 +74,6 @@ map_from_items f (x ∷ xs) (y ∷ ys) long each =
     ap₂ (λ (n : ℕ) (ns : List ℕ). n ∷ ns) (each 0 (omega arith))
     (map_from_items f xs ys (omega arith) (λ k within. each (suc k) (omega arith)))
 
--- a cube that covers a code is counted there
-pub counted : (required : List ℕ) (before xs : Sum) (cube : List Literal) (counts : List ℕ)
-    → counts ≡ map (count (before ++ cube ∷ xs)) required
-    → (k : ℕ) → k < length required → covers cube (get_or required k 0) ≡ true → 1 ≤ get_or counts k 0
-counted required before xs cube counts are k within here =
-    let at : get_or counts k 0 ≡ count (before ++ cube ∷ xs) (get_or required k 0) =
-    ap (λ (ns : List ℕ). get_or ns k 0) are ∙ get_map (count (before ++ cube ∷ xs)) required k within in
-    let one : count (before ++ cube ∷ xs) (get_or required k 0) ≡ count (before ++ xs) (get_or required k 0) + 1 =
-    count_one before xs cube (get_or required k 0) ∙ rw here refl in
-    omega arith
-
 pub fewer_counts : (required : List ℕ) (before xs : Sum) (cube : List Literal) (old new : List ℕ)
     → old ≡ map (count (before ++ cube ∷ xs)) required → length new ≡ length required
     → ((k : ℕ) → k < length required
@@ -116,10 +98,6 @@ rest_at : (cubes : Sum) (i : ℕ) (cube : List Literal) → i < length cubes →
     → drop i cubes ≡ cube ∷ drop (i + 1) cubes
 rest_at cubes i cube within at =
     drop-cons cubes i cube within ∙ ap₂ (λ (c : List Literal) (n : ℕ). c ∷ drop n cubes) (sym at) (sym (add-one i))
-
-pub sift_start : (required : List ℕ) (cubes : Sum) (counts : List ℕ) → counts ≡ map (count cubes) required
-    → IsSifting required cubes 0 [] counts
-sift_start required cubes counts are = record { stays = refl; are = are }
 
 pub sift_counts : (required : List ℕ) (cubes : Sum) (i : ℕ) (kept : Sum) (counts : List ℕ) (cube : List Literal)
     → i < length cubes → cube ≡ get_or cubes i cube
@@ -184,9 +162,3 @@ sift_keep required cubes i kept counts cube within at sifting needed_here =
       are = sift_counts required cubes i kept counts cube within at sifting
           ∙ ap (λ (xs : Sum). map (count xs) required) (sym (append_assoc kept (cube ∷ []) rest));
     }
-
-pub sift_end : (required : List ℕ) (cubes : Sum) (i : ℕ) (kept : Sum) (counts : List ℕ) → length cubes ≤ i
-    → IsSifting required cubes i kept counts → kept ≡ needed (is_needless_cube required) cubes
-sift_end required cubes i kept counts past sifting =
-    let none : drop i cubes ≡ [] = drop_past cubes i past in
-    sym (append-nil kept) ∙ (rw none at sifting.stays)

@@ -1,6 +1,6 @@
 -- What is left of a list once each needless item has gone.
 use Rattle.std.proofs.Common.{◌≡◌, ◌≢◌, ℕ, zero, suc, ◌<◌, ◌⊎◌, Bool, true, false, List, [], ◌∷◌, ◌++◌, refl, sym, ap}
-use Rattle.std.proofs.Common.{subst, ◌∙◌, arith, inl, inr, length, get_or, Contains, append_assoc}
+use Rattle.std.proofs.Common.{subst, ◌∙◌, arith, inl, inr, length, get_or, append_assoc, filter}
 use Rattle.std.specs.List.{list_any, list_all}
 use Rattle.std.proofs.lemmas.Bool.{cases_Bool, true≢false, false_from_ne_true, and_parts, and_from}
 use Rattle.si_base.proofs.OrderAscending.{In}
@@ -121,20 +121,6 @@ differs_in_others (y ∷ xs) (suc i) d x (inl same) apart = inl same
 differs_in_others (y ∷ xs) (suc i) d x (inr later) apart = inr (differs_in_others xs i d x later apart)
 
 -- ---- tests over lists
-pub in_from_Contains : {A : Type 0} (xs : List A) (x : A) → Contains xs x → In x xs
-in_from_Contains {A} xs x there = go xs there.0 x there.1 there.2
-  where
-    go : {A : Type 0} (xs : List A) (k : ℕ) (x : A) → k < length xs → get_or xs k x ≡ x → In x xs
-    go [] k x within at = absurd (omega arith)
-    go (y ∷ xs) zero x within at = inl (sym at)
-    go (y ∷ xs) (suc k) x within at = inr (go xs k x (omega arith) at)
-
-pub Contains_from_in : {A : Type 0} (xs : List A) (x : A) → In x xs → Contains xs x
-Contains_from_in [] x here = absurd here
-Contains_from_in (y ∷ xs) x (inl same) = (0, omega arith, sym same)
-Contains_from_in (y ∷ xs) x (inr later) = let rest =
-    Contains_from_in xs x later in (suc rest.0, omega (arith, rest.1), rest.2)
-
 pub all_in : {A : Type 0} (p : A → Bool) (xs : List A) → list_all p xs ≡ true → (x : A) → In x xs → p x ≡ true
 all_in p [] all x here = absurd here
 all_in p (y ∷ xs) all x (inl same) = ap p same ∙ (and_parts (p y) (list_all p xs) all).0
@@ -158,4 +144,12 @@ any_in p [] any = absurd (true≢false (sym any))
 any_in p (y ∷ xs) any = elim (cases_Bool (p y)) [
   | inl at ↦ (y, inl refl, at)
   | inr not ↦ (let rest = any_in p xs (rw not at any) in (rest.0, inr rest.1, rest.2))
+]
+
+pub in_kept : {A : Type 0} (p : A → Bool) (xs : List A) (l : A) → In l xs → p l ≡ true → In l (filter p xs)
+in_kept p [] l there on = absurd there
+in_kept p (x ∷ xs) l (inl same) on = let here : p x ≡ true = ap p (sym same) ∙ on in rw here (inl same)
+in_kept p (x ∷ xs) l (inr later) on = elim (cases_Bool (p x)) [
+  | inl here ↦ rw here (inr (in_kept p xs l later on))
+  | inr not_here ↦ rw not_here (in_kept p xs l later on)
 ]

@@ -18,15 +18,18 @@ use Rattle.si_base.specs.Netlist.{Sum, sum_value, literal_value}
 use Rattle.si_base.proofs.BitFacts.{same_codes, flip-same, flip-other}
 use Rattle.si_base.proofs.GraphSteps.{beq-refl}
 use Rattle.si_base.proofs.OrderAscending.{In}
+use Rattle.si_base.proofs.StepCodes.{no_bit}
+use Rattle.si_base.proofs.OrderLemmas.{in_contains}
+use Rattle.si_base.proofs.GivenGraphUnique.{contains_from_in}
 use Rattle.si_cube.specs.Literals.{full_literals}
 use Rattle.si_cube.specs.Order.{values_from, DifferLastAt, HaveSame}
 use Rattle.si_cube.specs.Covers.{without}
 use Rattle.si_cube.specs.Needed.{needed_from, needed}
 use Rattle.si_cube.specs.Rule.{covers, covers_any, is_needless_literal, is_needless_cube, grown, grown_cubes, chosen}
-use Rattle.si_cube.proofs.NeededLemmas.{in_from_Contains, Contains_from_in, any_in, any_from_in, all_in, all_from_in}
+use Rattle.si_cube.proofs.NeededLemmas.{any_in, any_from_in, all_in, all_from_in}
 use Rattle.si_cube.proofs.NeededLemmas.{in_append, in_left, in_right}
-use Rattle.si_cube.proofs.CubeFacts.{full_bits, full_tells, no_bit, covers_more}
-use Rattle.si_cube.proofs.GrowthLemmas.{IsGrowing, growth_start, growth_drop, growth_keep, growth_end, smaller_is}
+use Rattle.si_cube.proofs.CubeFacts.{full_bits, full_tells, covers_more}
+use Rattle.si_cube.proofs.GrowthLemmas.{IsGrowing, growth_start, growth_drop, growth_keep, smaller_is}
 
 -- ---- the values from a signal on
 bit_from : (s code i : ℕ) → bit (values_from s code) i ≡ bit code (s + i)
@@ -159,17 +162,17 @@ last_matter signals forbidden code s cube part within fits all_fit growing avoid
     elim (cases_Bool (covers_any forbidden (without s cube))) [
       | inl some ↦ (
           let found = any_in (covers (without s cube)) forbidden some in
-          let there = Contains_from_in forbidden found.0 found.1 in
+          let there = contains_from_in forbidden found.0 found.1 in
           let last =
           covered_last signals forbidden code s found.0 cube within fits
           (All-contains (λ (k : ℕ). k < 2 ^ signals) forbidden found.0 all_fit there) found.1 growing avoids found.2 in
           any_from_in (covers (without s cube)) part found.0
-          (in_from_Contains part found.0 ((differ.exactly found.0).1 (there, last))) found.2 ∙ sym some)
+          (in_contains part found.0 ((differ.exactly found.0).1 (there, last))) found.2 ∙ sym some)
       | inr none ↦ false_from_ne_true (covers_any part (without s cube)) (λ some.
           let found = any_in (covers (without s cube)) part some in
-          let there = ((differ.exactly found.0).0 (Contains_from_in part found.0 found.1)).0 in
+          let there = ((differ.exactly found.0).0 (contains_from_in part found.0 found.1)).0 in
           true≢false (sym (any_from_in (covers (without s cube)) forbidden found.0
-          (in_from_Contains forbidden found.0 there) found.2) ∙ none)) ∙ sym none
+          (in_contains forbidden found.0 there) found.2) ∙ none)) ∙ sym none
     ]
 
 -- a full cube covers no code but its own
@@ -179,7 +182,7 @@ pub full_avoids : (signals : ℕ) (forbidden : List ℕ) (code : ℕ) → code <
 full_avoids signals forbidden code fits all_fit apart =
     false_from_ne_true (covers_any forbidden (full_literals signals 0 code)) (λ any.
     let found = any_in (covers (full_literals signals 0 code)) forbidden any in
-    let there = Contains_from_in forbidden found.0 found.1 in
+    let there = contains_from_in forbidden found.0 found.1 in
     let same : found.0 ≡ code =
     full_tells signals code found.0 fits
     (All-contains (λ (k : ℕ). k < 2 ^ signals) forbidden found.0 all_fit there) found.2 in
@@ -210,22 +213,18 @@ pub clear_keep : (signals : ℕ) (forbidden : List ℕ) (code s : ℕ) (cube : L
 clear_keep signals forbidden code s cube within holds clear =
     record { growing = growth_keep signals forbidden code s cube within holds clear.growing; avoids = clear.avoids }
 
-pub clear_end : (signals : ℕ) (forbidden : List ℕ) (code s : ℕ) (cube : List Literal) → signals ≤ s
-    → IsClear signals forbidden code s cube → cube ≡ grown signals forbidden code
-clear_end signals forbidden code s cube past clear = growth_end signals forbidden code s cube past clear.growing
-
 -- ---- the order of the forbidden codes doesn't matter
 same_any : (codes others : List ℕ) (cube : List Literal) → HaveSame codes others
     → covers_any codes cube ≡ covers_any others cube
 same_any codes others cube same = elim (cases_Bool (covers_any others cube)) [
   | inl some ↦ (let found = any_in (covers cube) others some in
       any_from_in (covers cube) codes found.0
-      (in_from_Contains codes found.0 ((same found.0).1 (Contains_from_in others found.0 found.1))) found.2
+      (in_contains codes found.0 ((same found.0).1 (contains_from_in others found.0 found.1))) found.2
       ∙ sym some)
   | inr none ↦ false_from_ne_true (covers_any codes cube) (λ some.
       let found = any_in (covers cube) codes some in
       true≢false (sym (any_from_in (covers cube) others found.0
-      (in_from_Contains others found.0 ((same found.0).0 (Contains_from_in codes found.0 found.1))) found.2)
+      (in_contains others found.0 ((same found.0).0 (contains_from_in codes found.0 found.1))) found.2)
       ∙ none)) ∙ sym none
 ]
 

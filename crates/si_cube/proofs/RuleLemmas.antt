@@ -3,28 +3,23 @@ use Rattle.std.proofs.Common.{◌≡◌, ℕ, ◌<◌, ◌^◌, ◌||◌, not, B
 use Rattle.std.proofs.Common.{◌∙◌, inl, inr, get_or, All}
 use Rattle.std.specs.List.{list_all}
 use Rattle.std.proofs.lemmas.Bool.{cases_Bool, true≢false, false_from_ne_true, not-true, not-false, or_parts, or_cases}
-use Rattle.std.proofs.lemmas.Bool.{or_left, or_right}
+use Rattle.std.proofs.lemmas.Bool.{or_left, or_right, not_from_false}
 use Rattle.std.proofs.lemmas.List.Elements.{All-contains}
 use Rattle.si_base.specs.declared.ids.Literal.{Literal}
 use Rattle.si_base.specs.Netlist.{Sum, sum_value}
 use Rattle.si_base.proofs.OrderAscending.{In}
+use Rattle.si_base.proofs.OrderLemmas.{in_contains}
+use Rattle.si_base.proofs.GivenGraphUnique.{contains_from_in}
 use Rattle.si_cube.specs.Literals.{full_literals}
 use Rattle.si_cube.specs.Covers.{Demand}
 use Rattle.si_cube.specs.Covers.{IsMeetable, IsCover, IsPrime, IsIrredundant, IsPrimeCover, without}
 use Rattle.si_cube.specs.Rule.{covers, covers_any, is_needless_literal, grown, grown_cubes, is_needless_cube, chosen}
 use Rattle.si_cube.proofs.NeededLemmas.{Grows, AreNeeded, are_needed, needed_at, still_serves, in_from_needed}
-use Rattle.si_cube.proofs.NeededLemmas.{in_append, in_left, in_right, in_others, others, IsWithin, in_from_Contains}
-use Rattle.si_cube.proofs.NeededLemmas.{Contains_from_in, all_in, all_from_in, any_in, any_from_in}
+use Rattle.si_cube.proofs.NeededLemmas.{in_append, in_left, in_right, in_others, others, IsWithin}
+use Rattle.si_cube.proofs.NeededLemmas.{all_in, all_from_in, any_in, any_from_in}
 use Rattle.si_cube.proofs.CubeFacts.{full_holds, full_tells, covers_more, covers_any_more, without_within}
 
 -- ---- the grown cube of a code
-false_from_not : (b : Bool) → not b ≡ true → b ≡ false
-false_from_not = not-true
-
-not_from_false : (b : Bool) → b ≡ false → not b ≡ true
-not_from_false true h = sym h
-not_from_false false h = refl
-
 literals_grow : (forbidden : List ℕ) → Grows (is_needless_literal forbidden)
 literals_grow forbidden l smaller larger within needless =
     not_from_false _ (false_from_ne_true (covers_any forbidden larger) (λ any.
@@ -168,8 +163,8 @@ cubes_of n d fit cube here =
     (λ code there. grown_is n d.forbidden code (record {
       fits = fit.required_fit code there;
       others_fit = fit.forbidden_fit;
-      apart = λ also. fit.meetable code (Contains_from_in d.required code there)
-          (Contains_from_in d.forbidden code also);
+      apart = λ also. fit.meetable code (contains_from_in d.required code there)
+          (contains_from_in d.forbidden code also);
     }))
     cube (in_from_needed (is_needless_cube d.required) [] (grown_cubes n d.forbidden [] d.required) cube here)
 
@@ -177,22 +172,22 @@ pub is_cover : (n : ℕ) (d : Demand) → IsFit n d → IsCover d (chosen n d)
 is_cover n d fit = record {
   covers = λ k there. still_serves (is_needless_cube d.required) (CoversAll d.required) (drop_needless d.required) []
       (grown_cubes n d.forbidden [] d.required) (λ j here. all_covered n d.forbidden [] d.required j here) k
-      (in_from_Contains d.required k there);
+      (in_contains d.required k there);
   avoids = λ k there. false_from_ne_true (sum_value k (chosen n d)) (λ any.
       let found = any_in (λ cube. covers cube k) (chosen n d) any in
-      true≢false (sym (any_from_in (covers found.0) d.forbidden k (in_from_Contains d.forbidden k there) found.2)
+      true≢false (sym (any_from_in (covers found.0) d.forbidden k (in_contains d.forbidden k there) found.2)
       ∙ (cubes_of n d fit found.0 found.1).avoids));
 }
 
 pub is_prime : (n : ℕ) (d : Demand) → IsFit n d → IsPrime d (chosen n d)
 is_prime n d fit cube l there has =
-    let is = cubes_of n d fit cube (in_from_Contains (chosen n d) cube there) in
+    let is = cubes_of n d fit cube (in_contains (chosen n d) cube there) in
     let at : get_or cube has.0 l ≡ l = has.2 in
     let needed = needed_at (is_needless_literal d.forbidden) [] cube is.needed has.0 l has.1 in
     let found = any_in (covers (others cube has.0)) d.forbidden (not-false _ needed) in
     let P : Literal → Type 0 = λ m. covers (without m.sig cube) found.0 ≡ true in (
       found.0,
-      Contains_from_in d.forbidden found.0 found.1,
+      contains_from_in d.forbidden found.0 found.1,
       subst P at
           (covers_more (without (get_or cube has.0 l).sig cube) (others cube has.0) found.0
           (without_within cube has.0 l) found.2),
@@ -209,7 +204,7 @@ is_irredundant n d i within =
     let parts = or_parts _ _ found.2 in
     record {
       code = found.0;
-      required = Contains_from_in d.required found.0 found.1;
+      required = contains_from_in d.required found.0 found.1;
       covers = not-false _ parts.0;
       alone = λ j there apart covered. true≢false
           (sym (any_from_in (λ cube. covers cube found.0) (others (chosen n d) i) (get_or (chosen n d) j [])
@@ -223,7 +218,7 @@ pub chosen_is_prime_cover : (n : ℕ) (d : Demand) → All (λ k. k < 2 ^ n) d.r
     → IsMeetable d → IsPrimeCover d (chosen n d)
 chosen_is_prime_cover n d required forbidden meetable =
     let fits : (codes : List ℕ) → All (λ (j : ℕ). j < 2 ^ n) codes → (k : ℕ) → In k codes → k < 2 ^ n =
-    λ codes all k here. All-contains (λ (j : ℕ). j < 2 ^ n) codes k all (Contains_from_in codes k here) in
+    λ codes all k here. All-contains (λ (j : ℕ). j < 2 ^ n) codes k all (contains_from_in codes k here) in
     is_prime_cover n d (record {
       required_fit = fits d.required required;
       forbidden_fit = fits d.forbidden forbidden;

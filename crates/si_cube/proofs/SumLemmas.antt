@@ -8,16 +8,17 @@ use Rattle.si_base.specs.declared.ids.Literal.{Literal}
 use Rattle.si_base.specs.Bits.{bit}
 use Rattle.si_base.specs.WellFormed.{IsCube, IsSum}
 use Rattle.si_base.proofs.OrderAscending.{In}
+use Rattle.si_base.proofs.OrderLemmas.{in_contains}
 use Rattle.si_cube.specs.Literals.{full_literals}
 use Rattle.si_cube.specs.Covers.{Demand}
 use Rattle.si_cube.specs.Needed.{needed_from}
 use Rattle.si_cube.specs.Rule.{is_needless_literal, is_needless_cube, grown, grown_cubes, chosen}
-use Rattle.si_cube.proofs.NeededLemmas.{Needless, in_from_needed, in_from_Contains}
+use Rattle.si_cube.proofs.NeededLemmas.{Needless, in_from_needed}
 use Rattle.si_cube.proofs.RuleLemmas.{each_grown}
 
 all_from_in : {A : Type 0} (P : A → Type 0) (xs : List A) → ((x : A) → In x xs → P x) → All P xs
 all_from_in P xs each =
-    λ k d within. each (get_or xs k d) (in_from_Contains xs (get_or xs k d) (Contains-get_or xs k d within))
+    λ k d within. each (get_or xs k d) (in_contains xs (get_or xs k d) (Contains-get_or xs k d within))
 
 full_range : (n i code : ℕ) (l : Literal) → In l (full_literals n i code) → (i ≤ l.sig) × (l.sig < i + n)
 full_range zero i code l here = absurd here

@@ -11,7 +11,7 @@ use Rattle.si_base.specs.Limits.{code_width}
 use Rattle.si_base.specs.Netlist.{Sum}
 use Rattle.si_base.specs.NetlistText.{literal_word, cube_words, more_cubes}
 use Rattle.si_cube.specs.Literals.{literals_from, literals_of}
-use Rattle.si_words.specs.Writing.{spaced}
+use Rattle.si_words.specs.Loops.Writing.{spaced}
 
 -- the cubes from the i-th on
 abbrev pub cubes_from : List Signal → Sum → ℕ → List ℕ

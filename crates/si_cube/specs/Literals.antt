@@ -1,5 +1,6 @@
 -- (field) The literals of a cube that is kept as two codes.
-use Rattle.std.specs.Prelude.{◌≡◌, ℕ, ◌+◌, true, List, [], ◌∷◌, zero, suc, if◌then◌else◌}
+use Rattle.std.specs.Prelude.{◌≡◌, ℕ, ◌+◌, true, List, [], ◌∷◌, zero, suc, if◌then◌else◌, AllPairs}
+use Rattle.std.specs.Prelude.{◌<◌}
 use Rattle.si_base.specs.declared.ids.Literal.{Literal}
 use Rattle.si_base.specs.Limits.{code_width}
 use Rattle.si_base.specs.Bits.{bit}
@@ -25,3 +26,7 @@ abbrev pub full_literals : ℕ → ℕ → ℕ → List Literal
 full_literals zero i code = []
 full_literals (suc count) i code =
     record { sig = i; plain = bit code i } ∷ full_literals count (i + 1) code
+
+-- in strictly rising signal order
+abbrev pub InSignalOrder : List Literal → Type 0
+InSignalOrder literals = AllPairs (λ k l. k.sig < l.sig) literals

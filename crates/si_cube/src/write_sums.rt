@@ -4,7 +4,7 @@ ghost use Rattle.std.specs.Prelude.{◌≡◌, [], ◌∷◌, ◌++◌, OnOk, ma
 ghost use Rattle.std.specs.Prelude.{if◌then◌else◌};
 ghost use Rattle.si_base.specs.Bytes.{space, apostrophe};
 ghost use Rattle.si_base.specs.NetlistText.{cube_words, literal_word, more_cubes, sum_words};
-ghost use Rattle.si_words.specs.Writing.{spaced};
+ghost use Rattle.si_words.specs.Loops.Writing.{spaced};
 
 use crate::cube::Cube;
 use crate::sum::Sum;

@@ -8,10 +8,6 @@ use Rattle.si_insert.specs.Insertion.{has_copy}
 use Rattle.si_insert.proofs.PairWaiting.{waiting}
 use Rattle.si_divisor.specs.Laws.{to_one}
 
-pub at_each : (P : Bool → Type 0) → P false → P true → (b : Bool) → P b
-at_each P low high true = high
-at_each P low high false = low
-
 -- the states where an arc waits at the value have the other target
 pub target_of_waiting : (v : Bool) → to_one (waiting v) ≡ not v
 target_of_waiting true = refl

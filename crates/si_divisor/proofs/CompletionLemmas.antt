@@ -1,5 +1,5 @@
 -- Divisors by their pins, one pin after another.
-use Rattle.std.proofs.Common.{◌≡◌, ℕ, zero, suc, ◌+◌, ◌-◌, ◌<◌, ◌≤◌, ◌==◌, ◌&&◌, not, Bool, true, false, List, [], ◌∷◌}
+use Rattle.std.proofs.Common.{◌≡◌, ℕ, zero, suc, ◌+◌, ◌-◌, ◌<◌, ◌≤◌, ◌==◌, not, Bool, true, false, List, [], ◌∷◌}
 use Rattle.std.proofs.Common.{◌++◌, length, map, filter, take, get_or, All, refl, sym, ap, ◌∙◌, arith, inl, inr}
 use Rattle.std.proofs.Common.{append_assoc}
 use Rattle.std.specs.Prelude.{flat_map}
@@ -10,18 +10,14 @@ use Rattle.std.proofs.lemmas.List.{append-nil, take_at, take_more, take_all, map
 use Rattle.std.proofs.lemmas.List.Elements.{All-nil, All-cons, filter-append}
 use Rattle.std.proofs.lemmas.List.Folds.{list_all-append}
 use Rattle.std.proofs.lemmas.List.FromFn.{length-enumerate_from, get_or-enumerate_from}
+use Rattle.std.proofs.lemmas.Bool.{and_from, and_right, and_parts}
 use Rattle.si_base.specs.declared.ids.Literal.{Literal}
-use Rattle.si_cube.proofs.LiteralLemmas.{and_parts, and_both}
 use Rattle.si_cell.specs.Library.{Cell, Library, Instance, cell_at, no_cell}
 use Rattle.si_match.specs.Fit.{lists_of}
 use Rattle.si_divisor.specs.Divisors.{are_apart, has_few_pins, max_divisors}
-use Rattle.si_divisor.specs.Completions.{completions, of_cell, of_cells}
+use Rattle.si_divisor.specs.Loops.Completions.{completions, of_cell, of_cells}
 
 -- ---- literals on distinct signals
-and_off : (a b : Bool) → b ≡ false → (a && b) ≡ false
-and_off true b off = off
-and_off false b off = refl
-
 -- none of them is of the signal
 abbrev pub AreOther : ℕ → List Literal → Type 0
 AreOther sig ls = All (λ l. l.sig ≡ sig → ⊥) ls
@@ -29,7 +25,7 @@ AreOther sig ls = All (λ l. l.sig ≡ sig → ⊥) ls
 meets : (sig : ℕ) (ms : List Literal) (l : Literal) (rest : List Literal) → (l.sig == sig) ≡ true
     → list_all (λ x. not (x.sig == sig)) ((ms ++ l ∷ []) ++ rest) ≡ false
 meets sig [] l rest same = rw same refl
-meets sig (m ∷ ms) l rest same = and_off (not (m.sig == sig)) _ (meets sig ms l rest same)
+meets sig (m ∷ ms) l rest same = and_right (not (m.sig == sig)) _ (meets sig ms l rest same)
 
 torn : (ls : List Literal) (l : Literal) (rest : List Literal) → (AreOther l.sig ls → ⊥)
     → are_apart ((ls ++ l ∷ []) ++ rest) ≡ false
@@ -39,7 +35,7 @@ torn (m ∷ ms) l rest clash = elim (eqb_tells l.sig m.sig) [
   | inr other ↦ (
       let later = torn ms l rest (λ all. clash (All-cons (λ (x : Literal). x.sig ≡ l.sig → ⊥) m ms
       (λ same. other.1 (sym same)) all)) in
-      and_off (list_all (λ x. not (x.sig == m.sig)) ((ms ++ l ∷ []) ++ rest)) _ later)
+      and_right (list_all (λ x. not (x.sig == m.sig)) ((ms ++ l ∷ []) ++ rest)) _ later)
 ]
 
 pub apart_on : (ls : List Literal) (l : Literal) → are_apart ls ≡ true → AreOther l.sig ls
@@ -52,8 +48,8 @@ apart_on (m ∷ ms) l apart others =
       | inl same ↦ absurd (others 0 m (omega arith) (sym same.1))
       | inr other ↦ (
           let here : list_all (λ (x : Literal). not (x.sig == m.sig)) (l ∷ []) ≡ true = rw (other.0) refl in
-          let all = list_all-append (λ (x : Literal). not (x.sig == m.sig)) ms (l ∷ []) ∙ and_both _ _ parts.0 here in
-          and_both _ _ all later)
+          let all = list_all-append (λ (x : Literal). not (x.sig == m.sig)) ms (l ∷ []) ∙ and_from _ _ parts.0 here in
+          and_from _ _ all later)
     ]
 
 -- ---- completions by one more pin

@@ -3,7 +3,7 @@ use Rattle.std.proofs.Common.{◌≡◌, ◌≢◌, ◌↔◌, ℕ, zero, suc, �
 use Rattle.std.proofs.Common.{filter, take, get_or, All, AllPairs, Contains, nat_le, refl, sym, ap, subst, ◌∙◌, arith}
 use Rattle.std.proofs.Common.{inl, inr}
 use Rattle.std.specs.List.{list_all}
-use Rattle.std.proofs.lemmas.Bool.{true≢false}
+use Rattle.std.proofs.lemmas.Bool.{true≢false, and_from, and_parts}
 use Rattle.std.proofs.lemmas.Bool.Decides.{eqb_tells, leb_tells}
 use Rattle.std.proofs.lemmas.List.{take_all, get_or-take, length-take}
 use Rattle.std.proofs.lemmas.List.Elements.{All-nil, All-cons, Contains-get_or}
@@ -13,7 +13,6 @@ use Rattle.si_base.specs.declared.ids.Literal.{Literal}
 use Rattle.si_base.proofs.OrderLemmas.{in_contains}
 use Rattle.si_base.proofs.OrderAscending.{In}
 use Rattle.si_base.proofs.GivenGraphUnique.{contains_from_in}
-use Rattle.si_cube.proofs.LiteralLemmas.{and_parts, and_both}
 use Rattle.si_graph.proofs.ListMembers.{Contains-filter, Contains-from_filter}
 use Rattle.si_cell.specs.Library.{Library, Instance}
 use Rattle.si_cell.specs.Literals.{has_literal}
@@ -61,7 +60,7 @@ apart_to (l ∷ ls) apart =
     let head : All (λ (m : Literal). l.sig ≢ m.sig) ls =
     λ k d inside. apart 0 (suc k) d (omega arith) (omega (arith, inside)) in
     let tail : Apart ls = λ i j d less within. apart (suc i) (suc j) d (omega (arith, less)) (omega (arith, within)) in
-    and_both _ _ (others_to l ls head) (apart_to ls tail)
+    and_from _ _ (others_to l ls head) (apart_to ls tail)
 
 -- ---- lists of pins
 abbrev Among : List Literal → List Literal → Type 0
@@ -110,7 +109,7 @@ among_from pins (l ∷ ls) on =
 among_to : (pins ls : List Literal) → Among pins ls → list_all (has_literal pins) ls ≡ true
 among_to pins [] all = refl
 among_to pins (l ∷ ls) all =
-    and_both _ _ (in_has pins l (all 0 l (omega arith)))
+    and_from _ _ (in_has pins l (all 0 l (omega arith)))
     (among_to pins ls (λ k d inside. all (suc k) d (omega (arith, inside))))
 
 few_from : (n : ℕ) → has_few_pins n ≡ true → (1 ≤ n) × (n ≤ max_divisor_pins)
@@ -122,7 +121,7 @@ few_from n on =
     within a b test = elim (leb_tells a b) [ inl is ↦ is.1 | inr none ↦ absurd (true≢false (sym test ∙ none.0)) ]
 
 few_to : (n : ℕ) → 1 ≤ n → n ≤ max_divisor_pins → has_few_pins n ≡ true
-few_to n some few = and_both _ _ (passes 1 n some) (passes n max_divisor_pins few)
+few_to n some few = and_from _ _ (passes 1 n some) (passes n max_divisor_pins few)
   where
     passes : (a b : ℕ) → a ≤ b → nat_le a b ≡ true
     passes a b less = elim (leb_tells a b) [
@@ -153,7 +152,7 @@ module _ (c : CodedGraph) (library : Library) (pins : List Literal) (coded : IsC
   has_one : (i : Instance) → IsDivisor c library pins i → Contains all i
   has_one i is = Contains-filter (is_divisor pins) (instances (length c.graph.signals) library) i
       (contains_from_in (instances (length c.graph.signals) library) i (instance_in c library i is.over))
-      (and_both _ _ (and_both _ _ (few_to (length i.literals) is.some is.few)
+      (and_from _ _ (and_from _ _ (few_to (length i.literals) is.some is.few)
       (among_to pins i.literals is.chosen.pins)) (apart_to i.literals is.chosen.apart))
 
 from_taken : (n : ℕ) (xs : List Instance) (k : ℕ) (d : Instance) → k < length (take n xs)

@@ -4,13 +4,14 @@ use Rattle.std.proofs.Common.{take, get_or, if◌then◌else◌, All, refl, sym,
 use Rattle.std.specs.Prelude.{flat_map}
 use Rattle.std.specs.List.{enumerate_from, list_all}
 use Rattle.std.proofs.lemmas.Bool.{cases_Bool}
-use Rattle.std.proofs.lemmas.List.Elements.{All-nil, All-cons, All-append, All-map, filter-append}
+use Rattle.std.proofs.lemmas.List.Elements.{filter-append}
 use Rattle.si_base.specs.declared.ids.Literal.{Literal}
 use Rattle.si_cell.specs.Library.{Cell, Library, Instance}
 use Rattle.si_cell.specs.Literals.{has_literal}
 use Rattle.si_match.specs.Fit.{lists_of, literals_of_signals, instances_of}
+use Rattle.si_match.proofs.SearchLemmas.{have_length}
 use Rattle.si_divisor.specs.Divisors.{are_apart, has_few_pins, is_divisor, max_divisors, divisors_of}
-use Rattle.si_divisor.specs.Completions.{of_cell, of_cells}
+use Rattle.si_divisor.specs.Loops.Completions.{of_cell, of_cells}
 
 -- ---- filters
 filter_flat : {A B : Type 0} (p : B → Bool) (f : A → List B) (xs : List A)
@@ -95,19 +96,6 @@ filter_same p q (x ∷ xs) same =
       | inl on ↦ (let also : p x ≡ true = here ∙ on in rw (on, also, later) refl)
       | inr off ↦ (let also : p x ≡ false = here ∙ off in rw (off, also, later) refl)
     ]
-
-have_length : (n : ℕ) (literals : List Literal) → All (λ (ls : List Literal). length ls ≡ n) (lists_of n literals)
-have_length zero literals = All-cons (λ (ls : List Literal). length ls ≡ 0) [] [] refl (All-nil (λ
-    (ls : List Literal). length ls ≡ 0))
-have_length (suc n) literals = by_literal literals (have_length n literals)
-  where
-    by_literal : (ls : List Literal) → All (λ (xs : List Literal). length xs ≡ n) (lists_of n literals)
-        → All (λ (xs : List Literal). length xs ≡ suc n)
-        (flat_map (λ l. map (λ xs. l ∷ xs) (lists_of n literals)) ls)
-    by_literal [] shorter = All-nil (λ (xs : List Literal). length xs ≡ suc n)
-    by_literal (l ∷ ls) shorter = All-append (λ (xs : List Literal). length xs ≡ suc n) _ _
-        (All-map (λ (xs : List Literal). length xs ≡ suc n) (λ xs. l ∷ xs) (lists_of n literals)
-        (λ k d inside. ap suc (shorter k d inside))) (by_literal ls shorter)
 
 -- all lists have so many literals, so a test of their number is one test
 lengths : (n : ℕ) (literals : List Literal) (q : ℕ → Bool) (p : List Literal → Bool)

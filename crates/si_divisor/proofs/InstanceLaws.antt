@@ -1,7 +1,7 @@
 -- Values of instances: they don't fall as the output rises, and an inserted signal has the value of its instance.
 use Rattle.std.proofs.Common.{◌≡◌, ℕ, zero, suc, ◌<◌, ◌&&◌, ◌||◌, ◌++◌, Bool, true, false, not, List, [], ◌∷◌, length}
-use Rattle.std.proofs.Common.{map, All, IsTrue, get_or, slice_get, Some, refl, sym, ap, ◌∙◌, arith, inl, inr, ◌⊎◌}
-use Rattle.std.proofs.lemmas.Bool.{true≢false, cases_eq, and_parts}
+use Rattle.std.proofs.Common.{map, All, IsTrue, get_or, slice_get, Some, refl, sym, ap, ◌∙◌, arith, inl, inr}
+use Rattle.std.proofs.lemmas.Bool.{true≢false, cases_eq, and_parts, or_right, or_cases, false_from_ne_true}
 use mathlib.Core.Bool.{beq}
 use Rattle.std.specs.List.{list_any, list_all}
 use Rattle.si_base.specs.declared.ids.Event.{Event}
@@ -39,20 +39,12 @@ all_on p q (x ∷ xs) on h =
     let here : q x ≡ true = cut.0 parts.0 in
     rw here (all_on p q xs cut.1 parts.1)
 
-or_parts : (a b : Bool) → (a || b) ≡ true → (a ≡ true) ⊎ (b ≡ true)
-or_parts true b h = inl refl
-or_parts false b h = inr h
-
-or_right : (a b : Bool) → b ≡ true → (a || b) ≡ true
-or_right true b h = refl
-or_right false b h = h
-
 any_on : {A : Type 0} (p q : A → Bool) (xs : List A) → All (λ x. p x ≡ true → q x ≡ true) xs → list_any p xs ≡ true
     → list_any q xs ≡ true
 any_on p q [] on h = h
 any_on p q (x ∷ xs) on h =
     let cut = uncons (λ y. p y ≡ true → q y ≡ true) x xs on in
-    elim (or_parts (p x) (list_any p xs) h) [
+    elim (or_cases (p x) (list_any p xs) h) [
       | inl here ↦ (let k : q x ≡ true = cut.0 here in rw k refl)
       | inr later ↦ or_right (q x) (list_any q xs) (any_on p q xs cut.1 later)
     ]
@@ -161,10 +153,6 @@ enabled_at g classes new copies h k x up graph lawful is at class value =
     let on = goes_on g classes new copies h k e x (copy x.state up) graph lawful is at (inr switch) in
     enables-step h k e on.0 on.2
 
-not_true : (b : Bool) → (b ≡ true → ⊥) → b ≡ false
-not_true true h = absurd (h refl)
-not_true false h = refl
-
 low_value : (r b f : Bool) → r ≡ false → b ≡ false → (r || (b && not f)) ≡ false
 low_value r b f p q = rw (p, q) refl
 
@@ -207,11 +195,13 @@ new_value c classes new copies h k x is lawful inserted at =
 
     no_rise : (d : Class) → class_of classes x.state ≡ d → (d ≡ Rising → ⊥) → r ≡ false
     no_rise d p other =
-        not_true r (λ e. other (sym p ∙ (switches_at g classes new copies h k x true is.graph_is inserted at e).0))
+        false_from_ne_true r
+        (λ e. other (sym p ∙ (switches_at g classes new copies h k x true is.graph_is inserted at e).0))
 
     no_fall : (d : Class) → class_of classes x.state ≡ d → (d ≡ Falling → ⊥) → f ≡ false
     no_fall d p other =
-        not_true f (λ e. other (sym p ∙ (switches_at g classes new copies h k x false is.graph_is inserted at e).0))
+        false_from_ne_true f
+        (λ e. other (sym p ∙ (switches_at g classes new copies h k x false is.graph_is inserted at e).0))
 
     cases : (d : Class) (v : Bool) → class_of classes x.state ≡ d → x.value ≡ v → has_copy d v ≡ true
         → next_value (coded c copies h) k n ≡ to_one d

@@ -21,7 +21,6 @@ pub mod SameForced
 pub mod PartitionForAnswers
 pub mod FunctionLemmas
 pub mod SameFunction
-pub mod ForcedFill
 pub mod SwitchingOutside
 pub mod ManyFunctionLemmas
 pub mod InstanceLaws

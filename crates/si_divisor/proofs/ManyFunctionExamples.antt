@@ -5,7 +5,7 @@ use Rattle.si_base.specs.Codes.{CodedGraph}
 use Rattle.si_cell.specs.Library.{code_of}
 use Rattle.si_divisor.specs.declared.function.Function.{Function}
 use Rattle.si_divisor.specs.Functions.{Computes}
-use Rattle.si_divisor.specs.ManyFunctions.{AreOpposed, TellsForced}
+use Rattle.si_divisor.specs.Loops.ManyFunctions.{AreOpposed, TellsForced}
 
 abbrev majority : Function
 majority = record { signals = record { items = 0 ∷ 1 ∷ [] }; table = 232 }

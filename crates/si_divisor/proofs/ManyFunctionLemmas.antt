@@ -12,32 +12,33 @@ use mathlib.Core.Bool.{beq}
 use mir.Val.{bool_byte}
 use Rattle.si_base.specs.declared.ids.Event.{Event}
 use Rattle.si_base.specs.Bits.{bit}
-use Rattle.si_base.specs.Codes.{CodedGraph, IsCoded}
+use Rattle.si_base.specs.Codes.{CodedGraph, IsCoded, code}
 use Rattle.si_base.specs.Graph.{StateGraph, IsGraph, event_place}
 use Rattle.si_base.proofs.StepCodes.{step_within}
+use Rattle.si_base.proofs.BitFacts.{bit-zero, bit-or, bit-and}
 use Rattle.si_graph.specs.Closure.{IsNext, IsClosure, PathBy}
 use Rattle.si_graph.specs.declared.closure.Along.TheVariants.{Out}
 use Rattle.si_graph.proofs.SearchLemmas.{in_below}
-use Rattle.si_graph.proofs.ValueLemmas.{bit-or, bit-zero}
-use Rattle.si_closures.specs.WordSearch.{column, HasBit, Passes, IsNextBy, IsClosureBy}
-use Rattle.si_closures.specs.Words.{HasAll}
+use Rattle.si_closures.specs.Loops.WordSearch.{column, HasBit, Passes, IsNextBy, IsClosureBy}
+use Rattle.si_closures.specs.Loops.Words.{HasAll}
 use Rattle.si_closures.proofs.WordLemmas.{full_bit, place_below}
-use Rattle.si_closures.proofs.WordBits.{not_is, xor_is, and_is, in_and, in_or}
+use Rattle.si_closures.proofs.WordBits.{not_is, xor_is, in_and, in_or}
 use Rattle.si_closures.proofs.WordSearchLemmas.{column-at, in_column}
 use Rattle.si_insert.specs.declared.partition.Class.{Class}
 use Rattle.si_insert.specs.Partition.{class_of}
 use Rattle.si_divisor.specs.declared.function.Function.{Function}
 use Rattle.si_divisor.specs.declared.function_sets.FunctionSets.{FunctionSets}
-use Rattle.si_divisor.specs.Functions.{function_value}
-use Rattle.si_divisor.specs.ManyFunctions.{AreForcedWords, AreHeldWords, AreOpposed, AreClassesAt, AreSetsOf}
-use Rattle.si_divisor.specs.ManyFunctions.{AreFunctionSets}
-use Rattle.si_divisor.specs.ManySwitching.{AreSwitched}
-use Rattle.si_divisor.specs.PartitionFor.{IsPartitionFor, HasNone, HasSome, class_for}
+use Rattle.si_divisor.specs.declared.function_sets.SettledWords.{SettledWords}
+use Rattle.si_divisor.specs.Functions.{Computes, function_value}
+use Rattle.si_divisor.specs.Loops.ManyFunctions.{AreForcedWords, AreHeldWords, AreOpposed, AreClassesAt, AreSetsOf}
+use Rattle.si_divisor.specs.Loops.ManyFunctions.{AreFunctionSets, AreSettledWords}
+use Rattle.si_divisor.specs.Loops.ManySwitching.{AreSwitched}
+use Rattle.si_divisor.specs.PartitionFor.{AreSets, IsPartitionFor, HasNone, HasSome, class_for}
 use Rattle.si_divisor.specs.Targets.{IsLeast, Settles, AreForced, AreSettled, HaveTargets, IsUnforced}
 use Rattle.si_divisor.specs.Targets.{SettlesAtBoth, forced_by, forced_in, holds, target}
 use Rattle.si_divisor.specs.Switching.{Switches}
 use Rattle.si_divisor.proofs.PartitionForAnswers.{AreClassesBy, are_sets, is_partition, none_carried}
-use Rattle.si_divisor.proofs.PartitionForAnswers.{partition_carried}
+use Rattle.si_divisor.proofs.PartitionForAnswers.{partition_carried, sets_of}
 use Rattle.si_divisor.proofs.SwitchRuleLemmas.{least_falls}
 use Rattle.si_divisor.proofs.SwitchingOutside.{none_without_targets, none_if_strays_up, none_if_strays_down}
 use Rattle.si_divisor.proofs.SwitchingOutside.{none_if_never_up, none_if_never_down, stays_within}
@@ -85,15 +86,6 @@ module _ (c : CodedGraph) (functions : List Function) (b : Bool) (s n word : ℕ
       same : bit_or word (0 * 2 ^ n % 2 ^ 128) ≡ word
       same = ap (bit_or word) (omega arith) ∙ or_zero_r word
 
--- a function forces 1 where its value is 1 at the output 0, and 0 where it is 0 at the output 1
-pub forces_up : (v : Bool) → v ≡ beq v true
-forces_up true = refl
-forces_up false = refl
-
-pub forces_down : (v : Bool) → not v ≡ beq v false
-forces_down true = refl
-forces_down false = refl
-
 -- ---- the functions for which a state holds, and those for which it settles at one value
 held_bit : (x y k : ℕ) → bit_or x y < 2 ^ 128 → k < 128
     → bit (2 ^ 128 - 1 - bit_or x y) k ≡ (not (bit x k) && not (bit y k))
@@ -136,12 +128,12 @@ pub one_opposed : (ones zeros : List ℕ) (n all x y : ℕ) → x ≡ get_or one
     → AreOpposedTo ones zeros n all → AreOpposedTo ones zeros (n + 1) (bit_and all (bit_xor x y))
 one_opposed ones zeros n all x y x_is y_is before k few = (
   λ h s early. (
-      let parts = and_parts (bit all k) (bit (bit_xor x y) k) (sym (and_is all (bit_xor x y) k) ∙ h) in
+      let parts = and_parts (bit all k) (bit (bit_xor x y) k) (sym (bit-and all (bit_xor x y) k) ∙ h) in
       elim (cases_eq s n) [
         | inl same ↦ subst At (sym same) (zero_at ∙ (xor_is x y k).0 parts.1 ∙ ap not (sym one_at))
         | inr other ↦ (before k few).0 parts.0 s (omega (arith, early, other))
       ]),
-  λ opposed. and_is all (bit_xor x y) k ∙ and_from (bit all k) (bit (bit_xor x y) k)
+  λ opposed. bit-and all (bit_xor x y) k ∙ and_from (bit all k) (bit (bit_xor x y) k)
       ((before k few).1 (λ s early. opposed s (omega (arith, early))))
       ((xor_is x y k).1 (sym zero_at ∙ opposed n (omega arith) ∙ ap not one_at)),
 )
@@ -225,6 +217,23 @@ falls_alone g ones zeros minus graph size some one is =
     let opposed = (opposed_targets g ones zeros size).1 (record { some = some; one = one }) in
     least_falls g ones zeros graph (λ s below. opposed s (omega (arith, below, size))) minus is
 
+-- the sets of one function alone, by its column of the words
+pub settled_alone : (g : StateGraph) (words : SettledWords) (ones zeros : List Bool) → AreSettledWords g words
+    → ones ≡ column 0 words.ones.items → zeros ≡ column 0 words.zeros.items
+    → AreSettled g (forced_in (column 0 words.up.items) (column 0 words.down.items)) ones zeros
+settled_alone g words ones zeros are ones_is zeros_is = rw (ones_is, zeros_is) (are.each 0 (omega arith))
+
+pub are_sets_alone : (g : StateGraph) (words : SettledWords) (ones zeros plus minus : List Bool) → IsGraph g
+    → AreSettledWords g words → ones ≡ column 0 words.ones.items → zeros ≡ column 0 words.zeros.items
+    → ((s : ℕ) → IsUnforced g ones zeros s → ⊥) → ((s : ℕ) → SettlesAtBoth ones zeros s → ⊥)
+    → IsLeast g.states (Switches g (target (column 0 words.ones.items)) true) plus
+    → IsLeast g.states (Switches g (target (column 0 words.zeros.items)) true) minus
+    → AreSets g (forced_in (column 0 words.up.items) (column 0 words.down.items)) (sets_of ones zeros plus minus)
+are_sets_alone g words ones zeros plus minus graph are ones_is zeros_is some one rise fall =
+    let settled = settled_alone g words ones zeros are ones_is zeros_is in
+    are_sets g (forced_in (column 0 words.up.items) (column 0 words.down.items)) ones zeros plus minus settled some one
+    (rw ones_is rise) (falls_alone g ones zeros minus graph settled.at_one.size some one (rw zeros_is fall))
+
 -- ---- states settle in closures along all arcs
 module _ (g : StateGraph) (P : Event → Type 0) (all : (e : Event) → e.sig < length g.signals → P e) (is : IsGraph g)
     (within : List Bool) where
@@ -246,173 +255,212 @@ module _ (g : StateGraph) (P : Event → Type 0) (all : (e : Event) → e.sig < 
         record { seed = r.seed; there = r.there; path = r.path; leads = path_out r.seed r.path t r.leads });
   }
 
-module _ (c : CodedGraph) (sets : FunctionSets) (up down held passes zeros : List ℕ) (is : IsCoded c)
-    (up_are : AreForcedWords c sets.functions.items true up)
-    (down_are : AreForcedWords c sets.functions.items false down)
-    (held_are : AreHeldWords up down held) (all : HasAll (2 * length c.graph.signals) passes)
-    (at_one : (k : ℕ) → IsClosureBy c.graph (Passes passes k) (column k held) (column k up)
-    (column k sets.ones.items))
-    (at_zero : (k : ℕ) → IsClosureBy c.graph (Passes passes k) (column k held) (column k down) (column k zeros))
-  where
-    abbrev ones : List ℕ
-    ones = sets.ones.items
+pub sized : (k : ℕ) (words : List ℕ) → length (column k words) ≡ length words
+sized k words = length-map words (λ (w : ℕ). bit w k)
 
-    abbrev plus : List ℕ
-    plus = sets.plus.items
+module _ (c : CodedGraph) (functions : List Function) (words : SettledWords) (held passes : List ℕ) (is : IsCoded c)
+    (up_are : AreForcedWords c functions true words.up.items)
+    (down_are : AreForcedWords c functions false words.down.items)
+    (held_are : AreHeldWords words.up.items words.down.items held)
+    (all : HasAll (2 * length c.graph.signals) passes)
+    (at_one : (k : ℕ) → IsClosureBy c.graph (Passes passes k) (column k held) (column k words.up.items)
+    (column k words.ones.items))
+    (at_zero : (k : ℕ) → IsClosureBy c.graph (Passes passes k) (column k held) (column k words.down.items)
+    (column k words.zeros.items)) where
+  abbrev Forces : ℕ → Bool → ℕ → Bool
+  Forces k = forced_in (column k words.up.items) (column k words.down.items)
 
-    abbrev minus : List ℕ
-    minus = sets.minus.items
+  holding : (k : ℕ) → k < 128 → (s : ℕ) → s < c.graph.states
+      → get_or (column k held) s false ≡ holds (Forces k) s
+  holding k few s within = column-at k held s ∙ held_are.each k s few (omega (arith, within, up_are.size))
+      ∙ ap₂ (λ x y. not x && not y) (sym (column-at k words.up.items s)) (sym (column-at k words.down.items s))
 
-    sized : (k : ℕ) (words : List ℕ) → length (column k words) ≡ length words
-    sized k words = length-map words (λ (w : ℕ). bit w k)
+  settling : (k : ℕ) → k < 128 → (b : Bool) (seeds found : List Bool) → length seeds ≡ c.graph.states
+      → ((s : ℕ) → s < c.graph.states → get_or seeds s false ≡ Forces k b s)
+      → IsClosureBy c.graph (Passes passes k) (column k held) seeds found
+      → IsLeast c.graph.states (Settles c.graph (Forces k) b) found
+  settling k few b seeds found size seeds_are closure =
+      closure_settles c.graph (Forces k) b (column k held) seeds found is.graph_is size
+      (holding k few) seeds_are (closure_out c.graph (Passes passes k)
+      (λ e below. (in_column k passes (event_place e)).1
+      (all.each k (event_place e) few (place_below e (length c.graph.signals) below)))
+      is.graph_is (column k held) seeds found closure)
 
-    holding : (k : ℕ) → k < 128 → (s : ℕ) → s < c.graph.states
-        → get_or (column k held) s false ≡ holds (forced_in (column k up) (column k down)) s
-    holding k few s within = column-at k held s ∙ held_are.each k s few (omega (arith, within, up_are.size))
-        ∙ ap₂ (λ x y. not x && not y) (sym (column-at k up s)) (sym (column-at k down s))
+  pub are_settled_words : AreSettledWords c.graph words
+  are_settled_words = record {
+    up_size = up_are.size;
+    down_size = down_are.size;
+    ones_size = sym (sized 0 words.ones.items) ∙ (at_one 0).size;
+    zeros_size = sym (sized 0 words.zeros.items) ∙ (at_zero 0).size;
+    each = λ k few. record {
+      at_one = settling k few true (column k words.up.items) (column k words.ones.items)
+          (sized k words.up.items ∙ up_are.size) (λ s within. refl) (at_one k);
+      at_zero = settling k few false (column k words.down.items) (column k words.zeros.items)
+          (sized k words.down.items ∙ down_are.size) (λ s within. refl) (at_zero k);
+    };
+  }
 
-    settling : (k : ℕ) → k < 128 → (b : Bool) (seeds found : List Bool) → length seeds ≡ c.graph.states
-        → ((s : ℕ) → s < c.graph.states → get_or seeds s false ≡ forced_in (column k up) (column k down) b s)
-        → IsClosureBy c.graph (Passes passes k) (column k held) seeds found
-        → IsLeast c.graph.states (Settles c.graph (forced_in (column k up) (column k down)) b) found
-    settling k few b seeds found size seeds_are closure =
-        closure_settles c.graph (forced_in (column k up) (column k down)) b (column k held) seeds found is.graph_is size
-        (holding k few) seeds_are (closure_out c.graph (Passes passes k)
-        (λ e below. (in_column k passes (event_place e)).1
-        (all.each k (event_place e) few (place_below e (length c.graph.signals) below)))
-        is.graph_is (column k held) seeds found closure)
+-- what a function forces, by the words
+forced_at : (c : CodedGraph) (functions : List Function) (up down : List ℕ) → AreForcedWords c functions true up
+    → AreForcedWords c functions false down → (k : ℕ) (d : Function) → k < length functions
+    → (value : ℕ → Bool → Bool) → Computes (get_or functions k d) value
+    → AreForced (forced_by value c) c.graph.states (column k up) (column k down)
+forced_at c functions up down up_are down_are k d inside value same = record {
+  up_size = sized k up ∙ up_are.size;
+  down_size = sized k down ∙ down_are.size;
+  up_is = λ s within. column-at k up s ∙ up_are.each s within k d inside
+      ∙ ap (λ v. beq v true) (same (code c s) false);
+  down_is = λ s within. column-at k down s ∙ down_are.each s within k d inside
+      ∙ ap (λ v. beq v false) (same (code c s) true);
+}
 
-    settled : (k : ℕ) → k < 128
-        → AreSettled c.graph (forced_in (column k up) (column k down)) (column k ones) (column k zeros)
-    settled k few = record {
-      at_one = settling k few true (column k up) (column k ones) (sized k up ∙ up_are.size) (λ s within. refl)
-          (at_one k);
-      at_zero = settling k few false (column k down) (column k zeros) (sized k down ∙ down_are.size)
-          (λ s within. refl) (at_zero k);
-    }
+module _ (c : CodedGraph) (made : FunctionSets) (words : SettledWords) (is : IsCoded c)
+    (up_are : AreForcedWords c made.functions.items true words.up.items)
+    (down_are : AreForcedWords c made.functions.items false words.down.items)
+    (settled_are : AreSettledWords c.graph words) where
+  abbrev sets : FunctionSets
+  sets = record made { ones = words.ones }
 
-    forced : (k : ℕ) (d : Function) → k < length sets.functions.items
-        → AreForced (forced_by (function_value (get_or sets.functions.items k d)) c) c.graph.states
-        (column k up) (column k down)
-    forced k d inside = record {
-      up_size = sized k up ∙ up_are.size;
-      down_size = sized k down ∙ down_are.size;
-      up_is = λ s within. column-at k up s ∙ up_are.each s within k d inside;
-      down_is = λ s within. column-at k down s ∙ down_are.each s within k d inside;
-    }
+  abbrev up : List ℕ
+  up = words.up.items
 
-    ones_states : length ones ≡ c.graph.states
-    ones_states = sym (sized 0 ones) ∙ (at_one 0).size
+  abbrev down : List ℕ
+  down = words.down.items
 
-    module _ (targets rising falling with_plus with_minus : ℕ)
-        (parts : sets.partitions ≡ bit_and (bit_and falling with_plus) with_minus)
-        (opposed : (k : ℕ) → k < 128 → (bit targets k ≡ true)
-        ↔ AreOpposed (length ones) (column k ones) (column k zeros))
-        (rise : AreSwitched c.graph ones targets up (record { words = sets.plus; kept = rising }))
-        (fall : AreSwitched c.graph zeros rising down (record { words = sets.minus; kept = falling }))
-        (plus_some : (k : ℕ) → (bit with_plus k ≡ true) ↔ HasSome (column k plus))
-        (minus_some : (k : ℕ) → (bit with_minus k ≡ true) ↔ HasSome (column k minus)) where
-      in_partitions : (k : ℕ) → (bit sets.partitions k ≡ true)
-          ↔ ((bit falling k ≡ true) × (bit with_plus k ≡ true) × (bit with_minus k ≡ true))
-      in_partitions k = (
-        λ h. (
-            let outer = (in_and (bit_and falling with_plus) with_minus k).0 (ap (λ w. bit w k) (sym parts) ∙ h) in
-            let inner = (in_and falling with_plus k).0 outer.0 in
-            (inner.0, inner.1, outer.1)),
-        λ (falls, up_some, down_some). ap (λ w. bit w k) parts ∙ (in_and (bit_and falling with_plus) with_minus k).1
-            ((in_and falling with_plus k).1 (falls, up_some), down_some),
-      )
+  abbrev zeros : List ℕ
+  zeros = words.zeros.items
 
-      turned : (k : ℕ) → k < 128 → bit targets k ≡ true → (s : ℕ) → s < c.graph.states
-          → target (column k zeros) s ≡ not (target (column k ones) s)
-      turned k few has s within = (opposed k few).0 has s (omega (arith, within, ones_states))
+  abbrev ones : List ℕ
+  ones = words.ones.items
 
-      have_targets : (k : ℕ) → k < 128 → (bit targets k ≡ true) ↔ HaveTargets c.graph (column k ones) (column k zeros)
-      have_targets k few = (
-        λ h. both.0 (subst Opposed (sym (sized k ones)) ((opposed k few).0 h)),
-        λ have. (opposed k few).1 (subst Opposed (sized k ones) (both.1 have)),
-      )
-        where
-          Opposed : ℕ → Type 0
-          Opposed n = AreOpposed n (column k ones) (column k zeros)
+  abbrev plus : List ℕ
+  plus = made.plus.items
 
-          both : AreOpposed (length (column k ones)) (column k ones) (column k zeros)
-              ↔ HaveTargets c.graph (column k ones) (column k zeros)
-          both = opposed_targets c.graph (column k ones) (column k zeros) (at_one k).size
+  abbrev minus : List ℕ
+  minus = made.minus.items
 
-      -- ---- the function at k has a partition, or one of the bits is missing
-      module _ (k : ℕ) (few : k < 128) where
-        abbrev Forced : Bool → ℕ → Bool
-        Forced = forced_in (column k up) (column k down)
+  settled : (k : ℕ) → k < 128
+      → AreSettled c.graph (forced_in (column k up) (column k down)) (column k ones) (column k zeros)
+  settled k few = settled_are.each k few
 
-        no_partition : bit sets.partitions k ≡ false → HasNone c.graph Forced
-        no_partition out = elim (cases_Bool (bit targets k)) [
-          | inr none ↦ none_without_targets c.graph (column k up) (column k down) (column k ones) (column k zeros)
-              (settled k few) (λ have. true≢false (sym ((have_targets k few).1 have) ∙ none))
-          | inl has ↦ elim (cases_Bool (bit rising k)) [
-            | inr none ↦ none_if_strays_up c.graph (column k up) (column k down) (column k ones) (column k zeros)
-                (settled k few) (rise.dropped k few has none)
-            | inl rises ↦ elim (cases_Bool (bit falling k)) [
-              | inr none ↦ none_if_strays_down c.graph (column k up) (column k down) (column k ones) (column k zeros)
-                  (settled k few) is.graph_is (turned k few has) (fall.dropped k few rises none)
-              | inl falls ↦ without_some has rises falls
-            ]
+  forced : (k : ℕ) (d : Function) → k < length sets.functions.items
+      → AreForced (forced_by (function_value (get_or sets.functions.items k d)) c) c.graph.states
+      (column k up) (column k down)
+  forced k d inside =
+      forced_at c sets.functions.items up down up_are down_are k d inside _ (λ code q. refl)
+
+  ones_states : length ones ≡ c.graph.states
+  ones_states = settled_are.ones_size
+
+  module _ (targets rising falling with_plus with_minus : ℕ)
+      (parts : sets.partitions ≡ bit_and (bit_and falling with_plus) with_minus)
+      (opposed : (k : ℕ) → k < 128 → (bit targets k ≡ true)
+      ↔ AreOpposed (length ones) (column k ones) (column k zeros))
+      (rise : AreSwitched c.graph ones targets up (record { words = sets.plus; kept = rising }))
+      (fall : AreSwitched c.graph zeros rising down (record { words = sets.minus; kept = falling }))
+      (plus_some : (k : ℕ) → (bit with_plus k ≡ true) ↔ HasSome (column k plus))
+      (minus_some : (k : ℕ) → (bit with_minus k ≡ true) ↔ HasSome (column k minus)) where
+    in_partitions : (k : ℕ) → (bit sets.partitions k ≡ true)
+        ↔ ((bit falling k ≡ true) × (bit with_plus k ≡ true) × (bit with_minus k ≡ true))
+    in_partitions k = (
+      λ h. (
+          let outer = (in_and (bit_and falling with_plus) with_minus k).0 (ap (λ w. bit w k) (sym parts) ∙ h) in
+          let inner = (in_and falling with_plus k).0 outer.0 in
+          (inner.0, inner.1, outer.1)),
+      λ (falls, up_some, down_some). ap (λ w. bit w k) parts ∙ (in_and (bit_and falling with_plus) with_minus k).1
+          ((in_and falling with_plus k).1 (falls, up_some), down_some),
+    )
+
+    turned : (k : ℕ) → k < 128 → bit targets k ≡ true → (s : ℕ) → s < c.graph.states
+        → target (column k zeros) s ≡ not (target (column k ones) s)
+    turned k few has s within = (opposed k few).0 has s (omega (arith, within, ones_states))
+
+    have_targets : (k : ℕ) → k < 128 → (bit targets k ≡ true) ↔ HaveTargets c.graph (column k ones) (column k zeros)
+    have_targets k few = (
+      λ h. both.0 (subst Opposed (sym (sized k ones)) ((opposed k few).0 h)),
+      λ have. (opposed k few).1 (subst Opposed (sized k ones) (both.1 have)),
+    )
+      where
+        Opposed : ℕ → Type 0
+        Opposed n = AreOpposed n (column k ones) (column k zeros)
+
+        both : AreOpposed (length (column k ones)) (column k ones) (column k zeros)
+            ↔ HaveTargets c.graph (column k ones) (column k zeros)
+        both = opposed_targets c.graph (column k ones) (column k zeros) (sized k ones ∙ ones_states)
+
+    -- ---- the function at k has a partition, or one of the bits is missing
+    module _ (k : ℕ) (few : k < 128) where
+      abbrev Forced : Bool → ℕ → Bool
+      Forced = forced_in (column k up) (column k down)
+
+      no_partition : bit sets.partitions k ≡ false → HasNone c.graph Forced
+      no_partition out = elim (cases_Bool (bit targets k)) [
+        | inr none ↦ none_without_targets c.graph (column k up) (column k down) (column k ones) (column k zeros)
+            (settled k few) (λ have. true≢false (sym ((have_targets k few).1 have) ∙ none))
+        | inl has ↦ elim (cases_Bool (bit rising k)) [
+          | inr none ↦ none_if_strays_up c.graph (column k up) (column k down) (column k ones) (column k zeros)
+              (settled k few) (rise.dropped k few has none)
+          | inl rises ↦ elim (cases_Bool (bit falling k)) [
+            | inr none ↦ none_if_strays_down c.graph (column k up) (column k down) (column k ones) (column k zeros)
+                (settled k few) is.graph_is (turned k few has) (fall.dropped k few rises none)
+            | inl falls ↦ without_some has rises falls
           ]
         ]
-          where
-            without_some : bit targets k ≡ true → bit rising k ≡ true → bit falling k ≡ true → HasNone c.graph Forced
-            without_some has rises falls = elim (cases_Bool (bit with_plus k)) [
-              | inr none ↦ none_if_never_up c.graph (column k up) (column k down) (column k ones) (column k zeros)
-                  (settled k few) (column k plus) (rise.least k rises)
-                  (λ some. true≢false (sym ((plus_some k).1 some) ∙ none))
-              | inl up_some ↦ none_if_never_down c.graph (column k up) (column k down) (column k ones)
-                  (column k zeros) (settled k few) (column k minus)
-                  (least_falls c.graph (column k ones) (column k zeros) is.graph_is (turned k few has)
-                  (column k minus) (fall.least k falls))
-                  (λ some. true≢false (sym ((in_partitions k).1 (falls, up_some, (minus_some k).1 some)) ∙ out))
-            ]
-
-        partition_at : bit sets.partitions k ≡ true → (classes : List Class) → length classes ≡ c.graph.states
-            → ((s : ℕ) → s < c.graph.states → class_of classes s ≡ class_for (get_or (column k plus) s false)
-            (get_or (column k minus) s false) (get_or (column k ones) s false))
-            → IsPartitionFor c.graph Forced classes
-        partition_at there classes count each =
-            let bits = (in_partitions k).0 there in
-            let rises = fall.given_too k bits.0 in
-            let has = rise.given_too k rises in
-            let targets_are = (have_targets k few).0 has in
-            let plus_is = rise.least k rises in
-            let minus_is =
-            least_falls c.graph (column k ones) (column k zeros) is.graph_is (turned k few has) (column k minus)
-            (fall.least k bits.0) in
-            let sets = are_sets c.graph Forced (column k ones) (column k zeros) (column k plus)
-            (column k minus) (settled k few) targets_are.some targets_are.one plus_is minus_is in
-            let stays = stays_within (column k up) (column k down) (column k plus) (column k minus)
-            (rise.inside k rises) (fall.inside k bits.0) in
-            is_partition c.graph Forced (column k ones) (column k zeros) (column k plus) (column k minus)
-            classes sets stays ((plus_some k).0 bits.1) ((minus_some k).0 bits.2) (count ∙ sym plus_is.size)
-            (λ s within. each s (omega (arith, within, plus_is.size)))
-
-      are_sets_of : (k : ℕ) (d : Function) → k < 128 → k < length sets.functions.items
-          → AreSetsOf c (function_value (get_or sets.functions.items k d)) k sets
-      are_sets_of k d few inside = record {
-        plus_size = rise.size;
-        minus_size = fall.size;
-        ones_size = ones_states;
-        some = λ has classes are. partition_carried value c c c.graph (column k up) (column k down) refl refl is
-            (forced k d inside) classes (partition_at k few has classes are.count are.each);
-        none = λ out. none_carried value c c c.graph (column k up) (column k down) refl refl is (forced k d inside)
-            (no_partition k few out);
-      }
+      ]
         where
-          value : ℕ → Bool → Bool
-          value = function_value (get_or sets.functions.items k d)
+          without_some : bit targets k ≡ true → bit rising k ≡ true → bit falling k ≡ true → HasNone c.graph Forced
+          without_some has rises falls = elim (cases_Bool (bit with_plus k)) [
+            | inr none ↦ none_if_never_up c.graph (column k up) (column k down) (column k ones) (column k zeros)
+                (settled k few) (column k plus) (rise.least k rises)
+                (λ some. true≢false (sym ((plus_some k).1 some) ∙ none))
+            | inl up_some ↦ none_if_never_down c.graph (column k up) (column k down) (column k ones)
+                (column k zeros) (settled k few) (column k minus)
+                (least_falls c.graph (column k ones) (column k zeros) is.graph_is (turned k few has)
+                (column k minus) (fall.least k falls))
+                (λ some. true≢false (sym ((in_partitions k).1 (falls, up_some, (minus_some k).1 some)) ∙ out))
+          ]
 
-      pub are_function_sets : length sets.functions.items ≤ 128 → AreFunctionSets c sets
-      are_function_sets few = record {
-        few = few;
-        each = λ k d inside. are_sets_of k d (omega (arith, inside, few)) inside;
-      }
+      partition_at : bit sets.partitions k ≡ true → (classes : List Class) → length classes ≡ c.graph.states
+          → ((s : ℕ) → s < c.graph.states → class_of classes s ≡ class_for (get_or (column k plus) s false)
+          (get_or (column k minus) s false) (get_or (column k ones) s false))
+          → IsPartitionFor c.graph Forced classes
+      partition_at there classes count each =
+          let bits = (in_partitions k).0 there in
+          let rises = fall.given_too k bits.0 in
+          let has = rise.given_too k rises in
+          let targets_are = (have_targets k few).0 has in
+          let plus_is = rise.least k rises in
+          let minus_is =
+          least_falls c.graph (column k ones) (column k zeros) is.graph_is (turned k few has) (column k minus)
+          (fall.least k bits.0) in
+          let sets = are_sets c.graph Forced (column k ones) (column k zeros) (column k plus)
+          (column k minus) (settled k few) targets_are.some targets_are.one plus_is minus_is in
+          let stays = stays_within (column k up) (column k down) (column k plus) (column k minus)
+          (rise.inside k rises) (fall.inside k bits.0) in
+          is_partition c.graph Forced (column k ones) (column k zeros) (column k plus) (column k minus)
+          classes sets stays ((plus_some k).0 bits.1) ((minus_some k).0 bits.2) (count ∙ sym plus_is.size)
+          (λ s within. each s (omega (arith, within, plus_is.size)))
+
+    are_sets_of : (k : ℕ) (d : Function) → k < 128 → k < length sets.functions.items
+        → AreSetsOf c (function_value (get_or sets.functions.items k d)) k sets
+    are_sets_of k d few inside = record {
+      plus_size = rise.size;
+      minus_size = fall.size;
+      ones_size = ones_states;
+      some = λ has classes are. partition_carried value c c.graph (column k up) (column k down) refl is
+          (forced k d inside) classes (partition_at k few has classes are.count are.each);
+      none = λ out. none_carried value c c.graph (column k up) (column k down) refl is (forced k d inside)
+          (no_partition k few out);
+    }
+      where
+        value : ℕ → Bool → Bool
+        value = function_value (get_or sets.functions.items k d)
+
+    pub are_function_sets : length sets.functions.items ≤ 128 → AreFunctionSets c sets
+    are_function_sets few = record {
+      few = few;
+      each = λ k d inside. are_sets_of k d (omega (arith, inside, few)) inside;
+    }
 
 -- the classes by lists that are the sets k
 pub are_classes_at : (c : CodedGraph) (value : ℕ → Bool → Bool) (k : ℕ) (sets : FunctionSets)

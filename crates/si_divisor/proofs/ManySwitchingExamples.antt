@@ -8,17 +8,17 @@ use Rattle.si_base.specs.Bits.{bit}
 use Rattle.si_base.specs.Graph.{StateGraph, arc, rise, fall}
 use Rattle.si_base.proofs.StepCodes.{no_bit}
 use Rattle.si_base.specs.Sets.{IsIn, IsSubset}
-use Rattle.si_closures.specs.WordSearch.{column}
+use Rattle.si_closures.specs.Loops.WordSearch.{column}
 use Rattle.si_insert.specs.declared.partition.Class.TheVariants.{Rising, High, Falling}
 use Rattle.si_insert.specs.Partition.{class_of}
 use Rattle.si_divisor.specs.declared.function_sets.FunctionSets.{FunctionSets}
 use Rattle.si_divisor.specs.declared.switching.Switched.{Switched}
-use Rattle.si_divisor.specs.ManyFunctions.{AreClassesAt}
-use Rattle.si_divisor.specs.ManySwitching.{AreSwitched, ExitsBeside, FollowsBack, Source, FollowsOn, LetsExit}
+use Rattle.si_divisor.specs.Loops.ManyFunctions.{AreClassesAt}
+use Rattle.si_divisor.specs.Loops.ManySwitching.{AreSwitched, ExitsBeside, FollowsBack, Source, FollowsOn, LetsExit}
 use Rattle.si_divisor.specs.PartitionFor.{class_for}
 use Rattle.si_divisor.specs.Switching.{Switches}
-use Rattle.si_divisor.specs.SwitchRules.{Crossed, ExitsLow, FollowsByRule, HasDiamond, IsCrossed, OmitsState}
-use Rattle.si_divisor.specs.SwitchRules.{WithFirst}
+use Rattle.si_divisor.specs.Loops.SwitchRules.{Crossed, ExitsLow, FollowsByRule, HasDiamond, IsCrossed, OmitsState}
+use Rattle.si_divisor.specs.Loops.SwitchRules.{WithFirst}
 use Rattle.si_divisor.specs.Targets.{IsLeast, target}
 use Rattle.si_divisor.proofs.SwitchingTests.{switches_if, each_member}
 

@@ -4,6 +4,7 @@ use Rattle.std.proofs.lemmas.Bool.{cases_order}
 use Rattle.si_base.specs.Order.{IsFirst}
 use Rattle.si_base.specs.Graph.{StateGraph}
 use Rattle.si_insert.specs.declared.partition.Class.{Class}
+use Rattle.si_insert.proofs.PartitionClasses.{same_classes}
 use Rattle.si_divisor.specs.declared.fault.NoPartition.{NoPartition}
 use Rattle.si_divisor.specs.declared.fault.NoPartition.TheVariants.{NoMemory, Unforced, Contradiction, LeavesForced}
 use Rattle.si_divisor.specs.declared.fault.NoPartition.TheVariants.{Constant}
@@ -12,7 +13,7 @@ use Rattle.si_divisor.specs.Switching.{Switches}
 use Rattle.si_divisor.specs.PartitionFor.{Sets, AreSets, Leaves, HasSome, class_by, IsPartitionFor, state_place}
 use Rattle.si_divisor.specs.PartitionFor.{ShowsNone}
 use Rattle.si_divisor.specs.Laws.{PartitionsAreUnique, ReasonsAreUnique, ReasonsExclude}
-use Rattle.si_divisor.proofs.TargetSets.{one_least, same_classes}
+use Rattle.si_divisor.proofs.TargetSets.{one_least}
 
 pub one_first : (P : ℕ → Type 0) (s t : ℕ) → IsFirst state_place P s → IsFirst state_place P t → s ≡ t
 one_first P s t a b = elim (cases_order s t) [

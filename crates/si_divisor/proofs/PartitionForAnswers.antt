@@ -56,41 +56,35 @@ tells_forced forced n up down are true s within = are.up_is s within
 tells_forced forced n up down are false s within = are.down_is s within
 
 -- ---- from sets of forced states to an instance
-module _ (value : ℕ → Bool → Bool) (c d : CodedGraph) (g : StateGraph) (up down : List Bool) (is : g ≡ d.graph)
-    (whole : d ≡ c) (coded : IsCoded d) (are : AreForced (forced_by value d) d.graph.states up down) where
+module _ (value : ℕ → Bool → Bool) (c : CodedGraph) (g : StateGraph) (up down : List Bool) (is : g ≡ c.graph)
+    (coded : IsCoded c) (are : AreForced (forced_by value c) c.graph.states up down) where
   graph : IsGraph g
   graph = subst IsGraph (sym is) coded.graph_is
 
-  same : ForceAlike g (forced_in up down) (forced_by value d)
+  same : ForceAlike g (forced_in up down) (forced_by value c)
   same b s within =
-      tells_forced (forced_by value d) d.graph.states up down are b s
+      tells_forced (forced_by value c) c.graph.states up down are b s
       (subst (λ (h : StateGraph). s < h.states) is within)
 
   pub partition_carried : (classes : List Class) → IsPartitionFor g (forced_in up down) classes
       → IsPartitionFor c.graph (forced_by value c) classes
   partition_carried classes p =
-      let P : StateGraph → Type 0 = λ h. IsPartitionFor h (forced_by value d) classes in
-      let Q : CodedGraph → Type 0 = λ x. IsPartitionFor x.graph (forced_by value x) classes in
-      subst Q whole
-      (subst P is (partitions_alike g (forced_in up down) (forced_by value d) classes graph same p))
+      let P : StateGraph → Type 0 = λ h. IsPartitionFor h (forced_by value c) classes in
+      subst P is (partitions_alike g (forced_in up down) (forced_by value c) classes graph same p)
 
   pub lawful_carried : (classes : List Class) → IsPartitionFor g (forced_in up down) classes
       → IsLawful c.graph classes
-  lawful_carried classes p =
-      let Q : CodedGraph → Type 0 = λ x. IsLawful x.graph classes in
-      subst Q whole (subst (λ (h : StateGraph). IsLawful h classes) is
-      (lawful g (forced_in up down) classes graph p))
+  lawful_carried classes p = subst (λ (h : StateGraph). IsLawful h classes) is
+      (lawful g (forced_in up down) classes graph p)
 
   pub reason_carried : (why : NoPartition) → ShowsNone g (forced_in up down) why
       → ShowsNone c.graph (forced_by value c) why
   reason_carried why shows =
-      let P : StateGraph → Type 0 = λ h. ShowsNone h (forced_by value d) why in
-      let Q : CodedGraph → Type 0 = λ x. ShowsNone x.graph (forced_by value x) why in
-      subst Q whole (subst P is (reasons_alike g (forced_in up down) (forced_by value d) why graph same shows))
+      let P : StateGraph → Type 0 = λ h. ShowsNone h (forced_by value c) why in
+      subst P is (reasons_alike g (forced_in up down) (forced_by value c) why graph same shows)
 
   pub none_carried : HasNone g (forced_in up down) → HasNone c.graph (forced_by value c)
   none_carried none classes p =
-      let P : StateGraph → Type 0 = λ h. IsPartitionFor h (forced_by value d) classes in
-      let Q : CodedGraph → Type 0 = λ x. IsPartitionFor x.graph (forced_by value x) classes in
-      none classes (partitions_alike g (forced_by value d) (forced_in up down) classes graph
-      (λ b s within. sym (same b s within)) (subst P (sym is) (subst Q (sym whole) p)))
+      let P : StateGraph → Type 0 = λ h. IsPartitionFor h (forced_by value c) classes in
+      none classes (partitions_alike g (forced_by value c) (forced_in up down) classes graph
+      (λ b s within. sym (same b s within)) (subst P (sym is) p))

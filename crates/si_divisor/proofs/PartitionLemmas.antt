@@ -1,15 +1,16 @@
 -- The partition for an instance is lawful, accepted, the least, and the only one.
 use Rattle.std.proofs.Common.{◌≡◌, ℕ, zero, suc, ◌<◌, ◌↔◌, Bool, true, false, List, [], ◌∷◌, length, slice_index_or}
 use Rattle.std.proofs.Common.{refl, sym, ap, ◌∙◌, arith, inl, inr}
-use Rattle.std.proofs.lemmas.Bool.{true≢false}
+use Rattle.std.proofs.lemmas.Bool.{true≢false, false_from_ne_true, true_from_ne_false}
 use mathlib.Core.Bool.{beq}
 use Rattle.si_base.specs.Graph.{StateGraph, IsGraph}
 use Rattle.si_base.specs.Codes.{code}
-use Rattle.si_graph.specs.Reach.{IsIn}
+use Rattle.si_base.specs.Sets.{IsIn}
 use Rattle.si_insert.specs.declared.partition.Class.{Class}
 use Rattle.si_insert.specs.declared.partition.Class.TheVariants.{Low, Rising, High, Falling}
 use Rattle.si_insert.specs.Partition.{class_of}
 use Rattle.si_insert.specs.Insertion.{has_copy}
+use Rattle.si_insert.specs.GraphOfCopies.{switches}
 use Rattle.si_insert.proofs.AcceptedByTests.{accepts_at_tests}
 use Rattle.si_divisor.specs.Targets.{forced_by, target}
 use Rattle.si_divisor.specs.Switching.{Switches}
@@ -18,13 +19,6 @@ use Rattle.si_divisor.specs.Laws.{to_one, AreClassed, Passes, InstancesFit, Part
 use Rattle.si_divisor.specs.Laws.{PartitionsAreLeast}
 use Rattle.si_divisor.proofs.TargetSets.{least_within, in_or_not}
 use Rattle.si_divisor.proofs.SwitchingRules.{switches_at, rules_are_acceptance}
-
--- what the truth values of the sets say of the class
-rising_if : (minus one : Bool) → class_for true minus one ≡ Rising
-rising_if minus one = refl
-
-falling_if : (one : Bool) → class_for false true one ≡ Falling
-falling_if one = refl
 
 from_rising : (plus minus one : Bool) → class_for plus minus one ≡ Rising → plus ≡ true
 from_rising true minus one h = refl
@@ -46,18 +40,14 @@ target_by false true one up down = down refl
 target_by false false true up down = refl
 target_by false false false up down = refl
 
-forced_not : (b : Bool) → (b ≡ false → ⊥) → b ≡ true
-forced_not true h = refl
-forced_not false h = absurd (h refl)
-
 -- ---- the sets of a partition
 up_forced : (g : StateGraph) (forced : Bool → ℕ → Bool) (classes : List Class) (p : IsPartitionFor g forced classes)
     (s : ℕ) → IsIn p.sets.plus s → forced true s ≡ true
-up_forced g forced classes p s up = forced_not (forced true s) (λ h. p.stays s (inl (up, h)))
+up_forced g forced classes p s up = true_from_ne_false (forced true s) (λ h. p.stays s (inl (up, h)))
 
 down_forced : (g : StateGraph) (forced : Bool → ℕ → Bool) (classes : List Class) (p : IsPartitionFor g forced classes)
     (s : ℕ) → IsIn p.sets.minus s → forced false s ≡ true
-down_forced g forced classes p s down = forced_not (forced false s) (λ h. p.stays s (inr (down, h)))
+down_forced g forced classes p s down = true_from_ne_false (forced false s) (λ h. p.stays s (inr (down, h)))
 
 up_one : (g : StateGraph) (forced : Bool → ℕ → Bool) (classes : List Class) (p : IsPartitionFor g forced classes)
     (s : ℕ) → s < g.states → IsIn p.sets.plus s → IsIn p.sets.ones s
@@ -134,15 +124,9 @@ accepted c forced classes is proper p =
     )
 
 -- ---- the least of those that are accepted
--- the states of a class, as a set
-abbrev is_class : Bool → Class → Bool
-is_class true Rising = true
-is_class false Falling = true
-is_class b c = false
-
 set_of : Bool → List Class → List Bool
 set_of b [] = []
-set_of b (c ∷ cs) = is_class b c ∷ set_of b cs
+set_of b (c ∷ cs) = switches b c ∷ set_of b cs
 
 set_size : (b : Bool) (cs : List Class) → length (set_of b cs) ≡ length cs
 unfolding set_of
@@ -150,19 +134,19 @@ set_size b [] = refl
 set_size b (c ∷ cs) = let k = set_size b cs in omega arith
 
 set_at : (b : Bool) (cs : List Class) (s : ℕ) → s < length cs
-    → slice_index_or (set_of b cs) s false ≡ is_class b (class_of cs s)
+    → slice_index_or (set_of b cs) s false ≡ switches b (class_of cs s)
 unfolding set_of
 set_at b [] s h = absurd (omega (arith, h))
 set_at b (c ∷ cs) zero h = refl
 set_at b (c ∷ cs) (suc s) h = set_at b cs s (omega (arith, h))
 
-is_rising : (c : Class) → (is_class true c ≡ true) ↔ (c ≡ Rising)
+is_rising : (c : Class) → (switches true c ≡ true) ↔ (c ≡ Rising)
 is_rising Low = ((λ h. absurd (true≢false (sym h))), (λ (h : Low ≡ Rising). cc))
 is_rising Rising = ((λ h. refl), (λ h. refl))
 is_rising High = ((λ h. absurd (true≢false (sym h))), (λ (h : High ≡ Rising). cc))
 is_rising Falling = ((λ h. absurd (true≢false (sym h))), (λ (h : Falling ≡ Rising). cc))
 
-is_falling : (c : Class) → (is_class false c ≡ true) ↔ (c ≡ Falling)
+is_falling : (c : Class) → (switches false c ≡ true) ↔ (c ≡ Falling)
 is_falling Low = ((λ h. absurd (true≢false (sym h))), (λ (h : Low ≡ Falling). cc))
 is_falling Rising = ((λ h. absurd (true≢false (sym h))), (λ (h : Rising ≡ Falling). cc))
 is_falling High = ((λ h. absurd (true≢false (sym h))), (λ (h : High ≡ Falling). cc))
@@ -219,10 +203,6 @@ from_false : (b : Bool) → beq b false ≡ true → b ≡ false
 from_false true h = absurd (true≢false (sym h))
 from_false false h = refl
 
-to_true : (b : Bool) → (b ≡ true → ⊥) → b ≡ false
-to_true true h = absurd (h refl)
-to_true false h = refl
-
 pub fits : InstancesFit
 fits c value classes unate p s b within there = cases (class_of classes s) b refl there
   where
@@ -244,15 +224,15 @@ fits c value classes unate p s b within there = cases (class_of classes s) b ref
 
     cases : (d : Class) (v : Bool) → class_of classes s ≡ d → has_copy d v ≡ true → value k v ≡ to_one d
     cases Low true h i = absurd (true≢false (sym i))
-    cases Low false h i = to_true (value k false) (λ one. (
+    cases Low false h i = false_from_ne_true (value k false) (λ one. (
         let zero : target p.sets.ones s ≡ false = mine.target_is s within ∙ ap to_one h in
         let forced : forced_by value c true s ≡ true = rw one refl in
         true≢false (sym (p.are.settled.at_one.meets.begins s within forced) ∙ zero)))
     cases Rising true h i = unate k (up h)
     cases Rising false h i = up h
-    cases High true h i = forced_not (value k true) (λ zero. (
+    cases High true h i = true_from_ne_false (value k true) (λ zero. (
         let forced : forced_by value c false s ≡ true = rw zero refl in
         p.are.targets.one s (record { one = one h; zero = p.are.settled.at_zero.meets.begins s within forced })))
     cases High false h i = absurd (true≢false (sym i))
     cases Falling true h i = down h
-    cases Falling false h i = to_true (value k false) (λ one. true≢false (sym (unate k one) ∙ down h))
+    cases Falling false h i = false_from_ne_true (value k false) (λ one. true≢false (sym (unate k one) ∙ down h))

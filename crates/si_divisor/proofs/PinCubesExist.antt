@@ -11,7 +11,7 @@ use Rattle.si_regions.specs.Regions.{IsRegion}
 use Rattle.si_checks.proofs.SearchDecisions.{both}
 use Rattle.si_regions.proofs.RegionsExist.{some_regions}
 use Rattle.si_cover.proofs.MonosExist.{least_or_none}
-use Rattle.si_divisor.specs.PinTests.{AreCubesFor, AreCubesOf}
+use Rattle.si_divisor.specs.Loops.PinTests.{AreCubesFor, AreCubesOf}
 use Rattle.si_divisor.proofs.PinRegionCubes.{none_yet, with_cube, without_cube, all_found}
 
 no_region : Region

@@ -1,12 +1,12 @@
 -- Pin literals by the support and by cubes, and that there is one list of them.
-use Rattle.std.proofs.Common.{◌≡◌, ℕ, zero, suc, ◌+◌, ◌<◌, ◌≤◌, ◌*◌, ◌/◌, ◌%◌, ◌==◌, ◌&&◌, ◌||◌, Bool, true, false}
+use Rattle.std.proofs.Common.{◌≡◌, ℕ, zero, suc, ◌+◌, ◌<◌, ◌≤◌, ◌*◌, ◌/◌, ◌%◌, ◌==◌, ◌&&◌, Bool, true, false}
 use Rattle.std.proofs.Common.{List, [], ◌∷◌, ◌++◌, length, filter, take, get_or, Contains, refl, sym, ap, subst, ◌∙◌}
 use Rattle.std.proofs.Common.{arith, inl, inr}
-use Rattle.std.specs.List.{list_any}
-use Rattle.std.proofs.lemmas.Bool.{cases_Bool, true≢false}
+use Rattle.std.proofs.lemmas.Bool.{cases_Bool, or_right}
 use Rattle.std.proofs.lemmas.Bool.Decides.{eqb_tells}
 use Rattle.std.proofs.lemmas.List.{append-nil, take_all}
 use Rattle.std.proofs.lemmas.List.Elements.{filter_more}
+use Rattle.std.proofs.Math.Bool.{or-false}
 use mathlib.Core.Bool.{beq}
 use Rattle.si_base.specs.Bits.{bit}
 use Rattle.si_base.specs.Limits.{code_width}
@@ -15,7 +15,9 @@ use Rattle.si_base.specs.declared.ids.Literal.{Literal}
 use Rattle.si_base.proofs.OrderAscending.{In}
 use Rattle.si_base.proofs.OrderLemmas.{in_contains}
 use Rattle.si_base.proofs.GivenGraphUnique.{contains_from_in}
+use Rattle.si_base.proofs.Booleans.{same_if, beq_swap}
 use Rattle.si_cube.specs.Literals.{literals_from, literals_of}
+use Rattle.si_cube.proofs.NeededLemmas.{in_kept, any_from_in, any_in}
 use Rattle.si_cell.specs.Literals.{same_literal, has_literal}
 use Rattle.si_cell.proofs.CubeLemmas.{same_is, same_self}
 use Rattle.si_match.specs.Fit.{literals_of_signals}
@@ -23,7 +25,7 @@ use Rattle.si_match.specs.Support.{support_of}
 use Rattle.si_match.proofs.FitLemmas.{literal_in, literal_small}
 use Rattle.si_match.proofs.SearchLemmas.{literals_count, literal_of_place}
 use Rattle.si_divisor.specs.Divisors.{IsPin, ArePins}
-use Rattle.si_divisor.specs.PinTests.{is_pin, pin_literals, AreCubesOf}
+use Rattle.si_divisor.specs.Loops.PinTests.{is_pin, pin_literals, AreCubesOf}
 
 -- ---- the literals of a cube
 -- a literal of an earlier signal isn't among them
@@ -38,10 +40,6 @@ earlier (suc n) i care value l below =
         | inr other ↦ (let no = other.0 in rw (on, no) later)
       ]
     ]
-
-or_false : (b : Bool) → (b || false) ≡ b
-or_false true = refl
-or_false false = refl
 
 has_from : (n i care value s : ℕ) (v : Bool) → i ≤ s → s < i + n
     → has_literal (literals_from n i care value) (record { sig = s; plain = v })
@@ -64,7 +62,7 @@ has_from (suc n) i care value s v low high = elim (eqb_tells s i) [
       elim (cases_Bool (bit care i)) [
         | inl on ↦ (
             let here : bit care s ≡ true = ap (bit care) e ∙ on in
-            rw (on, yes_it_is, none, here, at) (or_false (beq v (bit value s))))
+            rw (on, yes_it_is, none, here, at) (or-false (beq v (bit value s))))
         | inr off ↦ (
             let here : bit care s ≡ false = ap (bit care) e ∙ off in
             rw (off, here) none)
@@ -76,12 +74,6 @@ pub cube_has : (care value : ℕ) (l : Literal) → l.sig < code_width
 unfolding literals_of
 cube_has care value l small = has_from code_width 0 care value l.sig l.plain (omega arith) (omega (arith, small))
 
-same_order : (a b : Bool) → beq a b ≡ beq b a
-same_order true true = refl
-same_order true false = refl
-same_order false true = refl
-same_order false false = refl
-
 module _ (care value : ℕ) (cube : List Literal) (l : Literal) (small : l.sig < code_width)
     (shown : literals_of care value ≡ cube) where
   held_is : (bit care l.sig && beq l.plain (bit value l.sig)) ≡ has_literal cube l
@@ -91,7 +83,7 @@ module _ (care value : ℕ) (cube : List Literal) (l : Literal) (small : l.sig <
       → beq v l.plain ≡ has_literal cube l
   cared_for cares v is on value_is =
       let care_on : bit care l.sig ≡ true = sym is ∙ on in
-      same_order v l.plain ∙ ap (beq l.plain) value_is ∙ sym (rw care_on refl) ∙ held_is
+      beq_swap v l.plain ∙ ap (beq l.plain) value_is ∙ sym (rw care_on refl) ∙ held_is
 
   pub not_cared_for : (cares : Bool) → cares ≡ bit care l.sig → cares ≡ false → cares ≡ has_literal cube l
   not_cared_for cares is off =
@@ -99,43 +91,15 @@ module _ (care value : ℕ) (cube : List Literal) (l : Literal) (small : l.sig <
       off ∙ sym (rw care_off refl) ∙ held_is
 
 -- ---- tests of lists
-any_in : {A : Type 0} (p : A → Bool) (xs : List A) → list_any p xs ≡ true → (x : A) × In x xs × (p x ≡ true)
-any_in p [] any = absurd (true≢false (sym any))
-any_in p (x ∷ xs) any = elim (cases_Bool (p x)) [
-  | inl on ↦ (x, inl refl, on)
-  | inr off ↦ (let (y, there, passes) = any_in p xs (rw off at any) in (y, inr there, passes))
-]
-
-any_from : {A : Type 0} (p : A → Bool) (xs : List A) (x : A) → In x xs → p x ≡ true → list_any p xs ≡ true
-any_from p [] x there on = absurd there
-any_from p (y ∷ xs) x (inl same) on = let here : p y ≡ true = ap p (sym same) ∙ on in rw here refl
-any_from p (y ∷ xs) x (inr later) on = elim (cases_Bool (p y)) [
-  | inl here ↦ rw here refl
-  | inr not_here ↦ rw not_here (any_from p xs x later on)
-]
-
 pub has_in : (ls : List Literal) (l : Literal) → has_literal ls l ≡ true → Contains ls l
 has_in ls l on =
     let (m, there, same) = any_in (same_literal l) ls on in
     contains_from_in ls l (subst (λ (x : Literal). In x ls) (sym (same_is l m same)) there)
 
 pub in_has : (ls : List Literal) (l : Literal) → Contains ls l → has_literal ls l ≡ true
-in_has ls l there = any_from (same_literal l) ls l (in_contains ls l there) (same_self l)
+in_has ls l there = any_from_in (same_literal l) ls l (in_contains ls l there) (same_self l)
 
 -- ---- filters
-same_if : (a b : Bool) → (a ≡ true → b ≡ true) → (b ≡ true → a ≡ true) → a ≡ b
-same_if true b there back = sym (there refl)
-same_if false true there back = back refl
-same_if false false there back = refl
-
-kept : (p : Literal → Bool) (xs : List Literal) (l : Literal) → In l xs → p l ≡ true → In l (filter p xs)
-kept p [] l there on = absurd there
-kept p (x ∷ xs) l (inl same) on = let here : p x ≡ true = ap p (sym same) ∙ on in rw here (inl same)
-kept p (x ∷ xs) l (inr later) on = elim (cases_Bool (p x)) [
-  | inl here ↦ rw here (inr (kept p xs l later on))
-  | inr not_here ↦ rw not_here (kept p xs l later on)
-]
-
 from_kept : (p : Literal → Bool) (xs : List Literal) (l : Literal) → In l (filter p xs) → In l xs × (p l ≡ true)
 from_kept p [] l there = absurd there
 from_kept p (x ∷ xs) l there = elim (cases_Bool (p x)) [
@@ -217,26 +181,22 @@ module _ (c : CodedGraph) (z : ℕ) (cubes : List (List Literal)) (are : AreCube
         inr (cube, are.each cube (contains_from_in cubes cube there), has_in cube l has))
   ]
 
-  or_right : (a b : Bool) → b ≡ true → (a || b) ≡ true
-  or_right true b on = refl
-  or_right false b on = on
-
   from_pin : (l : Literal) → IsPin c z l → test l ≡ true
   from_pin l (inl held) = rw held refl
   from_pin l (inr (cube, is, has)) =
       let (other, there, more) = are.all cube is in
       or_right (bit (support_of c z) l.sig) _
-      (any_from (λ x. has_literal x l) cubes other (in_contains cubes other there) (in_has other l (more l has)))
+      (any_from_in (λ x. has_literal x l) cubes other (in_contains cubes other there) (in_has other l (more l has)))
 
   pub are_pins : ArePins c z pins
   are_pins = record {
     in_order = kept_alike test (has_literal pins) (literals_of_signals (length c.graph.signals)) (λ l there.
         same_if (test l) (has_literal pins l)
-        (λ on. in_has pins l (contains_from_in pins l (kept test _ l there on)))
+        (λ on. in_has pins l (contains_from_in pins l (in_kept test _ l there on)))
         (λ on. (from_kept test _ l (in_contains pins l (has_in pins l on))).1));
     exactly = λ l small. (
       (λ there. pin_from l (from_kept test _ l (in_contains pins l there)).1),
-      (λ is. contains_from_in pins l (kept test _ l (literal_in (length c.graph.signals) 0 l
+      (λ is. contains_from_in pins l (in_kept test _ l (literal_in (length c.graph.signals) 0 l
           (omega arith) (omega (arith, small))) (from_pin l is))),
     );
   }

@@ -12,7 +12,7 @@ use Rattle.si_regions.proofs.UniqueRegions.{one_region}
 use Rattle.si_cover.specs.Mono.{IsLeastMono}
 use Rattle.si_cover.proofs.MonoLemmas.{least_monos_have_same_literals}
 use Rattle.si_divisor.specs.Divisors.{IsCubeOf}
-use Rattle.si_divisor.specs.PinTests.{AreCubesFor, AreCubesOf}
+use Rattle.si_divisor.specs.Loops.PinTests.{AreCubesFor, AreCubesOf}
 
 -- ---- the loop over the regions
 pub none_yet : (c : CodedGraph) (z : ℕ) → AreCubesFor c z [] []

@@ -1,16 +1,15 @@
 -- Instances that compute one function.
-use Rattle.std.proofs.Common.{◌≡◌, ℕ, ◌&&◌, not, Bool, true, List, Option, None, Some, refl, sym, ap, ◌∙◌, eqb-true}
+use Rattle.std.proofs.Common.{◌≡◌, ℕ, not, Bool, true, List, Option, None, Some, sym, ap, ◌∙◌, eqb-true}
 use Rattle.std.proofs.lemmas.Bool.{and_parts}
 use Rattle.std.proofs.lemmas.Map.Text.{is_eq-slice_cmp}
 use Rattle.std.proofs.lemmas.Slice.Eq.{bytes_eq-Decides}
 use Rattle.std.specs.Cmp.{unsigned_ties}
 use Rattle.std.specs.Cmp.Lexicographic.{slice_cmp}
-use Rattle.std.specs.Ordering.{nat_cmp, is_eq, ordering_then}
-use Rattle.std.specs.declared.cmp.Ordering.{Ordering}
-use Rattle.std.specs.declared.cmp.Ordering.TheVariants.{Less, Equal, Greater}
+use Rattle.std.specs.Ordering.{nat_cmp, is_eq}
 use mathlib.Core.Bool.{beq}
 use Rattle.si_base.specs.Codes.{CodedGraph, code}
 use Rattle.si_base.specs.Graph.{IsGraph}
+use Rattle.si_graph.proofs.ArcFacts.{is_eq-then}
 use Rattle.si_cell.specs.Library.{Library, Instance, instance_value}
 use Rattle.si_insert.specs.declared.partition.Class.{Class}
 use Rattle.si_divisor.specs.declared.function.Function.{Function}
@@ -34,18 +33,13 @@ functions_decide library c i k f classes graph a b =
     alike v s within = ap (λ b. beq b v) (same_values library i k f a b (code c s) (not v))
 
 -- ---- functions of one place in the order are equal
-both_equal : (o p : Ordering) → is_eq (ordering_then o p) ≡ (is_eq o && is_eq p)
-both_equal Less p = refl
-both_equal Equal p = refl
-both_equal Greater p = refl
-
 pub same_function : (f g : Function) → is_eq (function_cmp f g) ≡ true → f ≡ g
 same_function f g level = λ i. record { signals = record { items = signals i }; table = table i }
   where
     parts : (is_eq (slice_cmp nat_cmp f.signals.items g.signals.items) ≡ true)
         × (is_eq (nat_cmp f.table g.table) ≡ true)
     parts = and_parts (is_eq (slice_cmp nat_cmp f.signals.items g.signals.items)) (is_eq (nat_cmp f.table g.table))
-        (sym (both_equal (slice_cmp nat_cmp f.signals.items g.signals.items) (nat_cmp f.table g.table)) ∙ level)
+        (sym (is_eq-then (slice_cmp nat_cmp f.signals.items g.signals.items) (nat_cmp f.table g.table)) ∙ level)
 
     signals : f.signals.items ≡ g.signals.items
     signals = (bytes_eq-Decides f.signals.items g.signals.items).0

@@ -3,7 +3,7 @@ use Rattle.std.proofs.Common.{◌≡◌, ℕ, ◌<◌, Bool, false, List, length
 use Rattle.si_base.specs.declared.ids.Event.{Event}
 use Rattle.si_base.specs.Graph.{StateGraph, Step, IsGraph}
 use Rattle.si_base.proofs.StepCodes.{step_within}
-use Rattle.si_graph.specs.Reach.{IsIn}
+use Rattle.si_base.specs.Sets.{IsIn}
 use Rattle.si_graph.specs.declared.closure.Along.TheVariants.{Out}
 use Rattle.si_graph.specs.Closure.{IsClosure}
 use Rattle.si_graph.proofs.ClosureLemmas.{closure_is_least}

@@ -6,15 +6,15 @@ use Rattle.std.proofs.lemmas.List.{length-map, length-replicate, get_or-replicat
 use Rattle.std.proofs.lemmas.Nat.{and_le_l}
 use Rattle.si_base.specs.Bits.{bit}
 use Rattle.si_base.specs.Graph.{StateGraph}
-use Rattle.si_graph.specs.Reach.{IsIn}
+use Rattle.si_base.specs.Sets.{IsIn}
 use Rattle.si_graph.proofs.SearchLemmas.{in_below}
-use Rattle.si_closures.specs.WordSearch.{column, HasBit, HasNone, Spreads, SpreadsAll}
-use Rattle.si_closures.specs.Words.{HasAll}
+use Rattle.si_closures.specs.Loops.WordSearch.{column, HasBit, HasNone, Spreads, SpreadsAll}
+use Rattle.si_closures.specs.Loops.Words.{HasAll}
 use Rattle.si_closures.proofs.WordBits.{in_and, in_less, no_bit_of_none}
 use Rattle.si_closures.proofs.WordSearchLemmas.{in_column, column-at, others_wait}
 use Rattle.si_divisor.specs.declared.switching.Switched.{Switched}
-use Rattle.si_divisor.specs.SwitchRules.{AllIn, Among, SwitchRule, FollowsByRule, OmitsState, IsCrossed}
-use Rattle.si_divisor.specs.ManySwitching.{AreSwitched, BelongsTo}
+use Rattle.si_divisor.specs.Loops.SwitchRules.{AllIn, Among, SwitchRule, FollowsByRule, OmitsState, IsCrossed}
+use Rattle.si_divisor.specs.Loops.ManySwitching.{AreSwitched, BelongsTo}
 use Rattle.si_divisor.specs.Switching.{Switches}
 use Rattle.si_divisor.specs.Targets.{IsLeast, target}
 use Rattle.si_divisor.proofs.SwitchRuleLemmas.{first_rule, fires_at, least_switches}

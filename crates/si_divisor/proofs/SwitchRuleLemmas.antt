@@ -4,12 +4,12 @@ use Rattle.std.proofs.Common.{inl, inr, ap, arith}
 use Rattle.si_base.specs.declared.ids.Event.{Event}
 use Rattle.si_base.specs.Graph.{StateGraph, IsGraph, Step}
 use Rattle.si_base.proofs.StepCodes.{step_within}
-use Rattle.si_graph.specs.Reach.{IsIn}
+use Rattle.si_base.specs.Sets.{IsIn}
 use Rattle.si_divisor.specs.Switching.{Switches}
-use Rattle.si_divisor.specs.SwitchRules.{AllIn, Among, IsClosed, InEach, IsCrossed, IsBefore, IsAfterInput, IsLow}
-use Rattle.si_divisor.specs.SwitchRules.{ExitsLow, ExitsHigh, SwitchRule, Crossed, Preceding, ByInput, Low, Both}
-use Rattle.si_divisor.specs.SwitchRules.{Belongs}
-use Rattle.si_divisor.specs.SwitchRules.{FollowsByRule, BeforeIt, AfterIt, AtExit, WithFirst, WithOther}
+use Rattle.si_divisor.specs.Loops.SwitchRules.{AllIn, Among, IsClosed, InEach, IsCrossed, IsBefore, IsAfterInput, IsLow}
+use Rattle.si_divisor.specs.Loops.SwitchRules.{ExitsLow, ExitsHigh, SwitchRule, Crossed, Preceding, ByInput, Low, Both}
+use Rattle.si_divisor.specs.Loops.SwitchRules.{Belongs}
+use Rattle.si_divisor.specs.Loops.SwitchRules.{FollowsByRule, BeforeIt, AfterIt, AtExit, WithFirst, WithOther}
 use Rattle.si_divisor.specs.Targets.{IsLeast, target}
 
 -- ---- for any rules

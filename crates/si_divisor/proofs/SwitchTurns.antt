@@ -9,20 +9,21 @@ use Rattle.si_base.specs.Bits.{bit}
 use Rattle.si_base.specs.Codes.{IsDeterministic}
 use Rattle.si_base.specs.Graph.{StateGraph, Step, IsNonInput, arc}
 use Rattle.si_base.proofs.StepCodes.{step_within}
-use Rattle.si_graph.specs.Reach.{IsIn}
-use Rattle.si_graph.specs.Arcs.{AreOut, edge_at, no_edge, IsFirstPlace, IsInto}
+use Rattle.si_base.proofs.BitFacts.{bit-zero}
+use Rattle.si_base.specs.Sets.{IsIn}
+use Rattle.si_graph.specs.Loops.Arcs.{AreOut, edge_at, no_edge, IsFirstPlace, IsInto}
 use Rattle.si_graph.proofs.ClosureLemmas.{place_in_walk, none_between, later_place}
-use Rattle.si_graph.proofs.ValueLemmas.{bit-zero}
-use Rattle.si_closures.specs.WordSearch.{column, HasBit, SpreadsAll, WordProgress}
+use Rattle.si_closures.specs.Loops.WordSearch.{column, HasBit, SpreadsAll, WordProgress}
 use Rattle.si_closures.proofs.SignalKinds.{input_is_no_other}
 use Rattle.si_closures.proofs.WordBits.{in_and, in_or, in_not, in_less, bit_few, no_bit_of_none}
 use Rattle.si_closures.proofs.WordSearchLemmas.{in_column, column-at, spreads_both, spreads_none}
 use Rattle.si_insert.specs.Accepted.{IsInput}
-use Rattle.si_divisor.specs.SwitchRules.{Belongs, FollowsByRule, BeforeIt, AfterIt, AtExit, WithFirst, WithOther}
-use Rattle.si_divisor.specs.SwitchRules.{SwitchRule, Crossed, Preceding, ByInput, Low, Both, HasDiamond, IsCrossed}
-use Rattle.si_divisor.specs.SwitchRules.{IsLow}
-use Rattle.si_divisor.specs.ManySwitching.{Grows, GrowsAll, IsTurn, BelongsTo, AllBelong, HaveAll, ExitsBeside}
-use Rattle.si_divisor.specs.ManySwitching.{FollowsBack, Source, Beside, LetsExit, HasExit, FollowsOn}
+use Rattle.si_divisor.specs.Loops.SwitchRules.{Belongs, FollowsByRule, BeforeIt, AfterIt, AtExit, WithFirst, WithOther}
+use Rattle.si_divisor.specs.Loops.SwitchRules.{SwitchRule, Crossed, Preceding, ByInput, Low, Both, HasDiamond}
+use Rattle.si_divisor.specs.Loops.SwitchRules.{IsCrossed}
+use Rattle.si_divisor.specs.Loops.SwitchRules.{IsLow}
+use Rattle.si_divisor.specs.Loops.ManySwitching.{Grows, GrowsAll, IsTurn, BelongsTo, AllBelong, HaveAll, ExitsBeside}
+use Rattle.si_divisor.specs.Loops.ManySwitching.{FollowsBack, Source, Beside, LetsExit, HasExit, FollowsOn}
 use Rattle.si_divisor.proofs.SwitchRuleLemmas.{each_on, low_or_high}
 
 -- ---- from one work to the next

@@ -3,11 +3,11 @@ use Rattle.std.proofs.Common.{◌≡◌, ℕ, ◌<◌, Bool, true, false, not, L
 use Rattle.std.proofs.lemmas.Bool.{true≢false}
 use Rattle.si_base.specs.Sets.{IsSubset}
 use Rattle.si_base.specs.Graph.{StateGraph, IsGraph}
-use Rattle.si_graph.specs.Reach.{IsIn}
+use Rattle.si_base.specs.Sets.{IsIn}
 use Rattle.si_insert.specs.declared.partition.Class.{Class}
 use Rattle.si_divisor.specs.Targets.{IsLeast, AreSettled, HaveTargets, forced_in, target}
 use Rattle.si_divisor.specs.Switching.{Switches}
-use Rattle.si_divisor.specs.SwitchRules.{Belongs, OmitsState}
+use Rattle.si_divisor.specs.Loops.SwitchRules.{Belongs, OmitsState}
 use Rattle.si_divisor.specs.PartitionFor.{LeavesAt, HasSome, IsPartitionFor, HasNone}
 use Rattle.si_divisor.proofs.OnePartitionFor.{one_ones, one_zeros}
 use Rattle.si_divisor.proofs.SwitchRuleLemmas.{closed_if_switches, least_rises}

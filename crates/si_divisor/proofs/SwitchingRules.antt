@@ -1,30 +1,24 @@
 -- The closing rules are what acceptance asks.
 use Rattle.std.proofs.Common.{◌≡◌, ℕ, ◌<◌, ◌↔◌, ◌⊎◌, Bool, true, false, not, List, refl, sym, ap, subst, ◌∙◌, inl, inr}
 use Rattle.std.proofs.lemmas.Bool.{true≢false}
+use Rattle.std.proofs.Math.Bool.{not-not}
 use Rattle.si_base.specs.declared.ids.Event.{Event}
 use Rattle.si_base.specs.Graph.{StateGraph, Step, IsGraph}
 use Rattle.si_base.specs.Proper.{Loss}
 use Rattle.si_base.proofs.StepCodes.{step_within}
-use Rattle.si_graph.specs.Reach.{IsIn}
+use Rattle.si_base.proofs.Booleans.{at_each, not_itself}
+use Rattle.si_base.specs.Sets.{IsIn}
 use Rattle.si_insert.specs.declared.partition.Class.{Class}
 use Rattle.si_insert.specs.declared.partition.Class.TheVariants.{Low, Rising, High, Falling}
 use Rattle.si_insert.specs.Partition.{class_of, may_lead}
 use Rattle.si_insert.specs.Insertion.{waits, has_copy}
 use Rattle.si_insert.specs.Accepted.{Delay}
-use Rattle.si_insert.specs.Tests.{InputWaits, WaitsAfter}
+use Rattle.si_insert.specs.Loops.Tests.{InputWaits, WaitsAfter}
 use Rattle.si_divisor.specs.Switching.{Switches}
 use Rattle.si_divisor.specs.Laws.{to_one, AreClassed, Passes, MeetRules, RulesAreAcceptance}
 use Rattle.si_insert.proofs.PairWaiting.{waiting, is_or_not, waits_at, waits_if, goes_elsewhere, goes_within}
 use Rattle.si_insert.proofs.DiamondLosses.{lost_after, diamond_of}
-use Rattle.si_divisor.proofs.ClassCases.{at_each, target_of_waiting, copy_has, crosses, comes}
-
-twice : (v : Bool) → not (not v) ≡ v
-twice true = refl
-twice false = refl
-
-other_value : (v : Bool) → v ≡ not v → ⊥
-other_value true h = true≢false h
-other_value false h = true≢false (sym h)
+use Rattle.si_divisor.proofs.ClassCases.{target_of_waiting, copy_has, crosses, comes}
 
 -- the set where arcs wait at the value v
 abbrev pub IsSetAt : StateGraph → List Class → Bool → List Bool → Type 0
@@ -40,7 +34,7 @@ switches_at g classes target v set graph at to p = record {
   entered = λ s e t step low high. (
       let w = step_within g s e t graph step in
       (at t w.2).1 (crosses (class_of classes s) (class_of classes t) v (p.lawful.arcs s e t step) (sym (to s w.0)
-      ∙ low ∙ twice v) (sym (to t w.2) ∙ high)));
+      ∙ low ∙ not-not v) (sym (to t w.2) ∙ high)));
   before = λ s e t step in_t high. (
       let w = step_within g s e t graph step in
       let l : may_lead (class_of classes s) (waiting v) ≡ true =
@@ -67,7 +61,7 @@ switches_at g classes target v set graph at to p = record {
       let goes : waits (class_of classes s) (class_of classes t) v ≡ false = elim may [
         | inl low ↦
             goes_elsewhere (class_of classes s) (class_of classes t) v
-            (λ same. other_value v (sym (sym (to s one.0) ∙ low ∙ twice v) ∙ ap to_one same ∙ target_of_waiting v))
+            (λ same. not_itself v (sym (sym (to s one.0) ∙ low ∙ not-not v) ∙ ap to_one same ∙ target_of_waiting v))
         | inr both ↦
             goes_within (class_of classes s) (class_of classes t) v ((at s one.0).0 both.0) ((at t one.2).0 both.1)
       ] in
@@ -103,7 +97,7 @@ none_lost g classes target v set graph at to sw b w same =
     let has : has_copy S v ≡ true = subst (λ k. has_copy S k ≡ true) same w.has in
     let h = waits_at (class_of classes w.u) (class_of classes w.w) v late in
     let may : (target b.s ≡ not (not v)) ⊎ (IsIn set b.s × IsIn set w.t) = elim (copy_has S v has) [
-      | inl low ↦ inl (to b.s one.0 ∙ low ∙ sym (twice v))
+      | inl low ↦ inl (to b.s one.0 ∙ low ∙ sym (not-not v))
       | inr in_s ↦ elim (is_or_not T v) [
         | inl in_t ↦ inr ((at b.s one.0).1 in_s, (at w.t one.2).1 in_t)
         | inr out ↦ absurd (true≢false (sym (waits_if S T v in_s out) ∙ goes))

@@ -1,8 +1,8 @@
 -- Tests by computation, for worked examples: whether a set meets the rules.
-use Rattle.std.proofs.Common.{◌≡◌, ◌≢◌, ℕ, zero, suc, ◌+◌, ◌<◌, ◌==◌, ◌⊎◌, ◌&&◌, ◌||◌, not, Bool, true, false, List, []}
+use Rattle.std.proofs.Common.{◌≡◌, ◌≢◌, ℕ, zero, suc, ◌+◌, ◌<◌, ◌==◌, ◌&&◌, ◌||◌, not, Bool, true, false, List, []}
 use Rattle.std.proofs.Common.{◌∷◌, length, Contains, IsTrue, slice_index_or, slice_get, Option, Some, None, refl, sym}
 use Rattle.std.proofs.Common.{ap, subst, ◌∙◌, arith, inl, inr, eq-eqb}
-use Rattle.std.proofs.lemmas.Bool.{true≢false, and_parts, cases_Bool}
+use Rattle.std.proofs.lemmas.Bool.{true≢false, and_parts, cases_Bool, or_left, or_right, or_cases, and_from}
 use Rattle.std.proofs.lemmas.List.Elements.{All-contains}
 use Rattle.std.proofs.lemmas.List.Sums.{AllPass-from_list_all}
 use mathlib.Core.Bool.{beq}
@@ -13,20 +13,14 @@ use Rattle.si_base.specs.declared.graph.Signal.{Signal}
 use Rattle.si_base.specs.declared.graph.SigKind.TheVariants.{Input}
 use Rattle.si_base.specs.Graph.{StateGraph, arc, same_event, is_driven}
 use Rattle.si_base.proofs.GraphSteps.{beq-refl, same_event-refl, same_event-true}
-use Rattle.si_graph.specs.Reach.{IsIn}
+use Rattle.si_base.specs.Sets.{IsIn}
 use Rattle.si_graph.proofs.SearchLemmas.{in_below}
+use Rattle.si_insert.proofs.PartitionClasses.{yields, apply}
 use Rattle.si_divisor.specs.Targets.{Settles, HaveTargets, holds}
 use Rattle.si_divisor.specs.Switching.{Switches}
 
 abbrev pub in' : List Bool → ℕ → Bool
 in' set s = slice_index_or set s false
-
-abbrev pub yields : Bool → Bool → Bool
-yields a b = not a || b
-
-apply : (a b : Bool) → yields a b ≡ true → a ≡ true → b ≡ true
-apply true b h k = h
-apply false b h k = absurd (true≢false (sym k))
 
 -- the property for each number below n
 abbrev pub each_below : ℕ → ℕ → (ℕ → Bool) → Bool
@@ -120,9 +114,6 @@ abbrev pub switches_test : StateGraph → (ℕ → Bool) → Bool → List Bool 
 switches_test g target b set =
     all_entered g target b set && (all_before g target b set && (all_inputs g set && all_exits g target b set))
 
-both_true : (a b : Bool) → a ≡ true → b ≡ true → (a && b) ≡ true
-both_true a b p q = rw p q
-
 beq_is : (a b : Bool) → a ≡ b → beq a b ≡ true
 beq_is a b h = subst (λ c. beq a c ≡ true) h (beq-refl a)
 
@@ -131,13 +122,6 @@ differs e f apart = elim (cases_Bool (same_event e f)) [
   | inl same ↦ absurd (apart (same_event-true e f same))
   | inr other ↦ rw other refl
 ]
-
-or_left : (a b : Bool) → a ≡ true → (a || b) ≡ true
-or_left a b h = rw h refl
-
-or_right : (a b : Bool) → b ≡ true → (a || b) ≡ true
-or_right true b h = refl
-or_right false b h = h
 
 pub switches_if : (g : StateGraph) (target : ℕ → Bool) (b : Bool) (set : List Bool)
     → switches_test g target b set ≡ true → Switches g target b set
@@ -167,7 +151,7 @@ switches_if g target b set h = record {
         | inl low ↦ or_left (beq (target s) (not b)) (in' set s && in' set t) (beq_is (target s) (not b) low)
         | inr both ↦
             or_right (beq (target s) (not b)) (in' set s && in' set t)
-            (both_true (in' set s) (in' set t) both.0 both.1)
+            (and_from (in' set s) (in' set t) both.0 both.1)
       ] in
       let driven : is_driven_kind (slice_get g.signals a.sig) ≡ true =
       driven_is (slice_get g.signals a.sig) d.non_input.0 d.non_input.1 d.non_input.2 in
@@ -176,10 +160,10 @@ switches_if g target b set h = record {
       (same_event a a &&
       (not (same_event a c) && (is_driven_kind (slice_get g.signals a.sig) &&
       (in' set u && (beq (target s) (not b) || (in' set s && in' set t)))))))) ≡ true =
-      both_true _ _ (eq-eqb s s refl)
-      (both_true _ _ (eq-eqb u u refl)
-      (both_true _ _ (same_event-refl a)
-      (both_true _ _ (differs a c d.apart) (both_true _ _ driven (both_true _ _ in_u m))))) in
+      and_from _ _ (eq-eqb s s refl)
+      (and_from _ _ (eq-eqb u u refl)
+      (and_from _ _ (same_event-refl a)
+      (and_from _ _ (differs a c d.apart) (and_from _ _ driven (and_from _ _ in_u m))))) in
       apply _ (in' set w) then_next all);
 }
   where
@@ -239,10 +223,6 @@ pub each_at : (P : ℕ → Type 0) (n : ℕ) → Each P 0 n → (s : ℕ) → s 
 each_at P n all s below = let e : 0 + s ≡ s = omega arith in subst P e (at_each P 0 n all s below)
 
 -- ---- each state settles at one value
-or_cases : (a b : Bool) → (a || b) ≡ true → (a ≡ true) ⊎ (b ≡ true)
-or_cases true b h = inl refl
-or_cases false b h = inr h
-
 not_both : (a b : Bool) → not (a && b) ≡ true → a ≡ true → b ≡ true → ⊥
 not_both true true h p q = true≢false (sym h)
 not_both true false h p q = true≢false (sym q)

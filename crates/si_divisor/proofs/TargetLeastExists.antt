@@ -13,7 +13,8 @@ use Rattle.si_base.specs.declared.graph.SigKind.{SigKind}
 use Rattle.si_base.specs.declared.graph.SigKind.TheVariants.{Input, Output, Internal, Inserted}
 use Rattle.si_base.specs.Graph.{StateGraph, Step, IsGraph, IsNonInput, arc}
 use Rattle.si_base.proofs.StepCodes.{step_within}
-use Rattle.si_graph.specs.Reach.{IsIn, Marks, unmarked}
+use Rattle.si_base.specs.Sets.{IsIn}
+use Rattle.si_graph.specs.Loops.Reach.{Marks, unmarked}
 use Rattle.si_graph.proofs.SearchLemmas.{in_cases, in_none, one_taken}
 use Rattle.si_checks.proofs.SearchDecisions as decide
 use Rattle.si_checks.proofs.SearchDecisions.{Decided, some_of, pairs, in_pairs, of_pairs}

@@ -5,13 +5,13 @@ use Rattle.si_base.specs.Limits.{max_signals, max_states}
 use Rattle.si_base.specs.Graph.{StateGraph, IsGraph}
 use Rattle.si_base.specs.Codes.{CodedGraph, IsCoded, code}
 use Rattle.si_base.specs.Proper.{IsProper, Loss}
-use Rattle.si_graph.specs.Reach.{IsIn}
+use Rattle.si_base.specs.Sets.{IsIn}
 use Rattle.si_insert.specs.declared.partition.Class.{Class}
 use Rattle.si_insert.specs.declared.partition.Class.TheVariants.{Low, Rising, High, Falling}
 use Rattle.si_insert.specs.Partition.{class_of, IsLawful}
 use Rattle.si_insert.specs.Insertion.{Copy, IsInsertedGraph, has_copy, coded}
 use Rattle.si_insert.specs.Accepted.{IsAccepted, copy_count, Delay}
-use Rattle.si_insert.specs.Tests.{InputWaits, WaitsAfter}
+use Rattle.si_insert.specs.Loops.Tests.{InputWaits, WaitsAfter}
 use Rattle.si_cell.specs.Library.{Library, Instance, IsLibrary, IsInstance, instance_value}
 use Rattle.si_match.specs.Fit.{IsOver, Fits}
 use Rattle.si_divisor.specs.declared.fault.NoPartition.{NoPartition}

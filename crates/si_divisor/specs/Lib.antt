@@ -1,12 +1,8 @@
 pub mod Divisors
-pub mod PinTests
-pub mod Completions
 pub mod DivisorLaws
 pub mod Targets
 pub mod Switching
 pub mod PartitionFor
 pub mod Functions
-pub mod ManyFunctions
-pub mod SwitchRules
-pub mod ManySwitching
 pub mod Laws
+pub mod Loops

@@ -6,7 +6,7 @@ use mathlib.Core.Bool.{beq}
 use Rattle.si_base.specs.declared.ids.Event.{Event}
 use Rattle.si_base.specs.Graph.{StateGraph, Step}
 use Rattle.si_base.specs.Codes.{CodedGraph, code}
-use Rattle.si_graph.specs.Reach.{IsIn}
+use Rattle.si_base.specs.Sets.{IsIn}
 
 -- s is forced to b: the value at its code is b, also where the output is the other value
 abbrev pub forced_by : (ℕ → Bool → Bool) → CodedGraph → Bool → ℕ → Bool
@@ -40,11 +40,6 @@ pub record AreSettled (g : StateGraph) (forced : Bool → ℕ → Bool) (ones ze
     : Type 0 where
   pub at_one : IsLeast g.states (Settles g forced true) ones
   pub at_zero : IsLeast g.states (Settles g forced false) zeros
-
--- a set of n states: those that hold
-pub record AreHeld (forced : Bool → ℕ → Bool) (n : ℕ) (set : List Bool) : Type 0 where
-  pub size : length set ≡ n
-  pub each : (s : ℕ) → s < n → slice_index_or set s false ≡ holds forced s
 
 -- sets of n states: those forced to 1 and those forced to 0
 pub record AreForced (forced : Bool → ℕ → Bool) (n : ℕ) (up down : List Bool) : Type 0 where

@@ -5,16 +5,20 @@ ghost use Rattle.std.specs.Prelude.{slice_index_or, false};
 ghost use Rattle.si_base.specs.Order.{IsFirst};
 ghost use Rattle.si_base.specs.Codes.{IsDeterministic};
 ghost use Rattle.si_base.specs.Graph.{IsGraph};
+ghost use Rattle.si_closures.specs.Loops.WordSearch.{column};
 ghost use Rattle.si_insert.specs.Partition.{class_of};
+ghost use Rattle.si_divisor.specs.Loops.ManyFunctions.{AreSettledWords};
 ghost use Rattle.si_divisor.specs.Targets.{forced_in};
 ghost use Rattle.si_divisor.specs.PartitionFor.{LeavesAt, HasSome, class_for, IsPartitionFor};
 ghost use Rattle.si_divisor.specs.PartitionFor.{state_place, ShowsNone};
 
 use crate::fault::NoPartition;
-use crate::settled::{Settled, first_settled_at_both, first_unforced, holding, settled_states};
+use crate::function_sets::SettledWords;
+use crate::settled::{first_settled_at_both, first_unforced};
 use crate::switching::switching_alone;
 use si_base::ids::{NoMemory, StateId};
 use si_base::sets::StateSet;
+use si_closures::words::set_at;
 use si_graph::graph::Graph;
 use si_insert::partition::Class;
 use std::alloc::Global;
@@ -102,36 +106,40 @@ pub(crate) fn class_list(
     Ok(out)
 }
 
-/// The classes of the states for an instance that forces the states of the one set to 1 and those
-/// of the other to 0, or the first reason why there are none.
+/// The classes of the states for the first of the functions, by what it forces and where states
+/// settle for it, or the first reason why there are none.
 pub(crate) fn classes_for(
     alloc: Global,
     graph: &Graph,
-    up: &StateSet,
-    down: &StateSet,
+    words: &SettledWords,
 ) -> Result<Vec<Class>, NoPartition>
     requires graph { IsGraph graph.now }
     requires deterministic { IsDeterministic graph.now }
-    requires up { length up.now ≡ graph.now.states }
-    requires down { length down.now ≡ graph.now.states }
-    ensures partition { IfOk result (λ v.
-        IsPartitionFor graph.now (forced_in up.now down.now) v.items) }
-    ensures fault { IfErr result (ShowsNone graph.now (forced_in up.now down.now)) }
+    requires words { AreSettledWords graph.now words.now }
+    ensures partition { IfOk result (λ v. IsPartitionFor graph.now
+        (forced_in (column 0 words.now.up.items) (column 0 words.now.down.items)) v.items) }
+    ensures fault { IfErr result (ShowsNone graph.now
+        (forced_in (column 0 words.now.up.items) (column 0 words.now.down.items))) }
 {
-    let held = holding(alloc, up, down)?;
-    let Settled { ones, zeros } = settled_states(alloc, graph, &held, up, down)?;
+    let up = set_at(alloc, &words.up, graph.states(), 0)?;
+    let down = set_at(alloc, &words.down, graph.states(), 0)?;
+    let ones = set_at(alloc, &words.ones, graph.states(), 0)?;
+    let zeros = set_at(alloc, &words.zeros, graph.states(), 0)?;
     if let Some(s) = first_unforced(graph, &ones, &zeros) {
         return Err(NoPartition::Unforced { s });
     }
     if let Some(s) = first_settled_at_both(&ones, &zeros) {
         return Err(NoPartition::Contradiction { s });
     }
-    let plus = switching_alone(alloc, graph, &ones)?;
-    let minus = switching_alone(alloc, graph, &zeros)?;
-    if let Some(s) = first_leaving(up, down, &plus, &minus) {
+    let plus = switching_alone(alloc, graph, &words.ones)?;
+    let minus = switching_alone(alloc, graph, &words.zeros)?;
+    if let Some(s) = first_leaving(&up, &down, &plus, &minus) {
         return Err(NoPartition::LeavesForced { s });
     }
-    if !has_some(&plus) || !has_some(&minus) {
+    if !has_some(&plus) {
+        return Err(NoPartition::Constant);
+    }
+    if !has_some(&minus) {
         return Err(NoPartition::Constant);
     }
     let list = class_list(alloc, &plus, &minus, &ones)?;

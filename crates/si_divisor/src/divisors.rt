@@ -4,9 +4,9 @@ ghost use Rattle.std.specs.Prelude.{◌≡◌, ◌≤◌, ◌+◌, ◌++◌, ◌
 ghost use Rattle.std.specs.Prelude.{length, take};
 ghost use Rattle.si_base.specs.Graph.{IsNonInput};
 ghost use Rattle.si_cell.specs.Limits.{max_pins};
-ghost use Rattle.si_checks.specs.Lent.{coded_of};
+ghost use Rattle.si_checks.specs.Loops.Lent.{coded_of};
 ghost use Rattle.si_divisor.specs.Divisors.{AreDivisors, are_apart, has_few_pins, max_divisors};
-ghost use Rattle.si_divisor.specs.Completions.{completions, of_cells};
+ghost use Rattle.si_divisor.specs.Loops.Completions.{completions, of_cells};
 
 use crate::pins::pin_set;
 use arrayvec::ArrayVec;

@@ -4,12 +4,14 @@ ghost use Rattle.std.specs.Prelude.{◌≡◌, ◌≢◌, ℕ, ◌<◌, ◌≤�
 ghost use Rattle.std.specs.Prelude.{false, length, slice_index_or};
 ghost use Rattle.si_base.specs.Bits.{bit};
 ghost use Rattle.si_base.specs.Limits.{code_width};
-ghost use Rattle.si_closures.specs.WordSearch.{column};
+ghost use Rattle.si_closures.specs.Loops.WordSearch.{column};
 ghost use Rattle.si_divisor.specs.declared.function.Function.{Function as FunctionValue};
 ghost use Rattle.si_divisor.specs.Functions.{Computes};
-ghost use Rattle.si_divisor.specs.ManyFunctions.{AreForcedWords, AreFunctionSets, AreHeldWords};
-ghost use Rattle.si_divisor.specs.ManyFunctions.{AreOpposed, TellsForced};
+ghost use Rattle.si_divisor.specs.Loops.ManyFunctions.{AreForcedWords, AreFunctionSets};
+ghost use Rattle.si_divisor.specs.Loops.ManyFunctions.{AreHeldWords};
+ghost use Rattle.si_divisor.specs.Loops.ManyFunctions.{AreOpposed, AreSettledWords, TellsForced};
 ghost use Rattle.si_divisor.specs.PartitionFor.{Answers, HasSome};
+ghost use Rattle.si_divisor.specs.Targets.{AreForced, forced_by};
 
 use crate::classes::class_list;
 use crate::function::Function;
@@ -63,13 +65,13 @@ impl FunctionSets {
         ensures functions { IfOk result (λ sets. sets.functions.items ≡ functions.items) }
         ensures sets { IfOk result (AreFunctionSets graph.now) }
     {
-        let coded = graph.coded();
-        let g = coded.graph();
-        let ForcedWords { up, down } = forced_words(alloc, coded, &functions)?;
-        let held = held_words(alloc, &up, &down)?;
-        let passes = everywhere(alloc, 2 * g.signals().len() as u32)?;
-        let ones = closures(alloc, g, &passes, &held, &up)?;
-        let zeros = closures(alloc, g, &passes, &held, &down)?;
+        let g = graph.coded().graph();
+        let SettledWords {
+            up,
+            down,
+            ones,
+            zeros,
+        } = settled_words(alloc, graph, &functions)?;
         let targets = those_with_targets(&ones, &zeros);
         let Switched {
             words: plus,
@@ -129,6 +131,61 @@ impl FunctionSets {
         let classes = class_list(alloc, &plus, &minus, &ones)?;
         Ok(Some(Partition::known(graph, classes)))
     }
+}
+
+/// For each state the functions that force it to 1 and to 0, and those for which it settles at 1
+/// and at 0, a bit for each.
+#[derive(Drop)]
+pub(crate) struct SettledWords {
+    pub(crate) up: Vec<u128>,
+    pub(crate) down: Vec<u128>,
+    pub(crate) ones: Vec<u128>,
+    pub(crate) zeros: Vec<u128>,
+}
+
+/// What the functions force, and where states settle. It fails only where memory runs out.
+pub(crate) fn settled_words(
+    alloc: Global,
+    graph: &Proper,
+    functions: &[Function],
+) -> Result<SettledWords, NoMemory>
+    requires few { length functions.now ≤ 128 }
+    requires within { All (λ f. All (λ s. s < code_width) f.signals.items) functions.now }
+    ensures up { IfOk result (λ r. AreForcedWords graph.now functions.now true r.up.items) }
+    ensures down { IfOk result (λ r. AreForcedWords graph.now functions.now false r.down.items) }
+    ensures settled { IfOk result (AreSettledWords graph.now.graph) }
+{
+    let coded = graph.coded();
+    let g = coded.graph();
+    let ForcedWords { up, down } = forced_words(alloc, coded, functions)?;
+    let held = held_words(alloc, &up, &down)?;
+    let passes = everywhere(alloc, 2 * g.signals().len() as u32)?;
+    let ones = closures(alloc, g, &passes, &held, &up)?;
+    let zeros = closures(alloc, g, &passes, &held, &down)?;
+    Ok(SettledWords {
+        up,
+        down,
+        ones,
+        zeros,
+    })
+}
+
+/// What one function forces, and where states settle for it: the words have its bit in place 0. It
+/// fails only where memory runs out.
+pub(crate) fn settled_alone(
+    alloc: Global,
+    graph: &Proper,
+    function: Function,
+) -> Result<SettledWords, NoMemory>
+    requires { All (λ s. s < code_width) function.signals.items }
+    ensures forced { IfOk result (λ r. (value : ℕ → Bool → Bool) → Computes function value
+        → AreForced (forced_by value graph.now) graph.now.graph.states
+        (column 0 r.up.items) (column 0 r.down.items)) }
+    ensures settled { IfOk result (AreSettledWords graph.now.graph) }
+{
+    let mut functions = Vec::new(alloc);
+    functions.push(function)?;
+    settled_words(alloc, graph, &functions)
 }
 
 /// The functions that force the state to 1, and those that force it to 0, a bit for each.

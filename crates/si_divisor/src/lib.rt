@@ -6,7 +6,6 @@ mod classes;
 pub mod divisor_laws;
 pub mod divisors;
 pub mod fault;
-mod forced;
 pub mod function;
 pub mod function_sets;
 pub mod laws;

@@ -8,7 +8,8 @@ ghost use Rattle.si_divisor.specs.PartitionFor.{IsPartitionFor, ShowsNone};
 
 use crate::classes::classes_for;
 use crate::fault::NoPartition;
-use crate::forced::{Forced, forced_states};
+use crate::function::function_of;
+use crate::function_sets::settled_alone;
 use si_cell::cell::Instance;
 use si_cell::library::Library;
 use si_checks::proper::Proper;
@@ -31,8 +32,7 @@ pub fn partition_for(
     ensures fault { IfErr result (ShowsNone graph.now.graph
         (forced_by (instance_value library.now instance.now) graph.now)) }
 {
-    let coded = graph.coded();
-    let Forced { up, down } = forced_states(alloc, coded, library, instance)?;
-    let classes = classes_for(alloc, coded.graph(), &up, &down)?;
+    let settled = settled_alone(alloc, graph, function_of(library, instance))?;
+    let classes = classes_for(alloc, graph.coded().graph(), &settled)?;
     Ok(Partition::known(graph, classes))
 }

@@ -6,10 +6,10 @@ ghost use Rattle.si_base.specs.Graph.{IsNonInput};
 ghost use Rattle.si_base.specs.Limits.{code_width};
 ghost use Rattle.si_base.specs.declared.ids.Literal.{Literal as LiteralValue};
 ghost use Rattle.si_cell.specs.Literals.{has_literal};
-ghost use Rattle.si_checks.specs.Lent.{coded_of};
+ghost use Rattle.si_checks.specs.Loops.Lent.{coded_of};
 ghost use Rattle.si_cover.specs.Mono.{IsLeastMono};
 ghost use Rattle.si_divisor.specs.Divisors.{ArePins};
-ghost use Rattle.si_divisor.specs.PinTests.{is_pin as is_pin_literal, AreCubesOf};
+ghost use Rattle.si_divisor.specs.Loops.PinTests.{is_pin as is_pin_literal, AreCubesOf};
 ghost use Rattle.si_regions.specs.Regions.{IsRegion};
 
 use si_base::ids::{Code, Literal, NoMemory, Sig};

@@ -1,70 +1,14 @@
-//! The states that settle at a value.
+//! The first states that settle at neither value, or at both.
 
-ghost use Rattle.std.specs.Prelude.{◌≡◌, ℕ, ◌<◌, ◌↔◌, IfOk, IsTrue, MatchOption, length};
+ghost use Rattle.std.specs.Prelude.{◌≡◌, ℕ, ◌<◌, ◌↔◌, IsTrue, MatchOption, length};
 ghost use Rattle.std.specs.Prelude.{slice_index_or, false};
 ghost use Rattle.si_base.specs.Order.{IsFirst};
-ghost use Rattle.si_base.specs.Graph.{IsGraph};
-ghost use Rattle.si_divisor.specs.Targets.{AreHeld, AreSettled, SettlesAtBoth, IsUnforced};
-ghost use Rattle.si_divisor.specs.Targets.{forced_in};
-ghost use Rattle.si_divisor.specs.Targets.{holds};
+ghost use Rattle.si_divisor.specs.Targets.{SettlesAtBoth, IsUnforced};
 ghost use Rattle.si_divisor.specs.PartitionFor.{state_place};
 
-use si_base::ids::{NoMemory, StateId};
+use si_base::ids::StateId;
 use si_base::sets::StateSet;
-use si_graph::closure::{Along, closure};
 use si_graph::graph::Graph;
-use std::alloc::Global;
-
-/// The states that settle at 1, and those that settle at 0.
-#[derive(Drop)]
-pub(crate) struct Settled {
-    pub(crate) ones: StateSet,
-    pub(crate) zeros: StateSet,
-}
-
-/// Whether the state is in neither set.
-fn is_holding(up: &StateSet, down: &StateSet, s: StateId) -> bool
-    requires up { s < length up.now }
-    requires down { s < length down.now }
-    ensures { result ≡ holds (forced_in up.now down.now) s }
-{
-    !up.has(s) && !down.has(s)
-}
-
-/// The states that hold: those in neither set.
-pub(crate) fn holding(alloc: Global, up: &StateSet, down: &StateSet) -> Result<StateSet, NoMemory>
-    requires { length down.now ≡ length up.now }
-    ensures { IfOk result (AreHeld (forced_in up.now down.now) (length up.now)) }
-{
-    let mut set = StateSet::new(alloc, up.size())?;
-    for s in 0..up.size() {
-        if is_holding(up, down, StateId(s)) {
-            set.add(StateId(s));
-        }
-    }
-    Ok(set)
-}
-
-/// The states that settle at each value where those of the one set are forced to 1 and those of
-/// the other to 0, and the others hold. It fails only where memory runs out.
-pub(crate) fn settled_states(
-    alloc: Global,
-    graph: &Graph,
-    held: &StateSet,
-    up: &StateSet,
-    down: &StateSet,
-) -> Result<Settled, NoMemory>
-    requires graph { IsGraph graph.now }
-    requires held { AreHeld (forced_in up.now down.now) graph.now.states held.now }
-    requires up { length up.now ≡ graph.now.states }
-    requires down { length down.now ≡ graph.now.states }
-    ensures { IfOk result (λ settled. AreSettled graph.now (forced_in up.now down.now)
-        settled.ones settled.zeros) }
-{
-    let ones = closure(alloc, graph, Along::Out, held, up)?;
-    let zeros = closure(alloc, graph, Along::Out, held, down)?;
-    Ok(Settled { ones, zeros })
-}
 
 /// Whether the state is in neither set.
 fn in_neither(x: &StateSet, y: &StateSet, s: StateId) -> bool

@@ -7,19 +7,20 @@ ghost use Rattle.si_base.specs.Bits.{bit};
 ghost use Rattle.si_base.specs.Codes.{IsDeterministic};
 ghost use Rattle.si_base.specs.Graph.{IsGraph, Step};
 ghost use Rattle.si_base.specs.Sets.{IsIn};
-ghost use Rattle.si_closures.specs.WordSearch.{column, HasBit};
+ghost use Rattle.si_closures.specs.Loops.WordSearch.{column, HasBit};
 ghost use Rattle.si_divisor.specs.Targets.{IsLeast, target};
 ghost use Rattle.si_divisor.specs.Switching.{Switches};
-ghost use Rattle.si_divisor.specs.SwitchRules.{FollowsByRule, IsCrossed, IsLow};
-ghost use Rattle.si_divisor.specs.ManySwitching.{AreSwitched, BelongsTo, ExitsBeside};
-ghost use Rattle.si_divisor.specs.ManySwitching.{FollowsBack, FollowsOn, Grows, GrowsAll, HasExit};
-ghost use Rattle.si_divisor.specs.ManySwitching.{IsSized, IsTurn, LetsExit};
+ghost use Rattle.si_divisor.specs.Loops.SwitchRules.{FollowsByRule, IsCrossed, IsLow};
+ghost use Rattle.si_divisor.specs.Loops.ManySwitching.{AreSwitched, BelongsTo, ExitsBeside};
+ghost use Rattle.si_divisor.specs.Loops.ManySwitching.{FollowsBack, FollowsOn, Grows, GrowsAll};
+ghost use Rattle.si_divisor.specs.Loops.ManySwitching.{HasExit};
+ghost use Rattle.si_divisor.specs.Loops.ManySwitching.{IsSized, IsTurn, LetsExit};
 
 use si_base::graph::Edge;
 use si_base::ids::{Event, NoMemory, StateId};
 use si_base::sets::StateSet;
 use si_closures::word_work::WordWork;
-use si_closures::words::{everywhere, repeated, set_at};
+use si_closures::words::{everywhere, set_at};
 use si_graph::graph::Graph;
 use std::alloc::Global;
 
@@ -290,21 +291,21 @@ pub(crate) fn switching(
     })
 }
 
-/// The states where one new signal switches to 1, which is the target of the states of the set: the
-/// least set that meets the rules.
+/// The states where the first of the new signals switches to 1: the least set that meets the rules,
+/// wherever its states lie.
 pub(crate) fn switching_alone(
     alloc: Global,
     graph: &Graph,
-    high: &StateSet,
+    highs: &[u128],
 ) -> Result<StateSet, NoMemory>
     requires graph { IsGraph graph.now }
     requires deterministic { IsDeterministic graph.now }
-    requires high { length high.now ≡ graph.now.states }
-    ensures { IfOk result (IsLeast graph.now.states (Switches graph.now (target high.now) true)) }
+    requires highs { length highs.now ≡ graph.now.states }
+    ensures { IfOk result
+        (IsLeast graph.now.states (Switches graph.now (target (column 0 highs.now)) true)) }
 {
-    let highs = repeated(alloc, high)?;
     let within = everywhere(alloc, graph.states())?;
-    let found = switching(alloc, graph, &highs, 1, &within)?;
+    let found = switching(alloc, graph, highs, 1, &within)?;
     let set = set_at(alloc, &found.words, graph.states(), 0)?;
     Ok(set)
 }

@@ -3,7 +3,7 @@ use Rattle.std.proofs.Common.{◌≡◌, ℕ, true, false, List, [], ◌∷◌, 
 use Rattle.si_base.specs.Bits.{bit}
 use Rattle.si_base.specs.Codes.{next_value}
 use Rattle.si_base.specs.Sets.{IsIn, flags_of}
-use Rattle.si_closures.specs.WordSearch.{column}
+use Rattle.si_closures.specs.Loops.WordSearch.{column}
 use Rattle.si_examples.proofs.CElement.{coded}
 
 -- two words keep the flags of up to 128 states: here those of 1 and of 65, of 66 states

@@ -1,7 +1,7 @@
 //! Pin literals and divisors of the three-input C-element, and of a buffer that rises once.
 
 ghost use Rattle.si_base.specs.Graph.{IsNonInput};
-ghost use Rattle.si_checks.specs.Lent.{coded_of};
+ghost use Rattle.si_checks.specs.Loops.Lent.{coded_of};
 
 use crate::graphs::{BUFFERED_ONCE, C_ELEMENT, is_driven, proper};
 use si_base::graph::Signal;

@@ -18,10 +18,10 @@ use Rattle.si_base.specs.NetlistText.{bits_from, word_if_any}
 use Rattle.si_base.specs.Words.{line}
 use Rattle.si_base.proofs.StepCodes.{step_within}
 use Rattle.si_base.proofs.GivenGraphUnique.{same_edges}
-use Rattle.si_graph.specs.Arcs.{AreOut}
+use Rattle.si_graph.specs.Loops.Arcs.{AreOut}
 use Rattle.si_graph.proofs.ListMembers.{Contains-filter, Contains-from_filter, Contains-from_map}
-use Rattle.si_words.specs.Writing.{spaced}
-use Rattle.si_words.proofs.WritingLemmas.{whole_line}
+use Rattle.si_words.specs.Loops.Writing.{spaced}
+use Rattle.si_words.proofs.WritingLemmas.{whole_line, grouped, grouped_two}
 use Rattle.si_sg.specs.CanonicalText.{state_at, event_word}
 use Rattle.si_walks.specs.declared.arcs.Arcs.{Arcs}
 use Rattle.si_walks.specs.declared.arcs.Arcs.TheVariants.{All as AllArcs}
@@ -104,10 +104,6 @@ event_more signals es i e name mark old text named new within at so_far word is_
     ∙ ap (λ (l : List ℕ). text ++ l) (sym left) ∙ so_far
 
 -- ---- a line by its calls
-grouped : (text word name events : List ℕ) → (((text ++ word) ++ 32 ∷ name) ++ events) ++ 10 ∷ []
-    ≡ ((text ++ word) ++ ((32 ∷ name) ++ events)) ++ 10 ∷ []
-grouped text word name events = simp append_assoc
-
 pub events_line_by_calls : (text word : List ℕ) (signals : List Signal) (states : List (List ℕ)) (s : ℕ)
     (es : List Event) (name first second third : List ℕ) → name ≡ state_at states s → first ≡ text ++ word
     → second ≡ first ++ 32 ∷ name → third ≡ second ++ spaced (events_words signals es)
@@ -115,11 +111,6 @@ pub events_line_by_calls : (text word : List ℕ) (signals : List Signal) (state
 events_line_by_calls text word signals states s es name first second third e0 e1 e2 e3 =
     rw (e3, e2, e1, e0) (grouped text word (state_at states s) (spaced (events_words signals es))
     ∙ whole_line text word (state_at states s ∷ events_words signals es))
-
-grouped_two : (text word one other events : List ℕ)
-    → ((((text ++ word) ++ 32 ∷ one) ++ 32 ∷ other) ++ events) ++ 10 ∷ []
-    ≡ ((text ++ word) ++ ((32 ∷ one) ++ ((32 ∷ other) ++ events))) ++ 10 ∷ []
-grouped_two text word one other events = simp append_assoc
 
 pub inputs_line_by_calls : (text : List ℕ) (signals : List Signal) (states : List (List ℕ)) (s t : ℕ) (es : List Event)
     (one other first second third fourth : List ℕ) → one ≡ state_at states s → other ≡ state_at states t

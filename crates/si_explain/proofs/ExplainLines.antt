@@ -1,6 +1,6 @@
 -- The lines of conflicts, one call after another.
 use Rattle.std.proofs.Common.{◌≡◌, ℕ, ◌+◌, ◌<◌, ◌≤◌, ◌∙◌, ◌++◌, List, [], ◌∷◌, take, flat_map, length, get_or, Contains}
-use Rattle.std.proofs.Common.{Some, None, refl, sym, ap, subst, arith, append_assoc, codes, decimal, inl, inr}
+use Rattle.std.proofs.Common.{Some, refl, sym, ap, subst, arith, append_assoc, codes, decimal, inl, inr}
 use Rattle.std.proofs.lemmas.Grind.{flat_map-append}
 use Rattle.std.proofs.lemmas.List.{append-nil, map-append, take_more, take_all, get_or-map, length-map}
 use Rattle.std.proofs.lemmas.List.Elements.{Contains-push_cases}
@@ -21,10 +21,6 @@ use Rattle.si_explain.specs.ExplainText.{IsExplainText, Explains, ExplainsAll}
 -- ---- the lines of a source
 three : (text a b c : List ℕ) → ((text ++ a) ++ b) ++ c ≡ text ++ (a ++ (b ++ (c ++ [])))
 three text a b c = simp (append_assoc, append-nil)
-
-pub no_source_lines : (text : List ℕ) (signals : List Signal) (states : List (List ℕ)) (pair : ℕ × ℕ)
-    → text ≡ text ++ text_of (source_lines signals states pair None)
-no_source_lines text signals states pair = sym (append-nil text)
 
 pub source_by_calls : (text : List ℕ) (signals : List Signal) (states : List (List ℕ)) (p q : ℕ) (x : Source)
     (one other first second third : List ℕ) → one ≡ state_at states p → other ≡ state_at states q
@@ -66,7 +62,7 @@ conflict_by_calls c states x text one other first second third fourth fifth sixt
     (text_of (source_lines signals states x.pair x.source)))
 
 -- ---- one conflict after another
-abbrev pair_of : Explained → ℕ × ℕ
+abbrev pub pair_of : Explained → ℕ × ℕ
 pair_of x = x.pair
 
 abbrev lines_of : CodedGraph → List (List ℕ) → Explained → List ℕ

@@ -13,9 +13,7 @@ use Rattle.si_walks.proofs.FirstWalks.{along_all, one_first_walk, some_first_wal
 use Rattle.si_walks.proofs.SourceLemmas.{one_source_or_none, some_source_or_none}
 use Rattle.si_explain.specs.ExplainText.{max_explained, Explained, IsExplained, explain_text, IsExplainText}
 use Rattle.si_explain.specs.Laws.{SourcesShowJoined, NoSourceShowsNone}
-
-abbrev pair_of : Explained → ℕ × ℕ
-pair_of x = x.pair
+use Rattle.si_explain.proofs.ExplainLines.{pair_of}
 
 one_explained : (c : CodedGraph) (x y : Explained) → IsExplained c x → IsExplained c y → x.pair ≡ y.pair → x ≡ y
 one_explained c x y is also pair =

@@ -2,7 +2,7 @@
 
 ghost use Rattle.std.specs.Prelude.{◌≡◌, ◌<◌, ◌++◌, IfOk, OnOk, All, length};
 ghost use Rattle.si_base.specs.Words.{line};
-ghost use Rattle.si_words.specs.Writing.{spaced};
+ghost use Rattle.si_words.specs.Loops.Writing.{spaced};
 ghost use Rattle.si_explain.specs.ExplainText.{enabled_events, events_words, events_line};
 ghost use Rattle.si_explain.specs.ExplainText.{inputs_line};
 
@@ -33,7 +33,7 @@ pub(crate) fn enabled_events(
 }
 
 /// Adds a line of a word, the name of a state, and events.
-pub(crate) fn add_events_line(
+pub fn add_events_line(
     text: &mut Text,
     word: &[u8],
     signals: &[Signal],
@@ -75,7 +75,7 @@ pub(crate) fn add_inputs_line(
 }
 
 /// Adds the events, each with a blank before it.
-fn add_events(text: &mut Text, signals: &[Signal], events: &[Event]) -> Result<(), NoMemory>
+pub fn add_events(text: &mut Text, signals: &[Signal], events: &[Event]) -> Result<(), NoMemory>
     requires { All (λ e. e.sig < length signals.now) events.now }
     ensures { OnOk result
         (text.new ≡ text.old ++ spaced (events_words signals.now events.now)) }

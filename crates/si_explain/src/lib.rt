@@ -2,6 +2,6 @@
 //! and whether inputs alone lead to both states of one, so that no insertion resolves it.
 #![tactic(auto)]
 
-mod events;
+pub mod events;
 pub mod explain;
 pub mod laws;

@@ -14,15 +14,15 @@ use Rattle.si_base.proofs.RightGateLemmas.{step_within}
 use Rattle.si_fold.specs.Alike.{IsBisimulation, AreAlike, IsLeastAlike}
 
 -- some number below n passes
-abbrev some_below : (ℕ → Bool) → ℕ → Bool
+abbrev pub some_below : (ℕ → Bool) → ℕ → Bool
 some_below test n = list_any test (range_with_len 0 n)
 
-some_at : (test : ℕ → Bool) (n m : ℕ) → m < n → test m ≡ true → some_below test n ≡ true
+pub some_at : (test : ℕ → Bool) (n m : ℕ) → m < n → test m ≡ true → some_below test n ≡ true
 some_at test n m within passes =
     let at : get_or (range_with_len 0 n) m 0 ≡ m = get_or-range_with_len 0 n m 0 within ∙ zero-add m in
     list_any_at test (range_with_len 0 n) m 0 (omega (arith, length-range_with_len 0 n)) (ap test at ∙ passes)
 
-some_from : (test : ℕ → Bool) (n : ℕ) → some_below test n ≡ true → (m : ℕ) × (m < n) × (test m ≡ true)
+pub some_from : (test : ℕ → Bool) (n : ℕ) → some_below test n ≡ true → (m : ℕ) × (m < n) × (test m ≡ true)
 some_from test n some =
     let any = Any-from_list_any test (range_with_len 0 n) some in
     let below : any.0 < n = omega (arith, any.2, length-range_with_len 0 n) in

@@ -31,12 +31,6 @@ module _ (c d : CodedGraph) (kept class : List ℕ) (is : IsCoded c) (f : IsFold
       (alike_itself c is.graph_is is.deterministic s l.alike.one_within) own.1 l in
       own.2 ∙ ap Some same
 
-  pub class_within : (s : ℕ) → s < c.graph.states → class_of s < d.graph.states
-  class_within s within =
-      let own = f.classes.each s within in
-      let inside : class_of s < length kept = slice_get_within kept (class_of s) own.0 own.2 in
-      omega (arith, f.count)
-
   pub same_class : (s t : ℕ) → AreAlike c s t → class_of s ≡ class_of t
   same_class s t a =
       let one = f.classes.each s a.one_within in

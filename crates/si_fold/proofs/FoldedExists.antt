@@ -7,12 +7,12 @@ use Rattle.std.proofs.lemmas.List.Elements.{All-contains, Contains-get_or}
 use Rattle.si_base.specs.declared.graph.Edge.{Edge}
 use Rattle.si_base.specs.Graph.{StateGraph, IsMadeOf}
 use Rattle.si_base.specs.Codes.{CodedGraph, IsCoded, code}
-use Rattle.si_graph.specs.Renaming.{renamed}
+use Rattle.si_graph.specs.Loops.Renaming.{renamed}
 use Rattle.si_graph.proofs.ArcsInOrder.{arcs_in_order}
 use Rattle.si_fold.specs.declared.numbering.Key.{Key}
 use Rattle.si_fold.specs.Folded.{IsFolded}
-use Rattle.si_fold.specs.Partition.{Shape}
-use Rattle.si_fold.specs.Numbered.{key_of}
+use Rattle.si_fold.specs.Loops.Partition.{Shape}
+use Rattle.si_fold.specs.Loops.Numbered.{key_of}
 use Rattle.si_fold.proofs.NumberedClasses.{numbered_classes}
 use Rattle.si_fold.proofs.FoldedGraph.{start_inside, arcs_inside, made_is_folded}
 use Rattle.si_fold.proofs.NumberLemmas.{ArePlaced, none_placed, one_more_placed, cases_key}

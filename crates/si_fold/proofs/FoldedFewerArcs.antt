@@ -9,23 +9,22 @@ use Rattle.si_base.specs.declared.graph.Edge.{Edge}
 use Rattle.si_base.specs.Codes.{CodedGraph, IsCoded}
 use Rattle.si_base.specs.EdgeOrder.{edge_cmp}
 use Rattle.si_base.specs.Graph.{arc}
-use Rattle.si_base.proofs.ListLemmas.{Once, at_most, at_most_related}
+use Rattle.si_base.proofs.ListLemmas.{Once, at_most, at_most_related, in_range}
 use Rattle.si_base.proofs.OrderAscending.{IsStrict, after_head, nat_less}
 use Rattle.si_base.proofs.GivenGraphUnique.{in_from_contains, contains_from_in, strict_from_total, edges_total}
-use Rattle.si_graph.specs.Renaming.{renamed}
+use Rattle.si_graph.specs.Loops.Renaming.{renamed}
 use Rattle.si_fold.specs.Folded.{IsFolded}
 use Rattle.si_fold.specs.Laws.{IsNoLarger}
-use Rattle.si_fold.proofs.PartitionRoom.{in_range}
 use Rattle.si_fold.proofs.FoldedGraph.{kept_within}
 
 -- in a sorted list each element stands once
-sorted_once : {K : Type 0} (c : K → K → Ordering) → IsStrict c → (xs : List K) → IsStrictlySortedBy c xs → Once xs
+pub sorted_once : {K : Type 0} (c : K → K → Ordering) → IsStrict c → (xs : List K) → IsStrictlySortedBy c xs → Once xs
 unfolding IsStrictlySortedBy
 sorted_once c o [] sorted = tt
 sorted_once c o (x ∷ xs) sorted =
     ((λ there. o.irreflexive x (after_head c x xs sorted.0 x there)), sorted_once c o xs sorted.1)
 
-nats_strict : IsStrict nat_cmp
+pub nats_strict : IsStrict nat_cmp
 nats_strict = record {
   irreflexive = λ x less. (let own = nat_less x x less in omega (arith, own));
   asymmetric = λ x y less more. (

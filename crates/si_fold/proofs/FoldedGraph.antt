@@ -1,8 +1,7 @@
 -- The arcs between classes of alike states make the folded graph.
-use Rattle.std.proofs.Common.{◌≡◌, ℕ, ◌<◌, ◌≤◌, ◌^◌, List, length, map, get_or, All, Contains, sym, ap, subst, ◌∙◌}
+use Rattle.std.proofs.Common.{◌≡◌, ℕ, ◌<◌, ◌≤◌, List, length, map, get_or, All, Contains, sym, ap, subst, ◌∙◌}
 use Rattle.std.proofs.Common.{arith}
 use Rattle.std.specs.Prelude.{AllPairs}
-use Rattle.std.proofs.lemmas.List.{length-map}
 use Rattle.std.proofs.lemmas.List.Elements.{Contains-get_or, All-contains}
 use Rattle.std.proofs.lemmas.Option.{slice_get_within}
 use Rattle.si_base.specs.declared.ids.Event.{Event}
@@ -10,7 +9,7 @@ use Rattle.si_base.specs.declared.graph.Edge.{Edge}
 use Rattle.si_base.specs.declared.graph.Signal.{Signal}
 use Rattle.si_base.specs.Graph.{StateGraph, Step, IsMadeOf, arc, kind_place}
 use Rattle.si_base.specs.Codes.{CodedGraph, IsCoded, code}
-use Rattle.si_graph.specs.Renaming.{renamed}
+use Rattle.si_graph.specs.Loops.Renaming.{renamed}
 use Rattle.si_graph.proofs.CutLemmas.{place_read}
 use Rattle.si_graph.proofs.ListMembers.{Contains-map, Contains-from_map}
 use Rattle.si_fold.specs.Folded.{AreClasses, IsFolded}
@@ -53,12 +52,6 @@ module _ (c : CodedGraph) (is : IsCoded c) (kept class : List ℕ) (are : AreCla
       λ states a. (a.from < states) × (a.event.sig < length c.graph.signals) × (a.to < states) in
       let was = All-contains (Among c.graph.states) c.graph.edges x.0 is.graph_is.within x.1 in
       subst (Among (length kept)) x.2 (class_inside x.0.from was.0, was.1, class_inside x.0.to was.2)
-
-  pub few_arcs : (arcs : List Edge) → arcs ≡ map (renamed class) c.graph.edges → length arcs < 2 ^ 32
-  few_arcs arcs arcs_are = (
-      let size = ap (λ (xs : List Edge). length xs) arcs_are ∙ length-map c.graph.edges (renamed class) in
-      let few = is.graph_is.few_edges in
-      omega (arith, size, few))
 
   -- ---- the graph
   pub made_is_folded : (arcs : List Edge) (codes : List ℕ) (start : ℕ) (g : StateGraph)

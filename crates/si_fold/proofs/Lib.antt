@@ -7,7 +7,6 @@ pub mod UniqueFolded
 mod PartitionMarks
 mod PartitionRoom
 mod PartitionSplits
-mod PartitionWhole
 mod PartitionSplitParts
 mod PartitionMembers
 mod RefinementLoop
@@ -17,6 +16,7 @@ mod NumberLemmas
 mod NumberedClasses
 pub mod FoldedGraph
 pub mod FoldedFewerArcs
+mod FoldedSmallest
 mod NumberSearch
 mod RefinedCoarsest
 pub mod FoldedExists

@@ -1,37 +1,28 @@
 -- Classes are numbered, state by state.
-use Rattle.std.proofs.Common.{◌≡◌, ◌≢◌, ◌⊎◌, ℕ, ◌+◌, ◌<◌, ◌&&◌, zero, suc, false, List, [], ◌∷◌, ◌++◌, length, get_or}
+use Rattle.std.proofs.Common.{◌≡◌, ◌≢◌, ◌⊎◌, ℕ, ◌+◌, ◌<◌, false, List, [], ◌∷◌, ◌++◌, length, get_or}
 use Rattle.std.proofs.Common.{slice_get, Option, None, Some, unwrap_or, refl, sym, ap, subst, ◌∙◌, arith, inl, inr}
-use Rattle.std.proofs.Common.{eqb, eqb-true}
-use Rattle.std.specs.Ordering.{nat_cmp, ordering_then, is_eq}
-use Rattle.std.specs.declared.cmp.Ordering.{Ordering}
-use Rattle.std.specs.declared.cmp.Ordering.TheVariants.{Less, Equal, Greater}
+use Rattle.std.proofs.Common.{eqb-true}
+use Rattle.std.specs.Ordering.{nat_cmp, is_eq}
 use Rattle.std.proofs.lemmas.Bool.{cases_eq, cases_Bool, and_parts}
-use Rattle.std.proofs.lemmas.Bool.Decides.{nat_tests}
 use Rattle.std.proofs.lemmas.List.{length_push, get_or_push, get_or_append_left}
 use Rattle.std.proofs.lemmas.List.Elements.{All-push, All-weaker}
 use Rattle.std.proofs.lemmas.Option.{slice_get-get_or, same_Some}
 use Rattle.si_base.specs.Codes.{CodedGraph}
+use Rattle.si_graph.proofs.ArcFacts.{is_eq-then, is_eq-nat}
+use Rattle.si_graph.proofs.RenamingLemmas.{slice_get_left, slice_get_last}
 use Rattle.si_fold.specs.declared.numbering.Key.{Key}
-use Rattle.si_fold.specs.Partition.{Shape}
-use Rattle.si_fold.specs.Numbered.{key_cmp, key_of, IsFirstLike, AreNumbered}
+use Rattle.si_fold.specs.Loops.Partition.{Shape}
+use Rattle.si_fold.specs.Loops.Numbered.{key_cmp, key_of, IsFirstLike, AreNumbered}
 
 -- ---- keys
-then_is_eq : (o p : Ordering) → is_eq (ordering_then o p) ≡ (is_eq o && is_eq p)
-then_is_eq Less p = refl
-then_is_eq Equal p = refl
-then_is_eq Greater p = refl
-
-nat_is_eq : (a b : ℕ) → is_eq (nat_cmp a b) ≡ eqb a b
-nat_is_eq a b = grind (arith, nat_tests)
-
 pub other_key : (k q : Key) → q ≢ k → is_eq (key_cmp k q) ≡ false
 other_key k q apart = elim (cases_Bool (is_eq (key_cmp k q))) [
   | inr differs ↦ differs
   | inl same ↦ absurd (
       let parts = and_parts (is_eq (nat_cmp k.class q.class)) (is_eq (nat_cmp k.code q.code))
-      (sym (then_is_eq (nat_cmp k.class q.class) (nat_cmp k.code q.code)) ∙ same) in
-      let class : k.class ≡ q.class = eqb-true k.class q.class (sym (nat_is_eq k.class q.class) ∙ parts.0) in
-      let code : k.code ≡ q.code = eqb-true k.code q.code (sym (nat_is_eq k.code q.code) ∙ parts.1) in
+      (sym (is_eq-then (nat_cmp k.class q.class) (nat_cmp k.code q.code)) ∙ same) in
+      let class : k.class ≡ q.class = eqb-true k.class q.class (sym (is_eq-nat k.class q.class) ∙ parts.0) in
+      let code : k.code ≡ q.code = eqb-true k.code q.code (sym (is_eq-nat k.code q.code) ∙ parts.1) in
       let whole : k ≡ q = λ i. record { class = class i; code = code i } in
       apart (sym whole))
 ]
@@ -44,16 +35,6 @@ cases_key k q = elim (cases_eq k.class q.class) [
     | inl code ↦ inl (λ i. record { class = class i; code = code i })
   ]
 ]
-
--- ---- lists that grow
-got_left : {X : Type 0} (xs ys : List X) (k : ℕ) (x : X) → slice_get xs k ≡ Some x → slice_get (xs ++ ys) k ≡ Some x
-got_left [] ys k x h = cc
-got_left (y ∷ xs) ys zero x h = h
-got_left (y ∷ xs) ys (suc k) x h = got_left xs ys k x h
-
-got_last : {X : Type 0} (xs : List X) (x : X) (n : ℕ) → n ≡ length xs → slice_get (xs ++ x ∷ []) n ≡ Some x
-got_last xs x n e = slice_get-get_or (xs ++ x ∷ []) n x (omega (arith, length_push xs x))
-    ∙ ap Some (get_or_push xs x x n (sym e))
 
 -- ---- one state more
 -- the places that stand at the keys, too
@@ -205,7 +186,7 @@ module _ (c : CodedGraph) (p : Shape) (n place : ℕ) (key : Key) (kept class ne
             | inl last ↦ (
                 let E : ℕ → Type 0 = λ t.
                 (w : ℕ) × IsFirstLike c p t w × (slice_get (kept ++ n ∷ []) (get_or new_class t 0) ≡ Some w) in
-                let here : E n = (n, first_n, got_last kept n (get_or new_class n 0) (class_now ∙ own)) in
+                let here : E n = (n, first_n, slice_get_last kept n (get_or new_class n 0) (class_now ∙ own)) in
                 subst E (sym last) here)
             | inr earlier ↦ (
                 let before : s < n = omega (arith, below, earlier) in
@@ -213,7 +194,7 @@ module _ (c : CodedGraph) (p : Shape) (n place : ℕ) (key : Key) (kept class ne
                   was.0,
                   was.1,
                   ap (slice_get (kept ++ n ∷ [])) (class_before s before)
-                      ∙ got_left kept (n ∷ []) (get_or class s 0) was.0 was.2,
+                      ∙ slice_get_left kept (n ∷ []) (get_or class s 0) was.0 was.2,
                 ))
           ];
         };

@@ -14,9 +14,9 @@ use Rattle.si_base.proofs.RightGateLemmas.{step_within, code_of_step}
 use Rattle.si_fold.specs.declared.numbering.Key.{Key}
 use Rattle.si_fold.specs.Alike.{IsBisimulation, AreAlike, IsLeastAlike}
 use Rattle.si_fold.specs.Folded.{AreClasses}
-use Rattle.si_fold.specs.Partition.{Shape, class_at}
-use Rattle.si_fold.specs.Refined.{AreRefined}
-use Rattle.si_fold.specs.Numbered.{key_of, IsFirstLike, AreNumbered}
+use Rattle.si_fold.specs.Loops.Partition.{Shape, class_at}
+use Rattle.si_fold.specs.Loops.Refined.{AreRefined}
+use Rattle.si_fold.specs.Loops.Numbered.{key_of, IsFirstLike, AreNumbered}
 
 module _ (c : CodedGraph) (is : IsCoded c) (p : Shape) (r : AreRefined c.graph p) where
   -- ---- alike just where the keys are equal

@@ -3,7 +3,7 @@ use Rattle.std.proofs.Common.{◌≡◌, ◌↔◌, ℕ, ◌+◌, ◌-◌, ◌<�
 use Rattle.std.proofs.Common.{length, get_or, sym, ap, subst, ◌∙◌, arith}
 use Rattle.std.proofs.lemmas.List.{get_or-take, get_or-drop, get_or_default}
 use Rattle.si_fold.specs.declared.partition.Bounds.{Bounds}
-use Rattle.si_fold.specs.Partition.{Shape, place_at, number_at, bounds_at, IsPartition, IsMember}
+use Rattle.si_fold.specs.Loops.Partition.{Shape, place_at, number_at, bounds_at, IsPartition, IsMember}
 
 -- ---- the members of a class
 pub members_are : (p : Shape) (k : ℕ) (b : Bounds) (items : List ℕ) → IsPartition p → k < p.count → b ≡ bounds_at p k

@@ -1,31 +1,17 @@
 -- There are at most as many classes as numbers: one more has room where one is split.
-use Rattle.std.proofs.Common.{◌≡◌, ◌≢◌, ◌⊎◌, ℕ, ◌+◌, ◌<◌, ◌≤◌, zero, suc, refl, sym, ap, ◌∙◌, arith, inl, inr}
+use Rattle.std.proofs.Common.{◌≡◌, ◌≢◌, ◌⊎◌, ℕ, ◌+◌, ◌<◌, zero, suc, refl, sym, ap, ◌∙◌, arith, inl, inr}
 use Rattle.std.specs.List.{range_with_len}
-use Rattle.std.proofs.lemmas.Bool.{cases_eq, cases_lt}
+use Rattle.std.proofs.lemmas.Bool.{cases_lt}
 use Rattle.std.proofs.lemmas.List.FromFn.{length-range_with_len}
 use Rattle.si_base.proofs.OrderAscending.{In}
-use Rattle.si_base.proofs.ListLemmas.{Once, at_most_related}
-use Rattle.si_fold.specs.Partition.{Shape, size, class_at, place_at, number_at, bounds_at, Shows, IsPartition}
+use Rattle.si_base.proofs.ListLemmas.{Once, at_most_related, in_range, range_bounds}
+use Rattle.si_fold.specs.Loops.Partition.{Shape, size, class_at, place_at, number_at, bounds_at, Shows, IsPartition}
 
 -- ---- there are at most as many classes as numbers
-in_range_from : (a n x : ℕ) → In x (range_with_len a n) → (a ≤ x) × (x < a + n)
-in_range_from a zero x there = absurd there
-in_range_from a (suc n) x (inl same) = (omega (arith, same), omega (arith, same))
-in_range_from a (suc n) x (inr later) =
-    let rest = in_range_from (a + 1) n x later in
-    (omega (arith, rest.0), omega (arith, rest.1))
-
-pub in_range : (a n x : ℕ) → a ≤ x → x < a + n → In x (range_with_len a n)
-in_range a zero x low high = absurd (omega (arith, low, high))
-in_range a (suc n) x low high = elim (cases_eq x a) [
-  | inl same ↦ inl same
-  | inr apart ↦ inr (in_range (a + 1) n x (omega (arith, low, apart)) (omega (arith, high)))
-]
-
 range_once : (a n : ℕ) → Once (range_with_len a n)
 range_once a zero = tt
 range_once a (suc n) = (
-  (λ there. (let r = in_range_from (a + 1) n a there in omega (arith, r.0))),
+  (λ there. (let r = range_bounds (a + 1) n a there in omega (arith, r.0))),
   range_once (a + 1) n,
 )
 
@@ -45,7 +31,7 @@ module _ (p : Shape) (is : IsPartition p) (k : ℕ) (below : k < p.count)
   owned : (j : ℕ) → In j (range_with_len 0 (p.count + 1))
       → (s : ℕ) × In s (range_with_len 0 (size p)) × Owns j s
   owned j there =
-      let range = in_range_from 0 (p.count + 1) j there in
+      let range = range_bounds 0 (p.count + 1) j there in
       elim (cases_lt j p.count) [
         | inl low ↦ (
             let shows = first_shows j low in

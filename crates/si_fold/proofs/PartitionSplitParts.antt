@@ -1,7 +1,7 @@
 -- A class is split where its parts are known by equations.
 use Rattle.std.proofs.Common.{◌≡◌, ◌≢◌, ◌⊎◌, ℕ, ◌+◌, ◌<◌, ◌≤◌, length, set, sym, ap, ◌∙◌, arith, inl, inr}
 use Rattle.si_fold.specs.declared.partition.Bounds.{Bounds}
-use Rattle.si_fold.specs.Partition.{Shape, size, class_at, number_at, bounds_at, IsPartition, SplitsClass}
+use Rattle.si_fold.specs.Loops.Partition.{Shape, size, class_at, number_at, bounds_at, IsPartition, SplitsClass}
 use Rattle.si_fold.proofs.PartitionRoom.{room}
 use Rattle.si_fold.proofs.PartitionSplits.{splits_class}
 

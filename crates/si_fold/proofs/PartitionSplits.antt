@@ -3,8 +3,9 @@ use Rattle.std.proofs.Common.{◌≡◌, ◌≢◌, ◌↔◌, ◌⊎◌, ℕ, �
 use Rattle.std.proofs.Common.{get_or-set_same, get_or-set_other, sym, ap, subst, ◌∙◌, arith, inl, inr}
 use Rattle.std.proofs.lemmas.Bool.{cases_eq, cases_lt}
 use Rattle.si_fold.specs.declared.partition.Bounds.{Bounds}
-use Rattle.si_fold.specs.Partition.{Shape, no_bounds, size, class_at, place_at, number_at, bounds_at, Stands, Shows}
-use Rattle.si_fold.specs.Partition.{IsBounded, IsPartition, IsMarked, SplitsClass}
+use Rattle.si_fold.specs.Loops.Partition.{Shape, no_bounds, size, class_at, place_at, number_at, bounds_at, Stands}
+use Rattle.si_fold.specs.Loops.Partition.{Shows}
+use Rattle.si_fold.specs.Loops.Partition.{IsBounded, IsPartition, IsMarked, SplitsClass}
 use Rattle.si_fold.proofs.PartitionRoom.{room}
 
 -- ---- the places of the class, in two parts

@@ -11,8 +11,8 @@ use Rattle.si_base.specs.Codes.{CodedGraph, IsDeterministic}
 use Rattle.si_base.proofs.GraphSteps.{enables-step, step_from_enables, all_arcs, same_event-refl, same_event-true}
 use Rattle.si_base.proofs.RightGateLemmas.{step_within}
 use Rattle.si_fold.specs.Alike.{IsBisimulation, KeepsSteps, AreAlike, IsLeastAlike}
-use Rattle.si_fold.specs.Partition.{Shape, class_at}
-use Rattle.si_fold.specs.Refined.{AreRefined}
+use Rattle.si_fold.specs.Loops.Partition.{Shape, class_at}
+use Rattle.si_fold.specs.Loops.Refined.{AreRefined}
 use Rattle.si_fold.proofs.AlikeLemmas.{alike_itself, alike_back, alike_through, alike_after, least_same}
 use Rattle.si_fold.proofs.NumberSearch.{all_pass, all_or_pair, first_true, sum_to, sums_up, sums_apart}
 

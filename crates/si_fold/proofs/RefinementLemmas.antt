@@ -11,12 +11,14 @@ use Rattle.si_base.specs.EdgeOrder.{edge_cmp}
 use Rattle.si_base.specs.Graph.{StateGraph, Step, IsGraph, arc}
 use Rattle.si_base.specs.Codes.{IsDeterministic}
 use Rattle.si_base.proofs.GraphSteps.{enables-step, step_from_enables}
-use Rattle.si_graph.specs.Arcs.{edge_at, no_edge}
-use Rattle.si_graph.proofs.OrderLemmas.{edge_total, in_order}
+use Rattle.si_base.proofs.GivenGraphUnique.{edges_total}
+use Rattle.si_graph.specs.Loops.Arcs.{edge_at, no_edge}
+use Rattle.si_graph.proofs.OrderLemmas.{in_order}
 use Rattle.si_graph.proofs.ListMembers.{Contains-map, Contains-from_map}
-use Rattle.si_fold.specs.Partition.{Shape, size, class_at, IsMember, IsWhole, Splits}
+use Rattle.si_graph.proofs.ArcSplits.{step_at}
+use Rattle.si_fold.specs.Loops.Partition.{Shape, size, class_at, IsMember, IsWhole, Splits}
 use Rattle.si_fold.specs.Alike.{KeepsSteps}
-use Rattle.si_fold.specs.Refined.{AreRefined, AreByEvent, Matches, AreRefining, AreArcsInto}
+use Rattle.si_fold.specs.Loops.Refined.{AreRefined, AreByEvent, Matches, AreRefining, AreArcsInto}
 
 -- ---- arcs by their places
 module _ (g : StateGraph) (is : IsGraph g) where
@@ -25,10 +27,6 @@ module _ (g : StateGraph) (is : IsGraph g) where
 
   to_within : (x : ℕ) → x < length g.edges → (edge_at g.edges x).to < g.states
   to_within x inside = (is.within x no_edge inside).2
-
-  step_at : (x : ℕ) → x < length g.edges
-      → Step g (edge_at g.edges x).from (edge_at g.edges x).event (edge_at g.edges x).to
-  step_at x inside = (x, inside, get_or_default g.edges x (edge_at g.edges x) no_edge inside)
 
   -- the place of a step
   place_of : (s : ℕ) (e : Event) (t : ℕ) (step : Step g s e t) → edge_at g.edges step.0 ≡ arc s e t
@@ -46,7 +44,7 @@ module _ (g : StateGraph) (is : IsGraph g) where
       apart i j before within equal =
           let less : edge_cmp (edge_at g.edges i) (edge_at g.edges j) ≡ Less =
           in_order g.edges is.ordered i j no_edge before within in
-          let itself = tied_itself edge_total (edge_at g.edges j) in
+          let itself = tied_itself edges_total (edge_at g.edges j) in
           let P : Edge → Type 0 = λ a. edge_cmp a (edge_at g.edges j) ≡ Less in
           let never : edge_cmp (edge_at g.edges j) (edge_at g.edges j) ≡ Less = subst P equal less in
           cc
@@ -61,8 +59,8 @@ module _ (g : StateGraph) (is : IsGraph g) where
         let b = edge_at g.edges y in
         let moved : Step g b.from b.event a.to =
         subst (λ (e : Event). Step g b.from e a.to) event
-        (subst (λ (s : ℕ). Step g s a.event a.to) from (step_at x one)) in
-        let to : a.to ≡ b.to = det b.from b.event a.to b.to moved (step_at y two) in
+        (subst (λ (s : ℕ). Step g s a.event a.to) from (step_at g x one)) in
+        let to : a.to ≡ b.to = det b.from b.event a.to b.to moved (step_at g y two) in
         one_place x y one two (λ i. record { from = from i; event = event i; to = to i })
 
     -- ---- the states are split by the sources of a class of arcs
@@ -176,7 +174,7 @@ module _ (g : StateGraph) (is : IsGraph g) where
                 let x = source_from t there in
                 let e = (edge_at g.edges x.0).event in
                 let step : Step g t e (edge_at g.edges x.0).to =
-                subst (λ (v : ℕ). Step g v e (edge_at g.edges x.0).to) x.3 (step_at x.0 x.1) in
+                subst (λ (v : ℕ). Step g v e (edge_at g.edges x.0).to) x.3 (step_at g x.0 x.1) in
                 let other = step_from_enables g u e
                 (sym (keeps.events t u e here) ∙ enables-step g t e (edge_at g.edges x.0).to step) in
                 let y = other.1.0 in
@@ -191,7 +189,7 @@ module _ (g : StateGraph) (is : IsGraph g) where
                 let y = source_from u there in
                 let e = (edge_at g.edges y.0).event in
                 let step : Step g u e (edge_at g.edges y.0).to =
-                subst (λ (v : ℕ). Step g v e (edge_at g.edges y.0).to) y.3 (step_at y.0 y.1) in
+                subst (λ (v : ℕ). Step g v e (edge_at g.edges y.0).to) y.3 (step_at g y.0 y.1) in
                 let other = step_from_enables g t e
                 (keeps.events t u e here ∙ enables-step g u e (edge_at g.edges y.0).to step) in
                 let x = other.1.0 in
@@ -312,9 +310,9 @@ module _ (g : StateGraph) (is : IsGraph g) where
           let before = r.arcs_coarse related keeps x y one two event ends in
           let e = (edge_at g.edges y).event in
           let first : Step g (edge_at g.edges x).from e (edge_at g.edges x).to =
-          subst (λ (f : Event). Step g (edge_at g.edges x).from f (edge_at g.edges x).to) event (step_at x one) in
+          subst (λ (f : Event). Step g (edge_at g.edges x).from f (edge_at g.edges x).to) event (step_at g x one) in
           let heads = keeps.steps (edge_at g.edges x).from (edge_at g.edges y).from e (edge_at g.edges x).to
-          (edge_at g.edges y).to ends first (step_at y two) in
+          (edge_at g.edges y).to ends first (step_at g y two) in
           let one_class = r.states_coarse related keeps (edge_at g.edges x).to (edge_at g.edges y).to
           (to_within x one) (to_within y two) heads in
           split.together x y (arc_size x one) (arc_size y two) before (
@@ -363,7 +361,7 @@ module _ (g : StateGraph) (is : IsGraph g) where
                 let own : Step g u e (edge_at g.edges y).to =
                 subst (λ (f : Event). Step g u f (edge_at g.edges y).to) (sym m.by_event ∙ event)
                 (subst (λ (w : ℕ). Step g w (edge_at g.edges y).event (edge_at g.edges y).to) m.out_of
-                (step_at y m.within)) in
+                (step_at g y m.within)) in
                 elim (r.arcs_follow x y step.1 m.within one_class) [
                   | inl heads ↦ ((edge_at g.edges y).to, own, ap (class_at s) (sym to) ∙ heads)
                   | inr (inl high) ↦ absurd (

@@ -2,7 +2,7 @@
 
 ghost use Rattle.std.specs.Prelude.{◌≡◌, ◌<◌, ◌≤◌, All, IfOk, length, map};
 ghost use Rattle.si_base.specs.Codes.{code};
-ghost use Rattle.si_graph.specs.Renaming.{renamed};
+ghost use Rattle.si_graph.specs.Loops.Renaming.{renamed};
 ghost use Rattle.si_fold.specs.Folded.{AreClasses, IsFolded};
 
 use crate::numbering::{Numbering, numbered};

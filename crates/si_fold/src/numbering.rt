@@ -4,9 +4,9 @@ ghost use Rattle.std.specs.Prelude.{◌≡◌, ◌≢◌, ◌≤◌, ◌++◌, �
 ghost use Rattle.std.specs.Prelude.{unwrap_or};
 ghost use Rattle.std.specs.BTreeMap.{get};
 ghost use Rattle.si_fold.specs.Folded.{AreClasses};
-ghost use Rattle.si_fold.specs.Numbered.{key_cmp};
-ghost use Rattle.si_fold.specs.Partition.{shape};
-ghost use Rattle.si_fold.specs.Refined.{AreRefined};
+ghost use Rattle.si_fold.specs.Loops.Numbered.{key_cmp};
+ghost use Rattle.si_fold.specs.Loops.Partition.{shape};
+ghost use Rattle.si_fold.specs.Loops.Refined.{AreRefined};
 ghost use Rattle.si_fold.specs.declared.numbering.Key.{Key};
 
 use crate::partition::Partition;

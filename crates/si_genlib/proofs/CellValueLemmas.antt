@@ -13,6 +13,7 @@ use Rattle.si_base.specs.Netlist.{Sum, literal_value, sum_value}
 use Rattle.si_base.specs.WellFormed.{IsCube, IsSum}
 use Rattle.si_cube.specs.Covers.{IsPrimeCover}
 use Rattle.si_words.specs.Names.{stands_in}
+use Rattle.si_words.proofs.NameWords.{same_bytes}
 use Rattle.si_tokens.specs.declared.fault.Stop.{Stop}
 use Rattle.si_genlib.specs.declared.symbol.Symbol.{Symbol}
 use Rattle.si_tokens.specs.Unread.{◌>>=◌, Unread, Piece, tokens}
@@ -21,7 +22,7 @@ use Rattle.si_genlib.specs.Expression.{is_name, is_constant, step, led, read}
 use Rattle.si_genlib.specs.Gate.{Gate, Pins, no_pins, with_pin, with_token, pins_from, ends_expression, pin_count}
 use Rattle.si_genlib.specs.Gate.{width, place, gate_value, demand, sum_of, cell_of}
 use Rattle.si_genlib.specs.Statements.{name_at, decimal_at, out_at, equals_at, body_at, gate_at}
-use Rattle.si_genlib.proofs.ExpressionReads.{stands_push, first_there, same_bytes, name_not_end, goes_not_end}
+use Rattle.si_genlib.proofs.ExpressionReads.{stands_push, first_there, name_not_end, goes_not_end}
 use Rattle.si_genlib.proofs.ExpressionOverValues.{result_of, value_read}
 use Rattle.si_genlib.proofs.DemandLemmas.{prime_cover, sum_well_formed, same_value}
 use Rattle.si_genlib.proofs.GateCellLemmas.{Holds}

@@ -8,7 +8,7 @@ use Rattle.std.proofs.lemmas.List.{append-nil, get_or_default}
 use Rattle.std.proofs.lemmas.List.Elements.{All-nil, All-push, All-weaker, All-filter, All-contains, filter_passes}
 use Rattle.std.proofs.lemmas.List.Kept.{IsNonDecreasingBy-filter}
 use Rattle.std.proofs.lemmas.List.Sorted.{IsNonDecreasingBy-push}
-use Rattle.std.proofs.lemmas.Nat.{pow-add, pow_below}
+use Rattle.std.proofs.lemmas.Nat.{pow_below}
 use Rattle.std.proofs.lemmas.Nat.Bits.{bit_at_cat_low}
 use mathlib.Core.Bool.{beq}
 use Rattle.si_base.specs.declared.ids.Literal.{Literal}
@@ -16,15 +16,17 @@ use Rattle.si_base.specs.Bits.{bit}
 use Rattle.si_base.specs.Netlist.{Sum, literal_value, sum_value}
 use Rattle.si_base.specs.WellFormed.{IsCube, IsSum}
 use Rattle.si_base.proofs.OrderAscending.{In}
+use Rattle.si_base.proofs.StepCodes.{no_bit}
+use Rattle.si_base.proofs.OrderLemmas.{in_contains}
+use Rattle.si_base.proofs.GivenGraphUnique.{contains_from_in}
 use Rattle.si_cube.specs.Covers.{IsMeetable, IsPrimeCover, without}
 use Rattle.si_cube.specs.Rule.{covers}
-use Rattle.si_cube.proofs.CubeFacts.{no_bit}
-use Rattle.si_cube.proofs.NeededLemmas.{in_left, in_right, in_from_Contains, Contains_from_in, all_in, all_from_in}
+use Rattle.si_cube.proofs.NeededLemmas.{in_left, in_right, all_in, all_from_in, in_kept}
 use Rattle.si_cube.proofs.NeededLemmas.{any_from_in}
 use Rattle.si_cube.proofs.RuleLemmas.{chosen_is_prime_cover}
 use Rattle.si_cube.proofs.SumLemmas.{chosen_is_sum}
 use Rattle.si_genlib.specs.Gate.{below, falls_at, falls, demand, sum_of}
-use Rattle.si_genlib.proofs.ValueLemmas.{any_below, filter_push, shifted}
+use Rattle.si_genlib.proofs.ValueLemmas.{any_below, filter_push, shifted, double}
 
 -- ---- the numbers below one
 pub below_small : (n : ℕ) → All (λ k. k < n) (below n)
@@ -45,13 +47,6 @@ in_below (suc n) k less = elim (cases_lt k n) [
 ]
 
 -- ---- what a test keeps
-in_filter : {A : Type 0} (p : A → Bool) (xs : List A) (x : A) → In x xs → p x ≡ true → In x (filter p xs)
-in_filter p [] x here holds = absurd here
-in_filter p (y ∷ xs) x (inl same) holds = let at : p y ≡ true = ap p (sym same) ∙ holds in rw at (inl same)
-in_filter p (y ∷ xs) x (inr later) holds = elim (cases_Bool (p y)) [
-  | inl keeps ↦ rw keeps (inr (in_filter p xs x later holds))
-  | inr drops ↦ rw drops (in_filter p xs x later holds)
-]
 
 in_from_filter : {A : Type 0} (p : A → Bool) (xs : List A) (x : A) → In x (filter p xs) → In x xs
 in_from_filter p [] x here = here
@@ -65,7 +60,7 @@ in_from_filter {A} p (y ∷ xs) x here = elim (cases_Bool (p y)) [
     by_place (inr later) rest = inr (rest later)
 
 kept_from : (p : ℕ → Bool) (n k : ℕ) → k < n → p k ≡ true → Contains (filter p (below n)) k
-kept_from p n k less holds = Contains_from_in (filter p (below n)) k (in_filter p (below n) k (in_below n k less) holds)
+kept_from p n k less holds = contains_from_in (filter p (below n)) k (in_kept p (below n) k (in_below n k less) holds)
 
 kept_tells : (p : ℕ → Bool) (n k : ℕ) → Contains (filter p (below n)) k → p k ≡ true
 kept_tells p n k there = All-contains (λ j. p j ≡ true) (filter p (below n)) k (filter_passes p (below n)) there
@@ -138,11 +133,11 @@ with_literal : (n : ℕ) (cube : List Literal) (l : Literal) (k : ℕ) → IsCub
 with_literal n cube l k is has others holds = all_from_in (literal_value k) cube (λ m here.
     elim (cases_Bool (m.sig == l.sig)) [
       | inl same ↦ (
-          let one : l ≡ m = one_literal n cube l m is (Contains_from_in cube l has) (Contains_from_in cube m here)
+          let one : l ≡ m = one_literal n cube l m is (contains_from_in cube l has) (contains_from_in cube m here)
           (eqb-true m.sig l.sig same) in
           subst (λ (x : Literal). literal_value k x ≡ true) one holds)
       | inr apart ↦ all_in (literal_value k) (without l.sig cube) others m
-          (in_filter (λ x. not (x.sig == l.sig)) cube m here (ap not apart))
+          (in_kept (λ x. not (x.sig == l.sig)) cube m here (ap not apart))
     ])
 
 -- without its literal of the last signal a cube covers a code alike at both values of that signal
@@ -152,20 +147,17 @@ either_last n k cube is all = all_from_in (literal_value k) (without n cube) (λ
     let inside : In m cube = in_from_filter (λ x. not (x.sig == n)) cube m here in
     let apart : not (m.sig == n) ≡ true = filter_holds m here in
     let there : m.sig < n + 1 = All-contains (λ (l : Literal). l.sig < n + 1) cube m is.there
-    (Contains_from_in cube m inside) in
+    (contains_from_in cube m inside) in
     let small : m.sig < n = by_test m.sig there (not-true (m.sig == n) apart) in
     let same : bit (1 * 2 ^ n + k) m.sig ≡ bit k m.sig = ap (λ (b : ℕ). b == 1) (bit_at_cat_low 1 n k m.sig small) in
     ap (λ (b : Bool). beq b m.plain) (sym same) ∙ all_in (literal_value (1 * 2 ^ n + k)) (without n cube) all m here))
   where
     filter_holds : (m : Literal) → In m (without n cube) → not (m.sig == n) ≡ true
     filter_holds m here = All-contains (λ x. not (x.sig == n) ≡ true) (without n cube) m
-        (filter_passes (λ x. not (x.sig == n)) cube) (Contains_from_in (without n cube) m here)
+        (filter_passes (λ x. not (x.sig == n)) cube) (contains_from_in (without n cube) m here)
 
     by_test : (s : ℕ) → s < n + 1 → (s == n) ≡ false → s < n
     by_test s less apart = let other : s ≢ n = eqb-false s n apart in omega (arith, less, other)
-
-double : (n : ℕ) → 2 ^ (n + 1) ≡ 2 ^ n + 2 ^ n
-double n = let e = pow-add 2 n 1 in omega (arith, e)
 
 -- what holds of a code where a complemented literal of the own output is needed
 record IsLow (n : ℕ) (value : ℕ → Bool) (j : ℕ) : Type 0 where
@@ -193,8 +185,8 @@ plain_own n value rises cube l there has at = elim (cases_Bool l.plain) [
     covered : (k : ℕ) → k < 2 ^ (n + 1) → covers (without l.sig cube) k ≡ true → literal_value k l ≡ true → value k
         ≡ true
     covered k fits others holds = sym (same_value (n + 1) value k fits)
-        ∙ any_from_in (λ c. covers c k) sum cube (in_from_Contains sum cube there)
-        (with_literal (n + 1) cube l k is (in_from_Contains cube l has) others holds)
+        ∙ any_from_in (λ c. covers c k) sum cube (in_contains sum cube there)
+        (with_literal (n + 1) cube l k is (in_contains cube l has) others holds)
 
     -- at a forbidden code that the cube covers without the literal
     at_code : l.plain ≡ false → (k : ℕ) → k < 2 ^ (n + 1) → value k ≡ false → covers (without l.sig cube) k ≡ true → ⊥

@@ -10,6 +10,7 @@ use Rattle.si_base.specs.Words.{is_name_byte}
 use Rattle.si_words.specs.Names.{stands_in}
 use Rattle.si_cell.specs.Limits.{max_pins}
 use Rattle.si_base.specs.declared.fault.TextKind.{TextKind}
+use Rattle.si_words.proofs.NameWords.{same_bytes, bytes_swap}
 use Rattle.si_tokens.specs.declared.fault.Stop.{Stop}
 use Rattle.si_tokens.specs.declared.fault.Stop.TheVariants.{Fault}
 use Rattle.si_genlib.specs.declared.symbol.Symbol.{Symbol}
@@ -22,7 +23,7 @@ use Rattle.si_genlib.specs.Expression.{Operations, State, Outcome, Goes, Ends, S
 use Rattle.si_genlib.specs.Expression.{symbol, opened, due, closed, ended, still, all_terms, next_factor, step_at, step}
 use Rattle.si_genlib.specs.Expression.{led, read}
 use Rattle.si_genlib.specs.Gate.{no_pins, Pins, with_pin, with_token, ends_expression, pins_from}
-use Rattle.si_genlib.specs.Tables.{tables, slot, variable}
+use Rattle.si_genlib.specs.Loops.Tables.{tables, slot, variable}
 
 -- ---- names among pins
 pub stands_push : (names : List (List ℕ)) (n m : List ℕ) → stands_in (names ++ n ∷ []) m
@@ -76,15 +77,6 @@ pub record IsLawful (out : List ℕ) (pins : Pins) : Type 0 where
 abbrev pub IsPlaced : List ℕ → Pins → List ℕ → Type 0
 IsPlaced out pins name = (stands_in pins.names name ≡ true) ⊎ ((name ≡ out) ⊎ (max_pins ≤ length pins.names))
 
-apart_too : (a b : List ℕ) → bytes_eq a b ≡ false → bytes_eq b a ≡ false
-apart_too a b apart = elim (cases_Bool (bytes_eq b a)) [
-  | inl same ↦ absurd (true≢false (sym ((bytes_eq-Decides a b).1 (sym ((bytes_eq-Decides b a).0 same))) ∙ apart))
-  | inr fine ↦ fine
-]
-
-pub same_bytes : (a : List ℕ) → bytes_eq a a ≡ true
-same_bytes a = (bytes_eq-Decides a a).1 refl
-
 added : (out : List ℕ) (pins : Pins) (name : List ℕ) → IsLawful out pins
     → IsLawful out (with_pin out pins name) × IsPlaced out (with_pin out pins name) name
 added out pins name ok = elim (cases_Bool (bytes_eq name out)) [
@@ -100,7 +92,7 @@ added out pins name ok = elim (cases_Bool (bytes_eq name out)) [
           rw (apart, new, room) (
             record {
               few = omega (arith, space, length_push pins.names name);
-              other = rw (stands_push pins.names name out, ok.other) (apart_too name out apart);
+              other = rw (stands_push pins.names name out, ok.other) (bytes_swap name out apart);
             },
             inl (rw (stands_push pins.names name name, new) (same_bytes name)),
           )
@@ -132,7 +124,7 @@ kept out pins other name ok placed = elim (cases_Bool (bytes_eq other out)) [
     by_place (inr (inl is)) apart room =
         let before : stands_in pins.names name ≡ false = rw is ok.other in
         let behind : stands_in (pins.names ++ other ∷ []) name ≡ false =
-        rw (stands_push pins.names other name, before, is) (apart_too other out apart) in
+        rw (stands_push pins.names other name, before, is) (bytes_swap other out apart) in
         (slot_none (pins.names ++ other ∷ []) name behind ∙ sym (slot_none pins.names name before), inr (inl is))
     by_place (inr (inr full)) apart room = absurd (omega (arith, full, room))
 

@@ -1,8 +1,8 @@
 -- What a kept gate becomes is a cell of a library.
 use Rattle.std.proofs.Common.{◌≡◌, ◌≢◌, ℕ, ◌+◌, ◌<◌, ◌≤◌, Bool, true, false, if◌then◌else◌, List, [], ◌∷◌, ◌++◌, length}
 use Rattle.std.proofs.Common.{take, get_or, bytes_eq, codes, nat_le, All, AllPairs, IsTrue, Result, Ok, Err, refl, sym}
-use Rattle.std.proofs.Common.{subst, ◌∙◌, inl, inr, arith}
-use Rattle.std.proofs.lemmas.Bool.{cases_Bool, true≢false, leb-false}
+use Rattle.std.proofs.Common.{subst, ◌∙◌, arith}
+use Rattle.std.proofs.lemmas.Bool.{true≢false, leb-false}
 use Rattle.std.proofs.lemmas.List.{length-take-le, get_or-take}
 use Rattle.std.proofs.lemmas.List.Elements.{All-nil, All-cons, All-take, All-weaker, Contains-get_or}
 use Rattle.std.proofs.lemmas.List.Kept.{AllPairs-cons}
@@ -11,7 +11,7 @@ use Rattle.si_base.specs.Netlist.{Sum}
 use Rattle.si_base.specs.WellFormed.{IsCube, IsSum}
 use Rattle.si_base.specs.Words.{is_signal_name}
 use Rattle.si_base.specs.declared.fault.TextKind.TheVariants.{OwnFalling, TooManyCells}
-use Rattle.si_words.specs.Names.{stands_in}
+use Rattle.si_words.proofs.NameWords.{other_names}
 use Rattle.si_cell.specs.Limits.{max_cells, max_pins}
 use Rattle.si_cell.specs.Library.{own, Cell, IsPinName, IsCell, AreCells}
 use Rattle.si_cell.specs.LibraryText.{names_of}
@@ -47,21 +47,13 @@ all_pin_names = All-cons IsPinName (codes "p1") second (is_pin_name (codes "p1")
     (All-cons IsPinName (codes "p3") fourth (is_pin_name (codes "p3") refl refl)
     (All-cons IsPinName (codes "p4") [] (is_pin_name (codes "p4") refl refl) (All-nil IsPinName))))
 
-differs_from : (name : List ℕ) (names : List (List ℕ)) → stands_in names name ≡ false → All (λ n. name ≢ n) names
-differs_from name [] none = All-nil (λ n. name ≢ n)
-differs_from name (n ∷ names) none = elim (cases_Bool (bytes_eq name n)) [
-  | inl same ↦ absurd (true≢false (rw same at none))
-  | inr apart ↦ All-cons (λ m. name ≢ m) n names (λ same. true≢false (sym (same_name name n same) ∙ apart))
-      (differs_from name names (rw apart at none))
-]
-
 pin_names_distinct : AllPairs (λ x y. x ≢ y) pin_names
 unfolding second third fourth
 pin_names_distinct =
     let R : List ℕ → List ℕ → Type 0 = λ x y. x ≢ y in
-    AllPairs-cons R (codes "p1") second (differs_from (codes "p1") second refl)
-    (AllPairs-cons R (codes "p2") third (differs_from (codes "p2") third refl)
-    (AllPairs-cons R (codes "p3") fourth (differs_from (codes "p3") fourth refl)
+    AllPairs-cons R (codes "p1") second (other_names (codes "p1") second refl)
+    (AllPairs-cons R (codes "p2") third (other_names (codes "p2") third refl)
+    (AllPairs-cons R (codes "p3") fourth (other_names (codes "p3") fourth refl)
     (AllPairs-cons R (codes "p4") [] (All-nil (R (codes "p4")))
     (λ i j d order within. absurd (omega (arith, within))))))
 

@@ -9,7 +9,7 @@ use Rattle.si_base.specs.declared.fault.TextKind.TheVariants.{OwnFalling, TooMan
 use Rattle.si_tokens.specs.declared.fault.Stop.TheVariants.{Fault}
 use Rattle.si_genlib.specs.Gate.{Gate, bits_of, pin_count, width, gate_value, falls, sum_of, cell_name, pin_names}
 use Rattle.si_genlib.specs.Gate.{cell_of, with_gate}
-use Rattle.si_genlib.specs.Tables.{TabledGate, tabled, table_value}
+use Rattle.si_genlib.specs.Loops.Tables.{TabledGate, tabled, table_value}
 use Rattle.si_genlib.proofs.ValueLemmas.{value_is, filter_same, falls_same}
 
 second : {A : Type 0} (a b c : Bool) (x y z w : A) → a ≡ false → b ≡ true

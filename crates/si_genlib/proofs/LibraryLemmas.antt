@@ -1,10 +1,9 @@
 -- What a text without fault spells is a library.
-use Rattle.std.proofs.Common.{◌≡◌, ℕ, zero, suc, ◌&&◌, List, [], bytes_eq, codes, Result, Ok, Err, refl, inl, inr}
-use Rattle.std.proofs.Common.{arith}
+use Rattle.std.proofs.Common.{◌≡◌, ℕ, zero, suc, ◌&&◌, List, bytes_eq, codes, Result, Ok, Err, refl, inl, inr}
 use Rattle.std.proofs.lemmas.Bool.{cases_Bool}
-use Rattle.std.proofs.lemmas.List.Elements.{All-nil}
 use Rattle.si_words.specs.Sums.{is_empty}
-use Rattle.si_cell.specs.Library.{Cell, IsCell, AreCells, IsLibrary}
+use Rattle.si_cell.specs.Library.{Cell, AreCells, IsLibrary}
+use Rattle.si_cell.proofs.LawLemmas.{no_cells}
 use Rattle.si_tokens.specs.declared.fault.Stop.{Stop}
 use Rattle.si_tokens.specs.Unread.{Unread, Piece, unread, size, word}
 use Rattle.si_genlib.specs.Gate.{Gate, with_gate}
@@ -13,13 +12,6 @@ use Rattle.si_genlib.specs.Statements.{statement_at, cells_from}
 use Rattle.si_genlib.specs.GenlibText.{all_cells, cells_or_none, library_of}
 use Rattle.si_genlib.proofs.GateCellLemmas.{IsReadGate, Holds, still_cells}
 use Rattle.si_genlib.proofs.GateReadLemmas.{then_holds, anything, gate_is_read}
-
-pub no_cells : AreCells []
-no_cells = record {
-  each = All-nil IsCell;
-  distinct = λ i j d order within. absurd (omega (arith, within));
-  few = omega arith;
-}
 
 -- what holds of the cells so far
 abbrev HasCells : Progress × Unread → Type 0

@@ -6,7 +6,7 @@ use Rattle.si_base.specs.Words.{line, text_of}
 use Rattle.si_cell.specs.Library.{Cell, Library}
 use Rattle.si_genlib.specs.Written.{cell_line, library_text, signals_in}
 use Rattle.si_words.proofs.WritingLemmas.{joined_words}
-use Rattle.si_words.specs.Writing.{spaced}
+use Rattle.si_words.specs.Loops.Writing.{spaced}
 
 -- the pins from the i-th on
 abbrev pub pins_from : List (List ℕ) → ℕ → List ℕ

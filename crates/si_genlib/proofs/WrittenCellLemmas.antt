@@ -1,87 +1,41 @@
 -- The line of a cell has no fault, and spells that cell.
-use Rattle.std.proofs.Common.{IsTrue, ◌||◌, option_map, if◌then◌else◌, ◌≡◌, ◌≢◌, ℕ, suc, ◌+◌, ◌<◌, ◌≤◌, Bool, true}
-use Rattle.std.proofs.Common.{false, List, [], ◌∷◌, ◌++◌, length, drop, get_or, All, AllPairs, refl, sym, ap, ap₂}
-use Rattle.std.proofs.Common.{subst, ◌∙◌, inl, inr, arith, append_assoc, codes, bytes_eq, nat_le, nat_lt, position}
-use Rattle.std.proofs.Common.{unwrap_or, Option, Some, None, eqb-true}
-use Rattle.std.proofs.lemmas.Bool.{true≢false, and_parts, and_from, or_cases, or_from, lt-ltb, lt-leb, leb-true, le-leb}
+use Rattle.std.proofs.Common.{IsTrue, option_map, if◌then◌else◌, ◌≡◌, ◌≢◌, ℕ, suc, ◌+◌, ◌<◌, ◌≤◌, Bool, true}
+use Rattle.std.proofs.Common.{false, List, [], ◌∷◌, ◌++◌, length, get_or, All, AllPairs, refl, sym, ap, ap₂}
+use Rattle.std.proofs.Common.{subst, ◌∙◌, arith, append_assoc, codes, bytes_eq, nat_le, nat_lt, position}
+use Rattle.std.proofs.Common.{unwrap_or, Option, Some, None}
+use Rattle.std.proofs.lemmas.Bool.{true≢false, and_from, or_from, lt-ltb, lt-leb}
 use Rattle.std.proofs.lemmas.Bool.{false_from_ne_true}
 use Rattle.std.proofs.lemmas.List.{length_push, length-append, map-append, take_at, get_or_at, get_or_append_left}
 use Rattle.std.proofs.lemmas.List.Elements.{All-push, recursion_from_All}
 use Rattle.std.proofs.lemmas.List.Folds.{list_all-append, list_any_none}
 use Rattle.std.proofs.lemmas.List.Quantifiers.{all_pairs_push}
 use Rattle.std.specs.List.{AllByRecursion, list_all, list_any}
-use Rattle.si_base.proofs.WordLemmas.{excludes}
 use Rattle.si_base.specs.declared.graph.Signal.{Signal}
 use Rattle.si_base.specs.declared.graph.SigKind.TheVariants.{Input}
 use Rattle.si_base.specs.declared.ids.Literal.{Literal}
 use Rattle.si_base.specs.Faults.{first_after}
 use Rattle.si_base.specs.GivenGraph.{signals_of}
-use Rattle.si_base.specs.Graph.{name_of}
+use Rattle.si_base.specs.Graph.{name_of, names_in}
 use Rattle.si_base.specs.Netlist.{Sum}
 use Rattle.si_base.specs.NetlistText.{literal_word, sum_words}
 use Rattle.si_base.specs.WellFormed.{IsCube}
-use Rattle.si_base.specs.Words.{is_between, is_letter, is_name_byte, is_word_byte, is_signal_name}
+use Rattle.si_base.specs.Words.{is_word_byte, is_signal_name}
 use Rattle.si_words.specs.Names.{stands_in}
 use Rattle.si_words.specs.Sums.{cut_at, len_before}
-use Rattle.si_cell.specs.CellWords.{CellWords, around, cell_words, pin_fault, cell_fault, cell_of, declared, literal_of}
+use Rattle.si_words.specs.GateLines.{literal_of}
+use Rattle.si_cell.specs.CellWords.{CellWords, around, cell_words, pin_fault, cell_fault, cell_of, declared}
 use Rattle.si_cell.specs.CellWords.{sum_of, sum_fault}
 use Rattle.si_cell.specs.Library.{Cell, IsCell, IsPinName, own}
 use Rattle.si_cell.specs.Limits.{max_cells, max_pins}
 use Rattle.si_cell.proofs.CubeLemmas.{same_name, names_same}
 use Rattle.si_genlib.specs.Written.{cell_line, signals_in}
 use Rattle.si_words.proofs.WrittenLineLemmas.{IsWord, AreWords}
-use Rattle.si_genlib.proofs.WrittenSumLemmas.{AreNames, SumFits, names_in, place, good_name, literal_spelled, of_sum}
+use Rattle.si_words.proofs.SumWordLemmas.{behind}
+use Rattle.si_words.proofs.NameWords.{name_word}
+use Rattle.si_genlib.proofs.WrittenSumLemmas.{AreNames, SumFits, place, good_name, literal_spelled, of_sum}
 use Rattle.si_genlib.proofs.WrittenSumLemmas.{sum_good, sum_is, sum_spelled}
 
 -- ---- names are words
-
-narrow : (low high b : ℕ) → nat_le 33 low ≡ true → nat_le high 126 ≡ true → is_between low high b ≡ true
-    → is_between 33 126 b ≡ true
-narrow low high b above below is =
-    let parts = and_parts (nat_le low b) (nat_le b high) is in
-    let first : 33 ≤ low = leb-true 33 low above in
-    let last : high ≤ 126 = leb-true high 126 below in
-    let one : low ≤ b = leb-true low b parts.0 in
-    let other : b ≤ high = leb-true b high parts.1 in
-    and_from _ _ (le-leb 33 b (omega arith)) (le-leb b 126 (omega arith))
-
-visible_letter : (b : ℕ) → is_letter b ≡ true → is_between 33 126 b ≡ true
-visible_letter b is = elim (or_cases _ _ is) [
-  | inr line ↦ rw (eqb-true b 95 line) refl
-  | inl two ↦ elim (or_cases _ _ two) [
-    | inl upper ↦ narrow 65 90 b refl refl upper
-    | inr lower ↦ narrow 97 122 b refl refl lower
-  ]
-]
-
--- a letter or a digit, or one of five other bytes
-visible : (b : ℕ) → is_name_byte b ≡ true → is_between 33 126 b ≡ true
-visible b is = or_else (λ e. rw (eqb-true b 62 e) refl) (or_else (λ e. rw (eqb-true b 60 e) refl)
-    (or_else (λ e. rw (eqb-true b 93 e) refl) (or_else (λ e. rw (eqb-true b 91 e) refl)
-    (or_else (λ e. rw (eqb-true b 46 e) refl) (or_else (narrow 48 57 b refl refl) (visible_letter b)))))) is
-  where
-    or_else : {p q : Bool} {A : Type 0} → (q ≡ true → A) → (p ≡ true → A) → (p || q) ≡ true → A
-    or_else {p = p} {q = q} right left is = elim (or_cases p q is) [ inl e ↦ left e | inr e ↦ right e ]
-
-word_byte : (b : ℕ) → is_name_byte b ≡ true → is_word_byte b ≡ true
-word_byte b is = rw (
-  visible b is,
-  excludes is_name_byte 35 b refl is,
-  excludes is_name_byte 123 b refl is,
-  excludes is_name_byte 125 b refl is,
-) refl
-
-word_bytes : (bs : List ℕ) → list_all is_name_byte bs ≡ true → list_all is_word_byte bs ≡ true
-word_bytes [] are = refl
-word_bytes (b ∷ bs) are =
-    let each = and_parts (is_name_byte b) (list_all is_name_byte bs) are in
-    and_from _ _ (word_byte b each.0) (word_bytes bs each.1)
-
-pub name_is_word : (name : List ℕ) → is_signal_name name ≡ true → IsWord name
-name_is_word [] is = absurd (true≢false (sym is))
-name_is_word (b ∷ bs) is =
-    let each = and_parts (is_letter b) (list_all is_name_byte bs) is in
-    word_bytes (b ∷ bs) (rw (each.0, each.1) refl)
 
 joined : (xs ys : List ℕ) → list_all is_word_byte xs ≡ true → list_all is_word_byte ys ≡ true
     → list_all is_word_byte (xs ++ ys) ≡ true
@@ -134,10 +88,6 @@ len_at mark (x ∷ xs) ys unlike = rw (unlike.0, len_at mark xs ys unlike.1) (ne
   where
     next : (n : ℕ) → 1 + n ≡ suc n
     next n = omega arith
-
-behind : (xs ys : List (List ℕ)) (mark : List ℕ) → drop (length xs + 1) (xs ++ mark ∷ ys) ≡ ys
-behind [] ys mark = refl
-behind (x ∷ xs) ys mark = let e : suc (length xs) + 1 ≡ suc (length xs + 1) = omega arith in rw e (behind xs ys mark)
 
 cut_made : (mark : List ℕ) (xs ys : List (List ℕ)) → AllByRecursion (λ w. bytes_eq mark w ≡ false) xs
     → cut_at mark (xs ++ mark ∷ ys) ≡ Some (xs, ys)
@@ -289,7 +239,7 @@ module _ (cell : Cell) (is : IsCell cell) where
   line_words = (
     refl,
     (
-      name_is_word cell.name is.name,
+      name_word cell.name is.name,
       pins_then cell.pins (recursion_from_All IsPinName cell.pins is.pins)
           (refl, of_sum IsWord signals refl cell.sum refl refl (by_cubes cell.sum fits)),
     ),
@@ -298,13 +248,13 @@ module _ (cell : Cell) (is : IsCell cell) where
       pins_then : (pins : List (List ℕ)) → AllByRecursion IsPinName pins → AreWords (codes "=" ∷ sum)
           → AreWords (pins ++ codes "=" ∷ sum)
       pins_then [] are later = later
-      pins_then (pin ∷ pins) are later = (name_is_word pin are.0.signal_name, pins_then pins are.1 later)
+      pins_then (pin ∷ pins) are later = (name_word pin are.0.signal_name, pins_then pins are.1 later)
 
       by_literals : (ls : List Literal) → AllByRecursion (λ (l : Literal). l.sig < length (names_in signals)) ls
           → AllByRecursion (λ (l : Literal). IsWord (literal_word signals l)) ls
       by_literals [] there = tt
       by_literals (l ∷ ls) there = (
-        signed_is_word (name_of signals l.sig) l.plain (name_is_word (name_of signals l.sig)
+        signed_is_word (name_of signals l.sig) l.plain (name_word (name_of signals l.sig)
             (good_name signals names_good l.sig there.0)),
         by_literals ls there.1,
       )

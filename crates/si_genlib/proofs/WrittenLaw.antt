@@ -15,9 +15,10 @@ use Rattle.si_cell.specs.Limits.{max_cells}
 use Rattle.si_cell.specs.LibraryText.{names_of, cell_line_fault, spelled, cell_lines_fault, cells_in, lines_fault}
 use Rattle.si_cell.specs.LibraryText.{library_in, library_fault, library_of}
 use Rattle.si_genlib.specs.Written.{cell_line, library_lines, library_text}
-use Rattle.si_genlib.proofs.WrittenCellLemmas.{at_here, is_new, name_is_word, words_cut, line_good, line_spelled}
+use Rattle.si_genlib.proofs.WrittenCellLemmas.{at_here, is_new, words_cut, line_good, line_spelled}
 use Rattle.si_genlib.proofs.WrittenCellLemmas.{line_words}
 use Rattle.si_words.proofs.WrittenLineLemmas.{AreWords, lines_back, lines_in_line, good_line, words_back}
+use Rattle.si_words.proofs.NameWords.{name_word}
 
 -- the lines with these words, from the n-th on
 abbrev written : ℕ → List (List (List ℕ)) → List Line
@@ -83,7 +84,7 @@ module _ (library : Library) (is : IsLibrary library) where
   head = codes ".library" ∷ library.name ∷ []
 
   head_words : AreWords head
-  head_words = (refl, (name_is_word library.name is.name, tt))
+  head_words = (refl, (name_word library.name is.name, tt))
 
   cells_words : (cells : List Cell) → AllByRecursion IsCell cells → AllByRecursion AreWords (map cell_line cells ++ end)
   cells_words [] are = ((refl, tt), tt)

@@ -1,13 +1,15 @@
 -- The literals of a cube are in literal order already.
-use Rattle.std.proofs.Common.{◌≡◌, ℕ, zero, suc, ◌+◌, ◌<◌, ◌≤◌, ◌||◌, Bool, true, false, not, List, [], ◌∷◌, length}
+use Rattle.std.proofs.Common.{◌≡◌, ℕ, zero, suc, ◌+◌, ◌<◌, ◌≤◌, Bool, true, false, not, List, [], ◌∷◌, length}
 use Rattle.std.proofs.Common.{filter, get_or, refl, ap, ap₂, ◌∙◌, inl, inr, arith}
 use Rattle.std.proofs.lemmas.Bool.Decides.{eqb_tells}
 use Rattle.std.proofs.lemmas.List.Elements.{recursion_from_All}
 use Rattle.std.specs.List.{AllByRecursion}
+use Rattle.std.proofs.Math.Bool.{or-false}
 use mathlib.Core.Bool.{beq}
 use Rattle.si_base.specs.declared.ids.Literal.{Literal}
 use Rattle.si_base.specs.Limits.{code_width}
-use Rattle.si_cell.specs.Literals.{same_literal, has_literal, both_from, in_literal_order, IsRising}
+use Rattle.si_cube.specs.Literals.{InSignalOrder}
+use Rattle.si_cell.specs.Literals.{same_literal, has_literal, both_from, in_literal_order}
 
 -- the signals rise, from the k-th on
 abbrev Rises : ℕ → List Literal → Type 0
@@ -17,7 +19,8 @@ Rises k (l ∷ ls) = (k ≤ l.sig) × Rises (l.sig + 1) ls
 abbrev pub AreBelow : ℕ → List Literal → Type 0
 AreBelow n ls = AllByRecursion (λ (l : Literal). l.sig < n) ls
 
-rises_from : (k : ℕ) (ls : List Literal) → AllByRecursion (λ (l : Literal). k ≤ l.sig) ls → IsRising ls → Rises k ls
+rises_from : (k : ℕ) (ls : List Literal) → AllByRecursion (λ (l : Literal). k ≤ l.sig) ls → InSignalOrder ls
+    → Rises k ls
 rises_from k [] low rising = tt
 rises_from k (l ∷ ls) low rising = (
   low.0,
@@ -57,10 +60,6 @@ no_sign p i rest plain other = rw (plain, other) refl
 its_sign : (l : Literal) (v : Bool) → same_literal (lit l.sig v) l ≡ beq v l.plain
 its_sign l v = elim (eqb_tells l.sig l.sig) [ inl same ↦ rw same.0 refl | inr other ↦ absurd (other.1 refl) ]
 
-or_none : (b : Bool) → (b || false) ≡ b
-or_none true = refl
-or_none false = refl
-
 beq_plain : (v : Bool) → beq true v ≡ v
 beq_plain true = refl
 beq_plain false = refl
@@ -81,7 +80,7 @@ its_signs p i l ls pass same rises v =
     let sign : same_literal (lit i v) l ≡ beq v l.plain =
     ap (λ (s : ℕ). same_literal (lit s v) l) same ∙ its_sign l v in
     let none : has_literal ls (lit i v) ≡ false = absent (lit i v) (i + 1) ls (omega arith) (rw same rises) in
-    pass (lit i v) (omega arith) ∙ rw (sign, none) (or_none (beq v l.plain))
+    pass (lit i v) (omega arith) ∙ rw (sign, none) (or-false (beq v l.plain))
 
 behind_first : (p : Literal → Bool) (i : ℕ) (l : Literal) (ls : List Literal) → Pass p i (l ∷ ls) → i ≡ l.sig
     → Pass p (i + 1) ls
@@ -129,7 +128,7 @@ kept (suc n) i p (l ∷ ls) rises low pass = elim (eqb_tells i l.sig) [
       (one_less n i (l ∷ ls) low) (λ m above. pass m (omega arith)))
 ]
 
-pub in_order : (ls : List Literal) → IsRising ls → AreBelow code_width ls → in_literal_order ls ≡ ls
+pub in_order : (ls : List Literal) → InSignalOrder ls → AreBelow code_width ls → in_literal_order ls ≡ ls
 unfolding in_literal_order
 in_order ls rising below =
     kept code_width 0 (has_literal ls) ls (rises_from 0 ls (low ls) rising) below (λ m from. refl)

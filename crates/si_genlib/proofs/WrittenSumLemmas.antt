@@ -15,34 +15,29 @@ use Rattle.si_base.proofs.WordLemmas.{excludes}
 use Rattle.si_base.specs.declared.ids.Literal.{Literal}
 use Rattle.si_base.specs.declared.graph.Signal.{Signal}
 use Rattle.si_base.specs.Faults.{first_after, first_in}
-use Rattle.si_base.specs.Graph.{name_of}
+use Rattle.si_base.specs.Graph.{name_of, names_in}
 use Rattle.si_base.specs.Limits.{code_width}
 use Rattle.si_base.specs.Netlist.{Sum}
 use Rattle.si_base.specs.NetlistText.{literal_word, cube_words, more_cubes, sum_words}
-use Rattle.si_base.specs.Words.{is_signal_name, is_name_byte, is_letter}
+use Rattle.si_base.specs.Words.{is_signal_name, is_name_byte}
 use Rattle.si_words.proofs.SumWordLemmas.{list_any-map, marked}
-use Rattle.si_words.specs.GateLines.{place_in}
+use Rattle.si_words.specs.GateLines.{place_in, literal_of}
 use Rattle.si_words.specs.Names.{stands_in}
 use Rattle.si_words.specs.Sums.{is_literal, is_cube, is_sum, is_one, literal_name, parts_at}
-use Rattle.si_cell.specs.CellWords.{literal_fault, cube_fault, sum_fault, literal_of, cube_of, sum_of}
-use Rattle.si_cell.specs.Literals.{IsRising, in_literal_order}
+use Rattle.si_words.proofs.NameWords.{name_bytes}
+use Rattle.si_cube.specs.Literals.{InSignalOrder}
+use Rattle.si_cell.specs.CellWords.{literal_fault, cube_fault, sum_fault, cube_of, sum_of}
+use Rattle.si_cell.specs.Literals.{in_literal_order}
 use Rattle.si_cell.proofs.CubeLemmas.{same_name, names_same}
 use Rattle.si_genlib.proofs.WrittenOrderLemmas.{AreBelow, in_order}
 
 -- ---- names, and the words of literals
-
-abbrev pub names_in : List Signal → List (List ℕ)
-names_in signals = map (λ (x : Signal). x.name) signals
 
 -- signal names, each once, few enough for a code
 pub record AreNames (names : List (List ℕ)) : Type 0 where
   pub good : All (λ w. IsTrue (is_signal_name w)) names
   pub distinct : AllPairs (λ x y. x ≢ y) names
   pub few : length names ≤ code_width
-
-name_bytes : (name : List ℕ) → is_signal_name name ≡ true → list_all is_name_byte name ≡ true
-name_bytes [] is = refl
-name_bytes (b ∷ bs) is = let parts = and_parts (is_letter b) (list_all is_name_byte bs) is in rw (parts.0, parts.1) refl
 
 unmarked_name : (name : List ℕ) → list_all is_name_byte name ≡ true → literal_name name ≡ name
 unmarked_name [] all = refl
@@ -158,7 +153,7 @@ module _ (signals : List Signal) (are : AreNames (names_in signals)) where
   are_literals (l ∷ ls) there = and_from _ _ (is_word l there.0) (are_literals ls there.1)
 
   -- ---- no literal has a fault
-  new_name : (before ls : List Literal) (l : Literal) → AreThere (l ∷ []) → IsRising (before ++ l ∷ ls)
+  new_name : (before ls : List Literal) (l : Literal) → AreThere (l ∷ []) → InSignalOrder (before ++ l ∷ ls)
       → All IsThere before
       → list_any (λ w. bytes_eq (literal_name (word l)) (literal_name w)) (map word before) ≡ false
   new_name before ls l there rising each =
@@ -182,19 +177,19 @@ module _ (signals : List Signal) (are : AreNames (names_in signals)) where
   known l there = rw (name_of_word l there) (list_any_at (λ n. bytes_eq (get_or names l.sig []) n) names l.sig []
       there (same_name (get_or names l.sig []) _ refl))
 
-  literals_good : (before ls : List Literal) → All IsThere before → AreThere ls → IsRising (before ++ ls)
+  literals_good : (before ls : List Literal) → All IsThere before → AreThere ls → InSignalOrder (before ++ ls)
       → first_after (literal_fault names) (map word before) (map word ls) ≡ None
   literals_good before [] each there rising = refl
   literals_good before (l ∷ ls) each there rising =
       rw (new_name before ls l (there.0, tt) rising each, known l there.0)
       (subst (λ (b : List (List ℕ)). first_after (literal_fault names) b (map word ls) ≡ None) (map_push word before l)
       (literals_good (before ++ l ∷ []) ls (All-push IsThere before l each there.0) there.1
-      (subst IsRising (sym (append_assoc before (l ∷ []) ls)) rising)))
+      (subst InSignalOrder (sym (append_assoc before (l ∷ []) ls)) rising)))
 
   -- ---- a cube
   pub record CubeFits (cube : List Literal) : Type 0 where
     pub there : AreThere cube
-    pub rising : IsRising cube
+    pub rising : InSignalOrder cube
 
   not_one : (mark : List ℕ) (l : Literal) (ws : List (List ℕ)) → is_literal mark ≡ false → IsThere l
       → is_one mark (word l ∷ ws) ≡ false

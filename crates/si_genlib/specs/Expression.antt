@@ -2,7 +2,8 @@
 use Rattle.std.specs.Prelude.{ℕ, ◌==◌, ◌&&◌, ◌||◌, not, Bool, true, false, List, [], ◌∷◌, length}
 use Rattle.std.specs.Prelude.{nat_le, bytes_eq, codes, if◌then◌else◌, Option, Some, None, Result}
 use Rattle.std.specs.Prelude.{Ok, Err}
-use Rattle.si_base.specs.Bytes.{apostrophe, plus}
+use Rattle.si_base.specs.Bytes.{apostrophe, plus, semicolon, opening_parenthesis, asterisk}
+use Rattle.si_base.specs.Bytes.{closing_parenthesis, exclamation_mark}
 use Rattle.si_base.specs.Lines.{begins}
 use Rattle.si_base.specs.Words.{is_name_byte}
 use Rattle.si_base.specs.declared.fault.TextKind.{TextKind}
@@ -14,8 +15,6 @@ use Rattle.si_genlib.specs.declared.symbol.Symbol.TheVariants.{Leaf, Complement,
 use Rattle.si_genlib.specs.declared.symbol.Symbol.TheVariants.{Open, Close, End, Other}
 use Rattle.si_genlib.specs.declared.symbol.Operator.{Operator}
 use Rattle.si_genlib.specs.declared.symbol.Operator.TheVariants as operators
-use Rattle.si_genlib.specs.Marks.{exclamation_mark, opening_parenthesis, closing_parenthesis}
-use Rattle.si_genlib.specs.Marks.{asterisk, semicolon}
 use Rattle.si_genlib.specs.Limits.{max_unfinished}
 use Rattle.si_tokens.specs.Unread.{Unread, Piece}
 

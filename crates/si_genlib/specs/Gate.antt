@@ -4,7 +4,7 @@ use Rattle.std.specs.Prelude.{length, map, filter, take, ◌==◌, nat_le, bytes
 use Rattle.std.specs.Prelude.{if◌then◌else◌, position, unwrap_or, zero, suc, Result, Ok, Err}
 use Rattle.std.specs.List.{list_any}
 use Rattle.si_base.specs.Bits.{bit}
-use Rattle.si_base.specs.Bytes.{underscore}
+use Rattle.si_base.specs.Bytes.{underscore, semicolon}
 use Rattle.si_base.specs.Netlist.{Sum}
 use Rattle.si_base.specs.Words.{is_name_byte, is_letter}
 use Rattle.si_base.specs.declared.fault.TextKind.TheVariants.{OwnFalling, TooManyCells}
@@ -17,7 +17,6 @@ use Rattle.si_cube.specs.Rule.{chosen}
 use Rattle.si_tokens.specs.declared.fault.Stop.{Stop}
 use Rattle.si_tokens.specs.declared.fault.Stop.TheVariants.{Fault}
 use Rattle.si_tokens.specs.Unread.{Piece}
-use Rattle.si_genlib.specs.Marks.{semicolon}
 use Rattle.si_genlib.specs.Expression.{Tree, truth, value_of, is_name, is_constant}
 
 -- ---- pins

@@ -1,10 +1,8 @@
 pub mod Limits
-pub mod Marks
 pub mod Expression
 pub mod Gate
-pub mod Tables
 pub mod Statements
 pub mod GenlibText
-pub mod Held
 pub mod Grammar
 pub mod Written
+pub mod Loops

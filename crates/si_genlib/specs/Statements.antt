@@ -7,6 +7,7 @@ use Rattle.si_base.specs.Lines.{begins}
 use Rattle.si_base.specs.declared.fault.TextKind.{TextKind}
 use Rattle.si_base.specs.declared.fault.TextKind.TheVariants.{BadGate, BadNumber, BadPin, BadWord}
 use Rattle.si_base.specs.declared.fault.TextKind.TheVariants.{Latch}
+use Rattle.si_base.specs.Bytes.{double_quote}
 use Rattle.si_words.specs.Sums.{is_empty}
 use Rattle.si_cell.specs.Library.{Cell}
 use Rattle.si_tokens.specs.declared.fault.Stop.{Stop}
@@ -14,7 +15,6 @@ use Rattle.si_tokens.specs.declared.fault.Stop.TheVariants.{Cut, Fault}
 use Rattle.si_tokens.specs.Unread.{◌>>=◌, Unread, Piece, to_next, word_here, if_there, word}
 use Rattle.si_tokens.specs.Unread.{word_at, token_at, tokens}
 use Rattle.si_tokens.specs.Decimal.{is_decimal}
-use Rattle.si_genlib.specs.Marks.{double_quote}
 use Rattle.si_genlib.specs.Expression.{trees, start, read, is_name}
 use Rattle.si_genlib.specs.Gate.{Gate, no_pins, pins_from, with_gate}
 

@@ -7,9 +7,9 @@ ghost use Rattle.si_cell.specs.LibraryText.{names_of};
 ghost use Rattle.si_cell.specs.Limits.{max_pins};
 ghost use Rattle.si_genlib.specs.Gate as spec;
 ghost use Rattle.si_genlib.specs.Gate.{Gate as GateValue};
-ghost use Rattle.si_tokens.specs.Parts.{Reads};
-ghost use Rattle.si_genlib.specs.Held.{gate_now};
-ghost use Rattle.si_genlib.specs.Tables.{tabled, table_value};
+ghost use Rattle.si_tokens.specs.Loops.Parts.{Reads};
+ghost use Rattle.si_genlib.specs.Loops.Held.{gate_now};
+ghost use Rattle.si_genlib.specs.Loops.Tables.{tabled, table_value};
 
 use crate::demand::sum_of;
 use crate::gate::Gate;

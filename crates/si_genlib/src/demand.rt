@@ -4,7 +4,7 @@
 ghost use Rattle.std.specs.Prelude.{◌≡◌, ◌+◌, ◌≤◌, ◌^◌, not, filter, IfOk};
 ghost use Rattle.si_cell.specs.Limits.{max_pins};
 ghost use Rattle.si_genlib.specs.Gate as spec;
-ghost use Rattle.si_genlib.specs.Tables.{table_value};
+ghost use Rattle.si_genlib.specs.Loops.Tables.{table_value};
 
 use crate::table::value;
 use si_base::ids::{Code, NoMemory};

@@ -3,8 +3,8 @@
 ghost use Rattle.std.specs.Prelude.{◌≡◌, [], ◌∷◌, MatchOption, reverse, None};
 ghost use Rattle.si_genlib.specs.Expression as spec;
 ghost use Rattle.si_genlib.specs.declared.symbol.Symbol.TheVariants as symbols;
-ghost use Rattle.si_genlib.specs.Held.{state_now, Steps};
-ghost use Rattle.si_genlib.specs.Tables.{tables};
+ghost use Rattle.si_genlib.specs.Loops.Held.{state_now, Steps};
+ghost use Rattle.si_genlib.specs.Loops.Tables.{tables};
 
 use crate::limits::MAX_UNFINISHED;
 use crate::symbol::{Operator, Symbol};

@@ -4,10 +4,10 @@ ghost use Rattle.std.specs.Prelude.{◌≡◌, ◌≤◌, ◌==◌, length, IfOk
 ghost use Rattle.si_cell.specs.Limits.{max_pins};
 ghost use Rattle.si_genlib.specs.Expression as expression;
 ghost use Rattle.si_genlib.specs.Gate.{no_pins, pins_from};
-ghost use Rattle.si_tokens.specs.Parts.{left, Reads};
-ghost use Rattle.si_genlib.specs.Held.{pins_now, gate_now, ToldAt};
+ghost use Rattle.si_tokens.specs.Loops.Parts.{left, Reads};
+ghost use Rattle.si_genlib.specs.Loops.Held.{pins_now, gate_now, ToldAt};
 ghost use Rattle.si_genlib.specs.Statements as text;
-ghost use Rattle.si_genlib.specs.Tables.{tables, with_table};
+ghost use Rattle.si_genlib.specs.Loops.Tables.{tables, with_table};
 ghost use Rattle.si_tokens.specs.Unread.{tokens, word_here};
 
 use crate::expression::Reading;

@@ -1,4 +1,5 @@
-//! The reader of genlib libraries, and the writer of library texts.
+//! Libraries in genlib: the grammar and the values of expressions, the cells that gates become, and
+//! the reader; and the writer of library texts.
 #![tactic(auto)]
 
 mod cell;

@@ -2,8 +2,8 @@
 
 ghost use Rattle.std.specs.Prelude.{◌≡◌};
 ghost use Rattle.si_genlib.specs.GenlibText.{all_cells};
-ghost use Rattle.si_tokens.specs.Parts.{left, piece, Reads};
-ghost use Rattle.si_genlib.specs.Held.{progress_now};
+ghost use Rattle.si_tokens.specs.Loops.Parts.{left, piece, Reads};
+ghost use Rattle.si_genlib.specs.Loops.Held.{progress_now};
 ghost use Rattle.si_genlib.specs.Statements as text;
 
 use crate::cell::keep;

@@ -3,7 +3,7 @@
 ghost use Rattle.std.specs.Prelude.{◌≡◌, ◌+◌, ◌<◌, ◌≤◌, ◌^◌};
 ghost use Rattle.si_cell.specs.Limits.{max_pins};
 ghost use Rattle.si_genlib.specs.Gate as spec;
-ghost use Rattle.si_genlib.specs.Tables.{table_value};
+ghost use Rattle.si_genlib.specs.Loops.Tables.{table_value};
 
 /// The value of a table at the code of so many pins and the own output.
 pub(crate) fn value(count: u32, table: u32, code: u32) -> bool

@@ -5,7 +5,7 @@ ghost use Rattle.si_base.specs.GivenGraph.{signals_of};
 ghost use Rattle.si_base.specs.Words.{line, text_of};
 ghost use Rattle.si_base.specs.declared.graph.SigKind.TheVariants.{Input};
 ghost use Rattle.si_genlib.specs.Written.{cell_line, library_text, signals_in};
-ghost use Rattle.si_words.specs.Writing.{spaced};
+ghost use Rattle.si_words.specs.Loops.Writing.{spaced};
 
 use si_base::graph::{SigKind, Signal};
 use si_base::ids::NoMemory;

@@ -24,12 +24,12 @@ edge_eq_equiv = and_equiv (on_equiv (λ a. a.from) nat_eq_equiv)
     (and_equiv (and_equiv (on_equiv (λ a. a.event.sig) nat_eq_equiv) (on_equiv (λ a. a.event.up) bool_eq_equiv))
     (on_equiv (λ a. a.to) nat_eq_equiv))
 
-is_eq-then : (o p : Ordering) → is_eq (ordering_then o p) ≡ (is_eq o && is_eq p)
+pub is_eq-then : (o p : Ordering) → is_eq (ordering_then o p) ≡ (is_eq o && is_eq p)
 is_eq-then Less p = refl
 is_eq-then Equal p = refl
 is_eq-then Greater p = refl
 
-is_eq-nat : (a b : ℕ) → is_eq (nat_cmp a b) ≡ eqb a b
+pub is_eq-nat : (a b : ℕ) → is_eq (nat_cmp a b) ≡ eqb a b
 is_eq-nat a b = grind (arith, nat_tests)
 
 is_eq-bool : (a b : Bool) → is_eq (bool_cmp b a) ≡ beq a b

@@ -1,59 +1,34 @@
 -- In an ordered list of arcs, those of one source and one event are neighbours.
-use Rattle.std.proofs.Common.{◌≡◌, ℕ, ◌+◌, ◌-◌, ◌<◌, ◌≤◌, ◌==◌, Bool, true, false, List, [], ◌∷◌, length, get_or, refl}
-use Rattle.std.proofs.Common.{sym, ap, ap₂, ◌∙◌, arith, inl, inr, Ordering, Less, Equal, Greater, nat_cmp, eqb-true}
+use Rattle.std.proofs.Common.{◌≡◌, ℕ, ◌+◌, ◌-◌, ◌<◌, ◌≤◌, ◌==◌, true, List, [], ◌∷◌, length, get_or, refl}
+use Rattle.std.proofs.Common.{sym, ap, ap₂, ◌∙◌, arith, inl, inr, Less, eqb-true}
 use Rattle.std.proofs.lemmas.Bool.{cases_eq, cases_order}
-use Rattle.std.proofs.lemmas.Bool.Decides.{nat_tests}
 use Rattle.std.proofs.lemmas.List.{get_or_default, get_or_read}
-use Rattle.std.specs.Ordering.{bool_cmp, ordering_then}
 use Rattle.std.specs.List.Sorted.{IsStrictlySortedBy}
 use Rattle.si_base.specs.declared.ids.Event.{Event}
 use Rattle.si_base.specs.declared.graph.Edge.{Edge}
-use Rattle.si_base.specs.EdgeOrder.{edge_cmp, event_cmp}
+use Rattle.si_base.specs.EdgeOrder.{edge_cmp}
 use Rattle.si_base.specs.Order.{Before, IsFirst}
 use Rattle.si_base.specs.Graph.{StateGraph, Step, arc, event_place, same_event}
 use Rattle.si_base.specs.Codes.{IsDeterministic}
 use Rattle.si_base.specs.Proper.{Split, split_place, Splits}
 use Rattle.si_base.proofs.OrderAscending.{sorted_at, nat_less}
 use Rattle.si_base.proofs.GraphSteps.{same_event-true}
-use Rattle.si_graph.specs.Arcs.{edge_at, no_edge}
-use Rattle.si_graph.proofs.OrderLemmas.{then_Less, place_lt, event_from_place}
+use Rattle.si_graph.specs.Loops.Arcs.{edge_at, no_edge}
+use Rattle.si_graph.proofs.OrderLemmas.{then_Less, place_lt, event_from_place, nat_Equal, event_Equal}
 
 -- the numbers by which arcs are compared
 abbrev pub arc_place : Edge → List ℕ
 arc_place x = x.from ∷ event_place x.event ∷ x.to ∷ []
-
-nat_equal : (x y : ℕ) → nat_cmp x y ≡ Equal → x ≡ y
-nat_equal x y h = grind (arith, nat_tests)
-
-event_equal : (e f : Event) → event_cmp e f ≡ Equal → event_place e ≡ event_place f
-event_equal e f h = ap event_place (ap₂ make (nat_equal e.sig f.sig parts.0) (sign e.up f.up parts.1))
-  where
-    make : ℕ → Bool → Event
-    make x y = record { sig = x; up = y }
-
-    sign : (u w : Bool) → bool_cmp w u ≡ Equal → u ≡ w
-    sign true true t = refl
-    sign true false t = cc
-    sign false true t = cc
-    sign false false t = refl
-
-    both : (o p : Ordering) → ordering_then o p ≡ Equal → (o ≡ Equal) × (p ≡ Equal)
-    both Less p t = cc
-    both Equal p t = (refl, t)
-    both Greater p t = cc
-
-    parts : (nat_cmp e.sig f.sig ≡ Equal) × (bool_cmp f.up e.up ≡ Equal)
-    parts = both _ _ h
 
 -- of two arcs of an ordered list the earlier one has the lower place
 pub before_in_order : (x y : Edge) → edge_cmp x y ≡ Less → Before (arc_place x) (arc_place y)
 before_in_order x y h = elim (then_Less _ _ h) [
   | inl less ↦ inl (nat_less x.from y.from less)
   | inr tied ↦ inr (
-    nat_equal x.from y.from tied.0,
+    nat_Equal x.from y.from tied.0,
     elim (then_Less _ _ tied.1) [
       | inl less ↦ inl (place_lt x.event y.event less)
-      | inr also ↦ inr (event_equal x.event y.event also.0, inl (nat_less x.to y.to also.1))
+      | inr also ↦ inr (event_Equal x.event y.event also.0, inl (nat_less x.to y.to also.1))
     ],
   )
 ]

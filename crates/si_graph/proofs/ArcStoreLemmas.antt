@@ -6,8 +6,8 @@ use Rattle.std.proofs.lemmas.Bool.{cases_lt}
 use Rattle.std.proofs.lemmas.List.{get_or_default, get_or-drop, get_or-take}
 use Rattle.si_base.specs.declared.graph.Edge.{Edge}
 use Rattle.si_base.specs.EdgeOrder.{edge_cmp}
-use Rattle.si_graph.specs.Arcs.{no_edge, edge_at, IsOutOf, IsFirstFrom}
-use Rattle.si_graph.specs.Starts.{AreBelow, IsStart}
+use Rattle.si_graph.specs.Loops.Arcs.{no_edge, edge_at, IsOutOf, IsFirstFrom}
+use Rattle.si_graph.specs.Loops.Starts.{AreBelow, IsStart}
 use Rattle.si_graph.proofs.OrderLemmas.{from_le, in_order, rising_from, sorted_take, sorted_drop}
 
 -- ---- starts

@@ -9,7 +9,7 @@ use Rattle.si_base.specs.declared.graph.Edge.{Edge}
 use Rattle.si_base.specs.EdgeOrder.{edge_cmp}
 use Rattle.si_base.proofs.OrderAscending.{In, after_head}
 use Rattle.si_base.proofs.GivenGraphUnique.{in_from_contains, contains_from_in, edges_total}
-use Rattle.si_graph.specs.Groups.{AreOrdered}
+use Rattle.si_graph.specs.Loops.Groups.{AreOrdered}
 use Rattle.si_graph.proofs.ArcFacts.{edge_ties, edge_eq-true}
 
 all_from_in : {K : Type 0} (P : K → Type 0) (xs : List K) → ((a : K) → In a xs → P a) → AllByRecursion P xs

@@ -1,11 +1,11 @@
 -- Chains that are linked from the last arc to the first.
-use Rattle.std.proofs.Common.{◌≡◌, ℕ, ◌+◌, ◌<◌, ◌≤◌, List, length, get_or, set, replicate, All, sym, subst, ◌∙◌, arith}
+use Rattle.std.proofs.Common.{◌≡◌, ℕ, ◌+◌, ◌<◌, ◌≤◌, List, length, get_or, set, All, sym, subst, ◌∙◌, arith}
 use Rattle.std.proofs.Common.{inl, inr, get_or-set_same, get_or-set_other, length-set, Option, Some, None, MatchOption}
 use Rattle.std.proofs.lemmas.Bool.{cases_eq, cases_lt}
-use Rattle.std.proofs.lemmas.List.{get_or_default, get_or_past, get_or-replicate, length-replicate}
+use Rattle.std.proofs.lemmas.List.{get_or_default, get_or_past}
 use Rattle.si_base.specs.declared.graph.Edge.{Edge}
-use Rattle.si_graph.specs.Arcs.{edge_at, no_edge, IsFirstFrom, IsFirstPlace}
-use Rattle.si_graph.specs.Chains.{IsFirstOrEnd, AreLinked}
+use Rattle.si_graph.specs.Loops.Arcs.{edge_at, no_edge, IsFirstFrom, IsFirstPlace}
+use Rattle.si_graph.specs.Loops.Chains.{IsFirstOrEnd, AreLinked}
 
 -- ---- a first place, or the end
 is_first : (P : ℕ → Type 0) (low high k : ℕ) → IsFirstOrEnd P low high k → k < high → IsFirstFrom P low high k
@@ -50,17 +50,6 @@ from_one_less P low high k none first = record {
 }
 
 module _ (end_of : Edge → ℕ) (states : ℕ) (edges : List Edge) where
-  -- ---- no arc is linked yet
-  pub linked_none : (count : ℕ) → count ≡ length edges
-      → AreLinked end_of states edges count (replicate states count) (replicate count count)
-  linked_none count is = record {
-    heads_count = length-replicate states count;
-    nexts_count = length-replicate count count ∙ is;
-    heads_are = λ s within. rw (get_or-replicate states s count 0 within) (at_itself (λ j. end_of (edge_at edges j) ≡ s)
-        (length edges) count (omega arith) (λ below. absurd (omega arith)));
-    nexts_are = λ k from within. absurd (omega arith);
-  }
-
   -- ---- one more arc, in front of the others
   pub linked_more : (k s : ℕ) (heads nexts : List ℕ) → AreLinked end_of states edges (k + 1) heads nexts
       → k < length edges → s ≡ end_of (edge_at edges k) → s < states

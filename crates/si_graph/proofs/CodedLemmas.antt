@@ -11,7 +11,7 @@ use Rattle.si_base.specs.Graph.{StateGraph, Step, IsGraph, arc, rise, fall}
 use Rattle.si_base.specs.Codes.{AreValues, HasValues, IsIdle, IsConnected, IsDeterministic, IsCoded}
 use Rattle.si_base.specs.Proper.{IsFirstWithoutValues}
 use Rattle.si_base.proofs.StepCodes.{step_within, turns, old_value}
-use Rattle.si_graph.specs.Values.{TellsValues, Suits, SuitAll, IsFirstUnsuited}
+use Rattle.si_graph.specs.Loops.Values.{TellsValues, Suits, SuitAll, IsFirstUnsuited}
 use Rattle.si_graph.proofs.ValueLemmas.{fits_from_bits}
 
 -- a signal that no arc switches is 0 everywhere

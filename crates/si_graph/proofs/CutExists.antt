@@ -4,18 +4,19 @@ use Rattle.std.proofs.Common.{length, get_or, set, Contains, All, refl, sym, sub
 use Rattle.std.proofs.Common.{slice_index_or}
 use Rattle.std.proofs.Math.ListN.{replicate}
 use Rattle.std.proofs.lemmas.Bool.{cases_Bool, true≢false}
-use Rattle.std.proofs.lemmas.List.{length-replicate, get_or_past}
+use Rattle.std.proofs.lemmas.List.{length-replicate}
 use Rattle.std.proofs.lemmas.List.Elements.{All-contains, Contains-get_or}
 use Rattle.std.proofs.lemmas.List.Sums.{sum_by-set}
 use Rattle.si_base.specs.declared.ids.Event.{Event}
 use Rattle.si_base.specs.declared.graph.Edge.{Edge}
 use Rattle.si_base.specs.Graph.{Walk, StateGraph, IsReachable, IsGraph, IsMadeOf, IsCut, arc}
 use Rattle.si_base.proofs.RightGateLemmas.{step_within}
-use Rattle.si_graph.specs.Reach.{IsIn, unmarked}
-use Rattle.si_graph.specs.Renaming.{Renames}
+use Rattle.si_base.specs.Sets.{IsIn}
+use Rattle.si_graph.specs.Loops.Reach.{unmarked}
+use Rattle.si_graph.specs.Loops.Renaming.{Renames}
 use Rattle.si_graph.proofs.ArcFacts.{IsInside}
 use Rattle.si_graph.proofs.CutLemmas.{new_arcs, new_arcs_few, new_arcs_inside, start_within, made_is_cut}
-use Rattle.si_graph.proofs.SearchLemmas.{stays_in, in_cases, is_set, reachable-step}
+use Rattle.si_graph.proofs.SearchLemmas.{stays_in, in_cases, is_set, reachable-step, in_none}
 use Rattle.si_graph.proofs.ListMembers.{Contains-cons_cases, Contains-here, Contains-there, Contains-nil}
 use Rattle.si_graph.proofs.RenamingLemmas.{Renames-marked, Renames-unmarked}
 use Rattle.si_graph.proofs.ArcsInOrder.{arcs_in_order}
@@ -45,12 +46,6 @@ leaving marks (x ∷ arcs) = elim (leaving marks arcs) [
     ]
   ]
 ]
-
-none_marked : (n t : ℕ) → IsIn (replicate n false) t → ⊥
-none_marked zero t is =
-    true≢false (sym is ∙ get_or_past (replicate 0 false) t false (omega (arith, length-replicate 0 false)))
-none_marked (suc n) zero is = true≢false (sym is)
-none_marked (suc n) (suc t) is = none_marked n t is
 
 module _ (g : StateGraph) (is : IsGraph g) where
   -- marks of reachable states, the start among them
@@ -121,7 +116,7 @@ module _ (g : StateGraph) (is : IsGraph g) where
         begun = is_set blank g.start within;
         sound = λ t inside. elim (in_cases blank g.start t inside) [
           | inl same ↦ ([], sym same)
-          | inr old ↦ absurd (none_marked g.states t old)
+          | inr old ↦ absurd (in_none g.states t old)
         ];
       })
 

@@ -13,8 +13,8 @@ use Rattle.si_base.specs.declared.ids.Event.{Event}
 use Rattle.si_base.specs.declared.graph.Edge.{Edge}
 use Rattle.si_base.specs.Graph.{StateGraph, Step, Walk, IsReachable, IsGraph, IsMadeOf, IsCut, arc}
 use Rattle.si_base.specs.Codes.{IsConnected}
-use Rattle.si_graph.specs.Reach.{IsIn}
-use Rattle.si_graph.specs.Renaming.{Renames, renamed, leaves_marked}
+use Rattle.si_base.specs.Sets.{IsIn}
+use Rattle.si_graph.specs.Loops.Renaming.{Renames, renamed, leaves_marked}
 use Rattle.si_graph.proofs.ArcFacts.{IsInside}
 use Rattle.si_graph.proofs.SearchLemmas.{in_below, reachable-step}
 use Rattle.si_graph.proofs.ListMembers.{Contains-filter, Contains-from_filter, Contains-map, Contains-from_map}

@@ -13,15 +13,14 @@ use Rattle.std.proofs.lemmas.List.Kept.{Contains-dedup, Contains-from_dedup}
 use Rattle.std.proofs.lemmas.List.Sorted.{Contains-permutation, IsPermutation-sym}
 use Rattle.si_base.specs.declared.graph.Edge.{Edge}
 use Rattle.si_base.specs.EdgeOrder.{edge_cmp}
-use Rattle.si_base.proofs.GivenGraphUnique.{same_edges}
-use Rattle.si_graph.specs.Arcs.{edge_at, no_edge}
-use Rattle.si_graph.specs.Chains.{IsFirstOrEnd}
-use Rattle.si_graph.specs.Ends.{source}
-use Rattle.si_graph.specs.Groups.{IsGroup, AreGroups, AreOrdered, HaveSameArcs}
+use Rattle.si_base.proofs.GivenGraphUnique.{same_edges, edges_total}
+use Rattle.si_graph.specs.Loops.Arcs.{edge_at, no_edge}
+use Rattle.si_graph.specs.Loops.Chains.{IsFirstOrEnd}
+use Rattle.si_graph.specs.Loops.Ends.{source}
+use Rattle.si_graph.specs.Loops.Groups.{IsGroup, AreGroups, AreOrdered, HaveSameArcs}
 use Rattle.si_graph.proofs.ArcFacts.{edge_eq, edge_eq_equiv, edge_eq-true}
 use Rattle.si_graph.proofs.ArcsInOrder.{arcs_in_order}
 use Rattle.si_graph.proofs.ListMembers.{Contains-nil}
-use Rattle.si_graph.proofs.OrderLemmas.{edge_total}
 
 -- ---- one group
 -- the arcs out of s that stand before k are gathered, and no others; one stands at k, unless k is
@@ -81,9 +80,6 @@ group_in_order arcs s group ordered moved is a = (
 )
 
 -- ---- all groups
-pub groups_none : (arcs : List Edge) → AreGroups arcs 0 []
-groups_none arcs a = (λ there. absurd (Contains-nil a there), λ out. absurd (omega (arith, out.1)))
-
 pub groups_more : (arcs : List Edge) (n : ℕ) (groups group : List Edge) → AreGroups arcs n groups → IsGroup arcs n group
     → AreGroups arcs (n + 1) (groups ++ group)
 groups_more arcs n groups group before is a = (
@@ -137,7 +133,7 @@ is_less Greater h = cc
 pub ordered_already : (arcs : List Edge)
     → AllAdjacentBelow (λ (x y : Edge). true ≡ is_lt (edge_cmp x y)) arcs (length arcs) → AreOrdered arcs arcs
 ordered_already arcs rise = record {
-  sorted = sorted_from_all_adjacent edge_total arcs no_edge
+  sorted = sorted_from_all_adjacent edges_total arcs no_edge
       (λ k below. is_less _ (rise k no_edge below));
   same = λ a. (λ there. there, λ there. there);
   no_longer = omega arith;

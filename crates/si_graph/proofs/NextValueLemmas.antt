@@ -11,7 +11,8 @@ use Rattle.si_base.specs.Codes.{CodedGraph, IsCoded, code, next_value}
 use Rattle.si_base.specs.Graph.{Step, arc, enables, rise, fall}
 use Rattle.si_base.proofs.StepCodes.{step_within, old_value, code_fits, no_bit}
 use Rattle.si_base.proofs.GraphSteps.{enables-step, step_from_enables}
-use Rattle.si_graph.specs.Arcs.{AreOut}
+use Rattle.si_base.proofs.Booleans.{same_not}
+use Rattle.si_graph.specs.Loops.Arcs.{AreOut}
 use Rattle.si_graph.specs.NextCodes.{IsNextCode}
 use Rattle.si_graph.proofs.ValueLemmas.{fits_from_bits}
 
@@ -27,12 +28,6 @@ pub record AreSet (arcs : List Edge) (count code next : ℕ) : Type 0 where
 -- the value of its signal is the one from which each arc switches
 abbrev pub FromOld : ℕ → Edge → Type 0
 FromOld code a = bit code a.event.sig ≡ not a.event.up
-
-same_not : (u v : Bool) → not u ≡ not v → u ≡ v
-same_not true true h = refl
-same_not true false h = cc
-same_not false true h = cc
-same_not false false h = refl
 
 pub set_more : (arcs : List Edge) (n code old new : ℕ) (x : Edge) → AllWithin (FromOld code) arcs 0 (length arcs)
     → n < length arcs → x ≡ get_or arcs n x → IsSet old x.event.sig x.event.up new

@@ -20,40 +20,31 @@ use Rattle.si_base.specs.EdgeOrder.{event_cmp, edge_cmp}
 use Rattle.si_base.specs.Graph.{StateGraph, Step, arc, enables, event_place}
 use Rattle.si_base.specs.System.{IsLeastTarget}
 use Rattle.si_base.proofs.GraphSteps.{step_from_enables}
-use Rattle.si_graph.specs.Arcs.{AreOut}
+use Rattle.si_base.proofs.OrderAscending.{nat_less, nat_same}
+use Rattle.si_graph.specs.Loops.Arcs.{AreOut}
 
 pub event_total : IsTotalOrder event_cmp
 event_total = then_total (on_total (λ e. e.sig) nat_cmp_total) (back_total (on_total (λ e. e.up) bool_cmp_total))
-
-pub edge_total : IsTotalOrder edge_cmp
-edge_total = then_total (on_total (λ e. e.from) nat_cmp_total)
-    (then_total (on_total (λ e. e.event) event_total) (on_total (λ e. e.to) nat_cmp_total))
 
 pub then_Less : (o p : Ordering) → ordering_then o p ≡ Less → (o ≡ Less) ⊎ ((o ≡ Equal) × (p ≡ Less))
 then_Less Less p h = inl refl
 then_Less Equal p h = inr (refl, h)
 then_Less Greater p h = cc
 
-nat_Less : (a b : ℕ) → nat_cmp a b ≡ Less → a < b
-nat_Less a b h = grind (arith, nat_tests)
-
-nat_Equal : (a b : ℕ) → nat_cmp a b ≡ Equal → a ≡ b
+pub nat_Equal : (a b : ℕ) → nat_cmp a b ≡ Equal → a ≡ b
 nat_Equal a b h = grind (arith, nat_tests)
-
-nat_itself : (a : ℕ) → nat_cmp a a ≡ Equal
-nat_itself a = tied_itself nat_cmp_total a
 
 -- an arc before another is from no later state
 pub from_le : (x y : Edge) → edge_cmp x y ≡ Less → x.from ≤ y.from
 from_le x y h = by (then_Less (nat_cmp x.from y.from) _ h)
   where
     by : {P : Type 0} → (nat_cmp x.from y.from ≡ Less) ⊎ ((nat_cmp x.from y.from ≡ Equal) × P) → x.from ≤ y.from
-    by (inl less) = omega (arith, nat_Less x.from y.from less)
+    by (inl less) = omega (arith, nat_less x.from y.from less)
     by (inr same) = omega (arith, nat_Equal x.from y.from same.0)
 
 -- and, with the same source and event, leads to a lesser state
 pub to_lt : (x y : Edge) → edge_cmp x y ≡ Less → x.from ≡ y.from → x.event ≡ y.event → x.to < y.to
-to_lt x y h f e = nat_Less _ _ (rw (f, nat_itself y.from, e, tied_itself event_total y.event) at h)
+to_lt x y h f e = nat_less _ _ (rw (f, nat_same y.from, e, tied_itself event_total y.event) at h)
 
 pub in_order : (edges : List Edge) → IsStrictlySortedBy edge_cmp edges → (i j : ℕ) (d : Edge) → i < j → j < length edges
     → edge_cmp (get_or edges i d) (get_or edges j d) ≡ Less
@@ -89,7 +80,7 @@ sorted_drop c (suc n) [] is = tt
 sorted_drop c (suc n) (x ∷ xs) is = sorted_drop c n xs is.1
 
 -- ---- event order is the order of places
-less_nat : (a b : ℕ) → a < b → nat_cmp a b ≡ Less
+pub less_nat : (a b : ℕ) → a < b → nat_cmp a b ≡ Less
 less_nat a b h = grind (arith, nat_tests)
 
 less_from_places : (a b : ℕ) (u v : Bool) → 2 * a + (if u then 0 else 1) < 2 * b + (if v then 0 else 1)
@@ -99,15 +90,15 @@ less_from_places a b false true h = let e = less_nat a b (omega arith) in rw e r
 less_from_places a b false false h = let e = less_nat a b (omega arith) in rw e refl
 less_from_places a b true false h = elim (cases_lt a b) [
   | inl lt ↦ (let e = less_nat a b lt in rw e refl)
-  | inr ge ↦ (let same : a ≡ b = omega arith in rw (same, nat_itself b) refl)
+  | inr ge ↦ (let same : a ≡ b = omega arith in rw (same, nat_same b) refl)
 ]
 
 places_from_less : (a b : ℕ) (u v : Bool) → (nat_cmp a b ≡ Less) ⊎ ((nat_cmp a b ≡ Equal) × (bool_cmp v u ≡ Less))
     → 2 * a + (if u then 0 else 1) < 2 * b + (if v then 0 else 1)
-places_from_less a b true true (inl less) = omega (arith, nat_Less a b less)
-places_from_less a b false true (inl less) = omega (arith, nat_Less a b less)
-places_from_less a b true false (inl less) = omega (arith, nat_Less a b less)
-places_from_less a b false false (inl less) = omega (arith, nat_Less a b less)
+places_from_less a b true true (inl less) = omega (arith, nat_less a b less)
+places_from_less a b false true (inl less) = omega (arith, nat_less a b less)
+places_from_less a b true false (inl less) = omega (arith, nat_less a b less)
+places_from_less a b false false (inl less) = omega (arith, nat_less a b less)
 places_from_less a b true true (inr same) = cc
 places_from_less a b false true (inr same) = cc
 places_from_less a b true false (inr same) = omega (arith, nat_Equal a b same.0)
@@ -135,14 +126,15 @@ same_ups true false h = cc
 same_ups false true h = cc
 same_ups false false h = refl
 
-event_Equal : (x y : Event) → event_cmp x y ≡ Equal → event_place x ≡ event_place y
+pub event_Equal : (x y : Event) → event_cmp x y ≡ Equal → event_place x ≡ event_place y
 event_Equal x y h =
     let parts = then_Equal _ _ h in
     let sigs = nat_Equal x.sig y.sig parts.0 in
     let ups = same_ups x.up y.up parts.1 in
     ap₂ (λ (a : ℕ) (u : Bool). 2 * a + (if u then 0 else 1)) sigs ups
 
-same_parts : (a b : ℕ) (u v : Bool) → 2 * a + (if u then 0 else 1) ≡ 2 * b + (if v then 0 else 1) → (a ≡ b) × (u ≡ v)
+pub same_parts : (a b : ℕ) (u v : Bool) → 2 * a + (if u then 0 else 1) ≡ 2 * b + (if v then 0 else 1)
+    → (a ≡ b) × (u ≡ v)
 same_parts a b true true h = (omega arith, refl)
 same_parts a b false true h = absurd (omega arith)
 same_parts a b true false h = absurd (omega arith)
@@ -156,7 +148,7 @@ event_from_place x y h =
 
 -- of two arcs out of one state, the one before the other has no later event
 pub place_le : (x y : Edge) → edge_cmp x y ≡ Less → x.from ≡ y.from → event_place x.event ≤ event_place y.event
-place_le x y h same = by (then_Less (event_cmp x.event y.event) (nat_cmp x.to y.to) (rw (same, nat_itself y.from) at h))
+place_le x y h same = by (then_Less (event_cmp x.event y.event) (nat_cmp x.to y.to) (rw (same, nat_same y.from) at h))
   where
     by : {P : Type 0} → (event_cmp x.event y.event ≡ Less) ⊎ ((event_cmp x.event y.event ≡ Equal) × P)
         → event_place x.event ≤ event_place y.event

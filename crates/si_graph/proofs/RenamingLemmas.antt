@@ -6,16 +6,16 @@ use Rattle.std.proofs.lemmas.List.{length_push, get_or_push, get_or_append_left}
 use Rattle.std.proofs.lemmas.List.Elements.{Contains-push, Contains-push_cases, Contains-append_left, Contains-get_or}
 use Rattle.std.proofs.lemmas.List.Quantifiers.{all_pairs_push}
 use Rattle.std.proofs.lemmas.Option.{slice_get-get_or}
-use Rattle.si_graph.specs.Reach.{IsIn}
-use Rattle.si_graph.specs.Renaming.{Renames}
+use Rattle.si_base.specs.Sets.{IsIn}
+use Rattle.si_graph.specs.Loops.Renaming.{Renames}
 
-slice_get_left : {X : Type 0} (xs ys : List X) (k : ℕ) (x : X) → slice_get xs k ≡ Some x
+pub slice_get_left : {X : Type 0} (xs ys : List X) (k : ℕ) (x : X) → slice_get xs k ≡ Some x
     → slice_get (xs ++ ys) k ≡ Some x
 slice_get_left [] ys k x h = cc
 slice_get_left (y ∷ xs) ys zero x h = h
 slice_get_left (y ∷ xs) ys (suc k) x h = slice_get_left xs ys k x h
 
-slice_get_last : {X : Type 0} (xs : List X) (x : X) (n : ℕ) → n ≡ length xs → slice_get (xs ++ x ∷ []) n ≡ Some x
+pub slice_get_last : {X : Type 0} (xs : List X) (x : X) (n : ℕ) → n ≡ length xs → slice_get (xs ++ x ∷ []) n ≡ Some x
 slice_get_last xs x n e = slice_get-get_or (xs ++ x ∷ []) n x (omega (arith, length_push xs x))
     ∙ ap Some (get_or_push xs x x n (sym e))
 

@@ -3,8 +3,8 @@ use Rattle.std.proofs.Common.{◌≡◌, ◌≢◌, ℕ, ◌+◌, ◌^◌, ◌<�
 use Rattle.std.proofs.Common.{length, get_or, replicate, take, All, Contains, refl, sym, ap, subst, ◌∙◌, arith, inl}
 use Rattle.std.proofs.Common.{inr, if◌then◌else◌, get_or-set_same, get_or-set_other, length-set, slice_index_or}
 use Rattle.std.proofs.Common.{slice_set}
-use Rattle.std.proofs.lemmas.Bool.{cases_lt, cases_Bool, true≢false}
-use Rattle.std.proofs.lemmas.List.{length_push, set-get_or, get_or_past, take_all, length-replicate, get_or-replicate}
+use Rattle.std.proofs.lemmas.Bool.{cases_Bool, true≢false}
+use Rattle.std.proofs.lemmas.List.{length_push, set-get_or, take_all, length-replicate, get_or-replicate}
 use Rattle.std.proofs.lemmas.List.Elements.{Contains-push, Contains-push_cases, Contains-append_left}
 use Rattle.std.proofs.lemmas.List.Elements.{Contains-append_right, Contains-append_cases, All-contains, All-more}
 use Rattle.std.proofs.lemmas.List.Elements.{All-weaker}
@@ -16,14 +16,14 @@ use Rattle.si_base.specs.Graph.{StateGraph, Step, Walk, arc}
 use Rattle.si_base.specs.Codes.{IsConnected, parity}
 use Rattle.si_base.proofs.CodeParity.{turn}
 use Rattle.si_base.proofs.BitFacts.{same_codes}
-use Rattle.si_graph.specs.Arcs.{AreOut}
-use Rattle.si_graph.specs.Changes.{IsChange, AreChanges, LeadsInto, AreSpread, left_to_do}
-use Rattle.si_graph.specs.Reach.{IsIn}
+use Rattle.si_graph.specs.Loops.Arcs.{AreOut}
+use Rattle.si_graph.specs.Loops.Changes.{IsChange, AreChanges, LeadsInto, AreSpread, left_to_do}
+use Rattle.si_base.specs.Sets.{IsIn}
 use Rattle.si_graph.proofs.SearchLemmas.{stays_in, in_cases, is_set, in_none, Walk-push}
 use Rattle.si_graph.proofs.ValueLemmas.{bit-xor}
 
 -- ---- changes along walks
-turn_swap : (p q r : Bool) → turn (turn p q) r ≡ turn (turn p r) q
+pub turn_swap : (p q r : Bool) → turn (turn p q) r ≡ turn (turn p r) q
 turn_swap true true true = refl
 turn_swap true true false = refl
 turn_swap true false true = refl
@@ -33,7 +33,7 @@ turn_swap false true false = refl
 turn_swap false false true = refl
 turn_swap false false false = refl
 
-flip_swap : (k m n : ℕ) → flip (flip k m) n ≡ flip (flip k n) m
+pub flip_swap : (k m n : ℕ) → flip (flip k m) n ≡ flip (flip k n) m
 flip_swap k m n = same_codes _ _ (λ i.
     rw (bit-xor (flip k m) (2 ^ n) i, bit-xor k (2 ^ m) i, bit-xor (flip k n) (2 ^ m) i, bit-xor k (2 ^ n) i)
     (turn_swap (bit k i) (bit (2 ^ m) i) (bit (2 ^ n) i)))
@@ -52,12 +52,6 @@ change_more g s t change e is step = record {
 }
 
 -- ---- one state more is reached
-pub in_below : (reached : List Bool) (s : ℕ) → IsIn reached s → s < length reached
-in_below reached s there = elim (cases_lt s (length reached)) [
-  | inl below ↦ below
-  | inr past ↦ absurd (true≢false (sym there ∙ get_or_past reached s false past))
-]
-
 leads_more : (g : StateGraph) (reached : List Bool) (s u : ℕ) → s < length reached → LeadsInto g u reached
     → LeadsInto g u (slice_set reached s true)
 leads_more g reached s u within into e t step = stays_in reached s t within (into e t step)

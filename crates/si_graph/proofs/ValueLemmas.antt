@@ -1,6 +1,6 @@
 -- Codes read off the arcs, and what arcs that they don't suit show.
 use Rattle.std.proofs.Common.{◌≡◌, ◌≢◌, ℕ, ◌+◌, ◌/◌, ◌%◌, ◌^◌, ◌<◌, ◌≤◌, ◌⊎◌, ◌==◌, ◌||◌, ◌↔◌, Bool, true, false, not}
-use Rattle.std.proofs.Common.{max, List, length, get_or, take, map, All, bit_xor, bit_or, refl, sym, ap, subst, ◌∙◌}
+use Rattle.std.proofs.Common.{List, length, get_or, take, map, All, bit_xor, bit_or, refl, sym, ap, subst, ◌∙◌}
 use Rattle.std.proofs.Common.{arith, inl, inr, length-take, get_or-take, slice_index}
 use mathlib.Core.Bool.{beq}
 use Rattle.std.specs.Int.{bit_at}
@@ -9,7 +9,7 @@ use Rattle.std.proofs.lemmas.List.{get_or-map, take-take, take_all}
 use Rattle.std.proofs.lemmas.List.Elements.{All-more, All-take, All-contains}
 use Rattle.std.proofs.Math.Nat.{mod-lt}
 use Rattle.std.proofs.lemmas.Nat.{pow_pos, div-add-mod'}
-use Rattle.std.proofs.lemmas.Nat.Bits.{bit_at_xor, bit_at_or, bit_at-lt, bit_at-zero, bit_at_above, bit_at_cat_low}
+use Rattle.std.proofs.lemmas.Nat.Bits.{bit_at_xor, bit_at-lt, bit_at_above, bit_at_cat_low}
 use Rattle.std.proofs.lemmas.Nat.Bits.{same_from_bits}
 use Rattle.si_base.specs.declared.ids.Event.{Event}
 use Rattle.si_base.specs.declared.graph.Edge.{Edge}
@@ -17,33 +17,19 @@ use Rattle.si_base.specs.Bits.{bit, IsSet}
 use Rattle.si_base.specs.Graph.{StateGraph, Step, IsGraph, arc}
 use Rattle.si_base.specs.Codes.{AreValues}
 use Rattle.si_base.proofs.CodeParity.{turn, values_along, start_shown}
-use Rattle.si_graph.specs.Changes.{AreChanges}
-use Rattle.si_graph.specs.Values.{IsStartCode, TellsValues, Suits, SuitAll}
+use Rattle.si_base.proofs.BitFacts.{bit-zero, bit-or, below_two}
+use Rattle.si_graph.specs.Loops.Changes.{AreChanges}
+use Rattle.si_graph.specs.Loops.Values.{IsStartCode, TellsValues, Suits, SuitAll}
 
 -- ---- bits
-below_two : (n : ℕ) → n < 2 → (n ≡ 0) ⊎ (n ≡ 1)
-below_two n h = grind arith
-
 xor_bits : (x y : ℕ) → x < 2 → y < 2 → ((x + y) % 2 == 1) ≡ turn (x == 1) (y == 1)
 xor_bits x y lx ly = elim (below_two x lx) [
   | inl x0 ↦ elim (below_two y ly) [ inl y0 ↦ rw (x0, y0) refl | inr y1 ↦ rw (x0, y1) refl ]
   | inr x1 ↦ elim (below_two y ly) [ inl y0 ↦ rw (x1, y0) refl | inr y1 ↦ rw (x1, y1) refl ]
 ]
 
-or_bits : (x y : ℕ) → x < 2 → y < 2 → (max x y == 1) ≡ ((x == 1) || (y == 1))
-or_bits x y lx ly = elim (below_two x lx) [
-  | inl x0 ↦ elim (below_two y ly) [ inl y0 ↦ rw (x0, y0) refl | inr y1 ↦ rw (x0, y1) refl ]
-  | inr x1 ↦ elim (below_two y ly) [ inl y0 ↦ rw (x1, y0) refl | inr y1 ↦ rw (x1, y1) refl ]
-]
-
 pub bit-xor : (x y a : ℕ) → bit (bit_xor x y) a ≡ turn (bit x a) (bit y a)
 bit-xor x y a = rw (bit_at_xor x y a) (xor_bits (bit_at x a) (bit_at y a) (bit_at-lt x a) (bit_at-lt y a))
-
-pub bit-or : (x y a : ℕ) → bit (bit_or x y) a ≡ (bit x a || bit y a)
-bit-or x y a = rw (bit_at_or x y a) (or_bits (bit_at x a) (bit_at y a) (bit_at-lt x a) (bit_at-lt y a))
-
-pub bit-zero : (a : ℕ) → bit 0 a ≡ false
-bit-zero a = rw (bit_at-zero a) refl
 
 bit_none : (n i : ℕ) → bit n i ≡ false → bit_at n i ≡ 0
 bit_none n i no_bit = elim (below_two (bit_at n i) (bit_at-lt n i)) [

@@ -1,15 +1,6 @@
-pub mod Arcs
-pub mod Chains
-pub mod Ends
-pub mod Groups
-pub mod Starts
 pub mod Closure
 pub mod Faults
 pub mod Excited
 pub mod NextCodes
-pub mod Changes
-pub mod Values
-pub mod Reach
-pub mod Renaming
 pub mod Laws
-pub mod Search
+pub mod Loops

@@ -5,8 +5,8 @@ ghost use Rattle.std.specs.Prelude.{IsTrue, MatchOption, length};
 ghost use Rattle.std.specs.List.Sorted.{IsStrictlySortedBy};
 ghost use Rattle.si_base.specs.declared.graph.Edge.{Edge};
 ghost use Rattle.si_base.specs.EdgeOrder.{edge_cmp};
-ghost use Rattle.si_graph.specs.Arcs.{edge_at, IsFirstPlace, IsInto, IsOutOf};
-ghost use Rattle.si_graph.specs.Starts.{AreBelow, AreStarts, IsStart};
+ghost use Rattle.si_graph.specs.Loops.Arcs.{edge_at, IsFirstPlace, IsInto, IsOutOf};
+ghost use Rattle.si_graph.specs.Loops.Starts.{AreBelow, AreStarts, IsStart};
 
 use crate::chain::{Chain, End};
 use si_base::graph::Edge;
@@ -40,8 +40,8 @@ pub struct ArcStore {
 }
 
 impl Model for ArcStore {
-    ghost use Rattle.si_graph.specs.Chains.{StoredArcs};
-    ghost use Rattle.si_graph.specs.Starts.{AreIndexed};
+    ghost use Rattle.si_graph.specs.Loops.Chains.{StoredArcs};
+    ghost use Rattle.si_graph.specs.Loops.Starts.{AreIndexed};
 
     ghost Value = { StoredArcs };
 

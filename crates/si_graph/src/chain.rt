@@ -2,7 +2,7 @@
 
 ghost use Rattle.std.specs.Prelude.{◌≡◌, ◌<◌, ◌^◌, All, IfOk, length, replicate};
 ghost use Rattle.std.specs.Prelude.{slice_index, slice_index_or, slice_set};
-ghost use Rattle.si_graph.specs.Ends.{AreChained, state_at};
+ghost use Rattle.si_graph.specs.Loops.Ends.{AreChained, state_at};
 
 use si_base::graph::Edge;
 use si_base::ids::{NoMemory, StateId};

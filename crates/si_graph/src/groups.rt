@@ -1,8 +1,8 @@
 //! Arcs in groups by their sources, so that few have to be compared to put all in order.
 
 ghost use Rattle.std.specs.Prelude.{◌<◌, ◌^◌, All, IfOk, OnOk, length};
-ghost use Rattle.si_graph.specs.Ends.{AreChained};
-ghost use Rattle.si_graph.specs.Groups.{AreOrdered, HaveSameArcs, IsGroup};
+ghost use Rattle.si_graph.specs.Loops.Ends.{AreChained};
+ghost use Rattle.si_graph.specs.Loops.Groups.{AreOrdered, HaveSameArcs, IsGroup};
 ghost use Rattle.si_graph.specs.declared.chain.End.TheVariants.{Source};
 
 use crate::chain::{Chain, End};

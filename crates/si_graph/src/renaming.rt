@@ -1,7 +1,7 @@
 //! New ids for the states of a set: their places in it.
 
 ghost use Rattle.std.specs.Prelude.{◌≡◌, ◌<◌, length, IfOk, All, map, filter};
-ghost use Rattle.si_graph.specs.Renaming.{Renames, renamed, leaves_marked};
+ghost use Rattle.si_graph.specs.Loops.Renaming.{Renames, renamed, leaves_marked};
 
 use si_base::graph::Edge;
 use si_base::ids::{NoMemory, StateId};

@@ -6,9 +6,10 @@ ghost use Rattle.si_base.specs.Bits.{bit};
 ghost use Rattle.si_base.specs.Codes.{IsConnected};
 ghost use Rattle.si_base.specs.Graph.{IsGraph};
 ghost use Rattle.si_base.specs.Limits.{code_width};
-ghost use Rattle.si_graph.specs.Changes.{AreChanges};
-ghost use Rattle.si_graph.specs.Values.{HasPlaces, IsFirstUnsuited, IsStartCode, SuitAll, Suits};
-ghost use Rattle.si_graph.specs.Values.{TellsValues};
+ghost use Rattle.si_graph.specs.Loops.Changes.{AreChanges};
+ghost use Rattle.si_graph.specs.Loops.Values.{HasPlaces, IsFirstUnsuited, IsStartCode, SuitAll};
+ghost use Rattle.si_graph.specs.Loops.Values.{Suits};
+ghost use Rattle.si_graph.specs.Loops.Values.{TellsValues};
 
 use crate::graph::Graph;
 use crate::spread::changes_from_start;

@@ -9,7 +9,7 @@ use Rattle.si_base.specs.declared.ids.Event.{Event}
 use Rattle.si_base.specs.declared.graph.Edge.{Edge}
 use Rattle.si_base.specs.Graph.{arc}
 use Rattle.si_handshakes.specs.Handshakes.{phase, ending, GoesOn}
-use Rattle.si_handshakes.specs.Arcs.{next_state, arc_of, arc_at}
+use Rattle.si_handshakes.specs.Loops.Arcs.{next_state, arc_of, arc_at}
 use Rattle.si_handshakes.proofs.DigitLemmas.{phase_below, put, next_is}
 use Rattle.si_handshakes.proofs.HandshakePhases.{its_signal, goes_on, target_below, target_is}
 

@@ -4,7 +4,7 @@ use Rattle.std.proofs.Common.{inr}
 use Rattle.std.proofs.Math.Nat.{div-div-eq-div-mul, div-one, pow-succ', one-le-pow, pow-le-pow_right}
 use Rattle.std.proofs.lemmas.Bool.{cases_eq, eq-eqb, ne_eqb}
 use Rattle.si_handshakes.specs.Handshakes.{phase}
-use Rattle.si_handshakes.specs.Arcs.{next_state}
+use Rattle.si_handshakes.specs.Loops.Arcs.{next_state}
 
 pub phase_below : (m i : ℕ) → phase m i < 4
 phase_below m i = omega arith

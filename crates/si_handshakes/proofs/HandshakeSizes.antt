@@ -13,7 +13,7 @@ use Rattle.si_base.proofs.GivenGraphUnique.{in_from_contains, contains_from_in, 
 use Rattle.si_base.proofs.GivenGraphUnique.{same_edges, same_graph}
 use Rattle.si_base.proofs.ListLemmas.{Once, at_most as no_more_than}
 use Rattle.si_handshakes.specs.Handshakes.{phase, IsHandshakes, IsWithinLimits, max_handshakes}
-use Rattle.si_handshakes.specs.Arcs.{arc_at}
+use Rattle.si_handshakes.specs.Loops.Arcs.{arc_at}
 use Rattle.si_handshakes.proofs.DigitLemmas.{phase_below, at_most}
 use Rattle.si_handshakes.proofs.NamesNumbered.{twice_as_many}
 use Rattle.si_handshakes.proofs.HandshakePhases.{same_handshake}

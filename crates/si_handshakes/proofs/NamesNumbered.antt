@@ -1,26 +1,19 @@
 -- Numbered names differ, and what the signals with such names are.
 use Rattle.std.proofs.Common.{◌≡◌, ◌≢◌, ℕ, ◌+◌, ◌-◌, ◌^◌, ◌<◌, ◌≤◌, List, [], ◌∷◌, ◌++◌, length, map, get_or, AllPairs}
 use Rattle.std.proofs.Common.{Contains, codes, decimal, sym, ap, ◌∙◌, arith, inl, inr, append_assoc}
-use Rattle.std.specs.Str.Parse.{digits_value}
 use Rattle.std.proofs.lemmas.Bool.{cases_lt}
-use Rattle.std.proofs.lemmas.List.{append_cancel_left, get_or_append_left, get_or-append_right, get_or-map, length-map}
+use Rattle.std.proofs.lemmas.List.{get_or_append_left, get_or-append_right, get_or-map, length-map}
 use Rattle.std.proofs.lemmas.List.{map-append, length-append}
 use Rattle.std.proofs.lemmas.List.FromFn.{map-range_with_len_more, length-map-range_with_len, get_or-map-range_with_len}
-use Rattle.std.proofs.lemmas.Fmt.{decimal_is_IsNumeral}
 use Rattle.si_base.specs.declared.graph.Signal.{Signal}
 use Rattle.si_base.specs.declared.graph.SigKind.{SigKind}
 use Rattle.si_base.specs.declared.graph.SigKind.TheVariants.{Input, Output}
 use Rattle.si_base.specs.Graph.{kind_place}
 use Rattle.si_base.specs.GivenGraph.{signals_of}
+use Rattle.si_base.proofs.NumberedNames.{numbers_differ}
 use Rattle.si_handshakes.specs.Handshakes.{numbered}
 
 -- ---- names
-pub numbers_differ : (stem : List ℕ) (i j : ℕ) → i < 2 ^ 64 → j < 2 ^ 64 → stem ++ decimal i ≡ stem ++ decimal j
-    → i ≡ j
-numbers_differ stem i j small also same =
-    sym (decimal_is_IsNumeral i small).1 ∙ ap (digits_value 10) (append_cancel_left stem (decimal i) (decimal j) same)
-    ∙ (decimal_is_IsNumeral j also).1
-
 pub numbered_more : (stem : List ℕ) (k : ℕ) → numbered stem (k + 1) ≡ numbered stem k ++ (stem ++ decimal k) ∷ []
 numbered_more stem k = map-range_with_len_more (λ j. stem ++ decimal j) 0 k k (omega arith)
 

@@ -1,21 +1,22 @@
 -- The names of handshakes have the forms that texts ask for.
-use Rattle.std.proofs.Common.{◌≡◌, ◌≢◌, ℕ, ◌+◌, ◌-◌, ◌^◌, ◌<◌, ◌≤◌, ◌||◌, ◌&&◌, ◌==◌, not, Bool, true, List, [], ◌∷◌}
+use Rattle.std.proofs.Common.{◌≡◌, ◌≢◌, ℕ, ◌+◌, ◌-◌, ◌^◌, ◌<◌, ◌≤◌, Bool, true, List, [], ◌∷◌}
 use Rattle.std.proofs.Common.{◌++◌, length, get_or, All, AllPairs, IsTrue, codes, decimal, refl, sym, ap, subst, ◌∙◌}
 use Rattle.std.proofs.Common.{arith, inl, inr}
-use Rattle.std.proofs.lemmas.Bool.{and_from, or_right, le-leb, ne_eqb, cases_lt}
+use Rattle.std.proofs.lemmas.Bool.{and_from, le-leb, ne_eqb, cases_lt}
 use Rattle.std.proofs.lemmas.Fmt.{decimal_is_IsNumeral}
 use Rattle.std.proofs.lemmas.Str.Parse.{digit_from_value}
 use Rattle.std.specs.List.{list_all}
 use Rattle.std.specs.Str.Parse.{AllDigits}
 use Rattle.si_base.specs.declared.graph.Signal.{Signal}
 use Rattle.si_base.specs.declared.graph.SigKind.TheVariants.{Input, Output, Inserted}
-use Rattle.si_base.specs.Bytes.{digit_zero, digit_nine, dot, at_sign, opening_bracket, closing_bracket, less_sign}
-use Rattle.si_base.specs.Bytes.{greater_sign}
+use Rattle.si_base.specs.Bytes.{digit_zero, digit_nine, dot}
 use Rattle.si_base.specs.GivenGraph.{Sg}
-use Rattle.si_base.specs.Words.{is_between, is_letter, is_name_byte, is_word_byte, is_signal_name, IsStateName}
+use Rattle.si_base.specs.Words.{is_name_byte, is_signal_name, IsStateName}
+use Rattle.si_base.proofs.NumberedNames.{numbers_differ, digit_is_name_byte}
 use Rattle.si_sg.specs.CanonicalText.{IsWritable}
+use Rattle.si_sg.specs.StateWords.{is_state_byte}
 use Rattle.si_handshakes.specs.Handshakes.{numbered, IsHandshakes, max_handshakes}
-use Rattle.si_handshakes.proofs.NamesNumbered.{numbers_differ, length-numbered, name_at, both_kinds, twice_as_many}
+use Rattle.si_handshakes.proofs.NamesNumbered.{length-numbered, name_at, both_kinds, twice_as_many}
 use Rattle.si_handshakes.proofs.NamesNumbered.{input_at, output_at}
 use Rattle.si_handshakes.proofs.HandshakeProper.{connected}
 use Rattle.si_handshakes.proofs.HandshakeSizes.{within_limits}
@@ -31,20 +32,6 @@ digits_pass test each (d ∷ ds) digits =
 decimals_pass : (test : ℕ → Bool) → ((c : ℕ) → digit_zero ≤ c → c ≤ digit_nine → test c ≡ true) → (k : ℕ) → k < 2 ^ 64
     → list_all test (decimal k) ≡ true
 decimals_pass test each k small = digits_pass test each (decimal k) (decimal_is_IsNumeral k small).0.1
-
-digit_is_name_byte : (c : ℕ) → digit_zero ≤ c → c ≤ digit_nine → is_name_byte c ≡ true
-digit_is_name_byte c low high =
-    let digit : is_between digit_zero digit_nine c ≡ true =
-    and_from _ _ (le-leb digit_zero c low) (le-leb c digit_nine high) in
-    let early : (is_letter c || is_between digit_zero digit_nine c) ≡ true = or_right (is_letter c) _ digit in
-    let others : Bool → Bool =
-    λ b. b || (c == dot) || (c == opening_bracket) || (c == closing_bracket) || (c == less_sign)
-    || (c == greater_sign) in
-    ap others early
-
--- a byte of a state name
-abbrev is_state_byte : ℕ → Bool
-is_state_byte b = is_word_byte b && not (b == at_sign)
 
 digit_is_state_byte : (c : ℕ) → digit_zero ≤ c → c ≤ digit_nine → is_state_byte c ≡ true
 digit_is_state_byte c low high =

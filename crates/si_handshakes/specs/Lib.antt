@@ -1,2 +1,2 @@
 pub mod Handshakes
-pub mod Arcs
+pub mod Loops

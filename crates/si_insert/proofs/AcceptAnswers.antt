@@ -9,7 +9,7 @@ use Rattle.si_base.specs.Proper.{IsProper, loss_place}
 use Rattle.si_insert.specs.declared.partition.Class.{Class}
 use Rattle.si_insert.specs.Partition.{IsLawful, edge_place}
 use Rattle.si_insert.specs.Accepted.{DelaysNoInput, StaysProper, Delays, delay_place, LosesAtCopy}
-use Rattle.si_insert.specs.Pairs.{ArcWaits, PairBreaks, ArcBreaks}
+use Rattle.si_insert.specs.Loops.Pairs.{ArcWaits, PairBreaks, ArcBreaks}
 use Rattle.si_insert.proofs.PairTests.{first_waiting, first_broken, arc_of_delay, arc_of_loss}
 use Rattle.si_insert.proofs.AcceptedLosses.{no_delay, proper_if_none}
 use Rattle.si_insert.proofs.AcceptedByTests.{first_delay, first_loss}

@@ -18,7 +18,7 @@ use Rattle.si_insert.specs.Partition.{class_of, IsLawful}
 use Rattle.si_insert.specs.Insertion.{Copy, waits, IsInsertedGraph}
 use Rattle.si_insert.specs.Accepted.{DelaysNoInput, StaysProper, IsAccepted, copy_count, Delay, delay_place, Delays}
 use Rattle.si_insert.specs.Accepted.{LosesAtCopy, ShowsRejected}
-use Rattle.si_insert.specs.Tests.{InputWaits, WaitsAfter}
+use Rattle.si_insert.specs.Loops.Tests.{InputWaits, WaitsAfter}
 use Rattle.si_insert.specs.GraphOfCopies.{copies_of, graph_of_copies}
 use Rattle.si_insert.proofs.InsertionCopies.{copy, is_copy, given_copied, new_switches, new_stays, new_disables_none}
 use Rattle.si_insert.proofs.InsertionProper.{from_copy, leads, goes_on}

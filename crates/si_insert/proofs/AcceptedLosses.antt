@@ -11,11 +11,12 @@ use Rattle.si_base.specs.Codes.{CodedGraph, IsCoded, IsDeterministic}
 use Rattle.si_base.specs.Proper.{IsProper, IsPersistent, Loss, Loses}
 use Rattle.si_base.proofs.RightGateLemmas.{step_within}
 use Rattle.si_base.proofs.GraphSteps.{enables-step, step_from_enables}
+use Rattle.si_checks.proofs.LossLemmas.{no_loss_persists}
 use Rattle.si_insert.specs.declared.partition.Class.{Class}
 use Rattle.si_insert.specs.Partition.{class_of, IsLawful}
 use Rattle.si_insert.specs.Insertion.{Copy, IsCopy, IsCopied, Moves, waits, IsInsertedGraph}
 use Rattle.si_insert.specs.Accepted.{DelaysNoInput, StaysProper, Delay, Delays, IsDriven, LosesAtCopy}
-use Rattle.si_insert.specs.Tests.{InputWaits, WaitsAfter}
+use Rattle.si_insert.specs.Loops.Tests.{InputWaits, WaitsAfter}
 use Rattle.si_insert.proofs.PartitionClasses.{waits_switching, switching_there}
 use Rattle.si_insert.proofs.InsertionCopies.{copy, is_copy, placed, given_copied, old_is_given, moves_to_copy}
 use Rattle.si_insert.proofs.InsertionCopies.{new_stays}
@@ -266,20 +267,6 @@ lost_at_place g classes new copies h b graph lawful is loss =
       },
     )
 
--- a graph that loses nothing is persistent, and the other way round
-persistent_if_none : (h : StateGraph) → ((b : Loss) → Loses h b → ⊥) → IsPersistent h
-persistent_if_none h none s e f t non_input enabled step apart = elim (cases_Bool (enables h t e)) [
-  | inl still ↦ still
-  | inr gone ↦
-      absurd (none (record { s = s; lost = e; by = f })
-      (record {
-        non_input = non_input;
-        enabled = enabled;
-        by_another = apart;
-        after = (t, step, λ still. true≢false (sym still ∙ gone));
-      }))
-]
-
 none_if_persistent : (h : StateGraph) (b : Loss) → IsPersistent h → Loses h b → ⊥
 none_if_persistent h b stays loss =
     loss.after.2 (stays b.s b.lost b.by loss.after.0 loss.non_input loss.enabled loss.after.1 loss.by_another)
@@ -292,7 +279,7 @@ proper_if_none c classes is proper lawful none new copies h inserted = record {
   consistent = consistent c classes new copies h is lawful inserted;
   commutative = commutative c.graph classes new copies h is.graph_is is.deterministic proper.commutative inserted;
   persistent =
-      persistent_if_none h
+      no_loss_persists h
       (λ b loss. (let at = lost_at_copy c.graph classes new copies h b is.graph_is lawful inserted loss in
       none (record { s = at.0.state; lost = b.lost; by = b.by })
       (breaks_if_loses c.graph classes (record { s = at.0.state; lost = b.lost; by = b.by }) is.graph_is

@@ -2,7 +2,7 @@
 use Rattle.std.proofs.Common.{◌≡◌, ℕ, zero, suc, ◌+◌, ◌<◌, ◌↔◌, Bool, true, false, not, List, [], ◌∷◌, ◌++◌, length}
 use Rattle.std.proofs.Common.{slice_get, filter, Contains, Some, refl, sym, ap, subst, subst₂, ◌∙◌, arith, inl, inr}
 use Rattle.std.proofs.Common.{Less, nat_lt, lt-ltb, ◌==◌, eq-eqb, ap₂}
-use Rattle.std.proofs.lemmas.Bool.{true≢false, and_parts, and_from, cases_Bool}
+use Rattle.std.proofs.lemmas.Bool.{true≢false, and_parts, and_from, cases_Bool, not-true, not_from_false}
 use Rattle.std.proofs.lemmas.Option.{slice_get_within, get_or_from_slice_get}
 use Rattle.std.proofs.lemmas.List.Elements.{Contains-append_left, Contains-append_right, Contains-append_cases}
 use Rattle.std.specs.List.{AllByRecursion}
@@ -14,6 +14,7 @@ use Rattle.si_base.specs.declared.graph.SigKind.TheVariants.{Inserted}
 use Rattle.si_base.specs.Graph.{StateGraph, Step, arc, IsGraph}
 use Rattle.si_base.proofs.RightGateLemmas.{step_within}
 use Rattle.si_base.proofs.OrderAscending.{nat_same}
+use Rattle.si_base.proofs.Booleans.{twice_not}
 use Rattle.si_insert.specs.declared.partition.Class.{Class}
 use Rattle.si_insert.specs.declared.partition.Class.TheVariants.{Low, Rising, High, Falling}
 use Rattle.si_insert.specs.Partition.{class_of, IsLawful}
@@ -176,14 +177,6 @@ exactly g classes x count = (
 )
 
 -- ---- the arcs
-waits_not : (b : Bool) → not b ≡ true → b ≡ false
-waits_not true h = absurd (true≢false (sym h))
-waits_not false h = refl
-
-not_waits : (b : Bool) → b ≡ false → not b ≡ true
-not_waits true h = absurd (true≢false h)
-not_waits false h = refl
-
 arc_from : (k i m j : ℕ) (e f : Event) → i ≡ k → f ≡ e → j ≡ m → arc i f j ≡ arc k e m
 arc_from k i m j e f p q r = cc
 
@@ -197,7 +190,7 @@ joins_copied g classes z k e m graph lawful there =
     let parts =
     and_parts (has_copy (class_of classes a.0.from) b)
     (not (waits (class_of classes a.0.from) (class_of classes a.0.to) b)) f.1 in
-    let free = waits_not (waits (class_of classes a.0.from) (class_of classes a.0.to) b) parts.1 in
+    let free = not-true (waits (class_of classes a.0.from) (class_of classes a.0.to) b) parts.1 in
     let out = Contains-from_filter (λ (d : Edge). d.from == z.state) g.edges a.0 f.0 in
     let step : Step g a.0.from a.0.event a.0.to = out.0 in
     let inside = step_within g a.0.from a.0.event a.0.to graph step in
@@ -235,12 +228,8 @@ switches_if_class : (up : Bool) (c : Class) → c ≡ switching up → switches 
 switches_if_class true c same = rw same refl
 switches_if_class false c same = rw same refl
 
-not_not : (b : Bool) → b ≡ not (not b)
-not_not true = refl
-not_not false = refl
-
 other_value : (b up : Bool) → b ≡ not up → not b ≡ up
-other_value b up same = rw same (sym (not_not up))
+other_value b up same = rw same (sym (twice_not up))
 
 -- the arc of the new signal out of a copy
 pub only_switch : (g : StateGraph) (classes : List Class) (x : Copy) (a : Edge) → Contains (switch_edges g classes x) a
@@ -269,7 +258,7 @@ joins_switch g classes x k e m lawful is there =
       to = y;
       from_is = at_place g classes x lawful.count is;
       to_is = at_place g classes y lawful.count y_is;
-      moves = inr (record { new = refl; stays = refl; from = not_not x.value; to = refl; class = class });
+      moves = inr (record { new = refl; stays = refl; from = twice_not x.value; to = refl; class = class });
     } in
     let Q : Edge → Type 0 = λ d. Joins g classes (copies_of classes) d.from d.event d.to in
     subst Q only.1 here
@@ -292,7 +281,7 @@ copied_from : (g : StateGraph) (classes : List Class) (x : Copy) (e : Event) (y 
 copied_from g classes x e y is copied =
     let a = arc x.state e y.state in
     let passes : edge_has_copy classes x.value a ≡ true =
-    and_from _ _ is.there (not_waits (waits (class_of classes x.state) (class_of classes y.state) x.value)
+    and_from _ _ is.there (not_from_false (waits (class_of classes x.state) (class_of classes y.state) x.value)
     copied.goes) in
     let out : Contains (out_of g x.state) a =
     Contains-filter (λ (d : Edge). d.from == x.state) g.edges a copied.step (eq-eqb x.state x.state refl) in

@@ -19,7 +19,7 @@ use Rattle.si_insert.specs.Accepted.{IsAccepted, copy_count}
 use Rattle.si_insert.specs.GraphOfCopies.{CanBeMade, copies_of, new_edges, new_start}
 use Rattle.si_insert.proofs.ApplyInserts.{new_edge_joins, made_is_insertion, is_insertion}
 use Rattle.si_insert.specs.Insertion.{Copy, copy_code, new_signal}
-use Rattle.si_insert.specs.Applied.{IsApplied}
+use Rattle.si_insert.specs.Loops.Applied.{IsApplied}
 use Rattle.si_insert.specs.Fresh.{IsTaken}
 use Rattle.si_insert.proofs.InsertionCodes.{is_coded as new_coded}
 use Rattle.si_insert.proofs.AcceptAnswers.{Handed, is_coded, graph_is}

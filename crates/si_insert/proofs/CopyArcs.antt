@@ -12,7 +12,7 @@ use Rattle.si_base.specs.EdgeOrder.{edge_cmp}
 use Rattle.si_base.specs.Graph.{StateGraph}
 use Rattle.si_base.proofs.RightGateLemmas.{step_within}
 use Rattle.si_base.proofs.GivenGraphUnique.{same_edges}
-use Rattle.si_graph.specs.Arcs.{AreOut}
+use Rattle.si_graph.specs.Loops.Arcs.{AreOut}
 use Rattle.si_graph.proofs.ListMembers.{Contains-filter, Contains-from_filter}
 use Rattle.si_insert.specs.declared.partition.Class.{Class}
 use Rattle.si_insert.specs.declared.partition.Class.TheVariants.{Low, Rising, High, Falling}

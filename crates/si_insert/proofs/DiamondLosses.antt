@@ -7,7 +7,7 @@ use Rattle.si_insert.specs.declared.partition.Class.{Class}
 use Rattle.si_insert.specs.Partition.{class_of, may_lead}
 use Rattle.si_insert.specs.Insertion.{waits, has_copy}
 use Rattle.si_insert.specs.Diamond.{Diamond}
-use Rattle.si_insert.specs.Tests.{WaitsAfter}
+use Rattle.si_insert.specs.Loops.Tests.{WaitsAfter}
 use Rattle.si_insert.proofs.PairWaiting.{waiting, waits_if, goes_into}
 
 -- after the one event the other waits, where that leads out of the class and didn't wait before

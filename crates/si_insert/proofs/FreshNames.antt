@@ -1,24 +1,15 @@
 -- A signal name with a number behind it is a signal name.
-use Rattle.std.proofs.Common.{◌≡◌, ℕ, ◌^◌, ◌<◌, ◌≤◌, ◌||◌, ◌==◌, Bool, true, List, [], ◌∷◌, ◌++◌, length, IsTrue}
+use Rattle.std.proofs.Common.{◌≡◌, ℕ, ◌^◌, ◌<◌, ◌≤◌, true, List, [], ◌∷◌, ◌++◌, length, IsTrue}
 use Rattle.std.proofs.Common.{decimal, refl, sym, ap, subst, arith}
-use Rattle.std.proofs.lemmas.Bool.{and_parts, and_from, or_right, le-leb, true≢false}
+use Rattle.std.proofs.lemmas.Bool.{and_parts, and_from, true≢false}
 use Rattle.std.proofs.lemmas.Fmt.{decimal_is_IsNumeral}
 use Rattle.std.proofs.lemmas.Str.Parse.{digit_from_value}
 use Rattle.std.specs.List.{list_all}
 use Rattle.std.specs.Str.Parse.{AllDigits}
 use Rattle.si_base.specs.declared.graph.Signal.{Signal}
-use Rattle.si_base.specs.Bytes.{digit_zero, digit_nine, dot, opening_bracket, closing_bracket, less_sign, greater_sign}
 use Rattle.si_base.specs.Limits.{max_signals}
-use Rattle.si_base.specs.Words.{is_signal_name, is_name_byte, is_letter, is_between}
-
-digit_is_name_byte : (c : ℕ) → digit_zero ≤ c → c ≤ digit_nine → is_name_byte c ≡ true
-digit_is_name_byte c low high =
-    let digit : is_between digit_zero digit_nine c ≡ true = and_from _ _ (le-leb 48 c low) (le-leb c 57 high) in
-    let early : (is_letter c || is_between digit_zero digit_nine c) ≡ true = or_right (is_letter c) _ digit in
-    let others : Bool → Bool =
-    λ b. b || (c == dot) || (c == opening_bracket) || (c == closing_bracket) || (c == less_sign)
-    || (c == greater_sign) in
-    ap others early
+use Rattle.si_base.specs.Words.{is_signal_name, is_name_byte, is_letter}
+use Rattle.si_base.proofs.NumberedNames.{digit_is_name_byte}
 
 all_name_bytes : (ds : List ℕ) → AllDigits 10 ds → list_all is_name_byte ds ≡ true
 all_name_bytes [] digits = refl

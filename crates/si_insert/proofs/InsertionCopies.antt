@@ -11,6 +11,7 @@ use Rattle.si_base.specs.Codes.{IsDeterministic}
 use Rattle.si_base.specs.Proper.{IsCommutative}
 use Rattle.si_base.proofs.RightGateLemmas.{step_within}
 use Rattle.si_base.proofs.OrderAscending.{sorted_at, nat_same, bool_same}
+use Rattle.si_base.proofs.Booleans.{not_itself}
 use Rattle.si_insert.specs.declared.partition.Class.{Class}
 use Rattle.si_insert.specs.Partition.{class_of, IsLawful}
 use Rattle.si_insert.specs.Insertion.{Copy, IsCopy, IsCopied, IsSwitch, Moves, has_copy, waits, switching, copy_cmp}
@@ -96,10 +97,6 @@ moves_one_way g classes x e y z graph one (inl a) b =
 moves_one_way g classes x e y z graph one (inr a) b =
     let c = new_switches g classes x e z graph a.new b in
     same_copy y z (a.stays ∙ sym c.stays) (a.to ∙ sym c.to)
-
-not_itself : (b : Bool) → b ≡ not b → ⊥
-not_itself true h = true≢false h
-not_itself false h = true≢false (sym h)
 
 -- a move by a given event keeps the value, a switch the state
 commute_cases : (g : StateGraph) (classes : List Class) (x t w u w2 : Copy) (a c : Event) → IsGraph g

@@ -1,6 +1,6 @@
 -- What an accepted insertion keeps.
 use Rattle.std.proofs.Common.{◌≡◌, ℕ, ◌+◌, ◌<◌, ◌≤◌, ◌⊎◌, ◌↔◌, Bool, true, false, not, List, [], ◌∷◌, ◌++◌, length}
-use Rattle.std.proofs.Common.{slice_get, map, Option, Some, IsTrue, refl, sym, ap, subst, subst₂, ◌∙◌, arith, inl, inr}
+use Rattle.std.proofs.Common.{slice_get, map, Some, IsTrue, refl, sym, ap, subst, subst₂, ◌∙◌, arith, inl, inr, Option}
 use Rattle.std.proofs.lemmas.Bool.{true≢false, cases_eq}
 use Rattle.std.proofs.lemmas.Option.{slice_get_within, slice_get_cases, get_or_from_slice_get, slice_get-map}
 use Rattle.std.proofs.lemmas.List.{length_push, length-map}
@@ -16,6 +16,8 @@ use Rattle.si_base.specs.Codes.{CodedGraph, code, IsCoded}
 use Rattle.si_base.specs.Proper.{IsProper}
 use Rattle.si_base.proofs.RightGateLemmas.{step_within, code_fits}
 use Rattle.si_base.proofs.GraphSteps.{enables-step, step_from_enables}
+use Rattle.si_base.proofs.Booleans.{not_itself}
+use Rattle.si_base.proofs.StepCodes.{no_bit}
 use Rattle.si_insert.specs.declared.partition.Class.{Class}
 use Rattle.si_insert.specs.Partition.{class_of, IsLawful}
 use Rattle.si_insert.specs.Insertion.{Copy, IsCopied, IsSwitch, Moves, entry, switching, IsInsertedGraph, copy_code}
@@ -28,18 +30,18 @@ use Rattle.si_insert.specs.Lineage.{CanMake}
 use Rattle.si_insert.specs.Lineage.{Keeps}
 use Rattle.si_insert.proofs.PartitionClasses.{waits_switching, goes_after}
 use Rattle.si_insert.proofs.InsertionCopies.{copy, same_copy, one_place, copy_at}
-use Rattle.si_insert.proofs.InsertionProper.{leads, from_copy, goes_on, code_at, old_bit, new_bit, no_bit}
+use Rattle.si_insert.proofs.InsertionProper.{leads, from_copy, goes_on, code_at, old_bit, new_bit}
 use Rattle.si_insert.proofs.InsertionCodes.{is_coded}
 use Rattle.si_insert.proofs.AcceptedLosses.{goes_or_waits, front, in_front, at_last}
+
+pub some_same : {X : Type 0} (a b : X) (o : Option X) → o ≡ Some a → o ≡ Some b → a ≡ b
+some_same a b o p q = cc
 
 pub origin_at : (v : Current) (copies : List Copy) (h : StateGraph) (k : ℕ) (x : Copy) → slice_get copies k ≡ Some x
     → origin (next_current v copies h) k ≡ origin v x.state
 origin_at v copies h k x at =
     get_or_from_slice_get (map (λ (x : Copy). origin v x.state) copies) k (origin v x.state) 0
     (slice_get-map (λ (x : Copy). origin v x.state) copies k ∙ ap (option_map (λ (x : Copy). origin v x.state)) at)
-
-some_same : {X : Type 0} (a b : X) (o : Option X) → o ≡ Some a → o ≡ Some b → a ≡ b
-some_same a b o p q = cc
 
 -- ---- silent walks
 pub join : (n : ℕ) (h : StateGraph) (k : ℕ) (es : List Event) (m : ℕ) (fs : List Event) (l : ℕ) → Silently n h k es m
@@ -57,10 +59,6 @@ apart_classes true true c p q same = absurd (true≢false (sym p ∙ q))
 apart_classes true false c p q same = cc
 apart_classes false true c p q same = cc
 apart_classes false false c p q same = absurd (true≢false (sym q ∙ p))
-
-not_itself : (b : Bool) → b ≡ not b → ⊥
-not_itself true h = true≢false h
-not_itself false h = true≢false (sym h)
 
 -- the new signal switches at most once at a state
 once : (g : StateGraph) (classes : List Class) (x : Copy) (es : List Event) (y : Copy) → SwitchWalk g classes x es y
@@ -181,9 +179,6 @@ lift_walk n g classes new copies h k x (e ∷ es) t graph lawful is more at walk
     )
 
 -- ---- one insertion
-is_lawful : (v : Current) (p : TraceStep) (u : Current) → Inserts v p u → IsLawful v.coded.graph p.partition
-is_lawful v p u ins = ins.accepted.lawful
-
 abbrev new_signal : TraceStep → Signal
 new_signal p = insertion.new_signal p.name
 

@@ -1,10 +1,9 @@
 -- the inserted graph for a lawful partition: reachable, deterministic, commutative, consistent with its codes.
-use Rattle.std.proofs.Common.{◌≡◌, ℕ, suc, ◌<◌, ◌≤◌, ◌^◌, ◌==◌, Bool, true, false, not, List, [], ◌∷◌, ◌++◌, length}
+use Rattle.std.proofs.Common.{◌≡◌, ℕ, suc, ◌<◌, ◌^◌, Bool, true, false, not, List, [], ◌∷◌, ◌++◌, length}
 use Rattle.std.proofs.Common.{slice_get, map, Option, Some, refl, sym, ap, subst, ◌∙◌, arith, inl, inr}
 use Rattle.std.proofs.lemmas.Option.{slice_get_within, get_or_from_slice_get, slice_get-map}
 use Rattle.std.proofs.lemmas.Nat.{xor_lt}
 use Rattle.std.proofs.Math.Pow.{pow-lt}
-use Rattle.std.proofs.lemmas.Nat.Bits.{bit_at_above}
 use Rattle.std.specs.Option.{option_map}
 use Rattle.si_base.specs.declared.ids.Event.{Event}
 use Rattle.si_base.specs.declared.graph.Signal.{Signal}
@@ -14,6 +13,7 @@ use Rattle.si_base.specs.Codes.{CodedGraph, code, IsCoded, IsDeterministic, IsCo
 use Rattle.si_base.specs.Proper.{IsCommutative}
 use Rattle.si_base.proofs.RightGateLemmas.{step_within, code_fits}
 use Rattle.si_base.proofs.BitFacts.{flip-same, flip-other}
+use Rattle.si_base.proofs.StepCodes.{no_bit}
 use Rattle.si_insert.specs.declared.partition.Class.{Class}
 use Rattle.si_insert.specs.Partition.{class_of, IsLawful}
 use Rattle.si_insert.specs.Insertion.{Copy, IsCopy, IsCopied, IsSwitch, Moves, entry, IsInsertedGraph, copy_code, coded}
@@ -152,9 +152,6 @@ old_bit c x a other = at x.value
     at : (b : Bool) → bit (copy_code c (copy x.state b)) a ≡ bit (code c x.state) a
     at true = flip-other (code c x.state) (length c.graph.signals) a other
     at false = refl
-
-pub no_bit : (k n i : ℕ) → k < 2 ^ n → n ≤ i → bit k i ≡ false
-no_bit k n i small above = ap (λ (x : ℕ). x == 1) (bit_at_above k n i small above)
 
 pub new_bit : (c : CodedGraph) (x : Copy) → IsCoded c → x.state < c.graph.states
     → bit (copy_code c x) (length c.graph.signals) ≡ x.value

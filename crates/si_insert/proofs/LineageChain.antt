@@ -1,5 +1,5 @@
 -- The chain theorem: right gates for the current graph of a lineage implement its given graph.
-use Rattle.std.proofs.Common.{◌≡◌, ℕ, ◌<◌, ◌≤◌, not, Bool, true, false, List, [], ◌∷◌, refl, sym, ap, subst, subst₂}
+use Rattle.std.proofs.Common.{◌≡◌, ℕ, ◌<◌, ◌≤◌, not, true, false, List, [], ◌∷◌, refl, sym, ap, subst, subst₂}
 use Rattle.std.proofs.Common.{◌∙◌, IsTrue, arith, length, slice_get, Option, Some, None, IsSome, inl, inr}
 use Rattle.std.proofs.lemmas.Bool.{true≢false, cases_lt}
 use Rattle.std.proofs.lemmas.Option.{slice_get_within, slice_get_cases}
@@ -20,11 +20,12 @@ use Rattle.si_base.specs.Behaviour.{IsBisimilar, IsInputEvent, IsHidden, LosesNo
 use Rattle.si_base.specs.Behaviour.{Implements}
 use Rattle.si_base.proofs.RightGateLemmas.{step_within, code_of_step, old_value, excited_enables, enabled_excites}
 use Rattle.si_base.proofs.GraphSteps.{enables-step, step_from_enables}
+use Rattle.si_base.proofs.Booleans.{twice_not}
 use Rattle.si_insert.specs.Accepted.{IsInput}
 use Rattle.si_insert.specs.declared.lineage.TraceStep.{TraceStep}
 use Rattle.si_insert.specs.Lineage.{Current, given_current, origin, IsLineage, Silently, Keeps, AllGiven}
 use Rattle.si_insert.specs.Built.{IsBuilt}
-use Rattle.si_insert.proofs.InsertionKeeps.{keeps}
+use Rattle.si_insert.proofs.InsertionKeeps.{keeps, some_same}
 
 -- ---- the tie: the values are the code of a current state, and the place is its origin
 pub record Stands (v : Current) (x : State) (k : ℕ) : Type 0 where
@@ -143,10 +144,6 @@ reached_stands given v n x c reached =
     reached.1
 
 -- ---- no lost excitation
-not-not : (b : Bool) → b ≡ not (not b)
-not-not true = refl
-not-not false = refl
-
 pub loses_none : (given : CodedGraph) (v : Current) (n : Netlist) → IsCircuit given v n
     → LosesNoExcitation given.graph n
 loses_none given v n c x y e z reached fires other excited =
@@ -157,7 +154,7 @@ loses_none given v n c x y e z reached fires other excited =
     let Excited : ℕ → Type 0 = λ w. IsExcited n w z in
     let at_s = subst Excited before.1.values excited in
     let event : Event = record { sig = z; up = not (bit (code v.coded s) z) } in
-    let enabled = excited_enables v.coded n s z event.up c.built.gives before.1.there at_s (not-not _) in
+    let enabled = excited_enables v.coded n s z event.up c.built.gives before.1.there at_s (twice_not _) in
     let InGraph : List Signal → Type 0 = λ signals. IsNonInput signals z in
     let non_input = subst InGraph c.built.signals excited.gate in
     let within = slice_get_within v.coded.graph.signals z non_input.0 non_input.1 in
@@ -283,9 +280,6 @@ runs_silent given v n x k (e ∷ es) y c stands hidden runs =
 
 place_is : (x : State) (s : ℕ) → x.place ≡ Some s → IsSome x.place
 place_is x s h = rw h refl
-
-some_same : {X : Type 0} (a b : X) (o : Option X) → o ≡ Some a → o ≡ Some b → a ≡ b
-some_same a b o p q = cc
 
 not_hidden_given : (given : CodedGraph) (v : Current) (n : Netlist) (k : ℕ) (e : Event) (m : ℕ) → IsCircuit given v n
     → Step v.coded.graph k e m → (IsHidden n e → ⊥) → e.sig < length given.graph.signals

@@ -2,7 +2,7 @@
 use Rattle.std.proofs.Common.{◌≡◌, ℕ, ◌-◌, ◌<◌, [], ◌∷◌, Some, None, refl, ap, arith}
 use Rattle.si_insert.specs.declared.lineage.TraceStep.{TraceStep}
 use Rattle.si_insert.specs.Lineage.{Current, Inserts, IsTrace}
-use Rattle.si_insert.specs.RowSearch.{IsLeastSeen, bar}
+use Rattle.si_insert.specs.Loops.RowSearch.{IsLeastSeen, bar}
 use Rattle.si_insert.proofs.RowSearchLemmas.{search_start, search_take}
 
 -- no insertion leads to the graph itself, and one to what it makes

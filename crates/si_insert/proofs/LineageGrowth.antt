@@ -16,7 +16,7 @@ use Rattle.si_insert.specs.Partition.{IsLawful}
 use Rattle.si_insert.specs.Insertion.{Copy}
 use Rattle.si_insert.specs.Accepted.{IsAccepted}
 use Rattle.si_insert.specs.GraphOfCopies.{copies_of}
-use Rattle.si_insert.specs.Applied.{IsApplied}
+use Rattle.si_insert.specs.Loops.Applied.{IsApplied}
 use Rattle.si_insert.specs.Lineage.{Current, Inserts, IsLineage}
 use Rattle.si_insert.proofs.StateCopyPlaces.{copies_within}
 use Rattle.si_insert.proofs.OneInsertion.{lineage_on}

@@ -27,15 +27,6 @@ named_after v p u ins name named =
     subst (All P) (sym (signals_after v p u ins))
     (All-append P v.coded.graph.signals (new_signal p.name ∷ []) named last)
 
--- each insertion leaves room for fewer signals
-pub fewer_left : (v : Current) (p : TraceStep) (u : Current) → Inserts v p u
-    → max_signals - length u.coded.graph.signals < max_signals - length v.coded.graph.signals
-fewer_left v p u ins =
-    let after = ap (length {A = Signal}) (signals_after v p u ins) in
-    let few = ins.accepted.few_signals in
-    let size = length-append v.coded.graph.signals (new_signal p.name ∷ []) in
-    omega (arith, after, few, size)
-
 -- ---- the trace
 module _ (Step : Current → TraceStep → Current → Type 0) where
   -- a trace leads from the one lineage to the other

@@ -1,6 +1,6 @@
 -- The class whose states an arc waits to leave.
 use Rattle.std.proofs.Common.{◌≡◌, ◌≢◌, ◌⊎◌, Bool, true, false, not, refl, sym, ap, subst, ◌∙◌, inl, inr}
-use Rattle.std.proofs.lemmas.Bool.{true≢false}
+use Rattle.std.proofs.lemmas.Bool.{true≢false, cases_Bool}
 use Rattle.si_insert.specs.declared.partition.Class.{Class}
 use Rattle.si_insert.specs.declared.partition.Class.TheVariants.{Low, Rising, High, Falling}
 use Rattle.si_insert.specs.Partition.{may_lead}
@@ -35,12 +35,8 @@ pub waits_if : (s t : Class) (b : Bool) → s ≡ waiting b → t ≢ waiting b 
 waits_if s t true from to = is_waiting s t true (inr (refl, from, to))
 waits_if s t false from to = is_waiting s t false (inl (refl, from, to))
 
-either : (b : Bool) → (b ≡ true) ⊎ (b ≡ false)
-either true = inl refl
-either false = inr refl
-
 pub goes_elsewhere : (s t : Class) (b : Bool) → s ≢ waiting b → waits s t b ≡ false
-goes_elsewhere s t b other = elim (either (waits s t b)) [
+goes_elsewhere s t b other = elim (cases_Bool (waits s t b)) [
   | inl h ↦ absurd (other (waits_switching s t b h))
   | inr h ↦ h
 ]

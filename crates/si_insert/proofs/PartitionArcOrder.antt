@@ -1,6 +1,6 @@
 -- The first arc of a list in order is the first by its place.
-use Rattle.std.proofs.Common.{◌≡◌, ℕ, ◌+◌, ◌*◌, ◌<◌, ◌⊎◌, ◌==◌, Bool, true, false, List, [], ◌∷◌, length, get_or}
-use Rattle.std.proofs.Common.{Contains, refl, sym, ap, ap₂, subst, ◌∙◌, arith, inl, inr, Less, Greater, nat_lt, le-ltb}
+use Rattle.std.proofs.Common.{◌≡◌, ℕ, ◌+◌, ◌*◌, ◌<◌, ◌⊎◌, ◌==◌, Bool, true, false, List, length, get_or}
+use Rattle.std.proofs.Common.{Contains, refl, sym, ap, subst, ◌∙◌, arith, inl, inr, Less, Greater, nat_lt, le-ltb}
 use Rattle.std.proofs.Common.{eq-eqb, ne_eqb, if◌then◌else◌}
 use Rattle.std.proofs.lemmas.Bool.{cases_order, cases_lt}
 use Rattle.std.proofs.lemmas.List.{get_or_default}
@@ -11,6 +11,8 @@ use Rattle.std.specs.List.Sorted.{IsStrictlySortedBy}
 use Rattle.si_base.specs.Order.{Before, IsFirst}
 use Rattle.si_base.specs.Graph.{StateGraph, event_place, IsGraph}
 use Rattle.si_base.proofs.OrderAscending.{sorted_at, nat_same, bool_same}
+use Rattle.si_base.proofs.OrderLemmas.{before_itself}
+use Rattle.si_graph.proofs.OrderLemmas.{event_from_place}
 use Rattle.si_insert.specs.Partition.{edge_place}
 use Rattle.si_insert.proofs.InsertionLimits.{not_less_from, not_less_sig}
 
@@ -28,19 +30,6 @@ place_cases e f less = by_direction e.up f.up refl refl less
       | inl small ↦ inl small
       | inr large ↦ inr (omega (arith, h, large), p, q)
     ]
-
-pub same_place : (e f : Event) → event_place e ≡ event_place f → e ≡ f
-same_place e f same = by_direction e.up f.up refl refl same
-  where
-    make : ℕ → Bool → Event
-    make a up = record { sig = a; up = up }
-
-    by_direction : (a b : Bool) → e.up ≡ a → f.up ≡ b → 2 * e.sig + (if a then 0 else 1) ≡ 2 *
-        f.sig + (if b then 0 else 1) → e ≡ f
-    by_direction true true p q h = ap₂ make (omega (arith, h)) (p ∙ sym q)
-    by_direction false false p q h = ap₂ make (omega (arith, h)) (p ∙ sym q)
-    by_direction false true p q h = absurd (omega (arith, h))
-    by_direction true false p q h = absurd (omega (arith, h))
 
 not_less_up : (a b : Edge) → a.from ≡ b.from → b.event.sig ≡ a.event.sig → b.event.up ≡ true → a.event.up ≡ false
     → edge_cmp a b ≡ Less → ⊥
@@ -70,13 +59,8 @@ not_after a b (inr (same, inl event)) less = elim (place_cases b.event a.event e
   | inr r ↦ not_less_up a b (sym same) r.0 r.1 r.2 less
 ]
 not_after a b (inr (same, inr (event, inl to))) less =
-    not_less_to a b (sym same) (sym (same_place b.event a.event event)) to less
+    not_less_to a b (sym same) (sym (event_from_place b.event a.event event)) to less
 not_after a b (inr (same, inr (event, inr (to, never)))) less = absurd never
-
-not_before_itself : (xs : List ℕ) → Before xs xs → ⊥
-not_before_itself [] h = h
-not_before_itself (x ∷ xs) (inl less) = omega arith
-not_before_itself (x ∷ xs) (inr rest) = not_before_itself xs rest.1
 
 -- an item of an ordered list that has P, where no item before it in the list has P, is the first
 pub first_of_list : (items : List Edge) (P : Edge → Type 0) (k : ℕ) (a : Edge) → IsStrictlySortedBy edge_cmp items
@@ -92,7 +76,7 @@ first_of_list items P k a ordered within at holds member none = record {
             let at_b : get_or items k b ≡ b = subst Q same c.2 in
             let same_arc : a ≡ b = sym at ∙ get_or_default items k a b within ∙ at_b in
             let R : Edge → Type 0 = λ d. Before (edge_place d) (edge_place a) in
-            not_before_itself (edge_place a) (subst R (sym same_arc) before))
+            before_itself (edge_place a) (subst R (sym same_arc) before))
         | inr (inr later) ↦
             (let less = sorted_at edge_cmp items ordered k c.0 b later c.1 in
             let at_a : get_or items k b ≡ a = get_or_default items k b a within ∙ at in

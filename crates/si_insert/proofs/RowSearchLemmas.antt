@@ -4,10 +4,10 @@ use Rattle.std.proofs.Common.{sym, ap, subst, subst₂, ◌∙◌, arith, inl, i
 use Rattle.std.proofs.lemmas.Bool.{cases_lt}
 use Rattle.si_base.specs.Order.{Before, IsFirst}
 use Rattle.si_base.proofs.OrderLemmas.{before_apart, before_itself}
-use Rattle.si_checks.specs.Searches.{IsFirstOrNone}
+use Rattle.si_checks.specs.Loops.Searches.{IsFirstOrNone}
 use Rattle.si_checks.proofs.SearchDecisions.{Decided}
 use Rattle.si_checks.proofs.SearchFirst.{firsts_at_one_place}
-use Rattle.si_insert.specs.RowSearch.{weight_order, IsSeen, IsLeastSeen, bar}
+use Rattle.si_insert.specs.Loops.RowSearch.{weight_order, IsSeen, IsLeastSeen, bar}
 
 -- ---- the order of places in rows
 abbrev at : ℕ → ℕ → List ℕ

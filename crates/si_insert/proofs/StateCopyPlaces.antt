@@ -35,11 +35,6 @@ firsts_more classes n k firsts new f is made = rw made (record {
   ];
 })
 
-pub all_firsts : (classes : List Class) (n : ℕ) (firsts : List ℕ) → FirstsBelow classes n firsts → n ≡ length classes
-    → AreFirsts classes firsts
-all_firsts classes n firsts f same =
-    record { count = f.count ∙ same; firsts_are = λ s small. f.firsts_are s (omega arith) }
-
 -- the copies of one state more
 pub copies_push : (i : ℕ) (xs : List Class) (c : Class)
     → copies_from i (xs ++ c ∷ []) ≡ copies_from i xs ++ copies_from (i + length xs) (c ∷ [])

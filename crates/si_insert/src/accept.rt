@@ -11,7 +11,8 @@ ghost use Rattle.si_base.specs.Limits.{max_states};
 ghost use Rattle.si_insert.specs.Partition.{IsLawful};
 ghost use Rattle.si_insert.specs.Accepted.{IsInput, IsAccepted, ShowsRejected, copy_count};
 ghost use Rattle.si_insert.specs.Accepted.{DelaysNoInput, StaysProper};
-ghost use Rattle.si_insert.specs.Pairs.{breaks, IsHeld, IsBroken, ArcWaits, PairBreaks, ArcBreaks};
+ghost use Rattle.si_insert.specs.Loops.Pairs.{breaks, IsHeld, IsBroken, ArcWaits, PairBreaks};
+ghost use Rattle.si_insert.specs.Loops.Pairs.{ArcBreaks};
 
 use crate::partition::{Class, Partition};
 use si_base::graph::{Edge, SigKind};

@@ -2,12 +2,10 @@
 
 ghost use Rattle.std.specs.Prelude.{◌≡◌, ◌<◌, ◌≤◌, ◌++◌, ◌∷◌, [], IfOk, OnOk, All};
 ghost use Rattle.std.specs.Prelude.{length, map};
-ghost use Rattle.std.specs.List.Sorted.{IsStrictlySortedBy};
-ghost use Rattle.si_base.specs.EdgeOrder.{edge_cmp};
 ghost use Rattle.si_base.specs.Graph.{IsGraph, IsMadeOf};
 ghost use Rattle.si_base.specs.Limits.{max_signals};
 ghost use Rattle.si_insert.specs.Accepted.{IsAccepted, copy_count};
-ghost use Rattle.si_insert.specs.Applied.{IsApplied};
+ghost use Rattle.si_insert.specs.Loops.Applied.{IsApplied};
 ghost use Rattle.si_insert.specs.Fresh.{IsTaken};
 ghost use Rattle.si_insert.specs.Insertion;
 ghost use Rattle.si_insert.specs.Insertion.{new_signal};
@@ -127,7 +125,6 @@ fn edges_of(
     requires firsts { AreFirsts classes.now firsts.now }
     requires copies { copies.now ≡ GraphOfCopies.copies_of classes.now }
     ensures all { IfOk result (λ edges. edges.items ≡ new_edges graph.now classes.now) }
-    ensures ordered { IfOk result (λ edges. IsStrictlySortedBy edge_cmp edges.items) }
 {
     let mut edges = Vec::with_capacity(alloc, graph.edges() as usize + copies.len())?;
     for x in copies {

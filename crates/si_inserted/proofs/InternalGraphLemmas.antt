@@ -80,10 +80,6 @@ pub driven_before : (xs : List Signal) (z : ℕ) → IsNonInput (map given_signa
 driven_before xs z (x, at, driven) =
     given_at z x (slice_get xs z) (sym (slice_get-map given_signal xs z) ∙ at) driven
 
-pub driven_after : (xs : List Signal) (z : ℕ) → IsNonInput xs z → IsNonInput (map given_signal xs) z
-driven_after xs z (x, at, driven) =
-    (given_signal x, slice_get-map given_signal xs z ∙ ap (option_map given_signal) at, same_drive x.kind ∙ driven)
-
 -- ---- the graph
 pub internal_is_graph : (g : StateGraph) → IsGraph g → IsGraph (internal_graph g)
 internal_is_graph g is =

@@ -17,11 +17,10 @@ use Rattle.si_circuit.proofs.SpellingTellsStates.{one_word}
 use Rattle.si_circuit.proofs.SpellingMarks.{mark_length, same_split}
 use Rattle.si_insert.specs.Lineage.{History, IsLineage, origin}
 use Rattle.si_insert.proofs.InsertionKeeps.{keeps}
+use Rattle.si_circuit.proofs.SpelledInsertions.{no_at}
 use Rattle.si_inserted.specs.Current.{current_name, current_names, name_byte}
 
 -- ---- bytes
-abbrev no_at : ℕ → Bool
-no_at b = not (b == at_sign)
 
 abbrev plain : ℕ → Bool
 plain b = is_word_byte b && no_at b

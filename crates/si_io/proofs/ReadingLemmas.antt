@@ -1,11 +1,14 @@
 -- Bytes that are written or read one part after another.
-use Rattle.std.proofs.Common.{◌≡◌, ℕ, ◌+◌, ◌<◌, ◌≤◌, Bool, true, false, if◌then◌else◌, List, [], ◌++◌, Option, Some}
-use Rattle.std.proofs.Common.{None, IfSome, Result, Ok, Err, sym, ap, subst, ◌∙◌, append_assoc, append-nil, length}
+use Rattle.std.proofs.Common.{◌≡◌, ◌≢◌, ℕ, ◌+◌, ◌<◌, ◌≤◌, Bool, true, false, if◌then◌else◌, List, [], ◌∷◌, ◌++◌, Option}
+use Rattle.std.proofs.Common.{Some, None, refl, IfSome, Result, Ok, Err, sym, ap, subst, ◌∙◌, append_assoc, append-nil, length}
 use Rattle.std.proofs.Common.{length-append, length-take, take, drop, arith}
 use Rattle.std.proofs.lemmas.List.{take-append-drop, take-append-le}
+use Rattle.std.proofs.lemmas.List.Folds.{concat-append}
 use Rattle.std.proofs.Math.Seq.{take-append_seam, take-append-add}
 use Rattle.std.proofs.KnownBytes.{Appends-trans, Appends-kept, Consumes-trans}
 use Rattle.std.specs.Io.KnownBytes.{Appends, Keeps, WriteAppends, Consumes, IsAtEnd}
+use Rattle.std.specs.List.{concat}
+use Rattle.si_io.specs.Host.{AreRead, AreWritten}
 use Rattle.si_io.specs.Outside.{IsContent}
 
 -- a part more of the piece is done
@@ -81,3 +84,39 @@ still_within new old front buffer n size limit joined lent room =
       length-take size
           buffer,
     )
+
+-- ---- calls, one after another
+pub one_more_read : {Source : Type 0} (Reads : Source → List ℕ → Source → Type 0) (pieces : List (List ℕ))
+    (piece : List ℕ) (old now next : Source) → AreRead Reads pieces old now → piece ≢ [] → Reads now piece next
+    → AreRead Reads (pieces ++ piece ∷ []) old next
+one_more_read Reads [] piece old now next same some one = (some, next, rw (sym same) one, refl)
+one_more_read Reads (p ∷ pieces) piece old now next path some one =
+    (path.0, path.1, path.2, one_more_read Reads pieces piece path.1 now next path.3 some one)
+
+-- the bytes of one piece more
+pub joined_more : (pieces : List (List ℕ)) (piece old new : List ℕ) → concat pieces ≡ old → new ≡ old ++ piece
+    → concat (pieces ++ piece ∷ []) ≡ new
+joined_more pieces piece old new joined is = concat-append pieces (piece ∷ [])
+    ∙ ap (λ (l : List ℕ). concat pieces ++ l) (append-nil piece)
+    ∙ ap (λ (l : List ℕ). l ++ piece) joined ∙ sym is
+
+pub some_taken : (front : List ℕ) (n : ℕ) → 0 < n → n ≤ length front → take n front ≢ []
+some_taken front n some within none = omega (arith, length-take n front, ap length none)
+
+pub read_nothing : {Source : Type 0} (Reads : Source → List ℕ → Source → Type 0) (old new : Source) (buffer : List ℕ)
+    (n : ℕ) → n ≡ 0 → Reads old (take n buffer) new → Reads old [] new
+read_nothing Reads old new buffer n none read = (let P : ℕ → Type 0 = λ k. Reads old (take k buffer) new in
+    subst P none read)
+
+pub one_more_written : {Outlet : Type 0} (Writes : Outlet → List ℕ → ℕ → Outlet → Type 0) (counts : List ℕ)
+    (count : ℕ) (piece rest : List ℕ) (old now next : Outlet) → AreWritten Writes counts piece rest old now
+    → 0 < count → Writes now rest count next
+    → AreWritten Writes (counts ++ count ∷ []) piece (drop count rest) old next
+one_more_written Writes [] count piece rest old now next same some one =
+    (some, next, rw (sym same.0, sym same.1) one, (ap (drop count) same.0, refl))
+one_more_written Writes (c ∷ counts) count piece rest old now next path some one =
+    (path.0, path.1, path.2, one_more_written Writes counts count (drop c piece) rest path.1 now next path.3 some one)
+
+pub nothing_left : (rest : List ℕ) → length rest ≡ 0 → rest ≡ []
+nothing_left [] none = refl
+nothing_left (byte ∷ rest) none = absurd (omega (arith, none))

@@ -4,8 +4,8 @@
 ghost use Rattle.std.specs.Prelude.{◌≡◌, ◌≢◌, ◌⊎◌, ℕ, ◌+◌, ◌^◌, ◌<◌, ◌≤◌, List, take, None, OnOk};
 ghost use Rattle.std.specs.Prelude.{Err};
 ghost use Rattle.std.specs.Io.KnownBytes.{Appends};
-ghost use Rattle.si_io.specs.Host.{IsRead};
-ghost use Rattle.si_io.specs.Outside.{IsLoad, one_more};
+ghost use Rattle.si_io.specs.Host.{IsLoadOf, IsPutTo, IsRead, OutletCalls, StoreCalls};
+ghost use Rattle.si_io.specs.Outside.{IsLoad, answer_of, one_more};
 
 use crate::reading::read_all;
 use crate::shelf::{LoadFault, Shelf};
@@ -14,47 +14,65 @@ use crate::system::{FileStore, Outlet};
 use std::alloc::Global;
 
 /// The files of a store. One count of faults serves for every name. What a load answers is what the
-/// file of that name holds, or `Failed`. No contract says which bytes those are: that `fs::open`
-/// opens the file of the name that it is given is left to trust.
+/// file of that name holds, or `Failed`; the file is opened once, and read once. No contract says
+/// which bytes those are: that `fs::open` opens the file of the name that it is given is left to
+/// trust.
 #[derive(Drop)]
-pub struct HostShelf<'a, R> {
-    store: &'a R,
+pub struct HostShelf<R> {
+    store: R,
     faults: u64,
 }
 
-impl<'a, R: FileStore> HostShelf<'a, R> {
+impl<R: FileStore> HostShelf<R> {
     /// The files that the store reaches.
-    pub fn new(store: &'a R) -> HostShelf<'a, R>
-        ensures store { result.store.now ≡ store.now }
+    pub fn new(store: R) -> HostShelf<R>
+        ensures store { result.store ≡ store }
         ensures faults { result.faults ≡ 0 }
     {
         HostShelf { store, faults: 0 }
     }
 }
 
-impl<R: FileStore> Shelf for HostShelf<'_, R> {
+impl<R: FileStore> Shelf for HostShelf<R> {
     ghost content = { λ _ _. None };
 
     ghost faults = { λ s _. s.faults };
 
-    ghost loads = { λ old _ new. new.store ≡ old.store };
+    ghost loads = { λ old name answer new. IsLoadOf (record {
+      Opens = R.opens;
+      Refuses = R.refuses;
+      Closes = R.closes;
+      Reads = R.File.reads;
+      Fails = R.File.fails;
+      remaining = R.File.remaining;
+    }) name answer old.store new.store };
 
     fn load(&mut self, alloc: Global, name: &str, limit: u64) -> Result<Vec<u8>, LoadFault>
         requires { limit + 1 < 2 ^ 64 }
         ensures load { IsLoad None limit self.old.faults self.new.faults result }
-        ensures file { (result ≡ Err LoadFault.Failed × R.refuses self.old.store.now name.now)
+        ensures file { (result ≡ Err LoadFault.Failed
+            × R.refuses self.old.store name.now self.new.store)
             ⊎ IsRead (record {
-              remaining = R.File.remaining;
-              Opens = R.opens self.old.store.now name.now;
-              Closes = R.closes self.old.store.now;
+              Opens = R.opens;
+              Refuses = R.refuses;
+              Closes = R.closes;
+              Reads = R.File.reads;
               Fails = R.File.fails;
-            }) limit self.old.faults self.new.faults result }
+              remaining = R.File.remaining;
+            }) name.now limit self.old.faults self.new.faults result self.old.store self.new.store }
         ensures taken { (taken : ℕ) → result ≡ Err (LoadFault.TooLong taken) → taken ≡ limit + 1 }
         ensures rises { result ≡ Err LoadFault.Failed → self.new.faults ≡ one_more self.old.faults }
         ensures later { self.old.faults ≤ self.new.faults }
         ensures without_fault { result ≢ Err LoadFault.Failed
             → (n : List ℕ) → self.new.faults ≡ self.old.faults }
-        ensures loaded { self.new.store ≡ self.old.store }
+        ensures loaded { IsLoadOf (record {
+          Opens = R.opens;
+          Refuses = R.refuses;
+          Closes = R.closes;
+          Reads = R.File.reads;
+          Fails = R.File.fails;
+          remaining = R.File.remaining;
+        }) name.now (answer_of result) self.old.store self.new.store }
     {
         let Ok(mut file) = self.store.open(name) else {
             self.faults = self.faults.saturating_add(1);
@@ -68,7 +86,7 @@ impl<R: FileStore> Shelf for HostShelf<'_, R> {
 
 /// A writer of the host. It never answers `NoMemory`. To a writer that tells the bytes that it
 /// holds, a put that answers `Ok` appended the piece, and one that fails a prefix of it. After `Ok`
-/// all was flushed.
+/// all was flushed; a write or a flush that failed is the last call, and so is a write of nothing.
 #[derive(Drop)]
 pub struct HostSink<W> {
     writer: W,
@@ -90,8 +108,12 @@ impl<W: Outlet> Sink for HostSink<W> {
 
     ghost faults = { λ s. s.faults };
 
-    ghost puts = { λ old piece new. Appends (W.contents old.writer) (W.contents new.writer) piece
-        × W.is_flushed new.writer };
+    ghost puts = { λ old piece answer new. IsPutTo (record {
+      Writes = W.writes;
+      Fails = W.fails;
+      Flushes = W.flushes;
+      FailsToFlush = W.fails_to_flush;
+    }) piece answer old.writer new.writer };
 
     fn put(&mut self, piece: &[u8]) -> Result<(), PutFault>
         ensures has_memory { result ≢ Err PutFault.NoMemory }
@@ -102,9 +124,12 @@ impl<W: Outlet> Sink for HostSink<W> {
         ensures rises { result ≡ Err PutFault.Failed → self.new.faults ≡ one_more self.old.faults }
         ensures stays { result ≢ Err PutFault.Failed → self.new.faults ≡ self.old.faults }
         ensures later { self.old.faults ≤ self.new.faults }
-        ensures taken { OnOk result
-            (Appends (W.contents self.old.writer) (W.contents self.new.writer) piece.now
-            × W.is_flushed self.new.writer) }
+        ensures taken { IsPutTo (record {
+          Writes = W.writes;
+          Fails = W.fails;
+          Flushes = W.flushes;
+          FailsToFlush = W.fails_to_flush;
+        }) piece.now result self.old.writer self.new.writer }
     {
         let mut rest = piece;
         while !rest.is_empty() {

@@ -3,7 +3,8 @@
 ghost use Rattle.std.specs.Prelude.{◌≡◌, ◌≢◌, ℕ, ◌+◌, ◌^◌, ◌<◌, ◌≤◌, List, length, IfOk, OnErr};
 ghost use Rattle.std.specs.Prelude.{Err};
 ghost use Rattle.std.specs.Io.KnownBytes.{Consumes, IsAtEnd};
-ghost use Rattle.si_io.specs.Outside.{IsLoad, one_more};
+ghost use Rattle.si_io.specs.Host.{IsReadTo};
+ghost use Rattle.si_io.specs.Outside.{IsLoad, answer_of, one_more};
 
 use crate::shelf::LoadFault;
 use crate::system::Source;
@@ -25,7 +26,7 @@ fn new_chunk(alloc: Global) -> Result<Vec<u8>, LoadFault>
 
 /// All bytes that a reader has left, where they are at most `limit`. At most `limit + 1` of them
 /// are taken, whatever the answer. A call of `read` that fails ends it with `Failed`, and raises
-/// the count of faults.
+/// the count of faults; none is tried again.
 pub fn read_all<R: Source>(
     alloc: Global,
     reader: &mut R,
@@ -41,7 +42,7 @@ pub fn read_all<R: Source>(
         × (length part ≤ limit + 1) }
     ensures taken { (taken : ℕ) → result ≡ Err (LoadFault.TooLong taken) → taken ≡ limit + 1 }
     ensures rises { result ≡ Err LoadFault.Failed → faults.new ≡ one_more faults.old }
-    ensures broken { result ≡ Err LoadFault.Failed → R.fails reader.new }
+    ensures calls { IsReadTo R.reads R.fails (answer_of result) reader.old reader.new }
     ensures stays { result ≢ Err LoadFault.Failed → faults.new ≡ faults.old }
     ensures later { faults.old ≤ faults.new }
 {

@@ -1,20 +1,17 @@
 -- The text of covers is one, and there is one; and what its writers have still to add, a step at a time.
-use Rattle.std.proofs.Common.{◌≡◌, ℕ, zero, suc, ◌+◌, ◌<◌, ◌≤◌, false, List, [], ◌∷◌, ◌++◌, take, drop, length, get_or}
-use Rattle.std.proofs.Common.{slice_get, Some, All, Contains, AllPairs, Result, Ok, Err, OnOk, IsTrue, refl, sym, ap}
+use Rattle.std.proofs.Common.{◌≡◌, ℕ, suc, ◌+◌, ◌<◌, ◌≤◌, false, List, [], ◌∷◌, ◌++◌, take, drop, length, get_or}
+use Rattle.std.proofs.Common.{slice_get, Some, Contains, AllPairs, IsTrue, refl, sym, ap}
 use Rattle.std.proofs.Common.{ap₂, subst, ◌∙◌, add-one, append_assoc, codes, decimal, arith, inl, inr, if◌then◌else◌}
 use Rattle.std.proofs.Math.Seq.{drop-cons}
-use Rattle.std.proofs.lemmas.Bool.{cases_Bool, false_from_ne_true, false≢true}
+use Rattle.std.proofs.lemmas.Bool.{false_from_ne_true, false≢true}
 use Rattle.std.proofs.lemmas.Grind.{flat_map-append}
 use Rattle.std.proofs.lemmas.Option.{get_or_from_slice_get, slice_get_cases}
 use Rattle.std.proofs.lemmas.List.{append-nil, drop_all, get_or-map, get_or_default, length-map, take_more, take-map}
-use Rattle.std.proofs.lemmas.List.Elements.{All-cons, Contains-get_or}
-use Rattle.std.proofs.lemmas.List.Kept.{AllPairs-cons}
+use Rattle.std.proofs.lemmas.List.Elements.{Contains-get_or}
 use Rattle.si_base.specs.declared.graph.Signal.{Signal}
 use Rattle.si_base.specs.declared.ids.Literal.{Literal}
-use Rattle.si_base.specs.Bits.{bit}
 use Rattle.si_base.specs.Codes.{CodedGraph, IsCoded}
 use Rattle.si_base.specs.Graph.{IsNonInput, is_driven}
-use Rattle.si_base.specs.Limits.{code_width}
 use Rattle.si_base.specs.Netlist.{Sum}
 use Rattle.si_base.specs.NetlistText.{name_of, sum_words}
 use Rattle.si_base.specs.Order.{Before}
@@ -22,17 +19,16 @@ use Rattle.si_base.specs.Words.{line, text_of}
 use Rattle.si_base.proofs.OrderLemmas.{same_in_order}
 use Rattle.si_checks.proofs.ConflictsDecided.{conflict_or_none}
 use Rattle.si_checks.proofs.UniqueBreaches.{one_conflict}
-use Rattle.si_cover.specs.Mono.{InSignalOrder}
 use Rattle.si_cover.proofs.MonoLemmas.{least_monos_have_same_literals, outside_is_none, no_mono_is_unique}
 use Rattle.si_cover.proofs.MonosExist.{mono_or_none}
-use Rattle.si_cube.specs.Literals.{literals_from, literals_of}
+use Rattle.si_cube.specs.Literals.{InSignalOrder}
 use Rattle.si_graph.proofs.ListMembers.{Contains-cons_cases, Contains-here, Contains-there, Contains-nil}
 use Rattle.si_regions.specs.declared.regions.Region.{Region}
 use Rattle.si_regions.specs.Regions.{IsRegion, AreRegions}
 use Rattle.si_regions.proofs.RegionsExist.{some_regions}
 use Rattle.si_regions.proofs.UniqueRegions.{one_list}
-use Rattle.si_words.specs.Writing.{spaced}
-use Rattle.si_words.proofs.WritingLemmas.{whole_line}
+use Rattle.si_words.specs.Loops.Writing.{spaced}
+use Rattle.si_words.proofs.WritingLemmas.{whole_line, grouped, grouped_two}
 use Rattle.si_listings.specs.CoverText.{RegionCube, LeastCube, NoCube, IsRegionCube, Component, AreComponents}
 use Rattle.si_listings.specs.CoverText.{regions_of, sum_line}
 use Rattle.si_listings.specs.CoverText.{region_cube_words, mono_line, mono_lines, monos_after, signal_lines, lines_from}
@@ -147,14 +143,6 @@ some_cover_text c states coded = elim (conflict_or_none c) [
 ]
 
 -- ---- calls
-pub on_ok : {A E P Q : Type 0} (r : Result A E) → (P → Q) → OnOk r P → OnOk r Q
-on_ok (Ok x) f left = f left
-on_ok (Err e) f left = left
-
-grouped : (text word name rest : List ℕ) → (((text ++ word) ++ 32 ∷ name) ++ rest) ++ 10 ∷ []
-    ≡ ((text ++ word) ++ ((32 ∷ name) ++ rest)) ++ 10 ∷ []
-grouped text word name rest = simp append_assoc
-
 pub sum_by_calls : (text word : List ℕ) (signals : List Signal) (z : ℕ) (sum : Sum) (name first second third : List ℕ)
     → name ≡ name_of signals z → first ≡ text ++ word → second ≡ first ++ 32 ∷ name
     → third ≡ second ++ spaced (sum_words signals sum)
@@ -173,11 +161,6 @@ told_by_call c r states signals here told text new is same one other left =
     left ∙ ap₂ (λ (l : List Signal) (t : RegionCube). text ++ spaced (region_cube_words l states t)) same
     (one_told c r here told is one other)
 
-mono_grouped : (text kind event number rest : List ℕ)
-    → ((((text ++ kind) ++ 32 ∷ event) ++ 32 ∷ number) ++ rest) ++ 10 ∷ []
-    ≡ ((text ++ kind) ++ ((32 ∷ event) ++ ((32 ∷ number) ++ rest))) ++ 10 ∷ []
-mono_grouped text kind event number rest = simp append_assoc
-
 pub mono_by_calls : (text : List ℕ) (signals : List Signal) (states : List (List ℕ)) (number : ℕ) (r : Region)
     (told : RegionCube) (word first second third fourth fifth : List ℕ) → word ≡ decimal number
     → first ≡ text ++ codes "mono"
@@ -187,7 +170,7 @@ pub mono_by_calls : (text : List ℕ) (signals : List Signal) (states : List (Li
 mono_by_calls text signals states number r told word first second third fourth fifth e0 e1 e2 e3 e4 e5 =
     let words = region_cube_words signals states told in
     let event = event_word signals r.event in
-    rw (e5, e4, e3, e2, e1) (mono_grouped text (codes "mono") event word (spaced words)
+    rw (e5, e4, e3, e2, e1) (grouped_two text (codes "mono") event word (spaced words)
     ∙ whole_line text (codes "mono") (event ∷ word ∷ words)
     ∙ ap (λ (w : List ℕ). text ++ line (codes "mono" ∷ event ∷ w ∷ words)) e0)
 
@@ -311,29 +294,3 @@ unfolding covers_text
 signals_written c states xs i text all so_far =
     let rest : List Signal → List ℕ = λ l. text_of (lines_from c states xs i l) in
     sym (append-nil text) ∙ ap (λ (t : List ℕ). text ++ t) (ap rest (sym (drop_all i c.graph.signals all))) ∙ so_far
-
--- ---- a cube's literals
-at_least : (n i j care value : ℕ) → i ≤ j → All (λ (l : Literal). i ≤ l.sig) (literals_from n j care value)
-at_least zero i j care value low = λ k d within. absurd (omega (arith, within))
-at_least (suc n) i j care value low =
-    let rest = at_least n i (j + 1) care value (omega (arith, low)) in
-    elim (cases_Bool (bit care j)) [
-      | inl here ↦ rw here (All-cons (λ (l : Literal). i ≤ l.sig) (record { sig = j; plain = bit value j })
-          (literals_from n (j + 1) care value) low rest)
-      | inr none ↦ rw none rest
-    ]
-
-rise_from : (n i care value : ℕ) → InSignalOrder (literals_from n i care value)
-rise_from zero i care value = λ j k d before within. absurd (omega (arith, within))
-rise_from (suc n) i care value =
-    let rest = literals_from n (i + 1) care value in
-    let above = at_least n (i + 1) (i + 1) care value (omega arith) in
-    elim (cases_Bool (bit care i)) [
-      | inl here ↦ rw here (AllPairs-cons (λ (x y : Literal). x.sig < y.sig) (record { sig = i; plain = bit value i })
-          rest (λ k d within. (let a = above k d within in omega (arith, a))) (rise_from n (i + 1) care value))
-      | inr none ↦ rw none (rise_from n (i + 1) care value)
-    ]
-
-pub literals_in_order : (care value : ℕ) → InSignalOrder (literals_of care value)
-unfolding literals_of
-literals_in_order care value = rise_from code_width 0 care value

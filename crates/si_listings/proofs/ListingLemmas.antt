@@ -8,8 +8,8 @@ use Rattle.si_base.specs.declared.graph.Signal.{Signal}
 use Rattle.si_base.specs.declared.ids.Event.{Event}
 use Rattle.si_base.specs.Codes.{CodedGraph}
 use Rattle.si_base.specs.Words.{line, text_of}
-use Rattle.si_words.specs.Writing.{spaced}
-use Rattle.si_words.proofs.WritingLemmas.{whole_line}
+use Rattle.si_words.specs.Loops.Writing.{spaced}
+use Rattle.si_words.proofs.WritingLemmas.{whole_line, grouped_two}
 use Rattle.si_regions.specs.declared.regions.Region.{Region}
 use Rattle.si_regions.proofs.UniqueRegions as unique
 use Rattle.si_conflicts.specs.declared.conflicts.Pair.{Pair}
@@ -75,40 +75,14 @@ unfolding conflicts_text
 conflicts_by_calls states count pairs number empty first all e1 e2 e3 e4 = rw (e4, e3, e2, e1) refl
 
 -- ---- the line of a set
-grouped : (text kind event number states : List ℕ)
-    → ((((text ++ kind) ++ 32 ∷ event) ++ 32 ∷ number) ++ states) ++ 10 ∷ []
-    ≡ ((text ++ kind) ++ ((32 ∷ event) ++ ((32 ∷ number) ++ states))) ++ 10 ∷ []
-grouped text kind event number states = simp append_assoc
-
 pub set_by_calls : (text kind : List ℕ) (signals : List Signal) (states : List (List ℕ)) (e : Event) (number : List ℕ)
     (set : List ℕ) (first second third fourth : List ℕ) → first ≡ text ++ kind
     → second ≡ first ++ 32 ∷ event_word signals e → third ≡ second ++ 32 ∷ number
     → fourth ≡ third ++ spaced (map (state_at states) set)
     → fourth ++ 10 ∷ [] ≡ text ++ line (set_line kind signals states e number set)
 set_by_calls text kind signals states e number set first second third fourth e1 e2 e3 e4 =
-    rw (e4, e3, e2, e1) (grouped text kind (event_word signals e) number (spaced (map (state_at states) set))
+    rw (e4, e3, e2, e1) (grouped_two text kind (event_word signals e) number (spaced (map (state_at states) set))
     ∙ whole_line text kind (event_word signals e ∷ number ∷ map (state_at states) set))
-
--- ---- the lines of a region
-three : (text a b c : List ℕ) → ((text ++ a) ++ b) ++ c ≡ text ++ (a ++ (b ++ (c ++ [])))
-three text a b c = simp (append_assoc, append-nil)
-
-module _ (text : List ℕ) (signals : List Signal) (states : List (List ℕ)) (r : Region) where
-  -- the line of a set of the region, with the word for its number
-  abbrev part : List ℕ → List ℕ → List ℕ → List ℕ
-  part kind set word = line (set_line kind signals states r.event word set)
-
-  abbrev parts : List ℕ → List ℕ
-  parts word = part (codes "er") r.er word ++ (part (codes "sr") r.sr word ++ (part (codes "qr") r.qr word ++ []))
-
-  pub region_by_calls : (number : ℕ) (word first second : List ℕ) → word ≡ decimal number
-      → first ≡ text ++ part (codes "er") r.er word → second ≡ first ++ part (codes "sr") r.sr word
-      → second ++ part (codes "qr") r.qr word ≡ text ++ text_of (region_lines signals states number r)
-  region_by_calls number word first second e1 e2 e3 =
-      ap (λ (t : List ℕ). t ++ part (codes "qr") r.qr word)
-      (e3 ∙ ap (λ (t : List ℕ). t ++ part (codes "sr") r.sr word) e2)
-      ∙ three text (part (codes "er") r.er word) (part (codes "sr") r.sr word) (part (codes "qr") r.qr word)
-      ∙ ap (λ (w : List ℕ). text ++ parts w) e1
 
 -- ---- the lines of regions, from the k-th on
 abbrev pub regions_from : List Signal → List (List ℕ) → List Region → ℕ → List ℕ

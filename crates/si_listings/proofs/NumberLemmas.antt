@@ -10,6 +10,7 @@ use Rattle.si_base.specs.Graph.{StateGraph, IsGraph, event_place, same_event}
 use Rattle.si_base.specs.Codes.{CodedGraph, IsCoded}
 use Rattle.si_base.proofs.StepCodes.{step_within}
 use Rattle.si_base.proofs.GraphSteps.{same_event-refl, same_event-true, step_from_enables}
+use Rattle.si_base.proofs.Booleans.{one_if}
 use Rattle.si_graph.proofs.OrderLemmas.{event_from_place}
 use Rattle.si_regions.specs.declared.regions.Region.{Region}
 use Rattle.si_regions.specs.Regions.{IsRegion, WalkThrough, region_place}
@@ -23,10 +24,6 @@ use Rattle.si_listings.specs.RegionText.{number_after, IsWithinNames, RepeatsEve
 pub record IsNumber (regions : List Region) (k number : ℕ) : Type 0 where
   pub none : k ≡ 0 → number ≡ 0
   pub some : (j : ℕ) (r : Region) → k ≡ j + 1 → r ≡ get_or regions j r → number ≡ number_after (take j regions) r
-
--- what an element adds to a count
-abbrev one_if : Bool → ℕ
-one_if b = cond b 1 0
 
 none_counted : {A : Type 0} (f : A → Bool) (xs : List A) → ((j : ℕ) (d : A) → j < length xs → f (get_or xs j d) ≡ false)
     → count_by f xs ≡ 0

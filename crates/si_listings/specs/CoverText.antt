@@ -10,10 +10,11 @@ use Rattle.si_base.specs.NetlistText.{name_of, cube_words, sum_words}
 use Rattle.si_base.specs.Order.{IsFirst}
 use Rattle.si_base.specs.Proper.{HasNoConflict, IsConflict, pair_place}
 use Rattle.si_base.specs.Words.{line, text_of}
+use Rattle.si_cube.specs.Literals.{InSignalOrder}
 use Rattle.si_regions.specs.declared.regions.Region.{Region}
 use Rattle.si_regions.specs.Regions.{AreRegions}
 use Rattle.si_cover.specs.declared.kind.SumKind.TheVariants.{Next, Set, Reset}
-use Rattle.si_cover.specs.Mono.{InSignalOrder, IsLeastMono, ShowsNoMono}
+use Rattle.si_cover.specs.Mono.{IsLeastMono, ShowsNoMono}
 use Rattle.si_cover.specs.Demands.{chosen_sum}
 use Rattle.si_listings.specs.ConflictText.{pair_line}
 use Rattle.si_listings.specs.RegionText.{number_after}

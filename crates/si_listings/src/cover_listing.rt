@@ -4,8 +4,7 @@ ghost use Rattle.std.specs.Prelude.{◌≡◌, ◌<◌, ◌++◌, [], ◌∷◌,
 ghost use Rattle.si_base.specs.Graph.{IsNonInput};
 ghost use Rattle.si_base.specs.NetlistText.{cube_words};
 ghost use Rattle.si_base.specs.Words.{line, text_of};
-ghost use Rattle.si_checks.specs.Lent.{coded_of};
-ghost use Rattle.si_cover.specs.Mono.{InSignalOrder};
+ghost use Rattle.si_checks.specs.Loops.Lent.{coded_of};
 ghost use Rattle.si_listings.specs.CoverText.{RegionCube, IsRegionCube, Component, AreComponents};
 ghost use Rattle.si_listings.specs.CoverText.{sum_line, sum_lines, region_cube_words, mono_line};
 ghost use Rattle.si_listings.specs.CoverText.{mono_lines};
@@ -13,7 +12,8 @@ ghost use Rattle.si_listings.specs.CoverText.{monos_after, signal_lines, conflic
 ghost use Rattle.si_listings.specs.CoverText.{TellsCovers, IsCoverText};
 ghost use Rattle.si_sg.specs.CanonicalText.{state_at};
 ghost use Rattle.si_regions.specs.Regions.{IsRegion, AreRegions};
-ghost use Rattle.si_words.specs.Writing.{spaced};
+ghost use Rattle.si_words.specs.Loops.Writing.{spaced};
+ghost use Rattle.si_cube.specs.Literals.{InSignalOrder};
 
 use crate::numbers::repeats;
 use crate::words::add_event;

@@ -2,7 +2,7 @@
 
 ghost use Rattle.std.specs.Prelude.{◌≡◌, ◌<◌, ◌++◌, ◌∷◌, OnOk, All, length, map};
 ghost use Rattle.si_base.specs.Bytes.{space};
-ghost use Rattle.si_words.specs.Writing.{spaced};
+ghost use Rattle.si_words.specs.Loops.Writing.{spaced};
 ghost use Rattle.si_sg.specs.CanonicalText.{state_at, event_word};
 
 use si_base::graph::{Signal, signal_name};

@@ -7,7 +7,7 @@ use Rattle.si_base.specs.Codes.{CodedGraph, IsCoded}
 use Rattle.si_base.specs.Limits.{max_signals, max_states}
 use Rattle.si_base.specs.Proper.{IsProper, HasNoConflict}
 use Rattle.si_cell.specs.Library.{Library, Instance, instance_value}
-use Rattle.si_checks.specs.Searches.{IsFirstOrNone}
+use Rattle.si_checks.specs.Loops.Searches.{IsFirstOrNone}
 use Rattle.si_checks.proofs.SearchDecisions.{Decided, both, driven, less}
 use Rattle.si_conflicts.specs.Left.{LeavesConflicts}
 use Rattle.si_conflicts.proofs.LeftCount.{one_left, some_left}

@@ -1,5 +1,5 @@
 -- The weight that an insertion leaves is one, whatever the new signal is called.
-use Rattle.std.proofs.Common.{◌≡◌, ℕ, zero, suc, ◌+◌, ◌&&◌, ◌||◌, not, Bool, true, false, List, [], ◌∷◌, ◌++◌, length}
+use Rattle.std.proofs.Common.{◌≡◌, ℕ, zero, suc, ◌+◌, ◌&&◌, ◌||◌, not, Bool, List, [], ◌∷◌, ◌++◌, length}
 use Rattle.std.proofs.Common.{map, is_none, if◌then◌else◌, refl, sym, ap, ap₂, subst, ◌∙◌, length-append}
 use Rattle.std.specs.List.{list_all, enumerate_from}
 use mathlib.Core.Bool.{beq}
@@ -11,6 +11,7 @@ use Rattle.si_base.specs.declared.graph.SigKind.TheVariants.{Inserted}
 use Rattle.si_base.specs.Graph.{StateGraph, Step, enables, rise, fall, is_driven}
 use Rattle.si_base.specs.Codes.{CodedGraph, code, next_value}
 use Rattle.si_base.proofs.GraphSteps.{enables-step, step_from_enables}
+use Rattle.si_base.proofs.Booleans.{same_if}
 use Rattle.si_cell.specs.Library.{Library, Instance, cell_at, pin_values}
 use Rattle.si_insert.specs.declared.partition.Class.{Class}
 use Rattle.si_insert.specs.Insertion.{Copy, IsInsertedGraph, coded, copy_code}
@@ -95,15 +96,10 @@ renamed g classes new other copies h kind a = record {
   arcs = a.arcs;
 }
 
-pub same_truth : (a b : Bool) → (a ≡ true → b ≡ true) → (b ≡ true → a ≡ true) → a ≡ b
-same_truth true b there back = sym (there refl)
-same_truth false true there back = back refl
-same_truth false false there back = refl
-
 same_enabled : (h k : StateGraph) → ((s : ℕ) (e : Event) (t : ℕ) → Step h s e t → Step k s e t)
     → ((s : ℕ) (e : Event) (t : ℕ) → Step k s e t → Step h s e t) → (s : ℕ) (e : Event)
     → enables h s e ≡ enables k s e
-same_enabled h k there back s e = same_truth (enables h s e) (enables k s e)
+same_enabled h k there back s e = same_if (enables h s e) (enables k s e)
     (λ on. (let t = step_from_enables h s e on in enables-step k s e t.0 (there s e t.0 t.1)))
     (λ on. (let t = step_from_enables k s e on in enables-step h s e t.0 (back s e t.0 t.1)))
 

@@ -12,7 +12,7 @@ use Rattle.si_match.specs.Fit.{first_fit}
 use Rattle.si_match.specs.Support.{support_of}
 use Rattle.si_match.specs.Weight.{weight_of}
 use Rattle.si_map.specs.Best.{Choice, IsBestPartition, NoneServes, choice_place}
-use Rattle.si_map.specs.Least.{AreLeast, HaveFewPins, IsLeast}
+use Rattle.si_map.specs.Loops.Least.{AreLeast, HaveFewPins, IsLeast}
 use mathlib.Core.Logic.{inl, inr}
 
 -- the input a is signal 0, the output b, which follows it, signal 1

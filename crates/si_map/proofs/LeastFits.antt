@@ -35,8 +35,8 @@ use Rattle.si_match.proofs.FitLemmas.{fit_fits, tells, told}
 use Rattle.si_match.proofs.SupportLemmas.{support_determines}
 use Rattle.si_match.proofs.TriggerLemmas.{missing_refutes, trigger_needed}
 use Rattle.si_match.proofs.UnfitLemmas.{one_le, size_le, triggers_le, unfit_adds}
-use Rattle.si_map.specs.Least.{HaveFewPins}
-use Rattle.si_map.specs.Waiting.{NeverWaits}
+use Rattle.si_map.specs.Loops.Least.{HaveFewPins}
+use Rattle.si_map.specs.Loops.Waiting.{NeverWaits}
 use Rattle.si_map.proofs.WaitingFits.{fits_by_new, given_bit, same_next}
 
 -- ---- the value of the new signal at which a state of the class is left: no arc waits there

@@ -6,7 +6,7 @@ use Rattle.std.proofs.lemmas.Bool.{cases_Bool, cases_lt, cases_order, true≢fal
 use Rattle.std.proofs.Common.{add-one}
 use Rattle.std.proofs.Math.Seq.{drop-cons}
 use Rattle.std.proofs.lemmas.List.{drop_all, get_or_append_left, get_or_default, get_or_past, get_or_push, length_push}
-use Rattle.std.proofs.lemmas.List.Elements.{All-nil, All-push}
+use Rattle.std.proofs.lemmas.List.Elements.{All-push}
 use Rattle.std.proofs.lemmas.Option.{slice_get-get_or, slice_get_within}
 use Rattle.si_base.specs.Bits.{bit}
 use Rattle.si_base.specs.Codes.{CodedGraph, IsCoded}
@@ -30,10 +30,10 @@ use Rattle.si_match.proofs.DroppingLemmas.{determined_by_more}
 use Rattle.si_match.proofs.UnfitLemmas.{size_le}
 use Rattle.si_match.proofs.WeightLemmas.{begins, driven, input}
 use Rattle.si_map.specs.Best.{LeavesWeight}
-use Rattle.si_map.specs.Least.{AddsAtLeast, AddsTo, AreAllTriggers, AreLeast, HaveFewPins, IsLeast}
-use Rattle.si_map.specs.Least.{TellsEnough, sum_outside}
-use Rattle.si_map.specs.Progress.{LeavesNoneBelow}
-use Rattle.si_map.specs.Waiting.{NeverWaits}
+use Rattle.si_map.specs.Loops.Least.{AddsAtLeast, AddsTo, AreAllTriggers, AreLeast, HaveFewPins, IsLeast}
+use Rattle.si_map.specs.Loops.Least.{TellsEnough, sum_outside}
+use Rattle.si_map.specs.Loops.Progress.{LeavesNoneBelow}
+use Rattle.si_map.specs.Loops.Waiting.{NeverWaits}
 use Rattle.si_map.proofs.BestWeight.{weight_is_one}
 use Rattle.si_map.proofs.LeastFits.{adds_one_more, adds_triggers}
 use Rattle.si_map.proofs.SearchConflicts.{none_left}
@@ -47,13 +47,6 @@ pub record AreLeastBefore (c : CodedGraph) (library : Library) (count : ℕ) (le
 
 pub nothing_known : (c : CodedGraph) (library : Library) (z : ℕ) → IsLeast c library z 0
 nothing_known c library z more = absurd (omega (arith, more))
-
-pub none_before : (c : CodedGraph) (library : Library) (least : List ℕ) → least ≡ [] → AreLeastBefore c library 0 least
-none_before c library least is = subst (AreLeastBefore c library 0) (sym is) (record {
-  count_is = refl;
-  small = All-nil (λ w. w ≤ 2 + code_width);
-  each = λ z. nothing_known c library z;
-})
 
 pub one_more : (c : CodedGraph) (library : Library) (i w : ℕ) (least : List ℕ) → AreLeastBefore c library i least
     → w ≤ 2 + code_width → IsLeast c library i w → AreLeastBefore c library (i + 1) (least ++ w ∷ [])
@@ -70,11 +63,6 @@ one_more c library i w least before small is = record {
         (nothing_known c library z)
   ];
 }
-
-pub all_known : (c : CodedGraph) (library : Library) (count : ℕ) (least : List ℕ) → count ≡ length c.graph.signals
-    → AreLeastBefore c library count least → AreLeast c library least
-all_known c library count least all before =
-    record { count = before.count_is ∙ all; small = before.small; each = before.each }
 
 -- ---- one signal
 module _ (c : CodedGraph) (z triggers size most : ℕ) (is : IsCoded c) (driven : IsNonInput c.graph.signals z)

@@ -16,5 +16,4 @@ pub mod SearchSignals
 pub mod NextFunctions
 pub mod BestExists
 pub mod TraceLemmas
-pub mod MapLemmas
 pub mod EndsExist

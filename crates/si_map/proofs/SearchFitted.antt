@@ -1,15 +1,16 @@
 -- Signal after signal, those that fit.
 use Rattle.std.proofs.Common.{◌≡◌, ◌↔◌, ℕ, ◌+◌, ◌<◌, ◌≤◌, IsTrue, Bool, false, length, is_some, sym, ap}
-use Rattle.std.proofs.Common.{subst, ◌∙◌, arith, inl, inr}
+use Rattle.std.proofs.Common.{subst, ◌∙◌, arith, inl, inr, Option, Some, None, is_none, true, if◌then◌else◌, refl}
 use Rattle.std.proofs.lemmas.Bool.{true≢false}
 use Rattle.std.proofs.lemmas.Bool.Decides.{eqb_tells}
 use Rattle.std.proofs.lemmas.Option.{slice_get_within}
 use Rattle.si_base.specs.Bits.{bit, IsSet}
 use Rattle.si_base.specs.Codes.{CodedGraph}
 use Rattle.si_base.specs.Graph.{StateGraph, IsNonInput}
-use Rattle.si_cell.specs.Library.{Library}
+use Rattle.si_cell.specs.Library.{Library, Instance}
 use Rattle.si_match.specs.Fit.{first_fit}
-use Rattle.si_map.specs.Progress.{AreFitted}
+use Rattle.si_match.specs.Weight.{added_weight, size_of_support}
+use Rattle.si_map.specs.Loops.Progress.{AreFitted}
 
 module _ (c : CodedGraph) (library : Library) where
   -- the set has those of the first signals, so many, that fit
@@ -44,3 +45,21 @@ module _ (c : CodedGraph) (library : Library) where
   all_fitted i fitted past before z (x, at, driven) =
       let within = slice_get_within c.graph.signals z x at in
       before z (omega (arith, within, past)) (x, at, driven)
+
+  -- ---- what is known of one signal
+  module _ (z : ℕ) (fits : Bool) (are : fits ≡ is_some (first_fit c library z)) where
+    pub fitted_adds : fits ≡ true → 0 ≡ added_weight c library z
+    fitted_adds there = by_fit (first_fit c library z) (sym are ∙ there)
+      where
+        by_fit : (o : Option Instance) → is_some o ≡ true
+            → 0 ≡ (if is_none o then 1 + size_of_support c z else 0)
+        by_fit None is = absurd (true≢false (sym is))
+        by_fit (Some i) is = refl
+
+    pub unfit_adds : fits ≡ false → 1 + size_of_support c z ≡ added_weight c library z
+    unfit_adds clear = by_fit (first_fit c library z) (sym are ∙ clear)
+      where
+        by_fit : (o : Option Instance) → is_some o ≡ false
+            → 1 + size_of_support c z ≡ (if is_none o then 1 + size_of_support c z else 0)
+        by_fit None is = refl
+        by_fit (Some i) is = absurd (true≢false is)

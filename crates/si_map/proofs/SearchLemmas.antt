@@ -10,7 +10,7 @@ use Rattle.std.proofs.lemmas.List.Elements.{All-push}
 use Rattle.si_base.specs.Codes.{CodedGraph, IsCoded}
 use Rattle.si_base.specs.Proper.{HasNoConflict, IsProper}
 use Rattle.si_cell.specs.Library.{Library, Instance, instance_value}
-use Rattle.si_conflicts.specs.Chains.{AreChains}
+use Rattle.si_conflicts.specs.Loops.Chains.{AreChains}
 use Rattle.si_conflicts.specs.Left.{LeavesConflicts}
 use Rattle.si_divisor.specs.declared.function.Function.{Function}
 use Rattle.si_divisor.specs.Functions.{IsFunction, function_cmp}
@@ -22,7 +22,7 @@ use Rattle.si_divisor.proofs.OnePartitionFor.{one_partition}
 use Rattle.si_insert.specs.declared.partition.Class.{Class}
 use Rattle.si_insert.specs.Partition.{IsLawful}
 use Rattle.si_insert.specs.Accepted.{DelaysNoInput, IsAccepted, StaysProper}
-use Rattle.si_insert.specs.Applied.{IsApplied}
+use Rattle.si_insert.specs.Loops.Applied.{IsApplied}
 use Rattle.si_insert.specs.Fresh.{IsTaken}
 use Rattle.si_insert.specs.Insertion.{coded, new_signal}
 use Rattle.si_insert.specs.GraphOfCopies.{copies_of}
@@ -30,9 +30,10 @@ use Rattle.si_insert.proofs.AcceptedLosses.{no_delay, proper_if_none}
 use Rattle.si_match.specs.Weight.{weight_of}
 use Rattle.si_map.specs.declared.search.Search.{Search}
 use Rattle.si_map.specs.Best.{Choice, IsDivisorAt, LeavesWeight, Serves}
-use Rattle.si_map.specs.Least.{AreLeast}
-use Rattle.si_map.specs.Progress.{AreFitted, IsReady, IsSearching, HasTried, IsPassed, IsNewBest, IsTried, IsKnown}
-use Rattle.si_map.specs.Progress.{MayHaveRecorded, IsSpent, AreSpent, LeavesBelow, LeavesNoneBelow}
+use Rattle.si_map.specs.Loops.Least.{AreLeast}
+use Rattle.si_map.specs.Loops.Progress.{AreFitted, IsReady, IsSearching, HasTried, IsPassed, IsNewBest, IsTried}
+use Rattle.si_map.specs.Loops.Progress.{IsKnown}
+use Rattle.si_map.specs.Loops.Progress.{MayHaveRecorded, IsSpent, AreSpent, LeavesBelow, LeavesNoneBelow}
 use Rattle.si_map.proofs.BestDivisors.{one_divisor}
 use Rattle.si_map.proofs.SearchConflicts.{none_left}
 use Rattle.si_map.proofs.SearchSteps.{bar_low, search_skip, search_take}

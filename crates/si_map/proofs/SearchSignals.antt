@@ -6,13 +6,13 @@ use Rattle.std.proofs.lemmas.Option.{slice_get-get_or}
 use Rattle.si_base.specs.Codes.{CodedGraph}
 use Rattle.si_base.specs.Graph.{StateGraph, IsNonInput}
 use Rattle.si_cell.specs.Library.{Library, Instance}
-use Rattle.si_checks.specs.Searches.{IsFirstOrNone}
+use Rattle.si_checks.specs.Loops.Searches.{IsFirstOrNone}
 use Rattle.si_divisor.specs.Divisors.{AreDivisors}
 use Rattle.si_match.specs.Fit.{first_fit}
 use Rattle.si_map.specs.declared.search.Search.{Search}
 use Rattle.si_map.specs.Best.{Choice, IsBestPartition, IsUnfit, IsDivisorAt, Serves, choice_place}
-use Rattle.si_map.specs.Search.{IsEarlier}
-use Rattle.si_map.specs.Progress.{IsSearching, HasTried, classes_of}
+use Rattle.si_map.specs.Loops.Search.{IsEarlier}
+use Rattle.si_map.specs.Loops.Progress.{IsSearching, HasTried, classes_of}
 use Rattle.si_map.proofs.BestDivisors.{place_within}
 use Rattle.si_map.proofs.SearchSteps.{search_signal, search_ends}
 

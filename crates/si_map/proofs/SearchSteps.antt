@@ -1,13 +1,13 @@
 -- Steps of the search for the best divisor.
-use Rattle.std.proofs.Common.{◌≡◌, ℕ, ◌+◌, ◌<◌, ◌≤◌, length, Option, Some, None, inl}
+use Rattle.std.proofs.Common.{◌≡◌, ℕ, ◌+◌, ◌<◌, ◌≤◌, length, Option, Some, inl}
 use Rattle.std.proofs.lemmas.Option.{slice_get_within}
 use Rattle.si_base.specs.Codes.{CodedGraph}
 use Rattle.si_cell.specs.Library.{Library}
-use Rattle.si_checks.specs.Searches.{IsFirstOrNone}
+use Rattle.si_checks.specs.Loops.Searches.{IsFirstOrNone}
 use Rattle.si_insert.proofs.RowSearchLemmas as rows
 use Rattle.si_match.specs.Weight.{weight_of}
 use Rattle.si_map.specs.Best.{Choice, Serves, choice_place}
-use Rattle.si_map.specs.Search.{IsEarlier, IsBestSoFar, bar}
+use Rattle.si_map.specs.Loops.Search.{IsEarlier, IsBestSoFar, bar}
 use Rattle.si_map.proofs.OneBest.{one_weight}
 
 -- a row has the divisors of one signal, in the order of its list
@@ -25,9 +25,6 @@ module _ (c : CodedGraph) (library : Library) where
   lower x serves = serves.lower
 
   -- ---- steps
-  pub search_start : IsBestSoFar c library 0 0 None
-  search_start = rows.search_start (Serves c library) weight row place (weight_of c library) lower
-
   pub bar_low : (z k : ℕ) (o : Option Choice) → IsBestSoFar c library z k o
       → bar (weight_of c library) o ≤ weight_of c library
   bar_low = rows.bar_low (Serves c library) weight row place (weight_of c library) lower

@@ -22,19 +22,19 @@ use Rattle.si_match.specs.Fit.{first_fit, IsOver, Fits}
 use Rattle.si_match.specs.Triggers.{IsUnread}
 use Rattle.si_match.proofs.FitLemmas.{none_fits}
 use Rattle.si_match.proofs.TriggerLemmas.{same_values}
-use Rattle.si_map.specs.Waiting.{NeverWaits}
-use Rattle.si_map.specs.Progress.{AreFitted}
-use Rattle.si_match.specs.Known.{AreKnown}
+use Rattle.si_map.specs.Loops.Waiting.{NeverWaits}
+use Rattle.si_map.specs.Loops.Progress.{AreFitted}
+use Rattle.si_match.specs.Loops.Known.{AreKnown}
 use Rattle.si_match.specs.declared.known.KnownFits.{KnownFits}
 use Rattle.si_match.proofs.FitLemmas.{fit_fits}
-use Rattle.si_insert.specs.Applied.{IsApplied}
+use Rattle.si_insert.specs.Loops.Applied.{IsApplied}
 use Rattle.si_insert.specs.Insertion.{new_signal}
 use Rattle.si_insert.specs.GraphOfCopies.{copies_of}
 use Rattle.si_insert.proofs.AcceptedLosses.{driven_before}
 use Rattle.si_base.specs.Graph.{IsNonInput}
 use Rattle.std.proofs.lemmas.Bool.{true≢false}
 use Rattle.std.proofs.lemmas.Option.{slice_get_within}
-use Rattle.si_map.proofs.BestWeight.{same_truth}
+use Rattle.si_base.proofs.Booleans.{same_if}
 
 module _ (c : CodedGraph) (classes : List Class) (new : Signal) (copies : List Copy) (h : StateGraph)
     (is : IsCoded c) (lawful : IsLawful c.graph classes) (inserted : IsInsertedGraph c.graph classes new copies h) where
@@ -74,7 +74,7 @@ module _ (c : CodedGraph) (classes : List Class) (new : Signal) (copies : List C
           enables-step h k e to.0 to.2
 
       same_enabled : (e : Event) → e.sig ≡ z → enables h k e ≡ enables c.graph x.state e
-      same_enabled e of_z = same_truth (enables h k e) (enables c.graph x.state e) (leads_given e of_z)
+      same_enabled e of_z = same_if (enables h k e) (enables c.graph x.state e) (leads_given e of_z)
           (leads_copied e of_z)
 
       -- the next value at the copy is that at the state

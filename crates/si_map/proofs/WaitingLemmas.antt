@@ -8,7 +8,7 @@ use Rattle.si_base.specs.Bits.{bit, IsSet}
 use Rattle.si_base.specs.Graph.{StateGraph, arc}
 use Rattle.si_base.specs.declared.graph.Edge.{Edge}
 use Rattle.si_insert.specs.declared.partition.Class.{Class}
-use Rattle.si_map.specs.Waiting.{ArcNeverWaits, NeverWaits}
+use Rattle.si_map.specs.Loops.Waiting.{ArcNeverWaits, NeverWaits}
 
 -- of the first arcs, so many, those of signals that aren't in the set go on
 abbrev pub AreSeen : List Class → List Edge → ℕ → ℕ → Type 0

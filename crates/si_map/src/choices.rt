@@ -1,21 +1,21 @@
 //! Whether some instance fits, by the signals that it reads.
 
-ghost use Rattle.std.specs.Prelude.{◌≡◌, ℕ, ◌<◌, ◌≤◌, ◌+◌, ◌∷◌, ◌++◌, List, All, Contains};
+ghost use Rattle.std.specs.Prelude.{◌≡◌, ℕ, ◌<◌, ◌≤◌, ◌↔◌, ◌+◌, ◌∷◌, ◌++◌, List, All, Contains};
 ghost use Rattle.std.specs.Prelude.{length, true, false};
 ghost use Rattle.si_base.specs.Bits.{bit};
 ghost use Rattle.si_base.specs.Codes.{IsCoded};
 ghost use Rattle.si_base.specs.Limits.{code_width};
 ghost use Rattle.si_cell.specs.Library.{IsLibrary};
 ghost use Rattle.si_cell.specs.Limits.{max_pins};
-ghost use Rattle.si_match.specs.Apart.{NoneFitsWith};
-ghost use Rattle.si_match.specs.Choices.{AreOwed, Ascends, NoneFitsOver};
-ghost use Rattle.si_match.specs.Known.{IsFitted};
+ghost use Rattle.si_match.specs.Loops.Apart.{NoneFitsWith};
+ghost use Rattle.si_match.specs.Loops.Choices.{AreOwed, Ascends, NoneFitsOver};
+ghost use Rattle.si_match.specs.Loops.Known.{IsFitted};
 
-use crate::apart::told_apart;
 use arrayvec::ArrayVec;
 use si_base::ids::{Code, Sig};
 use si_cell::limits::MAX_PINS;
 use si_graph::coded::Coded;
+use si_match::apart::told_apart;
 use si_match::functions::LibraryFunctions;
 use si_match::places::some_table_agrees;
 use si_match::triggers::MAX_WITNESSES;
@@ -42,7 +42,7 @@ pub(crate) fn some_reading_fits(
     requires missing { AreOwed coded.now library.now z chosen.old.items missing }
     requires pins { length chosen.old.items + more ≡ max_pins }
     requires signals { All (λ y. y < length coded.now.graph.signals) chosen.old.items }
-    requires read { (y : ℕ) → Contains (z ∷ chosen.old.items) y → bit read y ≡ true }
+    requires read { (y : ℕ) → Contains (z ∷ chosen.old.items) y ↔ (bit read y ≡ true) }
     ensures fits { result ≡ true → IsFitted coded.now library.now z }
     ensures none { result ≡ false → NoneFitsWith coded.now library.now z chosen.old.items more }
     ensures kept { result ≡ false → chosen.new.items ≡ chosen.old.items }
@@ -54,7 +54,7 @@ pub(crate) fn some_reading_fits(
     if more == 0 {
         return some_choice_fits(coded, library, z, witnesses, missing, chosen, 0, more);
     }
-    let Some(differing) = told_apart(coded, z, read, witnesses) else {
+    let Some(differing) = told_apart(coded, z, chosen.as_slice(), read, witnesses) else {
         return some_choice_fits(coded, library, z, witnesses, missing, chosen, 0, more);
     };
     for y in 0..coded.graph().signals().len() {

@@ -5,7 +5,7 @@ ghost use Rattle.si_base.specs.Limits.{code_width};
 ghost use Rattle.si_cell.specs.Library.{IsInstance, instance_value};
 ghost use Rattle.si_divisor.specs.declared.function.Function.{Function as FunctionValue};
 ghost use Rattle.si_divisor.specs.Functions.{IsFunction};
-ghost use Rattle.si_divisor.specs.ManyFunctions.{AreFunctionSets};
+ghost use Rattle.si_divisor.specs.Loops.ManyFunctions.{AreFunctionSets};
 ghost use Rattle.si_divisor.specs.PartitionFor.{Answers};
 
 use si_base::ids::NoMemory;

@@ -13,7 +13,7 @@ pub fn signals_fit_or_not()
     ensures apart { FitExcludesUnfit }
 {}
 
-/// The best divisor is determined.
+/// A graph has one best divisor at most.
 pub fn best_is_unique()
     ensures { BestIsUnique }
 {}

@@ -8,12 +8,12 @@ ghost use Rattle.si_base.specs.Limits.{code_width};
 ghost use Rattle.si_base.specs.Proper.{HasNoConflict};
 ghost use Rattle.si_cell.specs.Library.{Library as LibraryValue};
 ghost use Rattle.si_cell.specs.Limits.{max_pins};
-ghost use Rattle.si_checks.specs.Lent.{coded_of};
+ghost use Rattle.si_checks.specs.Loops.Lent.{coded_of};
 ghost use Rattle.si_match.specs.Fit.{first_fit};
 ghost use Rattle.si_match.specs.Weight.{size_from};
-ghost use Rattle.si_map.specs.Least.{AddsAtLeast, AreAllTriggers, AreLeast, HaveFewPins};
-ghost use Rattle.si_map.specs.Least.{TellsEnough, sum_outside};
-ghost use Rattle.si_map.specs.Progress.{AreFitted};
+ghost use Rattle.si_map.specs.Loops.Least.{AddsAtLeast, AreAllTriggers, AreLeast, HaveFewPins};
+ghost use Rattle.si_map.specs.Loops.Least.{TellsEnough, sum_outside};
+ghost use Rattle.si_map.specs.Loops.Progress.{AreFitted};
 
 use si_base::ids::{Code, NoMemory, Sig};
 use si_cell::library::Library;

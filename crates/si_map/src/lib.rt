@@ -1,10 +1,11 @@
-//! Circuits of the cells of a library.
+//! Circuits of the cells of a library: the best divisor is inserted as a signal, again and again,
+//! until each signal fits a cell.
 #![tactic(auto)]
 
-mod apart;
 pub mod best;
 mod choices;
 pub mod ends;
+mod fitted;
 mod functions;
 pub mod laws;
 mod least;

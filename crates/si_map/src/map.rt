@@ -1,10 +1,10 @@
 //! Mapping: the signals of a lineage's current graph as cells of a library.
 
-ghost use Rattle.std.specs.Prelude.{◌≡◌, List, IfOk, IfErr, IfSome, IsTrue, MatchOption, codes};
+ghost use Rattle.std.specs.Prelude.{◌≡◌, List, IfOk, IfErr, IsTrue, MatchOption, codes};
 ghost use Rattle.si_base.specs.Behaviour.{Implements};
 ghost use Rattle.si_base.specs.WellFormed.{IsNetlist};
 ghost use Rattle.si_base.specs.Words.{is_signal_name};
-ghost use Rattle.si_circuit.specs.Cells.{ShowsUnfit, mapped_netlist};
+ghost use Rattle.si_circuit.specs.Cells.{AllFit, IsFirstUnfit, mapped_netlist};
 ghost use Rattle.si_circuit.specs.Circuits.{AreStateNames};
 ghost use Rattle.si_circuit.specs.Spelled.{AreSpelled};
 ghost use Rattle.si_conflicts.specs.Left.{LeavesConflicts};
@@ -14,15 +14,16 @@ ghost use Rattle.si_insert.specs.Fresh.{IsFresh, IsTaken};
 ghost use Rattle.si_insert.specs.Lineage.{Extends, ExtendsBy};
 ghost use Rattle.si_map.specs.Best.{Choice, IsBest, NoneServes};
 ghost use Rattle.si_map.specs.Ends.{ShowsStuck};
+ghost use Rattle.si_map.specs.Loops.Progress.{AreFitted};
 ghost use Rattle.si_map.specs.Trace.{IsMappingTrace, InsertsDivisor, EndsMapped};
 
 use crate::best::best_by_functions;
+use crate::fitted::{first_unfit, fitted_signals};
 use crate::search::STEM;
-use si_base::ids::{NoMemory, Sig};
+use si_base::ids::{Code, NoMemory, Sig};
 use si_base::names::Names;
 use si_base::text::Name;
 use si_cell::library::Library;
-use si_circuit::cells::CellsFault;
 use si_circuit::circuit::Circuit;
 use si_insert::accept::Accepted;
 use si_insert::fresh::fresh_name;
@@ -76,63 +77,70 @@ pub fn map_cells(
         × IsMappingTrace library.now resolved.current trace u.resolved.current
         × ShowsStuck library.now u.resolved.current u.cause) }
 {
+    let functions = match LibraryFunctions::of(alloc, library) {
+        Ok(functions) => functions,
+        Err(NoMemory) => return Err(without_memory(resolved)),
+    };
     let mut resolved = resolved;
-    let mut made = None;
     loop {
-        match Circuit::of_cells(alloc, resolved, library, model, states) {
-            Ok(circuit) => return Ok(circuit),
-            Err((rest, fault)) => {
-                let functions = match functions_once(alloc, library, made) {
-                    Ok(functions) => functions,
-                    Err(NoMemory) => return Err(without_memory(rest)),
-                };
-                resolved = with_best_divisor(alloc, rest, &functions, fault)?;
-                made = Some(functions);
-            }
-        }
+        let fitted = fitted_signals(resolved.distinct(), &functions);
+        let Some(unfit) = first_unfit(resolved.distinct(), fitted) else {
+            let circuit = circuit_of_cells(alloc, resolved, library, model, states)?;
+            return Ok(circuit);
+        };
+        resolved = with_best_divisor(alloc, resolved, &functions, fitted, unfit)?;
     }
 }
 
-/// The library with the functions of its cells, as they were made, or made now.
-fn functions_once<'a>(
+/// The circuit of the first fitting cells, where each signal that the circuit drives fits one.
+fn circuit_of_cells(
     alloc: Global,
-    library: &'a Library,
-    made: Option<LibraryFunctions<'a>>,
-) -> Result<LibraryFunctions<'a>, NoMemory>
-    requires { IfSome made (λ functions. functions ≡ library.now) }
-    ensures { IfOk result (λ functions. functions ≡ library.now) }
+    resolved: Resolved,
+    library: &Library,
+    model: &Name,
+    states: &Names,
+) -> Result<Circuit, Unmapped>
+    requires spelled { AreSpelled model.now resolved.current.coded.graph.signals }
+    requires states { AreStateNames resolved.given.graph states.now }
+    requires fit { AllFit resolved.current.coded library.now }
+    ensures same { IfOk result (λ c. c.lineage ≡ resolved) }
+    ensures netlist { IfOk result
+        (λ c. c.netlist ≡ mapped_netlist library.now model.now states.now resolved) }
+    ensures implements { IfOk result (λ c. Implements c.netlist resolved.given.graph) }
+    ensures written { IfOk result (λ c. IsNetlist c.netlist) }
+    ensures back { IfErr result (λ u. (u.resolved ≡ resolved) × (u.cause ≡ MapStuck.NoMemory)) }
 {
-    match made {
-        Some(functions) => Ok(functions),
-        None => LibraryFunctions::of(alloc, library),
+    match Circuit::of_cells(alloc, resolved, library, model, states) {
+        Ok(circuit) => Ok(circuit),
+        Err((back, _no_memory)) => Err(without_memory(back)),
     }
 }
 
-/// The lineage of a graph of which a signal fits no cell, with the best divisor inserted.
+/// The lineage with the best divisor of its current graph inserted, of which these signals fit, and
+/// that is the first of the others.
 fn with_best_divisor(
     alloc: Global,
     resolved: Resolved,
     library: &LibraryFunctions<'_>,
-    fault: CellsFault,
+    fitted: Code,
+    unfit: Sig,
 ) -> Result<Resolved, Unmapped>
-    requires { ShowsUnfit resolved.current.coded library.now fault }
+    requires fitted { AreFitted resolved.current.coded library.now fitted }
+    requires unfit { IsFirstUnfit resolved.current.coded library.now unfit }
     ensures extended { IfOk result (λ next. (p : TraceStep) × Extends resolved p next
         × InsertsDivisor library.now resolved.current p next.current
         × IsTrue (is_signal_name p.name)) }
     ensures unmapped { IfErr result (λ u. (u.resolved ≡ resolved)
         × ShowsStuck library.now resolved.current u.cause) }
 {
-    let CellsFault::Unfit { sig } = fault else {
-        return Err(without_memory(resolved));
-    };
-    let found = match best_insertion(alloc, &resolved, library) {
+    let found = match best_insertion(alloc, &resolved, library, fitted) {
         Ok(found) => found,
         Err(NoMemory) => return Err(without_memory(resolved)),
     };
     let Some(insertion) = found else {
         return Err(Unmapped {
             resolved,
-            cause: MapStuck::Signal { sig },
+            cause: MapStuck::Signal { sig: unfit },
         });
     };
     match with_insertion(alloc, resolved, insertion) {
@@ -187,13 +195,15 @@ fn best_insertion(
     alloc: Global,
     resolved: &Resolved,
     library: &LibraryFunctions<'_>,
+    fitted: Code,
 ) -> Result<Option<Insertion>, NoMemory>
+    requires { AreFitted resolved.now.current.coded library.now fitted }
     ensures { let c = resolved.now.current.coded in IfOk result (λ o. MatchOption o
         (NoneServes c library.now)
         (λ r. (x : Choice) × IsBest c library.now x × (x.classes ≡ r.accepted)
         × IsFresh c.graph.signals (codes "map") r.name × IsTrue (is_signal_name r.name))) }
 {
-    let Some(accepted) = best_by_functions(alloc, resolved, library)? else {
+    let Some(accepted) = best_by_functions(alloc, resolved, library, fitted)? else {
         return Ok(None);
     };
     let name = fresh_name(alloc, resolved.lineage().current().coded().graph(), STEM)?;

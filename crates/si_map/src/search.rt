@@ -6,22 +6,21 @@ ghost use Rattle.si_base.specs.Bits.{IsSet};
 ghost use Rattle.si_base.specs.Limits.{max_signals};
 ghost use Rattle.si_base.specs.Graph.{IsNonInput};
 ghost use Rattle.si_cell.specs.Library.{Library as LibraryValue, IsInstance};
-ghost use Rattle.si_checks.specs.Lent.{coded_of};
-ghost use Rattle.si_divisor.specs.ManyFunctions.{AreFunctionSets};
+ghost use Rattle.si_checks.specs.Loops.Lent.{coded_of};
+ghost use Rattle.si_divisor.specs.Loops.ManyFunctions.{AreFunctionSets};
 ghost use Rattle.si_insert.specs.Accepted.{DelaysNoInput, IsAccepted, StaysProper};
 ghost use Rattle.si_insert.specs.Partition.{IsLawful};
 ghost use Rattle.si_match.specs.Weight.{weight_of};
-ghost use Rattle.si_map.specs.Least.{AreLeast};
+ghost use Rattle.si_map.specs.Loops.Least.{AreLeast};
 ghost use Rattle.si_map.specs.Best.{IsBestPartition};
-ghost use Rattle.si_map.specs.Progress.{AreFitted, IsReady, IsSearching, HasTried, IsTried};
-ghost use Rattle.si_map.specs.Progress.{AreUpToDate, IsKnown, MayHaveRecorded, IsSpent};
-ghost use Rattle.si_map.specs.Progress.{LeavesBelow, LeavesNoneBelow};
+ghost use Rattle.si_map.specs.Loops.Progress.{AreFitted, IsReady, IsSearching, HasTried, IsTried};
+ghost use Rattle.si_map.specs.Loops.Progress.{AreUpToDate, IsKnown, MayHaveRecorded, IsSpent};
+ghost use Rattle.si_map.specs.Loops.Progress.{LeavesBelow, LeavesNoneBelow};
 
 use crate::functions::Functions;
 use crate::least::{least_weights, sum_without};
-use crate::unfit::fits;
 use crate::waiting::waiting_signals;
-use crate::weight::weight_below;
+use crate::weight::{weight_below, weight_without};
 use si_base::ids::{Code, NoMemory, Sig};
 use si_base::text::Name;
 use si_cell::cell::Instance;
@@ -61,17 +60,17 @@ struct Search {
     least: Vec<u64>,
 }
 
-/// The partition for the best divisor of a graph of that weight, if a divisor serves.
+/// The partition for the best divisor of a graph of which these signals fit, if a divisor serves.
 pub(crate) fn find_best(
     alloc: Global,
     graph: Distinct<'_>,
     library: &LibraryFunctions<'_>,
-    weight: u64,
+    fitted: Code,
 ) -> Result<Option<Accepted>, NoMemory>
-    requires { weight ≡ weight_of (coded_of graph) library.now }
+    requires { AreFitted (coded_of graph) library.now fitted }
     ensures { IfOk result (IsBestPartition (coded_of graph.entry) library.now) }
 {
-    let fitted = fitted_signals(graph, library);
+    let weight = weight_without(alloc, graph, fitted)?;
     let least = least_weights(alloc, graph, library.library(), fitted)?;
     let mut search = Search::new(alloc, graph.proper(), weight, fitted, least)?;
     let mut functions = Functions::new(alloc);
@@ -296,22 +295,6 @@ impl Search {
         let weight = weight_below(alloc, distinct, library, &known, self.bar)?;
         Ok(weight)
     }
-}
-
-/// The signals that the circuit drives and that some cell fits.
-fn fitted_signals(graph: Distinct<'_>, library: &LibraryFunctions<'_>) -> Code
-    ensures { AreFitted (coded_of graph.entry) library.now result }
-{
-    let known = graph.proper().coded().graph();
-    let mut fitted = Code(0);
-    for i in 0..known.signals().len() {
-        let z = Sig(i as u8);
-        if !known.is_driven(z) {
-            continue;
-        }
-        fitted = fitted.set(z, fits(graph, library, z));
-    }
-    fitted
 }
 
 /// What is known of the fits after an insertion for which these signals may wait, where those

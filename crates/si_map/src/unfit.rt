@@ -6,9 +6,9 @@ ghost use Rattle.si_base.specs.Bits.{bit, IsSet};
 ghost use Rattle.si_base.specs.Codes.{IsCoded};
 ghost use Rattle.si_base.specs.Graph.{IsNonInput};
 ghost use Rattle.si_base.specs.Limits.{code_width};
-ghost use Rattle.si_checks.specs.Lent.{coded_of};
+ghost use Rattle.si_checks.specs.Loops.Lent.{coded_of};
 ghost use Rattle.si_match.specs.Fit.{first_fit};
-ghost use Rattle.si_match.specs.Known.{AreKnown};
+ghost use Rattle.si_match.specs.Loops.Known.{AreKnown};
 ghost use Rattle.si_match.specs.Triggers.{AreTriggers};
 ghost use Rattle.si_match.specs.Weight.{added_weight};
 

@@ -3,7 +3,7 @@
 ghost use Rattle.std.specs.Prelude.{◌≡◌, ℕ, ◌<◌, Bool, false, length};
 ghost use Rattle.si_base.specs.Bits.{bit};
 ghost use Rattle.si_insert.specs.Insertion.{waits};
-ghost use Rattle.si_map.specs.Waiting.{ArcNeverWaits, NeverWaits};
+ghost use Rattle.si_map.specs.Loops.Waiting.{ArcNeverWaits, NeverWaits};
 
 use si_base::graph::Edge;
 use si_base::ids::Code;

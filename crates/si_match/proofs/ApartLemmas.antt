@@ -1,30 +1,26 @@
 -- An instance that fits reads a signal at which two states differ that it has to tell apart.
-use Rattle.std.proofs.Common.{◌≡◌, ◌≢◌, ℕ, zero, suc, ◌⊎◌, ◌+◌, ◌<◌, ◌≤◌, Bool, true, false, not, List, [], ◌∷◌, ◌++◌}
+use Rattle.std.proofs.Common.{◌≡◌, ◌≢◌, ◌↔◌, ℕ, zero, suc, ◌⊎◌, ◌+◌, ◌<◌, ◌≤◌, Bool, true, false, not, List, [], ◌∷◌, ◌++◌}
 use Rattle.std.proofs.Common.{length, map, get_or, All, Contains, bit_and, bit_xor, if◌then◌else◌, arith, inl, inr}
-use Rattle.std.proofs.Common.{refl, sym, ap, subst, ◌∙◌}
+use Rattle.std.proofs.Common.{refl, sym, ap, subst, ◌∙◌, Option, Some, None, is_some, IfSome, IfNone}
 use Rattle.std.proofs.lemmas.Bool.{cases_Bool, cases_eq, cases_lt, true≢false}
 use Rattle.std.proofs.lemmas.List.{length-append}
 use Rattle.std.proofs.lemmas.List.Elements.{All-nil, All-cons, All-head, All-tail, All-contains}
 use Rattle.std.proofs.lemmas.List.Elements.{Contains-append_left, Contains-append_right, Contains-append_cases}
-use Rattle.std.proofs.lemmas.Nat.Bits.{bit_at-zero}
 use Rattle.si_base.proofs.GivenGraphUnique.{contains_from_in, in_from_contains}
 use Rattle.si_base.proofs.OrderAscending.{In}
-use Rattle.si_base.proofs.SetsAsWords.{bit_of_and}
 use Rattle.si_base.specs.Bits.{bit, IsSet}
 use Rattle.si_base.specs.Codes.{CodedGraph, code, next_value}
 use Rattle.si_base.specs.Netlist.{literal_value, sum_value}
 use Rattle.si_base.specs.declared.ids.Literal.{Literal}
+use Rattle.si_base.proofs.BitFacts.{bit-zero, bit-and}
 use Rattle.si_cell.specs.Library.{Library, Instance, cell_at, pin_values}
-use Rattle.si_match.specs.Apart.{AreApart, NoneFitsWith}
-use Rattle.si_match.specs.Choices.{AreAmong, Ascends, NoneFitsOver}
+use Rattle.si_match.specs.Loops.Apart.{AreApart, AreAlike, NoneFitsWith}
+use Rattle.si_match.specs.Loops.Choices.{AreAmong, Ascends, NoneFitsOver}
 use Rattle.si_match.specs.Fit.{Fits}
 use Rattle.si_match.proofs.ChoiceLemmas.{with_one}
-use Rattle.si_match.proofs.PlaceLemmas.{bit_of_xor}
+use Rattle.si_match.proofs.PlaceLemmas.{bit_of_xor, common_bit}
 
 -- ---- two codes
-no_bit : (i : ℕ) → bit 0 i ≡ false
-no_bit i = rw bit_at-zero refl
-
 equal_bits : (a b i : ℕ) → bit (bit_xor a b) i ≡ false → bit a i ≡ bit b i
 equal_bits a b i none = by_bits (bit a i) (bit b i) (sym (bit_of_xor a b i) ∙ none)
   where
@@ -37,8 +33,8 @@ not_read : (k read i : ℕ) → bit_and k read ≡ 0 → bit read i ≡ true →
 not_read k read i none there = elim (cases_Bool (bit k i)) [
   | inr clear ↦ clear
   | inl set ↦ absurd (
-      let both : bit (bit_and k read) i ≡ true = bit_of_and k read i ∙ rw (set, there) refl in
-      true≢false (sym both ∙ ap (λ (m : ℕ). bit m i) none ∙ no_bit i))
+      let both : bit (bit_and k read) i ≡ true = bit-and k read i ∙ rw (set, there) refl in
+      true≢false (sym both ∙ ap (λ (m : ℕ). bit m i) none ∙ bit-zero i))
 ]
 
 pub apart_states : (c : CodedGraph) (z read one other a b : ℕ) → a ≡ code c one → b ≡ code c other
@@ -56,6 +52,49 @@ apart_states c z read one other a b a_is b_is one_in other_in changes none = rec
   where
     differ : (y : ℕ) → bit (bit_xor a b) y ≡ false → bit (code c one) y ≡ bit (code c other) y
     differ y clear = sym (ap (λ (k : ℕ). bit k y) a_is) ∙ equal_bits a b y clear ∙ ap (λ (k : ℕ). bit k y) b_is
+
+-- where they differ at a signal that is read, it isn't so that they don't
+pub differ_read : (a b read : ℕ) → (bit_and (bit_xor a b) read ≡ 0 → ⊥)
+    → ((y : ℕ) → bit read y ≡ true → bit a y ≡ bit b y) → ⊥
+differ_read a b read some same =
+    let (m, differs, reads) = common_bit (bit_xor a b) read some in
+    by_bits (bit a m) (bit b m) (same m reads) (sym (bit_of_xor a b m) ∙ differs)
+  where
+    by_bits : (x y : Bool) → x ≡ y → (if x then not y else y) ≡ true → ⊥
+    by_bits true true equal is = true≢false (sym is)
+    by_bits true false equal is = true≢false equal
+    by_bits false true equal is = true≢false (sym equal)
+    by_bits false false equal is = true≢false (sym is)
+
+pub alike_states : (c : CodedGraph) (z read one other a b : ℕ) → a ≡ code c one → b ≡ code c other
+    → (bit_and (bit_xor a b) read ≡ 0 → ⊥) → AreAlike c z read one other
+alike_states c z read one other a b a_is b_is some same = absurd (differ_read a b read some
+    (λ y reads. ap (λ (k : ℕ). bit k y) a_is ∙ same y reads ∙ ap (λ (k : ℕ). bit k y) (sym b_is)))
+
+-- ---- pairs, one after another
+pub one_of : {A : Type 0} (P : A → Type 0) (r a b : Option A) → (r ≡ a) ⊎ (r ≡ b) → IfSome a P → IfSome b P
+    → IfSome r P
+one_of P r a b (inl is) p q = subst (λ o. IfSome o P) (sym is) p
+one_of P r a b (inr is) p q = subst (λ o. IfSome o P) (sym is) q
+
+pub if_none_then : {A : Type 0} (P Q R : Type 0) (r a : Option A) → IfNone r (a ≡ None) → IfNone r Q → IfNone a P
+    → (P → Q → R) → IfNone r R
+if_none_then P Q R None a is q p both = both (subst (λ o. IfNone o P) is p) q
+if_none_then P Q R (Some x) a is q p both = tt
+
+pub if_none_both : {A : Type 0} (P Q R : Type 0) (r a b : Option A) → IfNone r ((a ≡ None) × (b ≡ None))
+    → IfNone a P → IfNone b Q → (P → Q → R) → IfNone r R
+if_none_both P Q R None a b is p q both =
+    both (subst (λ o. IfNone o P) is.0 p) (subst (λ o. IfNone o Q) is.1 q)
+if_none_both P Q R (Some x) a b is p q both = tt
+
+pub when_none : {A : Type 0} (P : Type 0) (o : Option A) → is_some o ≡ false → IfNone o P → P
+when_none P None is p = p
+when_none P (Some x) is p = absurd (true≢false is)
+
+pub if_none_never : {A : Type 0} (P Q : Type 0) (o : Option A) → IfNone o P → (P → ⊥) → IfNone o Q
+if_none_never P Q None p never = absurd (never p)
+if_none_never P Q (Some x) p never = tt
 
 -- ---- a signal at which they differ
 -- one of the signals is in the set, with those before it and those behind it, or none is
@@ -162,23 +201,35 @@ module _ (c : CodedGraph) (library : Library) (z read differing : ℕ) (chosen :
 
 -- ---- the signals that are read
 pub all_read_first : (z also : ℕ) (chosen : List ℕ) → chosen ≡ [] → IsSet 0 z true also → (y : ℕ)
-    → Contains (z ∷ chosen) y → bit also y ≡ true
-all_read_first z also chosen none set y there = by_place (subst (λ (ys : List ℕ). Contains (z ∷ ys) y) none there)
+    → Contains (z ∷ chosen) y ↔ (bit also y ≡ true)
+all_read_first z also chosen none set y = (
+  λ there. by_place (subst (λ (ys : List ℕ). Contains (z ∷ ys) y) none there),
+  λ reads. elim (cases_eq y z) [
+    | inl same ↦ (0, omega arith, sym same)
+    | inr other ↦ absurd (true≢false (sym reads ∙ set.others y other ∙ bit-zero y))
+  ],
+)
   where
     by_place : Contains (z ∷ []) y → bit also y ≡ true
     by_place (zero, within, at) = ap (bit also) (sym at) ∙ set.there
     by_place (suc k, within, at) = absurd (omega (arith, within))
 
 pub all_read_next : (z y read also : ℕ) (chosen : List ℕ) → IsSet read y true also
-    → ((x : ℕ) → Contains (z ∷ chosen) x → bit read x ≡ true)
-    → (x : ℕ) → Contains (z ∷ chosen ++ y ∷ []) x → bit also x ≡ true
-all_read_next z y read also chosen set all x there = elim (Contains-append_cases (z ∷ chosen) (y ∷ []) x there) [
-  | inr own ↦ ap (bit also) (only own) ∙ set.there
-  | inl before ↦ elim (cases_eq x y) [
-    | inl same ↦ ap (bit also) same ∙ set.there
-    | inr other ↦ set.others x other ∙ all x before
-  ]
-]
+    → ((x : ℕ) → Contains (z ∷ chosen) x ↔ (bit read x ≡ true))
+    → (x : ℕ) → Contains (z ∷ chosen ++ y ∷ []) x ↔ (bit also x ≡ true)
+all_read_next z y read also chosen set all x = (
+  λ there. elim (Contains-append_cases (z ∷ chosen) (y ∷ []) x there) [
+    | inr own ↦ ap (bit also) (only own) ∙ set.there
+    | inl before ↦ elim (cases_eq x y) [
+      | inl same ↦ ap (bit also) same ∙ set.there
+      | inr other ↦ set.others x other ∙ (all x).0 before
+    ]
+  ],
+  λ reads. elim (cases_eq x y) [
+    | inl same ↦ Contains-append_right (z ∷ chosen) (y ∷ []) x (0, omega arith, sym same)
+    | inr other ↦ Contains-append_left (z ∷ chosen) (y ∷ []) x ((all x).1 (sym (set.others x other) ∙ reads))
+  ],
+)
   where
     only : Contains (y ∷ []) x → x ≡ y
     only (zero, within, at) = sym at

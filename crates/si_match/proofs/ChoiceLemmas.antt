@@ -13,10 +13,10 @@ use Rattle.si_base.specs.Codes.{CodedGraph, IsCoded}
 use Rattle.si_base.specs.declared.ids.Literal.{Literal}
 use Rattle.si_cell.specs.Library.{Library, Instance, IsCell, IsLibrary, cell_at, no_cell}
 use Rattle.si_cell.specs.Limits.{max_pins}
-use Rattle.si_match.specs.Apart.{NoneFitsWith}
-use Rattle.si_match.specs.Choices.{AreAmong, AreOwed, Ascends, NoneFitsOver}
+use Rattle.si_match.specs.Loops.Apart.{NoneFitsWith}
+use Rattle.si_match.specs.Loops.Choices.{AreAmong, AreOwed, Ascends, NoneFitsOver}
 use Rattle.si_match.specs.Fit.{first_fit}
-use Rattle.si_match.specs.Known.{FitsByReading, IsFitted}
+use Rattle.si_match.specs.Loops.Known.{FitsByReading, IsFitted}
 use Rattle.si_match.specs.Triggers.{AreTriggers}
 use Rattle.si_match.specs.Weight.{size_from}
 use Rattle.si_match.proofs.FitLemmas.{fit_fits, none_fits, told}

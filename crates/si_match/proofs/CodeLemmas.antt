@@ -9,11 +9,10 @@ use Rattle.std.proofs.lemmas.List.Elements.{Contains-push, Contains-push_cases, 
 use Rattle.std.proofs.lemmas.List.Sums.{list_all-from_AllPass}
 use Rattle.std.proofs.lemmas.Nat.{and_assoc}
 use mathlib.Core.Bool.{beq}
-use Rattle.si_base.proofs.BitFacts.{same_codes, flip-same, flip-other}
+use Rattle.si_base.proofs.BitFacts.{same_codes, flip-same, flip-other, bit-and}
 use Rattle.si_base.proofs.GraphSteps.{beq-refl}
 use Rattle.si_base.specs.Bits.{bit, flip}
 use Rattle.si_base.specs.Codes.{CodedGraph, code, next_value}
-use Rattle.si_cube.proofs.LiteralLemmas.{bit-and}
 use Rattle.std.specs.Ordering.{nat_cmp}
 use Rattle.std.specs.List.Sorted.{IsBinarySearchResult, IsNonDecreasing}
 use Rattle.std.specs.Result.{is_ok}
@@ -21,8 +20,8 @@ use Rattle.std.proofs.lemmas.List.Sorted.{searched}
 use Rattle.std.proofs.lemmas.List.{get_or_default, take_all}
 use Rattle.si_graph.proofs.ListMembers.{Contains-map, Contains-from_map}
 use Rattle.si_cube.specs.Order.{HaveSame}
-use Rattle.si_match.specs.Codes.{AreCodes, AreProjected}
-use Rattle.si_match.specs.Dropping.{AreTried}
+use Rattle.si_match.specs.Loops.Codes.{AreCodes, AreProjected}
+use Rattle.si_match.specs.Loops.Dropping.{AreTried}
 use Rattle.si_match.specs.Fit.{states_of}
 use Rattle.si_match.specs.Support.{agree, determines, support_by_drops, support_of}
 use Rattle.si_match.proofs.StateLemmas.{state_at, states_are, one_fails}
@@ -40,9 +39,6 @@ pub record InSupport (c : CodedGraph) (z i signals : ℕ) (on off : List ℕ) : 
 
 -- ---- state after state
 module _ (c : CodedGraph) (z : ℕ) (value : Bool) (signals : ℕ) where
-  pub no_state : CodesBefore c z value signals 0 []
-  no_state k = (λ (i, within, at). absurd (omega arith), λ (s, within, next, is). absurd (omega arith))
-
   pub passed_over : (count : ℕ) (codes : List ℕ) → CodesBefore c z value signals count codes
       → (next_value c count z ≡ value → ⊥)
       → CodesBefore c z value signals (count + 1) codes

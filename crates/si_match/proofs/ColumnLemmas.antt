@@ -10,17 +10,17 @@ use Rattle.std.proofs.lemmas.Bool.Decides.{eqb_tells}
 use Rattle.std.proofs.Math.ListN.{get_or-eq_default}
 use Rattle.std.proofs.lemmas.List.{length-append}
 use Rattle.std.proofs.lemmas.List.FromFn.{get_or-map-range_with_len, length-map-range_with_len}
-use Rattle.std.proofs.lemmas.Nat.Bits.{bit_at-lt, bit_at-zero, bit_at_not, bit_at_above}
+use Rattle.std.proofs.lemmas.Nat.Bits.{bit_at-lt, bit_at_not, bit_at_above}
 use mathlib.Core.Bool.{beq}
-use Rattle.si_base.proofs.BitFacts.{below_two, same_codes}
-use Rattle.si_base.proofs.SetsAsWords.{bit_of_and}
+use Rattle.si_base.proofs.BitFacts.{below_two, same_codes, bit-and}
 use Rattle.si_base.specs.Bits.{bit}
 use Rattle.si_base.specs.Netlist.{literal_value, sum_value}
 use Rattle.si_base.specs.declared.ids.Literal.{Literal}
+use Rattle.si_base.proofs.Booleans.{equals_true}
 use Rattle.si_cell.specs.Library.{Cell, pin_values}
 use Rattle.si_cell.specs.Limits.{max_pins, table_codes}
 use Rattle.si_cell.proofs.ExpandedLemmas.{bit_of}
-use Rattle.si_match.specs.Columns.{AreColumns, first_pin_values}
+use Rattle.si_match.specs.Loops.Columns.{AreColumns, first_pin_values}
 use Rattle.si_match.specs.Functions.{function_table, places, value_at}
 use Rattle.si_match.proofs.FunctionLemmas.{table_bit}
 use Rattle.si_match.proofs.PlaceLemmas.{bit_of_xor}
@@ -56,10 +56,6 @@ place_column (suc (suc (suc zero))) m within below = same_at_codes (bit 42782553
 place_column (suc (suc (suc (suc zero)))) m within below = same_at_codes (bit 4294901760) (λ k. bit k 4) refl m below
 place_column (suc (suc (suc (suc (suc place))))) m within below = absurd (omega (arith, within))
 
-pub is_true : (b : Bool) → b ≡ beq b true
-is_true true = refl
-is_true false = refl
-
 -- the other value at each code
 pub other_bit : (n m : ℕ) → n < 2 ^ 32 → m < table_codes → bit (bit_not w32 n) m ≡ beq (bit n m) false
 other_bit n m small below = elim (below_two (bit_at n m) (bit_at-lt n m)) [
@@ -69,9 +65,6 @@ other_bit n m small below = elim (below_two (bit_at n m) (bit_at-lt n m)) [
 
 pub column_of_ones : (m : ℕ) → m < table_codes → bit 4294967295 m ≡ true
 column_of_ones = same_at_codes (bit 4294967295) (λ k. true) refl
-
-pub column_of_zeros : (m : ℕ) → bit 0 m ≡ false
-column_of_zeros m = ap (λ (b : ℕ). b == 1) (bit_at-zero m)
 
 -- ---- how many columns there are
 pub few_columns : (pins : ℕ) → pins ≤ max_pins → 2 ^ (pins + 1) ≤ table_codes
@@ -94,7 +87,7 @@ columns_in_byte (suc (suc (suc (suc (suc pins))))) few = absurd (omega (arith, f
 pub merged_bit : (l u t m : ℕ) → bit (bit_xor u (bit_and l (bit_xor u t))) m ≡ (if bit l m then bit t m else bit u m)
 merged_bit l u t m =
     bit_of_xor u (bit_and l (bit_xor u t)) m
-    ∙ rw (bit_of_and l (bit_xor u t) m, bit_of_xor u t m) (by_values (bit u m) (bit l m) (bit t m))
+    ∙ rw (bit-and l (bit_xor u t) m, bit_of_xor u t m) (by_values (bit u m) (bit l m) (bit t m))
   where
     by_values : (u l t : Bool) → (if u then not (l && (if u then not t else t)) else l && (if u then not t else t))
         ≡ (if l then t else u)
@@ -145,7 +138,7 @@ module _ (cell : Cell) (ls : List Literal) (columns : List ℕ) (are : AreColumn
       (is : (m : ℕ) → bit table m
       ≡ (if bit own m then bit (get_or columns 1 0) m else bit (get_or columns 0 0) m)) where
     own_value : (m : ℕ) → m < table_codes → bit own m ≡ bit m 0
-    own_value m below = own_is m below ∙ sym (is_true (bit m 0))
+    own_value m below = own_is m below ∙ sym (equals_true (bit m 0))
 
     by_own : (q : Bool) (m : ℕ) → m < table_codes
         → (if q then bit (get_or columns 1 0) m else bit (get_or columns 0 0) m)

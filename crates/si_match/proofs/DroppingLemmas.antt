@@ -7,14 +7,13 @@ use Rattle.std.proofs.lemmas.Bool.{cases_Bool, true≢false, eq-eqb, or_right}
 use Rattle.std.proofs.lemmas.Bool.Decides.{eqb_tells, leb_tells}
 use Rattle.std.proofs.Math.Bool.{and-true, or-false}
 use mathlib.Core.Bool.{beq}
-use Rattle.si_base.proofs.BitFacts.{same_codes, flip-same, flip-other}
+use Rattle.si_base.proofs.BitFacts.{same_codes, flip-same, flip-other, bit-or, bit-and}
 use Rattle.si_base.proofs.StepCodes.{code_of_step, step_within}
 use Rattle.si_base.proofs.GraphSteps.{beq-true, beq-refl}
 use Rattle.si_base.specs.Bits.{bit, flip, ones, IsSet}
 use Rattle.si_base.specs.Codes.{CodedGraph, IsCoded, code, next_value}
-use Rattle.si_cube.proofs.LiteralLemmas.{bit-and, bit-xor, bit-ones}
-use Rattle.si_graph.proofs.ValueLemmas.{bit-or}
-use Rattle.si_match.specs.Dropping.{AreTried}
+use Rattle.si_cube.proofs.LiteralLemmas.{bit-xor, bit-ones}
+use Rattle.si_match.specs.Loops.Dropping.{AreTried}
 use Rattle.si_match.specs.Fit.{states_of}
 use Rattle.si_match.specs.Support.{agree, determines, support_by_drops, support_of}
 use Rattle.si_match.specs.Triggers.{IsTrigger, AreTriggers}

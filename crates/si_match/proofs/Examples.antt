@@ -5,7 +5,7 @@ use Rattle.std.proofs.Common.{zero, suc, ◌<◌, ◌≤◌, ◌==◌, ◌^◌, 
 use Rattle.std.proofs.lemmas.Bool.{true≢false}
 use Rattle.std.proofs.lemmas.List.Elements.{recursion_from_All}
 use Rattle.std.proofs.lemmas.Nat.Bits.{bit_at_above}
-use Rattle.si_base.proofs.BitFacts.{flip-other}
+use Rattle.si_base.proofs.BitFacts.{flip-other, bit-zero}
 use Rattle.si_base.specs.Bits.{bit}
 use Rattle.si_base.specs.Codes.{CodedGraph, code, next_value}
 use Rattle.si_base.specs.Graph.{arc, rise, fall, is_driven, IsNonInput}
@@ -14,15 +14,14 @@ use Rattle.si_base.specs.declared.graph.Signal.{Signal}
 use Rattle.si_base.specs.declared.graph.SigKind.TheVariants.{Input, Output}
 use Rattle.si_base.specs.declared.ids.Literal.{Literal}
 use Rattle.si_cell.specs.Library.{Cell, Library, instance_value}
-use Rattle.si_graph.proofs.ValueLemmas.{bit-zero}
-use Rattle.si_match.specs.Choices.{AreAmong, AreOwed, Ascends, NoneFitsOver}
-use Rattle.si_match.specs.Columns.{AreColumns, first_pin_values}
-use Rattle.si_match.specs.Dropping.{AreTried}
+use Rattle.si_match.specs.Loops.Choices.{AreAmong, AreOwed, Ascends, NoneFitsOver}
+use Rattle.si_match.specs.Loops.Columns.{AreColumns, first_pin_values}
+use Rattle.si_match.specs.Loops.Dropping.{AreTried}
 use Rattle.si_match.specs.Fit.{first_fit}
 use Rattle.si_match.specs.Functions.{AreFunctions, function_table, function_tables, value_at}
-use Rattle.si_match.specs.Known.{AreKnown, FitsByReading}
-use Rattle.si_match.specs.Places.{Agrees, AgreesAt, AreSeen, Differs, placed_code}
-use Rattle.si_match.specs.Rows.{AreSignals}
+use Rattle.si_match.specs.Loops.Known.{AreKnown, FitsByReading}
+use Rattle.si_match.specs.Loops.Places.{Agrees, AgreesAt, AreSeen, Differs, placed_code}
+use Rattle.si_match.specs.Loops.Rows.{AreSignals}
 use Rattle.si_match.specs.Support.{determines, support_of}
 use Rattle.si_match.specs.Triggers.{IsTrigger}
 use Rattle.si_match.specs.Weight.{added_weight, weight_of}

@@ -1,5 +1,5 @@
 -- What is known of a fit decides it, or which signals its instances read.
-use Rattle.std.proofs.Common.{◌≡◌, ℕ, ◌<◌, true, false, is_none, is_some, Option, Some}
+use Rattle.std.proofs.Common.{◌≡◌, ℕ, ◌<◌, false, is_none, Option, Some}
 use Rattle.std.proofs.Common.{None, refl, sym, ap, ◌∙◌, arith}
 use Rattle.std.proofs.lemmas.Bool.{lt-ltb, true≢false}
 use Rattle.std.proofs.lemmas.Option.{slice_get_within}
@@ -10,7 +10,7 @@ use Rattle.si_base.specs.Limits.{code_width}
 use Rattle.si_cell.specs.Library.{Library, Instance}
 use Rattle.si_cube.proofs.LiteralLemmas.{bit-ones}
 use Rattle.si_match.specs.Fit.{first_fit}
-use Rattle.si_match.specs.Known.{AreKnown, IsFitted}
+use Rattle.si_match.specs.Loops.Known.{AreKnown, IsFitted}
 use Rattle.si_match.specs.declared.known.KnownFits.{KnownFits}
 use Rattle.si_match.proofs.FitLemmas.{none_fits}
 
@@ -27,10 +27,6 @@ fitted_some c library z is (i, over, fit) = by_first (first_fit c library z) ref
     by_first : (o : Option Instance) → first_fit c library z ≡ o → is_none o ≡ false
     by_first None none = absurd (none_fits c library z i is none over fit)
     by_first (Some f) some = refl
-
-pub some_not_none : {A : Type 0} (o : Option A) → is_some o ≡ true → is_none o ≡ false
-some_not_none None some = absurd (true≢false (sym some))
-some_not_none (Some x) some = refl
 
 -- where all is unknown, all that is known is so
 pub nothing_known : (c : CodedGraph) (library : Library) (known : KnownFits) → known.unknown ≡ ones code_width

@@ -13,5 +13,6 @@ pub mod FunctionLemmas
 pub mod PlaceLemmas
 pub mod ChoiceLemmas
 pub mod ApartLemmas
+pub mod ApartPlaces
 pub mod ColumnLemmas
 pub mod RowLemmas

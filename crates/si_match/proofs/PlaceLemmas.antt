@@ -7,22 +7,21 @@ use Rattle.std.proofs.lemmas.Bool.{cases_Bool, true≢false}
 use Rattle.std.proofs.lemmas.Bool.Decides.{eqb_tells}
 use Rattle.std.proofs.lemmas.List.{get_or-map, get_or_default, length-map}
 use Rattle.std.proofs.lemmas.List.Elements.{All-nil, All-cons, All-head, All-tail, All-map, All-contains}
-use Rattle.std.proofs.lemmas.Nat.Bits.{bit_at-zero, bit_at-lt, bit_at-suc, bit_at_lowest, bit_at_xor}
+use Rattle.std.proofs.lemmas.Nat.Bits.{bit_at-lt, bit_at-suc, bit_at_lowest, bit_at_xor}
 use mir.Val.{bool_byte}
-use Rattle.si_base.proofs.BitFacts.{below_two}
-use Rattle.si_base.proofs.SetsAsWords.{bit_of_and, bit_of_or}
-use Rattle.si_base.specs.Bits.{bit, IsSet}
-use Rattle.si_base.specs.Codes.{CodedGraph, IsCoded, code, next_value}
+use Rattle.si_base.proofs.BitFacts.{below_two, bit-zero, bit-or, bit-and}
+use Rattle.si_base.specs.Bits.{bit}
+use Rattle.si_base.specs.Codes.{CodedGraph, IsCoded, code}
 use Rattle.si_base.specs.Netlist.{literal_value, sum_value}
 use Rattle.si_base.specs.declared.ids.Literal.{Literal}
 use Rattle.si_cell.specs.Library.{Cell, Library, Instance, IsInstance, cell_at, code_of, pin_values}
 use Rattle.si_cell.specs.Limits.{max_pins, table_codes}
 use Rattle.si_cell.proofs.CubeLemmas.{and_first, and_second}
 use Rattle.si_cell.proofs.ExpandedLemmas.{bit_of}
-use Rattle.si_match.specs.Choices.{AreAmong, NoneFitsOver}
+use Rattle.si_match.specs.Loops.Choices.{AreAmong, NoneFitsOver}
 use Rattle.si_match.specs.Functions.{AreFunctions, function_table, places}
-use Rattle.si_match.specs.Known.{IsFitted}
-use Rattle.si_match.specs.Places.{placed_code, Agrees, Differs, AreSeen}
+use Rattle.si_match.specs.Loops.Known.{IsFitted}
+use Rattle.si_match.specs.Loops.Places.{placed_code, Agrees, Differs, AreSeen}
 use Rattle.si_match.specs.declared.places.Seen.{Seen}
 use Rattle.si_match.proofs.FunctionLemmas.{has_table, instance_of_table, table_bit}
 
@@ -185,7 +184,7 @@ first_bit k some = first_below k k some (omega arith)
 pub common_bit : (a b : ℕ) → (bit_and a b ≡ 0 → ⊥) → (m : ℕ) × (bit a m ≡ true) × (bit b m ≡ true)
 common_bit a b some =
     let (m, there) = first_bit (bit_and a b) (omega (arith, some)) in
-    let both = sym (bit_of_and a b m) ∙ there in
+    let both = sym (bit-and a b m) ∙ there in
     (m, and_first (bit a m) (bit b m) both, and_second (bit a m) (bit b m) both)
 
 pub bit_of_xor : (a b i : ℕ) → bit (bit_xor a b) i ≡ (if bit a i then not (bit b i) else bit b i)
@@ -208,7 +207,7 @@ pub differing_bit : (on off table : ℕ)
 differing_bit on off table some =
     let (m, wanted, differs) = common_bit (bit_or on off) (bit_xor on table) some in (
       m,
-      by_bits (bit on m) (bit off m) (bit table m) (sym (bit_of_or on off m) ∙ wanted)
+      by_bits (bit on m) (bit off m) (bit table m) (sym (bit-or on off m) ∙ wanted)
           (sym (bit_of_xor on table m) ∙ differs),
     )
   where
@@ -240,36 +239,11 @@ missed_bit on off table x y t x_is y_is t_is some =
 module _ (c : CodedGraph) (z : ℕ) (chosen : List ℕ) where
   pub none_seen : AreSeen c z chosen (record { on = 0; off = 0 })
   none_seen = record {
-    on = λ m there. absurd (true≢false (sym there ∙ bit_zero m));
-    off = λ m there. absurd (true≢false (sym there ∙ bit_zero m));
+    on = λ m there. absurd (true≢false (sym there ∙ bit-zero m));
+    off = λ m there. absurd (true≢false (sym there ∙ bit-zero m));
   }
-    where
-      bit_zero : (m : ℕ) → bit 0 m ≡ false
-      bit_zero m = ap (λ (b : ℕ). b == 1) (bit_at-zero m)
 
   module _ (seen : Seen) (are : AreSeen c z chosen seen) where
-    module _ (s values : ℕ) (within : s < c.graph.states)
-        (value_is : values ≡ placed_code (z ∷ chosen) (code c s)) where
-      pub seen_on : (on : ℕ) → IsSet seen.on values true on → next_value c s z ≡ true
-          → AreSeen c z chosen (record { on = on; off = seen.off })
-      seen_on on set next = record {
-        on = λ m there. elim (eqb_tells m values) [
-          | inl same ↦ (s, within, sym value_is ∙ sym same.1, next)
-          | inr other ↦ are.on m (sym (set.others m other.1) ∙ there)
-        ];
-        off = are.off;
-      }
-
-      pub seen_off : (off : ℕ) → IsSet seen.off values true off → next_value c s z ≡ false
-          → AreSeen c z chosen (record { on = seen.on; off = off })
-      seen_off off set next = record {
-        on = are.on;
-        off = λ m there. elim (eqb_tells m values) [
-          | inl same ↦ (s, within, sym value_is ∙ sym same.1, next)
-          | inr other ↦ are.off m (sym (set.others m other.1) ∙ there)
-        ];
-      }
-
     -- a table that has 1 where 0 was seen differs, and one that has 0 where 1 was
     pub one_differs : (table m : ℕ) → bit table m ≡ true → bit seen.off m ≡ true → Differs c z chosen table
     one_differs table m has there =

@@ -1,33 +1,29 @@
 -- The rows of a truth table over few signals, which are filled in state after state.
 use Rattle.std.proofs.Common.{◌≡◌, ℕ, suc, ◌+◌, ◌<◌, ◌≤◌, ◌^◌, ◌&&◌, ◌==◌, not, Bool, true, false}
-use Rattle.std.proofs.Common.{List, [], ◌∷◌, ◌++◌, length, get_or, set, replicate, bit_and, All, Contains}
+use Rattle.std.proofs.Common.{List, [], ◌∷◌, ◌++◌, length, get_or, set, bit_and, All, Contains}
 use Rattle.std.proofs.Common.{Option, Some, None}
 use Rattle.std.proofs.Common.{refl, sym, ap, subst, ◌∙◌, arith, inl, inr}
 use mathlib.Core.Bool.{beq}
-use Rattle.std.specs.Option.{is_some, option_eq}
+use Rattle.std.specs.Option.{option_eq}
 use Rattle.std.proofs.Math.Bool.{and-true}
 use Rattle.std.proofs.lemmas.Bool.{cases_lt, true≢false}
 use Rattle.std.proofs.lemmas.Bool.Decides.{eqb_tells}
-use Rattle.std.proofs.lemmas.List.{get_or_default, get_or_past, get_or-replicate, get_or-set_same, get_or-set_other}
-use Rattle.std.proofs.lemmas.List.{length-replicate, length-set}
+use Rattle.std.proofs.lemmas.List.{get_or_default, get_or-set_same, get_or-set_other}
+use Rattle.std.proofs.lemmas.List.{length-set}
 use Rattle.std.proofs.lemmas.List.Elements.{Contains-push, Contains-push_cases, Contains-append_left}
 use Rattle.std.proofs.lemmas.Nat.Bits.{bit_at_above}
-use Rattle.si_base.proofs.BitFacts.{same_codes}
+use Rattle.si_base.proofs.BitFacts.{same_codes, bit-and}
 use Rattle.si_base.proofs.GraphSteps.{beq-refl}
 use Rattle.si_base.specs.Bits.{bit}
 use Rattle.si_base.specs.Codes.{CodedGraph, IsCoded, code, next_value}
-use Rattle.si_cube.proofs.LiteralLemmas.{bit-and}
-use Rattle.si_match.specs.Places.{placed_code}
-use Rattle.si_match.specs.Rows.{AreSignals}
+use Rattle.si_match.specs.Loops.Places.{placed_code}
+use Rattle.si_match.specs.Loops.Rows.{AreSignals}
 use Rattle.si_match.specs.Support.{determines}
 use Rattle.si_match.proofs.CodeLemmas.{states_determine, states_differ}
 use Rattle.si_match.proofs.PlaceLemmas.{bit_placed, placed_small}
 
 -- ---- the signals of a set
 module _ (signal_set : ℕ) where
-  pub no_signals : AreSignals signal_set 0 []
-  no_signals y = (λ (p, within, at). absurd (omega arith), λ (below, in_set). absurd (omega arith))
-
   module _ (count : ℕ) (signals : List ℕ) (so_far : AreSignals signal_set count signals) where
     pub not_in_set : bit signal_set count ≡ false → AreSignals signal_set (count + 1) signals
     not_in_set absent y = (
@@ -144,25 +140,6 @@ row_equal (Some false) true told = absurd (true≢false (sym told))
 pub row_unequal : (row : Option Bool) (v : Bool) → option_eq beq row (Some v) ≡ false → row ≡ Some v → ⊥
 row_unequal row v told same =
     true≢false (sym (ap (λ r. option_eq beq r (Some v)) same ∙ beq-refl v) ∙ told)
-
-pub none_filled : (c : CodedGraph) (z : ℕ) (signals : List ℕ)
-    → AreFilled c z signals 0 (replicate (2 ^ length signals) None)
-none_filled c z signals = record {
-  size = length-replicate (2 ^ length signals) None;
-  filled = λ s none. absurd (omega (arith, none));
-  no_more = λ m v is. absurd (true≢false (sym (ap is_some is) ∙ ap is_some (empty m)));
-}
-  where
-    rows : List (Option Bool)
-    rows = replicate (2 ^ length signals) None
-
-    empty : (m : ℕ) → get_or rows m None ≡ None
-    empty m = elim (cases_lt m (2 ^ length signals)) [
-      | inl within ↦ get_or-replicate (2 ^ length signals) m None None within
-      | inr past ↦ (
-          let size : length rows ≡ 2 ^ length signals = length-replicate (2 ^ length signals) None in
-          get_or_past rows m None (omega (arith, size, past)))
-    ]
 
 pub placed_at : (slice signals : List ℕ) (a b m : ℕ) → slice ≡ signals → a ≡ b → m ≡ placed_code slice a
     → m ≡ placed_code signals b

@@ -1,12 +1,12 @@
 -- The first of many instances.
 use Rattle.std.proofs.Common.{◌≡◌, ℕ, zero, suc, ◌+◌, ◌-◌, ◌*◌, ◌/◌, ◌%◌, ◌<◌, ◌≤◌, ◌==◌, Bool, true, false, List, []}
-use Rattle.std.proofs.Common.{◌∷◌, ◌++◌, length, map, take, drop, get_or, if◌then◌else◌, option_map, Option, Some, None}
+use Rattle.std.proofs.Common.{◌∷◌, ◌++◌, length, map, take, drop, get_or, option_map, Option, Some, None}
 use Rattle.std.proofs.Common.{All, refl, sym, ap, subst, ◌∙◌, arith, inl, inr, append_assoc, add-one}
 use Rattle.std.specs.Prelude.{flat_map}
 use Rattle.std.specs.List.{enumerate_from}
 use Rattle.std.proofs.Math.Seq.{drop-cons}
 use Rattle.std.proofs.lemmas.Bool.{cases_Bool}
-use Rattle.std.proofs.lemmas.List.{append-nil, drop_all, take_all, length_push, take-append-le}
+use Rattle.std.proofs.lemmas.List.{drop_all, take_all, length_push, take-append-le}
 use Rattle.std.proofs.lemmas.List.Concat.{flat_map-cons}
 use Rattle.std.proofs.lemmas.List.Elements.{All-nil, All-cons, All-append, All-map}
 use Rattle.std.proofs.lemmas.List.FromFn.{length-enumerate_from, get_or-enumerate_from}
@@ -16,7 +16,7 @@ use Rattle.si_base.specs.declared.ids.Literal.{Literal}
 use Rattle.si_cell.specs.Library.{Cell, Library, Instance, cell_at, no_cell}
 use Rattle.si_cell.specs.Literals.{both_from}
 use Rattle.si_match.specs.Fit.{fits, first_that, lists_of, literals_of_signals, instances_of, first_fit}
-use Rattle.si_match.specs.Search.{first_completion, IsRefuted}
+use Rattle.si_match.specs.Loops.Search.{first_completion, IsRefuted}
 
 -- the first, or else the second
 abbrev either : {A : Type 0} → Option A → Option A → Option A
@@ -81,30 +81,25 @@ within_width n literals slice same width inside =
     (λ k d within. (let small = inside k d within in omega (arith, small, width)))
 
 -- ---- completions
+pub have_length : (n : ℕ) (literals : List Literal) → All (λ (ls : List Literal). length ls ≡ n) (lists_of n literals)
+have_length zero literals = All-cons (λ (ls : List Literal). length ls ≡ 0) [] [] refl (All-nil (λ
+    (ls : List Literal). length ls ≡ 0))
+have_length (suc n) literals = by_literal literals (have_length n literals)
+  where
+    by_literal : (ls : List Literal) → All (λ (xs : List Literal). length xs ≡ n) (lists_of n literals)
+        → All (λ (xs : List Literal). length xs ≡ suc n)
+        (flat_map (λ l. map (λ xs. l ∷ xs) (lists_of n literals)) ls)
+    by_literal [] shorter = All-nil (λ (xs : List Literal). length xs ≡ suc n)
+    by_literal (l ∷ ls) shorter = All-append (λ (xs : List Literal). length xs ≡ suc n) _ _
+        (All-map (λ (xs : List Literal). length xs ≡ suc n) (λ xs. l ∷ xs) (lists_of n literals)
+        (λ k d inside. ap suc (shorter k d inside))) (by_literal ls shorter)
+
 module _ (c : CodedGraph) (z : ℕ) (cell : Cell) where
   abbrev all_literals : List Literal
   all_literals = literals_of_signals (length c.graph.signals)
 
   abbrev with_next : ℕ → Literal → List (List Literal)
   with_next more l = map (λ ls. l ∷ ls) (lists_of more all_literals)
-
-  -- nothing more: the literals themselves
-  pub no_more : (literals : List Literal) → first_completion c z cell literals 0 ≡
-      (if fits c z cell literals then Some [] else None)
-  no_more literals = rw append-nil refl
-
-  lengths : (more : ℕ) (literals : List Literal) → All (λ ls. length ls ≡ more) (lists_of more literals)
-  lengths zero literals = All-cons (λ (ls : List Literal). length ls ≡ 0) [] [] refl (All-nil (λ
-      (ls : List Literal). length ls ≡ 0))
-  lengths (suc more) literals = by_literal literals (lengths more literals)
-    where
-      by_literal : (ls : List Literal) → All (λ (xs : List Literal). length xs ≡ more) (lists_of more literals)
-          → All (λ (xs : List Literal). length xs ≡ suc more) (flat_map (λ l. map (λ xs. l ∷ xs)
-          (lists_of more literals)) ls)
-      by_literal [] shorter = All-nil (λ (xs : List Literal). length xs ≡ suc more)
-      by_literal (l ∷ ls) shorter = rw flat_map-cons (All-append (λ (xs : List Literal). length xs ≡ suc more) _ _
-          (All-map (λ (xs : List Literal). length xs ≡ suc more) (λ xs. l ∷ xs) (lists_of more literals)
-          (λ k d inside. ap suc (shorter k d inside))) (by_literal ls shorter))
 
   -- each of these literals is of a signal of the graph
   abbrev Inside : List Literal → Type 0
@@ -132,7 +127,7 @@ module _ (c : CodedGraph) (z : ℕ) (cell : Cell) where
   pub refuted : (literals : List Literal) (more : ℕ) → IsRefuted c z cell literals more
       → first_completion c z cell literals more ≡ None
   refuted literals more none = first_none (λ rest. fits c z cell (literals ++ rest)) (lists_of more all_literals)
-      (λ k d inside. none (get_or (lists_of more all_literals) k d) (lengths more all_literals k d inside)
+      (λ k d inside. none (get_or (lists_of more all_literals) k d) (have_length more all_literals k d inside)
       (insides more k d inside))
 
   -- the completions by the literals from a place on

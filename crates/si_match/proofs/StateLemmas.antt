@@ -1,6 +1,6 @@
 -- States, and codes that agree but for some pins.
 use Rattle.std.proofs.Common.{◌≡◌, ℕ, ◌⊎◌, ◌+◌, ◌-◌, ◌<◌, ◌≤◌, Bool, true, false, List, [], ◌∷◌, ◌++◌, length, map}
-use Rattle.std.proofs.Common.{take, get_or, refl, sym, ap, ◌∙◌, arith, inl, inr}
+use Rattle.std.proofs.Common.{take, get_or, sym, ap, ◌∙◌, arith, inl, inr}
 use Rattle.std.specs.List.{list_all}
 use Rattle.std.proofs.lemmas.Bool.{false_from_ne_true, and_from}
 use Rattle.std.proofs.lemmas.Bool.Decides.{eqb_tells, leb_tells}
@@ -9,7 +9,6 @@ use Rattle.std.proofs.lemmas.List.{get_or_default, take_all}
 use Rattle.std.proofs.lemmas.List.FromFn.{length-enumerate_from, get_or-enumerate_from}
 use Rattle.std.proofs.lemmas.List.Folds.{list_all_more, list_all_at}
 use Rattle.std.proofs.Math.Seq.{get_or-append_seam}
-use Rattle.si_base.proofs.BitFacts.{same_codes}
 use Rattle.si_base.proofs.GraphSteps.{beq-true}
 use Rattle.si_base.specs.Bits.{bit, IsSet}
 use Rattle.si_base.specs.Codes.{CodedGraph, code, next_value}
@@ -18,7 +17,7 @@ use Rattle.si_base.specs.declared.ids.Literal.{Literal}
 use Rattle.si_cell.specs.Library.{Cell, pin_values}
 use Rattle.si_cell.proofs.ExpandedLemmas.{bit_of}
 use Rattle.si_match.specs.Fit.{states_of}
-use Rattle.si_match.specs.Search.{IsRefutedAt, AgreeOutside}
+use Rattle.si_match.specs.Loops.Search.{IsRefutedAt, AgreeOutside}
 
 -- ---- states
 pub state_at : (c : CodedGraph) (s : ℕ) (d : ℕ × ℕ) → s < length c.codes → get_or (states_of c) s d ≡ (s, code c s)
@@ -48,31 +47,6 @@ module _ (c : CodedGraph) (test : ℕ × ℕ → Bool) (s : ℕ) (within : s < l
 pub all_states : (c : CodedGraph) (test : ℕ × ℕ → Bool) (s : ℕ) → length c.codes ≤ s
     → list_all test (take s (states_of c)) ≡ true → list_all test (states_of c) ≡ true
 all_states c test s past all = ap (list_all test) (sym (take_all s (states_of c) (rw states_are past))) ∙ all
-
--- ---- codes that agree but for some signals
-pub agree_all : (from to values other : ℕ) → to ≤ from → AgreeOutside from to values other → other ≡ values
-agree_all from to values other past agree = same_codes other values (λ j. agree j (λ low high. omega arith))
-
-pub agree_step : (from to values values2 other : ℕ) (v : Bool) → IsSet values from v values2 → bit other from ≡ v
-    → AgreeOutside from to values other
-    → AgreeOutside (from + 1) to values2 other
-agree_step from to values values2 other v set here agree j outside = elim (eqb_tells j from) [
-  | inl same ↦ rw same.1 (here ∙ sym set.there)
-  | inr different ↦ (let not_from = different.1 in agree j (λ low high. outside (omega arith) high)
-      ∙ sym (set.others j not_from))
-]
-
--- what no completion has, has no code that agrees
-pub can_step : (from to values low high value : ℕ) (v : Bool) (sum : Sum) → IsSet values from false low
-    → IsSet values from true high
-    → ((other : ℕ) → AgreeOutside (from + 1) to low other → sum_value other sum ≡ v → ⊥)
-    → ((other : ℕ) → AgreeOutside (from + 1) to high other → sum_value other sum ≡ v → ⊥)
-    → (other : ℕ) → AgreeOutside from to values other → sum_value other sum ≡ v → ⊥
-can_step from to values low high value v sum s t none_low none_high other agree is = by_bit (bit other from) refl
-  where
-    by_bit : (b : Bool) → bit other from ≡ b → ⊥
-    by_bit true e = none_high other (agree_step from to values high other true t e agree) is
-    by_bit false e = none_low other (agree_step from to values low other false s e agree) is
 
 -- ---- the values of pins of which the first have literals
 value_at : (literals : List Literal) (code : ℕ) (q : Bool) (j : ℕ) → j < length literals

@@ -5,13 +5,13 @@ use Rattle.std.proofs.lemmas.Bool.{cases_Bool, true≢false}
 use Rattle.std.proofs.lemmas.Bool.Decides.{eqb_tells, leb_tells}
 use Rattle.std.proofs.lemmas.Nat.Bits.{bit_at_above}
 use mathlib.Core.Bool.{beq}
-use Rattle.si_base.proofs.BitFacts.{same_codes}
+use Rattle.si_base.proofs.BitFacts.{same_codes, bit-and}
 use Rattle.si_base.proofs.GraphSteps.{beq-refl}
 use Rattle.si_base.specs.Bits.{bit, flip, ones}
 use Rattle.si_base.specs.Codes.{CodedGraph, IsCoded, code, next_value}
 use Rattle.si_base.specs.Graph.{IsNonInput}
 use Rattle.si_base.specs.Proper.{HasNoConflict}
-use Rattle.si_cube.proofs.LiteralLemmas.{bit-and, bit-ones}
+use Rattle.si_cube.proofs.LiteralLemmas.{bit-ones}
 use Rattle.si_checks.proofs.ConflictFree.{same_next}
 use Rattle.si_match.specs.Support.{agree, determines, support_by_drops, support_of}
 use Rattle.si_match.proofs.CodeLemmas.{all_from}

@@ -6,9 +6,8 @@ use Rattle.std.specs.List.{AllByRecursion}
 use Rattle.std.proofs.lemmas.Bool.{cases_Bool, true≢false}
 use Rattle.std.proofs.lemmas.Bool.Decides.{eqb_tells}
 use Rattle.std.proofs.lemmas.List.{append-nil, get_or_default, length_push}
-use Rattle.std.proofs.lemmas.Nat.Bits.{bit_at-zero}
 use Rattle.std.proofs.lemmas.List.Elements.{recursion_from_All, All-nil, All-push}
-use Rattle.si_base.proofs.BitFacts.{flip-same, flip-other}
+use Rattle.si_base.proofs.BitFacts.{flip-same, flip-other, bit-zero}
 use Rattle.si_base.proofs.StepCodes.{code_of_step, step_within}
 use Rattle.si_base.proofs.GraphSteps.{beq-true}
 use Rattle.si_base.specs.Bits.{bit, flip, IsSet}
@@ -19,7 +18,7 @@ use Rattle.si_base.specs.declared.ids.Literal.{Literal}
 use Rattle.si_cell.specs.Library.{Cell, pin_values}
 use Rattle.si_graph.specs.NextCodes.{IsNextCode}
 use Rattle.si_match.specs.Fit.{suits, fits}
-use Rattle.si_match.specs.Search.{IsRefuted, first_completion}
+use Rattle.si_match.specs.Loops.Search.{IsRefuted, first_completion}
 use Rattle.si_match.specs.Support.{agree}
 use Rattle.si_match.specs.Triggers.{IsTrigger, IsUnread, IsNeeded, AreMissing, AreTriggers}
 use Rattle.si_match.specs.Weight.{size_from}
@@ -182,12 +181,6 @@ missing_now c z cell literals more missing size are pins inside size_is many =
     inside (omega (arith, many, size_is)))
 
 -- ---- the triggers that are found
-bit_zero : (i : ℕ) → bit 0 i ≡ false
-bit_zero i = rw bit_at-zero refl
-
-pub no_trigger : (c : CodedGraph) (z : ℕ) → AreTriggers c z 0
-no_trigger c z i set = absurd (true≢false (sym set ∙ bit_zero i))
-
 pub arc_trigger : (c : CodedGraph) (z : ℕ) (a : Edge) → Contains c.graph.edges a → a.event.sig ≢ z
     → next_value c a.to z ≢ next_value c a.from z → IsTrigger c z a.event.sig
 arc_trigger c z a there other changes = record {
@@ -234,9 +227,6 @@ abbrev pub AreFound : CodedGraph → ℕ → List Edge → ℕ → ℕ → Type 
 AreFound c z edges signals count =
     (k : ℕ) (a : Edge) → k < count → get_or edges k a ≡ a → Changes c z a → bit signals a.event.sig ≡ true
 
-pub none_found : (c : CodedGraph) (z : ℕ) (edges : List Edge) (signals : ℕ) → AreFound c z edges signals 0
-none_found c z edges signals k a below at changes = absurd (omega (arith, below))
-
 pub one_more_found : (c : CodedGraph) (z : ℕ) (edges : List Edge) (i : ℕ) (item : Edge) (signals next : ℕ)
     → i < length edges → item ≡ get_or edges i item → AreFound c z edges signals i → IsWithin signals next
     → (Changes c z item → bit next item.event.sig ≡ true) → AreFound c z edges next (i + 1)
@@ -256,13 +246,13 @@ module _ (c : CodedGraph) (z s t only at_s at_t : ℕ) (test : Bool) (within : z
     (only_is : only ≡ flip 0 z) (s_is : IsNextCode c s at_s) (t_is : IsNextCode c t at_t)
     (tested : test ≡ not (agree only at_t at_s)) where
   only_there : bit only z ≡ true
-  only_there = ap (λ (k : ℕ). bit k z) only_is ∙ flip-same 0 z ∙ rw (bit_zero z) refl
+  only_there = ap (λ (k : ℕ). bit k z) only_is ∙ flip-same 0 z ∙ rw (bit-zero z) refl
 
   only_one : (j : ℕ) → bit only j ≡ true → j ≡ z
   only_one j there = elim (eqb_tells j z) [
     | inl same ↦ same.1
     | inr other ↦ absurd (true≢false (sym there ∙ ap (λ (k : ℕ). bit k j) only_is ∙ flip-other 0 z j other.1
-        ∙ bit_zero j))
+        ∙ bit-zero j))
   ]
 
   pub next_changes : test ≡ true → next_value c t z ≢ next_value c s z

@@ -31,8 +31,5 @@ module _ (c : CodedGraph) (is : IsCoded c) where
       size_le (length c.graph.signals) 0 triggers (support_of c z) (triggers_in_support c z is triggers are)
 
 module _ (c : CodedGraph) (library : Library) (z : ℕ) where
-  pub fitting_adds : is_none (first_fit c library z) ≡ false → added_weight c library z ≡ 0
-  fitting_adds fits = rw fits refl
-
   pub unfit_adds : is_none (first_fit c library z) ≡ true → added_weight c library z ≡ 1 + size_of_support c z
   unfit_adds unfit = rw unfit refl

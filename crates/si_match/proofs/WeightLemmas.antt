@@ -1,8 +1,7 @@
 -- Sizes of sets of signals, and weights, signal after signal.
-use Rattle.std.proofs.Common.{◌≡◌, ℕ, suc, ◌+◌, ◌-◌, ◌<◌, ◌≤◌, ◌&&◌, List, [], ◌∷◌, length, drop, get_or, slice_get}
+use Rattle.std.proofs.Common.{◌≡◌, ℕ, suc, ◌+◌, ◌-◌, ◌<◌, ◌&&◌, List, ◌∷◌, length, drop, get_or, slice_get}
 use Rattle.std.proofs.Common.{Some, is_none, add-one, Bool, true, false, if◌then◌else◌, refl, sym, ap, ◌∙◌, arith}
 use Rattle.std.proofs.Math.Seq.{drop-cons}
-use Rattle.std.proofs.lemmas.List.{drop_all}
 use Rattle.std.proofs.lemmas.Option.{slice_get-get_or}
 use Rattle.si_base.specs.Bits.{bit}
 use Rattle.si_base.specs.Codes.{CodedGraph}
@@ -57,12 +56,6 @@ module _ (c : CodedGraph) (library : Library) where
         let same : weight + (added_weight c library i + weight_from c library (i + 1) (drop (i + 1) c.graph.signals))
         ≡ weight_of c library = rw (split, drives) at told in
         omega (arith, same, added)
-
-  pub ends : (i weight : ℕ) → length c.graph.signals ≤ i
-      → weight + weight_from c library i (drop i c.graph.signals) ≡ weight_of c library → weight ≡ weight_of c library
-  ends i weight past told =
-      let none_left : drop i c.graph.signals ≡ [] = drop_all i c.graph.signals past in
-      let same : weight + 0 ≡ weight_of c library = rw none_left at told in omega (arith, same)
 
 pub is_non_input : (all signals : List Signal) (i : ℕ) (x : Signal) (drives : Bool) → signals ≡ all
     → i < length signals → x ≡ get_or signals i x

@@ -1,14 +1,6 @@
 pub mod Fit
-pub mod Search
 pub mod Triggers
-pub mod Codes
 pub mod Support
-pub mod Dropping
 pub mod Weight
-pub mod Known
 pub mod Functions
-pub mod Columns
-pub mod Places
-pub mod Rows
-pub mod Choices
-pub mod Apart
+pub mod Loops

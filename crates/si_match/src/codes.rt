@@ -2,7 +2,7 @@
 
 ghost use Rattle.std.specs.Prelude.{◌≡◌, ℕ, ◌<◌, IfOk, Contains, length, true, false, bit_and};
 ghost use Rattle.std.specs.List.Sorted.{IsNonDecreasing};
-ghost use Rattle.si_match.specs.Codes.{AreCodes, AreProjected};
+ghost use Rattle.si_match.specs.Loops.Codes.{AreCodes, AreProjected};
 
 use si_base::ids::{Code, NoMemory, Sig, StateId};
 use si_cube::codes::in_order;

@@ -8,7 +8,7 @@ ghost use Rattle.si_base.specs.Netlist.{literal_value};
 ghost use Rattle.si_base.specs.declared.ids.Literal.{Literal};
 ghost use Rattle.si_cell.specs.Library.{Cell as CellValue};
 ghost use Rattle.si_cell.specs.Limits.{max_pins, table_codes};
-ghost use Rattle.si_match.specs.Columns.{AreColumns};
+ghost use Rattle.si_match.specs.Loops.Columns.{AreColumns};
 ghost use Rattle.si_match.specs.Functions.{function_table, places};
 
 use crate::functions::PLACES;

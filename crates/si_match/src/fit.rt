@@ -2,7 +2,7 @@
 
 ghost use Rattle.std.specs.Prelude.{◌≡◌, ℕ, ◌<◌, All, [], length};
 ghost use Rattle.si_base.specs.Graph.{IsNonInput};
-ghost use Rattle.si_checks.specs.Lent.{coded_of};
+ghost use Rattle.si_checks.specs.Loops.Lent.{coded_of};
 ghost use Rattle.si_cell.specs.Library.{cell_at};
 ghost use Rattle.si_match.specs.Fit.{first_fit};
 ghost use Rattle.si_match.specs.Triggers.{AreMissing};

@@ -5,7 +5,7 @@ ghost use Rattle.std.specs.Prelude.{length, map};
 ghost use Rattle.si_base.specs.declared.ids.Literal.{Literal};
 ghost use Rattle.si_cell.specs.Limits.{max_pins};
 ghost use Rattle.si_cell.specs.Library.{Cell as CellValue, IsLibrary};
-ghost use Rattle.si_match.specs.Columns.{AreColumns};
+ghost use Rattle.si_match.specs.Loops.Columns.{AreColumns};
 ghost use Rattle.si_match.specs.Fit.{lists_of, literals_of_signals};
 ghost use Rattle.si_match.specs.Functions.{AreFunctions, function_table, function_tables, places};
 

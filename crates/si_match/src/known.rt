@@ -4,7 +4,7 @@ ghost use Rattle.std.specs.Prelude.{◌≡◌, ◌<◌};
 ghost use Rattle.si_base.specs.Codes.{CodedGraph, IsCoded};
 ghost use Rattle.si_base.specs.Limits.{code_width};
 ghost use Rattle.si_cell.specs.Library.{Library};
-ghost use Rattle.si_match.specs.Known.{AreKnown};
+ghost use Rattle.si_match.specs.Loops.Known.{AreKnown};
 
 use si_base::ids::{Code, Sig};
 use si_base::limits::CODE_WIDTH;

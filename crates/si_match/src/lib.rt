@@ -1,6 +1,7 @@
 //! Cells for the signals of a graph: the first instance that fits, supports, and the weight.
 #![tactic(auto)]
 
+pub mod apart;
 pub mod codes;
 mod columns;
 pub mod fit;

@@ -1,13 +1,14 @@
 //! Signals at places, and which truth tables over the places have the next values of a signal.
 
-ghost use Rattle.std.specs.Prelude.{◌≡◌, ℕ, ◌<◌, ◌≤◌, ◌∷◌, ◌⊎◌, All, Contains};
-ghost use Rattle.std.specs.Prelude.{IfSome, IfNone, length};
+ghost use Rattle.std.specs.Prelude.{◌≡◌, ℕ, ◌<◌, ◌≤◌, ◌∷◌, ◌⊎◌, Bool, All, Contains};
+ghost use Rattle.std.specs.Prelude.{IfSome, IfNone, if◌then◌else◌, length};
 ghost use Rattle.std.specs.Prelude.{true, false};
 ghost use Rattle.si_base.specs.Bits.{bit};
+ghost use Rattle.si_base.specs.Codes.{code, next_value};
 ghost use Rattle.si_base.specs.Limits.{code_width};
 ghost use Rattle.si_cell.specs.Limits.{max_pins, table_codes};
-ghost use Rattle.si_match.specs.Places as spec;
-ghost use Rattle.si_match.specs.Places.{Agrees, AgreesAt, AreSeen, Differs};
+ghost use Rattle.si_match.specs.Loops.Places as spec;
+ghost use Rattle.si_match.specs.Loops.Places.{Agrees, AgreesAt, AreSeen, Differs};
 
 use crate::rows::values_at;
 use crate::state::add_witness;
@@ -24,8 +25,27 @@ pub(crate) struct Seen {
     pub(crate) off: Code,
 }
 
+impl Seen {
+    /// Before all states.
+    pub(crate) fn none() -> Seen
+        ensures { (result.on ≡ 0) × (result.off ≡ 0) }
+    {
+        Seen {
+            on: Code(0),
+            off: Code(0),
+        }
+    }
+}
+
+/// Of the values that were seen, those with the other next value.
+pub(crate) fn opposite(on: Code, off: Code, next: bool) -> Code
+    ensures { result ≡ (if next then off else on) }
+{
+    if next { off } else { on }
+}
+
 /// The values at the code of `z`, which stands first, and of the chosen signals.
-fn placed_code(z: Sig, chosen: &[u8], code: Code) -> u8
+pub(crate) fn placed_code(z: Sig, chosen: &[u8], code: Code) -> u8
     requires signal { z < code_width }
     requires few { length chosen.now ≤ max_pins }
     requires signals { All (λ y. y < code_width) chosen.now }
@@ -44,14 +64,18 @@ fn table_value(table: u32, values: u8) -> bool
 }
 
 /// What was seen, and the values and the next value at one more state.
-fn with_state(coded: &Coded, z: Sig, chosen: &[u8], s: StateId, seen: Seen) -> Seen
+pub(crate) fn with_state(coded: &Coded, z: Sig, chosen: &[u8], s: StateId, seen: Seen) -> Seen
     requires state { s < coded.now.graph.states }
     requires signal { z < length coded.now.graph.signals }
     requires width { length coded.now.graph.signals ≤ code_width }
     requires few { length chosen.now ≤ max_pins }
     requires signals { All (λ y. y < code_width) chosen.now }
     requires seen { AreSeen coded.now z chosen.now seen }
-    ensures { AreSeen coded.now z chosen.now result }
+    ensures seen { AreSeen coded.now z chosen.now result }
+    ensures there { let place = spec.placed_code (z ∷ chosen.now) (code coded.now s) in
+        bit (spec.places_with result (next_value coded.now s z)) place ≡ true }
+    ensures kept { (next : Bool) (m : ℕ) → bit (spec.places_with seen next) m ≡ true
+        → bit (spec.places_with result next) m ≡ true }
 {
     let values = Sig(placed_code(z, chosen, coded.code(s)));
     if coded.next_value(s, z) {
@@ -76,10 +100,7 @@ fn seen_at(coded: &Coded, z: Sig, chosen: &[u8], states: &[u32]) -> Seen
     requires states { All (λ s. s < coded.now.graph.states) states.now }
     ensures { AreSeen coded.now z chosen.now result }
 {
-    let mut seen = Seen {
-        on: Code(0),
-        off: Code(0),
-    };
+    let mut seen = Seen::none();
     for state in states {
         if clash(seen.on, seen.off) {
             return seen;

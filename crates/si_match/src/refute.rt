@@ -5,7 +5,7 @@ ghost use Rattle.si_base.specs.Codes.{IsCoded, code};
 ghost use Rattle.si_base.specs.Limits.{code_width};
 ghost use Rattle.si_base.specs.Netlist.{sum_value};
 ghost use Rattle.si_cell.specs.Limits.{max_pins};
-ghost use Rattle.si_match.specs.Search.{IsRefuted, IsRefutedAt, AgreeOutside};
+ghost use Rattle.si_match.specs.Loops.Search.{IsRefuted, IsRefutedAt, AgreeOutside};
 
 use si_base::ids::{Code, Sig, StateId};
 use si_cell::cell::{Cell, PinLiteral};

@@ -2,8 +2,8 @@
 
 ghost use Rattle.std.specs.Prelude.{◌≡◌, ◌<◌, ◌≤◌, ◌^◌, All, IfOk, length};
 ghost use Rattle.si_base.specs.Limits.{code_width};
-ghost use Rattle.si_match.specs.Places.{placed_code};
-ghost use Rattle.si_match.specs.Rows.{AreSignals, max_row_signals};
+ghost use Rattle.si_match.specs.Loops.Places.{placed_code};
+ghost use Rattle.si_match.specs.Loops.Rows.{AreSignals, max_row_signals};
 ghost use Rattle.si_match.specs.Support.{determines};
 ghost use Rattle.si_match.specs.Weight.{size_from};
 

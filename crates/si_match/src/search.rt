@@ -5,7 +5,7 @@ ghost use Rattle.std.specs.Prelude.{true, false, Some, None, option_map};
 ghost use Rattle.si_base.specs.Limits.{code_width};
 ghost use Rattle.si_cell.specs.Limits.{max_pins};
 ghost use Rattle.si_base.specs.Codes.{IsCoded};
-ghost use Rattle.si_match.specs.Search.{first_completion};
+ghost use Rattle.si_match.specs.Loops.Search.{first_completion};
 ghost use Rattle.si_match.specs.Triggers.{AreMissing};
 
 use crate::refute::is_refuted;

@@ -5,8 +5,8 @@ ghost use Rattle.si_base.specs.Bits.{bit};
 ghost use Rattle.si_base.specs.Codes.{IsCoded};
 ghost use Rattle.si_base.specs.Graph.{IsNonInput};
 ghost use Rattle.si_base.specs.Limits.{code_width};
-ghost use Rattle.si_checks.specs.Lent.{coded_of};
-ghost use Rattle.si_match.specs.Dropping.{AreTried};
+ghost use Rattle.si_checks.specs.Loops.Lent.{coded_of};
+ghost use Rattle.si_match.specs.Loops.Dropping.{AreTried};
 ghost use Rattle.si_match.specs.Support.{determines, support_of};
 ghost use Rattle.si_match.specs.Triggers.{AreTriggers};
 

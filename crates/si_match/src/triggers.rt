@@ -3,7 +3,7 @@
 ghost use Rattle.std.specs.Prelude.{◌≡◌, ◌≢◌, ℕ, ◌<◌, ◌↔◌, true, All, IsTrue, length};
 ghost use Rattle.si_base.specs.Bits.{bit, flip};
 ghost use Rattle.si_base.specs.Codes.{IsCoded, next_value};
-ghost use Rattle.si_checks.specs.Lent.{coded_of};
+ghost use Rattle.si_checks.specs.Loops.Lent.{coded_of};
 ghost use Rattle.si_match.specs.Triggers.{AreTriggers, IsTrigger};
 
 use crate::codes::cut;

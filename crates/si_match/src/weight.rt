@@ -3,7 +3,7 @@
 ghost use Rattle.std.specs.Prelude.{◌≡◌, ◌<◌, ◌≤◌, ◌+◌, IfOk};
 ghost use Rattle.si_base.specs.Graph.{IsNonInput};
 ghost use Rattle.si_base.specs.Limits.{code_width};
-ghost use Rattle.si_checks.specs.Lent.{coded_of};
+ghost use Rattle.si_checks.specs.Loops.Lent.{coded_of};
 ghost use Rattle.si_match.specs.Weight.{added_weight, size_from, size_of_support, weight_of};
 
 use crate::fit::fit;
@@ -49,7 +49,7 @@ fn weight_of_signal(
 }
 
 /// What a non-input that fits no cell adds to the weight: one more than the size of its support.
-fn weight_unfit(alloc: Global, graph: Distinct<'_>, z: Sig) -> Result<u64, NoMemory>
+pub fn weight_unfit(alloc: Global, graph: Distinct<'_>, z: Sig) -> Result<u64, NoMemory>
     requires { IsNonInput (coded_of graph).graph.signals z }
     ensures weight { IfOk result
         (λ weight. weight ≡ 1 + size_of_support (coded_of graph.entry) z) }

@@ -1,7 +1,7 @@
 -- Worked examples: the values of gates, what they read, and names in a row.
 use Rattle.std.proofs.Common.{◌≡◌, ℕ, Bool, true, false, [], ◌∷◌, refl, codes}
 use Rattle.si_base.specs.Netlist.{Gate, SumGate, Gc, Cell, Sum, value_of}
-use Rattle.si_netlist.specs.Pieces.{pieces}
+use Rattle.si_netlist.specs.Loops.Pieces.{pieces}
 use Rattle.si_netlist.specs.Reads.{gate_reads}
 
 -- the sum of one literal

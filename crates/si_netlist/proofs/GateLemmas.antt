@@ -14,7 +14,7 @@ use Rattle.si_base.specs.Netlist.{Netlist, gate_place}
 use Rattle.si_base.specs.Limits.{max_signals}
 use Rattle.si_base.specs.WellFormed.{IsNetlist}
 use Rattle.si_netlist.specs.declared.gate.Gate.{Gate}
-use Rattle.si_netlist.specs.Parts.{gate_seen}
+use Rattle.si_netlist.specs.Loops.Parts.{gate_seen}
 
 -- one more signal
 count_step : (p : Signal → Bool) (x : Signal) (xs : List Signal) (driven : Bool) → p x ≡ driven
@@ -44,10 +44,10 @@ within_signals xs z there = slice_get_within xs z there.0 there.1
 
 -- ---- the inputs stand in front
 
-abbrev AreInOrder : List Signal → Type 0
+abbrev pub AreInOrder : List Signal → Type 0
 AreInOrder xs = AllPairs (λ x y. kind_place x.kind ≤ kind_place y.kind) xs
 
-tail_in_order : (x : Signal) (xs : List Signal) → AreInOrder (x ∷ xs) → AreInOrder xs
+pub tail_in_order : (x : Signal) (xs : List Signal) → AreInOrder (x ∷ xs) → AreInOrder xs
 tail_in_order x xs pairs i j d before within = pairs (suc i) (suc j) d (omega arith) (omega arith)
 
 -- a kind that doesn't come before a driven one is driven

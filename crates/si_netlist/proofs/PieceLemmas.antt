@@ -8,7 +8,7 @@ use Rattle.std.proofs.lemmas.List.{take-append-le, drop-append-le, take_all, dro
 use Rattle.std.proofs.lemmas.List.{length-drop, get_or_read}
 use Rattle.std.proofs.lemmas.List.Elements.{All-head, All-tail, All-push}
 use Rattle.std.proofs.lemmas.Option.{slice_get-map}
-use Rattle.si_netlist.specs.Pieces.{spans, pieces, AreEnds}
+use Rattle.si_netlist.specs.Loops.Pieces.{spans, pieces, AreEnds}
 
 -- a span ends where it begins, or later
 abbrev IsForward : ℕ × ℕ → Type 0

@@ -1,20 +1,19 @@
 -- What gates read, and that a signal that a gate doesn't read doesn't change its value.
-use Rattle.std.proofs.Common.{◌≡◌, ◌≢◌, ℕ, ◌⊎◌, ◌<◌, ◌≤◌, ◌+◌, ◌^◌, ◌==◌, ◌||◌, max, bit_or, Bool, true, false, List}
+use Rattle.std.proofs.Common.{◌≡◌, ◌≢◌, ℕ, ◌<◌, ◌≤◌, ◌+◌, ◌^◌, ◌==◌, bit_or, Bool, true, false, List}
 use Rattle.std.proofs.Common.{[], ◌∷◌, zero, suc, length, take, get_or, if◌then◌else◌, slice_get, Option, Some, None}
 use Rattle.std.proofs.Common.{refl, sym, ap, ◌∙◌, arith, inl, inr}
-use Rattle.std.specs.Int.{bit_at}
 use Rattle.std.specs.List.{list_any, list_all}
-use Rattle.std.proofs.lemmas.Bool.{true≢false, cases_lt}
+use Rattle.std.proofs.lemmas.Bool.{true≢false, cases_lt, or_parts}
 use Rattle.std.proofs.lemmas.Bool.Decides.{eqb_tells}
 use Rattle.std.proofs.lemmas.List.Folds.{list_any_more}
-use Rattle.std.proofs.lemmas.Nat.Bits.{bit_at_or, bit_at-lt, bit_at_above}
+use Rattle.std.proofs.lemmas.Nat.Bits.{bit_at_above}
 use mathlib.Core.Bool.{beq}
 use Rattle.si_base.specs.declared.ids.Literal.{Literal}
 use Rattle.si_base.specs.Bits.{bit, flip}
 use Rattle.si_base.specs.Limits.{code_width}
 use Rattle.si_base.specs.Netlist.{Sum, Gate, SumGate, Gc, Cell, Netlist, gate_place, gate_value, value_of}
 use Rattle.si_base.specs.Netlist.{value_if_there, sum_value, literal_value, IsExcited}
-use Rattle.si_base.proofs.BitFacts.{flip-other}
+use Rattle.si_base.proofs.BitFacts.{flip-other, bit-or}
 use Rattle.si_cube.specs.Literals.{literals_from, literals_of}
 use Rattle.si_netlist.specs.Reads.{sum_reads, gate_reads, reads_if_there, signal_reads}
 
@@ -68,18 +67,6 @@ cares_read care value x small =
 
 -- ---- the signals of a sum, a cube at a time
 
-below_two : (n : ℕ) → n < 2 → (n ≡ 0) ⊎ (n ≡ 1)
-below_two n h = grind arith
-
-or_bits : (x y : ℕ) → x < 2 → y < 2 → (max x y == 1) ≡ ((x == 1) || (y == 1))
-or_bits x y lx ly = elim (below_two x lx) [
-  | inl x0 ↦ elim (below_two y ly) [ inl y0 ↦ rw (x0, y0) refl | inr y1 ↦ rw (x0, y1) refl ]
-  | inr x1 ↦ elim (below_two y ly) [ inl y0 ↦ rw (x1, y0) refl | inr y1 ↦ rw (x1, y1) refl ]
-]
-
-pub bit-or : (a b i : ℕ) → bit (bit_or a b) i ≡ (bit a i || bit b i)
-bit-or a b i = rw (bit_at_or a b i) (or_bits (bit_at a i) (bit_at b i) (bit_at-lt a i) (bit_at-lt b i))
-
 pub reads_more : (cubes : Sum) (i signals care value x : ℕ) (cube : List Literal) → i < length cubes
     → cube ≡ get_or cubes i cube → literals_of care value ≡ cube → care < 2 ^ code_width
     → bit signals x ≡ sum_reads (take i cubes) x → bit (bit_or signals care) x ≡ sum_reads (take (i + 1) cubes) x
@@ -90,10 +77,6 @@ reads_more cubes i signals care value x cube within is seen small before =
     rw (bit-or, before, here, more, ← is) refl
 
 -- ---- values
-
-none_of_two : (a b : Bool) → (a || b) ≡ false → (a ≡ false) × (b ≡ false)
-none_of_two true b none = absurd (true≢false none)
-none_of_two false b none = (refl, none)
 
 literal_keeps : (values x : ℕ) (l : Literal) → (l.sig == x) ≡ false
     → literal_value (flip values x) l ≡ literal_value values l
@@ -107,14 +90,14 @@ cube_keeps : (values x : ℕ) (cube : List Literal) → cube_reads cube x ≡ fa
     → list_all (literal_value (flip values x)) cube ≡ list_all (literal_value values) cube
 cube_keeps values x [] none = refl
 cube_keeps values x (l ∷ ls) none =
-    let apart = none_of_two (l.sig == x) (cube_reads ls x) none in
+    let apart = or_parts (l.sig == x) (cube_reads ls x) none in
     rw (literal_keeps values x l apart.0, cube_keeps values x ls apart.1) refl
 
 sum_keeps : (values x : ℕ) (sum : Sum) → sum_reads sum x ≡ false
     → sum_value (flip values x) sum ≡ sum_value values sum
 sum_keeps values x [] none = refl
 sum_keeps values x (cube ∷ cubes) none =
-    let apart = none_of_two (cube_reads cube x) (sum_reads cubes x) none in
+    let apart = or_parts (cube_reads cube x) (sum_reads cubes x) none in
     rw (cube_keeps values x cube apart.0, sum_keeps values x cubes apart.1) refl
 
 -- the gate of z has the same value once x, another signal that it doesn't read, has switched
@@ -122,7 +105,7 @@ gate_keeps : (gate : Gate) (z x values : ℕ) → z ≢ x → gate_reads gate x 
     → value_of gate z (flip values x) ≡ value_of gate z values
 gate_keeps (SumGate sum) z x values other none = sum_keeps values x sum none
 gate_keeps (Gc set reset) z x values other none =
-    let apart = none_of_two (sum_reads set x) (sum_reads reset x) none in
+    let apart = or_parts (sum_reads set x) (sum_reads reset x) none in
     rw (sum_keeps values x set apart.0, sum_keeps values x reset apart.1, flip-other values x z other) refl
 gate_keeps (Cell name literals sum) z x values other none = sum_keeps values x sum none
 

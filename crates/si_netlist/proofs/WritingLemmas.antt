@@ -11,9 +11,9 @@ use Rattle.si_base.specs.Bits.{bit}
 use Rattle.si_base.specs.Words.{line, text_of}
 use Rattle.si_base.specs.Netlist.{Gate, Insertion, Netlist}
 use Rattle.si_base.specs.NetlistText.{names_of, bits_from, word_if_any, insert_line, netlist_text}
-use Rattle.si_netlist.specs.Writing.{gate_lines}
+use Rattle.si_netlist.specs.Loops.Writing.{gate_lines}
 use Rattle.si_words.proofs.WritingLemmas.{joined_words}
-use Rattle.si_words.specs.Writing.{spaced}
+use Rattle.si_words.specs.Loops.Writing.{spaced}
 
 pub start_word : (text : List ℕ) (signals : List Signal) (code : ℕ) → (length signals == 0) ≡ false
     → (text ++ 32 ∷ []) ++ bits_from 0 signals code ≡ text ++ spaced (word_if_any (bits_from 0 signals code))

@@ -1,4 +1,2 @@
-pub mod Parts
 pub mod Reads
-pub mod Pieces
-pub mod Writing
+pub mod Loops

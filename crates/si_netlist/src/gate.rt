@@ -30,7 +30,7 @@ pub enum Gate {
 
 impl Gate {
     ghost use Rattle.si_base.specs.Netlist.{value_of};
-    ghost use Rattle.si_netlist.specs.Parts.{gate_seen};
+    ghost use Rattle.si_netlist.specs.Loops.Parts.{gate_seen};
     ghost use Rattle.si_netlist.specs.Reads.{gate_reads};
 
     /// The value at the code, as the gate of signal `z`.

@@ -17,7 +17,7 @@ pub struct NameList {
 
 impl Model for NameList {
     ghost use Rattle.std.specs.Prelude.{ℕ, List};
-    ghost use Rattle.si_netlist.specs.Pieces.{pieces, AreEnds};
+    ghost use Rattle.si_netlist.specs.Loops.Pieces.{pieces, AreEnds};
 
     ghost Value = { List (List ℕ) };
 

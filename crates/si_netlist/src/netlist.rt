@@ -5,7 +5,7 @@ ghost use Rattle.si_base.specs.WellFormed.{IsNetlist};
 ghost use Rattle.si_base.specs.Graph.{IsNonInput};
 ghost use Rattle.si_base.specs.Limits.{max_signals};
 ghost use Rattle.si_base.specs.Netlist as base;
-ghost use Rattle.si_netlist.specs.Parts.{gate_seen};
+ghost use Rattle.si_netlist.specs.Loops.Parts.{gate_seen};
 ghost use Rattle.si_netlist.specs.Reads.{MarksExactly, signal_reads};
 
 use crate::gate::{Gate, Insert};
@@ -29,7 +29,7 @@ impl Model for Netlist {
     ghost use Rattle.std.specs.Prelude.{map};
     ghost use Rattle.si_base.specs.Netlist as base;
     ghost use Rattle.si_base.specs.WellFormed.{IsNetlist};
-    ghost use Rattle.si_netlist.specs.Parts.{gate_seen};
+    ghost use Rattle.si_netlist.specs.Loops.Parts.{gate_seen};
 
     ghost Value = { base.Netlist };
 

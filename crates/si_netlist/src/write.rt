@@ -6,7 +6,7 @@ ghost use Rattle.si_base.specs.Bytes.{digit_zero, digit_one};
 ghost use Rattle.si_base.specs.Words.{line, text_of};
 ghost use Rattle.si_base.specs.Limits.{max_signals};
 ghost use Rattle.si_base.specs.NetlistText.{netlist_text, word_if_any, bits_from, insert_line};
-ghost use Rattle.si_words.specs.Writing.{spaced};
+ghost use Rattle.si_words.specs.Loops.Writing.{spaced};
 
 use crate::gate::Insert;
 use crate::name_list::NameList;

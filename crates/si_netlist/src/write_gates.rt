@@ -3,9 +3,9 @@
 ghost use Rattle.std.specs.Prelude.{◌≡◌, ◌∷◌, ◌++◌, OnOk, map};
 ghost use Rattle.si_base.specs.Words.{line, text_of};
 ghost use Rattle.si_base.specs.NetlistText.{gate_words};
-ghost use Rattle.si_netlist.specs.Parts.{gate_seen};
-ghost use Rattle.si_netlist.specs.Writing.{gate_lines};
-ghost use Rattle.si_words.specs.Writing.{spaced};
+ghost use Rattle.si_netlist.specs.Loops.Parts.{gate_seen};
+ghost use Rattle.si_netlist.specs.Loops.Writing.{gate_lines};
+ghost use Rattle.si_words.specs.Loops.Writing.{spaced};
 
 use crate::gate::Gate;
 use si_base::graph::Signal;

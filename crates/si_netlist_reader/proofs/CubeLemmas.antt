@@ -7,14 +7,10 @@ use Rattle.si_base.specs.Limits.{code_width}
 use Rattle.si_base.specs.declared.ids.Literal.{Literal}
 use Rattle.si_base.specs.Bits.{bit, IsSet}
 use Rattle.si_cube.specs.Literals.{literals_from, literals_of}
+use Rattle.si_cube.proofs.LiteralLemmas.{literals_from-none}
 
 abbrev lit : ℕ → Bool → Literal
 lit k v = record { sig = k; plain = v }
-
-no_literals : (count i care value : ℕ) → ((j : ℕ) → i ≤ j → bit care j ≡ false) → literals_from count i care value ≡ []
-no_literals zero i care value none = refl
-no_literals (suc count) i care value none =
-    rw (none i (omega arith)) (no_literals count (i + 1) care value (λ j le. none j (omega arith)))
 
 last_literal : (count k care value care2 value2 : ℕ) (v : Bool) → IsSet care k true care2
     → IsSet value k v value2 → ((j : ℕ) → bit care j ≡ true → j < k)
@@ -24,8 +20,8 @@ last_literal count k care value care2 value2 v s t below =
     λ j le. false_from_ne_true _ (λ on. absurd (omega (arith, below j on))) in
     let off2 : (j : ℕ) → k + 1 ≤ j → bit care2 j ≡ false =
     λ j le. s.others j (λ (e : j ≡ k). omega arith) ∙ off j (omega arith) in
-    let tail2 = no_literals count (k + 1) care2 value2 off2 in
-    let tail1 = no_literals count (k + 1) care value (λ j le. off j (omega arith)) in
+    let tail2 = literals_from-none count (k + 1) care2 value2 off2 in
+    let tail1 = literals_from-none count (k + 1) care value (λ j le. off j (omega arith)) in
     rw (s.there, t.there, off k (omega arith), tail2, tail1) refl
 
 more_literals : (count i k care value care2 value2 : ℕ) (v : Bool) → i ≤ k → k < i + count
@@ -48,7 +44,7 @@ more_literals (suc count) i k care value care2 value2 v from to s t below = elim
 
 pub none_of : literals_of 0 0 ≡ []
 unfolding literals_of
-none_of = no_literals code_width 0 0 0 (λ j le. rw (bit_at-zero j) refl)
+none_of = literals_from-none code_width 0 0 0 (λ j le. rw (bit_at-zero j) refl)
 
 pub pushed : (k care value care2 value2 : ℕ) (v : Bool) → k < code_width
     → IsSet care k true care2 → IsSet value k v value2 → ((j : ℕ) → bit care j ≡ true → j < k)

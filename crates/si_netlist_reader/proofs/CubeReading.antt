@@ -18,14 +18,16 @@ use Rattle.si_base.specs.Faults.{when}
 use Rattle.si_base.specs.Limits.{code_width}
 use Rattle.si_cube.specs.Literals.{literals_of, IsWithin}
 use Rattle.si_words.specs.GateLines.{pin_fault, place_in, comes_after, last_of, sum_fault}
-use Rattle.si_words.specs.Reads.{words_now}
+use Rattle.si_words.specs.GateLines.{literal_of}
+use Rattle.si_words.specs.Loops.Reads.{words_now}
 use Rattle.si_words.specs.Sums.{is_one, is_cube, is_literal, is_mark, is_empty}
 use Rattle.si_words.proofs.FirstFaultLemmas.{take_word}
 use Rattle.si_words.proofs.SumWordLemmas.{last_pushed}
-use Rattle.si_netlist_reader.specs.NetlistValue.{literal_of, cube_of}
+use Rattle.si_netlist_reader.specs.NetlistValue.{cube_of}
 use Rattle.si_netlist_reader.proofs.CubeLemmas.{none_of, pushed}
 use Rattle.si_netlist_reader.proofs.GateLineLemmas.{take_mapped}
-use Rattle.si_netlist_reader.proofs.OrderLemmas.{word_after, words_after, sum_is, no_mark_is}
+use Rattle.si_netlist_reader.proofs.OrderLemmas.{word_after, words_after, sum_is}
+use Rattle.si_netlist_reader.proofs.LawSumLemmas.{not_mark}
 
 -- ---- a literal after the word before it
 module _ (signals : List (List ℕ)) where
@@ -57,17 +59,17 @@ module _ (signals : List (List ℕ)) where
 
   pub undeclared_word : (prior : Option (List ℕ)) (word : List ℕ) (kind : TextKind) → is_literal word ≡ true
       → pin_fault signals word ≡ Some kind → word_after signals prior word ≡ Some kind
-  undeclared_word prior word kind form fault = rw (no_mark_is signals word form, fault) refl
+  undeclared_word prior word kind form fault = rw (not_mark word form, fault) refl
 
   pub good_word : (prior : Option (List ℕ)) (word : List ℕ) (next s : ℕ) → is_literal word ≡ true
       → place_in signals word ≡ Some s → NextIs prior next → next ≤ s → word_after signals prior word ≡ None
   good_word prior word next s form at is above =
-      rw (no_mark_is signals word form, at, in_order prior word next s is at above) refl
+      rw (not_mark word form, at, in_order prior word next s is at above) refl
 
   pub bad_word : (prior : Option (List ℕ)) (word : List ℕ) (next s : ℕ) → is_literal word ≡ true
       → place_in signals word ≡ Some s → NextIs prior next → s < next → word_after signals prior word ≡ Some BadLine
   bad_word prior word next s form at is above =
-      rw (no_mark_is signals word form, at, out_of_order prior word next s is at above) refl
+      rw (not_mark word form, at, out_of_order prior word next s is at above) refl
 
 -- ---- the words before the i-th
 module _ (signals : List (List ℕ)) (words : List (Bor (List ℕ))) where
@@ -188,7 +190,7 @@ module _ (signals : List (List ℕ)) (words : List (Bor (List ℕ))) where
                   (literals_of care2 value2) inside b.literals
                   (pushed l.sig care value care2 value2 l.plain small s t before
                   ∙ ap (λ (x : Literal). literals_of care value ++ x ∷ []) is);
-              next_is = rw last_is (l.sig, sig_is, no_mark_is signals word form, more);
+              next_is = rw last_is (l.sig, sig_is, not_mark word form, more);
               below = λ j on. elim (same_or_not j l.sig) [
                 | inl e ↦ omega arith
                 | inr ne ↦ (let earlier = before j (sym (s.others j ne) ∙ on) in omega arith)
@@ -219,13 +221,6 @@ module _ (signals : List (List ℕ)) (words : List (Bor (List ℕ))) where
         both_false false = refl
 
   -- ---- all words
-  pub no_words : is_empty (words_now words) ≡ true → is_cube (words_now words) ≡ false
-  no_words none = by_words (words_now words) none
-    where
-      by_words : (ws : List (List ℕ)) → is_empty ws ≡ true → is_cube ws ≡ false
-      by_words [] e = refl
-      by_words (w ∷ ws) e = absurd (true≢false (sym e))
-
   pub one_read : is_one (codes "1") (words_now words) ≡ true → (is_cube (words_now words) ≡ true)
       × (sum_fault signals (words_now words) ≡ None) × (literals_of 0 0 ≡ cube_of signals (words_now words))
   one_read one = (rw one refl, by_words (words_now words) one, none_of ∙ rw one refl)

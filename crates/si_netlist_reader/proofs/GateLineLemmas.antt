@@ -4,14 +4,14 @@ use Rattle.std.proofs.Common.{MatchResult, false, refl, sym, ap, ◌∙◌, arit
 use Rattle.std.proofs.Common.{Some, None, bytes_eq}
 use Rattle.std.proofs.lemmas.List.{map_push}
 use Rattle.si_base.specs.declared.fault.TextKind.TheVariants.{BadLine}
-use Rattle.si_netlist_reader.specs.Headers.{gate_in}
+use Rattle.si_netlist_reader.specs.Loops.Headers.{gate_in}
 use Rattle.si_netlist_reader.specs.NetlistValue.{gate_of}
-use Rattle.si_netlist.specs.Parts.{gate_seen}
-use Rattle.si_netlist_reader.specs.Reading.{Reads}
+use Rattle.si_netlist.specs.Loops.Parts.{gate_seen}
+use Rattle.si_netlist_reader.specs.Loops.Reading.{Reads}
 use Rattle.si_netlist.specs.declared.gate.Gate.{Gate}
 use Rattle.si_base.specs.declared.fault.TextKind.{TextKind}
 use Rattle.si_words.specs.GateLines.{gate_fault, literals_fault, is_gate}
-use Rattle.si_words.specs.Reads.{words_now}
+use Rattle.si_words.specs.Loops.Reads.{words_now}
 use Rattle.si_words.proofs.FirstFaultLemmas.{take_word}
 
 -- the line of a gate, by its head and the words behind it

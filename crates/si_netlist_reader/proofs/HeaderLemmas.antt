@@ -3,14 +3,14 @@ use Rattle.std.proofs.Common.{◌≡◌, ℕ, suc, List, [], ◌∷◌, ◌++◌
 use Rattle.si_base.specs.declared.fault.TextKind.{TextKind}
 use Rattle.si_netlist_reader.specs.NetlistFault.{due_in, due_after, names_at, model_fault, start_fault}
 use Rattle.si_words.specs.Lines.{Form, rest_of, words_of, names_fault}
-use Rattle.si_words.specs.RowValues.{TakesValue}
+use Rattle.si_words.specs.Loops.RowValues.{TakesValue}
 use Rattle.si_words.specs.Rows.{Left, fault_of, AddsNames, TakesForm}
 use Rattle.si_words.proofs.RowLemmas.{row_step}
 use Rattle.std.proofs.Common.{Result, Err}
 use Rattle.si_base.specs.declared.fault.TextFault.{TextFault}
 use Rattle.si_base.specs.TextFaults.{ToldBy, Shows}
 use Rattle.si_netlist_reader.specs.declared.header.Header.{Header}
-use Rattle.si_netlist_reader.specs.Headers.{ReadsHeader, model_of, start_of}
+use Rattle.si_netlist_reader.specs.Loops.Headers.{ReadsHeader, model_of, start_of}
 
 abbrev pub from5 : List (List ℕ) → List (List ℕ) → List (List ℕ) → List (List ℕ) → List Form
 from5 i o n s = start_fault (length (i ++ o ++ n ++ s)) ∷ due_after i o n s

@@ -6,9 +6,9 @@ use Rattle.std.proofs.lemmas.Bool.{and_parts}
 use Rattle.std.proofs.lemmas.Slice.Eq.{bytes_eq-Decides}
 use Rattle.si_base.specs.Netlist.{Insertion}
 use Rattle.si_words.specs.Names.{stands_in}
-use Rattle.si_words.specs.Reads.{words_now}
+use Rattle.si_words.specs.Loops.Reads.{words_now}
 use Rattle.si_words.specs.Sums.{cut_at, is_empty}
-use Rattle.si_netlist_reader.specs.Reading.{Inserts}
+use Rattle.si_netlist_reader.specs.Loops.Reading.{Inserts}
 
 -- the first three words are those of an insert line for the name, and `down` stands between two lists
 pub inserts : (name : List ℕ) (ws : List (Bor (List ℕ))) (d : Bor (List ℕ)) (states : List (Bor (List ℕ)))

@@ -1,10 +1,10 @@
 -- Lines that have the forms due to them.
 use Rattle.std.proofs.Common.{◌≡◌, ℕ, ◌+◌, Bool, true, false, List, [], ◌∷◌, ◌++◌, length, map, take, drop, refl}
-use Rattle.std.proofs.Common.{Option, Some, None}
+use Rattle.std.proofs.Common.{Some, None}
 use Rattle.si_base.specs.declared.fault.TextKind.{TextKind}
 use Rattle.si_base.specs.declared.fault.TextKind.TheVariants.{BadByte, NoEnd}
 use Rattle.si_base.specs.Faults.{when, ◌otherwise◌, at_line}
-use Rattle.si_words.proofs.FaultLemmas.{both, not_when}
+use Rattle.si_words.proofs.FaultLemmas.{both, not_when, line_none}
 use Rattle.si_words.specs.Lines.{Form, lines_fault, words_of, has_bad_byte_here}
 
 -- as many lines as forms, each without a bad byte and without a fault
@@ -13,11 +13,6 @@ Fits [] [] = Unit {0}
 Fits [] (l ∷ ls) = ⊥
 Fits (f ∷ fs) [] = ⊥
 Fits (f ∷ fs) (l ∷ ls) = ((has_bad_byte_here l ≡ false) × (f (words_of l) ≡ None)) × Fits fs ls
-
-here_then : (n : ℕ) (o : Option TextKind) (later : Option (ℕ × TextKind)) → (at_line n o otherwise later) ≡ None
-    → (o ≡ None) × (later ≡ None)
-here_then n None later h = (refl, h)
-here_then n (Some k) later h = absurd cc
 
 never : (n : ℕ) (c : Bool) (k : TextKind) → at_line n (when c k otherwise Some NoEnd) ≡ None → ⊥
 never n true k h = cc
@@ -30,7 +25,7 @@ fits n [] [] (b ∷ t) none = absurd cc
 fits n [] (l ∷ ls) tail none = absurd cc
 fits n (f ∷ fs) [] tail none = absurd (never n (has_bad_byte_here tail) BadByte none)
 fits n (f ∷ fs) (l ∷ ls) tail none =
-    let parts = here_then n _ _ none in
+    let parts = line_none n _ _ none in
     let line = both _ _ parts.0 in
     let later = fits (n + 1) fs ls tail parts.1 in
     (later.0, ((not_when _ _ line.0, line.1), later.1))
@@ -49,9 +44,3 @@ fits_map f (x ∷ xs) gs [] fit = absurd fit
 fits_map f (x ∷ xs) gs (l ∷ ls) fit =
     let rest = fits_map f xs gs ls fit.1 in
     ((fit.0, rest.0), rest.1)
-
-pub fits_append : (fs gs : List Form) (ks ls : List (List ℕ)) → Fits fs ks → Fits gs ls → Fits (fs ++ gs) (ks ++ ls)
-fits_append [] gs [] ls one other = other
-fits_append [] gs (k ∷ ks) ls one other = absurd one
-fits_append (f ∷ fs) gs [] ls one other = absurd one
-fits_append (f ∷ fs) gs (k ∷ ks) ls one other = (one.0, fits_append fs gs ks ls one.1 other)

@@ -17,16 +17,17 @@ use Rattle.si_base.specs.Netlist.{Gate, SumGate}
 use Rattle.si_base.specs.NetlistText.{gate_words}
 use Rattle.si_base.specs.Words.{is_signal_name}
 use Rattle.si_base.specs.WellFormed.{IsGate}
+use Rattle.si_base.specs.Graph.{names_in}
 use Rattle.si_words.specs.Sums.{is_literal, is_sum, len_before, cut_at}
 use Rattle.si_words.specs.Lines.{rest_of}
 use Rattle.si_words.specs.GateLines.{place_in, is_gate, are_sums, are_pins, are_pins_and_sum, pin_fault, pins_fault}
-use Rattle.si_words.specs.GateLines.{cell_fault, literals_fault, gate_fault, sum_fault}
-use Rattle.si_netlist_reader.specs.NetlistValue.{literal_of, sum_of, gc_of, cell_of, gate_of}
+use Rattle.si_words.specs.GateLines.{cell_fault, literals_fault, gate_fault, sum_fault, literal_of}
+use Rattle.si_netlist_reader.specs.NetlistValue.{sum_of, gc_of, cell_of, gate_of}
 use Rattle.si_netlist_reader.proofs.LawLemmas.{literals_back}
 use Rattle.si_words.proofs.FaultLemmas.{both, not_when}
-use Rattle.si_netlist_reader.proofs.LawSumLemmas.{names_in, Good, good_after, sum_read, literals_within}
+use Rattle.si_netlist_reader.proofs.LawSumLemmas.{Good, good_after, sum_read, literals_within}
 
-next : (n : ℕ) → 1 + n ≡ suc n
+pub next : (n : ℕ) → 1 + n ≡ suc n
 next n = omega arith
 
 front_passes : (p : List ℕ → Bool) (xs : List (List ℕ)) → list_all p (take (prefix_len p xs) xs) ≡ true

@@ -8,12 +8,11 @@ use Rattle.std.specs.List.{AllByRecursion, zip}
 use Rattle.si_base.specs.declared.graph.Signal.{Signal}
 use Rattle.si_base.specs.declared.graph.SigKind.{SigKind}
 use Rattle.si_base.specs.declared.graph.SigKind.TheVariants.{Input, Output, Internal, Inserted}
-use Rattle.si_base.specs.Graph.{is_driven, kind_place}
+use Rattle.si_base.specs.Graph.{is_driven, kind_place, names_in}
 use Rattle.si_base.specs.Netlist.{Gate, Insertion, Netlist}
 use Rattle.si_base.specs.NetlistText.{same_kind, names_of, gate_words, bits_from, word_if_any, insert_line}
 use Rattle.si_base.specs.NetlistText.{netlist_lines}
 use Rattle.si_base.specs.GivenGraph.{signals_of}
-use Rattle.si_netlist_reader.proofs.LawSumLemmas.{names_in}
 
 abbrev pub signals_by : List (List ℕ) → List (List ℕ) → List (List ℕ) → List (List ℕ) → List Signal
 signals_by i o n s = signals_of Input i ++ signals_of Output o ++ signals_of Internal n ++ signals_of Inserted s

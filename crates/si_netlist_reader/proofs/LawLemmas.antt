@@ -3,8 +3,8 @@ use Rattle.std.proofs.Common.{◌≡◌, ℕ, ◌<◌, ◌==◌, Bool, true, fal
 use Rattle.std.proofs.Common.{ap, ◌∙◌, bytes_eq, Option, Some, None, not, if◌then◌else◌, unwrap_or, inl, inr, ◌⊎◌}
 use Rattle.std.proofs.Common.{eqb-true, is_none, codes, ap₂, arith, ◌+◌}
 use Rattle.std.proofs.lemmas.Bool.{true≢false, not-true, cases_Bool, and_parts}
-use Rattle.si_words.specs.GateLines.{place_in}
-use Rattle.si_netlist_reader.specs.NetlistValue.{literal_of, cube_of, sum_of}
+use Rattle.si_words.specs.GateLines.{place_in, literal_of}
+use Rattle.si_netlist_reader.specs.NetlistValue.{cube_of, sum_of}
 use Rattle.si_base.specs.Graph.{name_of}
 use Rattle.si_base.specs.NetlistText.{cube_words, more_cubes, sum_words, literal_word}
 use Rattle.std.specs.List.{onto_first, AllByRecursion, list_all}
@@ -17,14 +17,7 @@ use Rattle.std.proofs.lemmas.Slice.Eq.{bytes_eq-Decides}
 use Rattle.si_base.specs.declared.ids.Literal.{Literal}
 use Rattle.si_base.specs.declared.graph.Signal.{Signal}
 use Rattle.si_base.specs.Words.{is_signal_name, is_name_byte, is_letter}
-
-unmarked : (c b : ℕ) (bs : List ℕ) → literal_name (c ∷ (b ∷ bs)) ≡ c ∷ literal_name (b ∷ bs)
-unmarked c b bs = elim (cases_Bool (c == 39)) [ inl e ↦ rw e refl | inr e ↦ rw e refl ]
-
-marked : (xs : List ℕ) → literal_name (xs ++ 39 ∷ []) ≡ xs
-marked [] = refl
-marked (b ∷ []) = unmarked b 39 []
-marked (b ∷ c ∷ bs) = unmarked b c (bs ++ 39 ∷ []) ∙ ap (λ (l : List ℕ). b ∷ l) (marked (c ∷ bs))
+use Rattle.si_words.proofs.SumWordLemmas.{unmarked, marked}
 
 -- a byte that isn't the mark, at each place
 unmarked_all : (xs : List ℕ) → list_all (λ b. not (b == 39)) xs ≡ true → literal_name xs ≡ xs

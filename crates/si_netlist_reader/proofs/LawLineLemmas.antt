@@ -1,5 +1,5 @@
 -- The other lines of a netlist: words without fault are those that are written of what they spell.
-use Rattle.std.proofs.Common.{IsTrue, ◌||◌, if◌then◌else◌, suc, ◌≡◌, ◌≢◌, ℕ, ◌+◌, ◌*◌, ◌/◌, ◌%◌, ◌^◌, ◌<◌, ◌≤◌, ◌==◌}
+use Rattle.std.proofs.Common.{IsTrue, ◌||◌, if◌then◌else◌, suc, ◌≡◌, ◌≢◌, ℕ, ◌+◌, ◌*◌, ◌^◌, ◌<◌, ◌≤◌, ◌==◌}
 use Rattle.std.proofs.Common.{◌&&◌, Bool, true, false, not, List, [], ◌∷◌, ◌++◌, length, All, AllPairs, refl, sym, ap}
 use Rattle.std.proofs.Common.{ap₂, subst, ◌∙◌, inl, inr, arith, codes, bytes_eq, nat_le, Option, Some, None, eqb-true}
 use Rattle.std.proofs.Common.{append_assoc}
@@ -21,6 +21,7 @@ use Rattle.si_base.specs.Faults.{when, first_after}
 use Rattle.si_base.specs.NetlistText.{insert_line, bits_from, word_if_any}
 use Rattle.si_base.specs.Words.{is_signal_name, is_between}
 use Rattle.si_base.specs.WellFormed.{IsWord, IsInsertion}
+use Rattle.si_base.proofs.BitFacts.{lowest_bit, without_lowest}
 use Rattle.si_words.specs.Names.{stands_in, name_fault}
 use Rattle.si_words.specs.Sums.{is_empty, cut_at}
 use Rattle.si_netlist_reader.specs.NetlistFault.{model_fault, is_model_word, start_fault, are_both_lists, insert_fault}
@@ -119,22 +120,13 @@ names_read {limit = limit} head before (w ∷ names) none are =
     not-false' t h = not-false t h
 
 -- ---- the start
--- twice the rest, and the first bit
-doubled : (b : Bool) (m : ℕ) → ((if b then 1 else 0) + 2 * m) / 2 ≡ m
-doubled true m = omega arith
-doubled false m = omega arith
-
-lowest : (b : Bool) (m : ℕ) → (((if b then 1 else 0) + 2 * m) % 2 == 1) ≡ b
-lowest true m = let e : (1 + 2 * m) % 2 ≡ 1 = omega arith in rw e refl
-lowest false m = let e : (0 + 2 * m) % 2 ≡ 0 = omega arith in rw e refl
-
 pub bit_first : (b : ℕ) (bits : List ℕ) → bit (code_of_bits (b ∷ bits)) 0 ≡ (b == 49)
 bit_first b bits = ap (λ (x : ℕ). x == 1) (bit_at_lowest (code_of_bits (b ∷ bits)))
-    ∙ lowest (b == 49) (code_of_bits bits)
+    ∙ lowest_bit (b == 49) (code_of_bits bits)
 
 pub bit_next : (b : ℕ) (bits : List ℕ) (k : ℕ) → bit_at (code_of_bits (b ∷ bits)) (suc k) ≡ bit_at (code_of_bits bits) k
 bit_next b bits k = bit_at-suc (code_of_bits (b ∷ bits)) k
-    ∙ ap (λ (n : ℕ). bit_at n k) (doubled (b == 49) (code_of_bits bits))
+    ∙ ap (λ (n : ℕ). bit_at n k) (without_lowest (b == 49) (code_of_bits bits))
 
 pub code_fits_bits : (bits : List ℕ) → code_of_bits bits < 2 ^ length bits
 code_fits_bits [] = omega arith
@@ -223,7 +215,7 @@ split_words P (x ∷ xs) y ys all =
 is_other : (mark w : List ℕ) → bytes_eq mark w ≡ false → w ≡ mark → ⊥
 is_other mark w other same = true≢false (sym ((bytes_eq-Decides mark w).1 (sym same)) ∙ other)
 
-abbrev Listed : List ℕ → Type 0
+abbrev pub Listed : List ℕ → Type 0
 Listed w = IsWord w × (w ≢ codes "down")
 
 listed_front : (words : List (List ℕ)) → AllByRecursion IsWord words

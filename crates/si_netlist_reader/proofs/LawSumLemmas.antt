@@ -16,14 +16,13 @@ use Rattle.si_base.specs.declared.fault.TextKind.TheVariants.{BadLine, Undeclare
 use Rattle.si_base.specs.Faults.{when, ◌otherwise◌, first_after}
 use Rattle.si_base.specs.NetlistText.{sum_words}
 use Rattle.si_base.specs.WellFormed.{IsCube, IsSum}
+use Rattle.si_base.specs.Graph.{names_in}
 use Rattle.si_words.specs.Sums.{is_literal, is_cube, is_sum, is_one, is_mark, literal_name, parts_at}
 use Rattle.si_words.specs.GateLines.{place_in, is_below, last_of, comes_after, literal_fault}
-use Rattle.si_netlist_reader.specs.NetlistValue.{literal_of, cube_of, sum_of}
+use Rattle.si_words.specs.GateLines.{literal_of}
+use Rattle.si_netlist_reader.specs.NetlistValue.{cube_of, sum_of}
 use Rattle.si_netlist_reader.proofs.LawLemmas.{cube_back, sum_back, PartIsGood}
 use Rattle.si_words.proofs.FaultLemmas.{both, not_when}
-
-abbrev pub names_in : List Signal → List (List ℕ)
-names_in signals = map (λ (x : Signal). x.name) signals
 
 -- the fault of a word behind another, or at the head
 abbrev pub fault_behind : List (List ℕ) → Option (List ℕ) → List ℕ → Option TextKind

@@ -1,6 +1,6 @@
 -- The words of a gate have no fault, spell that gate, and have bytes of words only.
-use Rattle.std.proofs.Common.{if◌then◌else◌, suc, ◌≡◌, ℕ, ◌+◌, ◌<◌, ◌≤◌, Bool, true, false, List, [], ◌∷◌, ◌++◌}
-use Rattle.std.proofs.Common.{length, map, drop, All, refl, sym, ap, ap₂, ◌∙◌, arith, codes, bytes_eq}
+use Rattle.std.proofs.Common.{if◌then◌else◌, ◌≡◌, ℕ, ◌+◌, ◌<◌, ◌≤◌, Bool, true, false, List, [], ◌∷◌, ◌++◌}
+use Rattle.std.proofs.Common.{length, map, All, refl, sym, ap, ap₂, ◌∙◌, arith, codes, bytes_eq}
 use Rattle.std.proofs.Common.{nat_lt, Option, Some, None}
 use Rattle.std.proofs.lemmas.Bool.{true≢false, and_parts, and_from, lt-ltb, le-leb}
 use Rattle.std.proofs.lemmas.Bool.{false_from_ne_true}
@@ -13,21 +13,23 @@ use Rattle.si_base.specs.declared.ids.Literal.{Literal}
 use Rattle.si_base.specs.declared.graph.Signal.{Signal}
 use Rattle.si_base.specs.Faults.{first_in}
 use Rattle.si_base.specs.Netlist.{Sum, Gate, SumGate, Gc, Cell}
-use Rattle.si_base.specs.Graph.{name_of}
+use Rattle.si_base.specs.Graph.{name_of, names_in}
 use Rattle.si_base.specs.NetlistText.{literal_word, cube_words, more_cubes, sum_words, gate_words}
 use Rattle.si_base.specs.Words.{is_signal_name, is_name_byte, is_letter}
 use Rattle.si_base.specs.WellFormed.{IsCube, IsSum, IsGate}
 use Rattle.si_words.proofs.NameByteLemmas.{dark_letter, dark_name_byte}
 use Rattle.si_words.specs.Sums.{cut_at, len_before}
 use Rattle.si_words.specs.GateLines.{is_gate, are_pins, pin_fault, literals_fault, gate_fault}
+use Rattle.si_words.proofs.SumWordLemmas.{behind}
 use Rattle.si_netlist_reader.specs.NetlistValue.{gate_of, gc_of, cell_of}
 use Rattle.si_netlist_reader.proofs.LawTextLemmas.{IsDark}
-use Rattle.si_netlist_reader.proofs.LawSumLemmas.{names_in, none_after}
+use Rattle.si_netlist_reader.proofs.LawSumLemmas.{none_after}
 use Rattle.si_netlist_reader.proofs.LawLineLemmas.{AreNames}
 use Rattle.si_netlist_reader.proofs.LawWrittenSumLemmas.{AreDark, dark_append, There, Unlike, literals_unlike}
 use Rattle.si_netlist_reader.proofs.LawWrittenSumLemmas.{words_are_literals, literals_spelled, literal_place, good_name}
 use Rattle.si_netlist_reader.proofs.LawWrittenSumLemmas.{CubeFits, cubes_fit, sum_good, sum_is, sum_spelled, sum_unlike}
 use Rattle.si_netlist_reader.proofs.LawWrittenSumLemmas.{good_join}
+use Rattle.si_netlist_reader.proofs.LawGateLemmas.{next}
 
 -- ---- bytes of names
 dark_bytes : (bs : List ℕ) → list_all is_name_byte bs ≡ true → IsDark bs
@@ -76,16 +78,9 @@ dark_sum signals (c ∷ cs) are fit = dark_append (cube_words signals c) (more_c
     (dark_cube signals c are fit.0.0) (dark_more signals cs are fit.1)
 
 -- ---- the cut
-next : (n : ℕ) → 1 + n ≡ suc n
-next n = omega arith
-
 len_at : (mark : List ℕ) (xs ys : List (List ℕ)) → Unlike mark xs → len_before mark (xs ++ mark ∷ ys) ≡ length xs
 len_at mark [] ys unlike = rw ((bytes_eq-Decides mark mark).1 refl) refl
 len_at mark (x ∷ xs) ys unlike = rw (unlike.0, len_at mark xs ys unlike.1) (next (length xs))
-
-behind : (xs ys : List (List ℕ)) (mark : List ℕ) → drop (length xs + 1) (xs ++ mark ∷ ys) ≡ ys
-behind [] ys mark = refl
-behind (x ∷ xs) ys mark = let e : suc (length xs) + 1 ≡ suc (length xs + 1) = omega arith in rw e (behind xs ys mark)
 
 pub cut_made : (mark : List ℕ) (xs ys : List (List ℕ)) → Unlike mark xs → cut_at mark (xs ++ mark ∷ ys) ≡ Some (xs, ys)
 cut_made mark xs ys unlike =

@@ -19,14 +19,15 @@ use Rattle.si_base.specs.Netlist.{Insertion}
 use Rattle.si_base.specs.NetlistText.{insert_line, bits_from, word_if_any}
 use Rattle.si_base.specs.Words.{is_signal_name, is_between}
 use Rattle.si_base.specs.WellFormed.{IsWord, IsInsertion}
+use Rattle.si_base.specs.Graph.{names_in}
 use Rattle.si_words.specs.Names.{stands_in, name_fault}
 use Rattle.si_words.specs.Sums.{is_empty}
 use Rattle.si_netlist_reader.specs.NetlistFault.{model_fault, is_model_word, start_fault, insert_fault, are_both_lists}
 use Rattle.si_words.specs.Lines.{names_fault}
+use Rattle.si_words.proofs.NameWords.{same_bytes}
 use Rattle.si_netlist_reader.specs.NetlistValue.{insertion_with, insertion_of, first_word, code_of_bits}
 use Rattle.si_netlist_reader.proofs.LawTextLemmas.{IsDark}
-use Rattle.si_netlist_reader.proofs.LawSumLemmas.{names_in}
-use Rattle.si_netlist_reader.proofs.LawLineLemmas.{AreNames, bit_next, code_fits_bits}
+use Rattle.si_netlist_reader.proofs.LawLineLemmas.{AreNames, bit_next, code_fits_bits, Listed}
 use Rattle.si_netlist_reader.proofs.LawWrittenSumLemmas.{AreDark, dark_append, Unlike}
 use Rattle.si_netlist_reader.proofs.LawWrittenGateLemmas.{cut_made}
 
@@ -36,9 +37,6 @@ not_empty (x ∷ xs) some = refl
 
 differs : (mark w : List ℕ) → w ≢ mark → bytes_eq mark w ≡ false
 differs mark w other = false_from_ne_true _ (λ same. other (sym ((bytes_eq-Decides mark w).0 same)))
-
-equals : (w : List ℕ) → bytes_eq w w ≡ true
-equals w = (bytes_eq-Decides w w).1 refl
 
 -- ---- the model
 pub model_good : (model : List ℕ) → IsWord model → model ≢ 123 ∷ [] → model ≢ 125 ∷ []
@@ -102,7 +100,8 @@ name_some (b ∷ bs) is = refl
 
 pub names_good : {limit : ℕ} (head : List ℕ) (before names : List (List ℕ)) → AreNames limit (before ++ names)
     → names_fault limit head before (head ∷ names) ≡ None
-names_good {limit = limit} head before names are = rw (equals head, none_empty before names are) (each before names are)
+names_good {limit = limit} head before names are =
+    rw (same_bytes head, none_empty before names are) (each before names are)
   where
     each : (before names : List (List ℕ)) → AreNames limit (before ++ names)
         → first_after (name_fault limit) before names ≡ None
@@ -208,8 +207,6 @@ start_spelled signals value fits = ap code_of_bits (word_back (bits_from 0 signa
     none_plus n = omega arith
 
 -- ---- insertions
-abbrev Listed : List ℕ → Type 0
-Listed w = IsWord w × (w ≢ codes "down")
 
 listed_unlike : (words : List (List ℕ)) → AllByRecursion Listed words → Unlike (codes "down") words
 listed_unlike [] are = tt
@@ -242,7 +239,7 @@ insert_good i is dark =
     and_from _ _
     (and_from _ _ (not_from_false _ (not_empty i.up is.some_up)) (not_from_false _ (not_empty i.down is.some_down)))
     (not_from_false _ (none_down i.down (listed_unlike i.down down))) in (
-      rw (equals i.name, states_some i.up i.down up down, cut, both) refl,
+      rw (same_bytes i.name, states_some i.up i.down up down, cut, both) refl,
       ap (insertion_with i.name) cut,
       (
         refl,

@@ -12,16 +12,16 @@ use Rattle.std.specs.List.{AllByRecursion, list_all, prefix_len}
 use Rattle.si_base.specs.declared.ids.Literal.{Literal}
 use Rattle.si_base.specs.declared.graph.Signal.{Signal}
 use Rattle.si_base.specs.Netlist.{Sum}
-use Rattle.si_base.specs.Graph.{name_of}
+use Rattle.si_base.specs.Graph.{name_of, names_in}
 use Rattle.si_base.specs.NetlistText.{literal_word, cube_words, more_cubes, sum_words}
 use Rattle.si_base.specs.Words.{is_signal_name}
 use Rattle.si_base.specs.WellFormed.{IsCube}
 use Rattle.si_words.specs.Sums.{is_literal, is_cube, is_sum, is_one, is_mark, literal_name, parts_at}
-use Rattle.si_words.specs.GateLines.{place_in, is_below, comes_after}
-use Rattle.si_netlist_reader.specs.NetlistValue.{literal_of, cube_of, sum_of}
+use Rattle.si_words.specs.GateLines.{place_in, is_below, comes_after, literal_of}
+use Rattle.si_netlist_reader.specs.NetlistValue.{cube_of, sum_of}
 use Rattle.si_netlist_reader.proofs.LawLemmas.{name_at, abbrev_word, literal_is}
 use Rattle.si_netlist_reader.proofs.LawTextLemmas.{IsDark}
-use Rattle.si_netlist_reader.proofs.LawSumLemmas.{names_in, Good, fault_behind, not_mark, no_literal, Rises}
+use Rattle.si_netlist_reader.proofs.LawSumLemmas.{Good, fault_behind, not_mark, no_literal, Rises}
 use Rattle.si_netlist_reader.proofs.LawLineLemmas.{AreNames}
 
 -- ---- names and their places

@@ -1,6 +1,6 @@
 -- Parts of a line, read one after another: their form, the first fault, and what they spell.
 use Rattle.std.proofs.Common.{◌≡◌, ℕ, ◌+◌, ◌≤◌, ◌<◌, Bool, true, false, List, [], ◌∷◌, ◌++◌, length, map, take, drop}
-use Rattle.std.proofs.Common.{get_or, refl, sym, ap, ◌∙◌, Option, Some, None, Result, Ok, Err, add-one, subst, IfOk}
+use Rattle.std.proofs.Common.{get_or, refl, sym, ap, ◌∙◌, Option, Some, None, Result, Ok, Err, add-one, subst}
 use Rattle.std.proofs.Common.{Bor, ◌==◌}
 use Rattle.std.proofs.Math.Seq.{drop-cons}
 use Rattle.std.proofs.lemmas.Bool.{and_from, true≢false}
@@ -8,8 +8,8 @@ use Rattle.std.proofs.lemmas.List.{take_all, drop_all, take_more, map_push, leng
 use Rattle.std.proofs.lemmas.List.Folds.{list_all_more, list_all_at}
 use Rattle.std.specs.List.{list_all}
 use Rattle.si_base.specs.declared.fault.TextKind.{TextKind}
-use Rattle.si_netlist_reader.specs.Reading.{Reads}
-use Rattle.si_words.specs.Reads.{words_now, parts_now}
+use Rattle.si_netlist_reader.specs.Loops.Reading.{Reads}
+use Rattle.si_words.specs.Loops.Reads.{words_now, parts_now}
 use Rattle.si_words.specs.Sums.{is_empty}
 use Rattle.si_base.specs.Faults.{◌otherwise◌, first_in}
 
@@ -44,9 +44,6 @@ module _ {X Y : Type 0} (view : X → Y) (form : Bool) (fault : Option TextKind)
   reads_value x is says =
       let Says : Result X TextKind → Type 0 = λ r. Reads view form fault value (Some r) in subst Says is says
 
-pub if_ok : {X E : Type 0} (P : X → Type 0) (r : Result X E) (x : X) → r ≡ Ok x → IfOk r P → P x
-if_ok {X = X} {E = E} P r x is holds = let Holds : Result X E → Type 0 = λ q. IfOk q P in subst Holds is holds
-
 pub some_words : (words : List (Bor (List ℕ))) → (length words == 0) ≡ false → is_empty (words_now words) ≡ false
 some_words [] e = absurd (true≢false e)
 some_words (w ∷ ws) e = refl
@@ -78,9 +75,6 @@ module _ {A F Y : Type 0} (form : A → Bool) (fault_of : A → Option F) (value
     pub forms : list_all form (take i items) ≡ true
     pub told : Told i fault
     pub built : fault ≡ None → values ≡ map value (take i items)
-
-  pub no_parts : InParts 0 [] None
-  no_parts = record { forms = refl; told = refl; built = λ e. refl }
 
   module _ (i : ℕ) (item : A) (inside : i < length items) (at : get_or items i item ≡ item) where
     left_is : drop i items ≡ item ∷ drop (i + 1) items

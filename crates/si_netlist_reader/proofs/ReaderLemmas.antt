@@ -13,14 +13,14 @@ use Rattle.si_base.specs.NetlistText.{most_signals}
 use Rattle.si_base.specs.TextFaults.{Gives, Shows}
 use Rattle.si_base.specs.WellFormed.{IsNetlist}
 use Rattle.si_netlist_reader.specs.declared.header.Header.{Header}
-use Rattle.si_netlist_reader.specs.Headers.{ReadsHeader, gate_in, signals_by}
+use Rattle.si_netlist_reader.specs.Loops.Headers.{ReadsHeader, gate_in, signals_by}
 use Rattle.si_netlist_reader.specs.NetlistFault.{netlist_fault, version_at, version_of, after_version, body, due_in}
 use Rattle.si_netlist_reader.specs.NetlistFault.{due_after, insert_fault, word_fault, names_at}
 use Rattle.si_words.specs.Lines.{Form, words_of}
 use Rattle.si_words.specs.GateLines.{gate_fault}
 use Rattle.si_netlist_reader.specs.NetlistValue.{netlist_of, netlist_of_lines, insertion_of}
 use Rattle.si_words.specs.Rows.{Left, all_lines, fault_of, TakesForm}
-use Rattle.si_words.specs.RowValues.{TakesAll}
+use Rattle.si_words.specs.Loops.RowValues.{TakesAll}
 use Rattle.si_words.proofs.RowLemmas.{row_step}
 use Rattle.si_netlist_reader.proofs.ReadLaw.{read_is_netlist}
 

@@ -11,7 +11,7 @@ use Rattle.si_base.specs.declared.fault.TextFault.{TextFault}
 use Rattle.si_base.specs.TextFaults.{ToldBy, Shows}
 use Rattle.si_words.specs.Lines.{Form, words_of}
 use Rattle.si_words.specs.Rows.{Left, fault_of}
-use Rattle.si_words.specs.RowValues.{TakesValue, TakesAll}
+use Rattle.si_words.specs.Loops.RowValues.{TakesValue, TakesAll}
 use Rattle.si_words.proofs.RowLemmas.{row_step}
 
 module _ {V : Type 0} (form : List ℕ → Form) (spelled : List (List ℕ) → V) (names : List (List ℕ))
@@ -26,9 +26,6 @@ module _ {V : Type 0} (form : List ℕ → Form) (spelled : List (List ℕ) → 
     pub lines : drop (length names - k) now.lines ≡ drop (length names - from) old.lines
     pub values_are : values ++ map value_at (take (length names - k) now.lines)
         ≡ map value_at (take (length names - from) old.lines)
-
-  pub begin : Doing from old []
-  begin = record { fault = λ rest. refl; lines = refl; values_are = refl }
 
   next_name : (k : ℕ) (name : List ℕ) → slice_get names k ≡ Some name → drop k names ≡ name ∷ drop (k + 1) names
   next_name k name at =

@@ -8,7 +8,7 @@ use Rattle.std.proofs.lemmas.List.Elements.{recursion_from_All, All-filter}
 use Rattle.std.specs.List.{AllByRecursion, list_any, join_with_byte}
 use Rattle.si_base.specs.declared.graph.Signal.{Signal}
 use Rattle.si_base.specs.declared.graph.SigKind.TheVariants.{Input, Output, Internal, Inserted}
-use Rattle.si_base.specs.Graph.{is_driven, kind_place}
+use Rattle.si_base.specs.Graph.{is_driven, kind_place, names_in}
 use Rattle.si_base.specs.Netlist.{Gate, Insertion, Netlist}
 use Rattle.si_base.specs.NetlistText.{Version, Version1, Version2, version_lines, most_signals, names_of}
 use Rattle.si_base.specs.NetlistText.{netlist_lines, netlist_text_in, insert_line, gate_words, bits_from, word_if_any}
@@ -27,7 +27,6 @@ use Rattle.si_netlist_reader.specs.NetlistValue.{gate_of, insertion_of, first_wo
 use Rattle.si_netlist_reader.specs.NetlistValue.{netlist_of_lines}
 use Rattle.si_netlist_reader.proofs.LawFitLemmas.{Fits, no_fault}
 use Rattle.si_netlist_reader.proofs.LawTextLemmas.{IsDark, ended_text, tail_text}
-use Rattle.si_netlist_reader.proofs.LawSumLemmas.{names_in}
 use Rattle.si_netlist_reader.proofs.LawLineLemmas.{AreNames}
 use Rattle.si_netlist_reader.proofs.LawKindLemmas.{signals_by, driven_by, netlist_by, lines_by, lines_are, gate_lines}
 use Rattle.si_netlist_reader.proofs.LawKindLemmas.{inserted_of, driven_of, all_names, driven_names}

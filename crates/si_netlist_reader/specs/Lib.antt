@@ -1,4 +1,3 @@
 pub mod NetlistFault
 pub mod NetlistValue
-pub mod Headers
-pub mod Reading
+pub mod Loops

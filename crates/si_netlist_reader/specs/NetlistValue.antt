@@ -1,23 +1,17 @@
 -- (text) The netlist that a text without fault spells.
 use Rattle.std.specs.Prelude.{ℕ, ◌+◌, ◌*◌, ◌==◌, List, [], ◌∷◌, ◌++◌, length, map, take, drop}
-use Rattle.std.specs.Prelude.{bytes_eq, codes, unwrap_or, Option, Some, None, if◌then◌else◌}
+use Rattle.std.specs.Prelude.{bytes_eq, codes, Option, Some, None, if◌then◌else◌}
 use Rattle.si_base.specs.declared.ids.Literal.{Literal}
 use Rattle.si_base.specs.declared.graph.SigKind.TheVariants.{Input, Output, Internal, Inserted}
 use Rattle.si_base.specs.Netlist.{Sum, Gate, SumGate, Gc, Cell, Insertion, Netlist}
 use Rattle.si_base.specs.Bytes.{digit_one}
 use Rattle.si_base.specs.GivenGraph.{signals_of}
-use Rattle.si_words.specs.Sums.{is_one, literal_name, parts_at, cut_at}
+use Rattle.si_words.specs.Sums.{is_one, parts_at, cut_at}
 use Rattle.si_netlist_reader.specs.NetlistFault.{names_at, body}
 use Rattle.si_words.specs.Lines.{words_of, rest_of}
-use Rattle.si_words.specs.GateLines.{place_in}
+use Rattle.si_words.specs.GateLines.{literal_of}
 
 -- ---- gates
-abbrev pub literal_of : List (List ℕ) → List ℕ → Literal
-literal_of names word = record {
-  sig = unwrap_or (place_in names word) 0;
-  plain = bytes_eq word (literal_name word);
-}
-
 abbrev pub cube_of : List (List ℕ) → List (List ℕ) → List Literal
 cube_of names words = if is_one (codes "1") words then [] else map (literal_of names) words
 

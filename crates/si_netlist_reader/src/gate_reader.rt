@@ -6,13 +6,13 @@ ghost use Rattle.std.specs.List.{list_all};
 ghost use Rattle.si_base.specs.Limits.{max_signals};
 ghost use Rattle.si_base.specs.Faults.{◌otherwise◌, first_in};
 ghost use Rattle.si_words.specs.GateLines as gates;
-ghost use Rattle.si_words.specs.Reads.{words_now};
+ghost use Rattle.si_words.specs.Loops.Reads.{words_now};
 ghost use Rattle.si_words.specs.Sums as sums;
 ghost use Rattle.si_base.specs.Netlist as base;
-ghost use Rattle.si_netlist_reader.specs.Headers.{gate_in};
+ghost use Rattle.si_netlist_reader.specs.Loops.Headers.{gate_in};
 ghost use Rattle.si_netlist_reader.specs.NetlistValue as value;
-ghost use Rattle.si_netlist.specs.Parts.{gate_seen};
-ghost use Rattle.si_netlist_reader.specs.Reading.{Reads};
+ghost use Rattle.si_netlist.specs.Loops.Parts.{gate_seen};
+ghost use Rattle.si_netlist_reader.specs.Loops.Reading.{Reads};
 
 use si_base::fault::TextKind;
 use si_base::ids::{Code, Literal, NoMemory, Sig};
@@ -30,7 +30,7 @@ use std::alloc::Global;
 fn read_literal(signals: &Names, word: &[u8]) -> Option<Result<Literal, TextKind>>
     requires { length signals.now ≤ max_signals }
     ensures read { Reads (λ l. l) (sums.is_literal word.now) (gates.pin_fault signals.now word.now)
-        (value.literal_of signals.now word.now) result }
+        (gates.literal_of signals.now word.now) result }
     ensures within { IfSome result (λ read. IfOk read (λ l. l.sig < max_signals)) }
 {
     let name = literal_name(word);
@@ -189,7 +189,7 @@ fn read_literals(
     ensures { IfOk result
         (Reads (λ literals. literals.items) (list_all sums.is_literal (words_now words.now))
         (first_in (gates.pin_fault signals.now) (words_now words.now))
-        (map (value.literal_of signals.now) (words_now words.now))) }
+        (map (gates.literal_of signals.now) (words_now words.now))) }
 {
     let mut literals = Vec::new(alloc);
     let mut fault = None;

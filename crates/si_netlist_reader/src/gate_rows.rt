@@ -5,10 +5,10 @@ ghost use Rattle.si_base.specs.Limits.{max_signals};
 ghost use Rattle.si_base.specs.TextFaults.{ToldBy};
 ghost use Rattle.si_words.specs.GateLines.{gate_fault};
 ghost use Rattle.si_words.specs.Lines.{Form};
-ghost use Rattle.si_words.specs.RowValues.{TakesValue, TakesAll};
+ghost use Rattle.si_words.specs.Loops.RowValues.{TakesValue, TakesAll};
 ghost use Rattle.si_words.specs.Rows.{fault_of};
-ghost use Rattle.si_netlist_reader.specs.Headers.{gate_in};
-ghost use Rattle.si_netlist.specs.Parts.{gate_seen};
+ghost use Rattle.si_netlist_reader.specs.Loops.Headers.{gate_in};
+ghost use Rattle.si_netlist.specs.Loops.Parts.{gate_seen};
 
 use crate::gate_reader::read_gate_line;
 use si_base::fault::TextFault;

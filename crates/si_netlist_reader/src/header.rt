@@ -7,10 +7,10 @@ ghost use Rattle.si_base.specs.Limits.{max_signals};
 ghost use Rattle.si_base.specs.TextFaults.{ToldBy};
 ghost use Rattle.si_base.specs.Words.{is_between};
 ghost use Rattle.si_words.specs.Lines.{Form, rest_of};
-ghost use Rattle.si_words.specs.Reads.{words_now};
-ghost use Rattle.si_words.specs.RowValues.{TakesValue};
+ghost use Rattle.si_words.specs.Loops.Reads.{words_now};
+ghost use Rattle.si_words.specs.Loops.RowValues.{TakesValue};
 ghost use Rattle.si_words.specs.Rows.{fault_of};
-ghost use Rattle.si_netlist_reader.specs.Headers.{ReadsHeader, model_of, start_of};
+ghost use Rattle.si_netlist_reader.specs.Loops.Headers.{ReadsHeader, model_of, start_of};
 ghost use Rattle.si_netlist_reader.specs.NetlistFault as netlist;
 ghost use Rattle.si_netlist_reader.specs.NetlistValue.{first_word, code_of_bits};
 

@@ -5,13 +5,13 @@ ghost use Rattle.std.specs.Prelude.{MatchOption, map, drop, true, false, â—Œ++â—
 ghost use Rattle.si_base.specs.TextFaults.{ToldBy};
 ghost use Rattle.si_words.specs.Lines.{Form};
 ghost use Rattle.si_words.specs.Names.{stands_in};
-ghost use Rattle.si_words.specs.Reads.{words_now};
-ghost use Rattle.si_words.specs.RowValues.{TakesValue, TakesAll};
+ghost use Rattle.si_words.specs.Loops.Reads.{words_now};
+ghost use Rattle.si_words.specs.Loops.RowValues.{TakesValue, TakesAll};
 ghost use Rattle.si_words.specs.Rows.{fault_of};
 ghost use Rattle.si_words.specs.Sums as sums;
 ghost use Rattle.si_netlist_reader.specs.NetlistFault as netlist;
 ghost use Rattle.si_netlist_reader.specs.NetlistValue.{insertion_of};
-ghost use Rattle.si_netlist_reader.specs.Reading.{Inserts};
+ghost use Rattle.si_netlist_reader.specs.Loops.Reading.{Inserts};
 
 use si_base::fault::{TextFault, TextKind};
 use si_base::ids::NoMemory;

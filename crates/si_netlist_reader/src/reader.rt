@@ -7,7 +7,7 @@ ghost use Rattle.si_base.specs.NetlistText.{most_signals};
 ghost use Rattle.si_base.specs.TextFaults.{ToldBy, Gives};
 ghost use Rattle.si_words.specs.Lines.{Form};
 ghost use Rattle.si_words.specs.Rows.{fault_of, TakesForm};
-ghost use Rattle.si_netlist_reader.specs.Headers.{signals_by};
+ghost use Rattle.si_netlist_reader.specs.Loops.Headers.{signals_by};
 ghost use Rattle.si_netlist_reader.specs.NetlistFault as netlist;
 ghost use Rattle.si_netlist_reader.specs.NetlistFault.{netlist_fault};
 ghost use Rattle.si_netlist_reader.specs.NetlistValue.{netlist_of};

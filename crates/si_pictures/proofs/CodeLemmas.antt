@@ -1,9 +1,10 @@
 -- Digits and events of a state, as they are added.
 use Rattle.std.proofs.Common.{◌≡◌, ℕ, ◌<◌, ◌||◌, ◌&&◌, ◌⊎◌, not, Bool, true}
 use Rattle.std.proofs.Common.{false, List, [], ◌∷◌, ◌++◌, flat_map, map, length, refl}
-use Rattle.std.proofs.Common.{sym, ap, ◌∙◌, codes, append_assoc, inl, inr}
+use Rattle.std.proofs.Common.{sym, ap, ◌∙◌, codes, append_assoc, inl, inr, zero, suc, ◌==◌, eqb-true}
 use mathlib.Core.Bool.{beq}
 use Rattle.std.proofs.lemmas.Bool.{cases_Bool, true≢false}
+use Rattle.std.proofs.lemmas.Grind.{flat_map-append}
 use Rattle.std.proofs.lemmas.List.{append-nil}
 use Rattle.si_base.specs.declared.graph.Signal.{Signal}
 use Rattle.si_base.specs.declared.ids.Event.{Event}
@@ -14,9 +15,9 @@ use Rattle.si_base.specs.Words.{line}
 use Rattle.si_base.proofs.StepCodes.{old_value}
 use Rattle.si_base.proofs.GraphSteps.{step_from_enables}
 use Rattle.si_base.specs.Bytes.{sign}
-use Rattle.si_base.specs.NetlistText.{name_of}
+use Rattle.si_base.specs.NetlistText.{name_of, word_if_any}
 use Rattle.si_sg.specs.CanonicalText.{state_at, event_word}
-use Rattle.si_words.specs.Writing.{spaced}
+use Rattle.si_words.specs.Loops.Writing.{spaced}
 use Rattle.si_words.proofs.WritingLemmas.{whole_line}
 use Rattle.si_pictures.specs.CodeWord.{first, is_excited, marked_digit, code_word, enabled_of, enabled_events}
 use Rattle.si_pictures.specs.StatesText.{state_line}
@@ -83,13 +84,6 @@ module _ (c : CodedGraph) (s z : ℕ) (coded : IsCoded c) (within : z < length c
       kept true = refl
       kept false = refl
 
-  pub rests : is_excited c.graph s z ≡ false → events_at c s z ≡ []
-  rests none = elim kinds [
-    | inl is ↦ rw (is.0, is.1) refl
-    | inr (inl up) ↦ absurd (true≢false (sym (rw up.0 refl) ∙ none))
-    | inr (inr down) ↦ absurd (true≢false (sym (rw (down.0, down.1) refl) ∙ none))
-  ]
-
   pub switches : is_excited c.graph s z ≡ true
       → events_at c s z ≡ 32 ∷ event_word c.graph.signals (record { sig = z; up = not value })
   switches some = elim kinds [
@@ -107,27 +101,46 @@ event_by_calls c s z coded within excited text name mark first e1 e2 e3 =
     ∙ ap (λ (t : List ℕ). text ++ t) (sym (switches c s z coded within excited)))
 
 -- ---- a state
-state_parts : (t name code events : List ℕ) → ((((t ++ name) ++ 32 ∷ []) ++ code) ++ events) ++ 10 ∷ []
-    ≡ ((t ++ name) ++ ((32 ∷ code) ++ events)) ++ 10 ∷ []
+-- its code is a word just where there is a signal
+pub no_code : (c : CodedGraph) (s : ℕ) → (length c.graph.signals == 0) ≡ true → word_if_any (code_word c s) ≡ []
+unfolding code_word
+no_code c s none = rw (eqb-true (length c.graph.signals) 0 none) refl
+
+pub one_code : (c : CodedGraph) (s : ℕ) → (length c.graph.signals == 0) ≡ false
+    → word_if_any (code_word c s) ≡ code_word c s ∷ []
+unfolding code_word
+one_code c s some = from (length c.graph.signals) some
+  where
+    from : (n : ℕ) → (n == 0) ≡ false
+        → word_if_any (flat_map (digit_at c s) (first n)) ≡ flat_map (digit_at c s) (first n) ∷ []
+    from zero none = cc
+    from (suc n) many = refl
+
+pub code_by_calls : (c : CodedGraph) (s : ℕ) → (length c.graph.signals == 0) ≡ false → (text first : List ℕ)
+    → first ≡ text ++ 32 ∷ [] → first ++ code_word c s ≡ text ++ spaced (word_if_any (code_word c s))
+code_by_calls c s some text first e1 = rw (e1, one_code c s some) (simp (append_assoc, append-nil))
+
+state_parts : (t name code events : List ℕ) → (((t ++ name) ++ code) ++ events) ++ 10 ∷ []
+    ≡ ((t ++ name) ++ (code ++ events)) ++ 10 ∷ []
 state_parts t name code events = simp append_assoc
 
-pub state_by_calls : (c : CodedGraph) (states : List (List ℕ)) (s : ℕ) (text name first second third fourth : List ℕ)
-    → name ≡ state_at states s → first ≡ text ++ name → second ≡ first ++ 32 ∷ [] → third ≡ second ++ code_word c s
-    → fourth ≡ third ++ spaced (map (event_word c.graph.signals) (enabled_events c.graph s))
-    → fourth ++ 10 ∷ [] ≡ text ++ line (state_line c states s)
-state_by_calls c states s text name first second third fourth e0 e1 e2 e3 e4 =
+pub state_by_calls : (c : CodedGraph) (states : List (List ℕ)) (s : ℕ) (text name first second third : List ℕ)
+    → name ≡ state_at states s → first ≡ text ++ name → second ≡ first ++ spaced (word_if_any (code_word c s))
+    → third ≡ second ++ spaced (map (event_word c.graph.signals) (enabled_events c.graph s))
+    → third ++ 10 ∷ [] ≡ text ++ line (state_line c states s)
+state_by_calls c states s text name first second third e0 e1 e2 e3 =
+    let code = word_if_any (code_word c s) in
     let events = map (event_word c.graph.signals) (enabled_events c.graph s) in
-    rw (e4, e3, e2, e1, e0) (state_parts text (state_at states s) (code_word c s) (spaced events)
-    ∙ whole_line text (state_at states s) (code_word c s ∷ events))
+    rw (e3, e2, e1, e0) (state_parts text (state_at states s) (spaced code) (spaced events)
+    ∙ ap (λ (t : List ℕ). ((text ++ state_at states s) ++ t) ++ 10 ∷ [])
+    (sym (flat_map-append (λ w. 32 ∷ w) code events))
+    ∙ whole_line text (state_at states s) (code ++ events))
 
 -- ---- all events of a state
 pub all_events : (c : CodedGraph) (s : ℕ) → flat_map (events_at c s) (first (length c.graph.signals))
     ≡ spaced (map (event_word c.graph.signals) (enabled_events c.graph s))
 all_events c s = from (first (length c.graph.signals))
   where
-    word : Event → List ℕ
-    word e = event_word c.graph.signals e
-
     from : (zs : List ℕ) → flat_map (events_at c s) zs
         ≡ spaced (map (event_word c.graph.signals) (flat_map (enabled_of c.graph s) zs))
     from [] = refl

@@ -30,6 +30,17 @@ listed : states_text coded names ≡ codes "signals a z\ns0 0*0 a+\ns1 10* z+\ns
 unfolding states_text code_word coded names
 listed = refl
 
+-- ---- a graph without signals: a state is its name alone
+bare : CodedGraph
+bare = record {
+  graph = record { signals = []; states = 1; edges = []; start = 0 };
+  codes = 0 ∷ [];
+}
+
+named : states_text bare names ≡ codes "signals\ns0\n"
+unfolding states_text code_word bare names
+named = refl
+
 drawn : dot_text (picture (codes "m") names coded (λ s. false)) ≡ codes "digraph {\n  label=\"m\";\n"
     ++ (codes "  0 [label=\"s0\\n0*0\", peripheries=\"2\"];\n  1 [label=\"s1\\n10*\"];\n  2 [label=\"s2\\n11\"];\n"
     ++ codes "  0 -> 1 [label=\"a+\", style=\"dashed\"];\n  1 -> 2 [label=\"z+\"];\n}\n")

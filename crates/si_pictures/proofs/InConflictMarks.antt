@@ -2,15 +2,15 @@
 use Rattle.std.proofs.Common.{◌≡◌, ◌≢◌, ℕ, ◌+◌, ◌<◌, ◌==◌, not, ◌↔◌, Bool, true, false}
 use Rattle.std.proofs.Common.{List, [], ◌∷◌, ◌++◌, length, get_or}
 use Rattle.std.proofs.Common.{set, get_or-set_same, get_or-set_other, IsTrue, eqb-true, eq-eqb}
-use Rattle.std.proofs.Common.{Option, Some, None, unwrap_or, refl, sym, ap, subst, ◌∙◌, arith, inl, inr}
+use Rattle.std.proofs.Common.{Option, Some, unwrap_or, refl, sym, ap, subst, ◌∙◌, arith, inl, inr}
 use Rattle.std.proofs.lemmas.Bool.{cases_Bool, cases_eq, cases_order, true≢false}
 use Rattle.std.proofs.lemmas.List.{get_or_push, get_or_append_left}
 use Rattle.si_base.specs.Codes.{CodedGraph, IsCoded, code}
 use Rattle.si_conflicts.specs.declared.keys.Key.{Key}
-use Rattle.si_conflicts.specs.Keys.{AreKeys, key_at}
+use Rattle.si_conflicts.specs.Loops.Keys.{AreKeys, key_at}
 use Rattle.si_conflicts.proofs.KeyLemmas.{apart_conflict, same_no_conflict}
 use Rattle.si_pictures.specs.InConflict.{IsInConflict, AreMarks}
-use Rattle.si_pictures.specs.Representatives.{AreByCode, AreRepresentatives, DiffersFrom, AreMixed}
+use Rattle.si_pictures.specs.Loops.Representatives.{AreByCode, AreRepresentatives, DiffersFrom, AreMixed}
 
 -- ---- a list that grows
 pub one_more : {A : Type 0} (xs : List A) (x d : A) (f : ℕ → A) (k : ℕ) → length xs ≡ k
@@ -23,19 +23,6 @@ one_more xs x d f k count each is s below = elim (cases_eq s k) [
 ]
 
 -- ---- a state of each code
-option_size : Option ℕ → ℕ
-option_size None = 0
-option_size (Some r) = 1
-
-pub by_code_none : (c : CodedGraph) (states : ℕ → Option ℕ) → ((k : ℕ) → states k ≡ None) → AreByCode c 0 states
-unfolding option_size
-by_code_none c states none = record {
-  of_code = λ k r is. absurd (none≢some (sym (none k) ∙ is));
-  each = λ s below. absurd (omega (arith, below));
-}
-  where
-    none≢some : {r : ℕ} → None ≡ Some r → ⊥
-    none≢some same = absurd (let apart = ap (λ o. option_size o) same in omega (arith, apart))
 
 pub by_code_more : (c : CodedGraph) (k : ℕ) (old new : ℕ → Option ℕ) → k < c.graph.states → AreByCode c k old
     → new (code c k) ≡ Some k → ((n : ℕ) → n ≢ code c k → new n ≡ old n) → AreByCode c (k + 1) new

@@ -12,6 +12,7 @@ use Rattle.std.proofs.lemmas.Str.Parse.{digit_from_value}
 use Rattle.si_base.specs.declared.graph.Edge.{Edge}
 use Rattle.si_base.specs.declared.graph.Signal.{Signal}
 use Rattle.si_base.specs.Codes.{CodedGraph, IsCoded}
+use Rattle.si_base.specs.Words.{is_digit}
 use Rattle.si_graph.proofs.ListMembers.{Contains-cons_cases, Contains-nil, Contains-from_map}
 use Rattle.si_conflicts.specs.Conflicts.{AreConflicts}
 use Rattle.si_conflicts.proofs.OneConflictList.{one_list}
@@ -22,7 +23,6 @@ use Rattle.si_pictures.specs.InConflict.{is_among}
 use Rattle.si_pictures.specs.Picture.{label_attribute, two_borders, in_red, dashed_style, state_label, state_node}
 use Rattle.si_pictures.specs.Picture.{drives, arc_link}
 use Rattle.si_pictures.specs.Picture.{picture, IsDotText}
-use Rattle.si_pictures.specs.Tokens.{is_digit}
 use Rattle.si_pictures.specs.Writing.{dot_text}
 use Rattle.si_pictures.proofs.TokenReading.{NameReads, IsNumber}
 use Rattle.si_pictures.proofs.GrammarStatements.{AreNamed, IsSound, graph_read}

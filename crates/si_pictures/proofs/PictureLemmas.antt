@@ -173,9 +173,3 @@ picture_by_calls model states c marks marked begun titled drawn linked all e1 e2
           ∙ ap (λ (l : List Statement). whole (flat_map statement_text l ++ flat_map statement_text links)) same
           ∙ ap whole (sym (flat_map-append statement_text (map node (first c.graph.states)) links)));
     }
-
--- ---- labels
-pub label_by_calls : (name code first second third : List ℕ) → first ≡ name → second ≡ first ++ codes "\n"
-    → third ≡ second ++ code → third ≡ name ++ 10 ∷ code
-label_by_calls name code first second third e1 e2 e3 =
-    rw (e3, e2, e1) (append_assoc name (10 ∷ []) code)

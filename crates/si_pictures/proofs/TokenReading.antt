@@ -5,8 +5,9 @@ use Rattle.std.proofs.Common.{◌∙◌, subst, append_assoc, codes, eqb-true, a
 use Rattle.std.specs.List.{list_all}
 use Rattle.std.proofs.lemmas.Bool.{cases_Bool, and_parts, or_right, or_from, false_from_ne_true}
 use Rattle.std.proofs.lemmas.List.{append-nil}
+use Rattle.si_base.specs.Words.{is_digit}
 use Rattle.si_pictures.specs.Tokens.{Token, Id, Mark, Between, Bare, Label}
-use Rattle.si_pictures.specs.Tokens.{is_digit, is_bare_byte, is_mark, bare_token, tokens_from}
+use Rattle.si_pictures.specs.Tokens.{is_bare_byte, is_mark, bare_token, tokens_from}
 use Rattle.si_pictures.specs.Grammar.{Attribute}
 use Rattle.si_pictures.specs.Grammar.{attribute_tokens}
 use Rattle.si_pictures.specs.Writing.{escaped_byte, attribute_text}

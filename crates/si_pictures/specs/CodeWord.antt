@@ -4,13 +4,9 @@ use Rattle.std.specs.Prelude.{if◌then◌else◌}
 use Rattle.std.specs.List.{range_with_len}
 use Rattle.si_base.specs.declared.ids.Event.{Event}
 use Rattle.si_base.specs.Bits.{bit}
-use Rattle.si_base.specs.Bytes.{digit_zero, digit_one}
+use Rattle.si_base.specs.Bytes.{digit_zero, digit_one, asterisk}
 use Rattle.si_base.specs.Codes.{CodedGraph, code}
 use Rattle.si_base.specs.Graph.{StateGraph, enables, rise, fall}
-
--- `*`
-abbrev pub star : ℕ
-star = 42
 
 -- signal z is excited at s: s enables an event of it (the book's excited signal)
 abbrev pub is_excited : StateGraph → ℕ → ℕ → Bool
@@ -19,7 +15,7 @@ is_excited g s z = enables g s (rise z) || enables g s (fall z)
 -- the digit of a value, with `*` behind it where the signal is excited
 abbrev pub marked_digit : Bool → Bool → List ℕ
 marked_digit value excited =
-    (if value then digit_one else digit_zero) ∷ (if excited then star ∷ [] else [])
+    (if value then digit_one else digit_zero) ∷ (if excited then asterisk ∷ [] else [])
 
 -- the places of n signals or states
 abbrev pub first : ℕ → List ℕ

@@ -4,8 +4,8 @@
 -- types).
 use Rattle.std.specs.Prelude.{◌≡◌, ℕ, List, [], ◌∷◌, ◌++◌, flat_map, codes}
 use Rattle.si_base.specs.Bytes.{opening_bracket, closing_bracket, opening_brace, closing_brace}
+use Rattle.si_base.specs.Bytes.{semicolon, comma, equals_sign}
 use Rattle.si_pictures.specs.Tokens.{Token, Id, Keyword, Quoted, Arrow, Mark, tokens_of}
-use Rattle.si_pictures.specs.Tokens.{comma, semicolon, equals_sign}
 
 pub record Attribute : Type 0 where
   pub name : List ℕ

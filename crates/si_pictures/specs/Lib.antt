@@ -1,9 +1,9 @@
 pub mod CodeWord
 pub mod StatesText
 pub mod InConflict
-pub mod Representatives
 pub mod Tokens
 pub mod Grammar
 pub mod Writing
 pub mod Picture
 pub mod Laws
+pub mod Loops

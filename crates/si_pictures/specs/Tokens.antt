@@ -3,35 +3,12 @@
 use Rattle.std.specs.Prelude.{ℕ, ◌+◌, ◌==◌, ◌||◌, Bool, false, List, [], ◌∷◌, ◌++◌, map}
 use Rattle.std.specs.Prelude.{codes, bytes_eq, if◌then◌else◌}
 use Rattle.std.specs.List.{list_all, list_any}
-use Rattle.si_base.specs.Bytes.{line_feed, minus, digit_zero, digit_nine, greater_sign}
+use Rattle.si_base.specs.Bytes.{line_feed, minus, greater_sign, semicolon}
 use Rattle.si_base.specs.Bytes.{first_capital, last_capital, opening_bracket, closing_bracket}
-use Rattle.si_base.specs.Bytes.{opening_brace, closing_brace}
+use Rattle.si_base.specs.Bytes.{opening_brace, closing_brace, backslash, double_quote, ampersand}
+use Rattle.si_base.specs.Bytes.{comma, equals_sign}
 use Rattle.si_base.specs.Lines.{is_blank}
-use Rattle.si_base.specs.Words.{is_between, is_letter}
-
--- `"`
-abbrev pub quote : ℕ
-quote = 34
-
--- `&`
-abbrev pub ampersand : ℕ
-ampersand = 38
-
--- `,`
-abbrev pub comma : ℕ
-comma = 44
-
--- `;`
-abbrev pub semicolon : ℕ
-semicolon = 59
-
--- `=`
-abbrev pub equals_sign : ℕ
-equals_sign = 61
-
--- `\`
-abbrev pub backslash : ℕ
-backslash = 92
+use Rattle.si_base.specs.Words.{is_between, is_letter, is_digit}
 
 -- `n`
 abbrev pub small_n : ℕ
@@ -48,9 +25,6 @@ pub data Token : Type 0 where
   Unread : Token
 
 -- ---- bare words
-
-abbrev pub is_digit : ℕ → Bool
-is_digit b = is_between digit_zero digit_nine b
 
 -- a letter, `_` or a digit
 abbrev pub is_bare_byte : ℕ → Bool
@@ -101,13 +75,13 @@ is_mark b = (b == opening_brace) || (b == closing_brace) || (b == opening_bracke
 abbrev pub first_place : ℕ → Place
 first_place b = if is_bare_byte b then Bare (b ∷ [])
     else if b == minus then Dash
-    else if b == quote then Label []
+    else if b == double_quote then Label []
     else if is_mark b || is_blank b || (b == line_feed) then Between else Beyond
 
 -- in a string a backslash and `"` show `"`, two backslashes show one, and a backslash and `n` end a
 -- line
 abbrev pub escape_place : List ℕ → ℕ → Place
-escape_place label b = if (b == quote) || (b == backslash) then Label (label ++ b ∷ [])
+escape_place label b = if (b == double_quote) || (b == backslash) then Label (label ++ b ∷ [])
     else if b == small_n then Label (label ++ line_feed ∷ []) else Beyond
 
 -- `&amp;` shows `&`
@@ -118,7 +92,7 @@ entity_place label name b = if b == semicolon
 
 -- any other byte shows itself, and `"` ends the string
 abbrev pub label_place : List ℕ → ℕ → Place
-label_place label b = if b == quote then Between
+label_place label b = if b == double_quote then Between
     else if b == backslash then Escape label
     else if b == ampersand then Entity label [] else Label (label ++ b ∷ [])
 
@@ -140,7 +114,7 @@ abbrev pub tokens_at : Place → ℕ → List Token
 tokens_at Between b = mark_at b
 tokens_at (Bare word) b = if is_bare_byte b then [] else bare_token word ∷ mark_at b
 tokens_at Dash b = if b == greater_sign then Arrow ∷ [] else []
-tokens_at (Label label) b = if b == quote then Quoted label ∷ [] else []
+tokens_at (Label label) b = if b == double_quote then Quoted label ∷ [] else []
 tokens_at (Escape label) b = []
 tokens_at (Entity label name) b = []
 tokens_at Beyond b = []

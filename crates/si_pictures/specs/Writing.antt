@@ -1,12 +1,12 @@
 -- (text) Statements as they are written.
 use Rattle.std.specs.Prelude.{ℕ, ◌==◌, List, [], ◌∷◌, ◌++◌, flat_map, codes, if◌then◌else◌}
-use Rattle.si_base.specs.Bytes.{line_feed}
+use Rattle.si_base.specs.Bytes.{line_feed, backslash, double_quote, ampersand}
 use Rattle.si_pictures.specs.Grammar.{Attribute, Statement, Setting, Node, Link}
-use Rattle.si_pictures.specs.Tokens.{quote, ampersand, backslash, small_n}
+use Rattle.si_pictures.specs.Tokens.{small_n}
 
 -- a byte of a label
 abbrev pub escaped_byte : ℕ → List ℕ
-escaped_byte b = if b == quote then backslash ∷ quote ∷ []
+escaped_byte b = if b == double_quote then backslash ∷ double_quote ∷ []
     else if b == backslash then backslash ∷ backslash ∷ []
     else if b == line_feed then backslash ∷ small_n ∷ []
     else if b == ampersand then codes "&amp;" else b ∷ []

@@ -3,9 +3,9 @@
 ghost use Rattle.std.specs.Prelude.{◌<◌, IfOk};
 ghost use Rattle.std.specs.BTreeMap.{get};
 ghost use Rattle.std.specs.Ordering.{nat_cmp};
-ghost use Rattle.si_conflicts.specs.Keys.{AreKeys};
+ghost use Rattle.si_conflicts.specs.Loops.Keys.{AreKeys};
 ghost use Rattle.si_pictures.specs.InConflict.{AreMarks};
-ghost use Rattle.si_pictures.specs.Representatives.{AreByCode, AreRepresentatives, AreMixed};
+ghost use Rattle.si_pictures.specs.Loops.Representatives.{AreByCode, AreRepresentatives, AreMixed};
 
 use si_base::ids::{Code, NoMemory, StateId};
 use si_conflicts::keys::{Key, key_of, keys};

@@ -1,12 +1,13 @@
 //! The text of the states of a graph.
 
 ghost use Rattle.std.specs.Prelude.{◌≡◌, ◌<◌, ◌++◌, IfOk, OnOk, codes, ◌∷◌, length, map};
+ghost use Rattle.si_base.specs.NetlistText.{word_if_any};
 ghost use Rattle.si_base.specs.Words.{line};
-ghost use Rattle.si_pictures.specs.CodeWord.{enabled_events, enabled_of};
+ghost use Rattle.si_pictures.specs.CodeWord.{code_word, enabled_events, enabled_of};
 ghost use Rattle.si_pictures.specs.StatesText as states_text;
 ghost use Rattle.si_pictures.specs.StatesText.{state_line};
 ghost use Rattle.si_sg.specs.CanonicalText.{event_word};
-ghost use Rattle.si_words.specs.Writing.{spaced};
+ghost use Rattle.si_words.specs.Loops.Writing.{spaced};
 
 use crate::code_word::{add_code, is_excited};
 use si_base::graph::{Signal, signal_name};
@@ -60,10 +61,21 @@ fn add_state(text: &mut Text, graph: &Coded, states: &Names, s: StateId) -> Resu
     ensures { OnOk result (text.new ≡ text.old ++ line (state_line graph.now states.now s)) }
 {
     text.add(name_at(states, s))?;
-    text.add(b" ")?;
-    add_code(text, graph, s)?;
+    add_code_word(text, graph, s)?;
     add_events(text, graph, s)?;
     text.add(b"\n")
+}
+
+/// Adds the code of a state with a blank before it, where there is a signal.
+fn add_code_word(text: &mut Text, graph: &Coded, s: StateId) -> Result<(), NoMemory>
+    requires { s < graph.now.graph.states }
+    ensures { OnOk result (text.new ≡ text.old ++ spaced (word_if_any (code_word graph.now s))) }
+{
+    if graph.graph().signals().is_empty() {
+        return Ok(());
+    }
+    text.add(b" ")?;
+    add_code(text, graph, s)
 }
 
 /// Adds the events that the state enables, each with a blank before it.

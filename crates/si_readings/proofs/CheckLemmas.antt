@@ -7,9 +7,10 @@ use Rattle.si_base.specs.Graph.{StateGraph}
 use Rattle.si_base.specs.Netlist.{Netlist}
 use Rattle.si_base.proofs.CodesUnique.{code_unique}
 use Rattle.si_sg.proofs.UniqueLemmas.{given_unique}
-use Rattle.si_system.proofs.UniqueOutcome.{one_difference, for_not_different}
+use Rattle.si_system.specs.Lists.{StartAlike}
+use Rattle.si_system.proofs.UniqueOutcome.{one_difference, one_unlike, for_not_different, same_not_unlike}
 use Rattle.si_sg.specs.GraphText.{graph_fault}
-use Rattle.si_readings.specs.Checks.{proper, match_lists}
+use Rattle.si_readings.specs.Checks.{proper, match_graphs, match_lists}
 use Rattle.si_readings.proofs.CheckBreaches.{breach_improper, one_shown}
 use Rattle.si_readings.proofs.StageLemmas.{one_fault}
 use Rattle.si_readings.specs.Laws.{AtMostOne}
@@ -59,7 +60,27 @@ match_lists_one file coded netlist (Err r) (Err q) one other =
     ap Err (one.2 ∙ ap (λ (k : ℕ). ListsDiffer file k) (one_difference coded netlist one.0 other.0 one.1 other.1)
     ∙ sym other.2)
 
+pub match_graphs_one : (file : List ℕ) (one other : CodedGraph) → AtMostOne (match_graphs file one other)
+match_graphs_one file one other (Ok x) (Ok y) first second = refl
+match_graphs_one file one other (Ok x) (Err r) first second =
+    absurd (same_not_unlike one other second.0 first second.1)
+match_graphs_one file one other (Err r) (Ok x) first second =
+    absurd (same_not_unlike one other first.0 second first.1)
+match_graphs_one file one other (Err r) (Err q) first second =
+    ap Err (first.2 ∙ ap (λ (k : ℕ). ListsDiffer file k) (one_unlike one other first.0 second.0 first.1 second.1)
+    ∙ sym second.2)
+
 -- whichever form of the graph was looked at
 pub match_over : (file : List ℕ) (k p : CodedGraph) (net : Netlist) (e : Ending) → k ≡ p
     → MayStop (match_lists file k net) e → MayStop (match_lists file p net) e
 match_over file k p net e same may = subst (λ (c : CodedGraph). MayStop (match_lists file c net) e) same may
+
+pub start_alike_over : (k p l q : CodedGraph) → k ≡ p → l ≡ q → StartAlike k l → StartAlike p q
+start_alike_over k p l q same also alike =
+    subst (λ (d : CodedGraph). StartAlike p d) also (subst (λ (c : CodedGraph). StartAlike c l) same alike)
+
+pub graphs_over : (file : List ℕ) (k p l q : CodedGraph) (e : Ending) → k ≡ p → l ≡ q
+    → MayStop (match_graphs file k l) e → MayStop (match_graphs file p q) e
+graphs_over file k p l q e same also may =
+    subst (λ (d : CodedGraph). MayStop (match_graphs file p d) e) also
+    (subst (λ (c : CodedGraph). MayStop (match_graphs file c l) e) same may)

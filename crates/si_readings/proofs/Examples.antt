@@ -1,7 +1,7 @@
 -- A breach by its names, and the texts of a replay: the definitions at work.
 use Rattle.std.proofs.Common.{◌≡◌, ℕ, List, [], ◌∷◌, Some, None, refl, true, false, codes}
 use Rattle.si_base.specs.Codes.{IsConsistent, IsDeterministic}
-use Rattle.si_base.specs.Graph.{StateGraph}
+use Rattle.si_base.specs.Graph.{StateGraph, names_in}
 use Rattle.si_base.specs.Order.{IsFirst}
 use Rattle.si_base.specs.Proper.{IsCommutative, Loss, Loses, loss_place}
 use Rattle.si_base.specs.declared.graph.Signal.{Signal}
@@ -15,7 +15,7 @@ use Rattle.si_refusals.specs.declared.breach.NamedBreach.TheVariants.{Nonpersist
 use Rattle.si_refusals.specs.Ending.{Answered, line_of}
 use Rattle.si_refusals.specs.Refusal.{TextRefused, Improper}
 use Rattle.si_readings.specs.Checks.{breach_name}
-use Rattle.si_system.specs.ScheduleText.{signal_names, schedule_fault, schedule_of}
+use Rattle.si_system.specs.ScheduleText.{schedule_fault, schedule_of}
 
 abbrev two_signals : List Signal
 two_signals = record { name = codes "b"; kind = Input } ∷ record { name = codes "z"; kind = Output } ∷ []
@@ -59,19 +59,19 @@ element_good : netlist_fault element ≡ None
 unfolding netlist_fault
 element_good = refl
 
-element_names : signal_names (netlist_of element).signals ≡ codes "a" ∷ codes "b" ∷ codes "c" ∷ []
+element_names : names_in (netlist_of element).signals ≡ codes "a" ∷ codes "b" ∷ codes "c" ∷ []
 unfolding netlist_of
 element_names = refl
 
-toggle_fault : schedule_fault (signal_names (netlist_of element).signals) (codes "a+ b+\n\nc~") ≡ Some (3, Toggle)
+toggle_fault : schedule_fault (names_in (netlist_of element).signals) (codes "a+ b+\n\nc~") ≡ Some (3, Toggle)
 unfolding netlist_of
 toggle_fault = refl
 
-undeclared_fault : schedule_fault (signal_names (netlist_of element).signals) (codes "a+ d-/2") ≡ Some (1, Undeclared)
+undeclared_fault : schedule_fault (names_in (netlist_of element).signals) (codes "a+ d-/2") ≡ Some (1, Undeclared)
 unfolding netlist_of
 undeclared_fault = refl
 
-two_events : schedule_of (signal_names (netlist_of element).signals) (codes "a+ # first\nc-/2")
+two_events : schedule_of (names_in (netlist_of element).signals) (codes "a+ # first\nc-/2")
     ≡ record { sig = 0; up = true } ∷ record { sig = 2; up = false } ∷ []
 unfolding netlist_of
 two_events = refl

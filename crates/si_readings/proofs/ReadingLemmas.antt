@@ -1,13 +1,14 @@
 -- All texts of a command, read in their order: one result, and what each text gives.
 use Rattle.std.proofs.Common.{◌≡◌, ℕ, List, None, Ok, refl, sym, ap, subst, ◌∙◌}
 use Rattle.si_base.specs.Netlist.{Netlist}
+use Rattle.si_base.specs.Graph.{names_in}
 use Rattle.si_netlist_reader.specs.NetlistFault.{netlist_fault}
 use Rattle.si_netlist_reader.specs.NetlistValue.{netlist_of}
 use Rattle.si_refusals.specs.Stages.{Passes, Refuses}
 use Rattle.si_sg.specs.GivenGraph.{IsGivenBy}
-use Rattle.si_system.specs.ScheduleText.{schedule_fault, schedule_of, signal_names}
+use Rattle.si_system.specs.ScheduleText.{schedule_fault, schedule_of}
 use Rattle.si_readings.specs.Laws.{AtMostOne, HasResult}
-use Rattle.si_readings.specs.Readings.{AuditReadings, MappingReadings, ReplayReadings}
+use Rattle.si_readings.specs.Readings.{AuditReadings, GraphReadings, MappingReadings, ReplayReadings, graph_readings}
 use Rattle.si_readings.specs.Readings.{audit_readings, fault_in, library_from, mapping_readings, replay_readings}
 use Rattle.si_readings.specs.declared.library_format.LibraryFormat.{LibraryFormat}
 use Rattle.si_readings.proofs.CheckLemmas.{graph_one}
@@ -67,6 +68,30 @@ audit_readings_are g a n b readings (Passes given is (Passes circuit spelt same)
     record { given = is; no_fault = spelt.0; netlist = spelt.1 } in
     subst (AreAuditReadings a b) (sym readings_are) found
 
+-- ---- two graphs
+pub graph_readings_one : (f a g b : List ℕ) → AtMostOne (graph_readings f a g b)
+graph_readings_one f a g b =
+    then_one _ _ (graph_one f a) (λ one is. then_one _ _ (graph_one g b) (λ other also. gives_one _))
+
+pub graph_readings_some : (f a g b : List ℕ) → HasResult (graph_readings f a g b)
+graph_readings_some f a g b =
+    then_some _ _ (graph_some f a) (λ one is. then_some _ _ (graph_some g b) (λ other also. gives_some _))
+
+pub record AreGraphReadings (a b : List ℕ) (readings : GraphReadings) : Type 0 where
+  pub one : IsGivenBy a readings.one
+  pub other : IsGivenBy b readings.other
+
+pub graph_readings_are : (f a g b : List ℕ) (readings : GraphReadings) → graph_readings f a g b (Ok readings)
+    → AreGraphReadings a b readings
+graph_readings_are f a g b readings (Refuses r h same) = absurd (no_refusal (Ok readings) readings r refl same)
+graph_readings_are f a g b readings (Passes one is (Refuses r h same)) =
+    absurd (no_refusal (Ok readings) readings r refl same)
+graph_readings_are f a g b readings (Passes one is (Passes other also same)) =
+    let read : GraphReadings = record { one = one; other = other } in
+    let readings_are = one_value (Ok readings) readings read refl same in
+    let found : AreGraphReadings a b read = record { one = is; other = also } in
+    subst (AreGraphReadings a b) (sym readings_are) found
+
 -- ---- a graph, a netlist, and the events of a schedule
 pub replay_readings_one : (g a n b s c : List ℕ) → AtMostOne (replay_readings g a n b s c)
 replay_readings_one g a n b s c = then_one _ _ (graph_one g a) (λ given is. then_one _ _ (spelled_one n _ _)
@@ -80,8 +105,8 @@ pub record AreReplayReadings (a b c : List ℕ) (readings : ReplayReadings) : Ty
   pub given : IsGivenBy a readings.given
   pub no_fault : netlist_fault b ≡ None
   pub netlist : readings.netlist ≡ netlist_of b
-  pub sound : schedule_fault (signal_names (netlist_of b).signals) c ≡ None
-  pub events : readings.events ≡ schedule_of (signal_names (netlist_of b).signals) c
+  pub sound : schedule_fault (names_in (netlist_of b).signals) c ≡ None
+  pub events : readings.events ≡ schedule_of (names_in (netlist_of b).signals) c
 
 pub replay_readings_are : (g a n b s c : List ℕ) (readings : ReplayReadings)
     → replay_readings g a n b s c (Ok readings) → AreReplayReadings a b c readings
@@ -98,7 +123,7 @@ replay_readings_are g a n b s c readings (Passes given is (Passes net spelt (Pas
       given = is;
       no_fault = spelt.0;
       netlist = spelt.1;
-      sound = subst (λ (m : Netlist). schedule_fault (signal_names m.signals) c ≡ None) spelt.1 read.0;
-      events = read.1 ∙ ap (λ (m : Netlist). schedule_of (signal_names m.signals) c) spelt.1;
+      sound = subst (λ (m : Netlist). schedule_fault (names_in m.signals) c ≡ None) spelt.1 read.0;
+      events = read.1 ∙ ap (λ (m : Netlist). schedule_of (names_in m.signals) c) spelt.1;
     } in
     subst (AreReplayReadings a b c) (sym readings_are) found

@@ -1,5 +1,5 @@
 -- What a call hands on.
-use Rattle.std.proofs.Common.{◌≡◌, Result, Ok, Err, IfOk, IfErr, IsErrAnd}
+use Rattle.std.proofs.Common.{◌≡◌, Result, Ok, Err, IfErr, IsErrAnd}
 use Rattle.std.proofs.lemmas.Result.{err_from_is_err_and}
 use Rattle.si_refusals.specs.Ending.{Ending, MayStop, ending_of}
 use Rattle.si_refusals.specs.Refusal.{TextRefusal}
@@ -14,10 +14,6 @@ handed_on r e P is holds = (let p = err_from_is_err_and r is in rw (p.1, p.2) ho
 pub stops : {X A : Type 0} (stage : Stage TextRefusal A) (r : Result X Refusal) (e : Refusal) → IsErrAnd r (λ x. x ≡ e)
     → MayStop stage (ending_of e) → IfErr r (λ f. MayStop stage (ending_of f))
 stops stage r e is may = handed_on r e (MayStop stage) is may
-
-pub ok_map : {T X : Type 0} (r : Result T X) (P Q : T → Type 0) → ((t : T) → P t → Q t) → IfOk r P → IfOk r Q
-ok_map (Ok t) P Q f is = f t is
-ok_map (Err e) P Q f is = tt
 
 pub err_map : {X : Type 0} (r : Result X Refusal) (P Q : Ending → Type 0) → ((e : Ending) → P e → Q e)
     → IfErr r (λ f. P (ending_of f)) → IfErr r (λ f. Q (ending_of f))

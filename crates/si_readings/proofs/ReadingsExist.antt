@@ -1,5 +1,5 @@
 -- Each stage has a result.
-use Rattle.std.proofs.Common.{◌≡◌, ℕ, zero, suc, ◌+◌, ◌<◌, ◌⊎◌, true, false, List, [], ◌∷◌, length, Ok, Err}
+use Rattle.std.proofs.Common.{◌≡◌, ℕ, zero, suc, ◌+◌, ◌<◌, ◌⊎◌, List, [], ◌∷◌, length, Ok, Err}
 use Rattle.std.proofs.Common.{Option, Some, None, slice_get, bytes_eq, refl, sym, ap, ap₂, subst, ◌∙◌, arith}
 use Rattle.std.proofs.Common.{inl, inr}
 use Rattle.std.proofs.lemmas.Bool.{cases_Bool, cases_eq, cases_lt, cases_order, true≢false}
@@ -13,7 +13,6 @@ use Rattle.si_base.specs.Codes.{CodedGraph, code}
 use Rattle.si_base.specs.GivenGraph.{Sg}
 use Rattle.si_base.specs.Graph.{kind_place}
 use Rattle.si_base.specs.Netlist.{Netlist}
-use Rattle.si_base.specs.System.{IsFor, start}
 use Rattle.si_checks.proofs.BreachesDecided.{proper_or_breach}
 use Rattle.si_checks.proofs.SearchDecisions.{Decided, same_value}
 use Rattle.si_checks.proofs.ByCodesExist.{some_codes}
@@ -21,8 +20,8 @@ use Rattle.si_checks.specs.Laws.{ProperOrBreach, AllHold, HasSplit, HasNoValues,
 use Rattle.si_sg.proofs.GivenExists.{some_given}
 use Rattle.si_sg.specs.GivenGraph.{IsGivenBy}
 use Rattle.si_sg.specs.GraphText.{graph_fault}
-use Rattle.si_system.specs.Lists.{given, IsSameAt, ShowsDifference}
-use Rattle.si_readings.specs.Checks.{IsNamed, breach_name, proper, match_lists}
+use Rattle.si_system.specs.Lists.{given, AreSameAt, AreSameLists, ShowsFirst}
+use Rattle.si_readings.specs.Checks.{IsNamed, breach_name, proper, match_graphs, match_lists}
 use Rattle.si_readings.specs.Laws.{HasResult}
 use Rattle.si_readings.specs.Readings.{graph_in}
 use Rattle.si_refusals.specs.declared.breach.NamedBreach.{NamedBreach}
@@ -70,33 +69,37 @@ same_places (Some x) (Some y) = elim (same_signals x y) [
   | inr other ↦ inr (λ same. other cc)
 ]
 
-same_at : (coded : CodedGraph) (net : Netlist) (k : ℕ) → Decided (IsSameAt coded net k)
-same_at coded net k = elim (same_places (slice_get (given net) k) (slice_get coded.graph.signals k)) [
-  | inr other ↦ inr (λ same. other same.signal)
-  | inl signal ↦ elim (cases_lt k (length coded.graph.signals)) [
-    | inr beyond ↦ inl (record { signal = signal; value = λ within. absurd (omega (arith, beyond, within)) })
-    | inl within ↦ elim (same_value (bit net.start k) (bit (code coded coded.graph.start) k)) [
-      | inl value ↦ inl (record { signal = signal; value = λ inside. value })
-      | inr other ↦ inr (λ same. other (same.value within))
+-- two lists of signals with their start values
+module _ (own : List Signal) (values : ℕ) (others : List Signal) (start : ℕ) where
+  abbrev Same : ℕ → Type 0
+  Same k = AreSameAt own values others start k
+
+  same_at : (k : ℕ) → Decided (Same k)
+  same_at k = elim (same_places (slice_get others k) (slice_get own k)) [
+    | inr other ↦ inr (λ same. other same.signal)
+    | inl signal ↦ elim (cases_lt k (length own)) [
+      | inr beyond ↦ inl (record { signal = signal; value = λ within. absurd (omega (arith, beyond, within)) })
+      | inl within ↦ elim (same_value (bit start k) (bit values k)) [
+        | inl value ↦ inl (record { signal = signal; value = λ inside. value })
+        | inr other ↦ inr (λ same. other (same.value within))
+      ]
     ]
   ]
-]
 
--- up to each place the lists are the same, or they have a first difference
-same_below : (coded : CodedGraph) (net : Netlist) (k : ℕ)
-    → ((j : ℕ) → j < k → IsSameAt coded net j) ⊎ ((place : ℕ) × ShowsDifference coded net place)
-same_below coded net zero = inl (λ j below. absurd (omega (arith, below)))
-same_below coded net (suc k) = elim (same_below coded net k) [
-  | inr differs ↦ inr differs
-  | inl before ↦ elim (same_at coded net k) [
-    | inr other ↦ inr (k + 1, (k, refl, record { differs = other; before = before }))
-    | inl here ↦ inl (λ j below. elim (cases_order j k) [
-      | inl same ↦ subst (λ (i : ℕ). IsSameAt coded net i) (sym same) here
-      | inr (inl less) ↦ before j less
-      | inr (inr more) ↦ absurd (omega (arith, below, more))
-    ])
+  -- up to each place the lists are the same, or they have a first difference
+  same_below : (k : ℕ) → ((j : ℕ) → j < k → Same j) ⊎ ((place : ℕ) × ShowsFirst Same place)
+  same_below zero = inl (λ j below. absurd (omega (arith, below)))
+  same_below (suc k) = elim (same_below k) [
+    | inr differs ↦ inr differs
+    | inl before ↦ elim (same_at k) [
+      | inr other ↦ inr (k + 1, (k, refl, record { differs = other; before = before }))
+      | inl here ↦ inl (λ j below. elim (cases_order j k) [
+        | inl same ↦ subst (λ (i : ℕ). Same i) (sym same) here
+        | inr (inl less) ↦ before j less
+        | inr (inr more) ↦ absurd (omega (arith, below, more))
+      ])
+    ]
   ]
-]
 
 same_gets : (xs ys : List Signal) (k : ℕ) → length xs + length ys < k
     → ((j : ℕ) → j < k → slice_get xs j ≡ slice_get ys j) → xs ≡ ys
@@ -110,18 +113,31 @@ same_gets (x ∷ xs) (y ∷ ys) (suc k) many same =
     ap₂ (λ (z : Signal) (zs : List Signal). z ∷ zs) heads
     (same_gets xs ys k (omega arith) (λ j below. same (suc j) (omega arith)))
 
-for_all_same : (coded : CodedGraph) (net : Netlist) (k : ℕ) → length (given net) + length coded.graph.signals < k
-    → ((j : ℕ) → j < k → IsSameAt coded net j) → IsFor coded net
-for_all_same coded net k many same = record {
-  signals = same_gets (given net) coded.graph.signals k many (λ j below. (same j below).signal);
-  values = λ a within. (same a (omega arith)).value within;
-}
+-- they are the same, or have a first difference
+same_or_not : (own : List Signal) (values : ℕ) (others : List Signal) (start : ℕ)
+    → AreSameLists own values others start
+    ⊎ ((place : ℕ) × ShowsFirst (AreSameAt own values others start) place)
+same_or_not own values others start =
+    let k : ℕ = length others + length own + 1 in
+    elim (same_below own values others start k) [
+      | inl same ↦ inl (record {
+        signals = same_gets others own k (omega arith) (λ j below. (same j below).signal);
+        values_are = λ a within. (same a (omega arith)).value within;
+      })
+      | inr differs ↦ inr differs
+    ]
 
 pub match_lists_some : (file : List ℕ) (coded : CodedGraph) (net : Netlist) → HasResult (match_lists file coded net)
 match_lists_some file coded net =
-    let k : ℕ = length (given net) + length coded.graph.signals + 1 in
-    elim (same_below coded net k) [
-      | inl same ↦ (Ok tt, for_all_same coded net k (omega arith) same)
+    elim (same_or_not coded.graph.signals (code coded coded.graph.start) (given net) net.start) [
+      | inl same ↦ (Ok tt, record { signals = same.signals; values = same.values_are })
+      | inr differs ↦ (Err (ListsDiffer file differs.0), (differs.0, differs.1, refl))
+    ]
+
+pub match_graphs_some : (file : List ℕ) (one other : CodedGraph) → HasResult (match_graphs file one other)
+match_graphs_some file one other =
+    elim (same_or_not one.graph.signals (code one one.graph.start) other.graph.signals (code other other.graph.start)) [
+      | inl same ↦ (Ok tt, same)
       | inr differs ↦ (Err (ListsDiffer file differs.0), (differs.0, differs.1, refl))
     ]
 

@@ -8,7 +8,7 @@ use Rattle.si_base.specs.Proper.{IsProper}
 use Rattle.si_base.specs.System.{IsFor}
 use Rattle.si_checks.specs.Laws.{ProperOrBreach, AllHold, HasSplit, HasNoValues, HasFork, HasLoss}
 use Rattle.si_sg.specs.CanonicalText.{state_at, event_word}
-use Rattle.si_system.specs.Lists.{ShowsDifference}
+use Rattle.si_system.specs.Lists.{ShowsDifference, ShowsUnlike, StartAlike}
 use Rattle.si_refusals.specs.Refusal.{TextRefusal, Improper, ListsDiffer}
 use Rattle.si_refusals.specs.Stages.{Stage}
 use Rattle.si_refusals.specs.declared.breach.NamedBreach.{NamedBreach}
@@ -61,3 +61,10 @@ abbrev pub match_lists : (file : List ℕ) → CodedGraph → Netlist → Stage 
 match_lists file coded netlist (Ok _) = IsFor coded netlist
 match_lists file coded netlist (Err refusal) =
     (place : ℕ) × ShowsDifference coded netlist place × (refusal ≡ ListsDiffer file place)
+
+-- the other graph, of that file, has the signals of the one with the same values at its start: else
+-- the first place, from 1, at which they differ
+abbrev pub match_graphs : (file : List ℕ) → CodedGraph → CodedGraph → Stage TextRefusal (Unit {0})
+match_graphs file one other (Ok _) = StartAlike one other
+match_graphs file one other (Err refusal) =
+    (place : ℕ) × ShowsUnlike one other place × (refusal ≡ ListsDiffer file place)

@@ -15,6 +15,7 @@ use si_graph::graph::Graph;
 use si_netlist::netlist::Netlist;
 use si_refusals::breach::{NamedBreach, event_word, name_of_signal, state_name};
 use si_refusals::refusals::Refusal;
+use si_system::lists::match_starts;
 use si_system::system::{ListsDiffer, System};
 use std::alloc::Global;
 
@@ -54,10 +55,25 @@ pub fn match_lists<'w>(file: &'w str, graph: &Coded, netlist: &Netlist) -> Resul
 {
     match System::start(graph, netlist) {
         Ok(_) => Ok(()),
-        Err(ListsDiffer { place }) => Err(Refusal::ListsDiffer {
-            netlist: file,
-            place,
-        }),
+        Err(ListsDiffer { place }) => Err(Refusal::ListsDiffer { file, place }),
+    }
+}
+
+/// That the other graph, of that file, has the signals of the one, with the same values at its
+/// start.
+///
+/// # Errors
+///
+/// `ListsDiffer` exactly where it hasn't, with the first place at which they differ.
+pub fn match_graphs<'w>(file: &'w str, one: &Coded, other: &Coded) -> Result<(), Refusal<'w>>
+    ensures ok { IfOk result
+        (λ done. stage.match_graphs file.now one.now other.now (Ok done)) }
+    ensures err { IfErr result
+        (λ r. MayStop (stage.match_graphs file.now one.now other.now) (ending_of r)) }
+{
+    match match_starts(one, other) {
+        Ok(()) => Ok(()),
+        Err(ListsDiffer { place }) => Err(Refusal::ListsDiffer { file, place }),
     }
 }
 

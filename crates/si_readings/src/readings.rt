@@ -6,8 +6,8 @@ ghost use Rattle.si_readings.specs.Checks.{IsNamed};
 ghost use Rattle.si_base.specs.TextFaults.{Gives};
 ghost use Rattle.si_refusals.specs.Ending.{MayStop, ending_of};
 ghost use Rattle.si_readings.specs.Readings as stage;
-ghost use Rattle.si_readings.specs.Readings.{audit_readings_now, mapping_readings_now};
-ghost use Rattle.si_readings.specs.Readings.{replay_readings_now};
+ghost use Rattle.si_readings.specs.Readings.{audit_readings_now, graph_readings_now};
+ghost use Rattle.si_readings.specs.Readings.{mapping_readings_now, replay_readings_now};
 
 use crate::library_format::LibraryFormat;
 use si_base::fault::TextFault;
@@ -42,6 +42,13 @@ pub struct ReplayReadings {
     pub given: Sg,
     pub netlist: Netlist,
     pub events: Vec<Event>,
+}
+
+/// The two graphs that texts give.
+#[derive(Drop)]
+pub struct GraphReadings {
+    pub one: Sg,
+    pub other: Sg,
 }
 
 /// The graph that the text gives. Each state of it is reachable, and has a name.
@@ -198,4 +205,29 @@ pub fn replay_readings<'w>(
         netlist,
         events,
     })
+}
+
+/// The graphs that two texts give, each file with its text.
+///
+/// # Errors
+///
+/// `BadText` with the first fault of the texts in their order. `NoMemory` only where memory runs
+/// out.
+pub fn graph_readings<'w>(
+    alloc: Global,
+    one_file: &'w str,
+    one: &[u8],
+    other_file: &'w str,
+    other: &[u8],
+) -> Result<GraphReadings, Refusal<'w>>
+    ensures ok { IfOk result (λ t. stage.graph_readings one_file.now one.now
+        other_file.now other.now (Ok (graph_readings_now t))) }
+    ensures err { IfErr result (λ r. MayStop (stage.graph_readings one_file.now one.now
+        other_file.now other.now) (ending_of r)) }
+    ensures one_named { IfOk result (λ t. IsNamed t.one.graph t.one.states) }
+    ensures other_named { IfOk result (λ t. IsNamed t.other.graph t.other.states) }
+{
+    let one = graph_in(alloc, one_file, one)?;
+    let other = graph_in(alloc, other_file, other)?;
+    Ok(GraphReadings { one, other })
 }

@@ -6,15 +6,15 @@ use Rattle.si_base.specs.Codes.{CodedGraph}
 use Rattle.si_base.proofs.StepCodes.{step_within}
 use Rattle.si_graph.specs.declared.closure.Along.TheVariants.{Out, Both}
 use Rattle.si_graph.specs.Closure.{IsNext, Path}
-use Rattle.si_graph.specs.Reach.{IsIn}
+use Rattle.si_base.specs.Sets.{IsIn}
 use Rattle.si_regions.specs.Connected.{Adjoins, PathOf, IsComponent}
 use Rattle.si_regions.specs.Regions.{Enables, IsSetOf, IsEntered, IsQuiet, WalkThrough, IsReachedThrough}
-use Rattle.si_regions.specs.Searching.{AreMarksOf, IsReachedIn, IsSeed}
+use Rattle.si_regions.specs.Loops.Searching.{AreMarksOf, IsReachedIn, IsSeed}
 use Rattle.si_graph.proofs.ClosureLemmas.{reached_on}
 use Rattle.si_regions.proofs.StateLists.{contains_only, only_in}
 
 -- ---- paths either way
-adjoins_back : (g : StateGraph) (s t : ℕ) → Adjoins g s t → Adjoins g t s
+pub adjoins_back : (g : StateGraph) (s t : ℕ) → Adjoins g s t → Adjoins g t s
 adjoins_back g s t (inl leads) = inr leads
 adjoins_back g s t (inr leads) = inl leads
 

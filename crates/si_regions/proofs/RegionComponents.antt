@@ -9,15 +9,15 @@ use Rattle.si_base.specs.Codes.{CodedGraph, IsCoded}
 use Rattle.si_base.proofs.StepCodes.{step_within}
 use Rattle.si_base.proofs.GraphSteps.{step_from_enables}
 use Rattle.si_graph.specs.declared.closure.Along.TheVariants.{Out}
-use Rattle.si_graph.specs.Reach.{IsIn}
-use Rattle.si_graph.specs.Search.{idle}
+use Rattle.si_base.specs.Sets.{IsIn}
+use Rattle.si_graph.specs.Loops.Search.{idle}
 use Rattle.si_graph.proofs.SearchLemmas.{in_none}
 use Rattle.si_regions.specs.declared.regions.Component.{Component}
 use Rattle.si_regions.specs.declared.regions.Region.{Region}
 use Rattle.si_regions.specs.Connected.{IsComponent}
 use Rattle.si_regions.specs.Regions.{Enables, IsSetOf, IsEntered, IsRegion, AreRegions, AreComponents}
 use Rattle.si_regions.specs.Regions.{IsRegionComponent, component_of}
-use Rattle.si_regions.specs.Searching.{IsIdle, IsReachedIn, RegionsTo, ComponentsTo, AreRestsAfter}
+use Rattle.si_regions.specs.Loops.Searching.{IsIdle, IsReachedIn, RegionsTo, ComponentsTo, AreRestsAfter}
 use Rattle.si_regions.proofs.ComponentLemmas.{is_rest, entered_within}
 use Rattle.si_regions.proofs.RegionLemmas.{AreDone, done_none, done_more, regions_pass, regions_more, regions_event}
 use Rattle.si_regions.proofs.RegionLemmas.{enables_within}

@@ -3,7 +3,7 @@ use Rattle.std.proofs.Common.{◌≡◌, ℕ, ◌+◌, ◌*◌, ◌<◌, ◌≤�
 use Rattle.std.proofs.Common.{◌∷◌, ◌++◌, length, get_or, set, Contains, IsTrue, inl, inr, ◌⊎◌, ◌↔◌, length-set}
 use Rattle.std.proofs.Common.{replicate, nat_cmp}
 use Rattle.std.proofs.lemmas.Bool.{cases_eq, cases_lt, true≢false}
-use Rattle.std.proofs.lemmas.List.{length-replicate, get_or_default}
+use Rattle.std.proofs.lemmas.List.{get_or_default}
 use Rattle.std.proofs.lemmas.List.Elements.{Contains-push, Contains-push_cases, Contains-append_left, Contains-get_or}
 use Rattle.std.proofs.lemmas.List.Quantifiers.{all_pairs_push}
 use Rattle.std.specs.List.Sorted.{IsStrictlySortedBy}
@@ -14,13 +14,14 @@ use Rattle.si_base.specs.Graph.{StateGraph, Step, IsGraph, arc, enables, event_p
 use Rattle.si_base.specs.Codes.{CodedGraph, IsDeterministic}
 use Rattle.si_base.proofs.StepCodes.{step_within}
 use Rattle.si_base.proofs.GraphSteps.{step_from_enables, enables-step, same_event-refl, same_event-true}
-use Rattle.si_graph.specs.Reach.{IsIn}
+use Rattle.si_base.proofs.OrderLemmas.{at_places}
+use Rattle.si_base.specs.Sets.{IsIn}
 use Rattle.si_graph.proofs.SearchLemmas.{stays_in, in_cases, is_set, in_none}
 use Rattle.si_graph.proofs.OrderLemmas.{event_from_place}
 use Rattle.si_regions.specs.declared.regions.Region.{Region}
 use Rattle.si_regions.specs.Connected.{IsComponent}
 use Rattle.si_regions.specs.Regions.{Enables, IsSetOf, IsEntered, IsRegion, least, region_place, AreRegions}
-use Rattle.si_regions.specs.Searching.{AreMarksOf, RegionsTo}
+use Rattle.si_regions.specs.Loops.Searching.{AreMarksOf, RegionsTo}
 use Rattle.si_regions.proofs.StateLists.{least_is}
 use Rattle.si_regions.proofs.UniqueRegions.{one_component}
 
@@ -28,12 +29,6 @@ use Rattle.si_regions.proofs.UniqueRegions.{one_component}
 pub record MadeTo (Q : ℕ → ℕ → Type 0) (n k : ℕ) (marks : List Bool) : Type 0 where
   pub size : length marks ≡ n
   pub exactly : (t : ℕ) → IsIn marks t ↔ ((j : ℕ) × (j < k) × Q j t)
-
-pub made_none : (Q : ℕ → ℕ → Type 0) (n m : ℕ) → m ≡ n → MadeTo Q n 0 (replicate m false)
-made_none Q n m same = record {
-  size = length-replicate m false ∙ same;
-  exactly = λ t. (λ i. absurd (in_none m t i), λ b. absurd (let k = b.1 in omega arith));
-}
 
 pub made_more : (Q : ℕ → ℕ → Type 0) (n k t : ℕ) (marks : List Bool) → t < n → Q k t
     → ((u : ℕ) → Q k u → u ≡ t) → MadeTo Q n k marks → MadeTo Q n (k + 1) (set marks t true)
@@ -176,15 +171,6 @@ targets_all g from e n targets list all x same order = record {
 }
 
 -- ---- regions in order
-at_places : (a b x y : ℕ) → Before (a ∷ b ∷ []) (x ∷ y ∷ []) → (a < x) ⊎ ((a ≡ x) × (b < y))
-at_places a b x y (inl h) = inl h
-at_places a b x y (inr (same, inl h)) = inr (same, h)
-at_places a b x y (inr (same, inr h)) = absurd h.1
-
-to_places : (a b x y : ℕ) → (a < x) ⊎ ((a ≡ x) × (b < y)) → Before (a ∷ b ∷ []) (x ∷ y ∷ [])
-to_places a b x y (inl h) = inl h
-to_places a b x y (inr h) = inr (h.0, inl h.1)
-
 weaker : (a b x y z : ℕ) → y ≤ z → Before (a ∷ b ∷ []) (x ∷ y ∷ []) → Before (a ∷ b ∷ []) (x ∷ z ∷ [])
 weaker a b x y z more h = pick (at_places a b x y h)
   where

@@ -9,11 +9,11 @@ use Rattle.si_base.specs.Graph.{arc, rise, fall, enables, event_place}
 use Rattle.si_base.specs.Codes.{CodedGraph, IsCoded, code}
 use Rattle.si_base.proofs.StepCodes.{step_within}
 use Rattle.si_graph.specs.declared.closure.Along.TheVariants.{Out, Both}
-use Rattle.si_graph.specs.Reach.{IsIn}
+use Rattle.si_base.specs.Sets.{IsIn}
 use Rattle.si_regions.specs.declared.regions.Region.{Region}
 use Rattle.si_regions.specs.Connected.{IsComponent}
 use Rattle.si_regions.specs.Regions.{Enables, IsSetOf, IsEntered, IsQuiet, IsRegion, AreRegions, opposite}
-use Rattle.si_regions.specs.Searching.{AreMarksOf, RegionsTo}
+use Rattle.si_regions.specs.Loops.Searching.{AreMarksOf, RegionsTo}
 use Rattle.si_checks.proofs.SearchDecisions.{Decided, both, same_value, some_of, equal_events, less}
 use Rattle.si_regions.proofs.SetsExist.{listed, some_set, some_marks, some_reached}
 use Rattle.si_regions.proofs.ComponentLemmas.{is_component, is_rest, er_has, entered_within}

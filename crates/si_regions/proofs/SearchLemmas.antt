@@ -8,11 +8,12 @@ use Rattle.std.specs.List.Sorted.{IsStrictlySortedBy}
 use Rattle.si_base.specs.Graph.{StateGraph}
 use Rattle.si_graph.specs.declared.closure.Along.{Along}
 use Rattle.si_graph.specs.Closure.{IsNext}
-use Rattle.si_graph.specs.Reach.{IsIn, Marks, MarksAll}
-use Rattle.si_graph.proofs.ClosureLemmas.{along_path, reached_seed}
+use Rattle.si_base.specs.Sets.{IsIn}
+use Rattle.si_graph.specs.Loops.Reach.{Marks, MarksAll}
+use Rattle.si_graph.proofs.ClosureLemmas.{along_path}
 use Rattle.si_graph.proofs.SearchLemmas.{Explores, marks_both}
 use Rattle.si_regions.specs.Regions.{IsSetOf}
-use Rattle.si_regions.specs.Searching.{IsSeed, IsReachedIn}
+use Rattle.si_regions.specs.Loops.Searching.{IsSeed, IsReachedIn}
 
 -- ---- the seeds
 -- the first n seeds are marked, as far as the set has them
@@ -60,42 +61,6 @@ AreSplit marks found work = (t : ℕ) → IsIn marks t ↔ (Contains found t ⊎
 abbrev pub Searches : StateGraph → Along → List Bool → List ℕ → List Bool → List ℕ → Type 0
 Searches g along within seeds marks work =
     Explores (IsNext g along within) (IsSeed within seeds) (IsReachedIn g along within seeds) marks work
-
-pub search_starts : (g : StateGraph) (along : Along) (within : List Bool) (seeds : List ℕ) (none : List Bool)
-    (rest : List ℕ)
-    (marks : List Bool) (work : List ℕ) → ((t : ℕ) → IsIn none t → ⊥) → rest ≡ []
-    → MarksAll (IsSeed within seeds) none rest marks work → Searches g along within seeds marks work
-search_starts g along within seeds none rest marks work empty rests taken = record {
-  begun = taken.all;
-  sound = λ t i. elim (taken.marks_are.sound t i) [
-    | inl old ↦ absurd (empty t old)
-    | inr seed ↦ reached_seed (IsNext g along within) (IsSeed within seeds) t seed
-  ];
-  closed = λ s i. elim (taken.marks_are.queued s i) [ inl old ↦ absurd (empty s old) | inr waits ↦ inl waits ];
-  queued = λ t waits. elim (taken.marks_are.marked t waits) [
-    | inl old ↦ absurd (nothing t (subst (λ (x : List ℕ). Contains x t) rests old))
-    | inr marked ↦ marked
-  ];
-}
-  where
-    nothing : (t : ℕ) → Contains [] t → ⊥
-    nothing t there = omega (arith, there.1)
-
-pub split_starts : (Q : ℕ → Type 0) (none : List Bool) (rest : List ℕ) (marks : List Bool) (work : List ℕ)
-    → ((t : ℕ) → IsIn none t → ⊥) → rest ≡ [] → MarksAll Q none rest marks work → AreSplit marks [] work
-split_starts Q none rest marks work empty rests taken t = (
-  λ i. elim (taken.marks_are.queued t i) [ inl old ↦ absurd (empty t old) | inr waits ↦ inr waits ],
-  λ found. elim found [
-    | inl there ↦ absurd (nothing there)
-    | inr waits ↦ elim (taken.marks_are.marked t waits) [
-      | inl old ↦ absurd (nothing (subst (λ (x : List ℕ). Contains x t) rests old))
-      | inr marked ↦ marked
-    ]
-  ],
-)
-  where
-    nothing : Contains [] t → ⊥
-    nothing there = omega (arith, there.1)
 
 pub split_more : (Q : ℕ → Type 0) (marks : List Bool) (found rest : List ℕ) (s : ℕ) (after : List Bool) (work : List ℕ)
     → Marks Q marks rest after work → AreSplit marks found (rest ++ s ∷ []) → AreSplit after (found ++ s ∷ []) work

@@ -18,13 +18,14 @@ use Rattle.si_base.proofs.GraphSteps.{same_event-true, same_event-refl}
 use Rattle.si_graph.specs.declared.closure.Along.{Along}
 use Rattle.si_graph.specs.declared.closure.Along.TheVariants.{Out, OutWithout, In, Both}
 use Rattle.si_graph.specs.Closure.{IsBeside, IsNext, Leads}
-use Rattle.si_graph.specs.Reach.{IsIn, unmarked}
+use Rattle.si_base.specs.Sets.{IsIn}
+use Rattle.si_graph.specs.Loops.Reach.{unmarked}
 use Rattle.si_graph.proofs.SearchLemmas.{stays_in, in_cases, in_below}
 use Rattle.si_graph.proofs.ListMembers.{Contains-nil, Contains-map}
 use Rattle.si_graph.proofs.ListMembers.{Contains-from_map, Contains-filter, Contains-from_filter}
 use Rattle.si_checks.proofs.SearchDecisions.{Decided, both, same_value, some_of}
 use Rattle.si_regions.specs.Regions.{IsSetOf}
-use Rattle.si_regions.specs.Searching.{AreMarksOf, IsReachedIn, IsSeed}
+use Rattle.si_regions.specs.Loops.Searching.{AreMarksOf, IsReachedIn, IsSeed}
 use Rattle.si_graph.proofs.ClosureLemmas.{reached_on, reached_seed}
 use Rattle.si_regions.proofs.SearchLemmas.{search_finds}
 

@@ -4,17 +4,15 @@ use Rattle.std.proofs.Common.{nat_cmp}
 use Rattle.std.proofs.lemmas.List.Elements.{Contains-get_or}
 use Rattle.std.specs.List.Sorted.{IsStrictlySortedBy}
 use Rattle.si_base.proofs.OrderAscending.{In, nat_less, sorted_at}
-use Rattle.si_base.proofs.GivenGraphUnique.{contains_from_in, in_from_contains, same_numbers}
+use Rattle.si_base.proofs.GivenGraphUnique.{contains_from_in, same_numbers}
+use Rattle.si_base.proofs.OrderLemmas.{in_contains}
 use Rattle.si_regions.specs.Regions.{IsSetOf, least}
-
-pub contains_in : {A : Type 0} (xs : List A) (x : A) → Contains xs x → In x xs
-contains_in xs x there = in_from_contains xs x there.0 there.1 there.2
 
 pub contains_only : (s : ℕ) → Contains (s ∷ []) s
 contains_only s = contains_from_in (s ∷ []) s (inl refl)
 
 pub only_in : (s t : ℕ) → Contains (s ∷ []) t → t ≡ s
-only_in s t there = pick (contains_in (s ∷ []) t there)
+only_in s t there = pick (in_contains (s ∷ []) t there)
   where
     pick : In t (s ∷ []) → t ≡ s
     pick (inl same) = same
@@ -32,8 +30,8 @@ first_least s set t order there =
 
 pub least_is : (set : List ℕ) (s : ℕ) → IsStrictlySortedBy nat_cmp set → Contains set s
     → ((t : ℕ) → t < s → Contains set t → ⊥) → least set ≡ s
-least_is [] s order there none = absurd (contains_in [] s there)
-least_is (u ∷ set) s order there none = pick (contains_in (u ∷ set) s there)
+least_is [] s order there none = absurd (in_contains [] s there)
+least_is (u ∷ set) s order there none = pick (in_contains (u ∷ set) s there)
   where
     pick : In s (u ∷ set) → u ≡ s
     pick (inl same) = sym same

@@ -1,4 +1,4 @@
 pub mod Connected
 pub mod Regions
-pub mod Searching
 pub mod Laws
+pub mod Loops

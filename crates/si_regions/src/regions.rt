@@ -3,12 +3,13 @@
 ghost use Rattle.std.specs.Prelude.{◌≡◌, ℕ, ◌+◌, ◌*◌, ◌<◌, ◌↔◌, ◌⊎◌, IfOk, OnOk, All, length};
 ghost use Rattle.std.specs.Prelude.{Contains, IsTrue};
 ghost use Rattle.si_base.specs.Graph.{event_place};
-ghost use Rattle.si_graph.specs.Reach.{IsIn};
+ghost use Rattle.si_base.specs.Sets.{IsIn};
 ghost use Rattle.si_regions.specs.Regions.{Enables, IsSetOf, IsEntered, IsQuiet, IsRegion};
 ghost use Rattle.si_regions.specs.Regions.{AreRegions, AreComponents, IsRegionComponent};
 ghost use Rattle.si_regions.specs.Regions.{component_of, opposite};
-ghost use Rattle.si_regions.specs.Searching.{AreMarksOf, AreRests, AreRestsAfter, ComponentsTo};
-ghost use Rattle.si_regions.specs.Searching.{IsIdle};
+ghost use Rattle.si_regions.specs.Loops.Searching.{AreMarksOf, AreRests, AreRestsAfter};
+ghost use Rattle.si_regions.specs.Loops.Searching.{ComponentsTo};
+ghost use Rattle.si_regions.specs.Loops.Searching.{IsIdle};
 
 use crate::search::reached;
 use crate::state_list::StateList;

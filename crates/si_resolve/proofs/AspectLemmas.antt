@@ -3,17 +3,18 @@ use Rattle.std.proofs.Common.{◌≡◌, ◌⊎◌, ℕ, zero, suc, ◌+◌, ◌
 use Rattle.std.proofs.Common.{◌∷◌, ◌++◌, length, map, take, drop, filter, get_or, refl, sym, ap, ap₂}
 use Rattle.std.proofs.Common.{arith, inl, inr}
 use Rattle.std.proofs.lemmas.Bool.{cases_Bool, true≢false}
-use Rattle.std.proofs.lemmas.List.{take_more, take_all, length-take-le}
+use Rattle.std.proofs.lemmas.List.{take_more, length-take-le}
+use Rattle.si_base.specs.Sets.{is_in}
 use Rattle.si_base.proofs.OrderAscending.{In}
 use Rattle.si_insert.specs.declared.partition.Class.{Class}
 use Rattle.si_insert.specs.declared.partition.Class.TheVariants.{Low, Rising, High, Falling}
 use Rattle.si_insert.specs.Partition.{class_of}
-use Rattle.si_candidates.specs.Sides.{between, class_by, differ, flag}
+use Rattle.si_candidates.specs.Loops.Sides.{between, class_by, differ}
 use Rattle.si_candidates.proofs.SideLemmas.{differ_group, differ_swap, high_is, low_is}
 use Rattle.si_conflicts.specs.Left.{are_parted, stays}
 use Rattle.si_resolve.specs.declared.aspects.Aspect.{Aspect}
 use Rattle.si_resolve.specs.declared.aspects.Aspect.TheVariants.{Together, Apart}
-use Rattle.si_resolve.specs.Aspects.{aspect_by, aspect_of, part, stays_by, unparted_count}
+use Rattle.si_resolve.specs.Loops.Aspects.{aspect_by, aspect_of, part, stays_by, unparted_count}
 
 -- ---- the count, place after place
 unparted_push : (xs ys : List Aspect) (x y : Aspect) → length ys ≡ length xs
@@ -32,10 +33,6 @@ unparted_more xs ys k same inside =
     ap₂ unparted_count (take_more xs k Together inside) (take_more ys k Together (omega (arith, same, inside)))
     ∙ unparted_push (take k xs) (take k ys) (get_or xs k Together) (get_or ys k Together)
     (length-take-le k ys (omega (arith, same, inside)) ∙ sym (length-take-le k xs (omega (arith, inside))))
-
-pub unparted_all : (xs ys : List Aspect) (k : ℕ) → length ys ≡ length xs → length xs ≤ k
-    → unparted_count (take k xs) (take k ys) ≡ unparted_count xs ys
-unparted_all xs ys k same all = ap₂ unparted_count (take_all k xs all) (take_all k ys (omega (arith, same, all)))
 
 none_left : (xs : List Aspect) → unparted_count xs [] ≡ 0
 none_left [] = refl
@@ -124,7 +121,7 @@ part_by false false = refl
 
 module _ (states : ℕ) (plus minus plus_sides minus_sides : List Bool) (turn : Bool) (classes : List Class)
     (each : (s : ℕ) → s < states → class_of classes s
-    ≡ class_by (flag plus s) (flag minus s) (differ turn (between plus_sides minus_sides s))) where
+    ≡ class_by (is_in plus s) (is_in minus s) (differ turn (between plus_sides minus_sides s))) where
   abbrev by_plus : ℕ × ℕ → Aspect
   by_plus pair = aspect_of plus plus_sides pair
 
@@ -135,26 +132,26 @@ module _ (states : ℕ) (plus minus plus_sides minus_sides : List Bool) (turn : 
   turned s = between plus_sides minus_sides s
 
   -- states in neither block that lie on different sides of just one
-  sides_part : (p q : ℕ) → flag plus p ≡ false → flag plus q ≡ false → flag minus p ≡ false → flag minus q ≡ false
+  sides_part : (p q : ℕ) → is_in plus p ≡ false → is_in plus q ≡ false → is_in minus p ≡ false → is_in minus q ≡ false
       → differ (turned p) (turned q) ≡ true → part (by_plus (p, q)) (by_minus (p, q)) ≡ true
   sides_part p q plus_p plus_q minus_p minus_q odd =
       ap₂ part
-      (ap₂ (λ a b. aspect_by a b (flag plus_sides p) (flag plus_sides q)) plus_p plus_q)
-      (ap₂ (λ a b. aspect_by a b (flag minus_sides p) (flag minus_sides q)) minus_p minus_q)
-      ∙ part_by (differ (flag plus_sides p) (flag plus_sides q)) (differ (flag minus_sides p) (flag minus_sides q))
-      ∙ sym (differ_turned (flag plus_sides p) (flag plus_sides q) (flag minus_sides p) (flag minus_sides q))
+      (ap₂ (λ a b. aspect_by a b (is_in plus_sides p) (is_in plus_sides q)) plus_p plus_q)
+      (ap₂ (λ a b. aspect_by a b (is_in minus_sides p) (is_in minus_sides q)) minus_p minus_q)
+      ∙ part_by (differ (is_in plus_sides p) (is_in plus_sides q)) (differ (is_in minus_sides p) (is_in minus_sides q))
+      ∙ sym (differ_turned (is_in plus_sides p) (is_in plus_sides q) (is_in minus_sides p) (is_in minus_sides q))
       ∙ odd
 
   classes_part : (p q : ℕ) → p < states → q < states → are_parted (class_of classes p) (class_of classes q) ≡ true
       → part (by_plus (p, q)) (by_minus (p, q)) ≡ true
   classes_part p q p_in q_in parted = elim (parted_cases (class_of classes p) (class_of classes q) parted) [
     | inl at ↦ (
-        let low = (low_is (flag plus p) (flag minus p) (differ turn (turned p))).0 (sym (each p p_in) ∙ at.0) in
-        let high = (high_is (flag plus q) (flag minus q) (differ turn (turned q))).0 (sym (each q q_in) ∙ at.1) in
+        let low = (low_is (is_in plus p) (is_in minus p) (differ turn (turned p))).0 (sym (each p p_in) ∙ at.0) in
+        let high = (high_is (is_in plus q) (is_in minus q) (differ turn (turned q))).0 (sym (each q q_in) ∙ at.1) in
         sides_part p q low.0 high.0 low.1 high.1 (turn_off turn (turned p) (turned q) low.2 high.2))
     | inr at ↦ (
-        let high = (high_is (flag plus p) (flag minus p) (differ turn (turned p))).0 (sym (each p p_in) ∙ at.0) in
-        let low = (low_is (flag plus q) (flag minus q) (differ turn (turned q))).0 (sym (each q q_in) ∙ at.1) in
+        let high = (high_is (is_in plus p) (is_in minus p) (differ turn (turned p))).0 (sym (each p p_in) ∙ at.0) in
+        let low = (low_is (is_in plus q) (is_in minus q) (differ turn (turned q))).0 (sym (each q q_in) ∙ at.1) in
         sides_part p q high.0 low.0 high.1 low.1 (turn_on turn (turned p) (turned q) high.2 low.2))
   ]
 

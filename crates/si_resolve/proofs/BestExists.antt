@@ -3,7 +3,7 @@ use Rattle.std.proofs.Common.{◌≡◌, ℕ, ◌<◌, ◌⊎◌, Bool, List, le
 use Rattle.std.proofs.Common.{arith, inl, inr}
 use Rattle.si_base.specs.Codes.{CodedGraph, IsCoded}
 use Rattle.si_base.specs.Proper.{IsProper}
-use Rattle.si_checks.specs.Searches.{IsFirstOrNone}
+use Rattle.si_checks.specs.Loops.Searches.{IsFirstOrNone}
 use Rattle.si_checks.proofs.SearchDecisions.{Decided, both, less}
 use Rattle.si_conflicts.specs.Conflicts.{HasConflicts}
 use Rattle.si_conflicts.proofs.ConflictsExist.{some_count}
@@ -16,7 +16,7 @@ use Rattle.si_insert.specs.declared.partition.Class.{Class}
 use Rattle.si_insert.specs.Accepted.{IsAccepted}
 use Rattle.si_insert.proofs.RowSearchLemmas.{first_or_none}
 use Rattle.si_resolve.specs.Best.{Choice, IsChoice, choice_place, Improves, NoneImproves}
-use Rattle.si_resolve.specs.Search.{IsFewer}
+use Rattle.si_resolve.specs.Loops.Search.{IsFewer}
 use Rattle.si_resolve.proofs.OneBest.{one_number}
 use Rattle.si_resolve.proofs.SearchSteps.{weight, row, place, lower, one_weight, within, improves, none_improves}
 

@@ -17,15 +17,15 @@ use Rattle.si_conflicts.specs.declared.conflicts.Pair.{Pair}
 use Rattle.si_conflicts.specs.declared.crowds.Crowd.{Crowd}
 use Rattle.si_conflicts.specs.declared.crowds.Crowded.{Crowded}
 use Rattle.si_conflicts.specs.declared.members.Member.{Member}
-use Rattle.si_conflicts.specs.Chains.{AreChains, Chains}
-use Rattle.si_conflicts.specs.Crowds.{HasOfCrowd, crowded_of}
+use Rattle.si_conflicts.specs.Loops.Chains.{AreChains, Chains}
+use Rattle.si_conflicts.specs.Loops.Crowds.{HasOfCrowd, crowded_of}
 use Rattle.si_conflicts.specs.Conflicts.{AreFirstConflicts, HasConflicts, pairs_of}
-use Rattle.si_candidates.specs.ManySets.{AreAllTold}
+use Rattle.si_candidates.specs.Loops.ManySets.{AreAllTold}
 use Rattle.si_conflicts.proofs.CrowdLemmas.{crowded_within, has_of_crowd}
 use Rattle.si_conflicts.proofs.OneConflictList.{one_count}
 use Rattle.si_resolve.specs.Best.{NoneImproves}
-use Rattle.si_resolve.specs.Aspects.{AreWithin}
-use Rattle.si_resolve.specs.Usable.{HaveSides, IsUsable}
+use Rattle.si_resolve.specs.Loops.Aspects.{AreWithin}
+use Rattle.si_resolve.specs.Loops.Usable.{HaveSides, IsUsable}
 use Rattle.si_resolve.proofs.BlockSizes.{size_at}
 
 pub usable_from : (g : StateGraph) (block : List Bool) (usable may : Bool)

@@ -3,10 +3,10 @@
 use Rattle.std.proofs.Common.{◌≡◌, ℕ, Bool, true, false, List, [], ◌∷◌, Some, None, refl, inl, inr, lit<, lit≤}
 use Rattle.si_base.specs.Order.{Before}
 use Rattle.si_resolve.specs.declared.aspects.Aspect.TheVariants.{Together, Apart, Touched}
-use Rattle.si_resolve.specs.Aspects.{aspect_of, part, unparted_count}
+use Rattle.si_resolve.specs.Loops.Aspects.{aspect_of, part, unparted_count}
 use Rattle.si_resolve.specs.Best.{Choice, choice_place}
-use Rattle.si_resolve.specs.Search.{bar}
-use Rattle.si_resolve.specs.Sharing.{ShareCrowd}
+use Rattle.si_resolve.specs.Loops.Search.{bar}
+use Rattle.si_resolve.specs.Loops.Sharing.{ShareCrowd}
 
 abbrev choice : ℕ → ℕ → ℕ → Choice
 choice i j conflicts = record { i = i; j = j; classes = []; conflicts = conflicts }

@@ -8,42 +8,43 @@ use Rattle.si_base.specs.Graph.{StateGraph, IsGraph}
 use Rattle.si_base.specs.Limits.{max_signals}
 use Rattle.si_base.specs.Codes.{CodedGraph, IsCoded}
 use Rattle.si_base.specs.Proper.{IsProper}
-use Rattle.si_base.specs.Sets.{IsIn}
+use Rattle.si_base.specs.Sets.{IsIn, IsDisjoint}
 use Rattle.si_base.proofs.OrderAscending.{In}
 use Rattle.si_base.proofs.GivenGraphUnique.{contains_from_in}
 use Rattle.si_graph.proofs.SearchLemmas.{in_below}
 use Rattle.si_insert.specs.declared.partition.Class.{Class}
 use Rattle.si_insert.specs.Partition.{IsLawful}
-use Rattle.si_candidates.specs.Sides.{AreSided, AreSides, IsPartitionOfBlocks, between}
+use Rattle.si_candidates.specs.Loops.Sides.{AreSided, AreSides, IsPartitionOfBlocks, between}
 use Rattle.si_candidates.proofs.SideLemmas.{class_is}
-use Rattle.si_candidates.specs.Blocks.{AreBlocks, AreDisjoint, block_at}
+use Rattle.si_candidates.specs.Blocks.{AreBlocks, block_at}
 use Rattle.si_candidates.specs.Parts.{AreClasses}
 use Rattle.si_candidates.proofs.PartLaws.{classes_lawful, classes_unique}
 use Rattle.si_conflicts.specs.declared.crowds.Crowd.{Crowd}
 use Rattle.si_conflicts.specs.declared.members.Member.{Member}
-use Rattle.si_conflicts.specs.Chains.{AreChains, Chains}
+use Rattle.si_conflicts.specs.Loops.Chains.{AreChains, Chains}
 use Rattle.si_conflicts.specs.Conflicts.{HasConflicts}
-use Rattle.si_conflicts.specs.Crowds.{HasOfCrowd, code_count}
+use Rattle.si_conflicts.specs.Loops.Crowds.{HasOfCrowd, code_count}
 use Rattle.si_conflicts.specs.Left.{LeavesConflicts}
 use Rattle.si_conflicts.proofs.CrowdLemmas.{crowd_is_left}
 use Rattle.si_conflicts.proofs.LeftStaying.{stay_left}
-use Rattle.si_insert.specs.RowSearch.{bar as bar_in}
+use Rattle.si_insert.specs.Loops.RowSearch.{bar as bar_in}
 use Rattle.si_resolve.specs.declared.search.Found.{Found}
 use Rattle.si_resolve.specs.declared.search.Search.{Search}
 use Rattle.si_resolve.specs.Best.{Choice, Improves, IsChoice, NoneImproves}
-use Rattle.si_resolve.specs.Search.{IsBestSoFar, IsEarlier, bar}
+use Rattle.si_resolve.specs.Loops.Search.{IsBestSoFar, IsEarlier, bar}
 use Rattle.si_resolve.specs.declared.aspects.Aspect.{Aspect}
 use Rattle.si_resolve.specs.declared.block_list.BlockList.{BlockList}
-use Rattle.si_resolve.specs.Aspects.{HaveAspects, aspect_of, column_at, unparted_count}
-use Rattle.si_resolve.specs.Sharing.{ShareCrowd, crowd_at}
-use Rattle.si_resolve.specs.Usable.{IsUsable, AreSearched, AreUsable, HaveSides}
-use Rattle.si_resolve.specs.Progress.{found_of, best_of, IsSearching, AreAccepted, bar_of, MayBeAccepted, LeavesBelow}
-use Rattle.si_resolve.specs.Progress.{LeavesNoneBelow, NoneIsBelow}
+use Rattle.si_resolve.specs.Loops.Aspects.{HaveAspects, aspect_of, column_at, unparted_count}
+use Rattle.si_resolve.specs.Loops.Sharing.{ShareCrowd, crowd_at}
+use Rattle.si_resolve.specs.Loops.Usable.{IsUsable, AreSearched, AreUsable, HaveSides}
+use Rattle.si_resolve.specs.Loops.Progress.{found_of, best_of, IsSearching, AreAccepted, bar_of, MayBeAccepted}
+use Rattle.si_resolve.specs.Loops.Progress.{LeavesBelow}
+use Rattle.si_resolve.specs.Loops.Progress.{LeavesNoneBelow, NoneIsBelow}
 use Rattle.si_candidates.proofs.BlockingLemmas.{accepted_by_blocks}
 use Rattle.si_candidates.proofs.BlockCopyCount.{copies_by_blocks}
 use Rattle.si_resolve.proofs.AspectLemmas.{unparted_stay}
 use Rattle.si_resolve.proofs.BlockSizes.{size_at}
-use Rattle.si_resolve.proofs.SearchSteps.{search_start, search_skip, search_take, search_row, search_finds}
+use Rattle.si_resolve.proofs.SearchSteps.{search_skip, search_take, search_row, search_finds}
 use Rattle.si_resolve.proofs.SearchSteps.{search_finds_none, block_refuses}
 
 -- ---- a candidate alone
@@ -78,10 +79,6 @@ told_leave_none c plus minus low told is plus_size minus_size r f only enough cl
     let same : classes ≡ told =
     only classes (record { lawful = lawful; rising = are.rising; falling = are.falling }) in
     enough (subst (IsLawful c.graph) same lawful) n (subst (λ xs. LeavesConflicts c xs n) same leaves)
-
-pub if_none : {A : Type 0} {P Q : Type 0} (o : Option A) → (P → Q) → IfNone o P → IfNone o Q
-if_none None f is = f is
-if_none (Some x) f is = is
 
 pub some_is : {A : Type 0} (P : A → Type 0) (o : Option A) (x : A) → o ≡ Some x → IfSome o P → P x
 some_is P o x same is = subst (λ z. IfSome z P) same is
@@ -131,7 +128,7 @@ abbrev pub choice_at : ℕ → ℕ → Found → Choice
 choice_at i j found = record { i = i; j = j; classes = found.accepted; conflicts = found.conflicts }
 
 pub candidate_choice : (c : CodedGraph) (blocks : List (List Bool)) (i j low : ℕ) (found : Found)
-    → i < j → j < length blocks → AreDisjoint (block_at blocks i) (block_at blocks j)
+    → i < j → j < length blocks → IsDisjoint (block_at blocks i) (block_at blocks j)
     → AreAccepted c.graph (block_at blocks i) (block_at blocks j)
     → LeavesBelow c (block_at blocks i) (block_at blocks j) low found → IsChoice c blocks (choice_at i j found)
 candidate_choice c blocks i j low found order within disjoint accepted left = record {
@@ -198,15 +195,6 @@ end_row c blocks j s so = record {
   where
     before : (y : Choice) → IsChoice c blocks y → y.j ≡ j → IsEarlier y j j
     before y choice at = (let order = choice.candidate.order in inr (at, inl (omega (arith, order, at))))
-
-pub begin : (c : CodedGraph) (blocks : List (List Bool)) (s : Search) → s.best ≡ None → AreChains c s.chains
-    → IsSearching c blocks 0 0 s
-begin c blocks s best chains = record {
-  chains = chains;
-  best = None;
-  is_best = search_start c blocks s.given;
-  found = best;
-}
 
 -- ---- what passes a candidate over
 pub none_by_zero : (c : CodedGraph) (blocks : List (List Bool)) (i j low : ℕ) → low ≤ 0 → NoneIsBelow c blocks i j low
@@ -362,10 +350,6 @@ pub not_usable : (g : StateGraph) (blocks : List (List Bool)) (usable : List Boo
 not_usable g blocks usable k are within is_not is = true≢false (sym ((are.each k within).1 is) ∙ is_not)
 
 -- ---- in the words of the code
-pub if_some : {A : Type 0} (P Q : A → Type 0) (o : Option A) → ((x : A) → P x → Q x) → IfSome o P → IfSome o Q
-if_some P Q None f is = is
-if_some P Q (Some x) f is = f x is
-
 pub none_is : {A P : Type 0} (o : Option A) → o ≡ None → IfNone o P → P
 none_is {A} {P} o same is = subst (λ z. IfNone z P) same is
 

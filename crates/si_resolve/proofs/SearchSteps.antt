@@ -14,7 +14,7 @@ use Rattle.si_candidates.proofs.BlocksExist.{one_blocks}
 use Rattle.si_candidates.proofs.BlockingLemmas.{accepted_by_blocks}
 use Rattle.si_insert.proofs.RowSearchLemmas as rows
 use Rattle.si_resolve.specs.Best.{Choice, IsChoice, choice_place, Improves, NoneImproves}
-use Rattle.si_resolve.specs.Search.{IsEarlier, IsFewer, IsBestSoFar, bar}
+use Rattle.si_resolve.specs.Loops.Search.{IsEarlier, IsFewer, IsBestSoFar, bar}
 use Rattle.si_resolve.proofs.OneBest.{one_number}
 
 -- a row has the candidates of one later block, in the order of the earlier ones

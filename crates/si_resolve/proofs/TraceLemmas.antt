@@ -1,9 +1,8 @@
 -- A resolving trace is short, the only one, and a lineage.
-use Rattle.std.proofs.Common.{◌≡◌, ℕ, ◌<◌, ◌⊎◌, List, get_or, codes, refl, sym, ap, subst, ◌∙◌, arith, inl, inr}
-use Rattle.si_base.specs.Order.{IsFirst}
-use Rattle.si_base.specs.Codes.{CodedGraph, IsCoded}
-use Rattle.si_base.specs.Proper.{IsConflict, HasNoConflict, pair_place}
-use Rattle.si_checks.proofs.SearchFirst.{firsts_at_one_place}
+use Rattle.std.proofs.Common.{◌≡◌, ℕ, ◌<◌, ◌⊎◌, List, codes, sym, ap, subst, ◌∙◌, arith, inl, inr}
+use Rattle.si_base.specs.Codes.{IsCoded}
+use Rattle.si_base.specs.Proper.{HasNoConflict}
+use Rattle.si_checks.proofs.UniqueBreaches.{one_conflict}
 use Rattle.si_conflicts.specs.Conflicts.{HasConflicts}
 use Rattle.si_conflicts.specs.Left.{LeavesConflicts}
 use Rattle.si_conflicts.proofs.OneConflictList.{one_count, none_is_none}
@@ -89,19 +88,12 @@ one_trace = traces.one_trace InsertsCandidate IsEnd end_stops inserts_of one_res
 pub resolved_is_unique : ResolvedIsUnique
 resolved_is_unique v xs ys w u is a b = one_trace v xs ys w u is a.goes b.goes (inl a.done) (inl b.done)
 
-one_pair : (c : CodedGraph) (a b : ℕ × ℕ) → IsFirst pair_place (IsConflict c) a → IsFirst pair_place (IsConflict c) b
-    → a ≡ b
-one_pair c a b x y =
-    let same = firsts_at_one_place pair_place (IsConflict c) a b refl x y in
-    let pair : List ℕ → ℕ × ℕ = λ xs. (get_or xs 0 0, get_or xs 1 0) in
-    ap pair same
-
 pub unresolved_is_unique : UnresolvedIsUnique
 unresolved_is_unique v xs ys w u a b is x y =
     let same = one_trace v xs ys w u is x.goes y.goes (inr (a, x.stuck)) (inr (b, y.stuck)) in
     let P : Current → Type 0 = λ k. IsStuck k.coded b in
     let stuck = subst P (sym same.1) y.stuck in
-    (same.0, same.1, one_pair w.coded a b x.stuck.conflict stuck.conflict)
+    (same.0, same.1, one_conflict w.coded a b x.stuck.conflict stuck.conflict)
 
 pub ends_exclude : EndsExclude
 ends_exclude v xs ys w u pair is a b =

@@ -6,7 +6,7 @@ use Rattle.si_base.specs.Proper.{IsProper}
 use Rattle.si_base.specs.Sets.{IsIn}
 use Rattle.si_candidates.specs.Blocks.{AreBlocks, block_at}
 use Rattle.si_candidates.specs.Blocking.{MaySwitch}
-use Rattle.si_resolve.specs.Search.{IsEarlier, IsBestSoFar, bar}
+use Rattle.si_resolve.specs.Loops.Search.{IsEarlier, IsBestSoFar, bar}
 use Rattle.si_base.specs.Netlist.{Netlist}
 use Rattle.si_base.specs.Behaviour.{Implements}
 use Rattle.si_conflicts.specs.Conflicts.{HasConflicts}

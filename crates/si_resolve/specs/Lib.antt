@@ -1,9 +1,5 @@
 pub mod Best
-pub mod Search
-pub mod Aspects
-pub mod Sharing
-pub mod Usable
-pub mod Progress
 pub mod Trace
 pub mod Ends
 pub mod Laws
+pub mod Loops

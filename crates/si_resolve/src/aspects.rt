@@ -2,8 +2,8 @@
 
 ghost use Rattle.std.specs.Prelude.{◌≡◌, ◌<◌, ◌≤◌, ◌↔◌, IfOk, IsTrue, length, map};
 ghost use Rattle.si_conflicts.specs.Conflicts.{pairs_of};
-ghost use Rattle.si_resolve.specs.Aspects as of_aspects;
-ghost use Rattle.si_resolve.specs.Aspects.{AreWithin, aspect_by, aspect_of};
+ghost use Rattle.si_resolve.specs.Loops.Aspects as of_aspects;
+ghost use Rattle.si_resolve.specs.Loops.Aspects.{AreWithin, aspect_by, aspect_of};
 
 use si_base::ids::NoMemory;
 use si_base::sets::StateSet;

@@ -4,13 +4,13 @@ ghost use Rattle.std.specs.Prelude.{◌≡◌, ℕ, ◌<◌, ◌↔◌, true, fa
 ghost use Rattle.std.specs.List.{slice_index_or};
 ghost use Rattle.si_base.specs.Limits.{max_signals};
 ghost use Rattle.si_candidates.specs.Blocks.{AreBlocks, block_at};
-ghost use Rattle.si_candidates.specs.Sides.{AreSides};
-ghost use Rattle.si_candidates.specs.Tree.{IsTree};
-ghost use Rattle.si_conflicts.specs.Chains.{AreChains};
+ghost use Rattle.si_candidates.specs.Loops.Sides.{AreSides};
+ghost use Rattle.si_candidates.specs.Loops.Tree.{IsTree};
+ghost use Rattle.si_conflicts.specs.Loops.Chains.{AreChains};
 ghost use Rattle.si_conflicts.specs.Conflicts.{pairs_of};
-ghost use Rattle.si_resolve.specs.Aspects.{AreWithin, HaveAspects, aspect_of};
-ghost use Rattle.si_resolve.specs.Sharing.{HaveCrowds, ShareCrowd};
-ghost use Rattle.si_resolve.specs.Usable.{AreUsable, AreSearched, HaveSides};
+ghost use Rattle.si_resolve.specs.Loops.Aspects.{AreWithin, HaveAspects, aspect_of};
+ghost use Rattle.si_resolve.specs.Loops.Sharing.{HaveCrowds, ShareCrowd};
+ghost use Rattle.si_resolve.specs.Loops.Usable.{AreUsable, AreSearched, HaveSides};
 ghost use Rattle.si_base.specs.Sets.{IsIn};
 
 use crate::aspects::Column;
@@ -45,9 +45,9 @@ pub(crate) struct BlockList {
 const MAX_COMPARED: u32 = 32_768;
 
 impl BlockList {
-    ghost use Rattle.si_resolve.specs.Aspects as of_aspects;
-    ghost use Rattle.si_resolve.specs.Aspects.{column_at};
-    ghost use Rattle.si_resolve.specs.Sharing.{crowd_at};
+    ghost use Rattle.si_resolve.specs.Loops.Aspects as of_aspects;
+    ghost use Rattle.si_resolve.specs.Loops.Aspects.{column_at};
+    ghost use Rattle.si_resolve.specs.Loops.Sharing.{crowd_at};
 
     /// The block at that place.
     pub(crate) fn block(&self, k: usize) -> &Block

@@ -3,7 +3,7 @@
 ghost use Rattle.std.specs.Prelude.{◌≡◌, ℕ, List, length};
 ghost use Rattle.si_base.specs.Sets.{IsIn};
 ghost use Rattle.si_insert.specs.declared.partition.Class.{Class};
-ghost use Rattle.si_candidates.specs.Sides.{AreSided, IsPartitionOfBlocks};
+ghost use Rattle.si_candidates.specs.Loops.Sides.{AreSided, IsPartitionOfBlocks};
 
 use si_base::ids::StateId;
 use si_base::sets::StateSet;

@@ -6,7 +6,7 @@ ghost use Rattle.si_resolve.specs.Laws.{NoneImprovesIsStuck, TracesAreShort, Res
 ghost use Rattle.si_resolve.specs.Laws.{UnresolvedIsUnique, EndsExclude, TracesAreLineages};
 ghost use Rattle.si_resolve.specs.Laws.{TracesImplement};
 
-/// The best candidate is determined.
+/// A graph has one best candidate at most.
 pub fn best_is_unique()
     ensures best { BestIsUnique }
     ensures stuck { NoneImprovesIsStuck }

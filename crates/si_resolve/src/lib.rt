@@ -1,4 +1,5 @@
-//! Resolving of conflicts by the insertion of signals.
+//! Resolving of conflicts by the insertion of signals: by the best candidate of a graph, again and
+//! again, until no conflict is left.
 #![tactic(auto)]
 
 mod aspects;

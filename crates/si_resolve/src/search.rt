@@ -3,15 +3,16 @@
 ghost use Rattle.std.specs.Prelude.{◌≡◌, ℕ, ◌+◌, ◌<◌, ◌↔◌, Bool, false, List, IfOk, IfSome};
 ghost use Rattle.std.specs.Prelude.{IfNone, OnOk, IsTrue, MatchOption, length, count_by};
 ghost use Rattle.si_base.specs.Codes.{CodedGraph, IsCoded};
-ghost use Rattle.si_base.specs.Sets.{IsIn};
-ghost use Rattle.si_candidates.specs.Blocks.{AreDisjoint, block_at};
-ghost use Rattle.si_candidates.specs.Sides.{AreSided};
-ghost use Rattle.si_conflicts.specs.Chains.{AreChains};
+ghost use Rattle.si_base.specs.Sets.{IsIn, IsDisjoint};
+ghost use Rattle.si_candidates.specs.Blocks.{block_at};
+ghost use Rattle.si_candidates.specs.Loops.Sides.{AreSided};
+ghost use Rattle.si_conflicts.specs.Loops.Chains.{AreChains};
 ghost use Rattle.si_conflicts.specs.Conflicts.{HasConflicts};
 ghost use Rattle.si_resolve.specs.Best.{Choice, Improves, NoneImproves};
-ghost use Rattle.si_resolve.specs.Usable.{IsUsable, AreSearched};
-ghost use Rattle.si_resolve.specs.Progress.{AreAccepted, IsSearching, LeavesBelow, MayBeAccepted};
-ghost use Rattle.si_resolve.specs.Progress.{LeavesNoneBelow, NoneIsBelow, bar_of};
+ghost use Rattle.si_resolve.specs.Loops.Usable.{IsUsable, AreSearched};
+ghost use Rattle.si_resolve.specs.Loops.Progress.{AreAccepted, IsSearching, LeavesBelow};
+ghost use Rattle.si_resolve.specs.Loops.Progress.{MayBeAccepted};
+ghost use Rattle.si_resolve.specs.Loops.Progress.{LeavesNoneBelow, NoneIsBelow, bar_of};
 
 use crate::block_list::BlockList;
 use crate::by_sides::BySides;
@@ -219,7 +220,7 @@ impl Search {
             plus_sides.now minus_sides.now }
         requires some_plus { (s : ℕ) × IsIn plus.now s }
         requires some_minus { (s : ℕ) × IsIn minus.now s }
-        requires disjoint { AreDisjoint plus.now minus.now }
+        requires disjoint { IsDisjoint plus.now minus.now }
         requires accepted { AreAccepted graph.now.graph plus.now minus.now }
         ensures below { IfOk result
             (λ o. IfSome o (LeavesBelow graph.now plus.now minus.now (bar_of self.old))) }

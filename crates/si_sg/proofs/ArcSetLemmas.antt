@@ -1,6 +1,6 @@
 -- Arcs added to arcs, each once: their number, and which arcs of a graph they are.
 use Rattle.std.proofs.Common.{◌≡◌, ℕ, ◌+◌, ◌≤◌, ◌==◌, Bool, true, List, [], ◌∷◌, ◌++◌, length, map}
-use Rattle.std.proofs.Common.{sym, ap, ap₂, subst, ◌∙◌, ◌↔◌, inl, inr, arith, append_assoc, Contains, nat_lt, ◌<◌}
+use Rattle.std.proofs.Common.{sym, ap, ap₂, subst, ◌∙◌, inl, inr, arith, append_assoc, Contains, nat_lt, ◌<◌}
 use Rattle.std.proofs.Common.{take, get_or, ◌⊎◌}
 use Rattle.std.specs.List.{fold, list_any}
 use Rattle.std.proofs.lemmas.Bool.{cases_Bool, and_parts, le-ltb, eqb-true}
@@ -12,6 +12,7 @@ use mathlib.Core.Bool.{beq}
 use Rattle.si_base.specs.Limits.{max_arcs_read}
 use Rattle.si_base.specs.declared.graph.Edge.{Edge}
 use Rattle.si_base.proofs.GraphSteps.{beq-true}
+use Rattle.si_graph.specs.Loops.Groups.{HaveSameArcs}
 use Rattle.si_graph.proofs.ListMembers.{Contains-map, Contains-cons_cases, Contains-there}
 use Rattle.si_sg.specs.declared.arc_set.Arc.{Arc}
 use Rattle.si_sg.specs.GivenGraph.{edge_of}
@@ -34,13 +35,6 @@ pub one_taken : (arcs more : List Arc) (i : ℕ) (d : Arc) → i < length more
 one_taken arcs more i d within =
     ap (fold with_arc arcs) (take_more more i d within) ∙ fold_push with_arc arcs (take i more) (get_or more i d)
 
-pub edge_taken : (es : List Edge) (arcs : List Arc) (i : ℕ) (d : Arc) → i < length arcs
-    → es ++ map edge_of (take (i + 1) arcs) ≡ (es ++ map edge_of (take i arcs)) ++ edge_of (get_or arcs i d) ∷ []
-edge_taken es arcs i d within =
-    ap (λ (more : List Arc). es ++ map edge_of more) (take_more arcs i d within)
-    ∙ ap (λ (fs : List Edge). es ++ fs) (map_push edge_of (take i arcs) (get_or arcs i d))
-    ∙ sym (append_assoc es (map edge_of (take i arcs)) (edge_of (get_or arcs i d) ∷ []))
-
 -- the table tells whether there are too many
 pub too_many_are : (counted listed all : List Arc) → all ≡ fold with_arc counted listed
     → (length counted + length listed ≤ max_arcs_read) ⊎ (listed ≡ [])
@@ -51,14 +45,6 @@ too_many_are counted listed all is (inr none) =
 too_many_are counted listed all is (inl few) =
     let most : length all ≤ max_arcs_read = omega (arith, ap length is, at_most counted listed) in
     le-ltb max_arcs_read (length counted) (omega arith) ∙ sym (le-ltb max_arcs_read (length all) most)
-
-pub few_edges : (counted listed all : List Arc) → all ≡ fold with_arc counted listed
-    → (length counted + length listed ≤ max_arcs_read) ⊎ (listed ≡ []) → length all ≤ max_arcs_read
-    → length counted + length listed ≤ max_arcs_read
-few_edges counted listed all is (inl few) most = few
-few_edges counted listed all is (inr none) most =
-    let same : all ≡ counted = is ∙ ap (fold with_arc counted) none in
-    omega (arith, ap length none, ap length same)
 
 -- ---- the same arcs of a graph
 
@@ -71,10 +57,7 @@ same_is a b same =
     ap₂ (λ (s z : ℕ). make s z a.up a.to) (eqb-true a.from b.from one.0) (eqb-true a.sig b.sig two.0)
     ∙ ap₂ (λ (u : Bool) (t : ℕ). make b.from b.sig u t) (beq-true a.up b.up three.0) (eqb-true a.to b.to three.1)
 
-abbrev pub SameEdges : List Edge → List Edge → Type 0
-SameEdges es fs = (e : Edge) → Contains es e ↔ Contains fs e
-
-there_before : (es fs : List Edge) (e : Edge) → Contains es e → SameEdges (es ++ fs) (es ++ e ∷ fs)
+there_before : (es fs : List Edge) (e : Edge) → Contains es e → HaveSameArcs (es ++ fs) (es ++ e ∷ fs)
 there_before es fs e there f = (forth, back)
   where
     forth : Contains (es ++ fs) f → Contains (es ++ e ∷ fs) f
@@ -97,18 +80,19 @@ stands : (arcs : List Arc) (a : Arc) → list_any (same_arc a) arcs ≡ true
 stands arcs a there = Contains-map edge_of arcs a (Contains-from_any {eq = same_arc} same_is a arcs there)
 
 with_one : (arcs : List Arc) (a : Arc) (fs : List Edge)
-    → SameEdges (map edge_of (with_arc arcs a) ++ fs) (map edge_of arcs ++ edge_of a ∷ fs)
+    → HaveSameArcs (map edge_of (with_arc arcs a) ++ fs) (map edge_of arcs ++ edge_of a ∷ fs)
 with_one arcs a fs = elim (cases_Bool (list_any (same_arc a) arcs)) [
   | inl there ↦ rw there (there_before (map edge_of arcs) fs (edge_of a) (stands arcs a there))
   | inr new ↦ let is : map edge_of (with_arc arcs a) ++ fs ≡ map edge_of arcs ++ edge_of a ∷ fs =
       rw new (ap (λ (es : List Edge). es ++ fs) (map_push edge_of arcs a)
       ∙ append_assoc (map edge_of arcs) (edge_of a ∷ []) fs) in
-      subst (SameEdges (map edge_of (with_arc arcs a) ++ fs)) is (λ e. (λ one. one, λ one. one))
+      subst (HaveSameArcs (map edge_of (with_arc arcs a) ++ fs)) is (λ e. (λ one. one, λ one. one))
 ]
 
 pub same_edges : (arcs more : List Arc)
-    → SameEdges (map edge_of arcs ++ map edge_of more) (map edge_of (fold with_arc arcs more))
-same_edges arcs [] = subst (λ (es : List Edge). SameEdges es (map edge_of arcs)) (sym (append-nil (map edge_of arcs)))
+    → HaveSameArcs (map edge_of arcs ++ map edge_of more) (map edge_of (fold with_arc arcs more))
+same_edges arcs [] =
+    subst (λ (es : List Edge). HaveSameArcs es (map edge_of arcs)) (sym (append-nil (map edge_of arcs)))
     (λ e. (λ one. one, λ one. one))
 same_edges arcs (a ∷ more) = λ e.
     let first = with_one arcs a (map edge_of more) e in
@@ -117,12 +101,12 @@ same_edges arcs (a ∷ more) = λ e.
 
 pub made : (none first edges : List Edge) (shown counted more listed all : List Arc) → none ≡ []
     → first ≡ none ++ map edge_of shown → shown ≡ counted → edges ≡ first ++ map edge_of more → more ≡ listed
-    → fold with_arc counted listed ≡ all → SameEdges edges (map edge_of all)
+    → fold with_arc counted listed ≡ all → HaveSameArcs edges (map edge_of all)
 made none first edges shown counted more listed all empty first_is shown_is edges_are more_is all_are =
     let both : first ≡ map edge_of counted = first_is
     ∙ ap₂ (λ (es : List Edge) (arcs : List Arc). es ++ map edge_of arcs) empty shown_is in
     let are : edges ≡ map edge_of counted ++ map edge_of listed = edges_are
     ∙ ap₂ (λ (es : List Edge) (arcs : List Arc). es ++ map edge_of arcs) both more_is in
-    subst (λ (es : List Edge). SameEdges es (map edge_of all)) (sym are)
-    (subst (λ (arcs : List Arc). SameEdges (map edge_of counted ++ map edge_of listed) (map edge_of arcs)) all_are
+    subst (λ (es : List Edge). HaveSameArcs es (map edge_of all)) (sym are)
+    (subst (λ (arcs : List Arc). HaveSameArcs (map edge_of counted ++ map edge_of listed) (map edge_of arcs)) all_are
     (same_edges counted listed))

@@ -1,16 +1,15 @@
 -- The states that a text gives have distinct names: each is added once, and the cut keeps each once.
 use Rattle.std.proofs.Common.{◌≡◌, ◌≢◌, ℕ, ◌<◌, false, List, [], ◌∷◌, ◌++◌, length, map, get_or, All, AllPairs}
 use Rattle.std.proofs.Common.{refl, sym, ◌∙◌, arith, inl, inr, bytes_eq, nat_cmp}
-use Rattle.std.proofs.lemmas.Bool.{cases_Bool, true≢false}
+use Rattle.std.proofs.lemmas.Bool.{cases_Bool, or_parts}
 use Rattle.std.proofs.lemmas.List.{get_or-map, length-map}
-use Rattle.std.proofs.lemmas.List.Elements.{All-nil, All-cons}
 use Rattle.std.proofs.lemmas.List.Folds.{list_any-append}
 use Rattle.std.proofs.lemmas.List.Kept.{AllPairs-cons}
-use Rattle.std.proofs.lemmas.Slice.Eq.{bytes_eq-Decides}
 use Rattle.si_base.specs.GivenGraph.{Sg as SgValue}
 use Rattle.si_base.specs.Lines.{Line, numbered}
 use Rattle.si_base.proofs.OrderAscending.{sorted_at, nat_less}
 use Rattle.si_words.specs.Names.{stands_in}
+use Rattle.si_words.proofs.NameWords.{bytes_swap, other_names}
 use Rattle.si_sg.specs.declared.heads.Head.{Head}
 use Rattle.si_sg.specs.declared.heads.Head.TheVariants.{Model, Inputs, Outputs, Internals, Dummy, State, Marking, End}
 use Rattle.si_sg.specs.declared.heads.Head.TheVariants.{Directive, Plain}
@@ -18,11 +17,10 @@ use Rattle.si_sg.specs.GivenGraph.{IsGivenBy}
 use Rattle.si_sg.specs.GraphText.{words, section_line_with, section_says, after_header, header_of, section_of}
 use Rattle.si_sg.specs.Header.{declared}
 use Rattle.si_sg.specs.Heads.{head_of}
-use Rattle.si_sg.specs.Reads.{Apart}
+use Rattle.si_sg.specs.Loops.Reads.{Apart}
 use Rattle.si_sg.specs.Section.{Section, no_section, with_name, with_state, with_step, chain_with, section_with}
 use Rattle.si_sg.specs.Section.{section_words_with, is_end}
 use Rattle.si_sg.proofs.GivenLemmas.{kept_within}
-use Rattle.si_sg.proofs.HeaderLemmas.{bytes_swap, or_parts}
 
 -- ---- one more name, where it doesn't stand there yet
 
@@ -79,13 +77,6 @@ lines_apart signals x (line ∷ lines) apart =
     ]
 
 -- ---- names that stand apart are distinct
-
-other_names : (n : List ℕ) (names : List (List ℕ)) → stands_in names n ≡ false → All (λ m. n ≢ m) names
-other_names n [] none = All-nil (λ (m : List ℕ). n ≢ m)
-other_names n (m ∷ names) none =
-    let parts = or_parts (bytes_eq n m) (stands_in names n) none in
-    All-cons (λ (k : List ℕ). n ≢ k) m names (λ same. true≢false (sym ((bytes_eq-Decides n m).1 same) ∙ parts.0))
-    (other_names n names parts.1)
 
 no_pairs : AllPairs (λ (a b : List ℕ). a ≢ b) []
 no_pairs i j d before within = absurd (omega arith)

@@ -16,13 +16,13 @@ use Rattle.si_sg.specs.Header.{Header, no_header, declared, is_state_graph}
 use Rattle.si_sg.specs.Section.{Section, no_section}
 use Rattle.si_sg.specs.GivenGraph.{IsGivenBy, IsSpelled, edge_of, model_in, signals_in, start_in}
 use Rattle.si_words.specs.Ends.{after_last}
+use Rattle.si_words.proofs.FaultLemmas.{line_none}
 use Rattle.si_sg.specs.GraphText.{words, graph_fault, header_of, section_of, header_line_fault}
 use Rattle.si_sg.specs.GraphText.{header_line_with, header_lines_fault, section_lines_fault, header_says}
 use Rattle.si_sg.specs.GraphText.{after_header}
-use Rattle.si_sg.specs.Reads.{AreSignals, IsWholeSection}
+use Rattle.si_sg.specs.Loops.Reads.{AreSignals, IsWholeSection}
 use Rattle.si_sg.proofs.GivenApart.{apart_pairs}
 use Rattle.si_sg.proofs.HeaderLemmas.{signals_kept}
-use Rattle.si_sg.proofs.SectionLemmas.{line_none}
 use Rattle.si_sg.proofs.BuildLemmas.{edges_within, section_read}
 use Rattle.si_sg.proofs.SignalLemmas.{as_many, kinds_in_order, names_apart}
 

@@ -5,6 +5,7 @@ use Rattle.std.proofs.Common.{IsTrue}
 use Rattle.std.proofs.Common.{if◌then◌else◌}
 use Rattle.std.specs.List.{AllByRecursion, list_all, list_any}
 use Rattle.std.proofs.lemmas.Bool.{and_parts, and_from, cases_Bool, cases_lt, lt-ltb, le-leb, or_cases, true≢false}
+use Rattle.std.proofs.lemmas.Bool.{or_parts}
 use Rattle.std.proofs.lemmas.List.Elements.{All-from_recursion}
 use Rattle.std.proofs.lemmas.List.Sums.{take_while-cons}
 use Rattle.si_base.specs.declared.graph.Signal.{Signal}
@@ -26,13 +27,13 @@ use Rattle.si_sg.specs.GivenGraph.{IsGivenBy, model_in, signals_in}
 use Rattle.si_sg.specs.GraphText.{words, header_line_fault, header_line_with, header_lines_fault, header_says}
 use Rattle.si_sg.specs.GraphText.{header_of}
 use Rattle.si_words.specs.Ends.{after_last}
+use Rattle.si_words.proofs.FaultLemmas.{line_none, both}
 use Rattle.si_sg.specs.Header.{Header, no_header, declared, header_fault, header_with, header_words_fault}
 use Rattle.si_sg.specs.Header.{header_words_with}
 use Rattle.si_sg.specs.Header.{is_state_graph}
 use Rattle.si_sg.specs.Heads.{head_of}
 use Rattle.si_sg.specs.StateWords.{is_brace_word, is_one_name}
-use Rattle.si_sg.proofs.HeaderLemmas.{or_parts, both_none, some_none}
-use Rattle.si_sg.proofs.SectionLemmas.{line_none}
+use Rattle.si_sg.proofs.HeaderLemmas.{some_none}
 
 -- ---- the words of a line
 
@@ -44,12 +45,6 @@ chosen P false x y first second = second refl
 -- a byte of a line without bad bytes, before its comment
 abbrev IsFair : ℕ → Type 0
 IsFair b = (is_bad b ≡ false) × ((b == 35) ≡ false)
-
-no_less : (b low : ℕ) → nat_lt b low ≡ false → low ≤ b
-no_less b low none = elim (cases_lt b low) [
-  | inl less ↦ absurd (true≢false (sym (lt-ltb b low less) ∙ none))
-  | inr most ↦ most
-]
 
 -- it is no control byte, where it is no blank
 no_control : (b : ℕ) (blank tab return : Bool) → tab ≡ false → return ≡ false
@@ -215,7 +210,7 @@ names_form : (names ws : List (List ℕ)) → first_after (name_fault max_signal
     → AllByRecursion IsSignalName ws
 names_form names [] none = tt
 names_form names (w ∷ ws) none =
-    let parts = both_none (name_fault max_signals names w)
+    let parts = both (name_fault max_signals names w)
     (first_after (name_fault max_signals) (names ++ w ∷ []) ws) none in
     (name_form names w parts.0, names_form (names ++ w ∷ []) ws parts.1)
 
@@ -283,7 +278,7 @@ of_words h (w ∷ ws) all none is = with_words_named h (head_of w) ws all.1 none
 with_line_named : (h : Header) (line : Line) → header_line_fault h line.1 ≡ None → IsNamed h
     → IsNamed (header_line_with h line)
 with_line_named h line none is =
-    let parts = both_none (when (has_bad_byte line.1) kind.BadByte) (header_words_fault h (words line.1)) none in
+    let parts = both (when (has_bad_byte line.1) kind.BadByte) (header_words_fault h (words line.1)) none in
     of_words h (words line.1) (line_words_named line.1 (fair parts.0)) parts.1 is
   where
     fair : when (has_bad_byte line.1) kind.BadByte ≡ None → has_bad_byte line.1 ≡ false

@@ -19,18 +19,18 @@ use Rattle.si_sg.specs.declared.heads.Head.TheVariants.{Directive, Plain}
 use Rattle.si_sg.specs.GivenGraph.{IsGivenBy}
 use Rattle.si_sg.specs.GraphText.{words, section_line_fault, section_line_with, section_lines_fault, section_says}
 use Rattle.si_words.specs.Ends.{after_last}
+use Rattle.si_words.proofs.FaultLemmas.{line_none, both}
 use Rattle.si_sg.specs.GraphText.{after_header, header_of, section_of}
 use Rattle.si_sg.specs.Header.{no_header, declared}
 use Rattle.si_sg.specs.Heads.{begins_with_dot, head_of}
-use Rattle.si_sg.specs.Reads.{AreSignals}
+use Rattle.si_sg.specs.Loops.Reads.{AreSignals}
 use Rattle.si_sg.specs.Section.{Section, no_section, with_name, with_state, with_step, state_fault, count_fault}
 use Rattle.si_sg.specs.Section.{chain_fault, chain_with, is_even, section_fault, section_with}
 use Rattle.si_sg.specs.Section.{section_words_fault, section_words_with, is_end}
 use Rattle.si_sg.specs.StateWords.{is_state_byte, is_no_word, is_state_word}
 use Rattle.si_sg.proofs.GivenExists.{header_good}
 use Rattle.si_sg.proofs.GivenLemmas.{kept_within}
-use Rattle.si_sg.proofs.HeaderLemmas.{both_none}
-use Rattle.si_sg.proofs.SectionLemmas.{all_push, line_none, not_when}
+use Rattle.si_sg.proofs.SectionLemmas.{all_push, not_when}
 
 -- ---- a word that passes the test of state words
 
@@ -61,7 +61,7 @@ state_name w is =
 state_named : (states : List (List ℕ)) (w : List ℕ) → state_fault states w ≡ None → IsStateName w
 state_named states w none =
     state_name w (not_when (is_state_word w) kind.BadArcLine
-    (both_none (when (not (is_state_word w)) kind.BadArcLine) _ none).0)
+    (both (when (not (is_state_word w)) kind.BadArcLine) _ none).0)
 
 -- ---- the arc section
 
@@ -78,17 +78,17 @@ chain_named : (signals : List (List ℕ)) (x : Section) (s : List ℕ) (ws : Lis
 chain_named signals x s [] all none = all
 chain_named signals x s (e ∷ []) all none = all
 chain_named signals x s (e ∷ t ∷ ws) all none =
-    let first = both_none (event_fault signals e) _ none in
-    let second = both_none (state_fault x.states t) _ first.1 in
-    let third = both_none (count_fault (with_step signals x s e t)) _ second.1 in
+    let first = both (event_fault signals e) _ none in
+    let second = both (state_fault x.states t) _ first.1 in
+    let third = both (count_fault (with_step signals x s e t)) _ second.1 in
     chain_named signals (with_step signals x s e t) t ws
     (name_added x.states t all (state_named x.states t second.0)) third.1
 
 line_named : (signals : List (List ℕ)) (x : Section) (n : ℕ) (head : Head) (w : List ℕ) (ws : List (List ℕ))
     → AreNamed x → section_fault signals x head w ws ≡ None → AreNamed (section_with signals x n head w ws)
 line_named signals x n Plain w ws all none =
-    let first = both_none (when (not (is_even ws)) kind.BadArcLine) _ none in
-    let second = both_none (state_fault x.states w) _ first.1 in
+    let first = both (when (not (is_even ws)) kind.BadArcLine) _ none in
+    let second = both (state_fault x.states w) _ first.1 in
     chain_named signals (with_state x w) w ws (name_added x.states w all (state_named x.states w second.0)) second.1
 line_named signals x n Marking w ws all none = all
 line_named signals x n End w ws all none = all
@@ -110,7 +110,7 @@ lines_named : (last : ℕ) (signals : List (List ℕ)) (x : Section) (lines : Li
 lines_named last signals x [] all none = all
 lines_named last signals x (line ∷ lines) all none =
     let parts = line_none line.0 (section_line_fault signals x line.1) _ none in
-    let good = both_none (when (has_bad_byte line.1) kind.BadByte)
+    let good = both (when (has_bad_byte line.1) kind.BadByte)
     (section_words_fault signals x (words line.1)) parts.0 in
     let next : AreNamed (section_line_with signals x line) = words_named signals x line.0 (words line.1) all good.1 in
     elim (cases_Bool (is_end (words line.1))) [

@@ -1,7 +1,9 @@
 -- What is written for a graph passes the audit for that graph: its lineage certifies it.
 use Rattle.std.proofs.Common.{◌≡◌, ℕ, List, None, Ok, refl, sym, ap, subst, ◌∙◌}
 use Rattle.si_audit.specs.Audit.{Certifies, TakesAll}
+use Rattle.si_audit.specs.Laws.{CanBeAudited}
 use Rattle.si_audit.proofs.AuditBuiltLineages.{built_are_certified}
+use Rattle.si_audit.proofs.OneCertificate.{one_certificate}
 use Rattle.si_base.specs.Behaviour.{Implements}
 use Rattle.si_base.specs.Codes.{CodedGraph}
 use Rattle.si_base.specs.GivenGraph.{Sg}
@@ -25,14 +27,14 @@ use Rattle.si_sg.specs.CanonicalText.{sg_text}
 use Rattle.si_sg.specs.GivenGraph.{IsGivenBy}
 use Rattle.si_stages.specs.Inserted.{insert}
 use Rattle.si_stages.specs.InsertedLaws.{MappedAreInserted, SynthesisedAreInserted}
-use Rattle.si_stages.specs.AuditLaws.{MappedPass, PassesAudit, SynthesisedPass}
+use Rattle.si_stages.specs.AuditLaws.{IsCertifiedBy, MappedPass, SynthesisedPass}
 use Rattle.si_stages.specs.Audited.{IsCertified, audit_text}
 use Rattle.si_readings.specs.Checks.{IsSound}
 use Rattle.si_stages.specs.Mapping.{IsMapping}
 use Rattle.si_stages.specs.Resolving.{resolution}
 use Rattle.si_stages.specs.Synthesis.{IsSynthesis}
 use Rattle.si_stages.specs.Written.{IsWritten}
-use Rattle.si_stages.proofs.AuditLemmas.{certified_output}
+use Rattle.si_stages.proofs.AuditLemmas.{can_be_audited, certified_output}
 use Rattle.si_stages.proofs.GivenLineages.{given_lineage}
 use Rattle.si_stages.proofs.MappingLemmas.{mapped_lineage}
 use Rattle.si_readings.proofs.ReadingLemmas.{mapping_readings_are}
@@ -64,7 +66,7 @@ module _ (text output : List ℕ) (sg : Sg) (l : History) (over : IsWrittenOver 
   certifies : Certifies sg.states l.given w.netlist l
   certifies = built_are_certified sg.states l w.netlist over.line w.circuit.built over.inserts
 
-  is_certified : IsCertified text output (audit_text l w.netlist)
+  is_certified : IsCertified text output (audit_text l (netlist_of output))
   is_certified =
       let back : w.netlist ≡ netlist_of output = sym read in
       record {
@@ -77,7 +79,7 @@ module _ (text output : List ℕ) (sg : Sg) (l : History) (over : IsWrittenOver 
         lineage = l;
         certifies = subst (λ (n : Netlist). Certifies sg.states l.given n l) back certifies;
         implements = subst (λ (n : Netlist). Implements n sg.graph) back w.implements;
-        output_is = ap (λ (n : Netlist). audit_text l n) back;
+        output_is = refl;
       }
 
   -- its insertions make the text of the lineage's current graph
@@ -91,9 +93,19 @@ module _ (text output : List ℕ) (sg : Sg) (l : History) (over : IsWrittenOver 
       let reads = Passes sg over.is_given (Passes circuit (is_certified.no_fault, refl) refl) in
       Passes readings reads (Passes l.given over.sound (Passes tt fits (Passes l all refl)))
 
-  written_passes : PassesAudit text output
-  written_passes =
-      (audit_text l w.netlist, λ g n. certified_output g text n output (audit_text l w.netlist) is_certified)
+  -- and no other does
+  can : CanBeAudited sg.states l.given (netlist_of output)
+  unfolding is_certified
+  can = can_be_audited text output sg l.given over.is_given is_certified.no_fault over.sound is_certified.is_for
+
+  certified_by : IsCertifiedBy text output sg l
+  unfolding is_certified
+  certified_by = record {
+    is_given = over.is_given;
+    certifies = is_certified.certifies;
+    alone = λ m other. one_certificate sg.states l.given (netlist_of output) m l can other is_certified.certifies;
+    passes = λ g n. certified_output g text n output (audit_text l (netlist_of output)) is_certified;
+  }
 
 -- ---- what is synthesised, and what a graph is mapped to
 
@@ -131,16 +143,29 @@ pub synthesised_pass : SynthesisedPass
 synthesised_pass style file text output made =
     let given = passed _ _ output made in
     let resolved = passed _ _ output given.2 in
-    written_passes text output given.0 resolved.0
-    (over_synthesis style text output given.0 resolved.0 given.1 resolved.1 resolved.2)
+    let over = over_synthesis style text output given.0 resolved.0 given.1 resolved.1 resolved.2 in
+    record {
+      given = given.0;
+      lineage = resolved.0;
+      resolves = resolved.1;
+      made = resolved.2;
+      certified = certified_by text output given.0 resolved.0 over;
+    }
 
 pub mapped_pass : MappedPass
 mapped_pass format file text library cells output made =
     let read = passed _ _ output made in
     let given = (mapping_readings_are format file text library cells read.0 read.1).given in
     let resolved = passed _ _ output read.2 in
-    written_passes text output read.0.given resolved.2.lineage
-    (over_mapping read.0.library text output read.0.given resolved.0 given resolved.1 resolved.2)
+    let over = over_mapping read.0.library text output read.0.given resolved.0 given resolved.1 resolved.2 in
+    record {
+      given = read.0.given;
+      library = read.0.library;
+      resolved = resolved.0;
+      resolves = resolved.1;
+      made = resolved.2;
+      certified = certified_by text output read.0.given resolved.2.lineage over;
+    }
 
 -- ---- and their insertions can be taken
 pub synthesised_inserted : SynthesisedAreInserted

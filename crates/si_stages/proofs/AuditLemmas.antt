@@ -3,9 +3,8 @@ use Rattle.std.proofs.Common.{◌≡◌, ◌≢◌, ℕ, List, None, Ok, Err, re
 use Rattle.si_audit.specs.declared.fault.AuditFault.{AuditFault}
 use Rattle.si_audit.specs.declared.fault.AuditFault.TheVariants as fault
 use Rattle.si_audit.specs.Audit.{Certifies}
-use Rattle.si_audit.specs.Faults.{ShowsFault}
 use Rattle.si_audit.specs.Laws.{CanBeAudited}
-use Rattle.si_audit.specs.FaultSignals.{TellsOf}
+use Rattle.si_audit.specs.Loops.FaultSignals.{TellsOf}
 use Rattle.si_audit.proofs.AuditExists.{certified_or_faulty}
 use Rattle.si_audit.proofs.OneCertificate.{certified_have_none, certified_implement, one_certificate, one_fault}
 use Rattle.si_audit.proofs.FaultSignalLemmas.{tells}
@@ -23,15 +22,15 @@ use Rattle.si_insert.specs.Lineage.{History}
 use Rattle.si_netlist_reader.specs.NetlistFault.{netlist_fault}
 use Rattle.si_netlist_reader.specs.NetlistValue.{netlist_of}
 use Rattle.si_netlist_reader.proofs.ReadLaw.{read_is_netlist}
-use Rattle.si_refusals.specs.Ending.{Ending, NoMemory, Answered, MayStop}
-use Rattle.si_refusals.specs.Refusal.{TextRefusal, TextRefused, Rejected}
+use Rattle.si_refusals.specs.Ending.{NoMemory}
+use Rattle.si_refusals.specs.Refusal.{TextRefusal, Rejected}
 use Rattle.si_refusals.specs.Stages.{Stage, Then, Passes}
 use Rattle.si_refusals.specs.declared.rejection.NamedRejection.{NamedRejection}
 use Rattle.si_refusals.specs.declared.rejection.NamedRejection.TheVariants as named
 use Rattle.si_sg.proofs.GivenApart.{given_apart}
 use Rattle.si_sg.specs.CanonicalText.{event_word}
 use Rattle.si_sg.specs.GivenGraph.{IsGivenBy}
-use Rattle.si_stages.specs.Audited.{EndsOrRejects, IsAudit, IsCertified, IsNamedSo, IsRejection, TellsRejection}
+use Rattle.si_stages.specs.Audited.{EndsOrRejects, IsAudit, IsCertified, IsNamedSo, IsRejection}
 use Rattle.si_stages.specs.Audited.{audit_text, certification}
 use Rattle.si_readings.specs.Checks.{IsSound}
 use Rattle.si_readings.specs.Laws.{AtMostOne, HasResult}
@@ -129,14 +128,6 @@ module _ (states : List (List ℕ)) (coded : CodedGraph) (n : Netlist) (can : Ca
     | inl ends ↦ (Ok ends.0, ends.1)
     | inr rejects ↦ (Err (Rejected rejects.0), rejects.1)
   ]
-
--- ---- where a call may stop
-pub rejection_told : (states : List (List ℕ)) (coded : CodedGraph) (n : Netlist) (f : AuditFault) (e : Ending)
-    → ShowsFault states coded n f → TellsRejection n.signals f e → MayStop (certification states coded n) e
-rejection_told states coded n f NoMemory shows told = tt
-rejection_told states coded n f (Answered (TextRefused refusal)) shows (reason, so, is) =
-    record { fault = f; shows = shows; reason = reason; named = so; refusal_is = is }
-rejection_told states coded n f e shows told = absurd told
 
 -- ---- what the texts of an audit give can be audited
 pub can_be_audited : (a b : List ℕ) (given : Sg) (coded : CodedGraph) → IsGivenBy a given → netlist_fault b ≡ None

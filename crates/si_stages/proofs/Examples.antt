@@ -1,4 +1,4 @@
--- The summary of a graph, the end of a replay, literals, an audit: the definitions at work.
+-- The summary of a graph, the end of a replay, an audit: the definitions at work.
 use Rattle.std.proofs.Common.{◌≡◌, ℕ, Bool, List, [], ◌∷◌, ◌++◌, refl, ap, true, false, codes, append_assoc}
 use Rattle.std.specs.Prelude.{decimal}
 use Rattle.si_audit.specs.declared.fault.AuditFault.TheVariants as fault
@@ -11,7 +11,6 @@ use Rattle.si_insert.specs.declared.accept.Rejected.TheVariants as why
 use Rattle.si_insert.specs.Lineage.{History, given_current}
 use Rattle.si_refusals.specs.declared.rejection.NamedRejection.TheVariants.{Delays, Gate}
 use Rattle.si_stages.specs.Audited.{IsNamedSo, audit_text}
-use Rattle.si_stages.specs.Exercise.{literals_of}
 use Rattle.si_stages.specs.Replayed.{replay_text, shown_signal}
 use Rattle.si_stages.specs.Reports.{summary}
 use Rattle.si_system.specs.declared.verdict.Verdict.TheVariants.{Lost, Blocked}
@@ -61,8 +60,8 @@ no_signal_text : replay_text 0 [] 0 (codes "s0") ≡ codes "done " ++ decimal 0 
 no_signal_text =
     ap (λ (t : List ℕ). codes "done " ++ t) (append_assoc (decimal 0) (10 ∷ []) (codes "values\nstate s0\n"))
 
--- ---- the literals of a netlist
--- `z = a b + c'` has three literals, and the generalised C-element with set `a b` and reset `a' b'` four
+-- ---- a netlist
+-- `z = a b + c'`, and the generalised C-element with set `a b` and reset `a' b'`
 abbrev literal : ℕ → Bool → Literal
 literal sig plain = record { sig = sig; plain = plain }
 
@@ -76,9 +75,6 @@ two_gates = record {
       ∷ Gc ((literal 0 true ∷ literal 1 true ∷ []) ∷ []) ((literal 0 false ∷ literal 1 false ∷ []) ∷ [])
       ∷ [];
 }
-
-seven_literals : literals_of two_gates ≡ 7
-seven_literals = refl
 
 -- ---- an audit
 -- a lineage of two states without insertions, and a netlist of two gates

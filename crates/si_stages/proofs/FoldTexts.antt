@@ -25,7 +25,7 @@ use Rattle.si_sg.specs.CanonicalText.{IsWritable, sg_text, state_at}
 use Rattle.si_sg.specs.GivenGraph.{IsGivenBy, edge_of, signals_in}
 use Rattle.si_sg.specs.GraphText.{after_header, header_of, section_of}
 use Rattle.si_sg.specs.Header.{no_header, declared}
-use Rattle.si_sg.specs.Reads.{AreSignals, IsWholeSection}
+use Rattle.si_sg.specs.Loops.Reads.{AreSignals, IsWholeSection}
 use Rattle.si_sg.proofs.BuildLemmas.{section_read}
 use Rattle.si_sg.proofs.GivenApart.{given_apart}
 use Rattle.si_sg.proofs.GivenExists.{header_good}

@@ -25,7 +25,7 @@ given_signals text sg is z x here =
     subst (λ (y : Signal). is_inserted y.kind ≡ false) (get_or_from_slice_get sg.graph.signals z x x here) given
 
 -- what a text gives is spelled so
-given_spelled : (text : List ℕ) (sg : Sg) → IsGivenBy text sg → AreSpelled sg.model sg.graph.signals
+pub given_spelled : (text : List ℕ) (sg : Sg) → IsGivenBy text sg → AreSpelled sg.model sg.graph.signals
 given_spelled text sg is = let forms = given_named text sg is in
     record { model_name = forms.model; names = forms.names }
 

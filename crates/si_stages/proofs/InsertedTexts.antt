@@ -1,6 +1,10 @@
 -- The text of a graph after insertions: it comes to one answer, is read back, and gives the same gates.
-use Rattle.std.proofs.Common.{◌≡◌, ◌≢◌, ℕ, List, Ok, Err, refl, sym, ap, subst, ◌∙◌, inl, inr}
+use Rattle.std.proofs.Common.{◌≡◌, ◌≢◌, ℕ, suc, List, [], ◌∷◌, Ok, Err, All, IsTrue, refl, sym, ap, subst, ◌∙◌, inl}
+use Rattle.std.proofs.Common.{inr, arith, map, filter, length, Bool}
+use Rattle.std.proofs.lemmas.List.{get_or-map, length-map}
+use Rattle.std.proofs.lemmas.List.Elements.{All-filter, All-map}
 use Rattle.si_audit.proofs.AuditExists.{certified_or_faulty}
+use Rattle.si_audit.proofs.OneAudit.{goes_on, spelled_first}
 use Rattle.si_audit.proofs.OneCertificate.{one_lineage, rejected_not_taken, two_rejected}
 use Rattle.si_audit.proofs.InsertionFaults.{is_rejected, rejected_or_taken, rejection_shows}
 use Rattle.si_audit.proofs.FaultSignalLemmas.{tells}
@@ -13,11 +17,15 @@ use Rattle.si_audit.specs.declared.fault.AuditFault.TheVariants.{NoMemory}
 use Rattle.si_base.specs.Codes.{CodedGraph}
 use Rattle.si_base.specs.GivenGraph.{Sg}
 use Rattle.si_base.specs.Graph.{StateGraph}
-use Rattle.si_base.specs.Netlist.{Netlist}
-use Rattle.si_base.specs.NetlistText.{netlist_text}
+use Rattle.si_base.specs.Netlist.{Insertion, Netlist}
+use Rattle.si_base.specs.declared.graph.Signal.{Signal}
+use Rattle.si_base.specs.declared.graph.SigKind.TheVariants.{Inserted}
+use Rattle.si_base.specs.NetlistText.{netlist_text, same_kind}
 use Rattle.si_base.specs.WellFormed.{IsNetlist}
+use Rattle.si_base.specs.Words.{is_signal_name}
 use Rattle.si_circuit.specs.Circuits.{AreStateNames, circuit_of}
 use Rattle.si_circuit.specs.Gates.{chosen_netlist}
+use Rattle.si_circuit.specs.Spelled.{AreSpelled}
 use Rattle.si_circuit.specs.Spelling.{insertions_of}
 use Rattle.si_circuit.specs.declared.style.Style.{Style}
 use Rattle.si_insert.proofs.InsertionKeeps.{keeps}
@@ -43,14 +51,16 @@ use Rattle.si_sg.specs.CanonicalText.{sg_text}
 use Rattle.si_sg.specs.GivenGraph.{IsGivenBy}
 use Rattle.si_stages.proofs.AuditLaws.{reads_back}
 use Rattle.si_stages.proofs.AuditLemmas.{not_memory, one_name, readings_can, some_name}
-use Rattle.si_stages.proofs.GivenLineages.{IsGivenLineage, given_lineage}
+use Rattle.si_stages.proofs.GivenLineages.{IsGivenLineage, given_lineage, given_spelled, given_state_names}
 use Rattle.si_stages.proofs.MeaningLemmas.{own_resolution, synth_one}
 use Rattle.si_stages.proofs.ResolutionLemmas.{IsResolution, resolution_is, resolution_of}
 use Rattle.si_stages.proofs.ResolutionLemmas.{resolution_one, resolution_some}
 use Rattle.si_stages.proofs.SynthesisLemmas.{is_synthesis}
 use Rattle.si_stages.specs.Audited.{IsNamedSo, TellsRejection}
 use Rattle.si_stages.specs.Inserted.{IsInsertRejection, insert, resolve, lineage_with_insertions}
-use Rattle.si_stages.specs.InsertedLaws.{HasFewArcs, ResolvedAreSynthesised, ResolvedTextsServe}
+use Rattle.si_insert.proofs.LineageTraceLength.{named_after}
+use Rattle.si_stages.specs.InsertedLaws.{HasFewArcs, InsertedTextsReadBack, ResolvedAreSynthesised}
+use Rattle.si_stages.specs.InsertedLaws.{ResolvedTextsServe}
 use Rattle.si_stages.specs.Meaning.{synth}
 
 -- ---- one answer
@@ -139,6 +149,52 @@ pub names_taken : (states : List (List ℕ)) (coded : CodedGraph) (n : Netlist) 
 names_taken states coded n l are takes =
     let stays = ap (λ (c : CodedGraph). c.graph) (given_stays states (given_history coded) n.inserts l takes) in
     subst (λ (g : StateGraph). AreStateNames g states) (sym stays) are
+
+-- a lineage of a given graph that takes insertions with signal names is one
+taken_lineage : (sg : Sg) (l : History) (inserts : List Insertion) (m : History) → IsGivenLineage sg l
+    → All (λ i. IsTrue (is_signal_name i.name)) inserts → TakesAll sg.states l inserts m → IsGivenLineage sg m
+taken_lineage sg l [] m is named same = subst (IsGivenLineage sg) same is
+taken_lineage sg l (i ∷ rest) m is named (w, takes, more) = taken_lineage sg w rest m (record {
+  line = goes_on sg.states l i w is.line takes;
+  graph_is = ap (λ (c : CodedGraph). c.graph) takes.extends.given_stays ∙ is.graph_is;
+  spelled = record {
+    model_name = is.spelled.model_name;
+    names = named_after l.current takes.step w.current takes.extends.inserts
+        (subst (λ (n : List ℕ). IsTrue (is_signal_name n)) (sym takes.name_is) (named 0 i (omega arith)))
+        is.spelled.names;
+  };
+  names = subst (λ (c : CodedGraph). AreStateNames c.graph sg.states) (sym takes.extends.given_stays) is.names;
+}) (λ k d below. named (suc k) d (omega (arith, below))) more
+
+-- a netlist inserts signals with signal names
+inserts_named : (n : Netlist) → IsNetlist n → All (λ i. IsTrue (is_signal_name i.name)) n.inserts
+inserts_named n is = λ k i below. subst IsName (get_or-map name_of n.inserts k i i.name below)
+    (all k i.name (omega (arith, below, length-map n.inserts name_of)))
+  where
+    IsName : List ℕ → Type 0
+    IsName name = IsTrue (is_signal_name name)
+
+    name_of : Insertion → List ℕ
+    name_of i = i.name
+
+    is_one : Signal → Bool
+    is_one x = same_kind Inserted x.kind
+
+    all : All IsName (map name_of n.inserts)
+    all = subst (All IsName) (sym is.insert_names) (All-map IsName (λ (x : Signal). x.name) (filter is_one n.signals)
+        (All-filter is_one (λ x. IsName x.name) n.signals is.names))
+
+-- the given graph, into which nothing is inserted
+first_lineage : (text : List ℕ) (sg : Sg) (coded : CodedGraph) (n : Netlist) → IsGivenBy text sg
+    → IsSound sg.graph coded → CanBeAudited sg.states coded n → IsGivenLineage sg (given_history coded)
+first_lineage text sg coded n given sound can =
+    let back : sg.graph ≡ coded.graph = sym sound.same_graph in
+    record {
+      line = (spelled_first sg.states coded n can).lineage;
+      graph_is = sound.same_graph;
+      spelled = subst (λ (g : StateGraph). AreSpelled sg.model g.signals) back (given_spelled text sg given);
+      names = subst (λ (g : StateGraph). AreStateNames g sg.states) back (given_state_names text sg given);
+    }
 
 -- ---- the refusals of `synth`
 refused_alike : (style : Style) (file text : List ℕ) (refusal : TextRefusal) → resolve file text (Err refusal)
@@ -251,4 +307,39 @@ resolved_texts_serve file text resolved comes =
           → synth style again_file t (Ok (netlist_text (internal_netlist (netlist_of output))))) (sym same)
           (λ few style file again_file output made.
           made_again text sg l given.1 is style few file output again_file made);
+    }
+
+-- ---- the text after the insertions of a netlist
+pub inserted_texts_read_back : InsertedTextsReadBack
+inserted_texts_read_back g a n b inserted comes =
+    let read = passed _ _ inserted comes in
+    let are = audit_readings_are g a n b read.0 read.1 in
+    let sg = read.0.given in
+    let proper = passed _ _ inserted read.2 in
+    let fits = passed _ _ inserted proper.2 in
+    let takes = passed _ _ inserted fits.2 in
+    let coded = proper.0 in
+    let l = takes.0 in
+    let can = readings_can a b read.0 coded are proper.1 fits.1 in
+    let output = takes.2 in
+    let same : inserted ≡ sg_text (current_sg sg.model sg.states l) = cc in
+    let first = first_lineage a sg coded read.0.netlist are.given proper.1 can in
+    let own = taken_lineage sg (given_history coded) read.0.netlist.inserts l first
+    (inserts_named read.0.netlist can.netlist) takes.1 in
+    record {
+      given = sg;
+      is_given = are.given;
+      coded = coded;
+      sound = proper.1;
+      lineage = l;
+      takes = subst (λ (m : Netlist). TakesAll sg.states (given_history coded) m.inserts l) are.netlist takes.1;
+      text_is = same;
+      back = λ few. subst (λ (t : List ℕ). IsGivenBy t (current_sg sg.model sg.states l)) (sym same)
+          (texts_read_back sg.model sg.states l (record {
+            line = own.line;
+            spelled = own.spelled;
+            names = own.names;
+            apart = given_apart a sg are.given;
+            few_arcs = few;
+          }));
     }

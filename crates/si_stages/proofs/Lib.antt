@@ -1,7 +1,6 @@
 pub mod FoldLemmas
 pub mod FoldTexts
 pub mod ReportLemmas
-pub mod LiteralCounts
 pub mod ReplayLemmas
 pub mod ReplayEnds
 pub mod ResolvingLemmas
@@ -15,9 +14,9 @@ pub mod MeaningLemmas
 pub mod FoldLaws
 pub mod AuditLaws
 pub mod WaveLaws
-pub mod ExerciseLemmas
 pub mod SpelledOutputs
 pub mod VerilogLemmas
+pub mod NetlistReportLemmas
 pub mod GenlibLemmas
 pub mod VerilogExamples
 pub mod Examples

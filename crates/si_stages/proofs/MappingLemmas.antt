@@ -17,6 +17,7 @@ use Rattle.si_circuit.specs.Spelling.{insertions_of}
 use Rattle.si_insert.proofs.InsertionKeeps.{keeps}
 use Rattle.si_insert.specs.declared.lineage.TraceStep.{TraceStep}
 use Rattle.si_insert.specs.Lineage.{Current, ExtendsBy, History, IsLineage, Keeps, given_current}
+use Rattle.si_insert.proofs.LineageTraceLength.{AreNamed, named_after}
 use Rattle.si_map.specs.Trace.{IsMappingTrace, EndsMapped, EndsUnmapped}
 use Rattle.si_map.proofs.TraceLemmas.{fitted_is_mapped, mapped_is_unique, unmapped_is_unique}
 use Rattle.si_map.proofs.TraceLemmas.{ends_exclude, traces_are_lineages}
@@ -32,6 +33,7 @@ use Rattle.si_refusals.specs.Ending.{Ending, Answered, MayStop}
 use Rattle.si_refusals.specs.Ending as ending
 use Rattle.si_refusals.specs.Refusal.{TextRefused}
 use Rattle.si_sg.specs.GivenGraph.{IsGivenBy}
+use Rattle.si_audit.proofs.OneAudit.{same_history}
 use Rattle.si_readings.specs.Laws.{AtMostOne, HasResult}
 use Rattle.si_stages.specs.Mapping.{EndsInCells, EndsUnfit, IsMapping, TellsStuck}
 use Rattle.si_stages.specs.Mapping.{cells_text, shows_unfit, unfit_refusal}
@@ -40,7 +42,7 @@ use Rattle.si_readings.specs.declared.library_format.LibraryFormat.{LibraryForma
 use Rattle.si_readings.specs.declared.library_format.LibraryFormat.TheVariants.{Own, Genlib}
 use Rattle.si_stages.proofs.GivenLineages.{IsGivenLineage, given_lineage}
 use Rattle.si_stages.proofs.ResolutionLemmas.{IsResolution}
-use Rattle.si_stages.proofs.ResolvingLemmas.{AreNamed, fresh_named, named_after, none_needed, same_history}
+use Rattle.si_stages.proofs.ResolvingLemmas.{fresh_named, none_needed}
 use Rattle.si_stages.proofs.WrittenLemmas.{is_written, no_insertion}
 
 -- ---- what insertions of mapping keep

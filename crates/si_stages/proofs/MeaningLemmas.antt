@@ -6,6 +6,7 @@ use Rattle.si_base.specs.GivenGraph.{Sg}
 use Rattle.si_base.specs.NetlistText.{netlist_text}
 use Rattle.si_base.specs.Proper.{HasNoConflict}
 use Rattle.si_base.specs.System.{IsFor}
+use Rattle.si_base.specs.Graph.{names_in}
 use Rattle.si_circuit.specs.Cells.{mapped_netlist}
 use Rattle.si_circuit.specs.Circuits.{circuit_of}
 use Rattle.si_circuit.specs.declared.style.Style.{Style}
@@ -16,7 +17,7 @@ use Rattle.si_netlist_reader.specs.NetlistValue.{netlist_of}
 use Rattle.si_refusals.specs.Refusal.{TextRefusal}
 use Rattle.si_refusals.specs.Stages.{Stage, Then, Passes}
 use Rattle.si_sg.specs.GivenGraph.{IsGivenBy}
-use Rattle.si_system.specs.ScheduleText.{signal_names, schedule_fault, schedule_of}
+use Rattle.si_system.specs.ScheduleText.{schedule_fault, schedule_of}
 use Rattle.si_readings.specs.Checks.{IsSound}
 use Rattle.si_readings.specs.Laws.{AtMostOne, HasResult}
 use Rattle.si_stages.specs.Laws.{EndsOrDiffers}
@@ -132,11 +133,11 @@ then_ends first next x is (inl ends) = inl (ends.0, Passes x is ends.1)
 then_ends first next x is (inr departs) = inr (departs.0, departs.1, departs.2, Passes x is departs.3)
 
 pub replay_ends : (what : ReplayReport) (g n s a b c : List ℕ) (given : Sg) (coded : CodedGraph)
-    → IsGivenBy a given → netlist_fault b ≡ None → schedule_fault (signal_names (netlist_of b).signals) c ≡ None
+    → IsGivenBy a given → netlist_fault b ≡ None → schedule_fault (names_in (netlist_of b).signals) c ≡ None
     → IsSound given.graph coded → IsFor coded (netlist_of b) → EndsOrDiffers (replay what g a n b s c)
 replay_ends what g n s a b c given coded is netlist schedule sound fits =
     let net = netlist_of b in
-    let events = schedule_of (signal_names net.signals) c in
+    let events = schedule_of (names_in net.signals) c in
     let readings : ReplayReadings = record { given = given; netlist = net; events = events } in
     let read = Passes given is (Passes net (netlist, refl) (Passes events (schedule, refl) refl)) in
     then_ends _ _ readings read (then_ends _ _ coded sound (then_ends _ _ tt fits

@@ -12,7 +12,7 @@ use Rattle.si_system.specs.declared.replay.Outcome.{Outcome}
 use Rattle.si_system.specs.declared.replay.Outcome.TheVariants as outcome
 use Rattle.si_refusals.specs.Ending.{Ending, NoMemory, Answered, MayStop}
 use Rattle.si_refusals.specs.Refusal.{TextRefused}
-use Rattle.si_stages.specs.Outcomes.{HasName, TellsEnd, TellsDifference}
+use Rattle.si_stages.specs.Loops.Outcomes.{HasName, TellsEnd, TellsDifference}
 use Rattle.si_stages.specs.Replayed.{IsReplay, replay_end}
 use Rattle.si_stages.specs.declared.replay_kind.ReplayReport.{ReplayReport}
 

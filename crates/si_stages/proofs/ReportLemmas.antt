@@ -2,6 +2,7 @@
 use Rattle.std.proofs.Common.{ℕ, List}
 use Rattle.si_base.specs.Codes.{CodedGraph, IsCoded}
 use Rattle.si_explain.proofs.ExplainTexts.{one_explain_text, some_explain_text}
+use Rattle.si_lint.proofs.LintTexts.{one_lint_text, some_lint_text}
 use Rattle.si_listings.proofs.CoverLemmas.{one_cover_text, some_cover_text}
 use Rattle.si_listings.proofs.ListingLemmas.{one_region_text, one_conflict_text}
 use Rattle.si_listings.proofs.ListingsExist.{some_region_text, some_conflict_text}
@@ -11,7 +12,7 @@ use Rattle.si_pictures.proofs.PictureLaws.{one_dot_text, some_dot_text}
 use Rattle.si_stages.specs.Reports.{summary, report_text}
 use Rattle.si_stages.specs.declared.report_kind.Report.{Report}
 use Rattle.si_stages.specs.declared.report_kind.Report.TheVariants.{Summary, Regions, Conflicts, Covers, Fold}
-use Rattle.si_stages.specs.declared.report_kind.Report.TheVariants.{States, Dot, Explain}
+use Rattle.si_stages.specs.declared.report_kind.Report.TheVariants.{States, Dot, Explain, Lint}
 use Rattle.si_stages.proofs.FoldLemmas.{one_fold_text, some_fold_text}
 use Rattle.si_readings.proofs.StageLemmas.{gives_one, gives_some, shows_one, shows_some}
 
@@ -25,6 +26,7 @@ told_one Fold model states coded is = shows_one _ (one_fold_text model states co
 told_one States model states coded is = gives_one (states_text coded states)
 told_one Dot model states coded is = shows_one _ (one_dot_text model states coded)
 told_one Explain model states coded is = shows_one _ (one_explain_text coded states)
+told_one Lint model states coded is = shows_one _ (λ x y. one_lint_text coded states x y is)
 
 pub told_some : (what : Report) (model : List ℕ) (states : List (List ℕ)) (coded : CodedGraph) → IsCoded coded
     → HasResult (report_text what model states coded)
@@ -36,3 +38,4 @@ told_some Fold model states coded is = shows_some _ (some_fold_text model states
 told_some States model states coded is = gives_some (states_text coded states)
 told_some Dot model states coded is = shows_some _ (some_dot_text model states coded)
 told_some Explain model states coded is = shows_some _ (some_explain_text coded states is)
+told_some Lint model states coded is = shows_some _ (some_lint_text coded states is)

@@ -1,9 +1,9 @@
 -- Resolving as a stage has one result; and what insertions of a resolving trace keep.
-use Rattle.std.proofs.Common.{◌≡◌, ℕ, ◌≤◌, ◌⊎◌, not, List, [], ◌∷◌, ◌++◌, length, filter, All, IsTrue, Ok, Err, codes}
+use Rattle.std.proofs.Common.{◌≡◌, ℕ, ◌≤◌, ◌⊎◌, not, List, [], ◌∷◌, ◌++◌, length, filter, IsTrue, Ok, Err, codes}
 use Rattle.std.proofs.Common.{refl, sym, ap, ap₂, subst, ◌∙◌, arith, inl, inr}
 use Rattle.std.proofs.lemmas.Bool.{cases_lt}
 use Rattle.std.proofs.lemmas.List.{append-nil}
-use Rattle.std.proofs.lemmas.List.Elements.{filter-append, All-push}
+use Rattle.std.proofs.lemmas.List.Elements.{filter-append}
 use Rattle.si_base.specs.declared.graph.Signal.{Signal}
 use Rattle.si_base.specs.Codes.{CodedGraph, IsCoded}
 use Rattle.si_base.specs.Limits.{max_signals}
@@ -15,23 +15,18 @@ use Rattle.si_circuit.proofs.SpelledInsertions.{new_signals}
 use Rattle.si_conflicts.proofs.OneConflictList.{none_is_none}
 use Rattle.si_insert.specs.declared.lineage.TraceStep.{TraceStep}
 use Rattle.si_insert.specs.Fresh.{IsFresh}
-use Rattle.si_insert.specs.Insertion.{new_signal}
-use Rattle.si_insert.specs.Lineage.{AllGiven, Current, History, Inserts, IsLineage, given_current}
+use Rattle.si_insert.specs.Lineage.{AllGiven, Current, History, IsLineage, given_current}
 use Rattle.si_insert.proofs.FreshNameExists.{next_free}
 use Rattle.si_insert.proofs.FreshNames.{stays_signal_name}
+use Rattle.si_insert.proofs.LineageTraceLength.{AreNamed, named_after}
 use Rattle.si_resolve.specs.Trace.{IsResolvingTrace, EndsResolved, EndsUnresolved}
 use Rattle.si_resolve.proofs.EndsExist.{resolving_ends}
 use Rattle.si_resolve.proofs.TraceLemmas.{resolved_is_unique, unresolved_is_unique, ends_exclude, traces_are_lineages}
+use Rattle.si_audit.proofs.OneAudit.{same_history}
 use Rattle.si_readings.specs.Laws.{AtMostOne, HasResult}
 use Rattle.si_stages.specs.Resolving.{conflict_refusal, lineage_of}
 
 -- ---- one result
-pub same_history : (l m : History) → l.given ≡ m.given → l.trace ≡ m.trace → l.current ≡ m.current → l ≡ m
-same_history l m given trace current =
-    let make : CodedGraph → List TraceStep → Current → History =
-    λ g steps v. record { given = g; trace = steps; current = v } in
-    ap (λ (g : CodedGraph). make g l.trace l.current) given ∙ ap₂ (make m.given) trace current
-
 pub lineage_one : (coded : CodedGraph) (states : List (List ℕ)) → IsCoded coded → AtMostOne (lineage_of coded states)
 lineage_one coded states is (Ok l) (Ok m) one other =
     let same = resolved_is_unique (given_current coded) l.trace m.trace l.current m.current is one.resolves
@@ -89,17 +84,6 @@ fresh_named signals stem name good few fresh = elim (cases_lt (length signals) f
       (fresh.least (length signals) more))
   | inr low ↦ stays_signal_name signals signals stem name fresh.number refl few low fresh.is good
 ]
-
-abbrev pub AreNamed : Current → Type 0
-AreNamed v = All (λ x. IsTrue (is_signal_name x.name)) v.coded.graph.signals
-
-pub named_after : (v : Current) (p : TraceStep) (u : Current) → Inserts v p u → IsTrue (is_signal_name p.name)
-    → AreNamed v → AreNamed u
-named_after v p u ins name named =
-    let P : Signal → Type 0 = λ x. IsTrue (is_signal_name x.name) in
-    let signals : u.coded.graph.signals ≡ v.coded.graph.signals ++ new_signal p.name ∷ [] =
-    ap (λ (x : Current). x.coded.graph.signals) ins.makes ∙ ins.insertion.signals in
-    subst (All P) (sym signals) (All-push P v.coded.graph.signals (new_signal p.name) named name)
 
 pub named_along : (v : Current) (trace : List TraceStep) (w : Current) → IsResolvingTrace v trace w → AreNamed v
     → AreNamed w

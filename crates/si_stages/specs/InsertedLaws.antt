@@ -1,12 +1,15 @@
 -- (law) What laws say of the texts of graphs after insertions.
 use Rattle.std.specs.Prelude.{◌≡◌, ℕ, ◌≤◌, ◌↔◌, List, length, Ok, Err}
+use Rattle.si_audit.specs.Audit.{TakesAll}
+use Rattle.si_base.specs.Codes.{CodedGraph}
 use Rattle.si_base.specs.GivenGraph.{Sg}
 use Rattle.si_base.specs.Limits.{max_arcs_read}
 use Rattle.si_base.specs.NetlistText.{netlist_text}
 use Rattle.si_circuit.specs.declared.style.Style.{Style}
-use Rattle.si_insert.specs.Lineage.{History}
+use Rattle.si_insert.specs.Lineage.{History, given_history}
 use Rattle.si_inserted.specs.Current.{current_sg, internal_netlist}
 use Rattle.si_netlist_reader.specs.NetlistValue.{netlist_of}
+use Rattle.si_readings.specs.Checks.{IsSound}
 use Rattle.si_readings.specs.declared.library_format.LibraryFormat.{LibraryFormat}
 use Rattle.si_refusals.specs.Refusal.{TextRefusal}
 use Rattle.si_sg.specs.CanonicalText.{sg_text}
@@ -59,3 +62,21 @@ MappedAreInserted = (format : LibraryFormat) (file text library cells output : L
     → mapping format file text library cells (Ok output)
     → (inserted : List ℕ)
     × ((graph netlist : List ℕ) → insert graph text netlist output (Ok inserted))
+
+-- the text of the graph that the one text gives after the insertions of the netlist that the other
+-- spells. Where it has no more arcs than are read, it is read back as that graph
+pub record IsInsertedText (text netlist inserted : List ℕ) : Type 0 where
+  pub given : Sg
+  pub is_given : IsGivenBy text given
+  pub coded : CodedGraph
+  pub sound : IsSound given.graph coded
+  pub lineage : History
+  pub takes : TakesAll given.states (given_history coded) (netlist_of netlist).inserts lineage
+  pub text_is : inserted ≡ sg_text (current_sg given.model given.states lineage)
+  pub back : HasFewArcs lineage
+      → IsGivenBy inserted (current_sg given.model given.states lineage)
+
+-- such is what `insert` comes to
+abbrev pub InsertedTextsReadBack : Type 0
+InsertedTextsReadBack = (file text netlist_file netlist inserted : List ℕ)
+    → insert file text netlist_file netlist (Ok inserted) → IsInsertedText text netlist inserted

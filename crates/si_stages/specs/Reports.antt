@@ -4,6 +4,7 @@ use Rattle.si_base.specs.Codes.{CodedGraph, code}
 use Rattle.si_base.specs.NetlistText.{bits_from, word_if_any}
 use Rattle.si_base.specs.Words.{text_of}
 use Rattle.si_explain.specs.ExplainText.{IsExplainText}
+use Rattle.si_lint.specs.LintText.{IsLintText}
 use Rattle.si_listings.specs.ConflictText.{IsConflictText}
 use Rattle.si_listings.specs.CoverText.{IsCoverText}
 use Rattle.si_listings.specs.RegionText.{IsRegionText}
@@ -15,7 +16,7 @@ use Rattle.si_stages.specs.declared.report_kind.Report.{Report}
 use Rattle.si_stages.specs.Fold.{IsFoldText}
 use Rattle.si_stages.specs.declared.report_kind.Report.TheVariants.{Summary, Regions}
 use Rattle.si_stages.specs.declared.report_kind.Report.TheVariants.{Conflicts, Covers, Fold}
-use Rattle.si_stages.specs.declared.report_kind.Report.TheVariants.{States, Dot, Explain}
+use Rattle.si_stages.specs.declared.report_kind.Report.TheVariants.{States, Dot, Explain, Lint}
 
 -- a line of a word and a number
 abbrev pub count_line : List ℕ → ℕ → List (List ℕ)
@@ -33,7 +34,8 @@ summary coded = text_of ((codes "proper" ∷ [])
 
 -- of a graph with this model and these names of its states: its summary; the text of its regions;
 -- the text of its conflicts; the text of its covers; the text of its folded graph; the text of its
--- states; the text that explains its conflicts; the text of its picture
+-- states; the text that explains its conflicts; the text of its picture; the text of what is worth a
+-- second look
 abbrev pub report_text : Report → (model : List ℕ) → (states : List (List ℕ)) → CodedGraph
     → Stage TextRefusal (List ℕ)
 report_text Summary model states coded = gives (summary coded)
@@ -44,3 +46,4 @@ report_text Fold model states coded = shows (IsFoldText model states coded)
 report_text States model states coded = gives (states_text coded states)
 report_text Explain model states coded = shows (IsExplainText coded states)
 report_text Dot model states coded = shows (IsDotText model states coded)
+report_text Lint model states coded = shows (IsLintText coded states)

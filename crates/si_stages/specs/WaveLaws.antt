@@ -3,13 +3,13 @@ use Rattle.std.specs.Prelude.{◌≡◌, ℕ, ◌<◌, ◌≤◌, List, None, le
 use Rattle.si_base.specs.declared.ids.Event.{Event}
 use Rattle.si_base.specs.Bits.{bit}
 use Rattle.si_base.specs.GivenGraph.{Sg}
-use Rattle.si_base.specs.Graph.{StateGraph}
+use Rattle.si_base.specs.Graph.{StateGraph, names_in}
 use Rattle.si_base.specs.Netlist.{Netlist}
 use Rattle.si_base.specs.System.{State, Runs, start}
 use Rattle.si_netlist_reader.specs.NetlistFault.{netlist_fault}
 use Rattle.si_netlist_reader.specs.NetlistValue.{netlist_of}
 use Rattle.si_sg.specs.GivenGraph.{IsGivenBy}
-use Rattle.si_system.specs.ScheduleText.{schedule_fault, schedule_of, signal_names}
+use Rattle.si_system.specs.ScheduleText.{schedule_fault, schedule_of}
 use Rattle.si_wave.specs.Reading.{shown_value}
 use Rattle.si_wave.specs.Wave.{wave_of, wave_text, wire_code}
 
@@ -28,6 +28,6 @@ pub record ShowsReplay (graph netlist schedule output : List ℕ) : Type 0 where
   pub given : Sg
   pub is_given : IsGivenBy graph given
   pub no_fault : netlist_fault netlist ≡ None
-  pub sound : schedule_fault (signal_names (netlist_of netlist).signals) schedule ≡ None
+  pub sound : schedule_fault (names_in (netlist_of netlist).signals) schedule ≡ None
   pub run : ShowsRun given.graph (netlist_of netlist)
-      (schedule_of (signal_names (netlist_of netlist).signals) schedule) output
+      (schedule_of (names_in (netlist_of netlist).signals) schedule) output

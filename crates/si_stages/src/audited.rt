@@ -1,7 +1,7 @@
 //! From the texts of a graph and a netlist to whether the netlist is certified for the graph.
 
 ghost use Rattle.std.specs.Prelude.{◌≡◌, ℕ, ◌↔◌, List, IfOk, IfErr, Ok, length};
-ghost use Rattle.si_audit.specs.FaultSignals.{AreAmong, TellsOf};
+ghost use Rattle.si_audit.specs.Loops.FaultSignals.{AreAmong, TellsOf};
 ghost use Rattle.si_audit.specs.declared.fault.AuditFault.TheVariants.{Refused};
 ghost use Rattle.si_base.specs.System.{IsFor};
 ghost use Rattle.si_readings.specs.Checks.{IsNamed};

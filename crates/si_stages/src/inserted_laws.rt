@@ -1,8 +1,9 @@
 //! Laws of the texts of graphs after insertions. Each function does nothing: its contract is the
 //! law.
 
-ghost use Rattle.si_stages.specs.InsertedLaws.{MappedAreInserted, ResolvedAreSynthesised};
-ghost use Rattle.si_stages.specs.InsertedLaws.{ResolvedTextsServe, SynthesisedAreInserted};
+ghost use Rattle.si_stages.specs.InsertedLaws.{InsertedTextsReadBack, MappedAreInserted};
+ghost use Rattle.si_stages.specs.InsertedLaws.{ResolvedAreSynthesised, ResolvedTextsServe};
+ghost use Rattle.si_stages.specs.InsertedLaws.{SynthesisedAreInserted};
 
 /// The text of a resolved graph is read back as that graph, with its inserted signals as internal
 /// ones, and gives the gates that the given graph gives.
@@ -20,4 +21,10 @@ pub fn graphs_are_resolved_where_they_are_synthesised()
 pub fn written_netlists_are_inserted()
     ensures synthesised { SynthesisedAreInserted }
     ensures mapped { MappedAreInserted }
+{}
+
+/// The text of a graph after the insertions of a netlist is read back as that graph, with its
+/// inserted signals as internal ones.
+pub fn inserted_texts_read_back()
+    ensures { InsertedTextsReadBack }
 {}

@@ -1,16 +1,16 @@
-//! The commands as rows of stages: from the bytes of texts to the bytes of an output.
+//! The commands as rows of stages: from the bytes of texts to the bytes of an output or a refusal.
+//! Each row has exactly one answer.
 #![tactic(auto)]
 
 pub mod audit_laws;
 pub mod audited;
-pub mod exercise;
 mod fold;
 pub mod fold_laws;
 pub mod genlib;
 pub mod inserted;
 pub mod inserted_laws;
-mod literals;
 pub mod mapping;
+pub mod netlist_report;
 pub mod replay_kind;
 pub mod replayed;
 pub mod report;

@@ -7,7 +7,7 @@ ghost use Rattle.si_base.specs.System.{IsFor};
 ghost use Rattle.si_stages.specs.Meaning as meaning;
 ghost use Rattle.si_readings.specs.Checks.{IsNamed};
 ghost use Rattle.si_refusals.specs.Ending.{MayStop, ending_of};
-ghost use Rattle.si_stages.specs.Outcomes.{EndsDiffering, HasName, TellsEnd, TellsDifference};
+ghost use Rattle.si_stages.specs.Loops.Outcomes.{EndsDiffering, HasName, TellsEnd, TellsDifference};
 ghost use Rattle.si_stages.specs.Replayed as stage;
 ghost use Rattle.si_stages.specs.Replayed.{output_of, replay_text};
 ghost use Rattle.si_stages.specs.Replayed.{shown_signal as signal_at_fault};

@@ -17,6 +17,7 @@ use si_checks::proper::Proper;
 use si_explain::explain::explain;
 use si_graph::coded::Coded;
 use si_graph::graph::Graph;
+use si_lint::lint::lint;
 use si_listings::conflict_listing::list_conflicts;
 use si_listings::cover_listing::list_covers;
 use si_listings::region_listing::list_regions;
@@ -96,6 +97,7 @@ fn report_text(
         Report::States => list_states(alloc, graph.coded(), states),
         Report::Explain => explain(alloc, graph.coded(), states),
         Report::Dot => draw(alloc, graph.coded(), model.bytes(), states),
+        Report::Lint => lint(alloc, graph, states),
     }
 }
 
@@ -115,12 +117,7 @@ fn summary_of(alloc: Global, coded: &Coded) -> Result<Text, NoMemory>
 }
 
 /// Adds a line of a word and a number.
-pub(crate) fn add_count(
-    alloc: Global,
-    text: &mut Text,
-    word: &[u8],
-    count: u64,
-) -> Result<(), NoMemory>
+pub fn add_count(alloc: Global, text: &mut Text, word: &[u8], count: u64) -> Result<(), NoMemory>
     ensures { OnOk result (text.new ≡ text.old ++ line (count_line word.now count)) }
 {
     let Ok(count) = count.to_string(alloc) else {

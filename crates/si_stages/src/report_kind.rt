@@ -21,4 +21,6 @@ pub enum Report {
     Explain,
     /// Its picture, for Graphviz.
     Dot,
+    /// Dead ends, arcs of no return, disabled inputs and what else is worth a second look.
+    Lint,
 }

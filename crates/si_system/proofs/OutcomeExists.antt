@@ -16,6 +16,7 @@ use Rattle.si_base.specs.Graph.{StateGraph, Step, arc, enables, same_event, is_d
 use Rattle.si_base.specs.Netlist.{Netlist, IsExcited, gate_value}
 use Rattle.si_base.specs.System.{State, IsLeastTarget, Follows, May}
 use Rattle.si_base.proofs.GraphSteps.{step_from_enables, same_event-refl, same_event-true}
+use Rattle.si_base.proofs.Booleans.{same_or_not}
 use Rattle.si_system.specs.Outcome.{IsOutcome}
 use Rattle.si_system.specs.Verdict.{IsStep, Loses, IsVerdict}
 use Rattle.si_system.specs.declared.replay.Outcome.{Outcome}
@@ -100,12 +101,6 @@ some_following g s e = elim (cases_Bool (enables g s e)) [
 ]
 
 -- ---- whether a gate is excited, and whether it loses that
-same_or_not : (a b : Bool) → (a ≡ b) ⊎ (a ≢ b)
-same_or_not true true = inl refl
-same_or_not true false = inr (λ h. true≢false h)
-same_or_not false true = inr (λ h. true≢false (sym h))
-same_or_not false false = inl refl
-
 excited_decided : (n : Netlist) (values z : ℕ) → Decided (IsExcited n values z)
 excited_decided n values z = elim (slice_get_cases n.signals z).1 [
   | inl there ↦ elim (cases_Bool (is_driven there.0.kind)) [

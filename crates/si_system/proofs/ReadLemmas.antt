@@ -14,7 +14,7 @@ use Rattle.si_base.specs.Netlist.{Netlist}
 use Rattle.si_netlist.specs.Reads.{MarksExactly, signal_reads}
 use Rattle.si_netlist.proofs.GateLemmas.{within_signals}
 use Rattle.si_netlist.proofs.ReadLemmas.{excitation_keeps}
-use Rattle.si_system.specs.Reads.{AreReads}
+use Rattle.si_system.specs.Loops.Reads.{AreReads}
 use Rattle.si_system.specs.Verdict.{Loses}
 
 named : (n : Netlist) (signals : List Signal) (k : ℕ) (x : Signal) → signals ≡ n.signals → k < length signals

@@ -89,15 +89,6 @@ step_taken g n x e h m values s signal new place read old made may = record {
   may = may_at g n x e h m values s signal place read may;
 }
 
--- what has the new value already makes no step
-pub no_step_again : (g : StateGraph) (n : Netlist) (x : State) (e : Event)
-    → bit x.values e.sig ≡ e.up → IsStep g n x e → ⊥
-no_step_again g n x e new step = same_not e.up (sym new ∙ step.1.old_value)
-  where
-    same_not : (b : Bool) → b ≡ not b → ⊥
-    same_not true h = cc
-    same_not false h = cc
-
 pub not_from_differs : (b up : Bool) → (b ≡ up → ⊥) → b ≡ not up
 not_from_differs true true h = absurd (h refl)
 not_from_differs true false h = refl

@@ -1,5 +1,5 @@
 pub mod Lists
-pub mod Reads
 pub mod Verdict
 pub mod Outcome
 pub mod ScheduleText
+pub mod Loops

@@ -1,15 +1,11 @@
 -- (text) The text of a schedule: its first fault, and the events that it spells.
 use Rattle.std.specs.Prelude.{ℕ, false, List, map, flat_map, Option}
 use Rattle.si_base.specs.declared.ids.Event.{Event}
-use Rattle.si_base.specs.declared.graph.Signal.{Signal}
 use Rattle.si_base.specs.declared.fault.TextKind.{TextKind}
 use Rattle.si_base.specs.declared.fault.TextKind.TheVariants.{BadByte}
 use Rattle.si_base.specs.Faults.{when, ◌otherwise◌, first_in, at_line}
 use Rattle.si_base.specs.Lines.{Line, numbered, words_in, before_comment, has_bad_byte}
 use Rattle.si_words.specs.Events.{event_fault, event_of}
-
-abbrev pub signal_names : List Signal → List (List ℕ)
-signal_names signals = map (λ x. x.name) signals
 
 abbrev pub words : Line → List (List ℕ)
 words line = words_in false (before_comment line.1)

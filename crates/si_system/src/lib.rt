@@ -1,8 +1,9 @@
-//! The circuit beside its environment, one switching at a time.
+//! The circuit beside its environment, one switching at a time: steps, verdicts, and the replay of
+//! schedules.
 #![tactic(auto)]
 
 pub mod laws;
-mod lists;
+pub mod lists;
 pub mod replay;
 pub mod schedule;
 mod step;

@@ -1,14 +1,17 @@
-//! The first difference between the signals of a graph and the given signals of a netlist.
+//! The first difference between the signals of a graph and the given signals of a netlist, or the
+//! signals of another graph.
 
 ghost use Rattle.std.specs.Prelude.{◌≡◌, ◌↔◌, ◌≤◌, AllPairs, IfSome, IsTrue, MatchOption};
-ghost use Rattle.std.specs.Prelude.{filter, not};
+ghost use Rattle.std.specs.Prelude.{MatchResult, filter, length, not};
 ghost use Rattle.si_base.specs.Graph.{kind_place};
 ghost use Rattle.si_base.specs.Limits.{max_signals};
 ghost use Rattle.si_base.specs.System.{IsFor, is_inserted};
-ghost use Rattle.si_system.specs.Lists.{IsFirstDifference};
+ghost use Rattle.si_system.specs.Lists.{AreSameAt, AreSameLists, IsFirstDifference, IsSameAt};
+ghost use Rattle.si_system.specs.Lists.{ShowsUnlike, StartAlike};
 
+use crate::system::ListsDiffer;
 use si_base::graph::Signal;
-use si_base::ids::Sig;
+use si_base::ids::{Code, Sig};
 use si_graph::coded::Coded;
 use si_netlist::netlist::Netlist;
 
@@ -33,21 +36,51 @@ fn is_same(one: &Signal, other: &Signal) -> bool
 /// the given signals of the netlist with theirs; `None` exactly where they are the same.
 pub(crate) fn first_difference(graph: &Coded, netlist: &Netlist) -> Option<usize>
     ensures difference { MatchOption result (IsFor graph.now netlist.now)
-        (IsFirstDifference graph.now netlist.now) }
+        (IsFirstDifference (IsSameAt graph.now netlist.now)) }
     ensures within { IfSome result (λ k. k ≤ max_signals) }
 {
-    let own = graph.graph().signals();
+    let own = graph.graph();
+    let values = graph.code(own.start());
     let given = given_signals(netlist.signals());
-    let code = graph.code(graph.graph().start());
-    let start = netlist.start();
-    let both = own.len().min(given.len());
+    first_unlike(own.signals(), values, given, netlist.start())
+}
+
+/// That two graphs have the same signals, with the same values at their starts.
+///
+/// # Errors
+///
+/// `ListsDiffer` exactly where they haven't.
+pub fn match_starts(one: &Coded, other: &Coded) -> Result<(), ListsDiffer>
+    ensures { MatchResult result (λ _. StartAlike one.now other.now)
+        (λ e. ShowsUnlike one.now other.now e.place) }
+{
+    let (f, g) = (one.graph(), other.graph());
+    let values = one.code(f.start());
+    let start = other.code(g.start());
+    match first_unlike(f.signals(), values, g.signals(), start) {
+        None => Ok(()),
+        Some(k) => Err(ListsDiffer {
+            place: k as u32 + 1,
+        }),
+    }
+}
+
+/// The first place, from 0, at which two lists of signals with their start values differ; `None`
+/// exactly where they are the same.
+fn first_unlike(own: &[Signal], values: Code, others: &[Signal], start: Code) -> Option<usize>
+    requires { length own.now ≤ max_signals }
+    ensures difference { MatchOption result (AreSameLists own.now values others.now start)
+        (IsFirstDifference (AreSameAt own.now values others.now start)) }
+    ensures within { IfSome result (λ k. k ≤ max_signals) }
+{
+    let both = own.len().min(others.len());
     for k in 0..both {
         let sig = Sig(k as u8);
-        if !is_same(&own[k], &given[k]) || code.get(sig) != start.get(sig) {
+        if !is_same(&own[k], &others[k]) || values.get(sig) != start.get(sig) {
             return Some(k);
         }
     }
-    if own.len() == given.len() {
+    if own.len() == others.len() {
         None
     } else {
         Some(both)

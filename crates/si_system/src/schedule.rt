@@ -3,12 +3,13 @@
 ghost use Rattle.std.specs.Prelude.{◌≡◌, ◌≢◌, ◌<◌, ◌≤◌, ◌++◌, length, map, All, AllPairs, IfOk};
 ghost use Rattle.std.specs.Prelude.{OnOk, false};
 ghost use Rattle.si_base.specs.Faults.{when, ◌otherwise◌, first_in};
+ghost use Rattle.si_base.specs.Graph.{names_in};
 ghost use Rattle.si_base.specs.Limits.{max_signals};
 ghost use Rattle.si_base.specs.Lines as text;
 ghost use Rattle.si_base.specs.TextFaults.{Tells, Gives};
 ghost use Rattle.si_base.specs.declared.fault.TextKind.TheVariants.{BadByte};
 ghost use Rattle.si_words.specs.Events.{event_fault, event_of};
-ghost use Rattle.si_system.specs.ScheduleText.{signal_names, schedule_fault, schedule_of};
+ghost use Rattle.si_system.specs.ScheduleText.{schedule_fault, schedule_of};
 
 use si_base::fault::{LineFault, TextFault, TextKind, at_line};
 use si_base::graph::Signal;
@@ -24,7 +25,7 @@ use std::alloc::Global;
 fn names_of(alloc: Global, signals: &[Signal]) -> Result<Names, NoMemory>
     requires distinct { AllPairs (λ x y. x.name ≢ y.name) signals.now }
     requires few { length signals.now ≤ max_signals }
-    ensures { IfOk result (λ names. names ≡ signal_names signals.now) }
+    ensures { IfOk result (λ names. names ≡ names_in signals.now) }
 {
     let mut names = Names::new(alloc)?;
     for signal in signals {
@@ -82,8 +83,8 @@ fn read_lines(alloc: Global, text: &[u8], names: &Names) -> Result<Vec<Event>, T
 /// `NoMemory` only where memory runs out.
 pub fn read_schedule(alloc: Global, text: &[u8], netlist: &Netlist) -> Result<Vec<Event>, TextFault>
     ensures gives { Gives (λ v. v.items) result
-        (schedule_fault (signal_names netlist.now.signals) text.now)
-        (schedule_of (signal_names netlist.now.signals) text.now) }
+        (schedule_fault (names_in netlist.now.signals) text.now)
+        (schedule_of (names_in netlist.now.signals) text.now) }
     ensures within { IfOk result
         (λ events. All (λ e. e.sig < length netlist.now.signals) events.items) }
 {

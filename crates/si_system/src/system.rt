@@ -34,7 +34,7 @@ pub struct System<'a> {
 }
 
 impl<'a> Model for System<'a> {
-    ghost use Rattle.si_system.specs.Reads.{AreReads};
+    ghost use Rattle.si_system.specs.Loops.Reads.{AreReads};
     ghost use Rattle.si_system.specs.Verdict as verdict;
 
     ghost Value = { verdict.System };

@@ -1,3 +1,3 @@
 pub mod Unread
 pub mod Decimal
-pub mod Parts
+pub mod Loops

@@ -12,13 +12,14 @@ use Rattle.si_tool.specs.declared.command.HandshakeCount.TheVariants.{One, Two, 
 use Rattle.si_tool.specs.declared.command.Task.{Task}
 use Rattle.si_tool.specs.declared.command.Task.TheVariants.{About, Tell, Synth, Map, FromGenlib, Verilog, Replay, Audit}
 use Rattle.si_tool.specs.declared.command.Task.TheVariants.{Exercise}
-use Rattle.si_tool.specs.declared.command.Task.TheVariants.{Resolve, Insert}
+use Rattle.si_tool.specs.declared.command.Task.TheVariants.{TellNetlist, Resolve, Insert, Same}
 use Rattle.si_tool.specs.declared.command.TheConstants.{TASKS}
 use Rattle.si_readings.specs.declared.library_format.LibraryFormat.{LibraryFormat}
 use Rattle.si_readings.specs.declared.library_format.LibraryFormat.TheVariants.{Own, Genlib}
+use Rattle.si_stages.specs.declared.netlist_report.NetlistReport.TheVariants.{Loops, Reset}
 use Rattle.si_stages.specs.declared.replay_kind.ReplayReport.TheVariants.{End, Wave}
 use Rattle.si_stages.specs.declared.report_kind.Report.TheVariants.{Summary, Regions, Conflicts, Covers, Fold}
-use Rattle.si_stages.specs.declared.report_kind.Report.TheVariants.{States, Explain, Dot}
+use Rattle.si_stages.specs.declared.report_kind.Report.TheVariants.{States, Explain, Dot, Lint}
 
 -- what a read past the end of the table gives
 abbrev pub first_task : Task
@@ -26,7 +27,7 @@ first_task = About (Help Long)
 
 -- ---- the table has each task
 abbrev pub IsListed : Task → Type 0
-IsListed task = (place : ℕ) × (place < 31) × (get_or TASKS place first_task ≡ task)
+IsListed task = (place : ℕ) × (place < 35) × (get_or TASKS place first_task ≡ task)
 
 pub each_listed : (task : Task) → IsListed task
 each_listed (About (Help Long)) = (0, omega arith, refl)
@@ -60,6 +61,10 @@ each_listed (Exercise Five) = (27, omega arith, refl)
 each_listed (Exercise Six) = (28, omega arith, refl)
 each_listed (Exercise Seven) = (29, omega arith, refl)
 each_listed (Exercise Eight) = (30, omega arith, refl)
+each_listed Same = (31, omega arith, refl)
+each_listed (Tell Lint) = (32, omega arith, refl)
+each_listed (TellNetlist Loops) = (33, omega arith, refl)
+each_listed (TellNetlist Reset) = (34, omega arith, refl)
 
 -- ---- words ask for none of the tasks up to a place
 abbrev pub AsksNoneBefore : List (String Global) → (place : ℕ) → Type 0
@@ -77,7 +82,7 @@ asks_one_less words place before here k below files asks = elim (cases_lt k plac
       )
 ]
 
-pub asks_nothing : (words : List (String Global)) (place : ℕ) → 31 ≤ place → AsksNoneBefore words place
+pub asks_nothing : (words : List (String Global)) (place : ℕ) → 35 ≤ place → AsksNoneBefore words place
     → AsksNothing words
 asks_nothing words place end none request asks =
     let listed = each_listed request.task in

@@ -6,7 +6,7 @@ use Rattle.std.proofs.lemmas.Slice.Eq.{bytes_eq-Decides}
 use Rattle.std.proofs.Math.Seq.{drop-cons}
 use Rattle.std.proofs.lemmas.List.{drop-map}
 use Rattle.si_tool.specs.Command.{Slot, Word, File, fill, file_count, HasForm, words_of}
-use Rattle.si_tool.specs.Reads.{slot_now, slots_now}
+use Rattle.si_tool.specs.Loops.Reads.{slot_now, slots_now}
 use Rattle.si_tool.specs.declared.form.Slot.{Slot as HeldSlot}
 
 -- ---- as many words as places

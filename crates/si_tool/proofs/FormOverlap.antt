@@ -1,7 +1,7 @@
 -- No two forms overlap: words ask for one command at most.
 use Rattle.std.proofs.Common.{◌≡◌, ℕ, zero, suc, ◌<◌, List, [], ◌∷◌, length, get_or, refl, sym, ap, ap₂, subst}
 use Rattle.std.proofs.Common.{◌∙◌, arith, inl, inr, Bool, true, false, ◌&&◌, not, bytes_eq, String, Global}
-use Rattle.std.proofs.lemmas.Bool.{cases_lt}
+use Rattle.std.proofs.lemmas.Bool.{cases_lt, not-true, and_from, and_parts}
 use Rattle.std.proofs.lemmas.Slice.Eq.{bytes_eq-Decides}
 use Rattle.std.specs.List.{list_all}
 use Rattle.si_tool.specs.Command.{Slot, Word, File, fill, form_of, HasForm, Request, Asks, words_of}
@@ -74,11 +74,6 @@ both_meet (Word a) (Word b) x y same one two = (bytes_eq-Decides a b).1 (sym one
 both_meet (Word a) File x y same one two = refl
 both_meet File other x y same one two = refl
 
-both : (a b : Bool) → a ≡ true → b ≡ true → (a && b) ≡ true
-both true true p q = refl
-both true false p q = cc
-both false b p q = cc
-
 both_overlap : (form other : List Slot) (words files others : List (List ℕ)) → HasForm form words files
     → HasForm other words others → overlaps form other ≡ true
 both_overlap [] [] words files others one two = refl
@@ -99,7 +94,7 @@ both_overlap (slot ∷ form) (place ∷ other) words files others one two =
     let heads : first.word ≡ second.word = cc in
     let tails : second.later ≡ first.later = cc in
     let has = subst (λ (ws : List (List ℕ)). HasForm other ws second.rest) tails second.has in
-    both (meets slot place) (overlaps form other)
+    and_from (meets slot place) (overlaps form other)
     (both_meet slot place first.word second.word heads first.stands second.stands)
     (both_overlap form other first.later first.rest second.rest first.has has)
 
@@ -124,21 +119,12 @@ same_files (slot ∷ form) words files others one two =
     first.files_are ∙ same_with slot first.word second.word first.rest second.rest heads rests ∙ sym second.files_are
 
 -- ---- what the test shows
-first_holds : (a b : Bool) → (a && b) ≡ true → (a ≡ true) × (b ≡ true)
-first_holds true true p = (refl, refl)
-first_holds true false p = cc
-first_holds false b p = cc
-
 one_of_all : (p : Task → Bool) (tasks : List Task) (place : ℕ) → list_all p tasks ≡ true → place < length tasks
     → p (get_or tasks place first_task) ≡ true
 one_of_all p [] place all below = absurd (omega (arith, below))
-one_of_all p (task ∷ tasks) zero all below = (first_holds (p task) (list_all p tasks) all).0
+one_of_all p (task ∷ tasks) zero all below = (and_parts (p task) (list_all p tasks) all).0
 one_of_all p (task ∷ tasks) (suc place) all below =
-    one_of_all p tasks place (first_holds (p task) (list_all p tasks) all).1 (omega (arith, below))
-
-is_false : (b : Bool) → not b ≡ true → b ≡ false
-is_false true at = cc
-is_false false at = refl
+    one_of_all p tasks place (and_parts (p task) (list_all p tasks) all).1 (omega (arith, below))
 
 apart : (tasks : List Task) (i j : ℕ) → none_overlaps tasks ≡ true → i < j → j < length tasks
     → overlaps (form_of (get_or tasks i first_task)) (form_of (get_or tasks j first_task)) ≡ false
@@ -146,18 +132,18 @@ apart [] i j none before below = absurd (omega (arith, below))
 apart (task ∷ tasks) i zero none before below = absurd (omega (arith, before))
 apart (task ∷ tasks) zero (suc j) none before below =
     let test : Task → Bool = λ other. not (overlaps (form_of task) (form_of other)) in
-    let all = (first_holds (list_all test tasks) (none_overlaps tasks) none).0 in
-    is_false _ (one_of_all test tasks j all (omega (arith, below)))
+    let all = (and_parts (list_all test tasks) (none_overlaps tasks) none).0 in
+    not-true _ (one_of_all test tasks j all (omega (arith, below)))
 apart (task ∷ tasks) (suc i) (suc j) none before below =
     let test : Task → Bool = λ other. not (overlaps (form_of task) (form_of other)) in
-    let rest = (first_holds (list_all test tasks) (none_overlaps tasks) none).1 in
+    let rest = (and_parts (list_all test tasks) (none_overlaps tasks) none).1 in
     apart tasks i j rest (omega (arith, before)) (omega (arith, below))
 
 -- words that ask for a task, by its place in the table
 abbrev AsksAt : List (String Global) → ℕ → List (List ℕ) → Type 0
 AsksAt words place files = HasForm (form_of (get_or TASKS place first_task)) (words_of words) files
 
-not_two : (words : List (String Global)) (i j : ℕ) (files others : List (List ℕ)) → i < j → j < 31
+not_two : (words : List (String Global)) (i j : ℕ) (files others : List (List ℕ)) → i < j → j < 35
     → AsksAt words i files → AsksAt words j others → ⊥
 not_two words i j files others before below one two =
     let overlap = both_overlap (form_of (get_or TASKS i first_task)) (form_of (get_or TASKS j first_task))
@@ -165,7 +151,7 @@ not_two words i j files others before below one two =
     let none = apart TASKS i j tasks_apart before below in
     cc
 
-same_place : (words : List (String Global)) (i j : ℕ) (files others : List (List ℕ)) → i < 31 → j < 31
+same_place : (words : List (String Global)) (i j : ℕ) (files others : List (List ℕ)) → i < 35 → j < 35
     → AsksAt words i files → AsksAt words j others → i ≡ j
 same_place words i j files others first second one two = elim (cases_lt i j) [
   | inl before ↦ absurd (not_two words i j files others before second one two)

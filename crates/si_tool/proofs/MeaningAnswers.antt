@@ -10,16 +10,18 @@ use Rattle.si_refusals.specs.Refusal.{TextRefusal, ReadFault, Answer, Output, Fi
 use Rattle.si_tool.specs.declared.command.Task.{Task}
 use Rattle.si_tool.specs.declared.command.Task.TheVariants.{About, Tell, Synth, Map, FromGenlib, Verilog, Replay, Audit}
 use Rattle.si_tool.specs.declared.command.Task.TheVariants.{Exercise}
-use Rattle.si_tool.specs.declared.command.Task.TheVariants.{Resolve, Insert}
+use Rattle.si_tool.specs.declared.command.Task.TheVariants.{TellNetlist, Resolve, Insert, Same}
 use Rattle.si_readings.specs.Laws.{AtMostOne, HasResult}
 use Rattle.si_readings.specs.declared.library_format.LibraryFormat.TheVariants.{Own, Genlib}
 use Rattle.si_stages.proofs.AuditLemmas.{audit_one, audit_some}
-use Rattle.si_stages.proofs.ExerciseLemmas.{exercise_one, exercise_some}
+use Rattle.si_exercise.proofs.ExerciseLemmas.{exercise_one, exercise_some}
 use Rattle.si_stages.proofs.GenlibLemmas.{genlib_one, genlib_some}
 use Rattle.si_stages.proofs.InsertedTexts.{insert_one, insert_some, resolve_one, resolve_some}
 use Rattle.si_stages.proofs.MeaningLemmas.{report_one, synth_one, mapping_one, replay_one}
 use Rattle.si_stages.proofs.MeaningLemmas.{report_some, synth_some, mapping_some, replay_some}
 use Rattle.si_readings.proofs.StageLemmas.{gives_one, gives_some}
+use Rattle.si_likeness.proofs.SameLemmas.{same_one, same_some}
+use Rattle.si_stages.proofs.NetlistReportLemmas.{netlist_report_one, netlist_report_some}
 use Rattle.si_stages.proofs.VerilogLemmas.{verilog_one, verilog_some}
 use Rattle.si_tool.proofs.LoadLemmas.{all_one, all_some, all_or_fault, as_many}
 use Rattle.si_tool.proofs.CommandTasks.{few_handshakes}
@@ -32,10 +34,12 @@ meaning_one (Synth style) (file ∷ []) (text ∷ []) = synth_one style file tex
 meaning_one (Map format) (g ∷ l ∷ []) (a ∷ b ∷ []) = mapping_one format g a l b
 meaning_one FromGenlib (file ∷ []) (text ∷ []) = genlib_one file text
 meaning_one Verilog (file ∷ []) (text ∷ []) = verilog_one file text
+meaning_one (TellNetlist what) (file ∷ []) (text ∷ []) = netlist_report_one what file text
 meaning_one (Replay what) (g ∷ n ∷ s ∷ []) (a ∷ b ∷ c ∷ []) = replay_one what g a n b s c
 meaning_one Audit (g ∷ n ∷ []) (a ∷ b ∷ []) = audit_one g a n b
 meaning_one Resolve (file ∷ []) (text ∷ []) = resolve_one file text
 meaning_one Insert (g ∷ n ∷ []) (a ∷ b ∷ []) = insert_one g a n b
+meaning_one Same (f ∷ g ∷ []) (a ∷ b ∷ []) = same_one f a g b
 meaning_one (Exercise count) [] [] = exercise_one (number_of count)
 meaning_one task files texts = λ a b one other. absurd one
 
@@ -49,10 +53,12 @@ meaning_some (Map Own) (g ∷ l ∷ []) (a ∷ b ∷ []) many each = mapping_som
 meaning_some (Map Genlib) (g ∷ l ∷ []) (a ∷ b ∷ []) many each = mapping_some Genlib g a l b
 meaning_some FromGenlib (file ∷ []) (text ∷ []) many each = genlib_some file text
 meaning_some Verilog (file ∷ []) (text ∷ []) many each = verilog_some file text
+meaning_some (TellNetlist what) (file ∷ []) (text ∷ []) many each = netlist_report_some what file text
 meaning_some (Replay what) (g ∷ n ∷ s ∷ []) (a ∷ b ∷ c ∷ []) many each = replay_some what g a n b s c
 meaning_some Audit (g ∷ n ∷ []) (a ∷ b ∷ []) many each = audit_some g a n b
 meaning_some Resolve (file ∷ []) (text ∷ []) many each = resolve_some file text
 meaning_some Insert (g ∷ n ∷ []) (a ∷ b ∷ []) many each = insert_some g a n b
+meaning_some Same (f ∷ g ∷ []) (a ∷ b ∷ []) many each = same_some f a g b
 meaning_some (Exercise count) [] [] many each = exercise_some (number_of count) (few_handshakes count)
 meaning_some task files texts many each = absurd (omega (arith, many, each))
 

@@ -1,10 +1,10 @@
 -- What a call hands on.
 use Rattle.std.proofs.Common.{◌≡◌, ℕ, ◌+◌, List, [], ◌∷◌, ◌++◌, take, Result, Ok, Err, IfOk, IfErr, IsErrAnd, refl, sym}
-use Rattle.std.proofs.Common.{subst}
-use Rattle.std.proofs.Common.{◌∙◌, append-nil, append_assoc}
+use Rattle.std.proofs.Common.{subst, ◌∙◌, append_assoc, inl, inr}
 use Rattle.si_tool.specs.Command.{Request}
 use Rattle.si_refusals.specs.Ending.{Ending, NoMemory, Answered, MayStopLoading, MayStop, ending_of}
-use Rattle.si_tool.specs.Loads.{Contents, Counts, CountsStay, AreLoaded, LoadsFirst, load_well, load, loads, loads_well}
+use Rattle.si_tool.specs.Loads.{Contents, Counts, CountsStay, AreLoaded, IsUnread, LoadsFirst, LoadsOf, StopsLoading}
+use Rattle.si_tool.specs.Loads.{load_well, load, loads, loads_well}
 use Rattle.si_tool.specs.Meaning.{LoadStage, meaning, ComesTo, MayStopCommand}
 use Rattle.si_refusals.specs.Refusal.{FileRefusal, FileRefused, TextRefused, Output}
 use Rattle.si_refusals.specs.Stages.{Stage}
@@ -26,7 +26,7 @@ stops_command loading asked r e is may = handed_on r e (MayStopCommand loading a
 
 -- the names up to a place were loaded, and no fault was counted
 pub record IsLoadedTo {Shelf : Type 0} (content : Shelf → Contents) (faults : Shelf → Counts)
-    (Loads : Shelf → List ℕ → Shelf → Type 0) (names : List (List ℕ)) (place : ℕ) (old now : Shelf)
+    (Loads : LoadsOf Shelf) (names : List (List ℕ)) (place : ℕ) (old now : Shelf)
     (texts : List (List ℕ)) : Type 0 where
   pub well : loads_well (content old) (take place names) (Ok texts)
   pub stay : CountsStay (faults old) (faults now)
@@ -34,15 +34,12 @@ pub record IsLoadedTo {Shelf : Type 0} (content : Shelf → Contents) (faults : 
   pub path : AreLoaded Loads (take place names) old now
 
 module _ {Shelf : Type 0} (content : Shelf → Contents) (faults : Shelf → Counts)
-    (Loads : Shelf → List ℕ → Shelf → Type 0) (names : List (List ℕ)) where
-  pub none_loaded : (old : Shelf) → IsLoadedTo content faults Loads names 0 old old []
-  none_loaded old = record { well = refl; stay = λ n. refl; same = λ n. refl; path = refl }
-
+    (Loads : LoadsOf Shelf) (names : List (List ℕ)) where
   pub next_loaded : (place : ℕ) (old now next : Shelf) (texts : List (List ℕ)) (name text : List ℕ)
       → take (place + 1) names ≡ take place names ++ name ∷ []
       → IsLoadedTo content faults Loads names place old now texts
       → load_well (content now) name (Ok text) → CountsStay (faults now) (faults next)
-      → ((n : List ℕ) → content next n ≡ content now n) → Loads now name next
+      → ((n : List ℕ) → content next n ≡ content now n) → Loads now name (Ok text) next
       → IsLoadedTo content faults Loads names (place + 1) old next (texts ++ text ∷ [])
   next_loaded place old now next texts name text more before well stay same one =
       let since = load_since (content old) (content now) (faults old) (faults now) (faults next)
@@ -51,7 +48,7 @@ module _ {Shelf : Type 0} (content : Shelf → Contents) (faults : Shelf → Cou
         well = rw more (one_more_well (content old) (take place names) name texts text before.well since);
         stay = λ n. stay n ∙ before.stay n;
         same = λ n. same n ∙ before.same n;
-        path = rw more (one_more_loaded Loads (take place names) name old now next before.path one);
+        path = rw more (one_more_loaded Loads (take place names) name text old now next before.path one);
       }
 
   -- a load that stops: its name is the last that was loaded
@@ -69,16 +66,37 @@ module _ {Shelf : Type 0} (content : Shelf → Contents) (faults : Shelf → Cou
       subst (λ (ns : List (List ℕ)). loads (content old) (faults old) (faults next) ns (Err r)) (sym cut) refused
   stops_there place old now next texts later name e cut before may = absurd may
 
-  pub first_loaded : (place : ℕ) (old now next : Shelf) (texts later : List (List ℕ)) (name : List ℕ)
+  -- its load gave no text
+  pub first_unread : (place : ℕ) (old now next : Shelf) (texts later : List (List ℕ)) (name : List ℕ)
       → names ≡ take place names ++ name ∷ later
       → IsLoadedTo content faults Loads names place old now texts
-      → Loads now name next → LoadsFirst Loads names old next
-  first_loaded place old now next texts later name cut before one = (
-    take place names ++ name ∷ [],
-    later,
-    cut ∙ sym (append_assoc (take place names) (name ∷ []) later),
-    one_more_loaded Loads (take place names) name old now next before.path one,
-  )
+      → IsUnread Loads name now next → LoadsFirst Loads names old next
+  first_unread place old now next texts later name cut before unread = record {
+    first = take place names;
+    later = name ∷ later;
+    cut = cut;
+    between = now;
+    loaded = before.path;
+    stops = inr unread;
+  }
+
+  no_more : (files : List (List ℕ)) (now : Shelf) → StopsLoading Loads files now now
+  no_more [] now = refl
+  no_more (file ∷ files) now = inl refl
+
+  -- or gave one, for which memory ran out
+  pub first_loaded : (place : ℕ) (old now next : Shelf) (texts later : List (List ℕ)) (name text : List ℕ)
+      → names ≡ take place names ++ name ∷ later
+      → IsLoadedTo content faults Loads names place old now texts
+      → Loads now name (Ok text) next → LoadsFirst Loads names old next
+  first_loaded place old now next texts later name text cut before one = record {
+    first = take place names ++ name ∷ [];
+    later = later;
+    cut = cut ∙ sym (append_assoc (take place names) (name ∷ []) later);
+    between = next;
+    loaded = one_more_loaded Loads (take place names) name text old now next before.path one;
+    stops = no_more later next;
+  }
 
   -- all are loaded
   pub all_are : (place : ℕ) (old now : Shelf) (texts : List (List ℕ)) → take place names ≡ names
@@ -86,10 +104,6 @@ module _ {Shelf : Type 0} (content : Shelf → Contents) (faults : Shelf → Cou
       → loads (content old) (faults old) (faults now) names (Ok texts)
   all_are place old now texts all before =
       loads_of_well (content old) (faults old) (faults now) names texts (rw all at before.well) before.stay
-
-  pub all_first : (place : ℕ) (old now : Shelf) (texts : List (List ℕ)) → take place names ≡ names
-      → IsLoadedTo content faults Loads names place old now texts → LoadsFirst Loads names old now
-  all_first place old now texts all before = (names, [], sym (append-nil names), rw all at before.path)
 
 -- ---- a command, before and after its files are loaded
 pub not_loaded : (loading : LoadStage) (asked : Request) (e : Ending) → MayStopLoading (loading asked.files) e

@@ -4,28 +4,29 @@ use Rattle.std.proofs.Common.{Bor, Vec, Global, add-one}
 use Rattle.std.proofs.Math.ListN.{get_or-map}
 use Rattle.std.proofs.Math.Seq.{take-suc}
 use Rattle.std.proofs.lemmas.List.{take-append-drop, length-map}
+use Rattle.si_words.specs.Loops.Reads.{words_now}
 use Rattle.si_tool.proofs.FormLemmas.{at_place}
-use Rattle.si_tool.specs.Reads.{names_now, texts_now}
+use Rattle.si_tool.specs.Loops.Reads.{texts_now}
 
 -- what a read past the end of a list of names gives
 abbrev pub no_name : Bor (List ℕ)
 no_name = record { ref_ptr = (0, 0); now = [] }
 
 one_name : (files : List (Bor (List ℕ))) → length files ≡ 1
-    → names_now files ≡ (get_or files 0 no_name).now ∷ []
+    → words_now files ≡ (get_or files 0 no_name).now ∷ []
 one_name [] many = absurd (omega (arith, many))
 one_name (a ∷ []) many = cc
 one_name (a ∷ b ∷ files) many = absurd (omega (arith, many))
 
 two_names : (files : List (Bor (List ℕ))) → length files ≡ 2
-    → names_now files ≡ (get_or files 0 no_name).now ∷ (get_or files 1 no_name).now ∷ []
+    → words_now files ≡ (get_or files 0 no_name).now ∷ (get_or files 1 no_name).now ∷ []
 two_names [] many = absurd (omega (arith, many))
 two_names (a ∷ []) many = absurd (omega (arith, many))
 two_names (a ∷ b ∷ []) many = cc
 two_names (a ∷ b ∷ c ∷ files) many = absurd (omega (arith, many))
 
 three_names : (files : List (Bor (List ℕ))) → length files ≡ 3
-    → names_now files
+    → words_now files
     ≡ (get_or files 0 no_name).now ∷ (get_or files 1 no_name).now ∷ (get_or files 2 no_name).now ∷ []
 three_names [] many = absurd (omega (arith, many))
 three_names (a ∷ []) many = absurd (omega (arith, many))
@@ -58,13 +59,13 @@ three_texts (t ∷ u ∷ v ∷ w ∷ texts) a b c x y z many is at third same al
 -- names and texts, where there are as many of these as of those
 pub read_one : (files : List (Bor (List ℕ))) (texts : List (Vec ℕ Global)) (a : Vec ℕ Global) (x : List ℕ)
     → length files ≡ 1 → length texts ≡ length files → a ≡ get_or texts 0 a → x ≡ a.items
-    → (names_now files ≡ (get_or files 0 no_name).now ∷ []) × (texts_now texts ≡ x ∷ [])
+    → (words_now files ≡ (get_or files 0 no_name).now ∷ []) × (texts_now texts ≡ x ∷ [])
 read_one files texts a x many each is same = (one_name files many, one_text texts a x (each ∙ many) is same)
 
 pub read_two : (files : List (Bor (List ℕ))) (texts : List (Vec ℕ Global)) (a b : Vec ℕ Global) (x y : List ℕ)
     → length files ≡ 2 → length texts ≡ length files → a ≡ get_or texts 0 a → b ≡ get_or texts 1 b
     → x ≡ a.items → y ≡ b.items
-    → (names_now files ≡ (get_or files 0 no_name).now ∷ (get_or files 1 no_name).now ∷ [])
+    → (words_now files ≡ (get_or files 0 no_name).now ∷ (get_or files 1 no_name).now ∷ [])
     × (texts_now texts ≡ x ∷ y ∷ [])
 read_two files texts a b x y many each is at same also =
     (two_names files many, two_texts texts a b x y (each ∙ many) is at same also)
@@ -73,7 +74,7 @@ pub read_three : (files : List (Bor (List ℕ))) (texts : List (Vec ℕ Global))
     (x y z : List ℕ) → length files ≡ 3 → length texts ≡ length files
     → a ≡ get_or texts 0 a → b ≡ get_or texts 1 b → c ≡ get_or texts 2 c → x ≡ a.items → y ≡ b.items
     → z ≡ c.items
-    → (names_now files
+    → (words_now files
     ≡ (get_or files 0 no_name).now ∷ (get_or files 1 no_name).now ∷ (get_or files 2 no_name).now ∷ [])
     × (texts_now texts ≡ x ∷ y ∷ z ∷ [])
 read_three files texts a b c x y z many each is at third same also last =
@@ -81,17 +82,17 @@ read_three files texts a b c x y z many each is at third same also last =
 
 -- ---- names up to a place, at it and after it
 pub cut_at : (files : List (Bor (List ℕ))) (place : ℕ) → place < length files
-    → names_now files ≡ take place (names_now files)
-    ++ (get_or files place no_name).now ∷ drop (place + 1) (names_now files)
+    → words_now files ≡ take place (words_now files)
+    ++ (get_or files place no_name).now ∷ drop (place + 1) (words_now files)
 cut_at files place below =
-    sym (take-append-drop place (names_now files))
-    ∙ ap (λ (later : List (List ℕ)). take place (names_now files) ++ later)
+    sym (take-append-drop place (words_now files))
+    ∙ ap (λ (later : List (List ℕ)). take place (words_now files) ++ later)
     (at_place (λ name. name.now) files place no_name below)
 
 pub one_more_name : (files : List (Bor (List ℕ))) (place : ℕ) → place < length files
-    → take (place + 1) (names_now files) ≡ take place (names_now files) ++ (get_or files place no_name).now ∷ []
+    → take (place + 1) (words_now files) ≡ take place (words_now files) ++ (get_or files place no_name).now ∷ []
 one_more_name files place below =
     let many = length-map files (λ name. name.now) in
-    let within : place < length (names_now files) = omega (arith, many, below) in
+    let within : place < length (words_now files) = omega (arith, many, below) in
     rw (add-one place, sym (get_or-map (λ name. name.now) files place no_name))
-    (take-suc (names_now files) place [] within)
+    (take-suc (words_now files) place [] within)

@@ -1,18 +1,19 @@
 -- How a run ends, by what the words ask for and what the files come to.
-use Rattle.std.proofs.Common.{◌≡◌, ◌≢◌, ℕ, zero, suc, List, [], ◌∷◌, ◌++◌, take, refl, sym, ap, subst}
+use Rattle.std.proofs.Common.{◌≡◌, ◌≢◌, ℕ, List, [], ◌∷◌, ◌++◌, Ok, Err, refl, sym, ap, subst}
 use Rattle.std.proofs.Common.{◌∙◌, arith, ◌⊎◌, inl, inr, String, Global}
-use Rattle.si_io.specs.Outside.{Rose, Appends, AppendsPrefix}
+use Rattle.si_io.specs.Outside.{Rose, Appends}
+use Rattle.si_io.specs.declared.sink.PutFault.TheVariants.{NoMemory as NoRoom}
 use Rattle.si_tool.specs.Command.{Request, Asks, AsksNothing, NamesNoFile}
 use Rattle.si_refusals.specs.Ending.{Ending, NoMemory, Usage, WriteFault, Answered, IsRefusal, status_of}
-use Rattle.si_refusals.specs.Ending.{line_of, ending_of}
+use Rattle.si_refusals.specs.Ending.{ending_of}
 use Rattle.si_tool.specs.Laws.{ShowsCause}
-use Rattle.si_tool.specs.Loads.{Contents, Counts, AreTold, AreLoaded, loads, loads_well, no_faults}
+use Rattle.si_tool.specs.Loads.{Contents, Counts, AreTold, AreLoaded, LoadsOf, StopsLoading, loads, loads_well, no_faults}
 use Rattle.si_tool.specs.Meaning.{LoadStage, ComesTo, MayStopCommand, WordsComeTo}
 use Rattle.si_refusals.specs.Refusal.{TextRefusal, Answer, Output, FileRefused, TextRefused}
 use Rattle.si_refusals.specs.Refusal.{ReadFault, TooLong}
 use Rattle.si_refusals.specs.Refusal.{Improper, answer_status, text_status}
 use Rattle.si_tool.specs.Run.{SinkChange, IsKept, IsCutShort, IsDone, MayEnd, Ends, PutsDue, Deserve}
-use Rattle.si_tool.specs.Run.{LoadsNamed, NoneLoaded, FirstLoaded}
+use Rattle.si_tool.specs.Run.{IsUntaken, PutsOneLine, TellsOnce, LoadsNamed, NoneLoaded, FirstLoaded}
 use Rattle.si_tool.specs.Run.{ReadRose, IsDeservedUnlessFault, AsDeserved, WithoutMemory, ByReadFault, ByWriteFault}
 use Rattle.si_refusals.specs.declared.refusals.Refusal.{Refusal}
 use Rattle.si_refusals.specs.declared.refusals.Refusal.TheVariants as made
@@ -21,7 +22,7 @@ use Rattle.si_refusals.specs.declared.status.Status.TheVariants as status
 use Rattle.si_tool.proofs.MeaningAnswers.{command_one, command_or_fault, IsReadFault}
 use Rattle.si_tool.proofs.LoadLemmas.{read_rose, long_without_fault}
 use Rattle.si_tool.proofs.FormOverlap.{one_request}
-use Rattle.si_tool.proofs.RunSinks.{nothing_put, put_nothing}
+use Rattle.si_tool.proofs.RunSinks.{nothing_put}
 
 -- ---- what a run was told comes to one answer, faults of loads aside
 comes_as : (words : List (String Global)) (content : Contents) (before now : Counts) (a b : Answer)
@@ -133,12 +134,12 @@ module _ (words : List (String Global)) (loading : LoadStage) (out : SinkChange)
   by_refused (Answered (FileRefused (TooLong file))) q may is = absurd ((of_texts q).not_long is)
   by_refused NoMemory q may is = absurd ((of_texts q).not_memory is)
 
-  -- where a run isn't done, `out` is as it was, or has a prefix of the output where a fault was counted
+  -- where a run isn't done, nothing was put on `out`, or it could not take the output
   by_kept : (e : Ending) → MayEnd words loading out e → status_of e ≢ status.Done
-      → IsKept out ⊎ IsCutShort words loading out
+      → IsKept out ⊎ (IsUntaken words loading out ⊎ IsCutShort words loading out)
   by_kept NoMemory may other = may
   by_kept Usage may other = inl may.1
-  by_kept WriteFault may other = inr may
+  by_kept WriteFault may other = inr (inr may)
   by_kept (Answered (Output text)) may other = absurd (other refl)
   by_kept (Answered (FileRefused u)) may other = inl may.1
   by_kept (Answered (TextRefused r)) may other = inl may.1
@@ -197,22 +198,16 @@ shows_cause words content before now out err result ends = record {
         × WordsComeTo words (loads content before now) (FileRefused (TooLong file)) × IsKept out
     long is = by_long words (loads content before now) out ends.ending ends.may (at status.TooLong is)
 
-take_nothing : (k : ℕ) → take {A = ℕ} k [] ≡ []
-take_nothing zero = refl
-take_nothing (suc k) = refl
-
 pub ends_silent : (words : List (String Global)) (loading : LoadStage) (out err : SinkChange) (result : Status)
-    → Ends words loading out err result → result ≡ status.Done → err.new ≡ err.old
-ends_silent words loading out err result ends done = by ends.ending (sym ends.puts.status_is ∙ done) ends.puts.part
+    → Ends words loading out err result → result ≡ status.Done → IsKept err
+ends_silent words loading out err result ends done = by ends.ending (sym ends.puts.status_is ∙ done) ends.told
   where
-    by : (e : Ending) → status_of e ≡ status.Done → AppendsPrefix err.old (line_of e) err.new → err.new ≡ err.old
-    by (Answered (Output text)) is part =
-        put_nothing err.old err.new (subst (λ (piece : List ℕ). Appends err.old piece err.new)
-        (take_nothing part.0) part.1)
-    by (Answered (FileRefused (ReadFault file))) is part = cc
-    by (Answered (FileRefused (TooLong file))) is part = cc
-    by (Answered (TextRefused r)) is part = absurd ((of_texts r).not_done is)
-    by e is part = cc
+    by : (e : Ending) → status_of e ≡ status.Done → TellsOnce e err → IsKept err
+    by (Answered (Output text)) is told = told
+    by (Answered (FileRefused (ReadFault file))) is told = cc
+    by (Answered (FileRefused (TooLong file))) is told = cc
+    by (Answered (TextRefused r)) is told = absurd ((of_texts r).not_done is)
+    by e is told = cc
 
 -- ---- where no fault is counted
 never_rose : (before : ℕ) → Rose before 0 → ⊥
@@ -239,11 +234,14 @@ pub never_unwritten : (words : List (String Global)) (content : Contents) (befor
 never_unwritten words content before now out result none shows is =
     unwritten_not words (loads content before now) out none (shows.write_fault is)
 
+-- and where a put that finds no memory leaves a sink as it was
 pub always_kept : (words : List (String Global)) (content : Contents) (before now : Counts) (out : SinkChange)
-    (result : Status) → out.now ≡ 0 → ShowsCause words content before now out result → result ≢ status.Done → IsKept out
-always_kept words content before now out result none shows other = elim (shows.out_refused other) [
+    (result : Status) → out.now ≡ 0 → ((piece : List ℕ) → out.Puts piece (Err NoRoom) → IsKept out)
+    → ShowsCause words content before now out result → result ≢ status.Done → IsKept out
+always_kept words content before now out result none without shows other = elim (shows.out_refused other) [
   | inl kept ↦ kept
-  | inr unwritten ↦ absurd (unwritten_not words (loads content before now) out none unwritten)
+  | inr (inl untaken) ↦ without untaken.output untaken.put
+  | inr (inr unwritten) ↦ absurd (unwritten_not words (loads content before now) out none unwritten)
 ]
 
 -- ---- from what is due to how the run ends
@@ -251,10 +249,22 @@ without_memory : (words : List (String Global)) (loading : LoadStage) (out : Sin
     → MayEnd words loading out e → MayEnd words loading out NoMemory
 without_memory words loading out NoMemory is may = may
 without_memory words loading out Usage is may = inl may.1
-without_memory words loading out WriteFault is may = inr may
+without_memory words loading out WriteFault is may = inr (inr may)
 without_memory words loading out (Answered (Output text)) is may = absurd is
 without_memory words loading out (Answered (FileRefused u)) is may = inl may.1
 without_memory words loading out (Answered (TextRefused r)) is may = inl may.1
+
+line_told : (err : SinkChange) (e : Ending) → IsRefusal e → PutsOneLine e err → TellsOnce e err
+line_told err NoMemory is once = once
+line_told err Usage is once = once
+line_told err WriteFault is once = once
+line_told err (Answered (Output text)) is once = absurd is
+line_told err (Answered (FileRefused u)) is once = once
+line_told err (Answered (TextRefused r)) is once = once
+
+due_refusal : (due e : Ending) → IsRefusal due → (e ≡ due) ⊎ (e ≡ NoMemory) → IsRefusal e
+due_refusal due e is (inl same) = subst IsRefusal (sym same) is
+due_refusal due e is (inr want) = subst IsRefusal (sym want) tt
 
 pub ends_as_put : (words : List (String Global)) (loading : LoadStage) (out err : SinkChange) (result : Status)
     (due : Ending)
@@ -267,6 +277,7 @@ ends_as_put words loading out err result due is may due_put = record {
         (without_memory words loading out due is may)
   ];
   puts = due_put.puts;
+  told = line_told err due_put.ending (due_refusal due due_put.ending is due_put.one_of) due_put.once;
 }
 
 pub refusal_ends : (r : Refusal) → IsRefusal (ending_of r)
@@ -274,9 +285,9 @@ refusal_ends (made.Improper breach) = tt
 refusal_ends r = tt
 
 pub ends_written : (words : List (String Global)) (loading : LoadStage) (out err : SinkChange) (output : List ℕ)
-    → WordsComeTo words loading (Output output) → Appends out.old output out.new → out.Took output
-    → err.new ≡ err.old → Ends words loading out err status.Done
-ends_written words loading out err output comes written taken kept = record {
+    → WordsComeTo words loading (Output output) → Appends out.old output out.new → out.Puts output (Ok tt)
+    → err.new ≡ err.old → IsKept err → Ends words loading out err status.Done
+ends_written words loading out err output comes written taken kept silent = record {
   ending = Answered (Output output);
   may = (comes, (written, taken));
   puts = record {
@@ -284,6 +295,7 @@ ends_written words loading out err output comes written taken kept = record {
     part = (0, nothing_put err.old err.new [] kept);
     whole = inr (inl (nothing_put err.old err.new [] kept));
   };
+  told = silent;
 }
 
 -- a call that stops before the output is there
@@ -297,23 +309,33 @@ stops_run words loading out asked (Answered (TextRefused r)) asks kept may =
 stops_run words loading out asked e asks kept may = absurd may
 
 -- ---- which files are loaded
-pub none_named : {Shelf : Type 0} (Loads : Shelf → List ℕ → Shelf → Type 0) (words : List (String Global))
+pub none_named : {Shelf : Type 0} (Loads : LoadsOf Shelf) (words : List (String Global))
     (old new : Shelf) → NamesNoFile words → LoadsNamed Loads words old new → new ≡ old
 none_named Loads words old new none (NoneLoaded same) = same
-none_named Loads words old new none (FirstLoaded asked asks first) =
-    untouched first.0 first.1 (sym (none asked asks) ∙ first.2) first.3
+none_named {Shelf} Loads words old new none (FirstLoaded asked asks first) =
+    untouched first.first first.later first.between (sym (none asked asks) ∙ first.cut) first.loaded first.stops
   where
-    untouched : (former later : List (List ℕ)) → [] ≡ former ++ later → AreLoaded Loads former old new → new ≡ old
-    untouched [] later is path = path
-    untouched (file ∷ former) later is path = cc
+    untouched : (former later : List (List ℕ)) (between : Shelf) → [] ≡ former ++ later
+        → AreLoaded Loads former old between → StopsLoading Loads later between new → new ≡ old
+    untouched [] [] between is path stops = stops ∙ path
+    untouched [] (file ∷ later) between is path stops = cc
+    untouched (file ∷ former) later between is path stops = cc
 
 -- where a load changes nothing
+abbrev pub KeepsAll : {Shelf : Type 0} → LoadsOf Shelf
+KeepsAll before name answer after = after ≡ before
+
 pub always_same : {Shelf : Type 0} (words : List (String Global)) (old new : Shelf)
-    → LoadsNamed (λ before name after. after ≡ before) words old new → new ≡ old
+    → LoadsNamed KeepsAll words old new → new ≡ old
 always_same words old new (NoneLoaded same) = same
-always_same {Shelf} words old new (FirstLoaded asked asks first) = along first.0 old first.3
+always_same {Shelf} words old new (FirstLoaded asked asks first) =
+    stopped first.later first.stops ∙ along first.first old first.loaded
   where
-    along : (names : List (List ℕ)) (now : Shelf) → AreLoaded (λ before name after. after ≡ before) names now new
-        → new ≡ now
+    along : (names : List (List ℕ)) (now : Shelf) → AreLoaded KeepsAll names now first.between → first.between ≡ now
     along [] now path = path
-    along (name ∷ names) now path = along names path.0 path.2 ∙ path.1
+    along (name ∷ names) now path = along names path.1 path.3 ∙ path.2
+
+    stopped : (later : List (List ℕ)) → StopsLoading KeepsAll later first.between new → new ≡ first.between
+    stopped [] stops = stops
+    stopped (file ∷ later) (inl same) = same
+    stopped (file ∷ later) (inr unread) = unread.1

@@ -1,7 +1,8 @@
 pub mod About
 pub mod Command
-pub mod Reads
 pub mod Loads
 pub mod Meaning
 pub mod Run
 pub mod Laws
+pub mod Theorem
+pub mod Loops

@@ -7,15 +7,17 @@ use Rattle.si_tool.specs.Command.{Request, Asks, number_of}
 use Rattle.si_tool.specs.declared.command.Task.{Task}
 use Rattle.si_tool.specs.declared.command.Task.TheVariants.{About, Tell, Synth, Map, FromGenlib}
 use Rattle.si_tool.specs.declared.command.Task.TheVariants.{Verilog, Replay, Audit, Exercise}
-use Rattle.si_tool.specs.declared.command.Task.TheVariants.{Resolve, Insert}
+use Rattle.si_tool.specs.declared.command.Task.TheVariants.{TellNetlist, Resolve, Insert, Same}
 use Rattle.si_refusals.specs.Ending.{Ending, NoMemory, Answered}
 use Rattle.si_refusals.specs.Refusal.{FileRefusal, TextRefusal, Answer, Output}
 use Rattle.si_refusals.specs.Refusal.{FileRefused, TextRefused}
 use Rattle.si_refusals.specs.Stages.{Stage, gives}
-use Rattle.si_stages.specs.Exercise.{exercise}
+use Rattle.si_exercise.specs.Exercise.{exercise}
 use Rattle.si_stages.specs.Genlib.{genlib}
 use Rattle.si_stages.specs.Inserted.{insert, resolve}
 use Rattle.si_stages.specs.Meaning.{report, synth, mapping, replay, audit}
+use Rattle.si_likeness.specs.Same.{same}
+use Rattle.si_stages.specs.NetlistReports.{netlist_report}
 use Rattle.si_stages.specs.Verilog.{verilog}
 
 -- a task over its files, each with its text
@@ -26,11 +28,13 @@ meaning (Synth style) (file ∷ []) (text ∷ []) = synth style file text
 meaning (Map format) (g ∷ l ∷ []) (graph ∷ library ∷ []) = mapping format g graph l library
 meaning FromGenlib (file ∷ []) (text ∷ []) = genlib file text
 meaning Verilog (file ∷ []) (text ∷ []) = verilog file text
+meaning (TellNetlist what) (file ∷ []) (text ∷ []) = netlist_report what file text
 meaning (Replay what) (g ∷ n ∷ s ∷ []) (graph ∷ netlist ∷ schedule ∷ []) =
     replay what g graph n netlist s schedule
 meaning Audit (g ∷ n ∷ []) (graph ∷ netlist ∷ []) = audit g graph n netlist
 meaning Resolve (file ∷ []) (text ∷ []) = resolve file text
 meaning Insert (g ∷ n ∷ []) (graph ∷ netlist ∷ []) = insert g graph n netlist
+meaning Same (f ∷ g ∷ []) (one ∷ other ∷ []) = same f one g other
 meaning (Exercise count) [] [] = exercise (number_of count)
 meaning task files texts = λ answer. ⊥
 

@@ -42,7 +42,7 @@ impl Topic {
     }
 }
 
-/// Each form of the command line with an example, what the files are, and where the documents are.
+/// Each form of the command line, what the files are, some examples, and where the documents are.
 const HELP: &[u8] = b"sisyn makes circuits without a clock from state graphs.
 
   sisyn check F                      the size of a graph, where it is proper
@@ -50,6 +50,7 @@ const HELP: &[u8] = b"sisyn makes circuits without a clock from state graphs.
   sisyn regions F                    where events are excited, and what follows
   sisyn conflicts F                  states that no gates can tell apart
   sisyn explain F                    walks to them, and which no signal resolves
+  sisyn lint F                       dead ends, and more worth a second look
   sisyn covers F                     sums for each signal, and monotonous cubes
   sisyn fold F                       the graph with alike states merged
   sisyn dot F                        the graph as a picture for Graphviz
@@ -61,42 +62,40 @@ const HELP: &[u8] = b"sisyn makes circuits without a clock from state graphs.
   sisyn insert F NETLIST             the graph after insertions of a netlist
   sisyn genlib FILE                  a library of genlib as a library of cells
   sisyn verilog NETLIST              a netlist as a module of Verilog
+  sisyn loops NETLIST                which pins to cut, so that it has no loop
+  sisyn reset NETLIST                which outputs to force, so that it starts
   sisyn replay F NETLIST SCHEDULE    where a schedule over a netlist ends
   sisyn wave F NETLIST SCHEDULE      the same as a Value Change Dump
   sisyn audit F NETLIST              whether a netlist is certified for a graph
+  sisyn same F G                     whether two graphs behave alike
   sisyn exercise N                   the sizes of N handshakes, from 1 to 8
   sisyn --help, -h or help           this text
   sisyn --version                    the version
 
-F is a state graph, in the text that petrify calls .sg: lists of signals, then
-arcs such as 's0 a+ s1'. Petri nets (.g) are not read: unfold them first. LIB is
-a library of cells ('.cell AND2 a b = a b'), FILE one of genlib, NETLIST a
-netlist as synth and map write it, and SCHEDULE a list of events ('a+ b+ c+').
+F and G are state graphs, in the text that petrify calls .sg: lists of signals,
+then arcs such as 's0 a+ s1'. Petri nets (.g) are not read: unfold them first.
+LIB is a library of cells ('.cell AND2 a b = a b'), FILE one of genlib, NETLIST
+a netlist as synth and map write it, and SCHEDULE events, such as 'a+ b+ c+'.
 Each is the name of a file; /dev/stdin and <(..) serve too.
 
 A run that succeeds writes to standard output. A refused run writes one line to
-standard error, and ends with a status from 1 to 11.
+standard error, and ends with a status from 1 to 14.
 
 Examples, beside the sources:
 
   sisyn check examples/vme-read.sg
-  sisyn states examples/vme-read.sg
-  sisyn regions examples/c-element.sg
-  sisyn conflicts examples/vme-read.sg
   sisyn explain examples/pulse-train.sg
-  sisyn covers examples/c-element.sg
-  sisyn fold examples/vme-read.sg
+  sisyn lint examples/vme-read.sg
   sisyn dot examples/vme-read.sg | dot -Tsvg > vme-read.svg
   sisyn synth examples/vme-read.sg complex > vme-read.net
-  sisyn map examples/vme-read.sg examples/four.lib
   sisyn map examples/c-element-three.sg genlib examples/everyday.genlib
   sisyn resolve examples/vme-read.sg | sisyn synth /dev/stdin gc
-  sisyn insert examples/vme-read.sg examples/vme-read.net
-  sisyn genlib examples/everyday.genlib > everyday.lib
   sisyn verilog examples/vme-read.net > vme-read.v
+  sisyn reset examples/vme-read.net
   sisyn replay examples/c-element.sg examples/c-element.net <(echo 'a+ b+ c+')
   sisyn wave examples/c-element.sg examples/c-element.net <(echo 'a+ b+ c+')
   sisyn audit examples/vme-read.sg examples/vme-read.net
+  sisyn same examples/passivator.sg examples/passivator-by-hand.sg
   sisyn exercise 5
 
 The documents stand beside the sources: README.md has a walk through the

@@ -1,10 +1,11 @@
 //! What the words of a command line ask for.
 
 ghost use Rattle.std.specs.Prelude.{◌≡◌, ◌<◌, ◌≤◌, ℕ, List, IfOk, IfErr, MatchOption};
+ghost use Rattle.si_words.specs.Loops.Reads.{words_now};
 ghost use Rattle.si_refusals.specs.Ending.{ending_of};
 ghost use Rattle.si_tool.specs.Command.{Asks, MayStopAsking};
 ghost use Rattle.si_tool.specs.Command as command;
-ghost use Rattle.si_tool.specs.Reads.{names_now, request_of};
+ghost use Rattle.si_tool.specs.Loops.Reads.{request_of};
 ghost use Rattle.si_handshakes.specs.Handshakes.{max_handshakes};
 
 use crate::about::{HelpWord, Topic};
@@ -13,6 +14,7 @@ use crate::form::files_in;
 use si_circuit::style::Style;
 use si_readings::library_format::LibraryFormat;
 use si_refusals::refusals::Refusal;
+use si_stages::netlist_report::NetlistReport;
 use si_stages::replay_kind::ReplayReport;
 use si_stages::report_kind::Report;
 use std::alloc::{AllocError, Global};
@@ -81,6 +83,8 @@ pub enum Task {
     FromGenlib,
     /// A netlist as a module of Verilog.
     Verilog,
+    /// A report on a netlist.
+    TellNetlist(NetlistReport),
     /// What is told of a schedule over a netlist beside a graph.
     Replay(ReplayReport),
     /// Whether a netlist is certified for a graph.
@@ -89,12 +93,14 @@ pub enum Task {
     Resolve,
     /// The graph after the insertions of a netlist.
     Insert,
+    /// Whether two graphs behave alike.
+    Same,
     /// The sizes of so many handshakes.
     Exercise(HandshakeCount),
 }
 
 /// Each task. No two of them have a form in common.
-const TASKS: [Task; 31] = [
+const TASKS: [Task; 35] = [
     Task::About(Topic::Help(HelpWord::Long)),
     Task::About(Topic::Help(HelpWord::Short)),
     Task::About(Topic::Help(HelpWord::Plain)),
@@ -126,6 +132,10 @@ const TASKS: [Task; 31] = [
     Task::Exercise(HandshakeCount::Six),
     Task::Exercise(HandshakeCount::Seven),
     Task::Exercise(HandshakeCount::Eight),
+    Task::Same,
+    Task::Tell(Report::Lint),
+    Task::TellNetlist(NetlistReport::Loops),
+    Task::TellNetlist(NetlistReport::Reset),
 ];
 
 /// A command: its task, and the names of its files in the order of the words.
@@ -158,7 +168,7 @@ fn files_for<'w>(
 ) -> Result<Option<Vec<&'w str>>, AllocError>
     ensures { IfOk result (λ found. MatchOption found
         ((files : List (List ℕ)) → Asks words.now (record { task = task; files = files }) → ⊥)
-        (λ files. Asks words.now (record { task = task; files = names_now files.items }))) }
+        (λ files. Asks words.now (record { task = task; files = words_now files.items }))) }
 {
     match task {
         Task::About(topic) => files_in(alloc, words, &[Word(topic.word())]),
@@ -173,12 +183,14 @@ fn files_for<'w>(
         }
         Task::FromGenlib => files_in(alloc, words, &[Word("genlib"), File]),
         Task::Verilog => files_in(alloc, words, &[Word("verilog"), File]),
+        Task::TellNetlist(report) => { files_in(alloc, words, &[Word(netlist_word(report)), File]) }
         Task::Replay(report) => {
             files_in(alloc, words, &[Word(replay_word(report)), File, File, File])
         }
         Task::Audit => files_in(alloc, words, &[Word("audit"), File, File]),
         Task::Resolve => files_in(alloc, words, &[Word("resolve"), File]),
         Task::Insert => files_in(alloc, words, &[Word("insert"), File, File]),
+        Task::Same => files_in(alloc, words, &[Word("same"), File, File]),
         Task::Exercise(count) => files_in(alloc, words, &[Word("exercise"), Word(count.word())]),
     }
 }
@@ -196,6 +208,17 @@ fn report_word(report: Report) -> &'static str
         Report::States => "states",
         Report::Explain => "explain",
         Report::Dot => "dot",
+        Report::Lint => "lint",
+    }
+}
+
+/// The word for a report on a netlist.
+fn netlist_word(report: NetlistReport) -> &'static str
+    ensures { result.now ≡ command.netlist_word report }
+{
+    match report {
+        NetlistReport::Loops => "loops",
+        NetlistReport::Reset => "reset",
     }
 }
 

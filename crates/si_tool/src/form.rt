@@ -1,8 +1,9 @@
 //! The form of a command, and the words that have it.
 
 ghost use Rattle.std.specs.Prelude.{ℕ, List, IfOk, MatchOption};
+ghost use Rattle.si_words.specs.Loops.Reads.{words_now};
 ghost use Rattle.si_tool.specs.Command.{HasForm, words_of};
-ghost use Rattle.si_tool.specs.Reads.{names_now, slots_now};
+ghost use Rattle.si_tool.specs.Loops.Reads.{slots_now};
 
 use std::alloc::{AllocError, Global};
 
@@ -23,7 +24,7 @@ pub fn files_in<'w>(
 ) -> Result<Option<Vec<&'w str>>, AllocError>
     ensures { IfOk result (λ found. MatchOption found
         ((files : List (List ℕ)) → HasForm (slots_now form.now) (words_of words.now) files → ⊥)
-        (λ files. HasForm (slots_now form.now) (words_of words.now) (names_now files.items))) }
+        (λ files. HasForm (slots_now form.now) (words_of words.now) (words_now files.items))) }
 {
     let mut files = Vec::new(alloc);
     if words.len() != form.len() {

@@ -1,25 +1,28 @@
 //! What a command puts on `out`.
 
-ghost use Rattle.std.specs.Prelude.{◌≡◌, ℕ, ◌≤◌, List, IfOk, IfErr, Ok, length};
+ghost use Rattle.std.specs.Prelude.{◌≡◌, ℕ, ◌≤◌, List, IfOk, IfErr, OnErr, Ok, length};
+ghost use Rattle.si_words.specs.Loops.Reads.{words_now};
 ghost use Rattle.si_refusals.specs.Ending.{MayStop, MayStopLoading, ending_of};
 ghost use Rattle.si_refusals.specs.Refusal.{Output};
 ghost use Rattle.si_tool.specs.Command.{file_count, form_of};
 ghost use Rattle.si_tool.specs.Loads as stage;
-ghost use Rattle.si_tool.specs.Loads.{CountsStay, LoadsFirst, loads};
+ghost use Rattle.si_tool.specs.Loads.{CountsStay, IsUnread, LoadsFirst, loads};
 ghost use Rattle.si_tool.specs.Meaning.{ComesTo, MayStopCommand, meaning};
-ghost use Rattle.si_tool.specs.Reads.{names_now, request_of, texts_now};
+ghost use Rattle.si_tool.specs.Loops.Reads.{request_of, texts_now};
 
 use crate::about::about;
 use crate::command::{Command, Task};
 use si_base::limits::MAX_TEXT;
 use si_base::text::Text;
+use si_exercise::exercise::exercise;
 use si_io::shelf::{LoadFault, Shelf};
+use si_likeness::same::same;
 use si_refusals::refusals::Refusal;
 use si_stages::audited::audit_texts;
-use si_stages::exercise::exercise;
 use si_stages::genlib::genlib;
 use si_stages::inserted::{insert, resolve};
 use si_stages::mapping::map_texts;
+use si_stages::netlist_report::netlist_report;
 use si_stages::replayed::replay_texts;
 use si_stages::report::report;
 use si_stages::synth::synth;
@@ -39,7 +42,7 @@ pub fn output<'w, H: Shelf>(
     ensures err { IfErr result (λ r. MayStopCommand
         (loads (H.content shelf.old) (H.faults shelf.old) (H.faults shelf.new))
         (request_of command.now) (ending_of r)) }
-    ensures loaded { LoadsFirst H.loads (names_now command.now.files.items) shelf.old shelf.new }
+    ensures loaded { LoadsFirst H.loads (words_now command.now.files.items) shelf.old shelf.new }
     ensures later { (n : List ℕ) → H.faults shelf.old n ≤ H.faults shelf.new n }
     ensures same { (n : List ℕ) → H.content shelf.new n ≡ H.content shelf.old n }
 {
@@ -57,15 +60,16 @@ fn output_of_texts<'w>(
     requires files { length files.now ≡ file_count (form_of task) }
     requires texts { length texts.now ≡ length files.now }
     ensures ok { IfOk result (λ text.
-        meaning task (names_now files.now) (texts_now texts.now) (Ok text)) }
+        meaning task (words_now files.now) (texts_now texts.now) (Ok text)) }
     ensures err { IfErr result (λ r. MayStop
-        (meaning task (names_now files.now) (texts_now texts.now)) (ending_of r)) }
+        (meaning task (words_now files.now) (texts_now texts.now)) (ending_of r)) }
 {
     match task {
         Task::About(topic) => Ok(about(alloc, topic)?),
         Task::Tell(what) => report(alloc, what, files[0], &texts[0]),
         Task::Synth(style) => synth(alloc, style, files[0], &texts[0]),
         Task::Verilog => verilog(alloc, files[0], &texts[0]),
+        Task::TellNetlist(what) => netlist_report(alloc, what, files[0], &texts[0]),
         Task::FromGenlib => genlib(alloc, files[0], &texts[0]),
         Task::Map(format) => map_texts(alloc, format, files[0], &texts[0], files[1], &texts[1]),
         Task::Replay(what) => {
@@ -77,6 +81,7 @@ fn output_of_texts<'w>(
         Task::Audit => audit_texts(alloc, files[0], &texts[0], files[1], &texts[1]),
         Task::Resolve => resolve(alloc, files[0], &texts[0]),
         Task::Insert => insert(alloc, files[0], &texts[0], files[1], &texts[1]),
+        Task::Same => same(alloc, files[0], &texts[0], files[1], &texts[1]),
         Task::Exercise(count) => Ok(exercise(alloc, count.number())?),
     }
 }
@@ -89,11 +94,11 @@ fn load_all<'w, H: Shelf>(
 ) -> Result<Vec<Vec<u8>>, Refusal<'w>>
     ensures ok { IfOk result (λ v.
         loads (H.content shelf.old) (H.faults shelf.old) (H.faults shelf.new)
-        (names_now files.now) (Ok (texts_now v.items))) }
+        (words_now files.now) (Ok (texts_now v.items))) }
     ensures err { IfErr result (λ r. MayStopLoading
         (loads (H.content shelf.old) (H.faults shelf.old) (H.faults shelf.new)
-        (names_now files.now)) (ending_of r)) }
-    ensures loaded { LoadsFirst H.loads (names_now files.now) shelf.old shelf.new }
+        (words_now files.now)) (ending_of r)) }
+    ensures loaded { LoadsFirst H.loads (words_now files.now) shelf.old shelf.new }
     ensures later { (n : List ℕ) → H.faults shelf.old n ≤ H.faults shelf.new n }
     ensures same { (n : List ℕ) → H.content shelf.new n ≡ H.content shelf.old n }
 {
@@ -115,7 +120,8 @@ fn load<'w, H: Shelf>(alloc: Global, file: &'w str, shelf: &mut H) -> Result<Vec
         (stage.load (H.content shelf.old) (H.faults shelf.old) (H.faults shelf.new) file.now)
         (ending_of r)) }
     ensures stay { IfOk result (λ _. CountsStay (H.faults shelf.old) (H.faults shelf.new)) }
-    ensures loaded { H.loads shelf.old file.now shelf.new }
+    ensures loaded { IfOk result (λ v. H.loads shelf.old file.now (Ok v.items) shelf.new) }
+    ensures unread { OnErr result (IsUnread H.loads file.now shelf.old shelf.new) }
     ensures later { (n : List ℕ) → H.faults shelf.old n ≤ H.faults shelf.new n }
     ensures same { (n : List ℕ) → H.content shelf.new n ≡ H.content shelf.old n }
 {

@@ -1,7 +1,7 @@
 //! A refusal on `err`.
 
 ghost use Rattle.std.specs.Prelude.{◌≡◌, ◌≤◌};
-ghost use Rattle.si_io.specs.Outside.{AppendsPrefix};
+ghost use Rattle.si_io.specs.Outside.{AppendsPrefix, PutAnswer};
 ghost use Rattle.si_refusals.specs.Ending.{ending_of, line_of as line_put};
 ghost use Rattle.si_refusals.specs.Ending as ending;
 ghost use Rattle.si_tool.specs.Run.{change, PutsDue};
@@ -11,8 +11,8 @@ use si_refusals::refusals::Refusal;
 use si_refusals::status::Status;
 use std::alloc::Global;
 
-/// Puts the line of a refusal on `err`. The status is then the refusal's, or `NoMemory` where
-/// memory ran out.
+/// Puts the line of a refusal on `err`, in one call. The status is then the refusal's, or `NoMemory`
+/// where memory ran out.
 pub fn refuse<E: Sink>(alloc: Global, refusal: &Refusal<'_>, err: &mut E) -> Status
     ensures puts { PutsDue (ending_of refusal.now)
         (change E.faults E.bytes E.puts err.old err.new) result }
@@ -32,6 +32,8 @@ pub fn refuse<E: Sink>(alloc: Global, refusal: &Refusal<'_>, err: &mut E) -> Sta
 fn put_no_memory<E: Sink>(err: &mut E) -> Status
     ensures status { result ≡ Status.NoMemory }
     ensures part { AppendsPrefix (E.bytes err.old) (line_put ending.NoMemory) (E.bytes err.new) }
+    ensures once { (answer : PutAnswer)
+        × E.puts err.old (line_put ending.NoMemory) answer err.new }
     ensures later { E.faults err.old ≤ E.faults err.new }
 {
     match err.put(b"nomemory\n") {

@@ -1,6 +1,6 @@
 -- A netlist's text declares each signal once, in signal order.
 use Rattle.std.proofs.Common.{◌≡◌, ℕ, suc, ◌≤◌, false, List, [], ◌∷◌, ◌++◌, map}
-use Rattle.std.proofs.Common.{AllPairs, refl, ap, ◌∙◌, arith}
+use Rattle.std.proofs.Common.{refl, ap, ◌∙◌, arith}
 use Rattle.std.specs.List.{AllByRecursion}
 use Rattle.std.proofs.lemmas.List.Elements.{recursion_from_All}
 use Rattle.si_base.specs.declared.graph.Signal.{Signal}
@@ -10,16 +10,11 @@ use Rattle.si_base.specs.Graph.{kind_place}
 use Rattle.si_base.specs.Netlist.{Netlist}
 use Rattle.si_base.specs.NetlistText.{names_of, same_kind}
 use Rattle.si_base.specs.WellFormed.{IsNetlist}
+use Rattle.si_netlist.proofs.GateLemmas.{AreInOrder, tail_in_order}
 use Rattle.si_verilog.specs.Declared.{port_name, declared_names}
 use Rattle.si_verilog.specs.Grammar.{InputPort, OutputPort, Module}
 use Rattle.si_verilog.specs.Meaning.{IsOfNetlist}
 use Rattle.si_verilog.specs.ModuleText.{wires_of}
-
-abbrev AreInOrder : List Signal → Type 0
-AreInOrder xs = AllPairs (λ x y. kind_place x.kind ≤ kind_place y.kind) xs
-
-tail_in_order : (x : Signal) (xs : List Signal) → AreInOrder (x ∷ xs) → AreInOrder xs
-tail_in_order x xs pairs = λ i j d before within. pairs (suc i) (suc j) d (omega arith) (omega arith)
 
 head_first : (x : Signal) (xs : List Signal) → AreInOrder (x ∷ xs)
     → AllByRecursion (λ y. kind_place x.kind ≤ kind_place y.kind) xs

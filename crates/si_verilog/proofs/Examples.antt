@@ -1,6 +1,7 @@
 -- Worked examples of names, symbols, expressions and the text of a module.
 use Rattle.std.proofs.Common.{◌≡◌, ℕ, true, false, List, [], ◌∷◌, ◌++◌, refl, codes}
-use Rattle.si_base.specs.Bytes.{tilde}
+use Rattle.si_base.specs.Bytes.{tilde, semicolon, opening_parenthesis, closing_parenthesis}
+use Rattle.si_base.specs.Bytes.{ampersand}
 use Rattle.si_base.specs.declared.graph.Signal.{Signal}
 use Rattle.si_base.specs.declared.graph.SigKind.{SigKind}
 use Rattle.si_base.specs.declared.graph.SigKind.TheVariants.{Input, Output, Inserted}
@@ -10,7 +11,7 @@ use Rattle.si_verilog.specs.Keywords.{keywords, is_keyword}
 use Rattle.si_verilog.specs.Symbols.{Symbol, Name, Word, Mark, symbols_of}
 use Rattle.si_verilog.specs.Grammar.{Named, Not, And, Or, Expression, Spells, named}
 use Rattle.si_verilog.specs.Grammar.{as_factor, complemented, as_term, with_factor, as_expression, with_term}
-use Rattle.si_verilog.specs.Grammar.{ampersand, bar, closing_parenthesis, opening_parenthesis, semicolon}
+use Rattle.si_verilog.specs.Grammar.{bar}
 use Rattle.si_verilog.specs.Meaning.{named_value}
 use Rattle.si_verilog.specs.ModuleText.{verilog_name, gate_text, verilog_text}
 

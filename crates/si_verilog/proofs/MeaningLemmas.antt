@@ -3,12 +3,14 @@ use Rattle.std.proofs.Common.{◌≡◌, ℕ, ◌<◌, ◌&&◌, ◌||◌, not, 
 use Rattle.std.proofs.Common.{refl, sym, ap, ◌∙◌, codes, append_assoc, if◌then◌else◌}
 use Rattle.std.specs.List.{list_all, AllByRecursion}
 use Rattle.std.proofs.lemmas.List.{append-nil}
+use Rattle.std.proofs.Math.Bool.{and_assoc, or_assoc}
 use mathlib.Core.Bool.{beq}
 use Rattle.si_base.specs.declared.ids.Literal.{Literal}
 use Rattle.si_base.specs.declared.graph.Signal.{Signal}
 use Rattle.si_base.specs.Bits.{bit}
 use Rattle.si_base.specs.Netlist.{Sum, Gate, SumGate, Gc, Cell, literal_value, sum_value, value_of}
 use Rattle.si_base.specs.NetlistText.{name_of}
+use Rattle.si_base.proofs.Booleans.{equals_true, equals_false}
 use Rattle.si_verilog.specs.Symbols.{Symbol, Name, Word, Mark, symbols_of}
 use Rattle.si_verilog.specs.Grammar.{Tree, Constant, Named, Not, And, Or, tree_value, Level, Primary, Factor, Term}
 use Rattle.si_verilog.specs.Grammar.{Expression, Spells, zero, one, named, grouped, as_factor, complemented, as_term}
@@ -132,22 +134,6 @@ or_false : (b : Bool) → b ≡ (b || false)
 or_false true = refl
 or_false false = refl
 
-and_grouped : (a b c : Bool) → ((a && b) && c) ≡ (a && (b && c))
-and_grouped true b c = refl
-and_grouped false b c = refl
-
-or_grouped : (a b c : Bool) → ((a || b) || c) ≡ (a || (b || c))
-or_grouped true b c = refl
-or_grouped false b c = refl
-
-plain_value : (b : Bool) → b ≡ beq b true
-plain_value true = refl
-plain_value false = refl
-
-complement_value : (b : Bool) → not b ≡ beq b false
-complement_value true = refl
-complement_value false = refl
-
 regrouped : (o s c b n a t r : List ℕ)
     → (o ++ s ++ c) ++ (b ++ (o ++ (n ++ (a ++ (t ++ (o ++ r ++ c)))) ++ c))
     ≡ o ++ s ++ ((c ++ b) ++ o) ++ n ++ ((a ++ t) ++ o) ++ r ++ (c ++ c)
@@ -178,11 +164,11 @@ module _ (signals : List Signal) (are : AreNamed signals) where
   literal_by true z there =
       let text = verilog_name (name_of signals z) in
       says_as signals Factor text text (λ v. bit v z) (λ v. beq (bit v z) true)
-      (factor signals text (λ v. bit v z) (name z there)) refl (λ v. plain_value (bit v z))
+      (factor signals text (λ v. bit v z) (name z there)) refl (λ v. equals_true (bit v z))
   literal_by false z there =
       let text = verilog_name (name_of signals z) in
       says_as signals Factor ((126 ∷ []) ++ text) ((126 ∷ []) ++ text) (λ v. not (bit v z)) (λ v. beq (bit v z) false)
-      (complement signals text (λ v. bit v z) (name z there)) refl (λ v. complement_value (bit v z))
+      (complement signals text (λ v. bit v z) (name z there)) refl (λ v. equals_false (bit v z))
 
   literal : (l : Literal) → l.sig < length signals
       → Says signals Factor (literal_text signals l) (λ v. literal_value v l)
@@ -206,7 +192,7 @@ module _ (signals : List Signal) (are : AreNamed signals) where
       (more_literals (text ++ last) longer ls there.1
       (both signals text (literal_text signals l) value (λ v. literal_value v l) says (literal l there.0)))
       (append_assoc text last rest)
-      (λ v. and_grouped (value v) (literal_value v l) (list_all (literal_value v) ls))
+      (λ v. and_assoc (value v) (literal_value v l) (list_all (literal_value v) ls))
 
   cube : (ls : List Literal) → AreThere (length signals) ls
       → Says signals Factor (cube_text signals ls) (λ v. list_all (literal_value v) ls)
@@ -239,7 +225,7 @@ module _ (signals : List Signal) (are : AreNamed signals) where
       (either signals text (cube_text signals c) value (λ v. list_all (literal_value v) c) says
       (term signals (cube_text signals c) (λ v. list_all (literal_value v) c) (cube c there.0))))
       (append_assoc text last rest)
-      (λ v. or_grouped (value v) (list_all (literal_value v) c) (sum_value v cubes))
+      (λ v. or_assoc (value v) (list_all (literal_value v) c) (sum_value v cubes))
 
   sum : (cubes : Sum) → AllByRecursion (AreThere (length signals)) cubes
       → Says signals Expression (sum_text signals cubes) (λ v. sum_value v cubes)

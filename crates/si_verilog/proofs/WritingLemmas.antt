@@ -1,6 +1,6 @@
 -- What the writers of a module's text have still to add, a step at a time.
-use Rattle.std.proofs.Common.{◌≡◌, ℕ, ◌||◌, ◌≤◌, Bool, true, false, List, [], ◌∷◌, ◌++◌, refl, sym, ap, ◌∙◌, length}
-use Rattle.std.proofs.Common.{drop, map, flat_map, if◌then◌else◌, append_assoc, codes, arith}
+use Rattle.std.proofs.Common.{◌≡◌, ℕ, ◌||◌, Bool, true, false, List, [], ◌∷◌, ◌++◌, refl, sym, ap, ◌∙◌}
+use Rattle.std.proofs.Common.{drop, map, flat_map, if◌then◌else◌, append_assoc, codes}
 use Rattle.std.proofs.lemmas.Grind.{flat_map-append}
 use Rattle.std.proofs.lemmas.List.{map-append}
 use Rattle.si_base.specs.declared.graph.Signal.{Signal}
@@ -12,7 +12,7 @@ use Rattle.si_base.specs.NetlistText.{names_of}
 use Rattle.si_verilog.specs.Grammar.{Port, InputPort, OutputPort}
 use Rattle.si_verilog.specs.ModuleText.{is_plain, verilog_name, literal_text, cube_text, port_text}
 use Rattle.si_verilog.specs.ModuleText.{ports_text, wire_line, ports_of, assign_lines, verilog_text}
-use Rattle.si_verilog.specs.Writing.{is_some, before_port, more_ports, port_lines}
+use Rattle.si_verilog.specs.Loops.Writing.{is_some, more_ports, port_lines}
 
 -- a name that is added as it is, or escaped
 pub plain_text : (text name : List ℕ) → is_plain name ≡ true → text ++ name ≡ text ++ verilog_name name
@@ -45,14 +45,6 @@ ports_from any word kind signals i = more_ports any (port_lines word kind (drop 
 -- the lines of the gates, the next of which is that of a signal from the i-th on
 abbrev pub assigns_from : List Signal → ℕ → List Gate → List ℕ
 assigns_from signals i gates = assign_lines signals (drop i signals) gates
-
--- two literals or more stand in parentheses
-pub product_whole : (signals : List Signal) (l : Literal) (ls : List Literal) → 2 ≤ length (l ∷ ls)
-    → codes "(" ++ literal_text signals l ++ flat_map (λ k. codes " & " ++ literal_text signals k) ls ++ codes ")"
-    ≡ cube_text signals (l ∷ ls)
-product_whole signals l [] two = absurd (omega arith)
-product_whole signals l (k ∷ ls) two = ap (λ (t : List ℕ). t ++ codes ")")
-    (append_assoc (codes "(") (literal_text signals l) _)
 
 -- ---- ports
 
@@ -138,12 +130,6 @@ ports_by_calls signals text inputs outputs some any input_lines are_some output_
     ∙ append_assoc text (more_ports false (map port_text (ports_of signals))) _
     ∙ ap (λ (t : List ℕ). text ++ t) (whole_ports (ports_of signals))
     )
-
--- one port more
-pub port_more : (any : Bool) (word name text : List ℕ) (rest : List (List ℕ))
-    → (((text ++ before_port any) ++ word) ++ verilog_name name) ++ more_ports true rest
-    ≡ text ++ more_ports any ((word ++ verilog_name name) ∷ rest)
-port_more any word name text rest = simp append_assoc
 
 -- ---- the whole text
 

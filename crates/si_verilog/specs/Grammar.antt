@@ -5,32 +5,9 @@
 use Rattle.std.specs.Prelude.{◌≡◌, ℕ, ◌&&◌, ◌||◌, not, Bool, true, false, List, [], ◌∷◌, ◌++◌}
 use Rattle.std.specs.Prelude.{codes, flat_map}
 use Rattle.std.specs.List.{join_by}
-use Rattle.si_base.specs.Bytes.{tilde}
+use Rattle.si_base.specs.Bytes.{tilde, semicolon, opening_parenthesis, closing_parenthesis, comma}
+use Rattle.si_base.specs.Bytes.{ampersand, equals_sign}
 use Rattle.si_verilog.specs.Symbols.{Symbol, Name, Word, Mark}
-
--- `&`
-abbrev pub ampersand : ℕ
-ampersand = 38
-
--- `(`
-abbrev pub opening_parenthesis : ℕ
-opening_parenthesis = 40
-
--- `)`
-abbrev pub closing_parenthesis : ℕ
-closing_parenthesis = 41
-
--- `,`
-abbrev pub comma : ℕ
-comma = 44
-
--- `;`
-abbrev pub semicolon : ℕ
-semicolon = 59
-
--- `=`
-abbrev pub equals_sign : ℕ
-equals_sign = 61
 
 -- `|`
 abbrev pub bar : ℕ

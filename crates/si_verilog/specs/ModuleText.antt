@@ -3,6 +3,7 @@ use Rattle.std.specs.Prelude.{ℕ, ◌==◌, ◌&&◌, ◌||◌, Bool, false, Li
 use Rattle.std.specs.Prelude.{flat_map, length, codes, if◌then◌else◌}
 use Rattle.std.specs.List.{list_all, list_any, join_by, zip}
 use Rattle.si_base.specs.Bytes.{space, tilde, digit_zero, digit_nine, first_capital, last_capital}
+use Rattle.si_base.specs.Bytes.{backslash}
 use Rattle.si_base.specs.Words.{is_between, is_letter}
 use Rattle.si_base.specs.declared.ids.Literal.{Literal}
 use Rattle.si_base.specs.declared.graph.Signal.{Signal}
@@ -10,7 +11,6 @@ use Rattle.si_base.specs.declared.graph.SigKind.TheVariants.{Input, Output, Inte
 use Rattle.si_base.specs.Graph.{is_driven}
 use Rattle.si_base.specs.Netlist.{Sum, Gate, SumGate, Gc, Cell, Netlist}
 use Rattle.si_base.specs.NetlistText.{name_of, names_of}
-use Rattle.si_verilog.specs.Symbols.{backslash}
 use Rattle.si_verilog.specs.Grammar.{Port, InputPort, OutputPort}
 
 -- ---- names

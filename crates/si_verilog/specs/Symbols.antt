@@ -3,20 +3,12 @@ use Rattle.std.specs.Prelude.{ℕ, ◌==◌, ◌&&◌, ◌||◌, not, Bool, fals
 use Rattle.std.specs.Prelude.{if◌then◌else◌}
 use Rattle.std.specs.List.{list_all}
 use Rattle.si_base.specs.Bytes.{tab, line_feed, carriage_return, space, apostrophe, digit_zero}
-use Rattle.si_base.specs.Bytes.{digit_nine}
+use Rattle.si_base.specs.Bytes.{digit_nine, backslash, dollar}
 use Rattle.si_base.specs.Words.{is_between, is_letter}
 use Rattle.si_verilog.specs.Keywords.{is_keyword}
 
 abbrev pub form_feed : ℕ
 form_feed = 12
-
--- `$`
-abbrev pub dollar : ℕ
-dollar = 36
-
--- `\`
-abbrev pub backslash : ℕ
-backslash = 92
 
 -- a name; a keyword, a number or another word; a mark, such as `&`
 pub data Symbol : Type 0 where

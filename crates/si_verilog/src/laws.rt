@@ -1,7 +1,7 @@
 //! Laws of the texts of modules. Each function does nothing: its contract is the law.
 
 ghost use Rattle.std.specs.Prelude.{◌≡◌, ℕ, List, [], ◌∷◌, ◌++◌, IsTrue, map};
-ghost use Rattle.si_base.specs.Bytes.{space};
+ghost use Rattle.si_base.specs.Bytes.{space, backslash};
 ghost use Rattle.si_base.specs.Netlist.{Netlist};
 ghost use Rattle.si_base.specs.WellFormed.{IsNetlist, IsWord};
 ghost use Rattle.si_verilog.specs.Declared.{declared_names};
@@ -9,7 +9,7 @@ ghost use Rattle.si_verilog.specs.Grammar.{Expression, Module, SpellModule, Spel
 ghost use Rattle.si_verilog.specs.Keywords.{is_keyword};
 ghost use Rattle.si_verilog.specs.Meaning.{IsModule, IsOfNetlist, MeansNetlist};
 ghost use Rattle.si_verilog.specs.ModuleText.{verilog_name, verilog_text};
-ghost use Rattle.si_verilog.specs.Symbols.{Name, Symbol, backslash, symbols_of};
+ghost use Rattle.si_verilog.specs.Symbols.{Name, Symbol, symbols_of};
 
 /// A name that is written is read as that name and nothing else, so that two names are written in
 /// two ways. A keyword is escaped.

@@ -5,12 +5,12 @@ ghost use Rattle.std.specs.Prelude.{flat_map, map, if◌then◌else◌};
 ghost use Rattle.si_base.specs.NetlistText.{names_of, same_kind};
 ghost use Rattle.si_base.specs.Netlist.{Gc};
 ghost use Rattle.si_base.specs.WellFormed.{IsNetlist};
-ghost use Rattle.si_netlist.specs.Parts.{gate_seen};
+ghost use Rattle.si_netlist.specs.Loops.Parts.{gate_seen};
 ghost use Rattle.si_verilog.specs.Meaning.{MeansNetlist};
 ghost use Rattle.si_verilog.specs.ModuleText.{assign_line, assign_lines, gate_text, ports_of};
 ghost use Rattle.si_verilog.specs.ModuleText.{ports_text, verilog_text, wire_line};
-ghost use Rattle.si_verilog.specs.Writing.{before_port as line_before, is_some, more_ports};
-ghost use Rattle.si_verilog.specs.Writing.{port_lines};
+ghost use Rattle.si_verilog.specs.Loops.Writing.{before_port as line_before, is_some, more_ports};
+ghost use Rattle.si_verilog.specs.Loops.Writing.{port_lines};
 
 use crate::names::add_name;
 use crate::write_sums::add_sum;

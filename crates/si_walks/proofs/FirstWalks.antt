@@ -8,8 +8,8 @@ use Rattle.si_base.specs.declared.graph.Edge.{Edge}
 use Rattle.si_base.specs.Graph.{StateGraph, Step, arc, event_place, Walk}
 use Rattle.si_base.specs.Codes.{IsDeterministic}
 use Rattle.si_base.specs.Order.{Before}
-use Rattle.si_checks.specs.Searches.{IsFirstOrNone}
-use Rattle.si_checks.proofs.ForkOrder.{event_same}
+use Rattle.si_graph.proofs.OrderLemmas.{event_from_place}
+use Rattle.si_checks.specs.Loops.Searches.{IsFirstOrNone}
 use Rattle.si_checks.proofs.SearchFirst.{firsts_at_one_place}
 use Rattle.si_checks.proofs.SearchDecisions.{Decided, both, first_candidate}
 use Rattle.si_walks.specs.declared.arcs.Arcs.{Arcs}
@@ -30,7 +30,7 @@ same_events (e ∷ es) [] same = cc
 same_events (e ∷ es) (f ∷ fs) same =
     let head : event_place e ≡ event_place f = cc in
     let rest : map event_place es ≡ map event_place fs = cc in
-    ap₂ (λ (x : Event) (xs : List Event). x ∷ xs) (event_same e f head) (same_events es fs rest)
+    ap₂ (λ (x : Event) (xs : List Event). x ∷ xs) (event_from_place e f head) (same_events es fs rest)
 
 same_size : (es fs : List Event) → length es ≡ length fs → length (walk_place es) ≡ length (walk_place fs)
 same_size [] [] same = refl
@@ -88,11 +88,16 @@ first_step g arcs s t n e u rest one takes step size is least earliest = record 
     later (f ∷ fs) (w, also, there, walk) (inr (as_long, (inl less))) =
         let early = earliest f w also there (fs, omega (arith, as_long, size), walk) in absurd (omega arith)
     later (f ∷ fs) (w, also, there, walk) (inr (as_long, (inr tied))) =
-        let same : f ≡ e = event_same f e tied.0 in
+        let same : f ≡ e = event_from_place f e tied.0 in
         let state : w ≡ u = one s e w u (subst (λ (x : Event). Step g s x w) same there) step in
         is.none_before fs (subst (λ (x : ℕ). WalkAlong g arcs x fs t) state walk) (inr (omega arith, tied.1))
 
 -- ---- some first walk
+pub step_of : (g : StateGraph) (s : ℕ) (a : Edge) → a.from ≡ s → Contains g.edges a → Step g s a.event a.to
+step_of g s a from there =
+    let whole : a ≡ arc s a.event a.to = λ i. record { from = from i; event = a.event; to = a.to } in
+    subst (λ (x : Edge). Contains g.edges x) whole there
+
 module _ (g : StateGraph) (arcs : Arcs) (t : ℕ) where
   -- an arc from s of that kind to a state from which a walk of n events leads
   abbrev Begins : ℕ → ℕ → Edge → Type 0
@@ -107,11 +112,6 @@ module _ (g : StateGraph) (arcs : Arcs) (t : ℕ) where
 
   same_number : (m n : ℕ) → Decided (m ≡ n)
   same_number m n = elim (cases_eq m n) [ inl same ↦ inl same | inr other ↦ inr other ]
-
-  step_of : (s : ℕ) (a : Edge) → a.from ≡ s → Contains g.edges a → Step g s a.event a.to
-  step_of s a from there =
-      let whole : a ≡ arc s a.event a.to = λ i. record { from = from i; event = a.event; to = a.to } in
-      subst (λ (x : Edge). Contains g.edges x) whole there
 
   -- the first arc that begins a walk of n + 1 events, where walks of n events are decided
   first_arc : (n : ℕ) → ((s : ℕ) → Decided (HasLength g arcs s t n)) → (s : ℕ)
@@ -144,7 +144,7 @@ module _ (g : StateGraph) (arcs : Arcs) (t : ℕ) where
       by (Some a) is =
           let b = is.holds.begins in
           let rest = b.1.1 in
-          inl (a.event ∷ rest.0, ap suc rest.1, (a.to, b.1.0, step_of s a b.0 is.holds.there, rest.2))
+          inl (a.event ∷ rest.0, ap suc rest.1, (a.to, b.1.0, step_of g s a b.0 is.holds.there, rest.2))
 
   -- from the start of a walk of n events than which none is shorter
   first_of_length : IsDeterministic g → (n : ℕ) (s : ℕ) → HasLength g arcs s t n → IsAtLeast g arcs s t n
@@ -172,7 +172,7 @@ module _ (g : StateGraph) (arcs : Arcs) (t : ℕ) where
               none (arc s e u) (record { there = step; begins = (refl, (takes, (es, omega arith, walk))) })
       by shorter (Some a) is =
           let b = is.holds.begins in
-          let step = step_of s a b.0 is.holds.there in
+          let step = step_of g s a b.0 is.holds.there in
           let rest = shorter a.to b.1.1
           (λ fs walk. (let long = least (a.event ∷ fs) (a.to, b.1.0, step, walk) in omega arith)) in (
             a.event ∷ rest.0,

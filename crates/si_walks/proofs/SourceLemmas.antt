@@ -16,13 +16,14 @@ use Rattle.si_base.specs.Order.{Before}
 use Rattle.si_base.proofs.StepCodes.{step_within}
 use Rattle.si_checks.proofs.SearchDecisions.{Decided, both, some_of, same_value}
 use Rattle.si_checks.proofs.SearchFirst.{firsts_at_one_place}
-use Rattle.si_graph.specs.Reach.{IsIn, unmarked}
+use Rattle.si_base.specs.Sets.{IsIn}
+use Rattle.si_graph.specs.Loops.Reach.{unmarked}
 use Rattle.si_graph.proofs.SearchLemmas.{stays_in, in_cases, is_set, in_none}
 use Rattle.si_walks.specs.declared.arcs.Arcs.{Arcs}
 use Rattle.si_walks.specs.declared.arcs.Arcs.TheVariants.{OfInputs}
 use Rattle.si_walks.specs.Walks.{Takes, WalkAlong, LeadsAlong, InputsLead, IsFirstWalk}
 use Rattle.si_walks.specs.Distances.{at, IsDistance, AreDistances}
-use Rattle.si_walks.specs.Sources.{distance_sum, arcs_to_both, IsNearestBelow, IsNearestOrNone}
+use Rattle.si_walks.specs.Loops.Sources.{distance_sum, arcs_to_both, IsNearestBelow, IsNearestOrNone}
 use Rattle.si_walks.specs.Joined.{Source, source_place, IsSource, IsFirstSource, IsSourceOrNone}
 use Rattle.si_walks.proofs.WalkEvents.{taken}
 use Rattle.si_walks.proofs.SourceNearest.{some_nearest}

@@ -2,10 +2,8 @@
 use Rattle.std.proofs.Common.{◌≡◌, ℕ, zero, suc, ◌+◌, ◌<◌, ◌⊎◌, ◌∙◌, sym, refl, ap, subst, arith, List, inl, inr}
 use Rattle.std.proofs.Common.{Option, Some, None}
 use Rattle.std.proofs.lemmas.Bool.{cases_order, cases_lt}
-use Rattle.si_walks.specs.Sources.{arcs_to_both, IsNearestOrNone, IsFewer}
-
-same_Some : (m n : ℕ) (x : Option ℕ) → x ≡ Some m → x ≡ Some n → m ≡ n
-same_Some m n x one other = let both : Some m ≡ Some n = sym one ∙ other in cc
+use Rattle.si_insert.proofs.InsertionKeeps.{some_same}
+use Rattle.si_walks.specs.Loops.Sources.{arcs_to_both, IsNearestOrNone, IsFewer}
 
 module _ (first second : List (Option ℕ)) where
   pub none_yet : IsNearestOrNone first second 0 None
@@ -20,7 +18,7 @@ module _ (first second : List (Option ℕ)) where
     has = fewer.1;
     least = λ j m below is. elim (cases_order j k) [
       | inl same ↦ inr (
-        same_Some fewer.0 m (arcs_to_both first second k) fewer.1 (ap (arcs_to_both first second) (sym same) ∙ is),
+        some_same fewer.0 m (arcs_to_both first second k) fewer.1 (ap (arcs_to_both first second) (sym same) ∙ is),
         omega arith,
       )
       | inr (inl less) ↦ absurd (none j m less is)
@@ -33,7 +31,7 @@ module _ (first second : List (Option ℕ)) where
     has = fewer.1;
     least = λ j m below is. elim (cases_order j k) [
       | inl same ↦ inr (
-        same_Some fewer.0 m (arcs_to_both first second k) fewer.1 (ap (arcs_to_both first second) (sym same) ∙ is),
+        some_same fewer.0 m (arcs_to_both first second k) fewer.1 (ap (arcs_to_both first second) (sym same) ∙ is),
         omega arith,
       )
       | inr (inl less) ↦ (
@@ -63,7 +61,7 @@ module _ (first second : List (Option ℕ)) where
           m,
           ap (arcs_to_both first second) (sym same) ∙ is,
           λ n has.
-              (let tied : n ≡ so_far.arcs = same_Some n so_far.arcs (arcs_to_both first second b) has so_far.has in
+              (let tied : n ≡ so_far.arcs = some_same n so_far.arcs (arcs_to_both first second b) has so_far.has in
               omega arith),
         ))
       ]
@@ -85,11 +83,11 @@ module _ (first second : List (Option ℕ)) where
         | inl less ↦ inl (
           n,
           is,
-          λ m has. (let tied : m ≡ near.arcs = same_Some m near.arcs (arcs_to_both first second b) has near.has in
+          λ m has. (let tied : m ≡ near.arcs = some_same m near.arcs (arcs_to_both first second b) has near.has in
               omega arith),
         )
         | inr above ↦ inr (λ fewer. (
-            let tied : fewer.0 ≡ n = same_Some fewer.0 n (arcs_to_both first second k) fewer.1 is in
+            let tied : fewer.0 ≡ n = some_same fewer.0 n (arcs_to_both first second k) fewer.1 is in
             let lower : fewer.0 < near.arcs = fewer.2 near.arcs near.has in absurd (omega arith)))
       ]
 

@@ -1,6 +1,6 @@
 -- A first walk that is made arc by arc, each of which brings nearer by one.
 use Rattle.std.proofs.Common.{◌≡◌, ℕ, ◌+◌, ◌<◌, ◌≤◌, ◌∙◌, sym, refl, ap, subst, arith, List, [], ◌∷◌, ◌++◌, length}
-use Rattle.std.proofs.Common.{Contains, inl, inr, Option, Some, None, unwrap_or, append_assoc}
+use Rattle.std.proofs.Common.{inl, inr, Option, Some, None, unwrap_or, append_assoc}
 use Rattle.std.proofs.lemmas.Bool.{cases_lt}
 use Rattle.std.proofs.lemmas.List.{append-nil}
 use Rattle.si_base.specs.declared.ids.Event.{Event}
@@ -8,19 +8,12 @@ use Rattle.si_base.specs.declared.graph.Edge.{Edge}
 use Rattle.si_base.specs.Graph.{StateGraph, Step, IsGraph, arc}
 use Rattle.si_base.specs.Codes.{IsDeterministic}
 use Rattle.si_base.proofs.StepCodes.{step_within}
+use Rattle.si_insert.proofs.InsertionKeeps.{some_same}
 use Rattle.si_walks.specs.declared.arcs.Arcs.{Arcs}
 use Rattle.si_walks.specs.Walks.{Takes, WalkAlong, LeadsAlong, IsFirstWalk}
 use Rattle.si_walks.specs.Distances.{at, IsDistance, AreDistances, BringsNearer, IsNearer, IsFirstNearer}
 use Rattle.si_walks.proofs.DistanceSearch.{not_both}
-use Rattle.si_walks.proofs.FirstWalks.{HasLength, first_stay, first_step}
-
-pub step_of : (g : StateGraph) (s : ℕ) (a : Edge) → a.from ≡ s → Contains g.edges a → Step g s a.event a.to
-step_of g s a from there =
-    let whole : a ≡ arc s a.event a.to = λ i. record { from = from i; event = a.event; to = a.to } in
-    subst (λ (x : Edge). Contains g.edges x) whole there
-
-same_Some : (m n : ℕ) (x : Option ℕ) → x ≡ Some m → x ≡ Some n → m ≡ n
-same_Some m n x one other = let both : Some m ≡ Some n = sym one ∙ other in cc
+use Rattle.si_walks.proofs.FirstWalks.{HasLength, first_stay, first_step, step_of}
 
 -- how far the target is from s
 abbrev pub left : List (Option ℕ) → ℕ → ℕ
@@ -56,7 +49,7 @@ module _ (g : StateGraph) (arcs : Arcs) (t : ℕ) (ds : List (Option ℕ)) (is_g
       by None here none = absurd (not_both (at ds s) n here is)
       by (Some m) here far =
           subst (λ (k : ℕ). HasLength g arcs s t k × ((fs : List Event) → WalkAlong g arcs s fs t → k ≤ length fs))
-          (same_Some m n (at ds s) here is) far
+          (some_same m n (at ds s) here is) far
 
   -- a first walk is as long as the distance
   pub first_as_long : (s n : ℕ) (es : List Event) → s < g.states → at ds s ≡ Some n → IsFirstWalk g arcs s t es

@@ -1,5 +1,5 @@
 pub mod Walks
 pub mod Distances
-pub mod Sources
 pub mod Joined
 pub mod Laws
+pub mod Loops

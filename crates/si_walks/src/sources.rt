@@ -1,7 +1,7 @@
 //! The state from which the fewest arcs lead to two targets.
 
 ghost use Rattle.std.specs.Prelude.{◌≡◌, ◌↔◌, ◌<◌, ◌^◌, IsTrue, length};
-ghost use Rattle.si_walks.specs.Sources.{IsNearestOrNone, IsFewer, arcs_to_both};
+ghost use Rattle.si_walks.specs.Loops.Sources.{IsNearestOrNone, IsFewer, arcs_to_both};
 
 use si_base::ids::StateId;
 

@@ -12,7 +12,7 @@ use Rattle.si_base.specs.Bytes.{hash}
 use Rattle.si_base.specs.Netlist.{Netlist}
 use Rattle.si_base.specs.Words.{line, text_of}
 use Rattle.si_wave.specs.Dump.{change_line, moment_lines, wire_line}
-use Rattle.si_wave.specs.Wave.{change_of, escape, moment_of, moments_from, starts_from, wave_text}
+use Rattle.si_wave.specs.Wave.{change_of, escape, moments_from, starts_from, wave_text}
 use Rattle.si_wave.specs.Wave.{scope_name, wire_code, wires_from}
 
 -- a part that is added comes off what is left
@@ -53,24 +53,6 @@ starts_more signals values i old text new within so_far is =
     (drop_more signals i d within) in
     added text part (starts_left signals values (i + 1)) (starts_left signals values i) old
     (starts_left signals values 0) new cut so_far is
-
--- ---- the events from the k-th on, counted from 0
-abbrev pub moments_left : List Event → ℕ → List ℕ
-moments_left events k = text_of (flat_map moment_lines (moments_from (k + 1) (drop k events)))
-
-pub moments_more : (events : List Event) (k : ℕ) (e : Event) (old text new : List ℕ)
-    → drop k events ≡ e ∷ drop (k + 1) events
-    → text ++ moments_left events k ≡ old ++ moments_left events 0
-    → new ≡ text ++ text_of (moment_lines (moment_of (k + 1) e))
-    → new ++ moments_left events (k + 1) ≡ old ++ moments_left events 0
-moments_more events k e old text new here so_far is =
-    let part = text_of (moment_lines (moment_of (k + 1) e)) in
-    let rest = flat_map moment_lines (moments_from (k + 1 + 1) (drop (k + 1) events)) in
-    let cut : moments_left events k ≡ part ++ moments_left events (k + 1) =
-    ap (λ (es : List Event). text_of (flat_map moment_lines (moments_from (k + 1) es))) here
-    ∙ flat_map-append line (moment_lines (moment_of (k + 1) e)) rest in
-    added text part (moments_left events (k + 1)) (moments_left events k) old (moments_left events 0) new cut
-    so_far is
 
 -- ---- the line of a declaration
 pub wire_parts : (text head code name close end : List ℕ)

@@ -4,17 +4,9 @@ use Rattle.std.specs.Prelude.{if◌then◌else◌}
 use Rattle.si_base.specs.declared.graph.Signal.{Signal}
 use Rattle.si_base.specs.declared.ids.Event.{Event}
 use Rattle.si_base.specs.Bits.{bit}
-use Rattle.si_base.specs.Bytes.{first_visible}
+use Rattle.si_base.specs.Bytes.{first_visible, backslash, dollar}
 use Rattle.si_base.specs.Netlist.{Netlist}
 use Rattle.si_wave.specs.Dump.{Change, Dump, Moment, Wire, dump_text}
-
--- `$`
-abbrev pub dollar : ℕ
-dollar = 36
-
--- `\`
-abbrev pub backslash : ℕ
-backslash = 92
 
 -- how many bytes from `!` to `~` there are
 abbrev pub visible_bytes : ℕ

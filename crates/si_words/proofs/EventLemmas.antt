@@ -20,7 +20,7 @@ prefix_passes p (b ∷ bs) = elim (cases_Bool (p b)) [
 ]
 
 module _ (p : List ℕ → Bool) (names : List (List ℕ)) where
-  none_passes : None ≡ position p names → list_any p names ≡ false
+  pub none_passes : None ≡ position p names → list_any p names ≡ false
   none_passes none = elim (cases_lt (position_or_len p names) (length names)) [
     | inl within ↦ absurd (grind arith)
     | inr past ↦ list_any_none p names (λ k d below. fails_before_first p names k d (omega arith))

@@ -5,7 +5,7 @@ use Rattle.std.proofs.Math.Seq.{drop-cons}
 use Rattle.std.proofs.lemmas.List.{append-nil, length-map, get_or-map, take_more}
 use Rattle.std.proofs.lemmas.Option.{slice_get-map, slice_get-get_or}
 use Rattle.si_base.specs.Faults.{◌otherwise◌, first_after}
-use Rattle.si_words.specs.Reads.{words_now}
+use Rattle.si_words.specs.Loops.Reads.{words_now}
 
 module _ {F : Type 0} where
   pub after_word : (f : List (List ℕ) → List ℕ → Option F) (before : List (List ℕ)) (ws : List (Bor (List ℕ))) (i : ℕ)

@@ -11,3 +11,4 @@ pub mod EndLemmas
 pub mod PartLemmas
 pub mod KindLemmas
 pub mod WrittenLineLemmas
+pub mod NameWords

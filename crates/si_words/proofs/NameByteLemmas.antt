@@ -3,7 +3,7 @@ use Rattle.std.proofs.Common.{◌≡◌, ℕ, ◌≤◌, ◌==◌, true, refl, a
 use Rattle.std.proofs.lemmas.Bool.{and_parts, and_from, or_cases, leb-true, le-leb}
 use Rattle.si_base.specs.Words.{is_between, is_letter, is_name_byte}
 
-narrow : (low high b : ℕ) → nat_le 33 low ≡ true → nat_le high 126 ≡ true → is_between low high b ≡ true
+pub narrow : (low high b : ℕ) → nat_le 33 low ≡ true → nat_le high 126 ≡ true → is_between low high b ≡ true
     → is_between 33 126 b ≡ true
 narrow low high b above below is =
     let parts = and_parts (nat_le low b) (nat_le b high) is in

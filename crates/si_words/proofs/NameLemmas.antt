@@ -6,7 +6,7 @@ use Rattle.si_base.specs.declared.fault.LineFault.{LineFault}
 use Rattle.si_base.specs.declared.fault.LineFault.TheVariants.{NoMemory}
 use Rattle.si_base.specs.Faults.{first_after}
 use Rattle.si_words.specs.Names.{name_fault, AddsFirst, AddsUntil, LeavesNames}
-use Rattle.si_words.specs.Reads.{words_now}
+use Rattle.si_words.specs.Loops.Reads.{words_now}
 use Rattle.si_words.proofs.FirstFaultLemmas.{word_at}
 
 -- the word at i is the first with a fault

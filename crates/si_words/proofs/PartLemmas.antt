@@ -3,7 +3,7 @@ use Rattle.std.proofs.Common.{◌≡◌, ℕ, List, [], ◌∷◌, map, refl, ap
 use Rattle.std.proofs.Common.{bytes_eq}
 use Rattle.std.specs.List.{slice_split}
 use Rattle.si_words.proofs.SumWordLemmas.{slice_split-map}
-use Rattle.si_words.specs.Reads.{words_now, parts_now}
+use Rattle.si_words.specs.Loops.Reads.{words_now, parts_now}
 use Rattle.si_words.specs.Sums.{parts_at}
 
 pub parts_ok : {E : Type 0} (words : List (Bor (List ℕ))) (r : Result (Vec (Bor (List (Bor (List ℕ)))) Global) E)

@@ -4,7 +4,6 @@ use Rattle.std.proofs.Common.{take, drop, refl, sym, ap, ◌∙◌, arith, Some,
 use Rattle.std.proofs.Common.{eqb-true, ap₂, bytes_eq}
 use Rattle.std.specs.List.{prefix_len}
 use Rattle.std.proofs.lemmas.Bool.{cases_Bool, cases_lt}
-use Rattle.si_base.specs.declared.fault.TextKind.{TextKind}
 use Rattle.si_base.specs.declared.fault.TextKind.TheVariants.{BadByte, NoEnd, BadLine}
 use Rattle.si_words.specs.Lines.{Form, ended, tail_of, lines_fault, has_bad_byte_here, words_of, onto_head}
 use Rattle.si_words.specs.Sums.{is_empty}
@@ -83,11 +82,6 @@ pub row_step : (form : Form) (forms : List Form) (old new : Left) (words : List 
     → form words ≡ None → fault_of (form ∷ forms) old ≡ fault_of forms new
 row_step form forms old new words takes good =
     rw (takes.lines, takes.tail, takes.number, takes.clean, ← takes.words_are, good) refl
-
--- a line that hasn't its form shows the fault
-pub row_fault : (form : Form) (forms : List Form) (old new : Left) (words : List (List ℕ)) (kind : TextKind)
-    → TakesLine old new words → form words ≡ Some kind → fault_of (form ∷ forms) old ≡ Some (old.number, kind)
-row_fault form forms old new words kind takes bad = rw (takes.lines, takes.clean, ← takes.words_are, bad) refl
 
 -- where no line is due, whatever is left is a fault
 pub all_read : (rest : List ℕ) (number : ℕ) → rest ≡ [] → fault_of [] (left_of number rest) ≡ None

@@ -1,8 +1,8 @@
 -- Words.
-use Rattle.std.proofs.Common.{◌≡◌, ℕ, ◌-◌, ◌≤◌, ◌==◌, Bool, true, false, List, [], ◌∷◌, ◌++◌, length, get_or, take}
+use Rattle.std.proofs.Common.{◌≡◌, ℕ, ◌-◌, ◌==◌, Bool, false, List, [], ◌∷◌, ◌++◌, length, take, suc, ◌+◌}
 use Rattle.std.proofs.Common.{drop, map, refl, ap, ◌∙◌, arith, Some, inl, inr}
 use Rattle.si_words.specs.GateLines.{last_of}
-use Rattle.std.specs.List.{list_any, list_all, slice_split, prefix_len, onto_first}
+use Rattle.std.specs.List.{list_any, slice_split, prefix_len, onto_first}
 use Rattle.std.proofs.lemmas.Bool.{cases_Bool}
 use Rattle.si_base.specs.Words as words
 use Rattle.si_words.specs.Sums.{literal_name}
@@ -16,11 +16,6 @@ pub prefix_len-map : {A B : Type 0} (f : A → B) (p : B → Bool) (xs : List A)
     → prefix_len (λ x. p (f x)) xs ≡ prefix_len p (map f xs)
 prefix_len-map f p [] = refl
 prefix_len-map f p (x ∷ xs) = rw (prefix_len-map f p xs) refl
-
-pub signal_name_at : (w : List ℕ) (r : Bool) → 1 ≤ length w → words.is_letter (get_or w 0 0) ≡ true
-    → r ≡ list_all words.is_name_byte (drop 1 w) → r ≡ words.is_signal_name w
-signal_name_at [] r some letter rest = absurd (omega arith)
-signal_name_at (b ∷ bs) r some letter rest = rw letter rest
 
 pub unmarked : (c b : ℕ) (bs : List ℕ) → literal_name (c ∷ (b ∷ bs)) ≡ c ∷ literal_name (b ∷ bs)
 unmarked c b bs = elim (cases_Bool (c == 39)) [ inl e ↦ rw e refl | inr e ↦ rw e refl ]
@@ -61,3 +56,7 @@ tail_is (x ∷ xs) = take_all xs (length (x ∷ xs) - 1) (omega arith)
     take_all : {B : Type 0} (ys : List B) (n : ℕ) → n ≡ length ys → take n ys ≡ ys
     take_all [] n e = rw e refl
     take_all (y ∷ ys) n e = rw e (ap (λ l. y ∷ l) (take_all ys (length ys) refl))
+
+pub behind : (xs ys : List (List ℕ)) (mark : List ℕ) → drop (length xs + 1) (xs ++ mark ∷ ys) ≡ ys
+behind [] ys mark = refl
+behind (x ∷ xs) ys mark = let e : suc (length xs) + 1 ≡ suc (length xs + 1) = omega arith in rw e (behind xs ys mark)

@@ -8,8 +8,8 @@ use Rattle.si_base.specs.declared.graph.Signal.{Signal}
 use Rattle.si_base.specs.declared.graph.SigKind.{SigKind}
 use Rattle.si_base.specs.NetlistText.{names_of}
 use Rattle.si_base.specs.Words.{line}
-use Rattle.si_words.specs.Reads.{words_now}
-use Rattle.si_words.specs.Writing.{spaced}
+use Rattle.si_words.specs.Loops.Reads.{words_now}
+use Rattle.si_words.specs.Loops.Writing.{spaced}
 
 -- what a call leaves where it succeeds, written in another way
 pub left_as : {A E : Type 0} (r : Result A E) (new a b : List ℕ) → a ≡ b → OnOk r (new ≡ a) → OnOk r (new ≡ b)
@@ -49,3 +49,12 @@ word_more words i d old text new within so_far is =
     rw add-one (ap (λ (t : List ℕ). t ++ words_from words (suc i)) is
     ∙ append_assoc text (32 ∷ (get_or words i d).now) (words_from words (suc i))
     ∙ ap (λ (t : List ℕ). text ++ t) (sym (word_left words i d within)) ∙ so_far)
+
+pub grouped : (text word name events : List ℕ) → (((text ++ word) ++ 32 ∷ name) ++ events) ++ 10 ∷ []
+    ≡ ((text ++ word) ++ ((32 ∷ name) ++ events)) ++ 10 ∷ []
+grouped text word name events = simp append_assoc
+
+pub grouped_two : (text word one other events : List ℕ)
+    → ((((text ++ word) ++ 32 ∷ one) ++ 32 ∷ other) ++ events) ++ 10 ∷ []
+    ≡ ((text ++ word) ++ ((32 ∷ one) ++ ((32 ∷ other) ++ events))) ++ 10 ∷ []
+grouped_two text word one other events = simp append_assoc

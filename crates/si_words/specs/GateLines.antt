@@ -1,12 +1,13 @@
 -- (text) The fault of a gate line, by its words.
 use Rattle.std.specs.Prelude.{ℕ, Bool, true, false, not, ◌&&◌, ◌||◌, List, [], ◌∷◌, length}
 use Rattle.std.specs.Prelude.{if◌then◌else◌, nat_lt, nat_le, bytes_eq, codes, Option, Some, None}
-use Rattle.std.specs.Prelude.{position, is_none}
+use Rattle.std.specs.Prelude.{position, is_none, unwrap_or}
 use Rattle.std.specs.List.{list_all}
 use Rattle.si_base.specs.Words.{is_signal_name}
 use Rattle.si_base.specs.declared.fault.TextKind.{TextKind}
 use Rattle.si_base.specs.declared.fault.TextKind.TheVariants.{BadLine, Undeclared}
 use Rattle.si_base.specs.Faults.{when, ◌otherwise◌, first_after, first_in}
+use Rattle.si_base.specs.declared.ids.Literal.{Literal}
 use Rattle.si_words.specs.Sums.{is_literal, literal_name, is_sum, is_mark, cut_at}
 
 -- ---- what follows the name has the form of a gate, as far as it shows without the signals
@@ -85,3 +86,10 @@ gate_fault signals name [] = Some BadLine
 gate_fault signals name (head ∷ words) =
     when (not (bytes_eq name head && is_gate words)) BadLine
     otherwise literals_fault signals words
+
+-- the literal of a word, where these names are declared: signal i has the i-th name
+abbrev pub literal_of : List (List ℕ) → List ℕ → Literal
+literal_of names word = record {
+  sig = unwrap_or (place_in names word) 0;
+  plain = bytes_eq word (literal_name word);
+}

@@ -1,10 +1,8 @@
 pub mod Names
 pub mod Events
 pub mod Sums
-pub mod Reads
 pub mod Lines
 pub mod GateLines
 pub mod Rows
-pub mod RowValues
-pub mod Writing
 pub mod Ends
+pub mod Loops

@@ -1,4 +1,4 @@
--- (loop) Lines of a text that are not yet read.
+-- (text) Lines of a text that are not yet read.
 use Rattle.std.specs.Prelude.{ℕ, ◌≡◌, ◌⊎◌, ◌+◌, Bool, false, List, [], ◌∷◌, ◌++◌, drop, bytes_eq}
 use Rattle.std.specs.Prelude.{Option, None}
 use Rattle.si_base.specs.declared.fault.TextKind.{TextKind}

@@ -3,7 +3,7 @@
 ghost use Rattle.std.specs.Prelude.{◌≡◌, option_map, length, ◌≤◌, not, bytes_eq, codes};
 ghost use Rattle.std.specs.Prelude.{IfOk};
 ghost use Rattle.std.specs.List.{prefix_len};
-ghost use Rattle.si_words.specs.Reads.{words_now, both_now, parts_now};
+ghost use Rattle.si_words.specs.Loops.Reads.{words_now, both_now, parts_now};
 ghost use Rattle.si_words.specs.Sums as sums;
 
 use std::alloc::{AllocError, Global};

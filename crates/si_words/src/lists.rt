@@ -6,7 +6,7 @@ ghost use Rattle.si_base.specs.Faults.{first_after};
 ghost use Rattle.si_base.specs.TextFaults.{Tells};
 ghost use Rattle.si_base.specs.declared.fault.LineFault.TheVariants.{NoMemory};
 ghost use Rattle.si_words.specs.Names.{name_fault, stands_in, LeavesNames};
-ghost use Rattle.si_words.specs.Reads.{words_now};
+ghost use Rattle.si_words.specs.Loops.Reads.{words_now};
 
 use crate::words::is_signal_name;
 use si_base::fault::{LineFault, TextKind};

@@ -9,7 +9,7 @@ ghost use Rattle.si_base.specs.declared.fault.TextFault.TheVariants.{At};
 ghost use Rattle.si_base.specs.declared.fault.TextKind.TheVariants.{BadLine};
 ghost use Rattle.si_words.specs.Lines as text_lines;
 ghost use Rattle.si_words.specs.Lines.{Form};
-ghost use Rattle.si_words.specs.Reads.{words_now};
+ghost use Rattle.si_words.specs.Loops.Reads.{words_now};
 ghost use Rattle.si_words.specs.Rows.{Left, all_lines, begins_with, after_line, fault_of};
 ghost use Rattle.si_words.specs.Rows.{TakesLine, AddsNames, LeavesLine, RefusesNames};
 ghost use Rattle.si_words.specs.Sums.{is_empty};

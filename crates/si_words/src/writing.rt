@@ -4,8 +4,8 @@ ghost use Rattle.std.specs.Prelude.{◌≡◌, ◌∷◌, ◌++◌, OnOk};
 ghost use Rattle.si_base.specs.Bytes.{space};
 ghost use Rattle.si_base.specs.NetlistText.{names_of, same_kind as is_same_kind};
 ghost use Rattle.si_base.specs.Words.{line};
-ghost use Rattle.si_words.specs.Reads.{words_now};
-ghost use Rattle.si_words.specs.Writing.{spaced};
+ghost use Rattle.si_words.specs.Loops.Reads.{words_now};
+ghost use Rattle.si_words.specs.Loops.Writing.{spaced};
 
 use si_base::graph::{SigKind, Signal};
 use si_base::ids::NoMemory;

@@ -6,10 +6,11 @@ mod failing_tests;
 #[cfg(test)]
 mod tests;
 
-ghost use Rattle.std.specs.Prelude.{◌≡◌, ◌⊎◌, List, String, drop, IfErr, IfOk};
+ghost use Rattle.std.specs.Prelude.{◌≡◌, ◌≢◌, ◌⊎◌, List, String, drop, IfErr, IfOk};
 ghost use Rattle.std.specs.Process.{exit_status as exit_byte};
 ghost use Rattle.std.specs.Vec.Iter.{into_iter_items};
 ghost use Rattle.std.specs.declared.alloc.Global.{Global as GlobalMemory};
+ghost use Rattle.std.specs.declared.io.ErrorKind.{ErrorKind as Kind};
 ghost use Rattle.si_refusals.specs.ExitStatus.{exit_status};
 
 use si_io::host::{HostShelf, HostSink};
@@ -37,12 +38,13 @@ fn main(rt: HostRuntime) -> ExitCode {
 }
 
 /// The words of the command line without the program's name. Arguments that are no text match no
-/// command.
+/// command; want of memory for them is no `Usage`.
 fn command_words<R: CommandLine>(alloc: Global, system: &R) -> Result<Vec<String>, Refusal<'static>>
     ensures words { IfOk result (λ words. (all : List (String GlobalMemory))
         × R.gives system.now all × (words.items ≡ drop 1 all)) }
     ensures refused { IfErr result (λ refusal. (refusal ≡ Refusal.NoMemory)
-        ⊎ ((refusal ≡ Refusal.Usage) × R.refuses system.now)) }
+        ⊎ ((refusal ≡ Refusal.Usage) × (kind : Kind) × R.refuses system.now kind
+        × (kind ≢ ErrorKind.OutOfMemory))) }
 {
     match system.arguments() {
         Ok(arguments) => match without_first(alloc, arguments) {

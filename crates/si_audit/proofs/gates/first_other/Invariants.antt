@@ -1,6 +1,6 @@
 use Rattle.si_base.specs.Codes.{next_value}
 use Rattle.si_base.specs.Sets.{flag}
-use Rattle.si_audit.specs.Columns.{Agree}
+use Rattle.si_audit.specs.Loops.Columns.{Agree}
 use Rattle.si_audit.proofs.gates.first_other.Given as goal
 
 abbrev pub invariant-loop-s : goal.invariant-loop-s

@@ -2,7 +2,7 @@ use Rattle.std.proofs.Common.{◌≡◌, ℕ, ◌<◌, ◌≤◌, false, length}
 use Rattle.si_base.specs.Bits.{bit}
 use Rattle.si_base.specs.Codes.{code}
 use Rattle.si_base.specs.Sets.{flag}
-use Rattle.si_audit.specs.Columns.{words_for}
+use Rattle.si_audit.specs.Loops.Columns.{words_for}
 use Rattle.si_audit.proofs.values.column_of.Given as goal
 
 abbrev pub invariant-loop-s : goal.invariant-loop-s

@@ -2,7 +2,7 @@ use Rattle.std.proofs.Common.{◌≡◌, ℕ, ◌<◌, length}
 use Rattle.si_base.specs.Bits.{bit}
 use Rattle.si_base.specs.Codes.{code}
 use Rattle.si_base.specs.Sets.{flag}
-use Rattle.si_audit.specs.Columns.{column, words_for}
+use Rattle.si_audit.specs.Loops.Columns.{column, words_for}
 use Rattle.si_audit.proofs.values.columns_of.Given as goal
 
 abbrev pub invariant-loop-z : goal.invariant-loop-z

@@ -5,8 +5,8 @@ use Rattle.si_base.specs.Netlist.{sum_value, value_of}
 use Rattle.si_base.specs.Sets.{flag}
 use Rattle.si_netlist.specs.declared.gate.Gate.{Gate}
 use Rattle.si_netlist.specs.declared.gate.Gate.TheVariants.{Gc}
-use Rattle.si_netlist.specs.Parts.{gate_seen}
-use Rattle.si_audit.specs.Columns.{column, words_for}
+use Rattle.si_netlist.specs.Loops.Parts.{gate_seen}
+use Rattle.si_audit.specs.Loops.Columns.{column, words_for}
 use Rattle.si_audit.proofs.ColumnLemmas.{held_value}
 use Rattle.si_audit.proofs.values.gate_column.Goals as goal
 

@@ -5,7 +5,7 @@ use Rattle.si_base.specs.Bits.{bit}
 use Rattle.si_base.specs.Limits.{code_width}
 use Rattle.si_base.specs.Netlist.{literal_value}
 use Rattle.si_base.specs.Sets.{flag}
-use Rattle.si_audit.specs.Columns.{column, is_value}
+use Rattle.si_audit.specs.Loops.Columns.{column, is_value}
 use Rattle.si_audit.proofs.ColumnLemmas.{rest_value, first_value, literal_kept, no_literal, all_literals}
 use Rattle.si_audit.proofs.values.put_product.Goals as goal
 use Rattle.si_audit.proofs.values.put_product.Goals.{then-get, else-get}

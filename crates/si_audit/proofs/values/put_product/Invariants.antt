@@ -2,7 +2,7 @@ use Rattle.std.proofs.Common.{◌≡◌, ℕ, ◌/◌, ◌<◌, ◌&&◌, length
 use Rattle.std.specs.List.{list_all}
 use Rattle.si_base.specs.Netlist.{literal_value}
 use Rattle.si_base.specs.Sets.{flag}
-use Rattle.si_audit.specs.Columns.{HasCode}
+use Rattle.si_audit.specs.Loops.Columns.{HasCode}
 use Rattle.si_audit.proofs.ColumnLemmas.{rest_value}
 use Rattle.si_audit.proofs.values.put_product.Given as goal
 

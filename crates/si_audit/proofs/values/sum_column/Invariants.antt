@@ -1,7 +1,7 @@
 use Rattle.std.proofs.Common.{◌≡◌, ℕ, ◌/◌, ◌<◌, ◌||◌, length, drop}
 use Rattle.si_base.specs.Netlist.{sum_value}
 use Rattle.si_base.specs.Sets.{flag}
-use Rattle.si_audit.specs.Columns.{HasCode, words_for}
+use Rattle.si_audit.specs.Loops.Columns.{HasCode, words_for}
 use Rattle.si_audit.proofs.values.sum_column.Given as goal
 
 abbrev pub invariant-loop-j : goal.invariant-loop-j

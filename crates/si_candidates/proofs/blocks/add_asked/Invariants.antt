@@ -1,6 +1,6 @@
 use Rattle.std.proofs.Common.{take}
-use Rattle.si_candidates.specs.Adding.{AddsAsked}
-use Rattle.si_candidates.specs.Asked.{asked_for}
+use Rattle.si_candidates.specs.Loops.Adding.{AddsAsked}
+use Rattle.si_candidates.specs.Loops.Asked.{asked_for}
 use Rattle.si_candidates.proofs.blocks.add_asked.Given as goal
 
 abbrev pub invariant-loop-k : goal.invariant-loop-k

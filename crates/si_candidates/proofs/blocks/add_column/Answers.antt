@@ -1,5 +1,5 @@
 use Rattle.std.proofs.Common.{sym, arith}
-use Rattle.si_closures.specs.WordSearch.{column}
+use Rattle.si_closures.specs.Loops.WordSearch.{column}
 use Rattle.si_candidates.proofs.BlockLists.{full_block}
 use Rattle.si_candidates.proofs.blocks.add_column.Goals as goal
 

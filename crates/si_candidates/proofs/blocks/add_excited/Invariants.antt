@@ -1,5 +1,5 @@
 use Rattle.std.proofs.Common.{◌≡◌, map, take}
-use Rattle.si_candidates.specs.Adding.{with_blocks}
+use Rattle.si_candidates.specs.Loops.Adding.{with_blocks}
 use Rattle.si_candidates.specs.Blocks.{state_set}
 use Rattle.si_candidates.proofs.blocks.add_excited.Given as goal
 

@@ -1,6 +1,6 @@
 use Rattle.std.proofs.Common.{◌<◌, [], All, length, take}
-use Rattle.si_candidates.specs.Adding.{AddsFirst}
-use Rattle.si_candidates.specs.Asked.{asked_for, asks_of, AreReady}
+use Rattle.si_candidates.specs.Loops.Adding.{AddsFirst}
+use Rattle.si_candidates.specs.Loops.Asked.{asked_for, asks_of, AreReady}
 use Rattle.si_candidates.specs.Blocks.{driven_events}
 use Rattle.si_candidates.proofs.blocks.add_intervals.Given as goal
 

@@ -1,7 +1,7 @@
 use Rattle.std.proofs.Common.{ℕ, ◌<◌, ◌++◌, ◌∙◌, All, List, length, take, drop, ap, ap₂, sym, subst, arith}
 use Rattle.std.proofs.lemmas.List.Elements.{All-append}
 use Rattle.si_base.specs.declared.ids.Event.{Event}
-use Rattle.si_candidates.specs.Asked.{asked_for, asks_from, AreReady}
+use Rattle.si_candidates.specs.Loops.Asked.{asked_for, asks_from, AreReady}
 use Rattle.si_candidates.specs.Blocks.{state_set}
 use Rattle.si_candidates.proofs.AddingLemmas.{all_taken, all_dropped}
 use Rattle.si_candidates.proofs.AskLemmas.{next_wait}

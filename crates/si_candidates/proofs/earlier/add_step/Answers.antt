@@ -2,7 +2,7 @@ use Rattle.std.proofs.Common.{ℕ, subst}
 use Rattle.si_base.specs.Graph.{Step}
 use Rattle.si_base.proofs.GraphSteps.{enables-step}
 use Rattle.si_closures.proofs.SignalKinds.{apart_events}
-use Rattle.si_candidates.specs.Earlier.{IsEarlierBy}
+use Rattle.si_candidates.specs.Loops.Earlier.{IsEarlierBy}
 use Rattle.si_candidates.proofs.EarlierLemmas.{adds_none, earlier_is}
 use Rattle.si_candidates.proofs.earlier.add_step.Goals as goal
 

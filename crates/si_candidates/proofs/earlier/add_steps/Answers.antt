@@ -1,8 +1,8 @@
 use Rattle.std.proofs.Common.{◌+◌, ℕ, [], length, subst}
 use Rattle.si_base.specs.declared.graph.Edge.{Edge}
-use Rattle.si_graph.specs.Arcs.{IsFirstPlace, IsInto}
+use Rattle.si_graph.specs.Loops.Arcs.{IsFirstPlace, IsInto}
 use Rattle.si_graph.proofs.ClosureLemmas.{stands_first}
-use Rattle.si_candidates.specs.Earlier.{Adds, IsEarlierBy}
+use Rattle.si_candidates.specs.Loops.Earlier.{Adds, IsEarlierBy}
 use Rattle.si_candidates.proofs.EarlierLemmas.{one_more, all_earlier}
 use Rattle.si_candidates.proofs.earlier.add_steps.Goals as goal
 

@@ -1,6 +1,6 @@
 use Rattle.std.proofs.Common.{◌-◌, length}
 use Rattle.si_graph.proofs.ClosureLemmas.{Stands, place_in_walk}
-use Rattle.si_candidates.specs.Earlier.{Adds}
+use Rattle.si_candidates.specs.Loops.Earlier.{Adds}
 use Rattle.si_candidates.proofs.EarlierLemmas.{IsEarlierOf}
 use Rattle.si_candidates.proofs.earlier.add_steps.Given as goal
 

@@ -1,4 +1,4 @@
-use Rattle.si_candidates.specs.ManySets.{ArePacked}
+use Rattle.si_candidates.specs.Loops.ManySets.{ArePacked}
 use Rattle.si_candidates.proofs.may_switch.block_words.Given as goal
 
 abbrev pub invariant-loop-k : goal.invariant-loop-k

@@ -1,7 +1,7 @@
 use Rattle.std.proofs.Common.{◌<◌, ◌∙◌, ℕ, List, length, get_or, subst, arith}
 use Rattle.si_base.specs.Sets.{IsIn}
 use Rattle.si_candidates.specs.Blocking.{MayPass}
-use Rattle.si_candidates.specs.ManySets.{TellsOf}
+use Rattle.si_candidates.specs.Loops.ManySets.{TellsOf}
 use Rattle.si_candidates.proofs.MaySwitchWords.{one_list_more, list_is}
 use Rattle.si_candidates.proofs.may_switch.keep_passed.Goals as goal
 

@@ -1,7 +1,7 @@
 use Rattle.std.proofs.Common.{◌<◌, ◌∙◌, ℕ, List, length, get_or, subst, arith}
 use Rattle.std.proofs.lemmas.Bool.{true≢false}
 use Rattle.si_base.specs.Sets.{IsIn}
-use Rattle.si_candidates.specs.ManySets.{TellsOf, words_at}
+use Rattle.si_candidates.specs.Loops.ManySets.{TellsOf, words_at}
 use Rattle.si_candidates.proofs.MaySwitchWords.{list_is, one_word_tells}
 use Rattle.si_candidates.proofs.may_switch.leads_out.Goals as goal
 

@@ -1,6 +1,6 @@
 use Rattle.std.proofs.Common.{ℕ, ◌<◌, get_or}
 use Rattle.si_base.specs.Sets.{IsIn}
-use Rattle.si_candidates.specs.ManySets.{TellsOf, words_at}
+use Rattle.si_candidates.specs.Loops.ManySets.{TellsOf, words_at}
 use Rattle.si_candidates.proofs.may_switch.leads_out.Given as goal
 
 abbrev pub invariant-loop-b : goal.invariant-loop-b

@@ -1,4 +1,4 @@
-use Rattle.si_candidates.specs.ManySets.{Tells}
+use Rattle.si_candidates.specs.Loops.ManySets.{Tells}
 use Rattle.si_candidates.proofs.MaySwitchWords.{LeadOutBelow}
 use Rattle.si_candidates.proofs.may_switch.those_to_leave.Given as goal
 

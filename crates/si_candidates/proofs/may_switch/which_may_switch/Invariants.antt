@@ -1,5 +1,5 @@
 use Rattle.std.proofs.Common.{◌≡◌, length}
-use Rattle.si_candidates.specs.ManySets.{AreToldBelow}
+use Rattle.si_candidates.specs.Loops.ManySets.{AreToldBelow}
 use Rattle.si_candidates.proofs.may_switch.which_may_switch.Given as goal
 
 abbrev pub invariant-loop-k : goal.invariant-loop-k

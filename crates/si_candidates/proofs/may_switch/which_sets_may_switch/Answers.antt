@@ -3,7 +3,7 @@ use Rattle.std.proofs.lemmas.List.{take_at}
 use Rattle.si_base.specs.declared.graph.Edge.{Edge}
 use Rattle.si_base.specs.Sets.{IsIn}
 use Rattle.si_candidates.specs.Blocking.{MayPass}
-use Rattle.si_candidates.specs.ManySets.{EachTells, EachTellsOf}
+use Rattle.si_candidates.specs.Loops.ManySets.{EachTells, EachTellsOf}
 use Rattle.si_candidates.proofs.EarlierLemmas.{added_to_none, item_at}
 use Rattle.si_candidates.proofs.MaySwitchWords.{PassBelow, none_passed_yet, one_passed_more}
 use Rattle.si_candidates.proofs.MaySwitchWords.{passed_by_staying, all_passed}

@@ -1,4 +1,4 @@
-use Rattle.si_candidates.specs.ManySets.{EachTells}
+use Rattle.si_candidates.specs.Loops.ManySets.{EachTells}
 use Rattle.si_candidates.proofs.MaySwitchWords.{PassBelow}
 use Rattle.si_candidates.proofs.may_switch.which_sets_may_switch.Given as goal
 

@@ -1,5 +1,5 @@
 use Rattle.si_graph.specs.Closure.{IsNext}
-use Rattle.si_graph.specs.Reach.{MarksAll}
+use Rattle.si_graph.specs.Loops.Reach.{MarksAll}
 use Rattle.si_candidates.proofs.PartLemmas.{IsNextBefore}
 use Rattle.si_candidates.proofs.parts.follow_each.Given as goal
 

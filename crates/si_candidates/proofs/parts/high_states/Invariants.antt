@@ -1,5 +1,5 @@
 use Rattle.std.proofs.Common.{◌≡◌, ◌+◌, length}
-use Rattle.si_graph.specs.Reach.{unmarked}
+use Rattle.si_graph.specs.Loops.Reach.{unmarked}
 use Rattle.si_candidates.proofs.PartLemmas.{Spreads}
 use Rattle.si_candidates.proofs.parts.high_states.Given as goal
 

@@ -1,6 +1,6 @@
 use Rattle.std.proofs.Common.{◌≡◌, ◌≤◌, [], length, take, drop, All}
 use Rattle.si_base.specs.Faults.{first_after}
-use Rattle.si_words.specs.Reads.{words_now}
+use Rattle.si_words.specs.Loops.Reads.{words_now}
 use Rattle.si_cell.specs.CellWords.{pin_fault}
 use Rattle.si_cell.specs.Library.{IsPinName}
 use Rattle.si_cell.specs.Limits.{max_pins}

@@ -1,5 +1,5 @@
 use Rattle.std.proofs.Common.{◌≡◌, take}
-use Rattle.si_words.specs.Reads.{words_now}
+use Rattle.si_words.specs.Loops.Reads.{words_now}
 use Rattle.si_cell.proofs.cell_reader.names_of.Given as goal
 
 abbrev pub invariant-loop-word : goal.invariant-loop-word

@@ -1,6 +1,6 @@
 use Rattle.std.proofs.Common.{sym, ◌∙◌, subst}
 use Rattle.std.proofs.lemmas.Result.{err_from_is_err_and}
-use Rattle.si_words.specs.Reads.{words_now}
+use Rattle.si_words.specs.Loops.Reads.{words_now}
 use Rattle.si_words.proofs.FaultLemmas.{both}
 use Rattle.si_cell.specs.CellWords.{cell_name_fault}
 use Rattle.si_cell.specs.Library.{IsCell}

@@ -1,6 +1,6 @@
 use Rattle.std.proofs.Common.{◌≡◌, ◌&&◌, not, true, false, codes, sym, ◌∙◌}
 use Rattle.std.proofs.lemmas.Bool.{true≢false}
-use Rattle.si_words.specs.Reads.{words_now}
+use Rattle.si_words.specs.Loops.Reads.{words_now}
 use Rattle.si_words.specs.Sums.{is_one}
 use Rattle.si_cell.specs.CellWords.{is_cell_cube}
 use Rattle.si_cell.proofs.CellLemmas.{cube_low}

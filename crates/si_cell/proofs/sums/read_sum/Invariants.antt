@@ -1,5 +1,5 @@
 use Rattle.std.proofs.Common.{length, codes}
-use Rattle.si_cell.specs.Reads.{parts_left}
+use Rattle.si_cell.specs.Loops.Reads.{parts_left}
 use Rattle.si_cell.proofs.PartLemmas.{InSum}
 use Rattle.si_cell.proofs.sums.read_sum.Given as goal
 

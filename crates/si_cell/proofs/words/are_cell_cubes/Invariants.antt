@@ -1,7 +1,7 @@
 use Rattle.std.proofs.Common.{◌≡◌, length, codes}
 use Rattle.std.specs.List.{list_all}
 use Rattle.si_cell.specs.CellWords.{is_cell_cube}
-use Rattle.si_cell.specs.Reads.{parts_left}
+use Rattle.si_cell.specs.Loops.Reads.{parts_left}
 use Rattle.si_cell.proofs.words.are_cell_cubes.Given as goal
 
 abbrev pub invariant-loop-more : goal.invariant-loop-more

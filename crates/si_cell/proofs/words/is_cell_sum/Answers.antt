@@ -1,5 +1,5 @@
 use Rattle.std.proofs.Common.{sym, ◌∙◌}
-use Rattle.si_words.specs.Reads.{words_now}
+use Rattle.si_words.specs.Loops.Reads.{words_now}
 use Rattle.si_cell.proofs.PartLemmas.{first_good, first_bad}
 use Rattle.si_cell.proofs.words.is_cell_sum.Goals as goal
 

@@ -1,5 +1,5 @@
 use Rattle.std.proofs.Common.{length}
-use Rattle.si_words.specs.Reads.{words_now}
+use Rattle.si_words.specs.Loops.Reads.{words_now}
 use Rattle.si_cell.proofs.WordLemmas.{Taking}
 use Rattle.si_cell.proofs.words.take_before.Given as goal
 

@@ -1,5 +1,5 @@
 use Rattle.si_base.specs.Proper.{Forks, loss_place}
-use Rattle.si_checks.specs.Searches.{IsFirstOrNone, LosesBelow}
+use Rattle.si_checks.specs.Loops.Searches.{IsFirstOrNone, LosesBelow}
 use Rattle.si_checks.proofs.SearchLemmas.{NoneBelow}
 use Rattle.si_checks.proofs.breaches.first_breach.Given as goal
 

@@ -4,7 +4,7 @@ use Rattle.std.proofs.lemmas.List.{take_all}
 use Rattle.std.proofs.lemmas.List.Elements.{All-more}
 use Rattle.si_base.specs.declared.graph.Edge.{Edge}
 use Rattle.si_base.specs.Graph.{StateGraph}
-use Rattle.si_checks.specs.ByCodes.{LeavesOthers}
+use Rattle.si_checks.specs.Loops.ByCodes.{LeavesOthers}
 use Rattle.si_checks.proofs.ByCodesLemmas.{leaves_persist, persist_leaves}
 use Rattle.si_checks.proofs.by_codes.is_persistent.Goals as goal
 

@@ -5,7 +5,7 @@ use Rattle.std.specs.Ordering.{nat_cmp}
 use Rattle.si_base.specs.Graph.{StateGraph}
 use Rattle.si_base.specs.Codes.{code}
 use Rattle.si_base.specs.Proper.{pair_place}
-use Rattle.si_checks.specs.Searches.{Differ, IsFirstOrNone}
+use Rattle.si_checks.specs.Loops.Searches.{Differ, IsFirstOrNone}
 use Rattle.si_checks.proofs.ConflictLemmas.{IsConflictBelow, IsAt, first_at, firsts_more, keep_found, take_pair}
 use Rattle.si_checks.proofs.ConflictLemmas.{all_states}
 use Rattle.si_checks.proofs.conflicts.first_conflict.Goals as goal

@@ -2,7 +2,7 @@ use Rattle.std.proofs.Common.{ℕ}
 use Rattle.std.specs.BTreeMap.{get}
 use Rattle.std.specs.Ordering.{nat_cmp}
 use Rattle.si_base.specs.Proper.{pair_place}
-use Rattle.si_checks.specs.Searches.{IsFirstOrNone}
+use Rattle.si_checks.specs.Loops.Searches.{IsFirstOrNone}
 use Rattle.si_checks.proofs.ConflictLemmas.{IsFirstOfCodeBelow, IsConflictBelow}
 use Rattle.si_checks.proofs.conflicts.first_conflict.Given as goal
 

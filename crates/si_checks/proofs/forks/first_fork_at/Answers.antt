@@ -1,7 +1,7 @@
 use Rattle.std.proofs.Common.{ℕ, ◌∙◌, sym, subst}
 use Rattle.si_base.specs.Order.{IsFirst}
 use Rattle.si_base.specs.Proper.{Forks, fork_place}
-use Rattle.si_checks.specs.Searches.{ForksAt, ForksBy}
+use Rattle.si_checks.specs.Loops.Searches.{ForksAt, ForksBy}
 use Rattle.si_checks.proofs.ForkOrder.{out_arc, out_source, one_more, none_at_all}
 use Rattle.si_checks.proofs.ForkLemmas.{at_step}
 use Rattle.si_checks.proofs.SearchLemmas.{first_at}

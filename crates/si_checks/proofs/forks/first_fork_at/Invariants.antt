@@ -1,4 +1,4 @@
-use Rattle.si_checks.specs.Searches.{ForksAt}
+use Rattle.si_checks.specs.Loops.Searches.{ForksAt}
 use Rattle.si_checks.proofs.ForkOrder.{NoneWithin}
 use Rattle.si_checks.proofs.forks.first_fork_at.Given as goal
 

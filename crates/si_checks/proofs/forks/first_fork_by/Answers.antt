@@ -1,7 +1,7 @@
 use Rattle.std.proofs.Common.{refl}
 use Rattle.si_checks.proofs.ForkOrder.{out_item, one_more, none_at_all, later_event}
 use Rattle.si_base.specs.Proper.{Forks}
-use Rattle.si_checks.specs.Searches.{ForksBy}
+use Rattle.si_checks.specs.Loops.Searches.{ForksBy}
 use Rattle.si_checks.proofs.ForkLemmas.{by_step, fork_from, ends_from}
 use Rattle.si_checks.proofs.SearchLemmas.{first_by}
 use Rattle.si_checks.proofs.forks.first_fork_by.Goals as goal

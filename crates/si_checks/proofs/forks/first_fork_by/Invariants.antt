@@ -1,4 +1,4 @@
-use Rattle.si_checks.specs.Searches.{ForksBy}
+use Rattle.si_checks.specs.Loops.Searches.{ForksBy}
 use Rattle.si_checks.proofs.ForkOrder.{NoneWithin}
 use Rattle.si_checks.proofs.forks.first_fork_by.Given as goal
 

@@ -1,6 +1,6 @@
 use Rattle.si_base.proofs.GraphSteps.{enables-step}
 use Rattle.si_base.specs.Proper.{Loses}
-use Rattle.si_checks.specs.Searches.{LosesAt}
+use Rattle.si_checks.specs.Loops.Searches.{LosesAt}
 use Rattle.si_checks.proofs.ForkOrder.{out_item, out_signal, none_at_all}
 use Rattle.si_checks.proofs.LossLemmas.{at_step}
 use Rattle.si_checks.proofs.SearchLemmas.{first_at}

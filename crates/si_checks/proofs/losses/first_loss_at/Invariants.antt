@@ -1,4 +1,4 @@
-use Rattle.si_checks.specs.Searches.{LosesAt}
+use Rattle.si_checks.specs.Loops.Searches.{LosesAt}
 use Rattle.si_checks.proofs.ForkOrder.{NoneWithin}
 use Rattle.si_checks.proofs.losses.first_loss_at.Given as goal
 

@@ -1,6 +1,6 @@
 use Rattle.std.proofs.Common.{sym, refl}
 use Rattle.si_base.specs.Proper.{Loses}
-use Rattle.si_checks.specs.Searches.{LosesOf}
+use Rattle.si_checks.specs.Loops.Searches.{LosesOf}
 use Rattle.si_checks.proofs.ForkOrder.{out_item, one_more, none_at_all}
 use Rattle.si_checks.proofs.LossLemmas.{of_step, loss_from, still_enabled, differs}
 use Rattle.si_checks.proofs.SearchLemmas.{first_by}

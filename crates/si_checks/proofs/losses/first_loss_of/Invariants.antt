@@ -1,4 +1,4 @@
-use Rattle.si_checks.specs.Searches.{LosesOf}
+use Rattle.si_checks.specs.Loops.Searches.{LosesOf}
 use Rattle.si_checks.proofs.ForkOrder.{NoneWithin}
 use Rattle.si_checks.proofs.losses.first_loss_of.Given as goal
 

@@ -2,7 +2,7 @@ use Rattle.std.proofs.Common.{refl, subst}
 use Rattle.std.proofs.lemmas.List.{take_all}
 use Rattle.std.proofs.lemmas.List.Elements.{All-more}
 use Rattle.si_base.specs.declared.graph.Edge.{Edge}
-use Rattle.si_checks.specs.Squares.{ClosesSquare}
+use Rattle.si_checks.specs.Loops.Squares.{ClosesSquare}
 use Rattle.si_checks.proofs.squares.closes_with_each.Goals as goal
 
 pub loop-y-preserved : goal.loop-y-preserved

@@ -1,6 +1,7 @@
 use Rattle.std.proofs.Common.{◌∙◌, sym}
-use Rattle.si_checks.specs.Lent.{coded_of}
-use Rattle.si_circuit.proofs.CellLemmas.{instance_of, signal_small}
+use Rattle.si_checks.specs.Loops.Lent.{coded_of}
+use Rattle.si_match.proofs.KnownLemmas.{has_bit}
+use Rattle.si_circuit.proofs.CellLemmas.{instance_of}
 use Rattle.si_circuit.proofs.cells.cell_gate.Goals as goal
 
 pub gate_of_instance-requires-clause-instance : goal.gate_of_instance-requires-clause-instance
@@ -10,4 +11,4 @@ gate_of_instance-requires-clause-instance c =
 
 pub gate_of_instance-requires-clause-signal : goal.gate_of_instance-requires-clause-signal
 gate_of_instance-requires-clause-signal c =
-    signal_small (coded_of c.args.graph) c.args.z c.requires.coded c.requires.driven
+    has_bit (coded_of c.args.graph) c.args.z c.requires.coded c.requires.driven

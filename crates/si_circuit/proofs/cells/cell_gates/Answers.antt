@@ -4,8 +4,8 @@ use Rattle.std.proofs.lemmas.List.{map_push}
 use Rattle.si_base.specs.Codes.{CodedGraph}
 use Rattle.si_base.specs.Graph.{StateGraph, IsNonInput}
 use Rattle.si_base.specs.Netlist.{Gate}
-use Rattle.si_checks.specs.Lent.{coded_of}
-use Rattle.si_netlist.specs.Parts.{gate_seen}
+use Rattle.si_checks.specs.Loops.Lent.{coded_of}
+use Rattle.si_netlist.specs.Loops.Parts.{gate_seen}
 use Rattle.si_circuit.specs.Cells.{cell_gate}
 use Rattle.si_circuit.proofs.CellLemmas.{fit_more}
 use Rattle.si_circuit.proofs.GateLemmas.{gates_skip, gates_more}

@@ -1,6 +1,6 @@
 use Rattle.std.proofs.Common.{◌≡◌, ◌++◌, map, drop}
-use Rattle.si_checks.specs.Lent.{coded_of}
-use Rattle.si_netlist.specs.Parts.{gate_seen}
+use Rattle.si_checks.specs.Loops.Lent.{coded_of}
+use Rattle.si_netlist.specs.Loops.Parts.{gate_seen}
 use Rattle.si_circuit.specs.Cells.{cell_gate}
 use Rattle.si_circuit.specs.Gates.{gates_from}
 use Rattle.si_circuit.proofs.CellLemmas.{FitBefore}

@@ -2,7 +2,7 @@ use Rattle.std.proofs.Common.{◌≡◌, ◌∙◌, sym, subst}
 use Rattle.si_base.specs.Codes.{IsCoded}
 use Rattle.si_base.specs.RightGates.{GivesNextValues}
 use Rattle.si_base.specs.WellFormed.{IsNetlist}
-use Rattle.si_checks.specs.Lent.{coded_of}
+use Rattle.si_checks.specs.Loops.Lent.{coded_of}
 use Rattle.si_circuit.specs.Cells.{cell_gate}
 use Rattle.si_circuit.proofs.CellLemmas.{cells_give, cells_are_netlist}
 use Rattle.si_circuit.proofs.GateLemmas.{made}

@@ -2,7 +2,7 @@ use Rattle.std.proofs.Common.{◌∙◌, Result, Ok, Err, IfOk}
 use Rattle.std.proofs.lemmas.Result.{IfOk-weaker}
 use Rattle.si_base.specs.Behaviour.{Implements}
 use Rattle.si_base.specs.Netlist.{Netlist}
-use Rattle.si_checks.specs.Lent.{coded_of}
+use Rattle.si_checks.specs.Loops.Lent.{coded_of}
 use Rattle.si_circuit.specs.Cells.{cell_gate}
 use Rattle.si_circuit.specs.Circuits.{IsCircuit}
 use Rattle.si_circuit.specs.declared.cells.CellsFault.{CellsFault}

@@ -1,7 +1,7 @@
 use Rattle.std.proofs.Common.{◌≡◌, ◌∙◌}
 use Rattle.std.proofs.lemmas.Result.{IfOk-weaker}
 use Rattle.si_base.specs.Behaviour.{Implements}
-use Rattle.si_checks.specs.Lent.{coded_of}
+use Rattle.si_checks.specs.Loops.Lent.{coded_of}
 use Rattle.si_circuit.specs.Circuits.{IsCircuit}
 use Rattle.si_circuit.specs.Gates.{gate_of, netlist_of}
 use Rattle.si_circuit.proofs.CircuitLemmas.{circuit_made, inserted_made}

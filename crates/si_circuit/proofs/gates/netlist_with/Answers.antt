@@ -1,7 +1,7 @@
 use Rattle.std.proofs.Common.{◌≡◌, ◌∙◌, sym, subst}
 use Rattle.si_base.specs.Codes.{IsCoded}
 use Rattle.si_base.specs.WellFormed.{IsNetlist}
-use Rattle.si_checks.specs.Lent.{coded_of}
+use Rattle.si_checks.specs.Loops.Lent.{coded_of}
 use Rattle.si_circuit.specs.Covered.{HasPrimeGates}
 use Rattle.si_circuit.specs.Gates.{gate_of}
 use Rattle.si_circuit.proofs.GateLemmas.{made, chosen_is_netlist}

@@ -3,8 +3,8 @@ use Rattle.std.proofs.lemmas.List.{length-map, map-append, length_push}
 use Rattle.si_base.specs.Proper.{IsConflict}
 use Rattle.si_conflicts.specs.declared.conflicts.Pair.{Pair}
 use Rattle.si_conflicts.specs.Conflicts.{pairs_of}
-use Rattle.si_conflicts.specs.Links.{IsFirstClash}
-use Rattle.si_conflicts.specs.Search.{AreBelow}
+use Rattle.si_conflicts.specs.Loops.Links.{IsFirstClash}
+use Rattle.si_conflicts.specs.Loops.Search.{AreBelow}
 use Rattle.si_conflicts.proofs.SearchLemmas.{at_first, walk_starts, walk_goes_on, below_take, below_row, first_full}
 use Rattle.si_conflicts.proofs.conflicts.add_conflicts.Goals as goal
 

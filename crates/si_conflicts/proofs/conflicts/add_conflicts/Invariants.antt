@@ -1,6 +1,6 @@
 use Rattle.std.proofs.Common.{◌<◌, length}
 use Rattle.si_conflicts.specs.Conflicts.{pairs_of}
-use Rattle.si_conflicts.specs.Search.{AreBelow}
+use Rattle.si_conflicts.specs.Loops.Search.{AreBelow}
 use Rattle.si_conflicts.proofs.SearchLemmas.{low, left, IsAt}
 use Rattle.si_conflicts.proofs.conflicts.add_conflicts.Given as goal
 

@@ -1,6 +1,6 @@
 use Rattle.std.proofs.Common.{◌≤◌, length}
 use Rattle.si_conflicts.specs.Conflicts.{AreFirstConflicts, pairs_of}
-use Rattle.si_conflicts.specs.Search.{AreBelow}
+use Rattle.si_conflicts.specs.Loops.Search.{AreBelow}
 use Rattle.std.proofs.Common.{◌≡◌, ◌⊎◌}
 use Rattle.si_conflicts.proofs.conflicts.conflicts.Given as goal
 

@@ -1,8 +1,8 @@
 use Rattle.std.proofs.Common.{◌≡◌, ◌*◌, ◌<◌, ◌≤◌, length, take, get_or}
 use Rattle.si_base.specs.Limits.{max_states}
 use Rattle.si_conflicts.specs.declared.keys.Key.{Key}
-use Rattle.si_conflicts.specs.Apart.{AreUpTo, IsTally, IsUpTo}
-use Rattle.si_conflicts.specs.Keys.{clash_count}
+use Rattle.si_conflicts.specs.Loops.Apart.{AreUpTo, IsTally, IsUpTo}
+use Rattle.si_conflicts.specs.Loops.Keys.{clash_count}
 use Rattle.si_conflicts.proofs.SortedClashes.{plain_to}
 use Rattle.si_conflicts.proofs.count.clashes_of_sorted.Given as goal
 

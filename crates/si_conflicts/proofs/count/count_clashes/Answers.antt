@@ -1,5 +1,5 @@
 use Rattle.std.proofs.Common.{◌∙◌, ap}
-use Rattle.si_conflicts.specs.Keys.{clash_count}
+use Rattle.si_conflicts.specs.Loops.Keys.{clash_count}
 use Rattle.si_conflicts.proofs.SortedClashes.{clashes_permuted}
 use Rattle.si_conflicts.proofs.count.count_clashes.Goals as goal
 

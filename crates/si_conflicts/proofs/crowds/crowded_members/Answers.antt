@@ -1,6 +1,6 @@
 use Rattle.std.proofs.Common.{◌≡◌, ◌∙◌, not, ap, arith, unwrap_or}
 use Rattle.std.proofs.lemmas.Bool.{le-ltb, lt-ltb}
-use Rattle.si_conflicts.specs.Crowds.{code_count}
+use Rattle.si_conflicts.specs.Loops.Crowds.{code_count}
 use Rattle.si_conflicts.proofs.CrowdLemmas.{crowded_kept, crowded_passed, in_crowd}
 use Rattle.si_conflicts.proofs.crowds.crowded_members.Goals as goal
 use Rattle.si_conflicts.proofs.crowds.crowded_members.Goals.{then-states-least+in_ok-push, else-states-least}

@@ -1,5 +1,5 @@
 use Rattle.std.proofs.Common.{◌≡◌, ◌≤◌, ℕ, ◌<◌, length}
-use Rattle.si_conflicts.specs.Keys.{IsKey, key_at}
+use Rattle.si_conflicts.specs.Loops.Keys.{IsKey, key_at}
 use Rattle.si_conflicts.proofs.keys.keys.Given as goal
 
 abbrev pub invariant-loop-k : goal.invariant-loop-k

@@ -1,5 +1,5 @@
 use Rattle.std.proofs.Common.{◌+◌, arith, sym, subst}
-use Rattle.si_conflicts.specs.Links.{IsFirstOfCode}
+use Rattle.si_conflicts.specs.Loops.Links.{IsFirstOfCode}
 use Rattle.si_conflicts.proofs.links.clash_after.Goals as goal
 
 pub returns : goal.returns

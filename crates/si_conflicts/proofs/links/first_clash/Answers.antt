@@ -1,7 +1,7 @@
 use Rattle.std.proofs.Common.{Some, subst}
 use Rattle.si_base.specs.Codes.{code}
-use Rattle.si_conflicts.specs.Keys.{key_at}
-use Rattle.si_conflicts.specs.Links.{IsFirstOfCode}
+use Rattle.si_conflicts.specs.Loops.Keys.{key_at}
+use Rattle.si_conflicts.specs.Loops.Links.{IsFirstOfCode}
 use Rattle.si_conflicts.proofs.LinkLemmas.{clash_here, clash_behind, signals_apart, signals_same}
 use Rattle.si_conflicts.proofs.links.first_clash.Goals as goal
 

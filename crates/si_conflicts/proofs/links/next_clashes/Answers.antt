@@ -1,7 +1,7 @@
 use Rattle.std.proofs.Common.{◌≡◌, ℕ, ◌+◌, ◌-◌, ◌<◌, ◌≤◌, ◌∙◌, Option, arith, ap, length-set}
 use Rattle.si_base.specs.Graph.{StateGraph}
 use Rattle.si_base.specs.Codes.{code}
-use Rattle.si_conflicts.specs.Links.{IsFirstOfCode, IsFirstClash, HasNextClash}
+use Rattle.si_conflicts.specs.Loops.Links.{IsFirstOfCode, IsFirstClash, HasNextClash}
 use Rattle.si_conflicts.proofs.LinkLemmas.{clash_links_more}
 use Rattle.si_conflicts.proofs.links.next_clashes.Goals as goal
 

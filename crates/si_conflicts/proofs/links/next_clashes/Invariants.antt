@@ -1,5 +1,5 @@
 use Rattle.std.proofs.Common.{◌≡◌, ◌≤◌, ℕ, ◌<◌, length}
-use Rattle.si_conflicts.specs.Links.{HasNextClash}
+use Rattle.si_conflicts.specs.Loops.Links.{HasNextClash}
 use Rattle.si_conflicts.proofs.links.next_clashes.Given as goal
 
 abbrev pub invariant-loop-k : goal.invariant-loop-k

@@ -2,7 +2,7 @@ use Rattle.std.proofs.Common.{◌≡◌, ℕ, ◌+◌, ◌<◌, ◌≤◌, lengt
 use Rattle.std.specs.BTreeMap.{get}
 use Rattle.std.specs.Ordering.{nat_cmp}
 use Rattle.si_base.specs.Codes.{code}
-use Rattle.si_conflicts.specs.Links.{IsFirstOfCode}
+use Rattle.si_conflicts.specs.Loops.Links.{IsFirstOfCode}
 use Rattle.si_conflicts.proofs.links.next_equals.Given as goal
 
 abbrev pub invariant-loop-s : goal.invariant-loop-s

@@ -2,7 +2,7 @@ use Rattle.std.proofs.Common.{◌<◌, ◌==◌, ◌∙◌, not, arith, ap, sym,
 use Rattle.std.proofs.lemmas.List.{get_or_default}
 use Rattle.std.proofs.lemmas.List.Elements.{All-push}
 use Rattle.si_base.specs.Graph.{StateGraph}
-use Rattle.si_conflicts.specs.Keys.{IsKey}
+use Rattle.si_conflicts.specs.Loops.Keys.{IsKey}
 use Rattle.si_conflicts.proofs.RingLemmas.{states_more, states_same}
 use Rattle.si_conflicts.proofs.members.in_state_order.Goals as goal
 use Rattle.si_conflicts.proofs.members.in_state_order.Goals.{then-ne+in_ok-push, else-ne}

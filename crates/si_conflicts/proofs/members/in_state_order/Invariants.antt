@@ -1,6 +1,6 @@
 use Rattle.std.proofs.Common.{◌≡◌, ◌<◌, ◌≤◌, All, map}
-use Rattle.si_conflicts.specs.Chains.{with_equals}
-use Rattle.si_conflicts.specs.Keys.{IsKey}
+use Rattle.si_conflicts.specs.Loops.Chains.{with_equals}
+use Rattle.si_conflicts.specs.Loops.Keys.{IsKey}
 use Rattle.si_conflicts.proofs.members.in_state_order.Given as goal
 
 abbrev pub invariant-loop-k : goal.invariant-loop-k

@@ -2,7 +2,7 @@ use Rattle.std.proofs.Common.{◌<◌, subst, map}
 use Rattle.std.proofs.lemmas.List.Sorted.{IsPermutation-map, All-permutation}
 use Rattle.std.specs.List.Sorted.{IsPermutation}
 use Rattle.si_conflicts.specs.declared.members.Member.{Member}
-use Rattle.si_conflicts.specs.Keys.{IsKey}
+use Rattle.si_conflicts.specs.Loops.Keys.{IsKey}
 use Rattle.si_conflicts.proofs.members.members.Goals as goal
 
 pub returns : goal.returns

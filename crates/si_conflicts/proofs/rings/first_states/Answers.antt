@@ -2,7 +2,7 @@ use Rattle.std.proofs.Common.{◌≡◌, ℕ, ◌+◌, ◌-◌, ◌<◌, ◌∙�
 use Rattle.std.specs.BTreeMap.{get}
 use Rattle.std.specs.Ordering.{nat_cmp}
 use Rattle.si_base.specs.Graph.{StateGraph}
-use Rattle.si_conflicts.specs.Links.{IsFirstOfCode}
+use Rattle.si_conflicts.specs.Loops.Links.{IsFirstOfCode}
 use Rattle.si_conflicts.proofs.LinkLemmas.{firsts_more}
 use Rattle.si_conflicts.proofs.rings.first_states.Goals as goal
 

@@ -3,7 +3,7 @@ use Rattle.std.specs.BTreeMap.{get}
 use Rattle.std.specs.Ordering.{nat_cmp}
 use Rattle.si_base.specs.Graph.{StateGraph}
 use Rattle.si_base.specs.Codes.{code}
-use Rattle.si_conflicts.specs.Links.{IsFirstOfCode}
+use Rattle.si_conflicts.specs.Loops.Links.{IsFirstOfCode}
 use Rattle.si_conflicts.proofs.RingLemmas.{next_is, rings_more}
 use Rattle.si_conflicts.proofs.rings.rings.Goals as goal
 

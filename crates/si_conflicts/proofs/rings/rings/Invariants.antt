@@ -1,5 +1,5 @@
 use Rattle.std.proofs.Common.{◌≡◌, ℕ, ◌<◌, ◌≤◌, length, get_or}
-use Rattle.si_conflicts.specs.Chains.{IsNextInRing}
+use Rattle.si_conflicts.specs.Loops.Chains.{IsNextInRing}
 use Rattle.si_conflicts.proofs.rings.rings.Given as goal
 
 abbrev pub invariant-loop-k : goal.invariant-loop-k

@@ -1,10 +1,10 @@
 use Rattle.std.proofs.Common.{◌≡◌, ◌+◌, ◌*◌, ◌≤◌, ◌∙◌, arith, ap, refl, true, false, List, take}
 use Rattle.si_base.specs.Limits.{max_states}
 use Rattle.si_conflicts.specs.declared.members.Member.{Member}
-use Rattle.si_conflicts.specs.Apart as Apart
-use Rattle.si_conflicts.specs.Apart.{role_at, pair_sum, HasTally}
-use Rattle.si_conflicts.specs.Keys.{no_key}
-use Rattle.si_conflicts.specs.Turns.{AreTurns}
+use Rattle.si_conflicts.specs.Loops.Apart as Apart
+use Rattle.si_conflicts.specs.Loops.Apart.{role_at, pair_sum, HasTally}
+use Rattle.si_conflicts.specs.Loops.Keys.{no_key}
+use Rattle.si_conflicts.specs.Loops.Turns.{AreTurns}
 use Rattle.si_conflicts.proofs.ApartPairSums.{pair_take}
 use Rattle.si_conflicts.proofs.TurnLemmas.{has_tally, few_more, total_more, passed_more, all_passed, few_turns}
 use Rattle.si_conflicts.proofs.trial.count_stable.Given.{Over}

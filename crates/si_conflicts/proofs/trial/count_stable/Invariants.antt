@@ -1,7 +1,7 @@
 use Rattle.std.proofs.Common.{◌*◌, ◌≤◌, List}
 use Rattle.si_base.specs.Limits.{max_states}
 use Rattle.si_conflicts.specs.declared.members.Member.{Member}
-use Rattle.si_conflicts.specs.Turns.{AreTurns}
+use Rattle.si_conflicts.specs.Loops.Turns.{AreTurns}
 use Rattle.si_conflicts.proofs.TurnLemmas.{Passed}
 use Rattle.si_conflicts.proofs.trial.count_stable.Given as goal
 

@@ -3,7 +3,7 @@ use Rattle.std.proofs.lemmas.List.{length_push}
 use Rattle.si_insert.specs.Partition.{class_of}
 use Rattle.si_conflicts.specs.declared.keys.Key.{Key}
 use Rattle.si_conflicts.specs.declared.members.Member.{Member}
-use Rattle.si_conflicts.specs.Apart.{is_switching, role_at}
+use Rattle.si_conflicts.specs.Loops.Apart.{is_switching, role_at}
 use Rattle.si_conflicts.proofs.KeyNumbers.{one_staying}
 use Rattle.si_conflicts.proofs.ApartStayLemmas.{key_taken, key_passed}
 use Rattle.si_conflicts.proofs.trial.switching_keys.Goals as goal

@@ -1,6 +1,6 @@
 use Rattle.std.proofs.Common.{◌≡◌, ℕ, ◌≤◌, length, take}
-use Rattle.si_conflicts.specs.Apart as Apart
-use Rattle.si_conflicts.specs.Apart.{AllStaying}
+use Rattle.si_conflicts.specs.Loops.Apart as Apart
+use Rattle.si_conflicts.specs.Loops.Apart.{AllStaying}
 use Rattle.si_conflicts.proofs.trial.switching_keys.Given as goal
 
 abbrev pub invariant-loop-m : goal.invariant-loop-m

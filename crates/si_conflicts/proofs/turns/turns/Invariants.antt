@@ -1,6 +1,6 @@
 use Rattle.std.proofs.Common.{◌≡◌, take}
-use Rattle.si_conflicts.specs.Keys.{no_key}
-use Rattle.si_conflicts.specs.Turns.{turns_after}
+use Rattle.si_conflicts.specs.Loops.Keys.{no_key}
+use Rattle.si_conflicts.specs.Loops.Turns.{turns_after}
 use Rattle.si_conflicts.proofs.TurnLemmas.{last_key}
 use Rattle.si_conflicts.proofs.turns.turns.Given as goal
 

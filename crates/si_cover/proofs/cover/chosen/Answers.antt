@@ -3,7 +3,7 @@ use Rattle.std.proofs.lemmas.Result.{IfOk-weaker}
 use Rattle.si_base.specs.Codes.{CodedGraph, IsCoded}
 use Rattle.si_base.specs.Graph.{StateGraph}
 use Rattle.si_base.specs.Netlist.{Sum}
-use Rattle.si_checks.specs.Lent.{coded_of}
+use Rattle.si_checks.specs.Loops.Lent.{coded_of}
 use Rattle.si_cube.specs.Covers.{IsMeetable, IsPrimeCover}
 use Rattle.si_cube.specs.Order.{HaveSame}
 use Rattle.si_cube.proofs.OrderLemmas.{same_itself}

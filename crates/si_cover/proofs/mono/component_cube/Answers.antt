@@ -1,7 +1,7 @@
 use Rattle.std.proofs.Common.{◌≡◌, ◌<◌, ◌∙◌, length, Contains, ap, arith}
 use Rattle.si_base.specs.Codes.{code}
 use Rattle.si_base.specs.Graph.{StateGraph}
-use Rattle.si_cover.specs.Growing.{IsWider}
+use Rattle.si_cover.specs.Loops.Growing.{IsWider}
 use Rattle.si_cover.proofs.GrowingLemmas.{first_grows, widened, growth_takes, covered_more, covered_all}
 use Rattle.si_cover.proofs.GrowingLemmas.{component_within}
 use Rattle.si_cover.proofs.SetLemmas.{some_lent, lent_in}

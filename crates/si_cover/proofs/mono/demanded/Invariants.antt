@@ -1,6 +1,6 @@
 use Rattle.std.proofs.Common.{◌≡◌, ℕ, ◌<◌, get_or}
 use Rattle.si_base.specs.declared.graph.Edge.{Edge}
-use Rattle.si_cover.specs.Growing.{Demands}
+use Rattle.si_cover.specs.Loops.Growing.{Demands}
 use Rattle.si_cover.proofs.mono.demanded.Given as goal
 
 abbrev pub invariant-loop-a : goal.invariant-loop-a

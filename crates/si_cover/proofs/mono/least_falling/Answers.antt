@@ -2,7 +2,7 @@ use Rattle.std.proofs.Common.{◌≡◌, List, length, filter, ap, ◌∙◌, ar
 use Rattle.si_base.specs.declared.ids.Literal.{Literal}
 use Rattle.si_base.specs.Codes.{code}
 use Rattle.si_base.specs.Netlist.{literal_value}
-use Rattle.si_cover.specs.Growing.{IsWider}
+use Rattle.si_cover.specs.Loops.Growing.{IsWider}
 use Rattle.si_cover.proofs.GrowingLemmas.{widened, growth_goes_on, growth_ends, none_demanded, turns_drop}
 use Rattle.si_cover.proofs.mono.least_falling.Goals as goal
 

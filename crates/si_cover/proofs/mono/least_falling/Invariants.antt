@@ -1,7 +1,7 @@
 use Rattle.std.proofs.Common.{ℕ, length, Contains}
 use Rattle.si_base.specs.Codes.{code}
 use Rattle.si_cube.specs.Cubes.{Covers}
-use Rattle.si_cover.specs.Growing.{IsGrowing}
+use Rattle.si_cover.specs.Loops.Growing.{IsGrowing}
 use Rattle.si_cover.proofs.mono.least_falling.Given as goal
 
 abbrev pub invariant-loop-s : goal.invariant-loop-s

@@ -1,6 +1,6 @@
 use Rattle.std.proofs.Common.{◌≡◌, ◌≢◌, ℕ, ◌<◌, ◌^◌, List, ◌++◌, ap, arith}
 use Rattle.si_base.specs.Limits.{code_width}
-use Rattle.si_words.specs.Writing.{spaced}
+use Rattle.si_words.specs.Loops.Writing.{spaced}
 use Rattle.si_words.proofs.WritingLemmas.{left_as}
 use Rattle.si_cube.proofs.WriteSumsLemmas.{cube_none, cube_some}
 use Rattle.si_cube.proofs.write_sums.add_cube.Goals as goal

@@ -3,7 +3,7 @@ use Rattle.std.proofs.lemmas.List.{append-nil}
 use Rattle.si_base.specs.Limits.{code_width}
 use Rattle.si_base.specs.declared.ids.Literal.{Literal}
 use Rattle.si_base.specs.NetlistText.{literal_word}
-use Rattle.si_words.specs.Writing.{spaced}
+use Rattle.si_words.specs.Loops.Writing.{spaced}
 use Rattle.si_cube.proofs.WriteSumsLemmas.{literals_left_all, literals_left_none, literals_skip, literals_more}
 use Rattle.si_cube.proofs.write_sums.add_cube_literals.Goals as goal
 

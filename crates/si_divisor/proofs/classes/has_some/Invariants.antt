@@ -1,5 +1,5 @@
 use Rattle.std.proofs.Common.{ℕ, ◌<◌}
-use Rattle.si_graph.specs.Reach.{IsIn}
+use Rattle.si_base.specs.Sets.{IsIn}
 use Rattle.si_divisor.proofs.classes.has_some.Given as goal
 
 abbrev pub invariant-loop-s : goal.invariant-loop-s

@@ -5,7 +5,7 @@ use Rattle.std.proofs.lemmas.List.{length_push}
 use Rattle.si_base.specs.declared.ids.Literal.{Literal}
 use Rattle.si_match.proofs.SearchLemmas.{popped}
 use Rattle.si_divisor.specs.Divisors.{are_apart, max_divisors}
-use Rattle.si_divisor.specs.Completions.{completions}
+use Rattle.si_divisor.specs.Loops.Completions.{completions}
 use Rattle.si_divisor.proofs.CompletionLemmas.{AreOther, apart_on, stays_full, starts_with, stays_few, puts_it}
 use Rattle.si_divisor.proofs.CompletionLemmas.{pins_done, pin_put, pin_passed}
 use Rattle.si_divisor.proofs.divisors.+add_completions.Goals as goal

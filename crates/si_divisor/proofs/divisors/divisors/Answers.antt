@@ -1,9 +1,9 @@
 use Rattle.std.proofs.Common.{◌≡◌, ◌∙◌, ap, take, length, List}
 use Rattle.std.proofs.lemmas.Result.{IfOk-weaker}
 use Rattle.si_base.specs.declared.ids.Literal.{Literal}
-use Rattle.si_checks.specs.Lent.{coded_of}
+use Rattle.si_checks.specs.Loops.Lent.{coded_of}
 use Rattle.si_divisor.specs.Divisors.{AreDivisors, max_divisors}
-use Rattle.si_divisor.specs.Completions.{of_cells}
+use Rattle.si_divisor.specs.Loops.Completions.{of_cells}
 use Rattle.si_divisor.proofs.DivisorLemmas.{divisors_are}
 use Rattle.si_divisor.proofs.divisors.divisors.Goals as goal
 

@@ -2,7 +2,7 @@ use Rattle.std.proofs.Common.{◌≡◌, ◌≤◌, take, length}
 use Rattle.std.specs.Prelude.{flat_map}
 use Rattle.std.specs.List.{enumerate_from}
 use Rattle.si_divisor.specs.Divisors.{max_divisors}
-use Rattle.si_divisor.specs.Completions.{of_cell}
+use Rattle.si_divisor.specs.Loops.Completions.{of_cell}
 use Rattle.si_divisor.proofs.divisors.over_pins.Given as goal
 
 abbrev pub invariant-loop-k : goal.invariant-loop-k

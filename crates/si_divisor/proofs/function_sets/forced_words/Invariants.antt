@@ -1,5 +1,5 @@
 use Rattle.std.proofs.Common.{◌≡◌, ℕ, ◌<◌, true, false, length, get_or}
-use Rattle.si_divisor.specs.ManyFunctions.{TellsForced}
+use Rattle.si_divisor.specs.Loops.ManyFunctions.{TellsForced}
 use Rattle.si_divisor.proofs.function_sets.forced_words.Given as goal
 
 abbrev pub invariant-loop-s : goal.invariant-loop-s

@@ -1,7 +1,8 @@
 use Rattle.std.proofs.Common.{ℕ, ◌<◌, ◌∙◌, Bool, not, true, false, ap, arith}
 use mathlib.Core.Bool.{beq}
+use Rattle.si_base.proofs.Booleans.{equals_true, equals_false}
 use Rattle.si_divisor.specs.Functions.{function_value}
-use Rattle.si_divisor.proofs.ManyFunctionLemmas.{none_told, one_added, forces_up, forces_down}
+use Rattle.si_divisor.proofs.ManyFunctionLemmas.{none_told, one_added}
 use Rattle.si_divisor.proofs.function_sets.those_forcing.Goals as goal
 
 pub loop-k-init : goal.loop-k-init
@@ -22,10 +23,10 @@ loop-k-preserved c =
     record {
       up = rw c.from.ensures (one_added coded functions true c.args.s k c.loop-k.up f c.loop-k-test.true
           c.index-functions-k.is c.loop-k.invariant.up c.values-low.result.0 few
-          (forces_up c.values-low.result.0 ∙ ap (λ (v : Bool). beq v true) at_zero));
+          (equals_true c.values-low.result.0 ∙ ap (λ (v : Bool). beq v true) at_zero));
       down = rw c.from-in-loop-k.ensures (one_added coded functions false c.args.s k c.loop-k.down f
           c.loop-k-test.true c.index-functions-k.is c.loop-k.invariant.down (not c.values-low.result.1) few
-          (forces_down c.values-low.result.1 ∙ ap (λ (v : Bool). beq v false) at_one));
+          (equals_false c.values-low.result.1 ∙ ap (λ (v : Bool). beq v false) at_one));
     }
 
 pub returns-clause-up : goal.returns-clause-up

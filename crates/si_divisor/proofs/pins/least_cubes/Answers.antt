@@ -1,10 +1,10 @@
 use Rattle.std.proofs.Common.{◌≡◌, ◌+◌, ◌<◌, ◌≤◌, ◌∙◌, sym, subst, length, get_or, take, List, ℕ, rules}
 use Rattle.std.proofs.lemmas.List.{take_all}
 use Rattle.si_base.specs.Codes.{CodedGraph}
-use Rattle.si_checks.specs.Lent.{coded_of}
+use Rattle.si_checks.specs.Loops.Lent.{coded_of}
 use Rattle.si_regions.specs.declared.regions.Region.{Region}
 use Rattle.si_regions.specs.Regions.{IsRegion, AreRegions}
-use Rattle.si_divisor.specs.PinTests.{AreCubesFor}
+use Rattle.si_divisor.specs.Loops.PinTests.{AreCubesFor}
 use Rattle.si_divisor.proofs.PinRegionCubes.{with_cube, without_cube, all_found}
 use Rattle.si_divisor.proofs.pins.least_cubes.Goals as goal
 use Rattle.si_divisor.proofs.pins.least_cubes.Goals.{in-Some+in_ok-push, in_default}

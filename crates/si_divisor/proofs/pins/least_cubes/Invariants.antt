@@ -1,6 +1,6 @@
 use Rattle.std.proofs.Common.{take}
-use Rattle.si_checks.specs.Lent.{coded_of}
-use Rattle.si_divisor.specs.PinTests.{AreCubesFor}
+use Rattle.si_checks.specs.Loops.Lent.{coded_of}
+use Rattle.si_divisor.specs.Loops.PinTests.{AreCubesFor}
 use Rattle.si_divisor.proofs.pins.least_cubes.Given as goal
 
 abbrev pub invariant-loop-region : goal.invariant-loop-region

@@ -2,9 +2,9 @@ use Rattle.std.proofs.Common.{◌≡◌, ◌*◌, ◌<◌, ◌≤◌, ◌∙◌,
 use Rattle.si_base.specs.Codes.{CodedGraph}
 use Rattle.si_base.specs.declared.ids.Literal.{Literal}
 use Rattle.si_base.specs.declared.graph.Signal.{Signal}
-use Rattle.si_checks.specs.Lent.{coded_of}
+use Rattle.si_checks.specs.Loops.Lent.{coded_of}
 use Rattle.si_divisor.specs.Divisors.{ArePins}
-use Rattle.si_divisor.specs.PinTests.{is_pin, pin_literals}
+use Rattle.si_divisor.specs.Loops.PinTests.{is_pin, pin_literals}
 use Rattle.si_divisor.proofs.PinLemmas.{put_last, left_out, all_passed, are_pins}
 use Rattle.si_divisor.proofs.pins.pin_set.Goals as goal
 use Rattle.si_divisor.proofs.pins.pin_set.Goals.{then-is_pin+in_ok-push, else-is_pin}

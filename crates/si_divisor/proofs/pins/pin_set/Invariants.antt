@@ -1,7 +1,7 @@
 use Rattle.std.proofs.Common.{◌≡◌, filter, take, length}
 use Rattle.si_match.specs.Fit.{literals_of_signals}
-use Rattle.si_divisor.specs.PinTests.{is_pin}
-use Rattle.si_checks.specs.Lent.{coded_of}
+use Rattle.si_divisor.specs.Loops.PinTests.{is_pin}
+use Rattle.si_checks.specs.Loops.Lent.{coded_of}
 use Rattle.si_divisor.proofs.pins.pin_set.Given as goal
 
 abbrev pub invariant-loop-place : goal.invariant-loop-place

@@ -1,8 +1,8 @@
 use Rattle.std.proofs.Common.{◌≡◌, true}
 use Rattle.si_base.specs.Bits.{bit}
-use Rattle.si_closures.specs.WordSearch.{column}
-use Rattle.si_divisor.specs.SwitchRules.{IsCrossed}
-use Rattle.si_divisor.specs.ManySwitching.{Grows}
+use Rattle.si_closures.specs.Loops.WordSearch.{column}
+use Rattle.si_divisor.specs.Loops.SwitchRules.{IsCrossed}
+use Rattle.si_divisor.specs.Loops.ManySwitching.{Grows}
 use Rattle.si_divisor.proofs.SwitchTurns.{DoneTo, Crosses}
 use Rattle.si_divisor.proofs.switching.cross.Given as goal
 

@@ -1,5 +1,5 @@
-use Rattle.si_closures.specs.WordSearch.{column, HasBit}
-use Rattle.si_divisor.specs.ManySwitching.{BelongsTo}
+use Rattle.si_closures.specs.Loops.WordSearch.{column, HasBit}
+use Rattle.si_divisor.specs.Loops.ManySwitching.{BelongsTo}
 use Rattle.si_divisor.proofs.SwitchTurns.{grows_both, marked_on, on_later, turn_done, turn_on}
 use Rattle.si_divisor.proofs.switching.follow.Goals as goal
 

@@ -1,4 +1,4 @@
-use Rattle.si_divisor.specs.ManySwitching.{BelongsTo}
+use Rattle.si_divisor.specs.Loops.ManySwitching.{BelongsTo}
 use Rattle.si_divisor.proofs.SwitchTurns.{turn_on, grows_both, source_grows, back_done}
 use Rattle.si_divisor.proofs.switching.follow_back.Goals as goal
 

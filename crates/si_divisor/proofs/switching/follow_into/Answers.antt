@@ -1,9 +1,9 @@
 use Rattle.std.proofs.Common.{◌+◌, ◌∙◌, ℕ, [], length, ap, sym, subst}
 use Rattle.si_base.specs.declared.graph.Edge.{Edge}
-use Rattle.si_graph.specs.Arcs.{IsFirstPlace, IsInto, edge_at}
+use Rattle.si_graph.specs.Loops.Arcs.{IsFirstPlace, IsInto, edge_at}
 use Rattle.si_graph.proofs.ClosureLemmas.{stands_first}
-use Rattle.si_closures.specs.WordSearch.{column, HasBit}
-use Rattle.si_divisor.specs.ManySwitching.{BelongsTo, IsTurn}
+use Rattle.si_closures.specs.Loops.WordSearch.{column, HasBit}
+use Rattle.si_divisor.specs.Loops.ManySwitching.{BelongsTo, IsTurn}
 use Rattle.si_divisor.proofs.SwitchTurns.{ComesBack, back_later, grows_both, marked_on, turn_on, walk_goes_on}
 use Rattle.si_divisor.proofs.SwitchTurns.{walk_ends}
 use Rattle.si_divisor.proofs.switching.follow_into.Goals as goal

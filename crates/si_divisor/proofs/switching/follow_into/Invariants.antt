@@ -1,6 +1,6 @@
 use Rattle.std.proofs.Common.{◌-◌, length}
 use Rattle.si_graph.proofs.ClosureLemmas.{Stands, place_in_walk}
-use Rattle.si_divisor.specs.ManySwitching.{BelongsTo, Grows}
+use Rattle.si_divisor.specs.Loops.ManySwitching.{BelongsTo, Grows}
 use Rattle.si_divisor.proofs.SwitchTurns.{PassedTo, ComesBack}
 use Rattle.si_divisor.proofs.switching.follow_into.Given as goal
 

@@ -1,4 +1,4 @@
-use Rattle.si_divisor.specs.ManySwitching.{BelongsTo, Grows}
+use Rattle.si_divisor.specs.Loops.ManySwitching.{BelongsTo, Grows}
 use Rattle.si_divisor.proofs.SwitchTurns.{DoneTo, GoesOn}
 use Rattle.si_divisor.proofs.switching.follow_out.Given as goal
 

@@ -1,4 +1,4 @@
-use Rattle.si_divisor.specs.ManySwitching.{BelongsTo, Grows}
+use Rattle.si_divisor.specs.Loops.ManySwitching.{BelongsTo, Grows}
 use Rattle.si_divisor.proofs.SwitchTurns.{DoneTo, PassesBeside}
 use Rattle.si_divisor.proofs.switching.reach_beside.Given as goal
 

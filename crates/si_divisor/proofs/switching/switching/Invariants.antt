@@ -1,5 +1,5 @@
 use Rattle.std.proofs.Common.{◌+◌}
-use Rattle.si_closures.specs.WordSearch.{room, waiting}
+use Rattle.si_closures.specs.Loops.WordSearch.{room, waiting}
 use Rattle.si_divisor.proofs.SwitchLoops.{AreSearched}
 use Rattle.si_divisor.proofs.switching.switching.Given as goal
 

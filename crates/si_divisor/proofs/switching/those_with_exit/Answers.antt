@@ -1,10 +1,10 @@
 use Rattle.std.proofs.Common.{◌≡◌, ◌<◌, ◌↔◌, ◌+◌, ℕ, true, [], length, subst}
 use Rattle.si_base.specs.declared.graph.Edge.{Edge}
 use Rattle.si_base.specs.Bits.{bit}
-use Rattle.si_graph.specs.Arcs.{IsFirstPlace, IsInto}
+use Rattle.si_graph.specs.Loops.Arcs.{IsFirstPlace, IsInto}
 use Rattle.si_graph.proofs.ClosureLemmas.{stands_first}
-use Rattle.si_closures.specs.WordSearch.{column}
-use Rattle.si_divisor.specs.ManySwitching.{LetsExit}
+use Rattle.si_closures.specs.Loops.WordSearch.{column}
+use Rattle.si_divisor.specs.Loops.ManySwitching.{LetsExit}
 use Rattle.si_divisor.proofs.SwitchTurns.{none_let, one_let, all_let}
 use Rattle.si_divisor.proofs.switching.those_with_exit.Goals as goal
 

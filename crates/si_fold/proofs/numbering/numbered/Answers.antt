@@ -2,8 +2,8 @@ use Rattle.std.proofs.Common.{◌≡◌, ◌∙◌, ap, length, arith, Option, �
 use Rattle.std.specs.BTreeMap.{get}
 use Rattle.si_base.specs.Graph.{StateGraph}
 use Rattle.si_fold.specs.declared.numbering.Key.{Key}
-use Rattle.si_fold.specs.Partition.{shape}
-use Rattle.si_fold.specs.Numbered.{AreNumbered, key_cmp, key_of}
+use Rattle.si_fold.specs.Loops.Partition.{shape}
+use Rattle.si_fold.specs.Loops.Numbered.{AreNumbered, key_cmp, key_of}
 use Rattle.si_fold.proofs.NumberedClasses.{numbered_classes}
 use Rattle.si_fold.proofs.NumberLemmas.{one_more_placed}
 use Rattle.si_fold.proofs.numbering.numbered.Goals as goal

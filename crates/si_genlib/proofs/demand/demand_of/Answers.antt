@@ -1,4 +1,4 @@
-use Rattle.si_genlib.specs.Tables.{table_value}
+use Rattle.si_genlib.specs.Loops.Tables.{table_value}
 use Rattle.si_genlib.proofs.DemandLemmas.{code_fits, one_required, one_forbidden}
 use Rattle.si_genlib.proofs.demand.demand_of.Goals as goal
 use Rattle.si_genlib.proofs.demand.demand_of.Goals.{then-value+in_ok-push, else-value+in_ok-push-2}

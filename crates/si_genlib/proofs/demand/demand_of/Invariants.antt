@@ -1,4 +1,4 @@
-use Rattle.si_genlib.specs.Tables.{table_value}
+use Rattle.si_genlib.specs.Loops.Tables.{table_value}
 use Rattle.si_genlib.proofs.DemandLemmas.{ArePartedBy}
 use Rattle.si_genlib.proofs.demand.demand_of.Given as goal
 

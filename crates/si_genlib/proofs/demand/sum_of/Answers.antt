@@ -3,7 +3,7 @@ use Rattle.std.specs.List.Sorted.{IsNonDecreasing}
 use Rattle.si_cube.specs.Covers.{Demand, IsMeetable}
 use Rattle.si_cube.specs.Rule.{chosen}
 use Rattle.si_genlib.specs.Gate.{sum_of}
-use Rattle.si_genlib.specs.Tables.{table_value}
+use Rattle.si_genlib.specs.Loops.Tables.{table_value}
 use Rattle.si_genlib.proofs.DemandLemmas.{required_fit, forbidden_fit, forbidden_rises, can_be_met, same_demand}
 use Rattle.si_genlib.proofs.demand.sum_of.Goals as goal
 

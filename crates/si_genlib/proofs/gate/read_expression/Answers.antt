@@ -9,8 +9,8 @@ use Rattle.si_cell.specs.Limits.{max_pins}
 use Rattle.si_genlib.specs.Gate.{Pins}
 use Rattle.si_tokens.specs.Unread.{tokens}
 use Rattle.si_genlib.specs.Expression.{State, Outcome, Goes, Ends, Stops}
-use Rattle.si_tokens.specs.Parts.{left, piece, Shows}
-use Rattle.si_genlib.specs.Held.{pins_now, state_now, LeadsOn, StopsWith, ToldAt}
+use Rattle.si_tokens.specs.Loops.Parts.{left, piece, Shows}
+use Rattle.si_genlib.specs.Loops.Held.{pins_now, state_now, LeadsOn, StopsWith, ToldAt}
 use Rattle.si_tokens.proofs.SourceLemmas.{token_smaller}
 use Rattle.si_genlib.proofs.ExpressionReads.{Taken, goes_on, ends_there, stops_there, pins_few}
 use Rattle.si_genlib.proofs.gate.read_expression.Goals as goal

@@ -1,4 +1,4 @@
-use Rattle.si_tokens.specs.Parts.{left}
+use Rattle.si_tokens.specs.Loops.Parts.{left}
 use Rattle.si_genlib.proofs.LibraryLemmas.{read_are}
 use Rattle.si_genlib.proofs.reader.read_kept.Goals as goal
 

@@ -1,5 +1,5 @@
 use Rattle.std.proofs.Common.{◌-◌, length}
-use Rattle.si_graph.specs.Starts.{AreBelow}
+use Rattle.si_graph.specs.Loops.Starts.{AreBelow}
 use Rattle.si_graph.proofs.arc_store.start_from.Given as goal
 
 abbrev pub invariant-loop-place : goal.invariant-loop-place

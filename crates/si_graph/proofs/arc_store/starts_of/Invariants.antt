@@ -1,5 +1,5 @@
 use Rattle.std.proofs.Common.{◌≡◌, ◌<◌, ℕ, length, slice_index}
-use Rattle.si_graph.specs.Starts.{AreBelow, IsStart}
+use Rattle.si_graph.specs.Loops.Starts.{AreBelow, IsStart}
 use Rattle.si_graph.proofs.arc_store.starts_of.Given as goal
 
 abbrev pub invariant-loop-s : goal.invariant-loop-s

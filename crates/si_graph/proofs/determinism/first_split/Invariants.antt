@@ -1,5 +1,5 @@
 use Rattle.std.proofs.Common.{ℕ, ◌+◌, ◌<◌}
-use Rattle.si_graph.specs.Arcs.{edge_at}
+use Rattle.si_graph.specs.Loops.Arcs.{edge_at}
 use Rattle.si_graph.proofs.ArcSplits.{IsSameStep}
 use Rattle.si_graph.proofs.determinism.first_split.Given as goal
 

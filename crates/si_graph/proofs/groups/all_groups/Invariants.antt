@@ -1,4 +1,4 @@
-use Rattle.si_graph.specs.Groups.{AreGroups}
+use Rattle.si_graph.specs.Loops.Groups.{AreGroups}
 use Rattle.si_graph.proofs.groups.all_groups.Given as goal
 
 abbrev pub invariant-loop-s : goal.invariant-loop-s

@@ -5,7 +5,7 @@ use Rattle.std.proofs.lemmas.List.Filters.{dedup_is}
 use Rattle.std.proofs.lemmas.List.Kept.{IsStrictlySortedBy-dedup}
 use Rattle.si_base.specs.declared.graph.Edge.{Edge}
 use Rattle.si_base.specs.EdgeOrder.{edge_cmp}
-use Rattle.si_graph.proofs.OrderLemmas.{edge_total}
+use Rattle.si_base.proofs.GivenGraphUnique.{edges_total}
 use Rattle.si_graph.proofs.ArcFacts.{edge_ties}
 use Rattle.si_graph.proofs.GroupLemmas.{once_in_order, ordered_already}
 use Rattle.si_graph.proofs.groups.in_order.Goals as goal
@@ -22,4 +22,4 @@ returns c =
     let is = dedup_is _ _ _ c.dedup.ensures.filtered in
     let same = rw c.as_slice.ensures.value at c.in_ok-ordered.ensures in
     rw is (once_in_order _ _ _ same c.sort_unstable.ensures.permutation
-    (IsStrictlySortedBy-dedup edge_total edge_ties _ c.sort_unstable.ensures.sorted))
+    (IsStrictlySortedBy-dedup edges_total edge_ties _ c.sort_unstable.ensures.sorted))

@@ -1,7 +1,7 @@
 use Rattle.std.proofs.Common.{◌≡◌, ℕ, ◌<◌, ◌∷◌, ◌++◌, [], length, sym, subst, arith, slice_index}
 use Rattle.std.proofs.lemmas.List.{get_or_default, get_or_read}
 use Rattle.si_base.specs.declared.graph.Edge.{Edge}
-use Rattle.si_graph.specs.Arcs.{edge_at, no_edge}
+use Rattle.si_graph.specs.Loops.Arcs.{edge_at, no_edge}
 use Rattle.si_graph.proofs.GroupLemmas.{AreGathered, gathered_none, gathered_more, gathered_all, group_in_order}
 use Rattle.si_graph.proofs.groups.take_group.Goals as goal
 

@@ -1,4 +1,4 @@
-use Rattle.si_graph.specs.Renaming.{Renames}
+use Rattle.si_graph.specs.Loops.Renaming.{Renames}
 use Rattle.si_graph.proofs.renaming.rename.Given as goal
 
 abbrev pub invariant-loop-s : goal.invariant-loop-s

@@ -1,5 +1,5 @@
 use Rattle.std.proofs.Common.{◌≡◌, map, filter, take}
-use Rattle.si_graph.specs.Renaming.{renamed, leaves_marked}
+use Rattle.si_graph.specs.Loops.Renaming.{renamed, leaves_marked}
 use Rattle.si_graph.proofs.renaming.renamed_arcs.Given as goal
 
 abbrev pub invariant-loop-arc : goal.invariant-loop-arc

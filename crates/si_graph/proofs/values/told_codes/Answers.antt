@@ -1,6 +1,6 @@
 use Rattle.std.proofs.Common.{map, bit_xor, sym, subst, ◌∙◌, ap, List, ℕ}
 use Rattle.std.proofs.lemmas.Result.{IfOk-weaker}
-use Rattle.si_graph.specs.Values.{TellsValues}
+use Rattle.si_graph.specs.Loops.Values.{TellsValues}
 use Rattle.si_graph.proofs.ValueLemmas.{told_values}
 use Rattle.si_graph.proofs.values.told_codes.Goals as goal
 

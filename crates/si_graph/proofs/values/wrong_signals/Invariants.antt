@@ -1,6 +1,6 @@
 use Rattle.std.proofs.Common.{◌≡◌, ℕ, ◌↔◌, false, take}
 use Rattle.si_base.specs.Bits.{bit}
-use Rattle.si_graph.specs.Values.{SuitAll}
+use Rattle.si_graph.specs.Loops.Values.{SuitAll}
 use Rattle.si_graph.proofs.values.wrong_signals.Given as goal
 
 abbrev pub invariant-loop-arc : goal.invariant-loop-arc

@@ -1,5 +1,5 @@
 use Rattle.std.proofs.Common.{◌∙◌, ap, subst, arith}
-use Rattle.si_graph.specs.Arcs.{AreOut}
+use Rattle.si_graph.specs.Loops.Arcs.{AreOut}
 use Rattle.si_insert.specs.GraphOfCopies.{place}
 use Rattle.si_insert.specs.Insertion.{Copy}
 use Rattle.si_insert.specs.Partition.{class_of}

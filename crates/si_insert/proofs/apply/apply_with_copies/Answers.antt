@@ -1,7 +1,7 @@
 use Rattle.std.proofs.Common.{◌∙◌, sym, subst}
 use Rattle.si_base.specs.Codes.{CodedGraph}
 use Rattle.si_base.specs.Proper.{IsProper}
-use Rattle.si_insert.specs.Applied.{IsApplied}
+use Rattle.si_insert.specs.Loops.Applied.{IsApplied}
 use Rattle.si_insert.proofs.ApplyLemmas.{conditions, copies_inside, put_together}
 use Rattle.si_insert.proofs.apply.apply_with_copies.Goals as goal
 

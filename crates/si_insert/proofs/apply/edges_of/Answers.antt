@@ -1,13 +1,10 @@
 use Rattle.std.proofs.Common.{◌≡◌, ℕ, ◌<◌, List, length, get_or, All, ◌∙◌, ap, refl, sym, subst, arith}
 use Rattle.std.proofs.lemmas.List.{take_all}
 use Rattle.std.specs.List.{flat_map}
-use Rattle.std.specs.List.Sorted.{IsStrictlySortedBy}
-use Rattle.si_base.specs.EdgeOrder.{edge_cmp}
 use Rattle.si_insert.specs.declared.partition.Class.{Class}
 use Rattle.si_insert.specs.Insertion.{Copy}
 use Rattle.si_insert.specs.GraphOfCopies.{copies_of, edges_from, new_edges}
 use Rattle.si_insert.proofs.StateCopyPlaces.{copies_within}
-use Rattle.si_insert.proofs.NewArcOrder.{new_edges_sorted}
 use Rattle.si_insert.proofs.apply.edges_of.Goals as goal
 
 within : (classes : List Class) (copies : List Copy) (i : ℕ) (x : Copy) → copies ≡ copies_of classes
@@ -27,20 +24,11 @@ add_switch-requires-clause-within c =
     within c.args.classes.now c.args.copies.now c.loop-x.x-index c.x-item.result c.requires.copies c.loop-x-test.true
     c.x-item.is
 
-pub returns-clause-all : goal.returns-clause-all
-returns-clause-all c =
+pub returns : goal.returns
+returns c =
     let f = edges_from c.args.graph.now c.args.classes.now in
-    c.loop-x.invariant
-    ∙ ap (flat_map f) (take_all c.loop-x.x-index c.args.copies.now (omega (arith, c.loop-x-test.false)))
-    ∙ ap (flat_map f) c.requires.copies
-
-pub returns-clause-ordered : goal.returns-clause-ordered
-returns-clause-ordered c =
-    let g = c.args.graph.now in
-    let p = c.args.classes.now in
-    let f = edges_from g p in
-    let all : c.loop-x.edges.items ≡ new_edges g p =
-    c.loop-x.invariant
-    ∙ ap (flat_map f) (take_all c.loop-x.x-index c.args.copies.now (omega (arith, c.loop-x-test.false)))
-    ∙ ap (flat_map f) c.requires.copies in
-    subst (IsStrictlySortedBy edge_cmp) (sym all) (new_edges_sorted g p c.requires.graph c.requires.count)
+    record {
+      all = c.loop-x.invariant
+          ∙ ap (flat_map f) (take_all c.loop-x.x-index c.args.copies.now (omega (arith, c.loop-x-test.false)))
+          ∙ ap (flat_map f) c.requires.copies;
+    }

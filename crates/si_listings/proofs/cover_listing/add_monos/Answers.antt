@@ -1,6 +1,6 @@
 use Rattle.std.proofs.Common.{◌≡◌, ◌+◌, ◌≤◌, ◌∙◌, arith, sym, take}
 use Rattle.std.proofs.lemmas.Bool.{true≢false}
-use Rattle.si_checks.specs.Lent.{coded_of}
+use Rattle.si_checks.specs.Loops.Lent.{coded_of}
 use Rattle.si_listings.specs.RegionText.{number_after}
 use Rattle.si_listings.proofs.CoverLemmas.{mono_step, monos_written, component_count}
 use Rattle.si_listings.proofs.NumberLemmas.{goes_on_number, first_number, number_next}

@@ -1,5 +1,5 @@
 use Rattle.std.proofs.Common.{◌≡◌, ◌++◌, ◌≤◌, List}
-use Rattle.si_checks.specs.Lent.{coded_of}
+use Rattle.si_checks.specs.Loops.Lent.{coded_of}
 use Rattle.si_listings.specs.CoverText.{Component, AreComponents}
 use Rattle.si_listings.proofs.CoverLemmas.{monos_from}
 use Rattle.si_listings.proofs.NumberLemmas.{IsNumber}

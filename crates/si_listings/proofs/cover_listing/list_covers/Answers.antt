@@ -1,7 +1,7 @@
 use Rattle.std.proofs.Common.{Option, None, ℕ, sym, subst}
 use Rattle.si_base.specs.Codes.{CodedGraph}
 use Rattle.si_base.specs.Proper.{IsConflict, pair_place}
-use Rattle.si_checks.specs.Searches.{IsFirstOrNone}
+use Rattle.si_checks.specs.Loops.Searches.{IsFirstOrNone}
 use Rattle.si_listings.proofs.cover_listing.list_covers.Goals as goal
 
 pub known-requires : goal.known-requires

@@ -1,7 +1,7 @@
 use Rattle.std.proofs.Common.{◌≡◌, ◌<◌, ◌∙◌, List, ℕ, ◌++◌, ap, length, subst, refl, arith}
 use Rattle.si_base.specs.Codes.{CodedGraph, IsCoded}
 use Rattle.si_base.specs.Graph.{StateGraph, IsNonInput}
-use Rattle.si_checks.specs.Lent.{coded_of}
+use Rattle.si_checks.specs.Loops.Lent.{coded_of}
 use Rattle.si_listings.proofs.CoverLemmas.{signal_skip, signal_more, signals_written, some_components}
 use Rattle.si_listings.proofs.cover_listing.write_covers.Goals as goal
 

@@ -1,5 +1,5 @@
 use Rattle.std.proofs.Common.{◌≡◌, ◌++◌, List}
-use Rattle.si_checks.specs.Lent.{coded_of}
+use Rattle.si_checks.specs.Loops.Lent.{coded_of}
 use Rattle.si_listings.specs.CoverText.{Component, AreComponents}
 use Rattle.si_listings.proofs.CoverLemmas.{signals_from}
 use Rattle.si_listings.proofs.cover_listing.write_covers.Given as goal

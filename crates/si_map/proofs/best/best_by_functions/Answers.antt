@@ -1,6 +1,11 @@
-use Rattle.std.proofs.Common.{subst}
+use Rattle.std.proofs.Common.{subst, sym}
 use Rattle.si_map.specs.Best.{IsBestPartition}
+use Rattle.si_map.specs.Loops.Progress.{AreFitted}
 use Rattle.si_map.proofs.best.best_by_functions.Goals as goal
+
+pub find_best-requires : goal.find_best-requires
+find_best-requires c =
+    subst (λ d. AreFitted d c.args.library.now c.args.fitted) (sym c.distinct-graph.ensures) c.requires
 
 pub returns : goal.returns
 returns c =

@@ -4,8 +4,8 @@ use Rattle.std.proofs.lemmas.List.{length_push}
 use Rattle.std.proofs.lemmas.List.Elements.{All-push}
 use Rattle.si_base.specs.Bits.{bit}
 use Rattle.si_cell.specs.Limits.{max_pins}
-use Rattle.si_match.specs.Choices.{AreOwed, NoneFitsOver}
-use Rattle.si_match.specs.Places.{Agrees, Differs}
+use Rattle.si_match.specs.Loops.Choices.{AreOwed, NoneFitsOver}
+use Rattle.si_match.specs.Loops.Places.{Agrees, Differs}
 use Rattle.si_match.specs.Weight.{size_from}
 use Rattle.si_match.proofs.ChoiceLemmas.{all_passed, chosen_again, none_left, one_passed, owed_next, owed_unfit}
 use Rattle.si_match.proofs.PlaceLemmas.{agreeing_fits, differing_unfit}

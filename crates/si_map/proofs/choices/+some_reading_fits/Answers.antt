@@ -1,12 +1,12 @@
-use Rattle.std.proofs.Common.{◌≡◌, ◌≢◌, ℕ, ◌+◌, ◌-◌, ◌<◌, ◌++◌, ◌∙◌, [], ◌∷◌, List, All, Contains, length}
+use Rattle.std.proofs.Common.{◌≡◌, ◌≢◌, ◌↔◌, ℕ, ◌+◌, ◌-◌, ◌<◌, ◌++◌, ◌∙◌, [], ◌∷◌, List, All, Contains, length}
 use Rattle.std.proofs.Common.{sym, ap, ap₂, subst, arith, rules, true}
 use Rattle.std.proofs.lemmas.Bool.{true≢false}
 use Rattle.std.proofs.lemmas.List.{length_push}
 use Rattle.std.proofs.lemmas.List.Elements.{All-push}
 use Rattle.si_base.specs.Bits.{bit}
 use Rattle.si_cell.specs.Limits.{max_pins}
-use Rattle.si_match.specs.Apart.{NoneFitsWith}
-use Rattle.si_match.specs.Choices.{AreOwed}
+use Rattle.si_match.specs.Loops.Apart.{NoneFitsWith}
+use Rattle.si_match.specs.Loops.Choices.{AreOwed}
 use Rattle.si_match.proofs.ApartLemmas.{all_read_next, all_tried, any_order, none_by_now}
 use Rattle.si_match.proofs.ChoiceLemmas.{chosen_again, owed_next}
 use Rattle.si_map.proofs.choices.+some_reading_fits.Goals as goal
@@ -51,7 +51,7 @@ some_reading_fits-requires t c =
     (owed_next coded library z chosen y c.args.missing c.set-still.result c.set-still.ensures.there
     c.set-still.ensures.others c.requires.missing) in
     let signals = subst (All Small) (sym pushed) (All-push Small chosen y c.requires.signals within) in
-    let read = subst (λ (ys : List ℕ). (x : ℕ) → Contains (z ∷ ys) x → bit c.set-also.result x ≡ true) (sym pushed)
+    let read = subst (λ (ys : List ℕ). (x : ℕ) → Contains (z ∷ ys) x ↔ (bit c.set-also.result x ≡ true)) (sym pushed)
     (all_read_next z y c.args.read c.set-also.result chosen c.set-also.ensures c.requires.read) in
     let pins : length c.push.new.self.items + (c.args.more - 1) ≡ max_pins =
     omega (arith, longer, c.requires.pins, some) in
@@ -89,5 +89,10 @@ returns-clause-none t c = λ _.
     let count : length c.signals-y-end.result.now ≡ length coded.graph.signals = search rules in
     let all : c.args.more - 1 + 1 ≡ c.args.more = omega (arith, c.if-more-eq0.false) in
     subst (NoneFitsWith coded library z chosen) all
-    (all_tried coded library z c.args.read c.in-Some.differing chosen c.in-Some.ensures.apart c.requires.read
+    (all_tried coded library z c.args.read c.in-Some.differing chosen c.in-Some.ensures.apart (λ y there. (c.requires.read y).0 there)
     (c.args.more - 1) c.loop-y.y (omega (arith, c.loop-y-test.false, count)) c.loop-y.invariant.none))
+
+pub told_apart-requires-clause-read : goal.told_apart-requires-clause-read
+told_apart-requires-clause-read t c =
+    subst (λ (ys : List ℕ). (x : ℕ) → Contains (c.args.z ∷ ys) x ↔ (bit c.args.read x ≡ true))
+    (sym c.as_slice.ensures.value) c.requires.read

@@ -1,6 +1,6 @@
 use Rattle.std.proofs.Common.{◌∙◌, sym, arith, eq-eqb}
 use Rattle.std.proofs.lemmas.Bool.{eqb-true, true≢false}
-use Rattle.si_checks.specs.Lent.{coded_of}
+use Rattle.si_checks.specs.Loops.Lent.{coded_of}
 use Rattle.si_match.proofs.SupportLemmas.{support_determines}
 use Rattle.si_map.proofs.LeastLemmas.{more_added, one_enough, too_few, triggers_add, two_enough}
 use Rattle.si_map.proofs.least.least_weight.Goals as goal

@@ -1,9 +1,9 @@
 use Rattle.std.proofs.Common.{◌≡◌, ◌+◌, ◌∙◌, List, ℕ, false, is_some, ap, sym, subst, arith}
 use Rattle.si_base.specs.Codes.{CodedGraph}
 use Rattle.si_base.specs.Graph.{StateGraph, IsNonInput}
-use Rattle.si_checks.specs.Lent.{coded_of}
+use Rattle.si_checks.specs.Loops.Lent.{coded_of}
 use Rattle.si_match.specs.Fit.{first_fit}
-use Rattle.si_map.specs.Least.{IsLeast}
+use Rattle.si_map.specs.Loops.Least.{IsLeast}
 use Rattle.si_map.proofs.LeastLemmas.{AreLeastBefore, nothing_known, one_more}
 use Rattle.si_map.proofs.WaitingFits.{none_first}
 use Rattle.si_map.proofs.least.least_weights.Goals as goal

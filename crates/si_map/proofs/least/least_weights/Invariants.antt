@@ -1,4 +1,4 @@
-use Rattle.si_checks.specs.Lent.{coded_of}
+use Rattle.si_checks.specs.Loops.Lent.{coded_of}
 use Rattle.si_map.proofs.LeastLemmas.{AreLeastBefore}
 use Rattle.si_map.proofs.least.least_weights.Given as goal
 

@@ -1,6 +1,6 @@
 use Rattle.std.proofs.Common.{◌≡◌, ◌≤◌, ◌*◌, ◌+◌, drop}
 use Rattle.si_base.specs.Limits.{code_width}
-use Rattle.si_map.specs.Least.{sum_outside}
+use Rattle.si_map.specs.Loops.Least.{sum_outside}
 use Rattle.si_map.proofs.least.sum_without.Given as goal
 
 abbrev pub invariant-loop-i : goal.invariant-loop-i

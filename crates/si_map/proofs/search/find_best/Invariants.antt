@@ -1,5 +1,5 @@
-use Rattle.si_checks.specs.Lent.{coded_of}
-use Rattle.si_map.specs.Progress.{AreUpToDate, IsSearching}
+use Rattle.si_checks.specs.Loops.Lent.{coded_of}
+use Rattle.si_map.specs.Loops.Progress.{AreUpToDate, IsSearching}
 use Rattle.si_map.proofs.search.find_best.Given as goal
 
 abbrev pub invariant-loop-i : goal.invariant-loop-i

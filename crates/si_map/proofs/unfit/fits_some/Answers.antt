@@ -3,8 +3,8 @@ use Rattle.std.proofs.lemmas.Bool.{cases_Bool}
 use Rattle.std.proofs.lemmas.Option.{slice_get_within}
 use Rattle.si_base.specs.Bits.{bit}
 use Rattle.si_cell.specs.Limits.{max_pins}
-use Rattle.si_match.specs.Apart.{NoneFitsWith}
-use Rattle.si_match.specs.Choices.{AreOwed}
+use Rattle.si_match.specs.Loops.Apart.{NoneFitsWith}
+use Rattle.si_match.specs.Loops.Choices.{AreOwed}
 use Rattle.si_match.proofs.ApartLemmas.{all_read_first}
 use Rattle.si_match.proofs.ChoiceLemmas.{all_but, also_read, fitted_first, owed_first, trigger_read, unfitted_first}
 use Rattle.si_map.proofs.unfit.fits_some.Goals as goal

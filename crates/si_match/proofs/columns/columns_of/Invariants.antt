@@ -1,5 +1,5 @@
 use Rattle.std.proofs.Common.{◌≡◌, [], length}
-use Rattle.si_match.specs.Columns.{AreColumns}
+use Rattle.si_match.specs.Loops.Columns.{AreColumns}
 use Rattle.si_match.proofs.columns.columns_of.Given as goal
 
 abbrev pub invariant-loop-code : goal.invariant-loop-code

@@ -1,7 +1,7 @@
 use Rattle.std.proofs.Common.{◌≡◌, List, [], ◌∷◌, ◌++◌, length}
 use Rattle.si_base.specs.declared.ids.Literal.{Literal}
 use Rattle.si_cell.specs.Library.{Cell}
-use Rattle.si_match.specs.Columns.{AreColumns}
+use Rattle.si_match.specs.Loops.Columns.{AreColumns}
 use Rattle.si_match.proofs.columns.with_literal.Given as goal
 
 abbrev pub invariant-loop-rest : goal.invariant-loop-rest

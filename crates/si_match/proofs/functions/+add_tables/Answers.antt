@@ -1,5 +1,5 @@
 use Rattle.std.proofs.Common.{◌≡◌, ℕ, suc, ◌*◌, ◌-◌, ◌<◌, ◌≤◌, ◌++◌, [], ◌∷◌, List, ap, ◌∙◌, arith, subst, sym}
-use Rattle.si_match.specs.Columns.{AreColumns}
+use Rattle.si_match.specs.Loops.Columns.{AreColumns}
 use Rattle.si_match.specs.Functions.{places}
 use Rattle.si_match.proofs.ColumnLemmas.{few_columns}
 use Rattle.si_match.proofs.FunctionLemmas.{all_before, next_tables}

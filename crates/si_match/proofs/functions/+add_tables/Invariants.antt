@@ -1,7 +1,7 @@
 use Rattle.std.proofs.Common.{◌≡◌, ◌-◌, List, ◌++◌}
 use Rattle.si_base.specs.declared.ids.Literal.{Literal}
 use Rattle.si_cell.specs.Library.{Cell}
-use Rattle.si_match.specs.Columns.{AreColumns}
+use Rattle.si_match.specs.Loops.Columns.{AreColumns}
 use Rattle.si_match.proofs.FunctionLemmas.{tables_before}
 use Rattle.si_match.proofs.functions.+add_tables.Given as goal
 

@@ -1,5 +1,5 @@
 use Rattle.std.proofs.Common.{◌≡◌, ◌<◌, ◌≤◌, ◌∙◌, [], length, rules, subst, sym}
-use Rattle.si_match.specs.Columns.{AreColumns}
+use Rattle.si_match.specs.Loops.Columns.{AreColumns}
 use Rattle.si_match.proofs.FunctionLemmas.{next_cell, all_cells}
 use Rattle.si_match.proofs.functions.all_tables.Goals as goal
 

@@ -1,5 +1,5 @@
 use Rattle.std.proofs.Common.{ℕ, ◌<◌}
-use Rattle.si_match.specs.Places.{AgreesAt}
+use Rattle.si_match.specs.Loops.Places.{AgreesAt}
 use Rattle.si_match.proofs.places.first_differing.Given as goal
 
 abbrev pub invariant-loop-s : goal.invariant-loop-s

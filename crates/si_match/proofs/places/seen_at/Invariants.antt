@@ -1,4 +1,4 @@
-use Rattle.si_match.specs.Places.{AreSeen}
+use Rattle.si_match.specs.Loops.Places.{AreSeen}
 use Rattle.si_match.proofs.places.seen_at.Given as goal
 
 abbrev pub invariant-loop-state : goal.invariant-loop-state

@@ -1,7 +1,7 @@
 use Rattle.std.proofs.Common.{◌≤◌, ℕ, List, All, subst, arith, length, get_or}
 use Rattle.std.proofs.lemmas.List.{take_all}
 use Rattle.std.proofs.lemmas.List.Elements.{All-more}
-use Rattle.si_match.specs.Places.{Differs}
+use Rattle.si_match.specs.Loops.Places.{Differs}
 use Rattle.si_match.proofs.PlaceLemmas.{clash_differs, missed_differs}
 use Rattle.si_match.proofs.places.some_table_agrees.Goals as goal
 
@@ -23,7 +23,7 @@ loop-table-preserved-then-not-allows c = record {
 
 pub loop-table-preserved : goal.loop-table-preserved
 loop-table-preserved c = record {
-  seen = c.with_state-seen.ensures;
+  seen = c.with_state-seen.ensures.seen;
   differ = All-more (Differs c.args.coded.now c.args.z c.args.chosen.now) c.args.tables.now c.loop-table.table-index 0
       c.loop-table-test.true c.loop-table.invariant.differ
       (c.in-Some.state, c.in-Some.ensures.some.0, c.in-Some.ensures.some.1);

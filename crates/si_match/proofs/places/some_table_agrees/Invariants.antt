@@ -1,5 +1,5 @@
 use Rattle.std.proofs.Common.{◌<◌, All, take}
-use Rattle.si_match.specs.Places.{AreSeen, Differs}
+use Rattle.si_match.specs.Loops.Places.{AreSeen, Differs}
 use Rattle.si_match.proofs.places.some_table_agrees.Given as goal
 
 abbrev pub invariant-loop-table : goal.invariant-loop-table

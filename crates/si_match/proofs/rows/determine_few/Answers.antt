@@ -2,7 +2,7 @@ use Rattle.std.proofs.Common.{◌≡◌, ◌∙◌, ◌<◌, ◌≤◌, ℕ, not
 use Rattle.std.proofs.Common.{rules, arith}
 use Rattle.si_base.specs.Codes.{code}
 use Rattle.si_base.specs.Limits.{code_width}
-use Rattle.si_match.specs.Rows.{AreSignals}
+use Rattle.si_match.specs.Loops.Rows.{AreSignals}
 use Rattle.si_match.proofs.RowLemmas.{all_filled, filled_too, placed_at, row_differs, row_equal}
 use Rattle.si_match.proofs.RowLemmas.{row_read, row_unequal, signals_below}
 use Rattle.si_match.proofs.rows.determine_few.Goals as goal

@@ -1,5 +1,5 @@
 use Rattle.std.proofs.Common.{◌≡◌, ◌∙◌, ℕ, length, sym, subst, rules, arith}
-use Rattle.si_match.specs.Rows.{AreSignals}
+use Rattle.si_match.specs.Loops.Rows.{AreSignals}
 use Rattle.si_match.proofs.RowLemmas.{in_set_too, not_in_set}
 use Rattle.si_match.proofs.WeightLemmas.{not_there, one_there}
 use Rattle.si_match.proofs.rows.signals_of.Goals as goal

@@ -1,5 +1,5 @@
 use Rattle.std.proofs.Common.{◌≡◌, ◌+◌, ◌-◌, length}
-use Rattle.si_match.specs.Rows.{AreSignals}
+use Rattle.si_match.specs.Loops.Rows.{AreSignals}
 use Rattle.si_match.specs.Weight.{size_from}
 use Rattle.si_match.proofs.rows.signals_of.Given as goal
 

@@ -1,5 +1,5 @@
 use Rattle.std.proofs.Common.{◌≡◌, ◌<◌, ◌-◌, All}
-use Rattle.si_match.specs.Search.{first_completion}
+use Rattle.si_match.specs.Loops.Search.{first_completion}
 use Rattle.si_match.proofs.SearchLemmas.{from_place}
 use Rattle.si_match.proofs.search.+complete.Given as goal
 

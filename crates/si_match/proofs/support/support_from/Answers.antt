@@ -1,6 +1,6 @@
 use Rattle.std.proofs.Common.{◌≡◌, ◌∙◌, ◌+◌, ◌<◌, sym, ap, subst, ℕ, length, rules}
 use Rattle.si_base.specs.Bits.{ones}
-use Rattle.si_match.specs.Dropping.{AreTried}
+use Rattle.si_match.specs.Loops.Dropping.{AreTried}
 use Rattle.si_match.proofs.DroppingLemmas.{triggers_are_support, none_tried, own_is_support, own_tried}
 use Rattle.si_match.proofs.support.support_from.Goals as goal
 

@@ -1,7 +1,7 @@
 use Rattle.std.proofs.Common.{◌≡◌, ◌∙◌, sym, ap, arith, rules}
 use Rattle.si_base.specs.Graph.{is_driven}
 use Rattle.si_base.specs.declared.graph.Signal.{Signal}
-use Rattle.si_checks.specs.Lent.{coded_of}
+use Rattle.si_checks.specs.Loops.Lent.{coded_of}
 use Rattle.si_match.proofs.WeightLemmas.{begins, is_non_input}
 use Rattle.si_match.proofs.weight.weight.Goals as goal
 

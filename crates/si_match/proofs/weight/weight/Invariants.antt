@@ -1,6 +1,6 @@
 use Rattle.std.proofs.Common.{◌≡◌, ◌+◌, ◌*◌, ◌≤◌, drop}
 use Rattle.si_base.specs.Limits.{code_width}
-use Rattle.si_checks.specs.Lent.{coded_of}
+use Rattle.si_checks.specs.Loops.Lent.{coded_of}
 use Rattle.si_match.specs.Weight.{weight_from, weight_of}
 use Rattle.si_match.proofs.weight.weight.Given as goal
 

@@ -1,5 +1,5 @@
 use Rattle.std.proofs.Common.{◌≡◌, ◌++◌, map}
-use Rattle.si_netlist.specs.Parts.{gate_seen}
+use Rattle.si_netlist.specs.Loops.Parts.{gate_seen}
 use Rattle.si_netlist.proofs.WritingLemmas.{gates_from}
 use Rattle.si_netlist.proofs.write_gates.add_gate_lines.Given as goal
 

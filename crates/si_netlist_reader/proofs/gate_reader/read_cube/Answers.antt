@@ -1,11 +1,12 @@
 use Rattle.std.proofs.Common.{◌+◌, ◌<◌, sym, ◌∙◌, ap, arith, subst, Bool, Option}
+use Rattle.std.proofs.lemmas.Result.{IfOk-at_ok}
 use Rattle.si_base.specs.declared.ids.Literal.{Literal}
 use Rattle.si_base.specs.declared.fault.TextKind.{TextKind}
 use Rattle.si_base.specs.Bits.{IsSet}
 use Rattle.si_base.specs.Limits.{code_width}
 use Rattle.si_netlist_reader.proofs.CubeReading.{InCube, in_none, after_fault, undeclared, disordered, ordered, no_cube}
 use Rattle.si_netlist_reader.proofs.CubeReading.{one_read, fault_read, cube_read}
-use Rattle.si_netlist_reader.proofs.PartLemmas.{reads_form, reads_fault, reads_value, if_ok, some_words}
+use Rattle.si_netlist_reader.proofs.PartLemmas.{reads_form, reads_fault, reads_value, some_words}
 use Rattle.si_netlist_reader.proofs.gate_reader.read_cube.Goals as goal
 
 pub returns-then-is_one : goal.returns-then-is_one
@@ -41,7 +42,7 @@ loop-word-preserved c =
     let read = reads_value _ _ _ _ c.in_ok-literal.literal c.in-Ok.literal c.in-Ok.is c.in_ok-literal.ensures.read in
     let sig = ap (λ (l : Literal). l.sig) c.literal.view_is in
     let small : c.in-Ok.literal.sig < code_width =
-    if_ok (λ (l : Literal). l.sig < code_width) c.in_ok-literal.literal c.in-Ok.literal c.in-Ok.is
+    IfOk-at_ok (λ (l : Literal). l.sig < code_width) c.in-Ok.is
     c.in_ok-literal.ensures.within in
     let Set : Bool → Type 0 = λ v. IsSet c.loop-word.value c.in-Ok.literal.sig v c.set-value.result in
     let set : Set c.in-Ok.literal.plain =

@@ -1,4 +1,4 @@
-use Rattle.si_words.specs.Reads.{words_now}
+use Rattle.si_words.specs.Loops.Reads.{words_now}
 use Rattle.si_netlist_reader.proofs.PartLemmas.{reads_some, reads_form, reads_fault, reads_value}
 use Rattle.si_netlist_reader.proofs.SumReading.{set_bad, reset_bad, gc_good}
 use Rattle.si_netlist_reader.proofs.gate_reader.read_gc.Goals as goal

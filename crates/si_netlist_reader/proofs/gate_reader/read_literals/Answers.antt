@@ -1,7 +1,6 @@
-use Rattle.si_words.specs.GateLines.{pin_fault}
-use Rattle.si_words.specs.Reads.{words_now}
+use Rattle.si_words.specs.GateLines.{pin_fault, literal_of}
+use Rattle.si_words.specs.Loops.Reads.{words_now}
 use Rattle.si_words.specs.Sums.{is_literal}
-use Rattle.si_netlist_reader.specs.NetlistValue.{literal_of}
 use Rattle.si_netlist_reader.proofs.PartLemmas.{without_form, good_part, bad_part, reads_fault, reads_value}
 use Rattle.si_netlist_reader.proofs.PartLemmas.{word_within, word_at}
 use Rattle.si_netlist_reader.proofs.gate_reader.read_literals.Goals as goal

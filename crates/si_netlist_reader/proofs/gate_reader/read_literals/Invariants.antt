@@ -1,7 +1,6 @@
-use Rattle.si_words.specs.GateLines.{pin_fault}
-use Rattle.si_words.specs.Reads.{words_now}
+use Rattle.si_words.specs.GateLines.{pin_fault, literal_of}
+use Rattle.si_words.specs.Loops.Reads.{words_now}
 use Rattle.si_words.specs.Sums.{is_literal}
-use Rattle.si_netlist_reader.specs.NetlistValue.{literal_of}
 use Rattle.si_netlist_reader.proofs.PartLemmas.{InParts}
 use Rattle.si_netlist_reader.proofs.gate_reader.read_literals.Given as goal
 

@@ -3,7 +3,7 @@ use Rattle.std.proofs.lemmas.List.{length-map}
 use Rattle.si_base.specs.Faults.{first_in}
 use Rattle.si_base.specs.declared.fault.TextKind.{TextKind}
 use Rattle.si_words.specs.GateLines.{sum_fault}
-use Rattle.si_words.specs.Reads.{words_now, parts_now}
+use Rattle.si_words.specs.Loops.Reads.{words_now, parts_now}
 use Rattle.si_words.specs.Sums.{is_cube}
 use Rattle.si_netlist_reader.specs.NetlistValue.{cube_of}
 use Rattle.si_netlist_reader.proofs.PartLemmas.{InParts, without_form, good_part, bad_part, reads_fault, reads_value}

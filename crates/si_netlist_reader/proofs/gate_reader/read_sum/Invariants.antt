@@ -1,6 +1,6 @@
 use Rattle.std.proofs.Common.{◌≡◌, codes}
 use Rattle.si_words.specs.GateLines.{sum_fault}
-use Rattle.si_words.specs.Reads.{words_now, parts_now}
+use Rattle.si_words.specs.Loops.Reads.{words_now, parts_now}
 use Rattle.si_words.specs.Sums.{is_cube, parts_at}
 use Rattle.si_netlist_reader.specs.NetlistValue.{cube_of}
 use Rattle.si_netlist_reader.proofs.PartLemmas.{InParts}

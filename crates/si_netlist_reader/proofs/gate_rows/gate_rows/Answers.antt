@@ -1,8 +1,8 @@
 use Rattle.std.proofs.Common.{◌≤◌, length, arith, ap, ◌∙◌, map}
 use Rattle.std.proofs.lemmas.Result.{err_from_is_err_and}
 use Rattle.si_words.specs.GateLines.{gate_fault}
-use Rattle.si_netlist_reader.specs.Headers.{gate_in}
-use Rattle.si_netlist.specs.Parts.{gate_seen}
+use Rattle.si_netlist_reader.specs.Loops.Headers.{gate_in}
+use Rattle.si_netlist.specs.Loops.Parts.{gate_seen}
 use Rattle.std.proofs.lemmas.List.{map_push}
 use Rattle.si_netlist_reader.proofs.RowLoopLemmas.{failed_at, step, end}
 use Rattle.si_netlist_reader.proofs.gate_rows.gate_rows.Goals as goal

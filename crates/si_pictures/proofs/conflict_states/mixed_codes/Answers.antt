@@ -4,7 +4,7 @@ use Rattle.std.proofs.Common.{get_or}
 use Rattle.std.proofs.lemmas.List.{get_or_default}
 use Rattle.si_base.specs.Graph.{StateGraph}
 use Rattle.si_conflicts.specs.declared.keys.Key.{Key}
-use Rattle.si_conflicts.specs.Keys.{key_at}
+use Rattle.si_conflicts.specs.Loops.Keys.{key_at}
 use Rattle.si_pictures.proofs.InConflictMarks.{apart_from, same_from, mixed_more, mixed_pass}
 use Rattle.si_pictures.proofs.conflict_states.mixed_codes.Goals as goal
 use Rattle.si_pictures.proofs.conflict_states.mixed_codes.Goals.{then-ne, else-ne}

@@ -1,7 +1,7 @@
 use Rattle.std.proofs.Common.{◌≡◌, ℕ, List, [], ◌∷◌, ◌++◌, append_assoc, codes, ap, sym, ◌∙◌}
 use Rattle.si_base.specs.Words.{line}
 use Rattle.si_circuit.specs.InsertionWords.{all_insertion_words}
-use Rattle.si_words.specs.Writing.{spaced}
+use Rattle.si_words.specs.Loops.Writing.{spaced}
 use Rattle.si_words.proofs.WritingLemmas.{joined_words}
 use Rattle.si_refusals.proofs.refusals.unresolved.Goals as goal
 

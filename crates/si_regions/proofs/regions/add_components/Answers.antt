@@ -3,7 +3,7 @@ use Rattle.std.proofs.Common.{Contains, refl, subst}
 use Rattle.std.proofs.lemmas.Bool.{true≢false}
 use Rattle.std.proofs.lemmas.List.{length-replicate}
 use Rattle.si_base.specs.Graph.{StateGraph, enables}
-use Rattle.si_graph.specs.Reach.{IsIn}
+use Rattle.si_base.specs.Sets.{IsIn}
 use Rattle.si_regions.proofs.RegionLemmas.{enables_within}
 use Rattle.si_regions.proofs.RegionComponents.{found_none, found_pass, found_more, found_event}
 use Rattle.si_regions.specs.declared.regions.Component.{Component}

@@ -1,5 +1,5 @@
 use Rattle.std.proofs.Common.{◌≡◌, length}
-use Rattle.si_regions.specs.Searching.{IsIdle}
+use Rattle.si_regions.specs.Loops.Searching.{IsIdle}
 use Rattle.si_regions.proofs.RegionComponents.{AreFoundTo}
 use Rattle.si_regions.proofs.regions.add_components.Given as goal
 

@@ -1,6 +1,6 @@
 use Rattle.std.proofs.Common.{◌≡◌, ℕ, ◌+◌, ◌*◌, ◌∙◌, [], length, arith, ap, subst}
 use Rattle.si_base.specs.Graph.{StateGraph}
-use Rattle.si_regions.specs.Searching.{ComponentsTo}
+use Rattle.si_regions.specs.Loops.Searching.{ComponentsTo}
 use Rattle.si_regions.proofs.RegionLemmas.{regions_all, regions_none, place_below}
 use Rattle.si_regions.proofs.RegionComponents.{idle_search}
 use Rattle.si_regions.proofs.regions.components.Goals as goal

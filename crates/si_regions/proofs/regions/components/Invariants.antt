@@ -1,5 +1,5 @@
 use Rattle.std.proofs.Common.{◌*◌}
-use Rattle.si_regions.specs.Searching.{IsIdle, ComponentsTo}
+use Rattle.si_regions.specs.Loops.Searching.{IsIdle, ComponentsTo}
 use Rattle.si_regions.proofs.regions.components.Given as goal
 
 abbrev pub invariant-loop-z : goal.invariant-loop-z

@@ -1,6 +1,6 @@
 use Rattle.std.proofs.Common.{◌≡◌, All, map}
 use Rattle.si_regions.specs.Regions.{IsRegion, component_of}
-use Rattle.si_regions.specs.Searching.{AreRests, IsIdle}
+use Rattle.si_regions.specs.Loops.Searching.{AreRests, IsIdle}
 use Rattle.si_regions.proofs.regions.regions.Given as goal
 
 abbrev pub invariant-loop-component : goal.invariant-loop-component

@@ -1,6 +1,6 @@
 use Rattle.std.proofs.Common.{◌≤◌, arith, sym}
 use Rattle.std.proofs.lemmas.Bool.{true≢false}
-use Rattle.si_resolve.specs.Aspects.{unparted_count}
+use Rattle.si_resolve.specs.Loops.Aspects.{unparted_count}
 use Rattle.si_resolve.proofs.AspectLemmas.{unparted_parts}
 use Rattle.si_resolve.proofs.aspects.are_below.Goals as goal
 

@@ -1,5 +1,5 @@
 use Rattle.std.proofs.Common.{◌≡◌, ◌+◌, length}
-use Rattle.si_resolve.specs.Aspects.{unparted_count}
+use Rattle.si_resolve.specs.Loops.Aspects.{unparted_count}
 use Rattle.si_resolve.proofs.aspects.are_below.Given as goal
 
 abbrev pub invariant-loop-plus : goal.invariant-loop-plus

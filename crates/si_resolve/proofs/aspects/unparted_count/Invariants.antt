@@ -1,5 +1,5 @@
 use Rattle.std.proofs.Common.{◌≡◌, ◌≤◌, take}
-use Rattle.si_resolve.specs.Aspects.{unparted_count}
+use Rattle.si_resolve.specs.Loops.Aspects.{unparted_count}
 use Rattle.si_resolve.proofs.aspects.unparted_count.Given as goal
 
 abbrev pub invariant-loop-k : goal.invariant-loop-k

@@ -1,8 +1,8 @@
 use Rattle.std.proofs.Common.{All, Bool, List, subst, sym}
 use Rattle.si_base.specs.Codes.{CodedGraph}
 use Rattle.si_conflicts.specs.Conflicts.{AreFirstConflicts, pairs_of}
-use Rattle.si_resolve.specs.Aspects.{max_compared}
-use Rattle.si_resolve.specs.Usable.{HaveSides}
+use Rattle.si_resolve.specs.Loops.Aspects.{max_compared}
+use Rattle.si_resolve.specs.Loops.Usable.{HaveSides}
 use Rattle.si_resolve.proofs.BlockListLemmas.{given_inside}
 use Rattle.si_resolve.proofs.BlockSizes.{HasSize, block_sizes}
 use Rattle.si_resolve.proofs.block_list.block_list.Goals as goal

@@ -1,7 +1,7 @@
 use Rattle.std.proofs.Common.{◌≡◌, ◌<◌, ℕ, true, false, length, map, slice_index_or}
 use Rattle.si_candidates.specs.Blocks.{block_at}
 use Rattle.si_conflicts.specs.Conflicts.{pairs_of}
-use Rattle.si_resolve.specs.Aspects.{aspect_of, column_at}
+use Rattle.si_resolve.specs.Loops.Aspects.{aspect_of, column_at}
 use Rattle.si_resolve.proofs.block_list.columns_of_usable.Given as goal
 
 abbrev pub invariant-loop-k : goal.invariant-loop-k

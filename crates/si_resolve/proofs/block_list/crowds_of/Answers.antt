@@ -3,7 +3,7 @@ use Rattle.std.proofs.lemmas.List.{get_or_default, length_push}
 use Rattle.std.proofs.lemmas.List.Elements.{All-get_or}
 use Rattle.si_candidates.specs.Blocks.{block_at}
 use Rattle.si_conflicts.specs.declared.crowds.Crowd.{Crowd}
-use Rattle.si_conflicts.specs.Crowds.{HasOfCrowd}
+use Rattle.si_conflicts.specs.Loops.Crowds.{HasOfCrowd}
 use Rattle.si_resolve.proofs.BlockListLemmas.{crowd_of_set, crowded_inside, each_more}
 use Rattle.si_resolve.proofs.BlockSizes.{HasSize}
 use Rattle.si_resolve.proofs.block_list.crowds_of.Goals as goal

@@ -1,7 +1,7 @@
 use Rattle.std.proofs.Common.{◌≡◌, ◌<◌, ℕ, IfSome, length}
 use Rattle.si_candidates.specs.Blocks.{block_at}
-use Rattle.si_conflicts.specs.Crowds.{HasOfCrowd}
-use Rattle.si_resolve.specs.Sharing.{crowd_at}
+use Rattle.si_conflicts.specs.Loops.Crowds.{HasOfCrowd}
+use Rattle.si_resolve.specs.Loops.Sharing.{crowd_at}
 use Rattle.si_resolve.proofs.block_list.crowds_of.Given as goal
 
 abbrev pub invariant-loop-k : goal.invariant-loop-k

@@ -1,7 +1,7 @@
 use Rattle.std.proofs.Common.{◌≡◌, ◌<◌, ◌∙◌, ℕ, List, Bool, [], false, true, length, slice_index_or, subst, arith}
 use Rattle.std.proofs.lemmas.List.{get_or_default, length_push}
 use Rattle.si_candidates.specs.Blocks.{block_at}
-use Rattle.si_candidates.specs.Sides.{AreSides}
+use Rattle.si_candidates.specs.Loops.Sides.{AreSides}
 use Rattle.si_resolve.proofs.BlockListLemmas.{each_more}
 use Rattle.si_resolve.proofs.block_list.sides_of_usable.Goals as goal
 

@@ -1,6 +1,6 @@
 use Rattle.std.proofs.Common.{◌≡◌, ◌<◌, ◌↔◌, ℕ, true, false, length, slice_index_or}
 use Rattle.si_candidates.specs.Blocks.{block_at}
-use Rattle.si_resolve.specs.Usable.{IsUsable}
+use Rattle.si_resolve.specs.Loops.Usable.{IsUsable}
 use Rattle.si_resolve.proofs.block_list.usable_ones.Given as goal
 
 abbrev pub invariant-loop-k : goal.invariant-loop-k

@@ -1,5 +1,5 @@
 use Rattle.std.proofs.Common.{◌≡◌, length, subst, arith}
-use Rattle.si_resolve.specs.Progress.{IsSearching}
+use Rattle.si_resolve.specs.Loops.Progress.{IsSearching}
 use Rattle.si_resolve.proofs.SearchLemmas.{found_none, found_some}
 use Rattle.si_resolve.proofs.search.find_best.Goals as goal
 

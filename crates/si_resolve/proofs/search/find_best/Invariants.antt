@@ -1,5 +1,5 @@
 use Rattle.std.proofs.Common.{◌≡◌}
-use Rattle.si_resolve.specs.Progress.{IsSearching}
+use Rattle.si_resolve.specs.Loops.Progress.{IsSearching}
 use Rattle.si_resolve.proofs.search.find_best.Given as goal
 
 abbrev pub invariant-loop-j : goal.invariant-loop-j

@@ -1,4 +1,4 @@
-use Rattle.si_sg.specs.Reads.{section_now}
+use Rattle.si_sg.specs.Loops.Reads.{section_now}
 use Rattle.si_sg.specs.Section.{state_fault, chain_fault, with_state, is_even}
 use Rattle.si_sg.proofs.ArcLemmas.{shown_first, shown_more}
 use Rattle.si_sg.proofs.arcs.read_arcs.Goals as goal

@@ -1,5 +1,5 @@
 use Rattle.std.proofs.Common.{◌≡◌, ◌++◌, List, ℕ, sym, ap, subst, ◌∙◌}
-use Rattle.si_sg.specs.Reads.{Apart}
+use Rattle.si_sg.specs.Loops.Reads.{Apart}
 use Rattle.si_sg.proofs.SignalLemmas.{apart_front}
 use Rattle.si_sg.proofs.signals.declared_names.Goals as goal
 

@@ -1,8 +1,9 @@
 use Rattle.std.proofs.Common.{ℕ, List, Ok}
+use Rattle.std.proofs.lemmas.Result.{IfOk-weaker}
 use Rattle.si_refusals.specs.Ending.{MayStop}
 use Rattle.si_refusals.specs.Stages.{Passes}
 use Rattle.si_readings.specs.Readings.{audit_readings_now}
-use Rattle.si_readings.proofs.ReadingRefusals.{err_map, ok_map, stops}
+use Rattle.si_readings.proofs.ReadingRefusals.{err_map, stops}
 use Rattle.si_readings.proofs.StageLemmas.{stop_first, stop_next}
 use Rattle.si_stages.specs.Meaning.{audit, audited_on}
 use Rattle.si_stages.proofs.audited.audit_texts.Goals as goal
@@ -17,7 +18,7 @@ pub returns-clause-ok : goal.returns-clause-ok
 returns-clause-ok c =
     let a = c.args in
     let read = audit_readings_now c.in_ok-readings.readings in
-    ok_map c.audited_on.result
+    IfOk-weaker c.audited_on.result
     (λ (text : List ℕ). audited_on a.netlist_file.now read.given.graph read.given.states read.netlist (Ok text))
     (λ (text : List ℕ). audit a.graph_file.now a.graph.now a.netlist_file.now a.netlist.now (Ok text))
     (λ text told. Passes read c.in_ok-readings.ensures.ok told)

@@ -1,10 +1,11 @@
 use Rattle.std.proofs.Common.{Ok, subst}
+use Rattle.std.proofs.lemmas.Result.{IfOk-weaker}
 use Rattle.si_base.specs.Codes.{CodedGraph}
 use Rattle.si_base.specs.System.{IsFor}
 use Rattle.si_refusals.specs.Ending.{MayStop}
 use Rattle.si_refusals.specs.Stages.{Passes}
 use Rattle.si_readings.proofs.CheckLemmas.{match_over}
-use Rattle.si_readings.proofs.ReadingRefusals.{err_map, ok_map, stops}
+use Rattle.si_readings.proofs.ReadingRefusals.{err_map, stops}
 use Rattle.si_readings.proofs.StageLemmas.{stop_first, stop_next}
 use Rattle.si_stages.specs.Audited.{IsAudit, certification}
 use Rattle.si_stages.specs.Meaning.{audited_on}
@@ -32,7 +33,7 @@ returns-clause-ok c =
     let a = c.args in
     let proper = c.in_ok-proper.proper in
     let fits = subst (λ (k : CodedGraph). IsFor k a.netlist) c.coded.ensures.same c.in_ok-match_lists.ensures.ok in
-    ok_map c.audited_text.result (λ text. IsAudit a.states.now proper a.netlist text)
+    IfOk-weaker c.audited_text.result (λ text. IsAudit a.states.now proper a.netlist text)
     (λ text. audited_on a.netlist_file.now a.graph a.states.now a.netlist (Ok text))
     (λ text told. Passes proper c.in_ok-proper.ensures.ok (Passes tt fits told))
     c.audited_text.ensures.ok

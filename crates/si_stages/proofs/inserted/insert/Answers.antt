@@ -1,5 +1,6 @@
 use Rattle.std.proofs.Common.{List, Ok, ℕ}
-use Rattle.si_readings.proofs.ReadingRefusals.{err_map, ok_map, stops}
+use Rattle.std.proofs.lemmas.Result.{IfOk-weaker}
+use Rattle.si_readings.proofs.ReadingRefusals.{err_map, stops}
 use Rattle.si_readings.proofs.ReadingLemmas.{audit_readings_are}
 use Rattle.si_readings.proofs.StageLemmas.{stop_first, stop_next}
 use Rattle.si_readings.specs.Readings.{audit_readings_now}
@@ -28,7 +29,7 @@ pub returns-clause-ok : goal.returns-clause-ok
 returns-clause-ok c =
     let a = c.args in
     let read = audit_readings_now c.in_ok-readings.readings in
-    ok_map c.inserted_text.result
+    IfOk-weaker c.inserted_text.result
     (λ (text : List ℕ). inserted_text a.netlist_file.now read.given read.netlist (Ok text))
     (λ (text : List ℕ). insert a.graph_file.now a.graph.now a.netlist_file.now a.netlist.now (Ok text))
     (λ text told. Passes read c.in_ok-readings.ensures.ok told)

@@ -1,10 +1,11 @@
 use Rattle.std.proofs.Common.{List, Ok, ℕ, subst, sym}
+use Rattle.std.proofs.lemmas.Result.{IfOk-weaker}
 use Rattle.si_base.specs.Codes.{CodedGraph}
 use Rattle.si_base.specs.Graph.{StateGraph}
 use Rattle.si_base.specs.System.{IsFor}
 use Rattle.si_circuit.specs.Circuits.{AreStateNames}
 use Rattle.si_readings.proofs.CheckLemmas.{match_over}
-use Rattle.si_readings.proofs.ReadingRefusals.{err_map, ok_map, stops}
+use Rattle.si_readings.proofs.ReadingRefusals.{err_map, stops}
 use Rattle.si_readings.proofs.StageLemmas.{stop_first, stop_next}
 use Rattle.si_refusals.specs.Ending.{MayStop}
 use Rattle.si_refusals.specs.Stages.{Passes}
@@ -42,7 +43,7 @@ returns-clause-ok c =
     let given = sg_now a.given in
     let proper = c.in_ok-proper.proper in
     let fits = subst (λ (k : CodedGraph). IsFor k a.netlist.now) c.coded.ensures.same c.in_ok-match_lists.ensures.ok in
-    ok_map c.text_with_insertions.result
+    IfOk-weaker c.text_with_insertions.result
     (λ (text : List ℕ). text_with_insertions given.model given.states proper a.netlist.now (Ok text))
     (λ (text : List ℕ). inserted_text a.netlist_file.now given a.netlist.now (Ok text))
     (λ text told. Passes proper c.in_ok-proper.ensures.ok (Passes tt fits told))

@@ -1,5 +1,6 @@
 use Rattle.std.proofs.Common.{ℕ, List, Ok}
-use Rattle.si_readings.proofs.ReadingRefusals.{err_map, ok_map, stops}
+use Rattle.std.proofs.lemmas.Result.{IfOk-weaker}
+use Rattle.si_readings.proofs.ReadingRefusals.{err_map, stops}
 use Rattle.si_readings.proofs.StageLemmas.{stop_first, stop_next}
 use Rattle.si_refusals.specs.Ending.{MayStop}
 use Rattle.si_refusals.specs.Stages.{Passes}
@@ -27,7 +28,7 @@ resolved_text-requires-clause-states c =
 pub returns-clause-ok : goal.returns-clause-ok
 returns-clause-ok c =
     let given = sg_now c.in_ok-model.field-0 in
-    ok_map c.resolved_text.result
+    IfOk-weaker c.resolved_text.result
     (λ (text : List ℕ). resolved_text given.model given.states given.graph (Ok text))
     (λ (text : List ℕ). resolve c.args.file.now c.args.text.now (Ok text))
     (λ text told. Passes given c.in_ok-model.ensures.ok told)

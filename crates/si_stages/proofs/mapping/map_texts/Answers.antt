@@ -1,6 +1,7 @@
 use Rattle.std.proofs.Common.{ℕ, List, Ok}
+use Rattle.std.proofs.lemmas.Result.{IfOk-weaker}
 use Rattle.si_readings.proofs.ReadingLemmas.{mapping_readings_are}
-use Rattle.si_readings.proofs.ReadingRefusals.{err_map, ok_map, stops}
+use Rattle.si_readings.proofs.ReadingRefusals.{err_map, stops}
 use Rattle.si_readings.proofs.StageLemmas.{stop_first, stop_next}
 use Rattle.si_readings.specs.Readings.{mapping_readings_now}
 use Rattle.si_refusals.specs.Ending.{MayStop}
@@ -38,7 +39,7 @@ pub returns-clause-ok : goal.returns-clause-ok
 returns-clause-ok c =
     let a = c.args in
     let read = mapping_readings_now c.in_ok-readings.readings in
-    ok_map c.mapped_text.result
+    IfOk-weaker c.mapped_text.result
     (λ (text : List ℕ). mapped_text read.library read.given (Ok text))
     (λ (text : List ℕ). mapping a.format a.graph_file.now a.graph.now a.library_file.now a.library.now (Ok text))
     (λ text told. Passes read c.in_ok-readings.ensures.ok told)

@@ -1,5 +1,6 @@
 use Rattle.std.proofs.Common.{ℕ, List, Ok}
-use Rattle.si_readings.proofs.ReadingRefusals.{err_map, ok_map, stops}
+use Rattle.std.proofs.lemmas.Result.{IfOk-weaker}
+use Rattle.si_readings.proofs.ReadingRefusals.{err_map, stops}
 use Rattle.si_readings.proofs.StageLemmas.{stop_first, stop_next}
 use Rattle.si_refusals.specs.Ending.{MayStop}
 use Rattle.si_refusals.specs.Stages.{Passes}
@@ -45,7 +46,7 @@ returns-clause-ok c =
     let l = c.in_ok-resolved.resolved in
     let resolves = c.in_ok-resolved.ensures.ok in
     let is = resolution_is given.graph given.states l resolves in
-    ok_map c.cells_text.result
+    IfOk-weaker c.cells_text.result
     (λ (text : List ℕ). IsCellsText library given.model given.states l text)
     (λ (text : List ℕ). mapped_text library given (Ok text))
     (λ output text. Passes l resolves

@@ -1,9 +1,10 @@
 use Rattle.std.proofs.Common.{Ok}
+use Rattle.std.proofs.lemmas.Result.{IfOk-weaker}
 use Rattle.si_refusals.specs.Ending.{MayStop}
-use Rattle.si_stages.specs.Outcomes.{TellsEnd, TellsDifference}
+use Rattle.si_stages.specs.Loops.Outcomes.{TellsEnd, TellsDifference}
 use Rattle.si_stages.specs.Replayed.{replay_end}
 use Rattle.si_system.proofs.UniqueOutcome.{for_not_different}
-use Rattle.si_readings.proofs.ReadingRefusals.{err_map, ok_map}
+use Rattle.si_readings.proofs.ReadingRefusals.{err_map}
 use Rattle.si_stages.proofs.ReplayLemmas.{has_name, told_end, told_departure}
 use Rattle.si_stages.proofs.replayed.replay_end.Goals as goal
 
@@ -24,7 +25,7 @@ returns-clause-ok c =
     let states = c.args.states.now in
     let net = c.args.netlist.now in
     let events = c.args.events.now.items in
-    ok_map c.outcome_text.result (TellsEnd what net events states c.in-Ok.outcome)
+    IfOk-weaker c.outcome_text.result (TellsEnd what net events states c.in-Ok.outcome)
     (λ text. replay_end what graph states net events (Ok text))
     (λ text tells. told_end what graph states net events c.in-Ok.outcome text c.in-Ok.ensures.outcome tells)
     c.outcome_text.ensures.ok

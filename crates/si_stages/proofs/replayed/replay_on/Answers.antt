@@ -1,11 +1,12 @@
 use Rattle.std.proofs.Common.{Ok, ap, subst, sym, ◌∙◌}
+use Rattle.std.proofs.lemmas.Result.{IfOk-weaker}
 use Rattle.si_base.specs.Codes.{CodedGraph}
 use Rattle.si_base.specs.Graph.{StateGraph}
 use Rattle.si_base.specs.System.{IsFor}
 use Rattle.si_refusals.specs.Ending.{MayStop}
 use Rattle.si_refusals.specs.Stages.{Passes}
 use Rattle.si_stages.specs.Replayed.{replay_end, replay_on}
-use Rattle.si_readings.proofs.ReadingRefusals.{err_map, ok_map, stops}
+use Rattle.si_readings.proofs.ReadingRefusals.{err_map, stops}
 use Rattle.si_readings.proofs.CheckLemmas.{match_over}
 use Rattle.si_readings.proofs.StageLemmas.{stop_first, stop_next}
 use Rattle.si_stages.proofs.replayed.replay_on.Goals as goal
@@ -44,7 +45,7 @@ returns-clause-ok c =
     let same = c.coded-coded.ensures.same in
     let graph = ap (λ (k : CodedGraph). k.graph) same ∙ sound.same_graph in
     let fits = subst (λ (k : CodedGraph). IsFor k a.netlist.now) same c.in_ok-match_lists.ensures.ok in
-    ok_map c.replay_end.result
+    IfOk-weaker c.replay_end.result
     (λ text. replay_end a.what coded.graph states a.netlist.now events (Ok text))
     (λ text. replay_on a.what a.netlist_file.now a.graph states a.netlist.now events (Ok text))
     (λ text ends. Passes proper sound (Passes tt fits

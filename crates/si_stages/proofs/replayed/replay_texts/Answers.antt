@@ -1,10 +1,11 @@
 use Rattle.std.proofs.Common.{Ok}
+use Rattle.std.proofs.lemmas.Result.{IfOk-weaker}
 use Rattle.si_refusals.specs.Ending.{MayStop}
 use Rattle.si_refusals.specs.Stages.{Passes}
 use Rattle.si_stages.specs.Meaning.{replay}
 use Rattle.si_readings.specs.Readings.{replay_readings_now}
 use Rattle.si_stages.specs.Replayed.{replay_on}
-use Rattle.si_readings.proofs.ReadingRefusals.{err_map, ok_map, stops}
+use Rattle.si_readings.proofs.ReadingRefusals.{err_map, stops}
 use Rattle.si_readings.proofs.StageLemmas.{stop_first, stop_next}
 use Rattle.si_stages.proofs.replayed.replay_texts.Goals as goal
 
@@ -21,7 +22,7 @@ pub returns-clause-ok : goal.returns-clause-ok
 returns-clause-ok c =
     let a = c.args in
     let read = replay_readings_now c.in_ok-readings.readings in
-    ok_map c.replay_on.result
+    IfOk-weaker c.replay_on.result
     (λ text. replay_on a.what a.netlist_file.now read.given.graph read.given.states read.netlist read.events (Ok text))
     (λ text. replay a.what a.graph_file.now a.graph.now a.netlist_file.now a.netlist.now a.schedule_file.now
     a.schedule.now (Ok text))

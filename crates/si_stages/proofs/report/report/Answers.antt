@@ -1,5 +1,6 @@
 use Rattle.std.proofs.Common.{ℕ, List, Ok}
-use Rattle.si_readings.proofs.ReadingRefusals.{err_map, ok_map, stops}
+use Rattle.std.proofs.lemmas.Result.{IfOk-weaker}
+use Rattle.si_readings.proofs.ReadingRefusals.{err_map, stops}
 use Rattle.si_readings.proofs.StageLemmas.{stop_first, stop_next}
 use Rattle.si_refusals.specs.Ending.{MayStop}
 use Rattle.si_refusals.specs.Stages.{Passes}
@@ -16,7 +17,7 @@ pub returns-clause-ok : goal.returns-clause-ok
 returns-clause-ok c =
     let a = c.args in
     let given = sg_now c.in_ok-model.field-0 in
-    ok_map c.report_on.result
+    IfOk-weaker c.report_on.result
     (λ (text : List ℕ). report_on a.what given.model given.states given.graph (Ok text))
     (λ (text : List ℕ). report a.what a.file.now a.text.now (Ok text))
     (λ text told. Passes given c.in_ok-model.ensures.ok told)

@@ -1,10 +1,11 @@
 use Rattle.std.proofs.Common.{Ok, sym, subst}
+use Rattle.std.proofs.lemmas.Result.{IfOk-weaker}
 use Rattle.si_base.specs.Graph.{StateGraph}
 use Rattle.si_insert.specs.Lineage.{AllGiven}
 use Rattle.si_refusals.specs.Ending.{MayStop}
 use Rattle.si_refusals.specs.Stages.{Passes}
 use Rattle.si_stages.specs.Resolving.{lineage_of, resolution}
-use Rattle.si_readings.proofs.ReadingRefusals.{err_map, ok_map, stops}
+use Rattle.si_readings.proofs.ReadingRefusals.{err_map, stops}
 use Rattle.si_readings.proofs.StageLemmas.{stop_first, stop_next}
 use Rattle.si_stages.proofs.resolving.resolution.Goals as goal
 
@@ -20,7 +21,7 @@ lineage_of-requires-clause-given c =
 pub returns-clause-ok : goal.returns-clause-ok
 returns-clause-ok c =
     let coded = c.in_ok-proper.proper in
-    ok_map c.lineage_of.result (λ l. lineage_of coded c.args.states.now (Ok l))
+    IfOk-weaker c.lineage_of.result (λ l. lineage_of coded c.args.states.now (Ok l))
     (λ l. resolution c.args.graph c.args.states.now (Ok l))
     (λ l ends. Passes coded c.in_ok-proper.ensures.ok ends) c.lineage_of.ensures.ok
 

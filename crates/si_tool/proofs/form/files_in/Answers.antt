@@ -2,7 +2,7 @@ use Rattle.std.proofs.Common.{◌<◌, ◌≤◌, [], ◌∷◌, length, refl, a
 use Rattle.std.proofs.lemmas.List.{length-map, map-append}
 use Rattle.std.proofs.Math.ListN.{drop_of_length-le}
 use Rattle.si_tool.specs.Command.{words_of}
-use Rattle.si_tool.specs.Reads.{slots_now, slot_now}
+use Rattle.si_tool.specs.Loops.Reads.{slots_now, slot_now}
 use Rattle.si_tool.proofs.FormLemmas.{no_form_of_length, none_filled, other_word, word_filled, file_filled, all_filled}
 use Rattle.si_tool.proofs.FormLemmas.{slot_at, word_at, words_differ, words_same}
 use Rattle.si_tool.proofs.form.files_in.Goals.{in-Word+else-ne, in-File+in_ok-push-in-File}

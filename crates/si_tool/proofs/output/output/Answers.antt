@@ -1,7 +1,8 @@
 use Rattle.std.proofs.Common.{◌≡◌, ◌∙◌, length, sym}
 use Rattle.std.proofs.lemmas.List.{length-map}
+use Rattle.si_words.specs.Loops.Reads.{words_now}
 use Rattle.si_tool.specs.Loads.{loads}
-use Rattle.si_tool.specs.Reads.{names_now, request_of, texts_now}
+use Rattle.si_tool.specs.Loops.Reads.{request_of, texts_now}
 use Rattle.si_tool.proofs.LoadLemmas.{loads_as_many}
 use Rattle.si_tool.proofs.OutputCalls.{not_loaded, stops_command, came_ok, came_err}
 use Rattle.si_tool.proofs.output.output.Goals as goal
@@ -21,7 +22,7 @@ output_of_texts-requires g c =
     let now = g.H.Shelf.faults c.load_all.new.shelf in
     let files = c.deref.result.now in
     let texts = c.in_ok-texts.texts.items in
-    let each = loads_as_many content before now (names_now files) (texts_now texts) c.in_ok-texts.ensures.ok in
+    let each = loads_as_many content before now (words_now files) (texts_now texts) c.in_ok-texts.ensures.ok in
     let as_many : length texts ≡ length files =
     sym (length-map texts (λ text. text.items)) ∙ each ∙ length-map files (λ name. name.now) in
     record {

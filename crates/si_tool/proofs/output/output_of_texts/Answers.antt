@@ -39,6 +39,18 @@ returns-in-Verilog-clause-err c =
     c.index-texts-0-in-Verilog.is c.deref-in-Verilog.ensures.value in
     rw (c.in-Verilog.is, are.0, are.1) c.verilog.ensures.err
 
+pub returns-in-TellNetlist-clause-ok : goal.returns-in-TellNetlist-clause-ok
+returns-in-TellNetlist-clause-ok c =
+    let are = read_one c.args.files.now c.args.texts.now _ _ (rw c.in-TellNetlist.is at c.requires.files) c.requires.texts
+    c.index-texts-0-in-TellNetlist.is c.deref-in-TellNetlist.ensures.value in
+    rw (c.in-TellNetlist.is, are.0, are.1) c.netlist_report.ensures.ok
+
+pub returns-in-TellNetlist-clause-err : goal.returns-in-TellNetlist-clause-err
+returns-in-TellNetlist-clause-err c =
+    let are = read_one c.args.files.now c.args.texts.now _ _ (rw c.in-TellNetlist.is at c.requires.files) c.requires.texts
+    c.index-texts-0-in-TellNetlist.is c.deref-in-TellNetlist.ensures.value in
+    rw (c.in-TellNetlist.is, are.0, are.1) c.netlist_report.ensures.err
+
 pub returns-in-FromGenlib-clause-ok : goal.returns-in-FromGenlib-clause-ok
 returns-in-FromGenlib-clause-ok c =
     let are = read_one c.args.files.now c.args.texts.now _ _ (rw c.in-FromGenlib.is at c.requires.files)
@@ -120,3 +132,17 @@ returns-in-Insert-clause-err c =
     c.requires.texts c.index-texts-0-in-Insert.is c.index-texts-1-in-Insert.is c.deref-in-Insert.ensures.value
     c.deref-in-Insert-2.ensures.value in
     rw (c.in-Insert.is, are.0, are.1) c.insert.ensures.err
+
+pub returns-in-Same-clause-ok : goal.returns-in-Same-clause-ok
+returns-in-Same-clause-ok c =
+    let are = read_two c.args.files.now c.args.texts.now _ _ _ _ (rw c.in-Same.is at c.requires.files)
+    c.requires.texts c.index-texts-0-in-Same.is c.index-texts-1-in-Same.is c.deref-in-Same.ensures.value
+    c.deref-in-Same-2.ensures.value in
+    rw (c.in-Same.is, are.0, are.1) c.same.ensures.ok
+
+pub returns-in-Same-clause-err : goal.returns-in-Same-clause-err
+returns-in-Same-clause-err c =
+    let are = read_two c.args.files.now c.args.texts.now _ _ _ _ (rw c.in-Same.is at c.requires.files)
+    c.requires.texts c.index-texts-0-in-Same.is c.index-texts-1-in-Same.is c.deref-in-Same.ensures.value
+    c.deref-in-Same-2.ensures.value in
+    rw (c.in-Same.is, are.0, are.1) c.same.ensures.err

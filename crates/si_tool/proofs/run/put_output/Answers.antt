@@ -1,7 +1,8 @@
-use Rattle.std.proofs.Common.{refl}
+use Rattle.std.proofs.Common.{◌≡◌, refl, inl, inr}
+use Rattle.si_io.specs.declared.sink.PutFault.TheVariants.{Failed, NoMemory as NoRoom}
 use Rattle.si_readings.proofs.ReadingRefusals.{handed_on}
 use Rattle.si_tool.specs.Loads.{loads}
-use Rattle.si_tool.specs.Reads.{request_of}
+use Rattle.si_tool.specs.Loops.Reads.{request_of}
 use Rattle.si_tool.specs.Run.{change, MayEnd, NoneLoaded, FirstLoaded}
 use Rattle.si_tool.proofs.RunLemmas.{stops_run}
 use Rattle.si_tool.proofs.run.put_output.Goals as goal
@@ -47,6 +48,8 @@ returns-in-Err-Failed-clause-refused g c = record {
     asks = c.in_ok-command.ensures.ok;
     comes = c.in_ok-text.ensures.ok;
   };
+  put = (let same : c.in-Err-Failed.field-0 ≡ Failed = cc in
+      rw (c.bytes.ensures, same) at c.in-Err-Failed.ensures.taken);
   rose = c.in-Err-Failed.ensures.failed (cc);
   part = rw c.bytes.ensures at (c.in-Err-Failed.ensures.part (cc));
 }
@@ -54,6 +57,19 @@ returns-in-Err-Failed-clause-refused g c = record {
 pub returns-in-Err-Failed-clause-named : goal.returns-in-Err-Failed-clause-named
 returns-in-Err-Failed-clause-named g c =
     FirstLoaded (request_of c.in_ok-command.command) c.in_ok-command.ensures.ok c.output.ensures.loaded
+
+pub returns-clause-refused : goal.returns-clause-refused
+returns-clause-refused g c = inr (inl (record {
+  output = c.in_ok-text.text;
+  comes = record {
+    asked = request_of c.in_ok-command.command;
+    asks = c.in_ok-command.ensures.ok;
+    comes = c.in_ok-text.ensures.ok;
+  };
+  put = (let same : c.in-Err-NoMemory.field-0 ≡ NoRoom = cc in
+      rw (c.bytes.ensures, same) at c.in-Err-NoMemory.ensures.taken);
+  kept = c.in-Err-NoMemory.ensures.no_memory (cc);
+}))
 
 pub returns-clause-named : goal.returns-clause-named
 returns-clause-named g c =

@@ -1,6 +1,6 @@
 use Rattle.std.proofs.Common.{◌≡◌, ℕ, ◌∙◌, sym, subst, arith, length}
 use Rattle.std.proofs.lemmas.Bool.{true≢false}
-use Rattle.si_walks.specs.Sources.{IsNearestOrNone}
+use Rattle.si_walks.specs.Loops.Sources.{IsNearestOrNone}
 use Rattle.si_walks.proofs.SourceNearest.{none_yet, better, no_better}
 use Rattle.si_walks.proofs.sources.nearest.Goals as goal
 use Rattle.si_walks.proofs.sources.nearest.Goals.{then-has_fewer, else-has_fewer}

@@ -1,4 +1,4 @@
-use Rattle.si_walks.specs.Sources.{IsNearestOrNone}
+use Rattle.si_walks.specs.Loops.Sources.{IsNearestOrNone}
 use Rattle.si_walks.proofs.sources.nearest.Given as goal
 
 abbrev pub invariant-loop-s : goal.invariant-loop-s

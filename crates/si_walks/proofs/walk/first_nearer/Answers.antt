@@ -5,10 +5,11 @@ use Rattle.si_base.specs.Graph.{event_place}
 use Rattle.si_base.proofs.StepCodes.{step_within}
 use Rattle.si_checks.proofs.ForkOrder.{out_item, out_arc, out_source, out_signal, one_more, none_before, none_at_all}
 use Rattle.si_walks.specs.Distances.{IsNearer}
-use Rattle.si_walks.proofs.WalkSteps.{step_of, nearer_too}
+use Rattle.si_walks.proofs.WalkSteps.{nearer_too}
 use Rattle.si_walks.proofs.walk.first_nearer.Goals as goal
 use Rattle.si_walks.proofs.walk.first_nearer.Goals.{else-takes-via-then-takes+else-brings_nearer}
 use Rattle.si_walks.proofs.walk.first_nearer.Goals.{else-takes-via-else-takes}
+use Rattle.si_walks.proofs.FirstWalks.{step_of}
 
 pub takes-requires : goal.takes-requires
 takes-requires c = out_signal c.args.graph.now c.args.s c.arcs_out-out.result.now c.arcs_out-out.ensures

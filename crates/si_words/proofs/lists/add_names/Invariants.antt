@@ -1,7 +1,7 @@
 use Rattle.std.proofs.Common.{◌≡◌, ◌++◌, ◌≤◌, length, take, drop, None}
 use Rattle.si_words.specs.Names.{name_fault}
 use Rattle.si_base.specs.Faults.{first_after}
-use Rattle.si_words.specs.Reads.{words_now}
+use Rattle.si_words.specs.Loops.Reads.{words_now}
 use Rattle.si_words.proofs.lists.add_names.Given as goal
 
 abbrev pub invariant-loop-word : goal.invariant-loop-word

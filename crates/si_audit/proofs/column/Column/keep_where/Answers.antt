@@ -1,7 +1,7 @@
 use Rattle.std.proofs.Common.{◌≡◌, ◌/◌, ◌&&◌, ℕ, List, length, get_or, bit_and, bit_xor, ap, ◌∙◌, arith}
 use Rattle.std.proofs.lemmas.List.{take_at}
 use Rattle.si_base.specs.Sets.{flag}
-use Rattle.si_audit.specs.Columns.{is_value}
+use Rattle.si_audit.specs.Loops.Columns.{is_value}
 use Rattle.si_audit.proofs.ColumnLemmas.{narrowed_flag}
 use Rattle.si_audit.proofs.column.Column.keep_where.Goals as goal
 

@@ -1,7 +1,8 @@
 use Rattle.std.proofs.Common.{◌∙◌, List, sym, ap, ap₂, arith}
+use Rattle.si_base.specs.Sets.{is_in}
 use Rattle.si_insert.specs.declared.partition.Class.{Class}
 use Rattle.si_insert.specs.Partition.{class_of}
-use Rattle.si_candidates.specs.Sides.{class_by, differ, flag}
+use Rattle.si_candidates.specs.Loops.Sides.{class_by, differ}
 use Rattle.si_candidates.proofs.SideClassLemmas.{class_at, state_within}
 use Rattle.si_candidates.proofs.by_sides.SideClasses.class.Goals as goal
 
@@ -41,6 +42,6 @@ returns c =
     let value = c.differ-value.ensures ∙ ap (differ b.turn) c.is_between.ensures in
     c.class_by.ensures
     ∙ ap₂ (λ x y. class_by x y c.differ-value.result) c.has.ensures c.has-2.ensures
-    ∙ ap (class_by (flag b.plus.now s) (flag b.minus.now s)) value
+    ∙ ap (class_by (is_in b.plus.now s) (is_in b.minus.now s)) value
     ∙ sym (class_at b.plus.now b.minus.now b.plus_sides.now b.minus_sides.now b.turn s within)
     ∙ ap (λ (list : List Class). class_of list s) c.self.view_is

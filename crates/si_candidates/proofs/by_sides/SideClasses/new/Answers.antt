@@ -1,6 +1,6 @@
 use Rattle.std.proofs.Common.{◌∙◌, sym, ap, subst, refl, arith}
 use Rattle.si_base.specs.Codes.{IsCoded}
-use Rattle.si_candidates.specs.Sides.{side_classes}
+use Rattle.si_candidates.specs.Loops.Sides.{side_classes}
 use Rattle.si_candidates.proofs.SideClassLemmas.{one_size, only_by_sides, size_is}
 use Rattle.si_candidates.proofs.by_sides.SideClasses.new.Goals as goal
 

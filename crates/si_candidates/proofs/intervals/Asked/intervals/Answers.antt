@@ -4,8 +4,8 @@ use Rattle.si_base.specs.declared.ids.Event.{Event}
 use Rattle.si_base.specs.Bits.{bit}
 use Rattle.si_base.specs.Graph.{StateGraph, IsGraph}
 use Rattle.si_base.specs.Codes.{CodedGraph}
-use Rattle.si_closures.specs.WordSearch.{column}
-use Rattle.si_closures.specs.Words.{IsEventAt}
+use Rattle.si_closures.specs.Loops.WordSearch.{column}
+use Rattle.si_closures.specs.Loops.Words.{IsEventAt}
 use Rattle.si_candidates.specs.Interval.{IsInterval}
 use Rattle.si_candidates.proofs.IntervalLemmas.{intervals_of}
 use Rattle.si_candidates.proofs.intervals.Asked.intervals.Goals as goal

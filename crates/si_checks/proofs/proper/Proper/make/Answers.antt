@@ -1,6 +1,6 @@
 use Rattle.std.proofs.Common.{subst, Some}
 use Rattle.si_base.specs.Graph.{StateGraph}
-use Rattle.si_checks.specs.Searches.{IsFirstBreach}
+use Rattle.si_checks.specs.Loops.Searches.{IsFirstBreach}
 use Rattle.si_checks.proofs.ProperLemmas.{deterministic, proper, shows}
 use Rattle.si_checks.proofs.proper.Proper.make.Goals as goal
 

@@ -1,5 +1,5 @@
 use Rattle.std.proofs.Common.{◌∙◌, ap}
-use Rattle.si_conflicts.specs.Chains.{Chains}
+use Rattle.si_conflicts.specs.Loops.Chains.{Chains}
 use Rattle.si_conflicts.proofs.RingLemmas.{few_given}
 use Rattle.si_conflicts.proofs.chains.CodeChains.crowded_states.Goals as goal
 

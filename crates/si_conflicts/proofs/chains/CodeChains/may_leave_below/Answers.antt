@@ -1,6 +1,6 @@
 use Rattle.std.proofs.Common.{ap}
 use Rattle.std.proofs.lemmas.Bool.{ltb-false}
-use Rattle.si_conflicts.specs.Chains.{Chains}
+use Rattle.si_conflicts.specs.Loops.Chains.{Chains}
 use Rattle.si_conflicts.proofs.LeftCount.{none_below, told_below}
 use Rattle.si_conflicts.proofs.TurnLemmas.{have_given, turns_given, states_within}
 use Rattle.si_conflicts.proofs.chains.CodeChains.may_leave_below.Goals as goal

@@ -1,5 +1,5 @@
 use Rattle.std.proofs.Common.{◌+◌, ◌∙◌, refl, ap}
-use Rattle.si_conflicts.specs.Chains.{Chains}
+use Rattle.si_conflicts.specs.Loops.Chains.{Chains}
 use Rattle.si_conflicts.proofs.RingLemmas.{few_given}
 use Rattle.si_conflicts.proofs.TurnLemmas.{have_given, turns_given, states_within}
 use Rattle.si_conflicts.proofs.LeftCount.{trial_found, none_below, below_is, below_none}

@@ -1,6 +1,6 @@
 use Rattle.std.proofs.Common.{◌∙◌, arith, sym, ap}
 use Rattle.si_conflicts.specs.declared.tally.Role.{Role}
-use Rattle.si_conflicts.specs.Apart.{are_apart}
+use Rattle.si_conflicts.specs.Loops.Apart.{are_apart}
 use Rattle.std.proofs.Common.{count_by}
 use Rattle.si_conflicts.proofs.TallyLemmas.{meets_none, meets_plain, fewer_equal}
 use Rattle.si_conflicts.proofs.tally.Tally.conflicts.Goals as goal

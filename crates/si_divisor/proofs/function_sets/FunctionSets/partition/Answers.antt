@@ -3,7 +3,7 @@ use Rattle.std.proofs.lemmas.List.{length-map}
 use Rattle.si_base.specs.Bits.{bit}
 use Rattle.si_base.specs.Codes.{CodedGraph, IsCoded}
 use Rattle.si_base.specs.Graph.{StateGraph}
-use Rattle.si_closures.specs.WordSearch.{column}
+use Rattle.si_closures.specs.Loops.WordSearch.{column}
 use Rattle.si_divisor.specs.Functions.{function_value}
 use Rattle.si_divisor.specs.Targets.{forced_by}
 use Rattle.si_divisor.proofs.ManyFunctionLemmas.{no_function, are_classes_at}

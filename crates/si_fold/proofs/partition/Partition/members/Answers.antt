@@ -1,4 +1,4 @@
-use Rattle.si_fold.specs.Partition.{shape}
+use Rattle.si_fold.specs.Loops.Partition.{shape}
 use Rattle.si_fold.proofs.PartitionMembers.{members_are}
 use Rattle.si_fold.proofs.partition.Partition.members.Goals as goal
 

@@ -1,5 +1,5 @@
 use Rattle.std.proofs.Common.{arith, inl, inr}
-use Rattle.si_fold.specs.Partition.{shape}
+use Rattle.si_fold.specs.Loops.Partition.{shape}
 use Rattle.si_fold.proofs.PartitionSplitParts.{has_room, split_from}
 use Rattle.si_fold.proofs.partition.Partition.split_class.Goals as goal
 

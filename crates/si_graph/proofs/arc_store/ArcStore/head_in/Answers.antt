@@ -1,6 +1,6 @@
 use Rattle.std.proofs.Common.{length}
-use Rattle.si_graph.specs.Arcs.{IsInto}
-use Rattle.si_graph.specs.Chains.{target}
+use Rattle.si_graph.specs.Loops.Arcs.{IsInto}
+use Rattle.si_graph.specs.Loops.Chains.{target}
 use Rattle.si_graph.proofs.ChainLemmas.{head_is, place_of}
 use Rattle.si_graph.proofs.arc_store.ArcStore.head_in.Goals as goal
 

@@ -1,6 +1,6 @@
 use Rattle.std.proofs.Common.{◌≡◌, ◌<◌, length}
 use Rattle.std.proofs.lemmas.List.{get_or_read}
-use Rattle.si_graph.specs.Arcs.{edge_at, no_edge}
+use Rattle.si_graph.specs.Loops.Arcs.{edge_at, no_edge}
 use Rattle.si_graph.proofs.ArcStoreLemmas.{next_behind, none_behind}
 use Rattle.si_graph.proofs.arc_store.ArcStore.next_out.Goals as goal
 

@@ -1,7 +1,7 @@
 use Rattle.std.proofs.Common.{◌≡◌, ◌∙◌, ◌-◌, ◌+◌, ◌<◌, ap, length, arith}
 use Rattle.std.proofs.lemmas.List.{get_or_read}
-use Rattle.si_graph.specs.Arcs.{edge_at, no_edge}
-use Rattle.si_graph.specs.Ends.{state_at}
+use Rattle.si_graph.specs.Loops.Arcs.{edge_at, no_edge}
+use Rattle.si_graph.specs.Loops.Ends.{state_at}
 use Rattle.si_graph.proofs.ChainLemmas.{linked_more}
 use Rattle.si_graph.proofs.chain.Chain.of_arcs.Goals as goal
 

@@ -1,6 +1,6 @@
 use Rattle.std.proofs.Common.{◌≡◌, ◌≤◌, length}
-use Rattle.si_graph.specs.Chains.{AreLinked}
-use Rattle.si_graph.specs.Ends.{state_at}
+use Rattle.si_graph.specs.Loops.Chains.{AreLinked}
+use Rattle.si_graph.specs.Loops.Ends.{state_at}
 use Rattle.si_graph.proofs.chain.Chain.of_arcs.Given as goal
 
 abbrev pub invariant-loop-k : goal.invariant-loop-k

@@ -2,7 +2,7 @@ use Rattle.std.proofs.Common.{◌<◌, ℕ, ap, arith, refl, length}
 use Rattle.si_graph.proofs.ArcFacts.{IsInside}
 use Rattle.si_graph.proofs.GroupLemmas.{all_in_order}
 use Rattle.si_base.specs.declared.graph.Edge.{Edge}
-use Rattle.si_graph.specs.Chains.{StoredArcs}
+use Rattle.si_graph.specs.Loops.Chains.{StoredArcs}
 use Rattle.si_graph.proofs.graph.Graph.make.Goals as goal
 
 -- the arc joins states below the bound

@@ -1,7 +1,7 @@
 use Rattle.std.proofs.Common.{◌≡◌, ℕ, ◌==◌, List, Some, Bool, true, false, length, sym, ap, subst, ◌∙◌, refl}
 use Rattle.std.proofs.Common.{if◌then◌else◌, nat_lt}
 use Rattle.std.specs.List.{list_any}
-use Rattle.si_io.specs.Outside.{one_more}
+use Rattle.si_io.specs.Outside.{answer_of, one_more}
 use Rattle.si_io.specs.Memory.{ShelfState, Loading, Exceeds, Gives, content_of, loading, loading_of, Answers}
 use Rattle.si_io.specs.Memory.{shelf_after, faults_after}
 use Rattle.si_io.proofs.memory.MemShelfShelf.load.Goals as goal
@@ -35,7 +35,7 @@ plain_after shelf name limit content free there =
 
 pub returns-clause-answers : goal.returns-clause-answers
 returns-clause-answers c =
-    let P : Loading → Type 0 = λ l. Answers l c.copied.result in
+    let P : Loading → Type 0 = λ l. Answers l (answer_of c.copied.result) in
     let there = rw (c.deref-2.ensures.value, c.as_bytes.ensures.value) at (sym c.in-Some.ensures) in
     let free = rw c.deref.ensures.value at (sym c.is_listed.ensures ∙ c.if-is_listed.false) in
     rw (← c.self.view_is)
@@ -59,3 +59,6 @@ returns-clause-after c =
       calls = c.self.inside.calls;
       faults = c.self.inside.faults;
     }) _ c.args.limit c.in-Some.content.now free there)
+
+pub returns-clause-loaded : goal.returns-clause-loaded
+returns-clause-loaded c = (c.args.limit, returns-clause-after c, returns-clause-answers c)

@@ -1,5 +1,5 @@
 use Rattle.std.proofs.Common.{◌∙◌, sym, subst}
-use Rattle.si_map.specs.Progress.{AreSpent}
+use Rattle.si_map.specs.Loops.Progress.{AreSpent}
 use Rattle.si_map.proofs.SearchLemmas.{more_spent, spent_tried, zero_tried}
 use Rattle.si_map.proofs.search.Search.try_once.Goals as goal
 

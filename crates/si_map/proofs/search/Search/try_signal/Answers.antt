@@ -1,8 +1,8 @@
 use Rattle.std.proofs.Common.{◌≡◌, ◌+◌, ◌-◌, ◌<◌, ◌∙◌, drop, length, sym, subst, arith}
 use Rattle.std.proofs.lemmas.List.Elements.{All-drop, All-take}
 use Rattle.si_cell.specs.Library.{IsInstance}
-use Rattle.si_checks.specs.Lent.{coded_of}
-use Rattle.si_map.specs.Progress.{AreUpToDate, IsSearching}
+use Rattle.si_checks.specs.Loops.Lent.{coded_of}
+use Rattle.si_map.specs.Loops.Progress.{AreUpToDate, IsSearching}
 use Rattle.si_map.proofs.SearchSignals.{unfit_by, next_divisor, end_signal, pass_fitted}
 use Rattle.si_map.proofs.BestDivisors.{all_instances, is_instance}
 use Rattle.si_map.proofs.search.Search.try_signal.Goals as goal

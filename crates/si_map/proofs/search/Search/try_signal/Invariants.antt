@@ -1,5 +1,5 @@
-use Rattle.si_checks.specs.Lent.{coded_of}
-use Rattle.si_map.specs.Progress.{AreUpToDate, IsSearching}
+use Rattle.si_checks.specs.Loops.Lent.{coded_of}
+use Rattle.si_map.specs.Loops.Progress.{AreUpToDate, IsSearching}
 use Rattle.si_map.proofs.search.Search.try_signal.Given as goal
 
 abbrev pub invariant-loop-k : goal.invariant-loop-k

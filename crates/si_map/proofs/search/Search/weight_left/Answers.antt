@@ -1,6 +1,6 @@
 use Rattle.std.proofs.Common.{◌∙◌, ap, subst, sym}
 use Rattle.si_base.specs.Codes.{CodedGraph}
-use Rattle.si_map.specs.Least.{AreLeast}
+use Rattle.si_map.specs.Loops.Least.{AreLeast}
 use Rattle.si_map.proofs.LeastLemmas.{bounded}
 use Rattle.si_map.proofs.WaitingFits.{kept_known, known_unknown}
 use Rattle.si_map.proofs.SearchLemmas.{below_left, conflict_left, free_left, inserted_free, none_below_left}

@@ -1,7 +1,7 @@
 use Rattle.std.proofs.Common.{◌≡◌, refl}
 use Rattle.si_base.specs.Bits.{bit}
+use Rattle.si_base.proofs.BitFacts.{bit-or}
 use Rattle.si_netlist.specs.Reads.{sum_reads}
-use Rattle.si_netlist.proofs.ReadLemmas.{bit-or}
 use Rattle.si_netlist.proofs.gate.Gate.reads.Goals as goal
 
 pub returns-in-Gc : goal.returns-in-Gc

@@ -1,5 +1,5 @@
 use Rattle.std.proofs.Common.{◌<◌, length, ap, refl, arith}
-use Rattle.si_resolve.specs.Aspects.{unparted_count}
+use Rattle.si_resolve.specs.Loops.Aspects.{unparted_count}
 use Rattle.si_resolve.specs.declared.aspects.Aspect.{Aspect}
 use Rattle.si_resolve.proofs.AspectLemmas.{unparted_few}
 use Rattle.si_resolve.proofs.aspects.Column.leaves_below.Goals as goal

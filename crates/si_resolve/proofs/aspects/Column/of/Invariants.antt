@@ -1,6 +1,6 @@
 use Rattle.std.proofs.Common.{◌≡◌, map, take}
 use Rattle.si_conflicts.specs.Conflicts.{pairs_of}
-use Rattle.si_resolve.specs.Aspects.{aspect_of}
+use Rattle.si_resolve.specs.Loops.Aspects.{aspect_of}
 use Rattle.si_resolve.proofs.aspects.Column.of.Given as goal
 
 abbrev pub invariant-loop-pair : goal.invariant-loop-pair

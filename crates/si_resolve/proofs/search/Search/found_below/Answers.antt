@@ -1,6 +1,6 @@
 use Rattle.std.proofs.Common.{ℕ, subst}
 use Rattle.si_candidates.specs.Parts.{AreClasses}
-use Rattle.si_resolve.specs.Progress.{LeavesNoneBelow}
+use Rattle.si_resolve.specs.Loops.Progress.{LeavesNoneBelow}
 use Rattle.si_resolve.proofs.SearchLemmas.{at_blocks, none_is, one_leaves_none, some_is}
 use Rattle.si_resolve.proofs.search.Search.found_below.Goals as goal
 

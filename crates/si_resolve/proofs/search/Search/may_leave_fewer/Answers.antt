@@ -1,5 +1,5 @@
 use Rattle.std.proofs.Common.{subst}
-use Rattle.si_resolve.specs.Progress.{LeavesNoneBelow}
+use Rattle.si_resolve.specs.Loops.Progress.{LeavesNoneBelow}
 use Rattle.si_resolve.proofs.SearchLemmas.{told_leave_none}
 use Rattle.si_resolve.proofs.search.Search.may_leave_fewer.Goals as goal
 

@@ -1,7 +1,7 @@
 use Rattle.std.proofs.Common.{◌≤◌, ◌∙◌, ℕ, arith, sym, inl, inr}
 use Rattle.std.proofs.lemmas.Bool.{cases_lt, true≢false}
-use Rattle.si_resolve.specs.Aspects.{column_at, unparted_count}
-use Rattle.si_resolve.specs.Progress.{bar_of}
+use Rattle.si_resolve.specs.Loops.Aspects.{column_at, unparted_count}
+use Rattle.si_resolve.specs.Loops.Progress.{bar_of}
 use Rattle.si_resolve.proofs.SearchLemmas.{none_by_aspects, one_flag, other_flag, same_lengths}
 use Rattle.si_resolve.proofs.search.Search.may_part.Goals as goal
 

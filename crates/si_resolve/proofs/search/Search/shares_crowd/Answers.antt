@@ -1,5 +1,5 @@
 use Rattle.std.proofs.Common.{arith, subst}
-use Rattle.si_resolve.specs.Progress.{NoneIsBelow}
+use Rattle.si_resolve.specs.Loops.Progress.{NoneIsBelow}
 use Rattle.si_resolve.proofs.SearchLemmas.{none_by_crowd}
 use Rattle.si_resolve.proofs.search.Search.shares_crowd.Goals as goal
 

@@ -1,6 +1,6 @@
 use Rattle.std.proofs.Common.{◌+◌, ◌<◌, length, refl, subst, sym, arith}
 use Rattle.si_candidates.specs.Blocks.{block_at}
-use Rattle.si_resolve.specs.Progress.{AreAccepted, IsSearching, LeavesBelow, LeavesNoneBelow, bar_of}
+use Rattle.si_resolve.specs.Loops.Progress.{AreAccepted, IsSearching, LeavesBelow, LeavesNoneBelow, bar_of}
 use Rattle.si_resolve.specs.declared.search.Search.{Search}
 use Rattle.si_resolve.proofs.SearchLemmas.{at_blocks, block_size, candidate_accepted, candidate_choice, choice_at}
 use Rattle.si_resolve.proofs.SearchLemmas.{keep, none_by_left, none_is, sided_at, skip, some_is}

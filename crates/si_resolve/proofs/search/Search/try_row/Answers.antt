@@ -1,5 +1,5 @@
 use Rattle.std.proofs.Common.{◌≡◌, ◌∙◌, sym, subst, arith}
-use Rattle.si_resolve.specs.Progress.{IsSearching}
+use Rattle.si_resolve.specs.Loops.Progress.{IsSearching}
 use Rattle.si_resolve.proofs.SearchLemmas.{end_row, none_by_later, not_usable, skip_row}
 use Rattle.si_resolve.proofs.search.Search.try_row.Goals as goal
 

@@ -1,5 +1,5 @@
 use Rattle.std.proofs.Common.{◌≡◌}
-use Rattle.si_resolve.specs.Progress.{IsSearching}
+use Rattle.si_resolve.specs.Loops.Progress.{IsSearching}
 use Rattle.si_resolve.proofs.search.Search.try_row.Given as goal
 
 abbrev pub invariant-loop-i : goal.invariant-loop-i

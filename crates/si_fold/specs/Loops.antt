@@ -1,0 +1,5 @@
+-- What the parts of a computation keep: for the proofs of the code, and in no promise of a run.
+pub mod Partition
+pub mod Refined
+pub mod Numbered
+pub mod Refines

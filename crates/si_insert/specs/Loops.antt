@@ -1,0 +1,5 @@
+-- What the parts of a computation keep: for the proofs of the code, and in no promise of a run.
+pub mod Tests
+pub mod Pairs
+pub mod Applied
+pub mod RowSearch

@@ -1,0 +1,87 @@
+-- Of the first conflicts those to whose states input events alone lead from one state.
+use Rattle.std.proofs.Common.{◌≡◌, ℕ, ◌+◌, ◌<◌, ◌≤◌, List, [], ◌∷◌, ◌++◌, length, get_or, Contains, Option, Some, None, map}
+use Rattle.std.proofs.Common.{Bool, true, false, is_some, option_map, refl, sym, ap, subst, ◌∙◌, arith}
+use Rattle.std.proofs.lemmas.Bool.{true≢false}
+use Rattle.std.proofs.lemmas.List.{get_or-map, length-map, map-append}
+use Rattle.si_base.specs.Codes.{CodedGraph}
+use Rattle.si_base.specs.Order.{Before}
+use Rattle.si_base.specs.Proper.{IsConflict, pair_place}
+use Rattle.si_conflicts.specs.declared.conflicts.Pair.{Pair}
+use Rattle.si_conflicts.specs.Conflicts.{AreFirstConflicts, pairs_of}
+use Rattle.si_conflicts.proofs.OneConflictList.{first_unique}
+use Rattle.si_graph.proofs.ListMembers.{Contains-map, Contains-from_map}
+use Rattle.si_lint.specs.Findings.{IsUnresolvable, max_looked_at}
+use Rattle.si_lint.specs.Loops.Search.{Adds}
+use Rattle.si_lint.proofs.Alls.{adds_none, adds_one}
+use Rattle.si_walks.specs.declared.witness.Witness.{Witness}
+use Rattle.si_walks.specs.Joined.{IsSourceOrNone, IsJoinedConflict, source_of}
+
+abbrev pub As : Pair → ℕ × ℕ
+As x = (x.p, x.q)
+
+abbrev pub IsOf : Pair → ℕ × ℕ → Type 0
+IsOf x pair = As x ≡ pair
+
+-- a pair that is put last
+pub pushed_pair : (old new : List Pair) (x : Pair) → new ≡ old ++ x ∷ [] → pairs_of new ≡ pairs_of old ++ As x ∷ []
+pushed_pair old new x is = ap pairs_of is ∙ map-append As old (x ∷ [])
+
+module _ (c : CodedGraph) (pairs : List Pair) (first : AreFirstConflicts c max_looked_at (pairs_of pairs)) where
+  pub pairs_order : (i j : ℕ) (d : Pair) → i < j → j < length pairs → (x y : ℕ × ℕ) → IsUnresolvable c x
+      → IsUnresolvable c y → IsOf (get_or pairs i d) x → IsOf (get_or pairs j d) y
+      → Before (pair_place x) (pair_place y)
+  pairs_order i j d before within x y p q one other =
+      let size = length-map pairs As in
+      let is_x : get_or (pairs_of pairs) i (As d) ≡ x = get_or-map As pairs i d (As d) (omega arith) ∙ one in
+      let is_y : get_or (pairs_of pairs) j (As d) ≡ y = get_or-map As pairs j d (As d) within ∙ other in
+      let less = first.in_order i j (As d) before (omega (arith, size)) in
+      subst (λ (v : ℕ × ℕ). Before (pair_place x) (pair_place v)) is_y
+      (subst (λ (u : ℕ × ℕ). Before (pair_place u) (pair_place (get_or (pairs_of pairs) j (As d)))) is_x less)
+
+  conflict_at : (k : ℕ) (x : Pair) → k < length pairs → x ≡ get_or pairs k x
+      → Contains (pairs_of pairs) (As x) × IsConflict c (As x)
+  conflict_at k x within at =
+      let there : Contains (pairs_of pairs) (As x) = Contains-map As pairs x (k, within, sym at) in
+      (there, first.each (As x) there)
+
+  pub pair_states : (k : ℕ) (x : Pair) → k < length pairs → x ≡ get_or pairs k x
+      → (x.p < c.graph.states) × (x.q < c.graph.states)
+  pair_states k x within at =
+      let is = (conflict_at k x within at).1 in (omega (arith, is.order, is.within), is.within)
+
+  -- what the search for a source tells
+  pub unresolvable_here : (k : ℕ) (x : Pair) (w : Option Witness) (old new : List (ℕ × ℕ)) (told : Bool)
+      → k < length pairs → x ≡ get_or pairs k x → IsSourceOrNone c (As x) (option_map source_of w) → told ≡ is_some w
+      → told ≡ true → new ≡ old ++ As x ∷ [] → Adds pair_place (λ pair. IsUnresolvable c pair × IsOf x pair) old new
+  unresolvable_here k x None old new told within at is tells yes_told pushed =
+      absurd (true≢false (sym yes_told ∙ tells))
+  unresolvable_here k x (Some y) old new told within at is tells yes_told pushed =
+      let there = conflict_at k x within at in
+      let source = source_of y in
+      let joined : IsJoinedConflict c (As x) = record {
+        conflict = there.1;
+        source = source.state;
+        to_first = (source.first, is.is_first.holds.to_first);
+        to_second = (source.second, is.is_first.holds.to_second);
+      } in
+      adds_one pair_place (λ pair. IsUnresolvable c pair × IsOf x pair) old new (As x)
+      (record { joined = joined; looked_at = pairs_of pairs; first = first; among = there.0 }, refl)
+      (λ pair also. also.1) pushed
+
+  pub unresolvable_pass : (x : Pair) (w : Option Witness) (old : List (ℕ × ℕ)) (told : Bool)
+      → IsSourceOrNone c (As x) (option_map source_of w) → told ≡ is_some w → told ≡ false
+      → Adds pair_place (λ pair. IsUnresolvable c pair × IsOf x pair) old old
+  unresolvable_pass x (Some y) old told is tells not_told = absurd (true≢false (sym tells ∙ not_told))
+  unresolvable_pass x None old told is tells not_told =
+      adds_none pair_place (λ pair. IsUnresolvable c pair × IsOf x pair) old none
+    where
+      none : (pair : ℕ × ℕ) → IsUnresolvable c pair × IsOf x pair → ⊥
+      none pair (also, at) =
+          let joined : IsJoinedConflict c (As x) = subst (IsJoinedConflict c) (sym at) also.joined in
+          is (record { state = joined.source; first = joined.to_first.0; second = joined.to_second.0 })
+          (record { to_first = joined.to_first.1; to_second = joined.to_second.1 })
+
+  pub unresolvable_each : (pair : ℕ × ℕ) → IsUnresolvable c pair → (x : Pair) × Contains pairs x × IsOf x pair
+  unresolvable_each pair is =
+      let same = first_unique c max_looked_at is.looked_at (pairs_of pairs) is.first first in
+      Contains-from_map As pairs pair (subst (λ (l : List (ℕ × ℕ)). Contains l pair) same is.among)

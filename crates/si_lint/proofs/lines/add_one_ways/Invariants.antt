@@ -1,0 +1,8 @@
+use Rattle.std.proofs.Common.{map, take}
+use Rattle.si_lint.specs.LintText.{one_way_line}
+use Rattle.si_lint.specs.Loops.Lines.{AddsLines}
+use Rattle.si_lint.proofs.lines.add_one_ways.Given as goal
+
+abbrev pub invariant-loop-arc : goal.invariant-loop-arc
+invariant-loop-arc l = AddsLines l.coded.graph
+    (λ walk. map (one_way_line l.coded.graph.signals l.states walk) (take l.arc-index l.first)) l.initial.text l.text

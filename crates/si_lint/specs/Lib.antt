@@ -1,0 +1,5 @@
+pub mod All
+pub mod Findings
+pub mod LintText
+pub mod Laws
+pub mod Loops

@@ -1,0 +1,4 @@
+pub mod Arcs
+pub mod LoopsText
+pub mod Laws
+pub mod Loops

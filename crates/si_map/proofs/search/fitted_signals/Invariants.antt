@@ -1,6 +1,0 @@
-use Rattle.si_checks.specs.Lent.{coded_of}
-use Rattle.si_map.proofs.SearchFitted.{AreFittedBefore}
-use Rattle.si_map.proofs.search.fitted_signals.Given as goal
-
-abbrev pub invariant-loop-i : goal.invariant-loop-i
-invariant-loop-i l = AreFittedBefore (coded_of l.fn.graph) l.library l.i l.fitted

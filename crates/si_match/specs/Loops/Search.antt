@@ -1,0 +1,29 @@
+-- The search for literals, pin after pin.
+use Rattle.std.specs.Prelude.{◌≡◌, ℕ, ◌<◌, ◌≤◌, ◌++◌, false, List, Option, length, All}
+use Rattle.si_base.specs.Bits.{bit}
+use Rattle.si_base.specs.Codes.{CodedGraph}
+use Rattle.si_base.specs.declared.ids.Literal.{Literal}
+use Rattle.si_cell.specs.Library.{Cell}
+use Rattle.si_match.specs.Fit.{suits, fits, first_that, lists_of, literals_of_signals}
+
+-- of the literals at the first pins, the first completion by so many more that fits z
+abbrev pub first_completion : CodedGraph → ℕ → Cell → List Literal → ℕ → Option (List Literal)
+first_completion c z cell literals more =
+    first_that (λ rest. fits c z cell (literals ++ rest))
+    (lists_of more (literals_of_signals (length c.graph.signals)))
+
+-- at the state no completion by so many more has the next value of z
+abbrev pub IsRefutedAt : CodedGraph → ℕ → Cell → List Literal → ℕ → ℕ × ℕ → Type 0
+IsRefutedAt c z cell literals more s =
+    (rest : List Literal) → length rest ≡ more → suits c z cell (literals ++ rest) s ≡ false
+
+-- no completion by so many more literals of the graph's signals fits z
+abbrev pub IsRefuted : CodedGraph → ℕ → Cell → List Literal → ℕ → Type 0
+IsRefuted c z cell literals more =
+    (rest : List Literal) → length rest ≡ more → All (λ l. l.sig < length c.graph.signals) rest
+    → fits c z cell (literals ++ rest) ≡ false
+
+-- the codes have the same value for each signal, but for those from the first of these on, up to
+-- the second
+abbrev pub AgreeOutside : ℕ → ℕ → ℕ → ℕ → Type 0
+AgreeOutside from to code other = (j : ℕ) → (from ≤ j → j < to → ⊥) → bit other j ≡ bit code j

@@ -1,0 +1,6 @@
+-- What the parts of a computation keep: for the proofs of the code, and in no promise of a run.
+pub mod Search
+pub mod Aspects
+pub mod Sharing
+pub mod Usable
+pub mod Progress

@@ -1,0 +1,13 @@
+pub mod WalkOrder
+pub mod ForestLemmas
+pub mod TiedLemmas
+pub mod SearchFirst
+pub mod SearchSteps
+pub mod ApartLemmas
+pub mod PairLemmas
+pub mod AlikeWalks
+pub mod SearchDecided
+pub mod ServesBoth
+pub mod AlikeEquivalence
+pub mod SearchTurns
+pub mod FoldedSizes

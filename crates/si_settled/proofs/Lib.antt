@@ -1,0 +1,10 @@
+pub mod Rounding
+pub mod Showing
+pub mod Turns
+pub mod Forcing
+pub mod DecidingForced
+pub mod Examples
+pub mod CodeLemmas
+pub mod CubeLemmas
+pub mod ForcedLemmas
+pub mod TextLemmas

@@ -1,0 +1,4 @@
+pub mod Settling
+pub mod ResetText
+pub mod Laws
+pub mod Loops

@@ -1,0 +1,121 @@
+-- What a run of `synth` or `map` that is done puts on `out`: a netlist that implements the graph of its file.
+use Rattle.std.proofs.Common.{◌≡◌, ℕ, List, [], ◌∷◌, Ok, String, Global, refl, subst, ◌∙◌, inl, inr}
+use Rattle.si_base.specs.Codes.{CodedGraph}
+use Rattle.si_base.specs.GivenGraph.{Sg}
+use Rattle.si_base.specs.System.{IsFor}
+use Rattle.si_circuit.specs.declared.style.Style.{Style}
+use Rattle.si_circuit.specs.declared.style.Style.TheVariants.{Complex, GeneralisedC}
+use Rattle.si_insert.specs.Lineage.{History}
+use Rattle.si_io.specs.Outside.{Appends, IsContent}
+use Rattle.si_readings.specs.Checks.{IsSound, proper}
+use Rattle.si_readings.specs.Readings.{graph_in, mapping_readings}
+use Rattle.si_readings.specs.declared.library_format.LibraryFormat.{LibraryFormat}
+use Rattle.si_readings.specs.declared.library_format.LibraryFormat.TheVariants.{Own, Genlib}
+use Rattle.si_readings.proofs.ReadingLemmas.{mapping_readings_are}
+use Rattle.si_readings.proofs.StageLemmas.{passed}
+use Rattle.si_refusals.specs.Stages.{gives}
+use Rattle.si_refusals.specs.declared.status.Status.{Status}
+use Rattle.si_refusals.specs.declared.status.Status.TheVariants as status
+use Rattle.si_sg.specs.GivenGraph.{IsGivenBy}
+use Rattle.si_stages.specs.Mapping.{cells_text}
+use Rattle.si_stages.specs.Meaning.{mapping, synth}
+use Rattle.si_stages.specs.Resolving.{lineage_of, resolution}
+use Rattle.si_stages.specs.Synthesis.{synthesis}
+use Rattle.si_stages.specs.Written.{IsWritten}
+use Rattle.si_tool.specs.Command.{Request, words_of}
+use Rattle.si_tool.specs.Loads.{Contents, Counts, load, loads}
+use Rattle.si_tool.specs.Meaning.{meaning}
+use Rattle.si_tool.specs.Run.{SinkChange, Ends}
+use Rattle.si_tool.specs.Theorem.{AskForNetlist, ImplementsText, PutsNetlist}
+use Rattle.si_tool.specs.declared.command.Task.TheVariants.{Map, Synth}
+use Rattle.si_tool.proofs.RunOutputs.{puts_output}
+
+-- ---- over texts
+written : (given : Sg) (l : History) (coded : CodedGraph) (text output : List ℕ) → IsGivenBy text given
+    → IsSound given.graph coded → l.given ≡ coded → IsWritten given l output → ImplementsText text output
+written given l coded text output is sound same made = record {
+  given = given;
+  is_given = is;
+  netlist = made.netlist;
+  is_netlist = made.is_netlist;
+  output_is = made.text_is;
+  model_is = made.model_is;
+  coded = coded;
+  is_coded = sound.coded_is;
+  graph_is = sound.same_graph;
+  is_for = subst (λ (c : CodedGraph). IsFor c made.netlist) same made.is_for;
+  implements = made.implements;
+}
+
+synth_implements : (style : Style) (file text output : List ℕ) → synth style file text (Ok output)
+    → ImplementsText text output
+synth_implements style file text output comes =
+    let (given, is, later) = passed (graph_in file text) _ output comes in
+    let (l, resolves, told) = passed (resolution given.graph given.states) (synthesis style given) output later in
+    let (coded, sound, ends) = passed (proper given.graph given.states) (λ c. lineage_of c given.states) l resolves in
+    written given l coded text output is sound ends.given_is told.written
+
+map_implements : (format : LibraryFormat) (g text n library output : List ℕ)
+    → mapping format g text n library (Ok output) → ImplementsText text output
+map_implements format g text n library output comes =
+    let (readings, read, later) = passed (mapping_readings format g text n library) _ output comes in
+    let given = readings.given in
+    let is = (mapping_readings_are format g text n library readings read).given in
+    let (l, resolves, told) = passed (resolution given.graph given.states) (cells_text readings.library given) output
+    later in
+    let (coded, sound, ends) = passed (proper given.graph given.states) (λ c. lineage_of c given.states) l resolves in
+    written given told.lineage coded text output is sound (told.maps.goes.given_stays ∙ ends.given_is) told.written
+
+-- ---- over a run
+module _ (content : Contents) (before now : Counts) (file : List ℕ) (out : SinkChange) (output : List ℕ)
+    (done : Appends out.old output out.new) where
+  -- what stands on `out` for the text of the first file
+  first_put : (files : List (List ℕ)) (text : List ℕ) (texts : List (List ℕ))
+      → loads content before now (file ∷ files) (Ok (text ∷ texts)) → ImplementsText text output
+      → PutsNetlist (content file) out.old out.new
+  first_put files text texts loaded implements =
+      let (first, one, later) = passed (load content before now file) _ (text ∷ texts) loaded in
+      let (rest, others, same) = passed (loads content before now files) (λ ys. gives (first ∷ ys)) (text ∷ texts) later in
+      let same_first : first ≡ text = cc in record {
+        text = text;
+        read = subst (λ (x : List ℕ). IsContent (content file) x) same_first one.0;
+        output = output;
+        implements = implements;
+        written = done;
+      }
+
+  of_synth : (style : Style) (texts : List (List ℕ)) → loads content before now (file ∷ []) (Ok texts)
+      → meaning (Synth style) (file ∷ []) texts (Ok output) → PutsNetlist (content file) out.old out.new
+  of_synth style [] loaded means = absurd means
+  of_synth style (text ∷ []) loaded means = first_put [] text [] loaded (synth_implements style file text output means)
+  of_synth style (text ∷ other ∷ texts) loaded means = absurd means
+
+  of_map : (format : LibraryFormat) (library : List ℕ) (texts : List (List ℕ))
+      → loads content before now (file ∷ library ∷ []) (Ok texts)
+      → meaning (Map format) (file ∷ library ∷ []) texts (Ok output) → PutsNetlist (content file) out.old out.new
+  of_map format library [] loaded means = absurd means
+  of_map format library (text ∷ []) loaded means = absurd means
+  of_map format library (text ∷ cells ∷ []) loaded means =
+      first_put (library ∷ []) text (cells ∷ []) loaded (map_implements format file text library cells output means)
+  of_map format library (text ∷ cells ∷ other ∷ texts) loaded means = absurd means
+
+module _ (words : List (String Global)) (content : Contents) (before now : Counts) (out err : SinkChange)
+    (result : Status) where
+  pub netlist_put : (file : List ℕ) → Ends words (loads content before now) out err result → result ≡ status.Done
+      → AskForNetlist file (words_of words) → PutsNetlist (content file) out.old out.new
+  netlist_put file ends is (inl asks) =
+      let asked : Request = record { task = Synth Complex; files = file ∷ [] } in
+      let puts = puts_output words content before now out err result asked (asks, refl) ends is in
+      of_synth content before now file out puts.output puts.written Complex puts.texts puts.loaded puts.means
+  netlist_put file ends is (inr (inl asks)) =
+      let asked : Request = record { task = Synth GeneralisedC; files = file ∷ [] } in
+      let puts = puts_output words content before now out err result asked (asks, refl) ends is in
+      of_synth content before now file out puts.output puts.written GeneralisedC puts.texts puts.loaded puts.means
+  netlist_put file ends is (inr (inr (inl (library, asks)))) =
+      let asked : Request = record { task = Map Own; files = file ∷ library ∷ [] } in
+      let puts = puts_output words content before now out err result asked (asks, refl) ends is in
+      of_map content before now file out puts.output puts.written Own library puts.texts puts.loaded puts.means
+  netlist_put file ends is (inr (inr (inr (library, asks)))) =
+      let asked : Request = record { task = Map Genlib; files = file ∷ library ∷ [] } in
+      let puts = puts_output words content before now out err result asked (asks, refl) ends is in
+      of_map content before now file out puts.output puts.written Genlib library puts.texts puts.loaded puts.means
