@@ -1,5 +1,5 @@
 -- Two texts of graphs come to one answer: the graphs behave alike, or have a first difference.
-use Rattle.std.proofs.Common.{◌≡◌, ℕ, ◌<◌, Bool, List, [], ◌∷◌, length, All, Option, Some, None}
+use Rattle.std.proofs.Common.{◌≡◌, ℕ, ◌<◌, List, [], ◌∷◌, length, All, Option, Some, None}
 use Rattle.std.proofs.Common.{Ok, Err, refl, sym, ap, ap₂, subst, ◌∙◌, inl, inr}
 use Rattle.std.proofs.lemmas.Bool.{cases_Bool}
 use Rattle.std.proofs.lemmas.List.Elements.{All-nil, All-cons}
@@ -26,15 +26,16 @@ use Rattle.si_readings.proofs.CheckLemmas.{proper_one, match_graphs_one}
 use Rattle.si_readings.proofs.ReadingLemmas.{graph_readings_are, graph_readings_one, graph_readings_some}
 use Rattle.si_readings.proofs.ReadingsExist.{proper_some, match_graphs_some}
 use Rattle.si_readings.proofs.StageLemmas.{passed, then_one, then_some}
-use Rattle.si_same.specs.Same.{Difference, Differ, IsFirstDifferenceOrNone}
+use Rattle.si_same.specs.Same.{BehaveAlike, Difference, Differ, IsFirstDifferenceOrNone}
 use Rattle.si_same.proofs.AlikeWalks.{no_difference, one_difference}
+use Rattle.si_same.proofs.FoldedSizes.{folded_sizes}
 use Rattle.si_same.proofs.SearchDecided.{some_answer}
 use Rattle.si_same.proofs.SearchSteps.{walk_within}
 use Rattle.si_same.specs.Laws.{AreAlikeFromStart}
 use Rattle.si_same.proofs.ServesBoth.{serves_both}
 use Rattle.si_likeness.specs.Same.{ServesBoth}
 use Rattle.si_system.specs.Lists.{StartAlike}
-use Rattle.si_likeness.specs.Same.{HasFolded, TellsSame, TellsUnlike, likeness, likeness_of, same, same_text, unlike_by}
+use Rattle.si_likeness.specs.Same.{HasFolded, TellsSame, likeness, same, same_text, unlike_by}
 
 -- ---- a folded graph has one size
 one_size : (c : CodedGraph) (m n : ℕ) → IsCoded c → HasFolded c m → HasFolded c n → m ≡ n
@@ -48,6 +49,14 @@ some_size c is =
       folded.2.graph.states,
       record { kept = folded.0; class = folded.1; folded = folded.2; is = folded.3; count_is = refl },
     )
+
+-- the folded graphs of two graphs that behave alike have one size
+pub other_size : (c d : CodedGraph) (n : ℕ) → IsCoded c → IsCoded d → AreAlikeFromStart c d → HasFolded c n
+    → HasFolded d n
+other_size c d n is_c is_d alike one =
+    let other = some_folded d is_d in
+    let sizes = folded_sizes c d one.kept one.class one.folded other.0 other.1 other.2 is_c is_d alike one.is other.3 in
+    record { kept = other.0; class = other.1; folded = other.2; is = other.3; count_is = one.count_is ∙ sizes }
 
 -- ---- one answer on two graphs
 module _ (one other : List ℕ) (one_states other_states : List (List ℕ)) (c d : CodedGraph) (is_c : IsCoded c)
@@ -166,6 +175,14 @@ same_start c d is_c is_d same = same_codes (code c c.graph.start) (code d d.grap
           ∙ sym (beyond d is_d z (subst (λ (xs : List Signal). length xs ≤ z) (sym same.signals) above))
     ]
 
+pub from_start : (c d : CodedGraph) → IsCoded c → IsCoded d → StartAlike c d → BehaveAlike c.graph d.graph
+    → AreAlikeFromStart c d
+from_start c d is_c is_d lists alike = record {
+  signals = sym lists.signals;
+  start_code = same_start c d is_c is_d lists;
+  alike = alike;
+}
+
 implements_both : (c d : CodedGraph) (n : Netlist) → BehavesAlike c d n → Implements n c.graph ↔ Implements n d.graph
 implements_both c d n both = (
   λ is. record {
@@ -191,11 +208,7 @@ output_serves f a g b output comes =
     let d : CodedGraph = other.0 in
     let lists = passed (match_graphs g c d) _ output other.2 in
     let told : TellsSame c d output = lists.2 in
-    let alike : AreAlikeFromStart c d = record {
-      signals = sym lists.1.signals;
-      start_code = same_start c d one.1.coded_is other.1.coded_is lists.1;
-      alike = told.alike;
-    } in
+    let alike = from_start c d one.1.coded_is other.1.coded_is lists.1 told.alike in
     record {
       one = readings.one;
       other = readings.other;

@@ -6,7 +6,8 @@ ghost use Rattle.si_base.specs.Words.{line};
 ghost use Rattle.si_readings.specs.Checks.{IsNamed};
 ghost use Rattle.si_refusals.specs.Ending.{Answered, MayStop, ending_of};
 ghost use Rattle.si_refusals.specs.Refusal.{TextRefused};
-ghost use Rattle.si_same.specs.Same.{BehaveAlike, difference_of};
+ghost use Rattle.si_same.specs.Laws.{AreAlikeFromStart};
+ghost use Rattle.si_same.specs.Same.{difference_of};
 ghost use Rattle.si_sg.specs.CanonicalText.{event_word as word_of_event};
 ghost use Rattle.si_likeness.specs.Same as meaning;
 ghost use Rattle.si_likeness.specs.Same.{HasFolded, ServesBoth, TellsSame, sizes_line};
@@ -119,18 +120,18 @@ fn likeness<'w>(
 {
     let graph = one.coded().graph();
     let _other = other.coded().graph();
-    let Some(found) = first_difference(alloc, one.coded(), other.coded())? else {
-        return Ok(sizes_of(alloc, one, other)?);
-    };
-    Err(unlike(
-        alloc,
-        one_file,
-        other_file,
-        graph,
-        one_states,
-        other_states,
-        &found,
-    )?)
+    match first_difference(alloc, one.coded(), other.coded())? {
+        None => Ok(sizes_of(alloc, one, other)?),
+        Some(found) => Err(unlike(
+            alloc,
+            one_file,
+            other_file,
+            graph,
+            one_states,
+            other_states,
+            &found,
+        )?),
+    }
 }
 
 /// The refusal that shows a difference of two graphs by the names of their states.
@@ -179,16 +180,16 @@ fn event_words(alloc: Global, signals: &[Signal], events: &[Event]) -> Result<Na
     Ok(words)
 }
 
-/// That two graphs behave alike, with their sizes.
+/// That two graphs behave alike, with their sizes. Only the one is folded, since the other has as
+/// many states when it is folded.
 fn sizes_of(alloc: Global, one: &Proper, other: &Proper) -> Result<Text, NoMemory>
-    requires { BehaveAlike one.now.graph other.now.graph }
+    requires { AreAlikeFromStart one.now other.now }
     ensures { IfOk result (TellsSame one.now other.now) }
 {
-    let one_folded = folded_states(alloc, one)?;
-    let other_folded = folded_states(alloc, other)?;
+    let folded = folded_states(alloc, one)?;
     let one_states = one.coded().graph().states();
     let other_states = other.coded().graph().states();
-    same_text(alloc, one_states, one_folded, other_states, other_folded)
+    same_text(alloc, one_states, folded, other_states, folded)
 }
 
 /// The lines of the sizes of two graphs that behave alike.
