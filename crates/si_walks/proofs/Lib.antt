@@ -6,4 +6,6 @@ pub mod FirstWalks
 pub mod WalkSteps
 pub mod SourceLemmas
 pub mod Joined
+pub mod Twins
 pub mod Examples
+pub mod TwinExamples
