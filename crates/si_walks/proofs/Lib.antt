@@ -9,3 +9,4 @@ pub mod Joined
 pub mod Twins
 pub mod Examples
 pub mod TwinExamples
+pub mod TwinSearch

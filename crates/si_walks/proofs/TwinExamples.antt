@@ -46,18 +46,20 @@ conflict = record {
 stays : IsTwinConflict coded_pulse (3, 6)
 stays = record {
   conflict = conflict;
-  source = 0;
-  within = lit< tt;
-  moves = OfFirst (rise 0) ∷ OfFirst (fall 0) ∷ OfBoth (rise 1) ∷ [];
-  lead = (
-    1,
-    (a, refl, refl),
-    (0, lit< tt, refl),
-    (
-      2,
+  twins = record {
+    source = 0;
+    within = lit< tt;
+    moves = OfFirst (rise 0) ∷ OfFirst (fall 0) ∷ OfBoth (rise 1) ∷ [];
+    lead = (
+      1,
       (a, refl, refl),
-      (2, lit< tt, refl),
-      (3, 6, refl, (o, refl, refl), (4, lit< tt, refl), (1, lit< tt, refl), (refl, refl)),
-    ),
-  );
+      (0, lit< tt, refl),
+      (
+        2,
+        (a, refl, refl),
+        (2, lit< tt, refl),
+        (3, 6, refl, (o, refl, refl), (4, lit< tt, refl), (1, lit< tt, refl), (refl, refl)),
+      ),
+    );
+  };
 }

@@ -138,10 +138,11 @@ pub never_resolved : (given : CodedGraph) (trace : List TraceStep) (v : Current)
 never_resolved given trace v pair lineage c none =
     let is = lineage.coded in
     let kept = keeps given trace v lineage in
-    let copy = has_copy given v c.source is kept c.within in
-    let alike : AreLike given v copy.0 copy.0 c.source c.source =
+    let t = c.twins in
+    let copy = has_copy given v t.source is kept t.within in
+    let alike : AreLike given v copy.0 copy.0 t.source t.source =
     record { one = copy.1; other = copy.1; new = λ a above. refl } in
-    let on = led given v c.moves copy.0 copy.0 c.source c.source pair.0 pair.1 is kept none alike c.lead in
+    let on = led given v t.moves copy.0 copy.0 t.source t.source pair.0 pair.1 is kept none alike t.lead in
     let twins = as_twins given v on.0 on.1 pair.0 pair.1 kept on.2 c.conflict.same_code in
     let found =
     twins_conflict given v on.0 on.1 pair.0 pair.1 c.conflict.event kept twins c.conflict.non_input c.conflict.differ
@@ -173,9 +174,11 @@ pub joined_is_twin : (c : CodedGraph) (pair : ℕ × ℕ) → IsGraph c.graph �
     → IsTwinConflict c pair
 joined_is_twin c pair is joined = record {
   conflict = joined.conflict;
-  source = joined.source;
-  within = starts_within c.graph joined.source joined.to_second.0 pair.1 is joined.to_second.1 joined.conflict.within;
-  moves = firsts joined.to_first.0 (seconds joined.to_second.0);
-  lead = lead_first c joined.source joined.to_first.0 pair.0 joined.source pair.0 pair.1 (seconds joined.to_second.0)
-      joined.to_first.1 (lead_second c pair.0 joined.source joined.to_second.0 pair.1 joined.to_second.1);
+  twins = record {
+    source = joined.source;
+    within = starts_within c.graph joined.source joined.to_second.0 pair.1 is joined.to_second.1 joined.conflict.within;
+    moves = firsts joined.to_first.0 (seconds joined.to_second.0);
+    lead = lead_first c joined.source joined.to_first.0 pair.0 joined.source pair.0 pair.1 (seconds joined.to_second.0)
+        joined.to_first.1 (lead_second c pair.0 joined.source joined.to_second.0 pair.1 joined.to_second.1);
+  };
 }
