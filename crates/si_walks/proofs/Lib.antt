@@ -10,3 +10,4 @@ pub mod Twins
 pub mod Examples
 pub mod TwinExamples
 pub mod TwinSearch
+pub mod TwinsDecided
