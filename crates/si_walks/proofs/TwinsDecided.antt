@@ -1,9 +1,9 @@
 -- Whether two states are twins can be decided: some set has just the pairs of twins.
-use Rattle.std.proofs.Common.{◌≡◌, ℕ, zero, suc, ◌+◌, ◌*◌, ◌/◌, ◌%◌, ◌<◌, ◌≤◌, ◌⊎◌, Bool, true, false, not, cond, List, [], ◌∷◌}
-use Rattle.std.proofs.Common.{length, get_or, set, Contains, Option, Some, slice_get, slice_index_or, refl, sym, ap, subst, ◌∙◌, arith, inl, inr}
+use Rattle.std.proofs.Common.{◌≡◌, ℕ, zero, suc, ◌+◌, ◌*◌, ◌/◌, ◌%◌, ◌<◌, ◌≤◌, ◌⊎◌, Bool, true, false, not, cond, List, []}
+use Rattle.std.proofs.Common.{length, get_or, set, Contains, Some, slice_get, slice_index_or, refl, sym, ap, subst, ◌∙◌, arith, inl, inr}
 use Rattle.std.proofs.Common.{length-set}
 use Rattle.std.proofs.Math.ListN.{replicate}
-use Rattle.std.proofs.lemmas.Bool.{cases_Bool, cases_eq, cases_lt, cases_order, true≢false}
+use Rattle.std.proofs.lemmas.Bool.{cases_eq, cases_lt, cases_order}
 use Rattle.std.proofs.lemmas.List.{length-replicate}
 use Rattle.std.proofs.lemmas.List.Sums.{sum_by-set}
 use Rattle.std.proofs.lemmas.Option.{slice_get-get_or, slice_get_within, same_Some}
@@ -13,17 +13,16 @@ use Rattle.si_base.specs.declared.graph.Signal.{Signal}
 use Rattle.si_base.specs.declared.graph.SigKind.{SigKind}
 use Rattle.si_base.specs.declared.graph.SigKind.TheVariants.{Input, Output, Internal, Inserted}
 use Rattle.si_base.specs.Codes.{CodedGraph, IsCoded, code}
-use Rattle.si_base.specs.Graph.{StateGraph, Step, arc, is_driven}
+use Rattle.si_base.specs.Graph.{StateGraph, Step, arc}
 use Rattle.si_base.specs.Sets.{IsIn}
-use Rattle.si_base.proofs.StepCodes.{step_within}
 use Rattle.si_checks.proofs.SearchDecisions.{Decided, both, driven, equal_events, same_value, some_of}
 use Rattle.si_checks.proofs.SearchDecisions as decide
 use Rattle.si_graph.specs.Loops.Reach.{unmarked}
-use Rattle.si_graph.proofs.SearchLemmas.{Explores, in_below, in_cases, in_none, is_set, stays_in}
+use Rattle.si_graph.proofs.SearchLemmas.{in_cases, in_none, is_set, stays_in}
 use Rattle.si_insert.specs.Accepted.{IsInput}
 use Rattle.si_walks.specs.Twins.{AreTwinPairs, AreTwins, pair_number}
-use Rattle.si_walks.specs.Loops.TwinMoves.{BothMove, BothMoveBy, ByStep, FirstMoves, FirstMovesBy, IsDiagonal, MovesFrom}
-use Rattle.si_walks.specs.Loops.TwinMoves.{MovesPair, SecondMoves, SecondMovesBy}
+use Rattle.si_walks.specs.Loops.TwinMoves.{BothMoveBy, ByStep, FirstMovesBy, IsDiagonal, MovesFrom}
+use Rattle.si_walks.specs.Loops.TwinMoves.{MovesPair, SecondMovesBy}
 use Rattle.si_walks.proofs.TwinSearch.{ExploresTwins, IsOfTwins, all_twins, diagonal_of_twins, moved_on}
 use Rattle.si_walks.proofs.TwinSearch.{pair_below}
 
@@ -73,15 +72,15 @@ both_or_not g t e u l = elim (driven g.signals e.sig) [
   | inr input ↦ inr (λ found. input found.0)
   | inl drives ↦ elim (some_of Goes
       (λ a. both (cases_eq a.from t) (both (equal_events a.event e) (cases_eq l (pair_number g.states u a.to)))) g.edges) [
-    | inl (a, there, goes) ↦ inl (
-      drives,
-      a.to,
-      subst (λ (x : ℕ). Step g x e a.to) goes.0
-      (subst (λ (x : Event). Contains g.edges (arc a.from x a.to)) goes.1.0 there),
-      goes.1.1,
-    )
-    | inr none ↦ inr (λ (also, w, step, is). none (arc t e w, step, (refl, (refl, is))))
-  ]
+        | inl (a, there, goes) ↦ inl (
+          drives,
+          a.to,
+          subst (λ (x : ℕ). Step g x e a.to) goes.0
+              (subst (λ (x : Event). Contains g.edges (arc a.from x a.to)) goes.1.0 there),
+          goes.1.1,
+        )
+        | inr none ↦ inr (λ (also, w, step, is). none (arc t e w, step, (refl, (refl, is))))
+      ]
 ]
   where
     Goes : Edge → Type 0
@@ -194,11 +193,14 @@ module _ (c : CodedGraph) (is : IsCoded c) where
     no_more : (k : ℕ) → IsIn marks k → IsDiagonal n k
 
   diagonal : (m : ℕ) → m ≤ n → (marks : List Bool) × AreDiagonal m marks
-  diagonal zero few = (replicate (n * n) false, record {
-    size = length-replicate (n * n) false;
-    each = λ s below. absurd (omega (arith, below));
-    no_more = λ k there. absurd (in_none (n * n) k there);
-  })
+  diagonal zero few = (
+    replicate (n * n) false,
+    record {
+      size = length-replicate (n * n) false;
+      each = λ s below. absurd (omega (arith, below));
+      no_more = λ k there. absurd (in_none (n * n) k there);
+    },
+  )
   diagonal (suc m) few =
       let before = diagonal m (omega (arith, few)) in
       let marks = before.0 in
