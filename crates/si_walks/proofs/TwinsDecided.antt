@@ -3,7 +3,7 @@ use Rattle.std.proofs.Common.{◌≡◌, ℕ, zero, suc, ◌+◌, ◌*◌, ◌/�
 use Rattle.std.proofs.Common.{length, get_or, set, Contains, Some, slice_get, slice_index_or, refl, sym, ap, subst, ◌∙◌, arith, inl, inr}
 use Rattle.std.proofs.Common.{length-set}
 use Rattle.std.proofs.Math.ListN.{replicate}
-use Rattle.std.proofs.lemmas.Bool.{cases_eq, cases_lt, cases_order}
+use Rattle.std.proofs.lemmas.Bool.{cases_eq, cases_lt, cases_order, true≢false}
 use Rattle.std.proofs.lemmas.List.{length-replicate}
 use Rattle.std.proofs.lemmas.List.Sums.{sum_by-set}
 use Rattle.std.proofs.lemmas.Option.{slice_get-get_or, slice_get_within, same_Some}
@@ -20,7 +20,8 @@ use Rattle.si_checks.proofs.SearchDecisions as decide
 use Rattle.si_graph.specs.Loops.Reach.{unmarked}
 use Rattle.si_graph.proofs.SearchLemmas.{in_cases, in_none, is_set, stays_in}
 use Rattle.si_insert.specs.Accepted.{IsInput}
-use Rattle.si_walks.specs.Twins.{AreTwinPairs, AreTwins, pair_number}
+use Rattle.si_walks.specs.Twins.{AreTwinPairs, AreTwins, TellsTwins, max_twin_states, pair_number}
+use Rattle.si_base.proofs.Booleans.{same_if}
 use Rattle.si_walks.specs.Loops.TwinMoves.{BothMoveBy, ByStep, FirstMovesBy, IsDiagonal, MovesFrom}
 use Rattle.si_walks.specs.Loops.TwinMoves.{MovesPair, SecondMovesBy}
 use Rattle.si_walks.proofs.TwinSearch.{ExploresTwins, IsOfTwins, all_twins, diagonal_of_twins, moved_on}
@@ -101,6 +102,9 @@ moves_or_not c k l = from (k / c.graph.states) (k % c.graph.states)
         (both (cases_eq (code c s) (code c t)) (step_or_not g s (BothMoveBy g t) l (λ e u. both_or_not g t e u l))))
 
 -- ---- numbers
+at_most : (m n : ℕ) → Decided (m ≤ n)
+at_most m n = elim (cases_lt n m) [ inl above ↦ inr (λ few. absurd (omega (arith, above, few))) | inr few ↦ inl few ]
+
 some_below : (R : ℕ → Type 0) → ((k : ℕ) → Decided (R k)) → (n : ℕ) → Decided ((k : ℕ) × (k < n) × R k)
 some_below R decided zero = inr (λ (k, below, is). absurd (omega (arith, below)))
 some_below R decided (suc n) = elim (decided n) [
@@ -238,3 +242,13 @@ module _ (c : CodedGraph) (is : IsCoded c) where
         | inl there ↦ inl (tells.0 there)
         | inr out ↦ inr (λ twins. out (tells.1 twins))
       ]
+
+  pub some_told : (p q : ℕ) → p < n → q < n → (told : Bool) × TellsTwins c p q told
+  some_told p q first second = elim (both (at_most n max_twin_states) (twins_or_not p q first second)) [
+    | inl are ↦ (true, (λ told. are, λ told. refl))
+    | inr not_all ↦ (false, (λ told. absurd (true≢false (sym told)), λ are. absurd (not_all are)))
+  ]
+
+pub told_once : (c : CodedGraph) (p q : ℕ) (one other : Bool) → TellsTwins c p q one → TellsTwins c p q other
+    → one ≡ other
+told_once c p q one other tells also = same_if one other (λ told. also.1 (tells.0 told)) (λ told. tells.1 (also.0 told))
