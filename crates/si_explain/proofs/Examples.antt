@@ -1,9 +1,9 @@
 -- The explained conflict of a train of pulses, as a text.
-use Rattle.std.proofs.Common.{◌≡◌, ℕ, List, [], ◌∷◌, ◌++◌, Some, refl, codes, lit<}
+use Rattle.std.proofs.Common.{◌≡◌, ℕ, List, [], ◌∷◌, ◌++◌, Some, None, true, refl, codes, lit<}
 use Rattle.std.proofs.lemmas.Fmt.{decimal_digit}
 use Rattle.si_base.specs.Graph.{rise, fall}
 use Rattle.si_walks.proofs.Examples.{coded_train}
-use Rattle.si_explain.specs.ExplainText.{Explained, explain_text}
+use Rattle.si_explain.specs.ExplainText.{Explained, explain_text, tells_twins, twin_lines, twin_meaning}
 
 abbrev names : List (List ℕ)
 names = codes "s0" ∷ codes "s1" ∷ codes "s2" ∷ codes "s3" ∷ codes "s4" ∷ codes "s5" ∷ []
@@ -15,6 +15,7 @@ explained = record {
   to_first = [];
   to_second = rise 0 ∷ fall 0 ∷ [];
   source = Some (record { state = 0; first = []; second = rise 0 ∷ fall 0 ∷ [] });
+  twins = true;
 }
 
 told : explain_text coded_train names 1 (explained ∷ [])
@@ -27,3 +28,8 @@ told = rw (decimal_digit 1 (lit< tt)) refl
 none : explain_text coded_train names 0 [] ≡ codes "conflicts 0\n"
 unfolding explain_text
 none = rw (decimal_digit 0 (lit< tt)) refl
+
+-- two states that no inputs join, but that are twins
+twins_alone : twin_lines names (3, 5) (tells_twins None true)
+    ≡ (codes "unresolvable" ∷ codes "s3" ∷ codes "s5" ∷ twin_meaning ∷ []) ∷ []
+twins_alone = refl

@@ -1,6 +1,6 @@
 -- The lines of conflicts, one call after another.
 use Rattle.std.proofs.Common.{◌≡◌, ℕ, ◌+◌, ◌<◌, ◌≤◌, ◌∙◌, ◌++◌, List, [], ◌∷◌, take, flat_map, length, get_or, Contains}
-use Rattle.std.proofs.Common.{Some, refl, sym, ap, subst, arith, append_assoc, codes, decimal, inl, inr}
+use Rattle.std.proofs.Common.{Bool, true, false, true≢false, Some, refl, sym, ap, subst, arith, append_assoc, codes, decimal, inl, inr}
 use Rattle.std.proofs.lemmas.Grind.{flat_map-append}
 use Rattle.std.proofs.lemmas.List.{append-nil, map-append, take_more, take_all, get_or-map, length-map}
 use Rattle.std.proofs.lemmas.List.Elements.{Contains-push_cases}
@@ -16,6 +16,7 @@ use Rattle.si_walks.specs.Joined.{Source}
 use Rattle.si_explain.specs.ExplainText.{max_explained, enabled_events, Explained, IsExplained, events_line}
 use Rattle.si_explain.specs.ExplainText.{inputs_line}
 use Rattle.si_explain.specs.ExplainText.{meaning, source_lines, explained_lines, count_line, explain_text}
+use Rattle.si_explain.specs.ExplainText.{tells_twins, twin_lines, twin_meaning}
 use Rattle.si_explain.specs.ExplainText.{IsExplainText, Explains, ExplainsAll}
 
 -- ---- the lines of a source
@@ -33,13 +34,23 @@ source_by_calls text signals states p q x one other first second third d0 d1 e1 
     (line (inputs_line signals states x.state q x.second))
     (line (codes "unresolvable" ∷ state_at states p ∷ state_at states q ∷ meaning ∷ [])))
 
+-- ---- the line of twins
+pub twins_by_call : (text : List ℕ) (states : List (List ℕ)) (p q : ℕ) (told : Bool) (one other new : List ℕ)
+    → told ≡ true → one ≡ state_at states p → other ≡ state_at states q
+    → new ≡ text ++ line (codes "unresolvable" ∷ one ∷ other ∷ twin_meaning ∷ [])
+    → new ≡ text ++ text_of (twin_lines states (p, q) told)
+twins_by_call text states p q false one other new is d0 d1 e1 = absurd (true≢false (sym is))
+twins_by_call text states p q true one other new is d0 d1 e1 =
+    let told = line (codes "unresolvable" ∷ state_at states p ∷ state_at states q ∷ twin_meaning ∷ []) in
+    rw (e1, d0, d1) (ap (λ (t : List ℕ). text ++ t) (sym (append-nil told)))
+
 -- ---- the lines of a conflict
-seven : (text a b c d e f rest : List ℕ) → ((((((text ++ a) ++ b) ++ c) ++ d) ++ e) ++ f) ++ rest
-    ≡ text ++ (a ++ (b ++ (c ++ (d ++ (e ++ (f ++ rest))))))
-seven text a b c d e f rest = simp append_assoc
+eight : (text a b c d e f g rest : List ℕ) → (((((((text ++ a) ++ b) ++ c) ++ d) ++ e) ++ f) ++ g) ++ rest
+    ≡ text ++ (a ++ (b ++ (c ++ (d ++ (e ++ (f ++ (g ++ rest)))))))
+eight text a b c d e f g rest = simp append_assoc
 
 pub conflict_by_calls : (c : CodedGraph) (states : List (List ℕ)) (x : Explained)
-    (text one other first second third fourth fifth sixth last : List ℕ) → one ≡ state_at states x.pair.0
+    (text one other first second third fourth fifth sixth seventh last : List ℕ) → one ≡ state_at states x.pair.0
     → other ≡ state_at states x.pair.1 → first ≡ text ++ line (codes "conflict" ∷ one ∷ other ∷ [])
     → second ≡ first ++ line (codes "code" ∷ word_if_any (bits_from 0 c.graph.signals (code c x.pair.0)))
     → third ≡ second ++ line (events_line (codes "enables") c.graph.signals states x.pair.0
@@ -48,18 +59,25 @@ pub conflict_by_calls : (c : CodedGraph) (states : List (List ℕ)) (x : Explain
     (enabled_events c.graph x.pair.1))
     → fifth ≡ fourth ++ line (events_line (codes "walk") c.graph.signals states x.pair.0 x.to_first)
     → sixth ≡ fifth ++ line (events_line (codes "walk") c.graph.signals states x.pair.1 x.to_second)
-    → last ≡ sixth ++ text_of (source_lines c.graph.signals states x.pair x.source)
+    → seventh ≡ sixth ++ text_of (source_lines c.graph.signals states x.pair x.source)
+    → last ≡ seventh ++ text_of (twin_lines states x.pair (tells_twins x.source x.twins))
     → last ≡ text ++ text_of (explained_lines c states x)
-conflict_by_calls c states x text one other first second third fourth fifth sixth last d0 d1 e1 e2 e3 e4 e5 e6 e7 =
+conflict_by_calls c states x text one other first second third fourth fifth sixth seventh last
+    d0 d1 e1 e2 e3 e4 e5 e6 e7 e8 =
     let signals = c.graph.signals in
-    rw (e7, e6, e5, e4, e3, e2, e1, d0, d1) (seven text
-    (line (codes "conflict" ∷ state_at states x.pair.0 ∷ state_at states x.pair.1 ∷ []))
-    (line (codes "code" ∷ word_if_any (bits_from 0 signals (code c x.pair.0))))
-    (line (events_line (codes "enables") signals states x.pair.0 (enabled_events c.graph x.pair.0)))
-    (line (events_line (codes "enables") signals states x.pair.1 (enabled_events c.graph x.pair.1)))
-    (line (events_line (codes "walk") signals states x.pair.0 x.to_first))
-    (line (events_line (codes "walk") signals states x.pair.1 x.to_second))
-    (text_of (source_lines signals states x.pair x.source)))
+    let sources = source_lines signals states x.pair x.source in
+    let twins = twin_lines states x.pair (tells_twins x.source x.twins) in
+    let conflict = line (codes "conflict" ∷ state_at states x.pair.0 ∷ state_at states x.pair.1 ∷ []) in
+    let code_line = line (codes "code" ∷ word_if_any (bits_from 0 signals (code c x.pair.0))) in
+    let enables_first = line (events_line (codes "enables") signals states x.pair.0 (enabled_events c.graph x.pair.0)) in
+    let enables_second = line (events_line (codes "enables") signals states x.pair.1 (enabled_events c.graph x.pair.1)) in
+    let walk_first = line (events_line (codes "walk") signals states x.pair.0 x.to_first) in
+    let walk_second = line (events_line (codes "walk") signals states x.pair.1 x.to_second) in
+    rw (e8, e7, e6, e5, e4, e3, e2, e1, d0, d1) (eight text conflict code_line enables_first enables_second walk_first
+    walk_second (text_of sources) (text_of twins))
+    ∙ ap (λ (t : List ℕ). text ++ (conflict ++ (code_line ++ (enables_first ++ (enables_second ++ (walk_first
+    ++ (walk_second ++ t)))))))
+    (sym (flat_map-append line sources twins))
 
 -- ---- one conflict after another
 abbrev pub pair_of : Explained → ℕ × ℕ

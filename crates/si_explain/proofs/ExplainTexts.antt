@@ -11,6 +11,7 @@ use Rattle.si_walks.specs.declared.arcs.Arcs.TheVariants.{All}
 use Rattle.si_walks.specs.Joined.{Source, IsSourceOrNone, IsJoinedConflict}
 use Rattle.si_walks.proofs.FirstWalks.{along_all, one_first_walk, some_first_walk}
 use Rattle.si_walks.proofs.SourceLemmas.{one_source_or_none, some_source_or_none}
+use Rattle.si_walks.proofs.TwinsDecided.{some_told, told_once}
 use Rattle.si_explain.specs.ExplainText.{max_explained, Explained, IsExplained, explain_text, IsExplainText}
 use Rattle.si_explain.specs.Laws.{SourcesShowJoined, NoSourceShowsNone}
 use Rattle.si_explain.proofs.ExplainLines.{pair_of}
@@ -23,18 +24,21 @@ one_explained c x y is also pair =
       to_first = x.to_first;
       to_second = x.to_second;
       source = x.source;
+      twins = x.twins;
     }) = subst (λ (p : ℕ × ℕ). IsExplained c (record {
       pair = p;
       to_first = x.to_first;
       to_second = x.to_second;
       source = x.source;
+      twins = x.twins;
     })) pair is in
     let first : x.to_first ≡ y.to_first =
     one_first_walk G All G.start y.pair.0 x.to_first y.to_first moved.to_first also.to_first in
     let second : x.to_second ≡ y.to_second =
     one_first_walk G All G.start y.pair.1 x.to_second y.to_second moved.to_second also.to_second in
     let source : x.source ≡ y.source = one_source_or_none c y.pair x.source y.source moved.source also.source in
-    λ i. record { pair = pair i; to_first = first i; to_second = second i; source = source i }
+    let twins : x.twins ≡ y.twins = told_once c y.pair.0 y.pair.1 x.twins y.twins moved.twins also.twins in
+    λ i. record { pair = pair i; to_first = first i; to_second = second i; source = source i; twins = twins i }
 
 abbrev AllExplained : CodedGraph → List Explained → Type 0
 AllExplained c xs = (x : Explained) → Contains xs x → IsExplained c x
@@ -72,10 +76,11 @@ some_explained c pair coded conflict =
     let to_q = coded.connected q conflict.within in
     let first = some_first_walk G All p coded.deterministic G.start (to_p.0, along_all G G.start to_p.0 p to_p.1) in
     let second = some_first_walk G All q coded.deterministic G.start (to_q.0, along_all G G.start to_q.0 q to_q.1) in
-    let source = some_source_or_none c p q coded p_within conflict.within in (
-      record { pair = pair; to_first = first.0; to_second = second.0; source = source.0 },
+    let source = some_source_or_none c p q coded p_within conflict.within in
+    let twins = some_told c coded p q p_within conflict.within in (
+      record { pair = pair; to_first = first.0; to_second = second.0; source = source.0; twins = twins.0 },
       refl,
-      record { to_first = first.1; to_second = second.1; source = source.1 },
+      record { to_first = first.1; to_second = second.1; source = source.1; twins = twins.1 },
     )
 
 abbrev With : CodedGraph → List (ℕ × ℕ) → Type 0

@@ -1,6 +1,6 @@
 -- (text) The text that explains the first conflicts of a graph.
 use Rattle.std.specs.Prelude.{◌≡◌, ℕ, ◌==◌, List, [], ◌∷◌, ◌++◌, map, filter, flat_map, Contains}
-use Rattle.std.specs.Prelude.{codes, decimal, Option, Some, None}
+use Rattle.std.specs.Prelude.{codes, decimal, Option, Some, None, Bool, true, false}
 use Rattle.si_base.specs.declared.ids.Event.{Event}
 use Rattle.si_base.specs.declared.graph.Signal.{Signal}
 use Rattle.si_base.specs.Graph.{StateGraph}
@@ -12,6 +12,7 @@ use Rattle.si_sg.specs.CanonicalText.{state_at, event_word}
 use Rattle.si_walks.specs.declared.arcs.Arcs.TheVariants.{All}
 use Rattle.si_walks.specs.Walks.{IsFirstWalk}
 use Rattle.si_walks.specs.Joined.{Source, IsSourceOrNone}
+use Rattle.si_walks.specs.Twins.{TellsTwins}
 
 -- the most conflicts that are explained
 abbrev pub max_explained : ℕ
@@ -21,19 +22,21 @@ max_explained = 10
 abbrev pub enabled_events : StateGraph → ℕ → List Event
 enabled_events g s = map (λ a. a.event) (filter (λ a. a.from == s) g.edges)
 
--- a conflict, walks from the start to its two states, and a state from which inputs alone lead to
--- both, if there is one
+-- a conflict, walks from the start to its two states, a state from which inputs alone lead to both,
+-- if there is one, and whether its states are twins
 pub record Explained : Type 0 where
   pub pair : ℕ × ℕ
   pub to_first : List Event
   pub to_second : List Event
   pub source : Option Source
+  pub twins : Bool
 
 -- the walks are the first, and so is the source
 pub record IsExplained (c : CodedGraph) (x : Explained) : Type 0 where
   pub to_first : IsFirstWalk c.graph All c.graph.start x.pair.0 x.to_first
   pub to_second : IsFirstWalk c.graph All c.graph.start x.pair.1 x.to_second
   pub source : IsSourceOrNone c x.pair x.source
+  pub twins : TellsTwins c x.pair.0 x.pair.1 x.twins
 
 -- ---- the lines
 abbrev pub events_words : List Signal → List Event → List (List ℕ)
@@ -61,7 +64,22 @@ source_lines signals states pair (Some x) =
     ∷ (codes "unresolvable" ∷ state_at states pair.0 ∷ state_at states pair.1 ∷ meaning ∷ [])
     ∷ []
 
--- the two states, their code, what each enables, a walk to each, and the source, if there is one
+-- what twins mean, in plain words
+abbrev pub twin_meaning : List ℕ
+twin_meaning = codes "# at states of one code the circuit does the same, so nothing tells them apart"
+
+-- twins are told where no source is
+abbrev pub tells_twins : Option Source → Bool → Bool
+tells_twins None twins = twins
+tells_twins (Some x) twins = false
+
+abbrev pub twin_lines : List (List ℕ) → ℕ × ℕ → Bool → List (List (List ℕ))
+twin_lines states pair false = []
+twin_lines states pair true =
+    (codes "unresolvable" ∷ state_at states pair.0 ∷ state_at states pair.1 ∷ twin_meaning ∷ []) ∷ []
+
+-- the two states, their code, what each enables, a walk to each, and the source, if there is one, or
+-- else that the states are twins, if they are
 abbrev pub explained_lines : CodedGraph → List (List ℕ) → Explained → List (List (List ℕ))
 explained_lines c states x =
     let signals = c.graph.signals in
@@ -73,7 +91,8 @@ explained_lines c states x =
     ∷ events_line (codes "enables") signals states q (enabled_events c.graph q)
     ∷ events_line (codes "walk") signals states p x.to_first
     ∷ events_line (codes "walk") signals states q x.to_second
-    ∷ source_lines signals states x.pair x.source
+    ∷ (source_lines signals states x.pair x.source
+    ++ twin_lines states x.pair (tells_twins x.source x.twins))
 
 abbrev pub count_line : ℕ → List (List ℕ)
 count_line count = codes "conflicts" ∷ decimal count ∷ []

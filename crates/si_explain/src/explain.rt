@@ -6,17 +6,22 @@ ghost use Rattle.si_base.specs.Words.{line, text_of};
 ghost use Rattle.si_conflicts.specs.Conflicts.{AreFirstConflicts, pairs_of};
 ghost use Rattle.si_explain.specs.ExplainText.{max_explained, Explains, ExplainsAll, IsExplainText};
 ghost use Rattle.si_explain.specs.ExplainText.{source_lines, events_line, enabled_events};
+ghost use Rattle.si_explain.specs.ExplainText.{twin_lines};
+ghost use Rattle.si_explain.specs.ExplainText as explained;
 ghost use Rattle.si_walks.specs.Joined.{IsSourceOrNone, source_of};
+ghost use Rattle.si_walks.specs.Twins.{AreTwinPairsOrNone};
 
 use crate::events::{add_events_line, add_inputs_line, enabled_events};
 use si_base::ids::{NoMemory, StateId};
 use si_base::names::Names;
+use si_base::sets::StateSet;
 use si_base::text::Text;
 use si_conflicts::conflicts::{Pair, conflicts, count};
 use si_graph::coded::Coded;
 use si_netlist::write::add_values_line;
 use si_sg::write::name_at;
 use si_walks::arcs::Arcs;
+use si_walks::twin_pairs::{are_twins, twin_pairs};
 use si_walks::walk::shortest_walk;
 use si_walks::witness::{Witness, find_witness};
 use si_words::writing::add_line;
@@ -29,22 +34,28 @@ const MAX_EXPLAINED: u32 = 10;
 const MEANING: &[u8] =
     b"# inputs alone lead to both states, so no inserted signals tell them apart";
 
+/// What it means that the states of a conflict are twins.
+const TWIN_MEANING: &[u8] =
+    b"# at states of one code the circuit does the same, so nothing tells them apart";
+
 /// The text of the number of conflicts of a graph with a name for each state, and of the first of
 /// them: their code, what their states enable, the first walks to these from the start, and, where
-/// inputs alone lead to both from some state, the first such state with the first walks. It fails
-/// only where memory runs out.
+/// inputs alone lead to both from some state, the first such state with the first walks, or else,
+/// where they are twins, that they are (in graphs of up to 2,048 states). It fails only where memory
+/// runs out.
 pub fn explain(alloc: Global, graph: &Coded, states: &Names) -> Result<Text, NoMemory>
     requires { length states.now ≡ graph.now.graph.states }
     ensures { IfOk result (IsExplainText graph.now states.now) }
 {
     let count = count(alloc, graph)?;
     let pairs = conflicts(alloc, graph, MAX_EXPLAINED)?;
+    let twins = twin_pairs(alloc, graph)?;
     let Ok(number) = count.to_string(alloc) else {
         return Err(NoMemory);
     };
     let mut text = Text::copy_of(alloc, b"")?;
     add_line(&mut text, b"conflicts", &[number.as_bytes()])?;
-    add_conflicts(alloc, &mut text, graph, states, pairs.as_slice())?;
+    add_conflicts(alloc, &mut text, graph, states, pairs.as_slice(), &twins)?;
     Ok(text)
 }
 
@@ -55,14 +66,16 @@ fn add_conflicts(
     graph: &Coded,
     states: &Names,
     pairs: &[Pair],
+    twins: &Option<StateSet>,
 ) -> Result<(), NoMemory>
     requires states { length states.now ≡ graph.now.graph.states }
     requires pairs { AreFirstConflicts graph.now max_explained (pairs_of pairs.now) }
+    requires twins { AreTwinPairsOrNone graph.now twins.now }
     ensures { OnOk result
         (ExplainsAll graph.now states.now (pairs_of pairs.now) text.old text.new) }
 {
     for pair in pairs {
-        add_conflict(alloc, text, graph, states, pair.p, pair.q)?;
+        add_conflict(alloc, text, graph, states, pair.p, pair.q, twins)?;
     }
     Ok(())
 }
@@ -75,10 +88,12 @@ fn add_conflict(
     states: &Names,
     p: StateId,
     q: StateId,
+    twins: &Option<StateSet>,
 ) -> Result<(), NoMemory>
     requires states { length states.now ≡ coded.now.graph.states }
     requires p { p < coded.now.graph.states }
     requires q { q < coded.now.graph.states }
+    requires twins { AreTwinPairsOrNone coded.now twins.now }
     ensures { OnOk result (Explains coded.now states.now (p, q) text.old text.new) }
 {
     let graph = coded.graph();
@@ -86,6 +101,7 @@ fn add_conflict(
     let to_p = shortest_walk(alloc, coded, &Arcs::All, graph.start(), p)?;
     let to_q = shortest_walk(alloc, coded, &Arcs::All, graph.start(), q)?;
     let source = find_witness(alloc, coded, p, q)?;
+    let twins = are_twins(twins, coded, p, q);
     add_line(text, b"conflict", &[name_at(states, p), name_at(states, q)])?;
     add_values_line(text, b"code", signals, coded.code(p))?;
     add_enabled(alloc, text, coded, states, p)?;
@@ -93,6 +109,41 @@ fn add_conflict(
     add_events_line(text, b"walk", signals, states, p, to_p.as_slice())?;
     add_events_line(text, b"walk", signals, states, q, to_q.as_slice())?;
     add_source(text, coded, states, p, q, &source)?;
+    add_twins(text, states, p, q, tells_twins(&source, twins))?;
+    Ok(())
+}
+
+/// Whether twins are told: where no source is.
+fn tells_twins(source: &Option<Witness>, twins: bool) -> bool
+    ensures { result ≡ explained.tells_twins (option_map source_of source.now) twins }
+{
+    match source {
+        None => twins,
+        Some(_) => false,
+    }
+}
+
+/// Adds the line of a conflict whose states are twins, where that is told.
+fn add_twins(
+    text: &mut Text,
+    states: &Names,
+    p: StateId,
+    q: StateId,
+    told: bool,
+) -> Result<(), NoMemory>
+    requires p { p < length states.now }
+    requires q { q < length states.now }
+    ensures { OnOk result
+        (text.new ≡ text.old ++ text_of (twin_lines states.now (p, q) told)) }
+{
+    if !told {
+        return Ok(());
+    }
+    add_line(
+        text,
+        b"unresolvable",
+        &[name_at(states, p), name_at(states, q), TWIN_MEANING],
+    )?;
     Ok(())
 }
 

@@ -3,6 +3,7 @@
 ghost use Rattle.si_explain.specs.Laws.{ExplainTextsAreUnique, ExplainTextsExist};
 ghost use Rattle.si_explain.specs.Laws.{SourcesShowJoined, NoSourceShowsNone};
 ghost use Rattle.si_explain.specs.Laws.{JoinedNeverResolve, JoinedEndUnresolved};
+ghost use Rattle.si_explain.specs.Laws.{TwinsAreTold, TwinsNeverResolve, TwinsEndUnresolved};
 
 /// A coded graph with names for its states has one text.
 pub fn explain_texts()
@@ -20,4 +21,12 @@ pub fn shown_sources()
 pub fn joined_stay_unresolved()
     ensures never { JoinedNeverResolve }
     ensures ends { JoinedEndUnresolved }
+{}
+
+/// That the states of a conflict are twins is told exactly where they are, in graphs of up to 2,048
+/// states; and resolving a graph with such a conflict ends unresolved.
+pub fn twins_stay_unresolved()
+    ensures told { TwinsAreTold }
+    ensures never { TwinsNeverResolve }
+    ensures ends { TwinsEndUnresolved }
 {}

@@ -22,9 +22,9 @@ use Rattle.si_walks.specs.Joined.{IsJoinedConflict, HasConflictFrom}
 
 -- ---- copies
 -- k is a state of the current graph that comes from s
-record IsFrom (v : Current) (k s : ℕ) : Type 0 where
-  there : k < v.coded.graph.states
-  origin_is : origin v k ≡ s
+pub record IsFrom (v : Current) (k s : ℕ) : Type 0 where
+  pub there : k < v.coded.graph.states
+  pub origin_is : origin v k ≡ s
 
 -- from a copy of s there is a way to a copy of t, where a walk leads from s to t
 led_on : (given : CodedGraph) (v : Current) (k s : ℕ) (es : List Event) (t : ℕ) → Keeps given v → IsFrom v k s
@@ -37,7 +37,7 @@ led_on given v k s (e ∷ es) t kept from walk =
     led_on given v f.end walk.0 es t kept (record { there = parts.2; origin_is = f.origin_is }) walk.2
 
 -- each given state has a copy
-has_copy : (given : CodedGraph) (v : Current) (s : ℕ) → IsCoded given → Keeps given v → s < given.graph.states
+pub has_copy : (given : CodedGraph) (v : Current) (s : ℕ) → IsCoded given → Keeps given v → s < given.graph.states
     → (k : ℕ) × IsFrom v k s
 has_copy given v s is kept small =
     let way = is.connected s small in
@@ -45,10 +45,10 @@ has_copy given v s is kept small =
     (record { there = kept.coded.graph_is.starts; origin_is = kept.start }) way.1
 
 -- ---- along input events the inserted signals keep their values
-record HasSameNew (given : CodedGraph) (v : Current) (k m : ℕ) : Type 0 where
-  bits : (a : ℕ) → length given.graph.signals ≤ a → bit (code v.coded m) a ≡ bit (code v.coded k) a
+pub record HasSameNew (given : CodedGraph) (v : Current) (k m : ℕ) : Type 0 where
+  pub bits : (a : ℕ) → length given.graph.signals ≤ a → bit (code v.coded m) a ≡ bit (code v.coded k) a
 
-keeps_new : (given : CodedGraph) (v : Current) (k : ℕ) (e : Event) (m : ℕ) → Keeps given v
+pub keeps_new : (given : CodedGraph) (v : Current) (k : ℕ) (e : Event) (m : ℕ) → Keeps given v
     → Step v.coded.graph k e m → e.sig < length given.graph.signals → HasSameNew given v k m
 keeps_new given v k e m kept step small = record {
   bits = λ a above.
@@ -56,7 +56,7 @@ keeps_new given v k e m kept step small = record {
       ap (λ (w : ℕ). bit w a) (code_of_step v.coded k e m kept.coded step) ∙ flip-other (code v.coded k) e.sig a other);
 }
 
-led_by_inputs : (given : CodedGraph) (v : Current) (k s : ℕ) (es : List Event) (t : ℕ) → Keeps given v → IsFrom v k s
+pub led_by_inputs : (given : CodedGraph) (v : Current) (k s : ℕ) (es : List Event) (t : ℕ) → Keeps given v → IsFrom v k s
     → WalkAlong given.graph OfInputs s es t → (m : ℕ) × IsFrom v m t × HasSameNew given v k m
 led_by_inputs given v k s [] t kept from walk =
     (k, record { there = from.there; origin_is = from.origin_is ∙ walk }, record { bits = λ a above. refl })
@@ -78,15 +78,15 @@ led_by_inputs given v k s (e ∷ es) t kept from walk =
     (rest.0, rest.1, record { bits = λ a above. rest.2.bits a above ∙ one.bits a above })
 
 -- ---- two states of the current graph of one code, that come from s and t
-record AreTwins (v : Current) (k m s t : ℕ) : Type 0 where
-  one : IsFrom v k s
-  other : IsFrom v m t
-  same_code : code v.coded k ≡ code v.coded m
+pub record AreTwins (v : Current) (k m s t : ℕ) : Type 0 where
+  pub one : IsFrom v k s
+  pub other : IsFrom v m t
+  pub same_code : code v.coded k ≡ code v.coded m
 
 turned : (v : Current) (k m s t : ℕ) → AreTwins v k m s t → AreTwins v m k t s
 turned v k m s t twins = record { one = twins.other; other = twins.one; same_code = sym twins.same_code }
 
-starts_within : (g : StateGraph) (s : ℕ) (es : List Event) (t : ℕ) → IsGraph g → WalkAlong g OfInputs s es t
+pub starts_within : (g : StateGraph) (s : ℕ) (es : List Event) (t : ℕ) → IsGraph g → WalkAlong g OfInputs s es t
     → t < g.states → s < g.states
 starts_within g s [] t is walk small = let P : ℕ → Type 0 = λ i. i < g.states in subst P (sym walk) small
 starts_within g s (e ∷ es) t is walk small = (step_within g s e walk.0 is walk.2).0
@@ -120,7 +120,7 @@ back v s t found = elim found.2 [
   | inr there ↦ (found.0, found.1, inl there)
 ]
 
-differ_in : (v : Current) (k m s t : ℕ) (e : Event) → AreTwins v k m s t → IsNonInput v.coded.graph.signals e.sig
+pub differ_in : (v : Current) (k m s t : ℕ) (e : Event) → AreTwins v k m s t → IsNonInput v.coded.graph.signals e.sig
     → enables v.coded.graph k e ≡ true → (enables v.coded.graph m e ≡ true → ⊥) → HasConflictFrom v s t
 differ_in v k m s t e twins non_input enabled lacks = elim (cases_order k m) [
   | inl same ↦
@@ -152,7 +152,7 @@ differ_in v k m s t e twins non_input enabled lacks = elim (cases_order k m) [
 ]
 
 -- an inserted signal is driven
-new_is_driven : (given : CodedGraph) (v : Current) (k : ℕ) (e : Event) (m : ℕ) → Keeps given v
+pub new_is_driven : (given : CodedGraph) (v : Current) (k : ℕ) (e : Event) (m : ℕ) → Keeps given v
     → length given.graph.signals ≤ e.sig → Step v.coded.graph k e m → IsNonInput v.coded.graph.signals e.sig
 new_is_driven given v k e m kept above step =
     let parts = step_within v.coded.graph k e m kept.coded.graph_is step in
@@ -162,7 +162,7 @@ new_is_driven given v k e m kept above step =
     ]
 
 -- an inserted event leads twins to twins
-led_alike : (given : CodedGraph) (v : Current) (k m s t : ℕ) (f : Event) (u w : ℕ) → Keeps given v
+pub led_alike : (given : CodedGraph) (v : Current) (k m s t : ℕ) (f : Event) (u w : ℕ) → Keeps given v
     → AreTwins v k m s t → length given.graph.signals ≤ f.sig → Step v.coded.graph k f u → Step v.coded.graph m f w
     → AreTwins v u w s t
 led_alike given v k m s t f u w kept twins above here there =
@@ -223,7 +223,7 @@ conflict_from given v k m s t e kept twins driven enabled lacks =
     on_the_way given v k m s t f.silent f.at e kept twins f.walk (enables-step v.coded.graph f.at e f.end f.step) small
     non_input lacks
 
-twins_conflict : (given : CodedGraph) (v : Current) (k m s t : ℕ) (e : Event) → Keeps given v → AreTwins v k m s t
+pub twins_conflict : (given : CodedGraph) (v : Current) (k m s t : ℕ) (e : Event) → Keeps given v → AreTwins v k m s t
     → IsNonInput given.graph.signals e.sig → enables given.graph s e ≢ enables given.graph t e → HasConflictFrom v s t
 twins_conflict given v k m s t e kept twins driven differ = elim (cases_Bool (enables given.graph s e)) [
   | inl first ↦ conflict_from given v k m s t e kept twins driven first (λ also. differ (first ∙ sym also))

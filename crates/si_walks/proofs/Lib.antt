@@ -6,4 +6,8 @@ pub mod FirstWalks
 pub mod WalkSteps
 pub mod SourceLemmas
 pub mod Joined
+pub mod Twins
 pub mod Examples
+pub mod TwinExamples
+pub mod TwinSearch
+pub mod TwinsDecided

@@ -4,6 +4,7 @@ ghost use Rattle.std.specs.Prelude.{ℕ};
 ghost use Rattle.si_walks.specs.Joined.{IsJoinedConflict};
 ghost use Rattle.si_walks.specs.Laws.{JoinedConflictStays, KeptJoinedConflictStays};
 ghost use Rattle.si_walks.specs.Laws.{JoinedIsNeverResolved, WalkJoinsConflict};
+ghost use Rattle.si_walks.specs.Twins.{JoinedIsTwin, TwinIsNeverResolved};
 
 use si_insert::resolved::Resolved;
 
@@ -23,3 +24,11 @@ pub fn resolved_has_none(resolved: &Resolved)
     let lineage = resolved.lineage();
     let _trace = lineage.trace();
 }
+
+/// Nothing that is inserted resolves a conflict to whose two states moves of twins lead from one
+/// state: an input waits for nothing, and at two states of one code the circuit does the same. A
+/// conflict whose states input events join is one of these.
+pub fn twin_conflicts()
+    ensures never_resolved { TwinIsNeverResolved }
+    ensures joined { JoinedIsTwin }
+{}

@@ -35,6 +35,7 @@ returns c =
       to_first = c.in_ok-to_p.to_p.items;
       to_second = c.in_ok-to_q.to_q.items;
       source = option_map source_of c.in_ok-source.source;
+      twins = c.are_twins-twins.result;
     } in
     let states = c.args.states.now in
     let known : c.signals-signals.result.now ≡ coded.graph.signals =
@@ -52,8 +53,10 @@ returns c =
         to_first = rw (c.start.ensures, c.graph-graph.ensures.same) at c.in_ok-to_p.ensures;
         to_second = rw (c.start-2.ensures, c.graph-graph.ensures.same) at c.in_ok-to_q.ensures;
         source = c.in_ok-source.ensures;
+        twins = c.are_twins-twins.ensures;
       };
-      added = conflict_by_calls coded c.args.states.now x c.args.text.now _ _ _ _ _ _ _ _ _ c.name_at.ensures
+      added = conflict_by_calls coded c.args.states.now x c.args.text.now _ _ _ _ _ _ _ _ _ _ c.name_at.ensures
           c.name_at-2.ensures c.in_ok-add_line.ensures code_line c.in_ok-add_enabled.ensures
-          c.in_ok-add_enabled-2.ensures to_first to_second c.in_ok-add_source.ensures;
+          c.in_ok-add_enabled-2.ensures to_first to_second c.in_ok-add_source.ensures
+          (rw c.tells_twins.ensures at c.in_ok-add_twins.ensures);
     }
