@@ -1,5 +1,5 @@
 //! Shortest walks, along all arcs or along those of inputs alone, and conflicts that no insertion
-//! resolves, since input events alone lead to both of their states.
+//! resolves: input events alone lead to both of their states, or the circuit can't tell these apart.
 #![tactic(auto)]
 
 pub mod arcs;
