@@ -1,6 +1,6 @@
 -- The search for twins: moves of pairs of states, by the numbers of the pairs.
 use Rattle.std.proofs.Common.{◌≡◌, ℕ, zero, suc, ◌+◌, ◌*◌, ◌/◌, ◌%◌, ◌<◌, ◌≤◌, Bool, ◌∙◌, sym, refl, ap, subst, arith}
-use Rattle.std.proofs.Common.{List, [], ◌∷◌, ◌++◌, length, get_or, inl, inr, ◌⊎◌}
+use Rattle.std.proofs.Common.{Some, List, [], ◌∷◌, ◌++◌, length, get_or, inl, inr, ◌⊎◌}
 use Rattle.std.proofs.lemmas.Bool.{cases_eq}
 use Rattle.std.proofs.lemmas.List.{get_or_default}
 use Rattle.std.proofs.lemmas.Nat.{div-mul-add, mod-mul-add}
@@ -15,6 +15,10 @@ use Rattle.si_graph.specs.Loops.Arcs.{AreOut, edge_at, no_edge}
 use Rattle.si_graph.specs.Loops.Reach.{Marks, MarksAll}
 use Rattle.si_graph.proofs.SearchLemmas.{Explores, in_none, marks_all_as, marks_both, marks_same}
 use Rattle.si_walks.specs.Twins.{AreTwinPairs, AreTwins, MovesLead, Move, OfFirst, OfSecond, OfBoth, pair_number}
+use Rattle.si_walks.specs.Twins.{IsFirstTwinOrNone, IsTwinConflict, max_twin_states}
+use Rattle.si_base.specs.Order.{Before}
+use Rattle.si_base.specs.Proper.{IsConflict, pair_place}
+use Rattle.std.proofs.Math.Nat.{div-add-mod, mul_comm}
 use Rattle.si_walks.specs.Loops.TwinMoves.{BothMove, ByStep, FirstMoves, IsDiagonal, MovesFrom, MovesPair, SecondMoves}
 use Rattle.si_walks.specs.Loops.TwinMoves.{none_of}
 
@@ -267,3 +271,81 @@ module _ (c : CodedGraph) (is : IsCoded c) (marks : List Bool) (ended : Explores
           (ended.begun _ (twins.source, twins.within, refl)) twins.lead,
     );
   }
+
+-- ---- the first conflict of twins
+-- no conflict of twins has a number below k
+abbrev pub NoneBelow : CodedGraph → ℕ → Type 0
+NoneBelow c k = (pair : ℕ × ℕ) → IsTwinConflict c pair → pair_number c.graph.states pair.0 pair.1 < k → ⊥
+
+earlier_rows : (n a b p q : ℕ) → b < n → a < p → pair_number n a b < pair_number n p q
+earlier_rows n a b p q below before =
+    let next : suc a ≤ p = omega (arith, before) in
+    omega (arith, mul-le-mul_right n next, suc-mul a n, below)
+
+before_by_number : (n a b p q : ℕ) → b < n → Before (pair_place (a, b)) (pair_place (p, q))
+    → pair_number n a b < pair_number n p q
+before_by_number n a b p q below (inl before) = earlier_rows n a b p q below before
+before_by_number n a b p q below (inr (same, inl before)) =
+    subst (λ (x : ℕ). pair_number n a b < x * n + q) same (omega (arith, before))
+before_by_number n a b p q below (inr (same, inr after)) = absurd after.1
+
+pub first_there : (c : CodedGraph) (set : List Bool) (k : ℕ) → AreTwinPairs c set
+    → (few : c.graph.states ≤ max_twin_states) → k < c.graph.states * c.graph.states → IsIn set k
+    → IsConflict c (k / c.graph.states, k % c.graph.states) → NoneBelow c k
+    → IsFirstTwinOrNone c (Some (k / c.graph.states, k % c.graph.states))
+first_there c set k are few below there conflict none = (
+  few,
+  record {
+    holds = record { conflict = conflict; twins = (are.exactly s t first second).0 (subst (IsIn set) (sym number) there) };
+    none_before = λ pair twin before. none pair twin
+        (subst (λ (x : ℕ). pair_number n pair.0 pair.1 < x) number
+        (before_by_number n pair.0 pair.1 s t twin.conflict.within before));
+  },
+)
+  where
+    n : ℕ
+    n = c.graph.states
+
+    s : ℕ
+    s = k / n
+
+    t : ℕ
+    t = k % n
+
+    first : s < n
+    first = first_below n k below
+
+    second : t < n
+    second = second_below n k below
+
+    number : pair_number n s t ≡ k
+    number = omega (arith, div-add-mod k n, mul_comm s n)
+
+pub none_at : (c : CodedGraph) (set : List Bool) (k : ℕ) → AreTwinPairs c set → NoneBelow c k
+    → (IsIn set k → IsConflict c (k / c.graph.states, k % c.graph.states) → ⊥) → NoneBelow c (k + 1)
+none_at c set k are none not_here pair twin below = elim (cases_eq (pair_number n pair.0 pair.1) k) [
+  | inl same ↦ not_here
+      (subst (IsIn set) same ((are.exactly pair.0 pair.1 (first twin.conflict) twin.conflict.within).1 twin.twins))
+      (subst (λ (x : ℕ). IsConflict c (x / n, x % n)) same
+      (subst (λ (y : ℕ). IsConflict c (y, pair_number n pair.0 pair.1 % n))
+      (sym (div-mul-add pair.0 n pair.1 twin.conflict.within))
+      (subst (λ (z : ℕ). IsConflict c (pair.0, z)) (sym (mod-mul-add pair.0 n pair.1 twin.conflict.within))
+      twin.conflict)))
+  | inr other ↦ none pair twin (omega (arith, below))
+]
+  where
+    n : ℕ
+    n = c.graph.states
+
+    first : IsConflict c pair → pair.0 < n
+    first conflict = omega (arith, conflict.order, conflict.within)
+
+pub none_of_all : (c : CodedGraph) (k : ℕ) → c.graph.states * c.graph.states ≤ k → NoneBelow c k
+    → (pair : ℕ × ℕ) → IsTwinConflict c pair → ⊥
+none_of_all c k all none pair twin =
+    none pair twin (omega (
+      arith,
+      all,
+      pair_below c.graph.states pair.0 pair.1
+          (omega (arith, twin.conflict.order, twin.conflict.within)) twin.conflict.within,
+    ))
