@@ -1,22 +1,26 @@
 -- The lines of conflicts, one call after another.
 use Rattle.std.proofs.Common.{◌≡◌, ℕ, ◌+◌, ◌<◌, ◌≤◌, ◌∙◌, ◌++◌, List, [], ◌∷◌, take, flat_map, length, get_or, Contains}
-use Rattle.std.proofs.Common.{Bool, true, false, true≢false, Some, refl, sym, ap, subst, arith, append_assoc, codes, decimal, inl, inr}
+use Rattle.std.proofs.Common.{Bool, true, false, true≢false, Option, Some, None, if◌then◌else◌, refl, sym, ap, subst, arith, append_assoc, codes, decimal, inl, inr}
 use Rattle.std.proofs.lemmas.Grind.{flat_map-append}
 use Rattle.std.proofs.lemmas.List.{append-nil, map-append, take_more, take_all, get_or-map, length-map}
-use Rattle.std.proofs.lemmas.List.Elements.{Contains-push_cases}
+use Rattle.std.proofs.lemmas.List.Elements.{Contains-append_cases, Contains-push_cases}
+use Rattle.std.specs.List.{list_any}
 use Rattle.si_base.specs.declared.graph.Signal.{Signal}
 use Rattle.si_base.specs.Codes.{CodedGraph, code}
 use Rattle.si_base.specs.NetlistText.{bits_from, word_if_any}
 use Rattle.si_base.specs.Words.{line, text_of}
 use Rattle.si_conflicts.specs.declared.conflicts.Pair.{Pair}
 use Rattle.si_conflicts.specs.Conflicts.{HasConflicts, AreFirstConflicts, pairs_of}
-use Rattle.si_graph.proofs.ListMembers.{Contains-nil}
+use Rattle.si_base.specs.Proper.{IsConflict}
+use Rattle.si_graph.proofs.ListMembers.{Contains-cons_cases, Contains-nil}
+use Rattle.si_walks.specs.Twins.{IsFirstTwinOrNone}
 use Rattle.si_sg.specs.CanonicalText.{state_at}
+use Rattle.si_words.proofs.SumWordLemmas.{list_any-map}
 use Rattle.si_walks.specs.Joined.{Source}
 use Rattle.si_explain.specs.ExplainText.{max_explained, enabled_events, Explained, IsExplained, events_line}
 use Rattle.si_explain.specs.ExplainText.{inputs_line}
 use Rattle.si_explain.specs.ExplainText.{meaning, source_lines, explained_lines, count_line, explain_text}
-use Rattle.si_explain.specs.ExplainText.{tells_twins, twin_lines, twin_meaning}
+use Rattle.si_explain.specs.ExplainText.{further, same_pair, tells_twins, twin_lines, twin_meaning}
 use Rattle.si_explain.specs.ExplainText.{IsExplainText, Explains, ExplainsAll}
 
 -- ---- the lines of a source
@@ -122,17 +126,17 @@ one_more_explained c states pairs n pair old text new within at so_far one =
     }
 
 -- the states of the pairs are states of the graph
-pub pair_within : (c : CodedGraph) (limit : ℕ) (pairs : List Pair) (n : ℕ) (pair : Pair)
-    → AreFirstConflicts c limit (pairs_of pairs) → n < length pairs → pair ≡ get_or pairs n pair
+pub pair_within : (c : CodedGraph) (pairs : List Pair) (n : ℕ) (pair : Pair)
+    → ((x : ℕ × ℕ) → Contains (pairs_of pairs) x → IsConflict c x) → n < length pairs → pair ≡ get_or pairs n pair
     → (pair.p < c.graph.states) × (pair.q < c.graph.states)
-pair_within c limit pairs n pair are within at =
+pair_within c pairs n pair are within at =
     let As : Pair → ℕ × ℕ = λ y. (y.p, y.q) in
     let there : Contains (pairs_of pairs) (pair.p, pair.q) = (
       n,
       omega (arith, within, length-map pairs As),
       get_or-map As pairs n pair (pair.p, pair.q) within ∙ ap As (sym at),
     ) in
-    let is = are.each (pair.p, pair.q) there in
+    let is = are (pair.p, pair.q) there in
     (omega (arith, is.order, is.within), is.within)
 
 pub all_explained : (c : CodedGraph) (states : List (List ℕ)) (pairs : List Pair) (n : ℕ) (old new : List ℕ)
@@ -141,19 +145,69 @@ pub all_explained : (c : CodedGraph) (states : List (List ℕ)) (pairs : List Pa
 all_explained c states pairs n old new all is =
     subst (λ (l : List Pair). ExplainsAll c states (pairs_of l) old new) (take_all n pairs all) is
 
-pub text_by_calls : (c : CodedGraph) (states : List (List ℕ)) (count : ℕ) (pairs : List (ℕ × ℕ))
-    (number empty first all : List ℕ) → HasConflicts c count → AreFirstConflicts c max_explained pairs
+-- the first conflicts, and the first of twins
+pub each_conflict : (c : CodedGraph) (pairs : List (ℕ × ℕ)) (twin : Option (ℕ × ℕ))
+    → AreFirstConflicts c max_explained pairs → IsFirstTwinOrNone c twin → (x : ℕ × ℕ)
+    → Contains (pairs ++ further pairs twin) x → IsConflict c x
+each_conflict c pairs twin are first x there = elim (Contains-append_cases pairs (further pairs twin) x there) [
+  | inl early ↦ are.each x early
+  | inr late ↦ of_twin twin first late
+]
+  where
+    of_twin : (twin : Option (ℕ × ℕ)) → IsFirstTwinOrNone c twin → Contains (further pairs twin) x → IsConflict c x
+    of_twin None none late = absurd (Contains-nil x late)
+    of_twin (Some y) is late = told (list_any (same_pair y) pairs) late
+      where
+        told : (b : Bool) → Contains (if b then [] else y ∷ []) x → IsConflict c x
+        told true none = absurd (Contains-nil x none)
+        told false here = elim (Contains-cons_cases y [] x here) [
+          | inl same ↦ subst (IsConflict c) same is.1.holds.conflict
+          | inr none ↦ absurd (Contains-nil x none)
+        ]
+
+-- what is put last
+abbrev As : Pair → ℕ × ℕ
+As x = (x.p, x.q)
+
+among_pairs : (pairs : List Pair) (x : ℕ × ℕ) → list_any (λ y. same_pair x (y.p, y.q)) pairs
+    ≡ list_any (same_pair x) (pairs_of pairs)
+among_pairs pairs x = list_any-map As (same_pair x) pairs
+
+pub twin_there : (pairs : List Pair) (p q : ℕ) → list_any (λ x. same_pair (p, q) (x.p, x.q)) pairs ≡ true
+    → pairs_of pairs ≡ pairs_of pairs ++ further (pairs_of pairs) (Some (p, q))
+twin_there pairs p q there =
+    let told = sym (among_pairs pairs (p, q)) ∙ there in
+    sym (append-nil (pairs_of pairs))
+    ∙ ap (λ (b : Bool). pairs_of pairs ++ (if b then [] else (p, q) ∷ [])) (sym told)
+
+pub twin_added : (pairs new : List Pair) (p q : ℕ) → list_any (λ x. same_pair (p, q) (x.p, x.q)) pairs ≡ false
+    → new ≡ pairs ++ (record { p = p; q = q }) ∷ []
+    → pairs_of new ≡ pairs_of pairs ++ further (pairs_of pairs) (Some (p, q))
+twin_added pairs new p q not_there is =
+    let told = sym (among_pairs pairs (p, q)) ∙ not_there in
+    let last : Pair = record { p = p; q = q } in
+    ap pairs_of is ∙ map-append As pairs (last ∷ [])
+    ∙ ap (λ (b : Bool). pairs_of pairs ++ (if b then [] else (p, q) ∷ [])) (sym told)
+
+pub text_by_calls : (c : CodedGraph) (states : List (List ℕ)) (count : ℕ) (firsts : List (ℕ × ℕ))
+    (twin : Option (ℕ × ℕ)) (pairs : List (ℕ × ℕ))
+    (number empty first all : List ℕ) → HasConflicts c count → AreFirstConflicts c max_explained firsts
+    → IsFirstTwinOrNone c twin → pairs ≡ firsts ++ further firsts twin
     → number ≡ decimal count → empty ≡ codes "" → first ≡ empty ++ line (codes "conflicts" ∷ number ∷ [])
     → ExplainsAll c states pairs first all → IsExplainText c states all
 unfolding explain_text
-text_by_calls c states count pairs number empty first all counted are e1 e2 e3 explains =
+text_by_calls c states count firsts twin pairs number empty first all counted are is_twin pairs_are e1 e2 e3 explains =
     let head : first ≡ text_of (count_line count ∷ []) =
     e3 ∙ rw (e2, e1) (sym (append-nil (line (count_line count)))) in
     record {
       count = count;
       counted = counted;
+      pairs = firsts;
+      first = are;
+      twin = twin;
+      first_twin = is_twin;
       explained = explains.explained;
-      first = subst (AreFirstConflicts c max_explained) (sym explains.pairs_are) are;
+      pairs_are = explains.pairs_are ∙ pairs_are;
       each = explains.each;
       text_is =
           explains.added ∙ ap (λ (t : List ℕ). t ++ flat_map (lines_of c states) explains.explained) head;

@@ -1,20 +1,26 @@
 -- A graph with names for its states has one text that explains its conflicts.
-use Rattle.std.proofs.Common.{◌≡◌, ℕ, ◌<◌, ◌∙◌, List, [], ◌∷◌, map, Contains, Option, Some, None, refl, sym, ap₂, subst}
+use Rattle.std.proofs.Common.{◌≡◌, ℕ, ◌<◌, ◌≤◌, ◌∙◌, ◌++◌, List, [], ◌∷◌, map, Contains, Option, Some, None, refl, sym, ap₂, subst}
 use Rattle.std.proofs.Common.{arith, inl, inr}
 use Rattle.si_base.specs.Codes.{CodedGraph, IsCoded}
-use Rattle.si_base.specs.Proper.{IsConflict}
-use Rattle.si_conflicts.specs.Conflicts.{AreFirstConflicts}
-use Rattle.si_conflicts.proofs.ConflictsExist.{some_count, some_first}
+use Rattle.std.proofs.lemmas.Bool.{cases_lt}
+use Rattle.si_base.specs.Proper.{IsConflict, pair_place}
+use Rattle.si_checks.specs.Loops.Searches.{IsFirstOrNone}
+use Rattle.si_checks.proofs.SearchDecisions.{Decided, first_candidate}
+use Rattle.si_checks.proofs.SearchFirst.{firsts_at_one_place}
+use Rattle.si_conflicts.specs.Conflicts.{AreConflicts}
+use Rattle.si_conflicts.proofs.ConflictsExist.{some_conflicts, some_count, some_first}
 use Rattle.si_conflicts.proofs.OneConflictList.{one_count, first_unique}
 use Rattle.si_graph.proofs.ListMembers.{Contains-cons_cases, Contains-here, Contains-there, Contains-nil}
 use Rattle.si_walks.specs.declared.arcs.Arcs.TheVariants.{All}
 use Rattle.si_walks.specs.Joined.{Source, IsSourceOrNone, IsJoinedConflict}
 use Rattle.si_walks.proofs.FirstWalks.{along_all, one_first_walk, some_first_walk}
 use Rattle.si_walks.proofs.SourceLemmas.{one_source_or_none, some_source_or_none}
-use Rattle.si_walks.proofs.TwinsDecided.{some_told, told_once}
+use Rattle.si_walks.specs.Twins.{AreTwins, IsFirstTwinOrNone, IsTwinConflict, max_twin_states}
+use Rattle.si_walks.proofs.TwinsDecided.{some_told, told_once, twins_or_not, twins_within}
 use Rattle.si_explain.specs.ExplainText.{max_explained, Explained, IsExplained, explain_text, IsExplainText}
+use Rattle.si_explain.specs.ExplainText.{further}
 use Rattle.si_explain.specs.Laws.{SourcesShowJoined, NoSourceShowsNone}
-use Rattle.si_explain.proofs.ExplainLines.{pair_of}
+use Rattle.si_explain.proofs.ExplainLines.{each_conflict, pair_of}
 
 one_explained : (c : CodedGraph) (x y : Explained) → IsExplained c x → IsExplained c y → x.pair ≡ y.pair → x ≡ y
 one_explained c x y is also pair =
@@ -56,11 +62,53 @@ same_explained c (x ∷ xs) (y ∷ ys) are also same =
     (same_explained c xs ys (λ z there. are z (Contains-there x xs z there))
     (λ z there. also z (Contains-there y ys z there)) rest)
 
+-- ---- the first conflict of twins
+one_first_twin : (c : CodedGraph) (x y : Option (ℕ × ℕ)) → IsFirstTwinOrNone c x → IsFirstTwinOrNone c y → x ≡ y
+one_first_twin c None None is also = refl
+one_first_twin c None (Some y) is also = absurd (is also.0 y also.1.holds)
+one_first_twin c (Some x) None is also = absurd (also is.0 x is.1.holds)
+one_first_twin c (Some x) (Some y) is also =
+    let place : pair_place x ≡ pair_place y =
+    firsts_at_one_place pair_place (IsTwinConflict c) x y refl is.1 also.1 in
+    let first : x.0 ≡ y.0 = cc in
+    let second : x.1 ≡ y.1 = cc in
+    λ i. Some (first i, second i)
+
+some_first_twin : (c : CodedGraph) → IsCoded c → (found : Option (ℕ × ℕ)) × IsFirstTwinOrNone c found
+some_first_twin c coded = elim (cases_lt max_twin_states c.graph.states) [
+  | inl many ↦ (None, λ few. absurd (omega (arith, many, few)))
+  | inr few ↦ (let found = first_of_all in as_far few found.0 found.1)
+]
+  where
+    all : (pairs : List (ℕ × ℕ)) × AreConflicts c pairs
+    all = some_conflicts c
+
+    twins_of : (pair : ℕ × ℕ) → Decided (AreTwins c pair.0 pair.1)
+    twins_of pair = elim (cases_lt pair.0 c.graph.states) [
+      | inl first ↦ elim (cases_lt pair.1 c.graph.states) [
+        | inl second ↦ twins_or_not c coded pair.0 pair.1 first second
+        | inr past ↦ inr (λ twins. absurd (omega (arith, past, (twins_within c coded pair.0 pair.1 twins).1)))
+      ]
+      | inr past ↦ inr (λ twins. absurd (omega (arith, past, (twins_within c coded pair.0 pair.1 twins).0)))
+    ]
+
+    first_of_all : (found : Option (ℕ × ℕ)) × IsFirstOrNone pair_place (IsTwinConflict c) found
+    first_of_all = first_candidate pair_place (IsTwinConflict c) (λ pair. pair) (λ pair. AreTwins c pair.0 pair.1) twins_of all.0
+        (λ pair there twins. record { conflict = (all.1.exactly pair).0 there; twins = twins })
+        (λ pair twin. (pair, (all.1.exactly pair).1 twin.conflict, twin.twins, refl))
+
+    as_far : c.graph.states ≤ max_twin_states → (found : Option (ℕ × ℕ))
+        → IsFirstOrNone pair_place (IsTwinConflict c) found → (twin : Option (ℕ × ℕ)) × IsFirstTwinOrNone c twin
+    as_far few None none = (None, λ _. none)
+    as_far few (Some x) first = (Some x, (few, first))
+
 pub one_explain_text : (c : CodedGraph) (states : List (List ℕ)) (x y : List ℕ) → IsExplainText c states x
     → IsExplainText c states y → x ≡ y
 one_explain_text c states x y a b =
+    let firsts : a.pairs ≡ b.pairs = first_unique c max_explained a.pairs b.pairs a.first b.first in
+    let twin : a.twin ≡ b.twin = one_first_twin c a.twin b.twin a.first_twin b.first_twin in
     let pairs : map pair_of a.explained ≡ map pair_of b.explained =
-    first_unique c max_explained (map pair_of a.explained) (map pair_of b.explained) a.first b.first in
+    a.pairs_are ∙ ap₂ (λ (xs : List (ℕ × ℕ)) (x : Option (ℕ × ℕ)). xs ++ further xs x) firsts twin ∙ sym b.pairs_are in
     a.text_is ∙ ap₂ (explain_text c states) (one_count c a.count b.count a.counted b.counted)
     (same_explained c a.explained b.explained a.each b.each pairs) ∙ sym b.text_is
 
@@ -105,13 +153,19 @@ pub some_explain_text : (c : CodedGraph) (states : List (List ℕ)) → IsCoded 
 some_explain_text c states coded =
     let count = some_count c in
     let pairs = some_first c max_explained in
-    let all = explain_each c pairs.0 coded pairs.1.each in (
+    let twin = some_first_twin c coded in
+    let all = explain_each c (pairs.0 ++ further pairs.0 twin.0) coded
+    (each_conflict c pairs.0 twin.0 pairs.1 twin.1) in (
       explain_text c states count.0 all.0,
       record {
         count = count.0;
         counted = count.1;
+        pairs = pairs.0;
+        first = pairs.1;
+        twin = twin.0;
+        first_twin = twin.1;
         explained = all.0;
-        first = subst (λ (l : List (ℕ × ℕ)). AreFirstConflicts c max_explained l) (sym all.1) pairs.1;
+        pairs_are = all.1;
         each = all.2;
         text_is = refl;
       },

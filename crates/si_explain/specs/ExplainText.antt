@@ -1,6 +1,8 @@
 -- (text) The text that explains the first conflicts of a graph.
 use Rattle.std.specs.Prelude.{◌≡◌, ℕ, ◌==◌, List, [], ◌∷◌, ◌++◌, map, filter, flat_map, Contains}
-use Rattle.std.specs.Prelude.{codes, decimal, Option, Some, None, Bool, true, false}
+use Rattle.std.specs.Prelude.{codes, decimal, Option, Some, None, Bool, true, false, ◌&&◌}
+use Rattle.std.specs.List.{list_any}
+use Rattle.std.specs.Prelude.{if◌then◌else◌}
 use Rattle.si_base.specs.declared.ids.Event.{Event}
 use Rattle.si_base.specs.declared.graph.Signal.{Signal}
 use Rattle.si_base.specs.Graph.{StateGraph}
@@ -12,7 +14,7 @@ use Rattle.si_sg.specs.CanonicalText.{state_at, event_word}
 use Rattle.si_walks.specs.declared.arcs.Arcs.TheVariants.{All}
 use Rattle.si_walks.specs.Walks.{IsFirstWalk}
 use Rattle.si_walks.specs.Joined.{Source, IsSourceOrNone}
-use Rattle.si_walks.specs.Twins.{TellsTwins}
+use Rattle.si_walks.specs.Twins.{IsFirstTwinOrNone, TellsTwins}
 
 -- the most conflicts that are explained
 abbrev pub max_explained : ℕ
@@ -104,13 +106,26 @@ explain_text c states count explained =
     text_of (count_line count ∷ [])
     ++ flat_map (λ x. text_of (explained_lines c states x)) explained
 
--- the text of the number of all conflicts of c, and of the first of them, explained, with these
--- names of its states
+abbrev pub same_pair : ℕ × ℕ → ℕ × ℕ → Bool
+same_pair x y = (y.0 == x.0) && (y.1 == x.1)
+
+-- the pair, if there is one that isn't among these
+abbrev pub further : List (ℕ × ℕ) → Option (ℕ × ℕ) → List (ℕ × ℕ)
+further pairs None = []
+further pairs (Some x) =
+    if list_any (same_pair x) pairs then [] else x ∷ []
+
+-- the text of the number of all conflicts of c, and of the first of them and the first of twins,
+-- explained, with these names of its states
 pub record IsExplainText (c : CodedGraph) (states : List (List ℕ)) (text : List ℕ) : Type 0 where
   pub count : ℕ
   pub counted : HasConflicts c count
+  pub pairs : List (ℕ × ℕ)
+  pub first : AreFirstConflicts c max_explained pairs
+  pub twin : Option (ℕ × ℕ)
+  pub first_twin : IsFirstTwinOrNone c twin
   pub explained : List Explained
-  pub first : AreFirstConflicts c max_explained (map (λ x. x.pair) explained)
+  pub pairs_are : map (λ x. x.pair) explained ≡ pairs ++ further pairs twin
   pub each : (x : Explained) → Contains explained x → IsExplained c x
   pub text_is : text ≡ explain_text c states count explained
 

@@ -1,15 +1,17 @@
 //! The text that explains the first conflicts of a graph.
 
 ghost use Rattle.std.specs.Prelude.{◌≡◌, ◌<◌, ◌++◌, IfOk, OnOk, length};
-ghost use Rattle.std.specs.Prelude.{option_map, codes};
+ghost use Rattle.std.specs.Prelude.{ℕ, Contains, Option, option_map, codes};
+ghost use Rattle.std.specs.List.{list_any};
+ghost use Rattle.si_base.specs.Proper.{IsConflict};
 ghost use Rattle.si_base.specs.Words.{line, text_of};
-ghost use Rattle.si_conflicts.specs.Conflicts.{AreFirstConflicts, pairs_of};
-ghost use Rattle.si_explain.specs.ExplainText.{max_explained, Explains, ExplainsAll, IsExplainText};
+ghost use Rattle.si_conflicts.specs.Conflicts.{pairs_of};
+ghost use Rattle.si_explain.specs.ExplainText.{Explains, ExplainsAll, IsExplainText, further};
 ghost use Rattle.si_explain.specs.ExplainText.{source_lines, events_line, enabled_events};
-ghost use Rattle.si_explain.specs.ExplainText.{twin_lines};
+ghost use Rattle.si_explain.specs.ExplainText.{same_pair, twin_lines};
 ghost use Rattle.si_explain.specs.ExplainText as explained;
 ghost use Rattle.si_walks.specs.Joined.{IsSourceOrNone, source_of};
-ghost use Rattle.si_walks.specs.Twins.{AreTwinPairsOrNone};
+ghost use Rattle.si_walks.specs.Twins.{AreTwinPairsOrNone, IsFirstTwinOrNone};
 
 use crate::events::{add_events_line, add_inputs_line, enabled_events};
 use si_base::ids::{NoMemory, StateId};
@@ -21,7 +23,7 @@ use si_graph::coded::Coded;
 use si_netlist::write::add_values_line;
 use si_sg::write::name_at;
 use si_walks::arcs::Arcs;
-use si_walks::twin_pairs::{are_twins, twin_pairs};
+use si_walks::twin_pairs::{are_twins, first_twin_conflict, twin_pairs};
 use si_walks::walk::shortest_walk;
 use si_walks::witness::{Witness, find_witness};
 use si_words::writing::add_line;
@@ -41,15 +43,16 @@ const TWIN_MEANING: &[u8] =
 /// The text of the number of conflicts of a graph with a name for each state, and of the first of
 /// them: their code, what their states enable, the first walks to these from the start, and, where
 /// inputs alone lead to both from some state, the first such state with the first walks, or else,
-/// where they are twins, that they are (in graphs of up to 2,048 states). It fails only where memory
-/// runs out.
+/// where they are twins, that they are (in graphs of up to 2,048 states). Of these graphs the first
+/// conflict of twins is there too. It fails only where memory runs out.
 pub fn explain(alloc: Global, graph: &Coded, states: &Names) -> Result<Text, NoMemory>
     requires { length states.now ≡ graph.now.graph.states }
     ensures { IfOk result (IsExplainText graph.now states.now) }
 {
     let count = count(alloc, graph)?;
-    let pairs = conflicts(alloc, graph, MAX_EXPLAINED)?;
+    let mut pairs = conflicts(alloc, graph, MAX_EXPLAINED)?;
     let twins = twin_pairs(alloc, graph)?;
+    add_first_twin(graph, &twins, &mut pairs)?;
     let Ok(number) = count.to_string(alloc) else {
         return Err(NoMemory);
     };
@@ -57,6 +60,40 @@ pub fn explain(alloc: Global, graph: &Coded, states: &Names) -> Result<Text, NoM
     add_line(&mut text, b"conflicts", &[number.as_bytes()])?;
     add_conflicts(alloc, &mut text, graph, states, pairs.as_slice(), &twins)?;
     Ok(text)
+}
+
+/// Puts the first conflict of twins last, if there is one that isn't among the pairs.
+fn add_first_twin(
+    graph: &Coded,
+    twins: &Option<StateSet>,
+    pairs: &mut Vec<Pair>,
+) -> Result<(), NoMemory>
+    requires { AreTwinPairsOrNone graph.now twins.now }
+    ensures { OnOk result ((twin : Option (ℕ × ℕ)) × IsFirstTwinOrNone graph.now twin
+        × (pairs_of pairs.new.items
+        ≡ pairs_of pairs.old.items ++ further (pairs_of pairs.old.items) twin)) }
+{
+    let Some(twin) = first_twin_conflict(graph, twins) else {
+        return Ok(());
+    };
+    let (p, q) = twin;
+    if is_among(pairs, p, q) {
+        return Ok(());
+    }
+    pairs.push(Pair { p, q })?;
+    Ok(())
+}
+
+/// Whether two states are one of the pairs.
+fn is_among(pairs: &Vec<Pair>, p: StateId, q: StateId) -> bool
+    ensures { result ≡ list_any (λ x. same_pair (p, q) (x.p, x.q)) pairs.now.items }
+{
+    for pair in pairs {
+        if pair.p == p && pair.q == q {
+            return true;
+        }
+    }
+    false
 }
 
 /// Adds the lines of the pairs, one after another.
@@ -69,7 +106,8 @@ fn add_conflicts(
     twins: &Option<StateSet>,
 ) -> Result<(), NoMemory>
     requires states { length states.now ≡ graph.now.graph.states }
-    requires pairs { AreFirstConflicts graph.now max_explained (pairs_of pairs.now) }
+    requires pairs { (pair : ℕ × ℕ) → Contains (pairs_of pairs.now) pair
+        → IsConflict graph.now pair }
     requires twins { AreTwinPairsOrNone graph.now twins.now }
     ensures { OnOk result
         (ExplainsAll graph.now states.now (pairs_of pairs.now) text.old text.new) }

@@ -1,5 +1,5 @@
 -- Whether two states are twins can be decided: some set has just the pairs of twins.
-use Rattle.std.proofs.Common.{◌≡◌, ℕ, zero, suc, ◌+◌, ◌*◌, ◌/◌, ◌%◌, ◌<◌, ◌≤◌, ◌⊎◌, Bool, true, false, not, cond, List, []}
+use Rattle.std.proofs.Common.{[], ◌∷◌, ◌≡◌, ℕ, zero, suc, ◌+◌, ◌*◌, ◌/◌, ◌%◌, ◌<◌, ◌≤◌, ◌⊎◌, Bool, true, false, not, cond, List, []}
 use Rattle.std.proofs.Common.{length, get_or, set, Contains, Some, slice_get, slice_index_or, refl, sym, ap, subst, ◌∙◌, arith, inl, inr}
 use Rattle.std.proofs.Common.{length-set}
 use Rattle.std.proofs.Math.ListN.{replicate}
@@ -15,12 +15,14 @@ use Rattle.si_base.specs.declared.graph.SigKind.TheVariants.{Input, Output, Inte
 use Rattle.si_base.specs.Codes.{CodedGraph, IsCoded, code}
 use Rattle.si_base.specs.Graph.{StateGraph, Step, arc}
 use Rattle.si_base.specs.Sets.{IsIn}
+use Rattle.si_base.proofs.StepCodes.{step_within}
 use Rattle.si_checks.proofs.SearchDecisions.{Decided, both, driven, equal_events, same_value, some_of}
 use Rattle.si_checks.proofs.SearchDecisions as decide
 use Rattle.si_graph.specs.Loops.Reach.{unmarked}
 use Rattle.si_graph.proofs.SearchLemmas.{in_cases, in_none, is_set, stays_in}
 use Rattle.si_insert.specs.Accepted.{IsInput}
-use Rattle.si_walks.specs.Twins.{AreTwinPairs, AreTwins, TellsTwins, max_twin_states, pair_number}
+use Rattle.si_walks.specs.Twins.{AreTwinPairs, AreTwins, Move, MovesLead, OfBoth, OfFirst, OfSecond, TellsTwins}
+use Rattle.si_walks.specs.Twins.{max_twin_states, pair_number}
 use Rattle.si_base.proofs.Booleans.{same_if}
 use Rattle.si_walks.specs.Loops.TwinMoves.{BothMoveBy, ByStep, FirstMovesBy, IsDiagonal, MovesFrom}
 use Rattle.si_walks.specs.Loops.TwinMoves.{MovesPair, SecondMovesBy}
@@ -252,3 +254,20 @@ module _ (c : CodedGraph) (is : IsCoded c) where
 pub told_once : (c : CodedGraph) (p q : ℕ) (one other : Bool) → TellsTwins c p q one → TellsTwins c p q other
     → one ≡ other
 told_once c p q one other tells also = same_if one other (λ told. also.1 (tells.0 told)) (λ told. tells.1 (also.0 told))
+
+-- moves lead from states of the graph to states of it
+lead_within : (c : CodedGraph) → IsCoded c → (ms : List Move) (s t p q : ℕ) → s < c.graph.states → t < c.graph.states
+    → MovesLead c ms s t p q → (p < c.graph.states) × (q < c.graph.states)
+lead_within c is [] s t p q first second lead =
+    (subst (λ (x : ℕ). x < c.graph.states) lead.0 first, subst (λ (x : ℕ). x < c.graph.states) lead.1 second)
+lead_within c is (OfFirst e ∷ ms) s t p q first second (u, input, step, rest) =
+    lead_within c is ms u t p q (step_within c.graph s e u is.graph_is step).2 second rest
+lead_within c is (OfSecond e ∷ ms) s t p q first second (u, input, step, rest) =
+    lead_within c is ms s u p q first (step_within c.graph t e u is.graph_is step).2 rest
+lead_within c is (OfBoth e ∷ ms) s t p q first second (u, w, same, drives, step, other, rest) =
+    lead_within c is ms u w p q (step_within c.graph s e u is.graph_is step).2
+    (step_within c.graph t e w is.graph_is other).2 rest
+
+pub twins_within : (c : CodedGraph) → IsCoded c → (p q : ℕ) → AreTwins c p q
+    → (p < c.graph.states) × (q < c.graph.states)
+twins_within c is p q twins = lead_within c is twins.moves twins.source twins.source p q twins.within twins.within twins.lead

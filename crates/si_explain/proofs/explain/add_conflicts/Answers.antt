@@ -1,4 +1,3 @@
-use Rattle.si_explain.specs.ExplainText.{max_explained}
 use Rattle.si_explain.proofs.ExplainLines.{pair_within, none_explained, one_more_explained, all_explained}
 use Rattle.si_explain.proofs.explain.add_conflicts.Goals as goal
 
@@ -15,9 +14,9 @@ returns c = all_explained c.args.graph.now c.args.states.now c.args.pairs.now c.
     c.loop-pair-test.false c.loop-pair.invariant
 
 pub add_conflict-requires-clause-p : goal.add_conflict-requires-clause-p
-add_conflict-requires-clause-p c = (pair_within c.args.graph.now max_explained c.args.pairs.now c.loop-pair.pair-index
+add_conflict-requires-clause-p c = (pair_within c.args.graph.now c.args.pairs.now c.loop-pair.pair-index
     c.pair-item.result c.requires.pairs c.loop-pair-test.true c.pair-item.is).0
 
 pub add_conflict-requires-clause-q : goal.add_conflict-requires-clause-q
-add_conflict-requires-clause-q c = (pair_within c.args.graph.now max_explained c.args.pairs.now c.loop-pair.pair-index
+add_conflict-requires-clause-q c = (pair_within c.args.graph.now c.args.pairs.now c.loop-pair.pair-index
     c.pair-item.result c.requires.pairs c.loop-pair-test.true c.pair-item.is).1
