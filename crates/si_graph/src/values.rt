@@ -8,8 +8,7 @@ ghost use Rattle.si_base.specs.Graph.{IsGraph};
 ghost use Rattle.si_base.specs.Limits.{code_width};
 ghost use Rattle.si_graph.specs.Loops.Changes.{AreChanges};
 ghost use Rattle.si_graph.specs.Loops.Values.{HasPlaces, IsFirstUnsuited, IsStartCode, SuitAll};
-ghost use Rattle.si_graph.specs.Loops.Values.{Suits};
-ghost use Rattle.si_graph.specs.Loops.Values.{TellsValues};
+ghost use Rattle.si_graph.specs.Loops.Values.{Suits, TellsValues};
 
 use crate::graph::Graph;
 use crate::spread::changes_from_start;
