@@ -128,8 +128,8 @@ line_sound : (pair : ℕ × ℕ) → pair.0 < 2 ^ 64 → pair.1 < 2 ^ 64 → IsS
 line_sound pair one other = (
   number pair.0 one,
   number pair.1 other,
-  both_named (without_arrow ∷ []) _ (others_named true without_arrow (λ rest. refl))
-      (both_named (in_red ∷ []) _ (others_named true in_red (λ rest. refl))
+  both_named (without_arrow ∷ []) (in_red ∷ without_constraint ∷ []) (others_named true without_arrow (λ rest. refl))
+      (both_named (in_red ∷ []) (without_constraint ∷ []) (others_named true in_red (λ rest. refl))
       (others_named true without_constraint (λ rest. refl))),
 )
 

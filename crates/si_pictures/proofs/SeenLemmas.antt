@@ -31,5 +31,6 @@ any_out g s e t arcs out = same_truth _ _ into from
     from : leads g s e t ≡ true → list_any (is_step s e t) arcs ≡ true
     from some =
         let (a, there, is) = any_found (is_step s e t) g.edges some in
-        let left : (a.from == s) ≡ true = (and_parts _ _ is).0 in
+        let both = (and_parts ((a.from == s) && same_event a.event e) (a.to == t) is).0 in
+        let left = (and_parts (a.from == s) (same_event a.event e) both).0 in
         any_there (is_step s e t) arcs a ((out.exactly a).1 (there, eqb-true a.from s left)) is

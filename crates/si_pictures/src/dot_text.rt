@@ -190,7 +190,7 @@ fn add_arcs(alloc: Global, text: &mut Text, seen: &Seen) -> Result<(), NoMemory>
 {
     let graph = seen.graph();
     for arc in graph.arcs() {
-        add_arc(alloc, text, graph.signals(), *arc, seen.is_red_arc(*arc))?;
+        add_arc(alloc, text, graph.signals(), *arc, seen.is_red_arc(arc))?;
     }
     Ok(())
 }

@@ -20,14 +20,14 @@ pub(crate) fn red_states(alloc: Global, seen: &Seen) -> Result<Vec<bool>, NoMemo
 {
     match seen {
         Seen::Proper(proper) => states_in_conflict(alloc, proper.coded()),
-        Seen::Coded(coded, breach) => breach_states(alloc, coded.graph().states(), *breach),
-        Seen::Uncoded(graph, breach) => breach_states(alloc, graph.states(), *breach),
+        Seen::Coded(coded, breach) => breach_states(alloc, coded.graph().states(), breach),
+        Seen::Uncoded(graph, breach) => breach_states(alloc, graph.states(), breach),
     }
 }
 
 /// For each of so many states whether the breach shows at it.
-fn breach_states(alloc: Global, states: u32, breach: Breach) -> Result<Vec<bool>, NoMemory>
-    ensures { IfOk result (λ marks. AreBreachMarks states breach marks.items) }
+fn breach_states(alloc: Global, states: u32, breach: &Breach) -> Result<Vec<bool>, NoMemory>
+    ensures { IfOk result (λ marks. AreBreachMarks states breach.now marks.items) }
 {
     let mut marks: Vec<bool> = Vec::new(alloc);
     for k in 0..states {

@@ -64,22 +64,22 @@ impl Seen {
     }
 
     /// Whether the arc shows the first breach.
-    pub(crate) fn is_red_arc(&self, arc: Edge) -> bool
-        ensures { result ≡ spec.is_red_arc self.now arc }
+    pub(crate) fn is_red_arc(&self, arc: &Edge) -> bool
+        ensures { result ≡ spec.is_red_arc self.now arc.now }
     {
         match self {
             Seen::Proper(_) => false,
-            Seen::Coded(coded, breach) => is_breach_arc(coded.graph(), *breach, arc),
-            Seen::Uncoded(graph, breach) => is_breach_arc(graph, *breach, arc),
+            Seen::Coded(coded, breach) => is_breach_arc(coded.graph(), breach, arc),
+            Seen::Uncoded(graph, breach) => is_breach_arc(graph, breach, arc),
         }
     }
 }
 
 /// Whether the breach shows at the state.
-pub(crate) fn is_breach_state(breach: Breach, k: StateId) -> bool
-    ensures { result ≡ spec.is_breach_state breach k }
+pub(crate) fn is_breach_state(breach: &Breach, k: StateId) -> bool
+    ensures { result ≡ spec.is_breach_state breach.now k }
 {
-    match breach {
+    match *breach {
         Breach::Nondeterministic { s, .. } => k == s,
         Breach::Inconsistent { .. } => false,
         Breach::Noncommutative { s, .. } => k == s,
@@ -88,14 +88,14 @@ pub(crate) fn is_breach_state(breach: Breach, k: StateId) -> bool
 }
 
 /// Whether the arc is one of those that show the breach.
-fn is_breach_arc(graph: &Graph, breach: Breach, x: Edge) -> bool
-    ensures { result ≡ spec.is_breach_arc graph.now breach x }
+fn is_breach_arc(graph: &Graph, breach: &Breach, x: &Edge) -> bool
+    ensures { result ≡ spec.is_breach_arc graph.now breach.now x.now }
 {
-    match breach {
-        Breach::Nondeterministic { s, e, t, u } => is_step(x, s, e, t) || is_step(x, s, e, u),
+    match *breach {
+        Breach::Nondeterministic { s, e, t, u } => is_step(x, s, &e, t) || is_step(x, s, &e, u),
         Breach::Inconsistent { sig } => x.event.sig == sig,
         Breach::Noncommutative { s, a, c } => {
-            is_on_way(graph, s, a, c, x) || is_on_way(graph, s, c, a, x)
+            is_on_way(graph, s, &a, &c, x) || is_on_way(graph, s, &c, &a, x)
         }
         Breach::Nonpersistent { s, lost, by } => {
             x.from == s && (x.event == lost || x.event == by)
@@ -104,29 +104,29 @@ fn is_breach_arc(graph: &Graph, breach: Breach, x: Edge) -> bool
 }
 
 /// Whether the arc leaves `s` by the one event, or by the other a state to which the one leads.
-fn is_on_way(graph: &Graph, s: StateId, one: Event, other: Event, x: Edge) -> bool
-    ensures { result ≡ spec.is_on_way graph.now s one other x }
+fn is_on_way(graph: &Graph, s: StateId, one: &Event, other: &Event, x: &Edge) -> bool
+    ensures { result ≡ spec.is_on_way graph.now s one.now other.now x.now }
 {
-    (x.from == s && x.event == one) || (x.event == other && leads(graph, s, one, x.from))
+    (x.from == s && x.event == *one) || (x.event == *other && leads(graph, s, one, x.from))
 }
 
 /// Whether the state `s` leads by the event to the state `t`.
-fn leads(graph: &Graph, s: StateId, e: Event, t: StateId) -> bool
-    ensures { result ≡ spec.leads graph.now s e t }
+fn leads(graph: &Graph, s: StateId, e: &Event, t: StateId) -> bool
+    ensures { result ≡ spec.leads graph.now s e.now t }
 {
     has_step(graph.arcs_out(s), s, e, t)
 }
 
 /// Whether one of the arcs leads from `s` by the event to `t`.
-fn has_step(arcs: &[Edge], s: StateId, e: Event, t: StateId) -> bool
-    ensures { result ≡ list_any (spec.is_step s e t) arcs.now }
+fn has_step(arcs: &[Edge], s: StateId, e: &Event, t: StateId) -> bool
+    ensures { result ≡ list_any (spec.is_step s e.now t) arcs.now }
 {
-    arcs.iter().any(|a| is_step(*a, s, e, t))
+    arcs.iter().any(|a| is_step(a, s, e, t))
 }
 
 /// Whether the arc leads from `s` by the event to `t`.
-fn is_step(a: Edge, s: StateId, e: Event, t: StateId) -> bool
-    ensures { result ≡ spec.is_step s e t a }
+fn is_step(a: &Edge, s: StateId, e: &Event, t: StateId) -> bool
+    ensures { result ≡ spec.is_step s e.now t a.now }
 {
-    a.from == s && a.event == e && a.to == t
+    a.from == s && a.event == *e && a.to == t
 }

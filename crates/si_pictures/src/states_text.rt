@@ -2,6 +2,7 @@
 
 ghost use Rattle.std.specs.Prelude.{◌≡◌, ◌<◌, ◌++◌, IfOk, OnOk, codes, ◌∷◌, [], length, map};
 ghost use Rattle.std.specs.Prelude.{if◌then◌else◌};
+ghost use Rattle.si_base.specs.declared.ids.Event.{Event};
 ghost use Rattle.si_base.specs.Graph.{enables};
 ghost use Rattle.si_base.specs.NetlistText.{word_if_any};
 ghost use Rattle.si_base.specs.Words.{line};
@@ -101,6 +102,7 @@ fn add_events(text: &mut Text, graph: &Graph, s: StateId) -> Result<(), NoMemory
     ensures { let g = graph.now in OnOk result
         (text.new ≡ text.old ++ spaced (map (event_word g.signals) (enabled_events g s))) }
 {
+    let _arcs = graph.arcs();
     for i in 0..graph.signals().len() {
         add_events_of(text, graph, s, Sig(i as u8))?;
     }
@@ -113,19 +115,26 @@ fn add_events_of(text: &mut Text, graph: &Graph, s: StateId, z: Sig) -> Result<(
     ensures { let g = graph.now in OnOk result
         (text.new ≡ text.old ++ spaced (map (event_word g.signals) (enabled_of g s z))) }
 {
-    add_event_if(text, graph, s, Event { sig: z, up: true })?;
-    add_event_if(text, graph, s, Event { sig: z, up: false })
+    add_event_if(text, graph, s, z, true)?;
+    add_event_if(text, graph, s, z, false)
 }
 
-/// Adds the event with a blank before it, where the state enables it.
-fn add_event_if(text: &mut Text, graph: &Graph, s: StateId, event: Event) -> Result<(), NoMemory>
-    requires { event.sig < length graph.now.signals }
-    ensures { let g = graph.now in OnOk result (text.new ≡ text.old
-        ++ spaced (map (event_word g.signals) (if enables g s event then event ∷ [] else []))) }
+/// Adds the event of the signal with a blank before it, where the state enables it.
+fn add_event_if(
+    text: &mut Text,
+    graph: &Graph,
+    s: StateId,
+    z: Sig,
+    up: bool,
+) -> Result<(), NoMemory>
+    requires { z < length graph.now.signals }
+    ensures { let g = graph.now in let e : Event = record { sig = z; up = up } in
+        OnOk result (text.new ≡ text.old
+        ++ spaced (map (event_word g.signals) (if enables g s e then e ∷ [] else []))) }
 {
-    if !graph.enabled(s, event) {
+    if !graph.enabled(s, Event { sig: z, up }) {
         return Ok(());
     }
-    add_word(text, signal_name(graph.signals(), event.sig))?;
-    text.add(sign(event.up))
+    add_word(text, signal_name(graph.signals(), z))?;
+    text.add(sign(up))
 }
