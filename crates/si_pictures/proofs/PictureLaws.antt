@@ -1,7 +1,7 @@
 -- The text of a picture: there is one, and it is read as the picture.
 use Rattle.std.proofs.Common.{◌≡◌, ℕ, ◌^◌, ◌<◌, ◌≤◌, ◌==◌, ◌↔◌, not, Bool, true}
 use Rattle.std.proofs.Common.{false, List, [], ◌∷◌, ◌++◌, map, length, codes, decimal}
-use Rattle.std.proofs.Common.{Contains, if◌then◌else◌, refl, sym, ap, ap₂, subst, ◌∙◌, arith, inl, inr}
+use Rattle.std.proofs.Common.{Contains, if◌then◌else◌, refl, sym, ap₂, subst, ◌∙◌, arith, inl, inr}
 use Rattle.std.specs.List.{list_all}
 use Rattle.std.specs.Str.Parse.{AllDigits}
 use Rattle.std.proofs.lemmas.Bool.{and_from, le-leb}
@@ -187,16 +187,16 @@ module _ (model : List ℕ) (states : List (List ℕ)) (x : Seen) (conflicts lin
   unfolding picture
   picture_sound y there = elim (Contains-cons_cases (Setting (label_attribute (title model g.signals)))
       (map node (first g.states) ++ (map (link_of x) g.edges ++ map conflict_line lines)) y there) [
-    | inl same ↦ subst IsSound same label_named
-    | inr later ↦ elim (Contains-append_cases (map node (first g.states))
-        (map (link_of x) g.edges ++ map conflict_line lines) y later) [
-      | inl nodes ↦ nodes_sound y nodes
-      | inr others ↦ elim (Contains-append_cases (map (link_of x) g.edges) (map conflict_line lines) y others) [
-        | inl links ↦ links_sound y links
-        | inr joins ↦ lines_sound y joins
+        | inl same ↦ subst IsSound same label_named
+        | inr later ↦ elim (Contains-append_cases (map node (first g.states))
+            (map (link_of x) g.edges ++ map conflict_line lines) y later) [
+              | inl nodes ↦ nodes_sound y nodes
+              | inr others ↦ elim (Contains-append_cases (map (link_of x) g.edges) (map conflict_line lines) y others) [
+                | inl links ↦ links_sound y links
+                | inr joins ↦ lines_sound y joins
+              ]
+            ]
       ]
-    ]
-  ]
 
 pub read_back : (model : List ℕ) (states : List (List ℕ)) (x : Seen) (text : List ℕ)
     (conflicts lines : List (ℕ × ℕ)) (ys : List Statement) → IsGraph (graph_of x) → IsDotText model states x text

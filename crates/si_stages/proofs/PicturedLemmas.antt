@@ -1,16 +1,15 @@
 -- A graph is read in one way, proper or not, and has one picture and one list of its states.
-use Rattle.std.proofs.Common.{◌≡◌, ℕ, List, Option, Some, Ok, Err, ap, refl, sym, ◌∙◌, subst}
-use Rattle.si_base.specs.Codes.{CodedGraph, IsCoded, IsConnected, IsConsistent, IsDeterministic}
+use Rattle.std.proofs.Common.{◌≡◌, ℕ, List, Option, Some, ap, refl, sym, ◌∙◌, subst}
+use Rattle.si_base.specs.Codes.{IsConnected, IsConsistent, IsDeterministic}
 use Rattle.si_base.specs.Graph.{StateGraph, IsGraph}
 use Rattle.si_base.specs.Order.{IsFirst}
 use Rattle.si_base.specs.Proper.{IsProper, IsFirstWithoutValues}
-use Rattle.si_base.specs.Proper.{Split, Splits, split_place, Fork, Forks, fork_place, Loss, Loses, loss_place}
+use Rattle.si_base.specs.Proper.{Split, Splits, split_place, Fork, Loss}
 use Rattle.si_checks.proofs.BreachesDecided.{proper_or_breach}
 use Rattle.si_checks.proofs.ByCodesExist.{some_codes}
 use Rattle.si_checks.proofs.UniqueBreaches.{one_split, one_without_values, one_fork, one_loss}
 use Rattle.si_checks.proofs.UniqueBreaches.{split_breaches, no_values_breach, fork_breaches, loss_breaches}
 use Rattle.si_checks.specs.Laws.{ProperOrBreach, AllHold, HasSplit, HasNoValues, HasFork, HasLoss}
-use Rattle.si_pictures.specs.Picture.{IsDotText}
 use Rattle.si_pictures.specs.StatesText.{states_text}
 use Rattle.si_pictures.specs.declared.seen.Breach.{Breach}
 use Rattle.si_pictures.specs.declared.seen.Breach.TheVariants.{Nondeterministic, Inconsistent}
@@ -18,7 +17,7 @@ use Rattle.si_pictures.specs.declared.seen.Breach.TheVariants.{Noncommutative, N
 use Rattle.si_pictures.specs.declared.seen.Seen.{Seen}
 use Rattle.si_pictures.specs.declared.seen.Seen.TheVariants.{Proper, Coded, Uncoded}
 use Rattle.si_pictures.proofs.PictureLaws.{one_dot_text, some_dot_text}
-use Rattle.si_readings.specs.Checks.{IsNamed, IsSound}
+use Rattle.si_readings.specs.Checks.{IsNamed}
 use Rattle.si_readings.specs.Laws.{AtMostOne, HasResult}
 use Rattle.si_readings.proofs.CheckLemmas.{coded_consistent, coded_unique}
 use Rattle.si_readings.proofs.StageLemmas.{gives_one, gives_some, shows_one, shows_some, then_one, then_some}

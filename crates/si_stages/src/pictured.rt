@@ -41,11 +41,7 @@ pub(crate) fn drawn(
 
 /// The list of the states of the graph, which have these names. It fails only where memory runs
 /// out.
-pub(crate) fn listed(
-    alloc: Global,
-    graph: Graph,
-    states: &Names,
-) -> Result<Text, Refusal<'static>>
+pub(crate) fn listed(alloc: Global, graph: Graph, states: &Names) -> Result<Text, Refusal<'static>>
     requires { IsNamed graph states.now }
     ensures ok { IfOk result (λ output. stage.listed states.now graph (Ok output)) }
     ensures err { IfErr result (λ r. MayStop (stage.listed states.now graph) (ending_of r)) }

@@ -1,5 +1,3 @@
-use Rattle.std.proofs.Common.{ap}
-use Rattle.si_base.specs.Graph.{StateGraph}
 use Rattle.si_words.proofs.WritingLemmas.{left_as}
 use Rattle.si_pictures.proofs.CodeLemmas.{state_by_calls}
 use Rattle.si_pictures.proofs.states_text.add_state.Goals as goal
