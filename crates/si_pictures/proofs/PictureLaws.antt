@@ -167,7 +167,8 @@ module _ (model : List ℕ) (states : List (List ℕ)) (x : Seen) (conflicts lin
   nodes_sound : (y : Statement) → Contains (map node (first g.states)) y → IsSound y
   nodes_sound y there =
       let (s, among, is) = Contains-from_map node (first g.states) y there in
-      subst IsSound is (node_sound x states s (is_red_state x conflicts s) (small g s graph (among_first g.states s among)))
+      subst IsSound is (node_sound x states s (is_red_state x conflicts s)
+      (small g s graph (among_first g.states s among)))
 
   links_sound : (y : Statement) → Contains (map (link_of x) g.edges) y → IsSound y
   links_sound y there =

@@ -1,7 +1,7 @@
 -- The parts of the text of a picture, as they are added.
-use Rattle.std.proofs.Common.{◌≡◌, ℕ, ◌<◌, ◌||◌, ◌==◌, not, Bool, true, false, List, [], ◌∷◌, ◌++◌, get_or, map, flat_map}
-use Rattle.std.proofs.Common.{if◌then◌else◌, codes, decimal, refl, sym, ap, ◌∙◌, append_assoc, IsTrue, ◌↔◌, inl, inr}
-use Rattle.std.proofs.Common.{Contains, subst, eqb-true, eq-eqb}
+use Rattle.std.proofs.Common.{◌≡◌, ℕ, ◌<◌, ◌||◌, ◌==◌, not, Bool, true, false, List, [], ◌∷◌, ◌++◌, get_or, map}
+use Rattle.std.proofs.Common.{flat_map, if◌then◌else◌, codes, decimal, refl, sym, ap, ◌∙◌, append_assoc, IsTrue}
+use Rattle.std.proofs.Common.{◌↔◌, inl, inr, Contains, subst, eqb-true, eq-eqb}
 use mathlib.Core.Bool.{beq}
 use Rattle.std.specs.List.{list_any}
 use Rattle.std.proofs.lemmas.Bool.{cases_Bool, true≢false, or_cases, or_left, or_right}
@@ -168,7 +168,8 @@ line_by_calls p q text first second third fourth e1 e2 e3 e4 =
     (codes " [dir=\"none\", color=\"red\", constraint=\"false\"];\n"))
 
 -- ---- the marks
-pub any_found : {A : Type 0} (p : A → Bool) (xs : List A) → list_any p xs ≡ true → (x : A) × Contains xs x × (p x ≡ true)
+pub any_found : {A : Type 0} (p : A → Bool) (xs : List A) → list_any p xs ≡ true
+    → (x : A) × Contains xs x × (p x ≡ true)
 any_found p [] none = absurd (true≢false (sym none))
 any_found p (x ∷ xs) some = elim (or_cases (p x) (list_any p xs) some) [
   | inl here ↦ (x, Contains-here x xs, here)
