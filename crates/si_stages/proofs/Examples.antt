@@ -1,16 +1,22 @@
--- The summary of a graph, the end of a replay, an audit: the definitions at work.
-use Rattle.std.proofs.Common.{◌≡◌, ℕ, Bool, List, [], ◌∷◌, ◌++◌, refl, ap, true, false, codes, append_assoc}
+-- The summary of a graph, the end of a replay, an audit, what is read of a graph: the definitions at work.
+use Rattle.std.proofs.Common.{◌≡◌, ℕ, Bool, List, [], ◌∷◌, ◌++◌, refl, ap, true, false, codes, append_assoc, Some}
 use Rattle.std.specs.Prelude.{decimal}
 use Rattle.si_audit.specs.declared.fault.AuditFault.TheVariants as fault
-use Rattle.si_base.specs.Codes.{CodedGraph}
+use Rattle.si_base.specs.Codes.{CodedGraph, IsConsistent, IsDeterministic}
+use Rattle.si_base.specs.Graph.{StateGraph}
 use Rattle.si_base.specs.Netlist.{Netlist, SumGate, Gc}
+use Rattle.si_base.specs.Order.{IsFirst}
+use Rattle.si_base.specs.Proper.{Fork, Forks, fork_place, IsFirstWithoutValues}
+use Rattle.si_checks.specs.Laws.{HasFork, HasNoValues}
 use Rattle.si_base.specs.declared.graph.Signal.{Signal}
 use Rattle.si_base.specs.declared.graph.SigKind.TheVariants.{Input, Output}
 use Rattle.si_base.specs.declared.ids.Literal.{Literal}
 use Rattle.si_insert.specs.declared.accept.Rejected.TheVariants as why
 use Rattle.si_insert.specs.Lineage.{History, given_current}
+use Rattle.si_pictures.specs.declared.seen.Breach.TheVariants.{Inconsistent, Noncommutative}
 use Rattle.si_refusals.specs.declared.rejection.NamedRejection.TheVariants.{Delays, Gate}
 use Rattle.si_stages.specs.Audited.{IsNamedSo, audit_text}
+use Rattle.si_stages.specs.Pictured.{breach_of}
 use Rattle.si_stages.specs.Replayed.{replay_text, shown_signal}
 use Rattle.si_stages.specs.Reports.{summary}
 use Rattle.si_system.specs.declared.verdict.Verdict.TheVariants.{Lost, Blocked}
@@ -94,3 +100,14 @@ wrong_gate = refl
 delayed_input : IsNamedSo signals (fault.Refused 1 (codes "s5") (why.DelaysInput 5 (record { sig = 0; up = false })))
     (Delays 1 (codes "s5") (codes "a-"))
 delayed_input = refl
+
+-- ---- what is read of a graph
+-- a breach is shown by its states and events: of two orders the state and the two events
+no_values : (g : StateGraph) (deterministic : IsDeterministic g) (first : IsFirstWithoutValues g 1)
+    → breach_of (HasNoValues deterministic 1 first) ≡ Some (Inconsistent 1)
+no_values g deterministic first = refl
+
+two_orders : (g : StateGraph) (deterministic : IsDeterministic g) (consistent : IsConsistent g) (b : Fork)
+    (first : IsFirst fork_place (Forks g) b)
+    → breach_of (HasFork deterministic consistent b first) ≡ Some (Noncommutative b.s b.a b.c)
+two_orders g deterministic consistent b first = refl
