@@ -3,7 +3,8 @@
 ghost use Rattle.std.specs.Prelude.{ℕ};
 ghost use Rattle.si_walks.specs.Joined.{IsJoinedConflict};
 ghost use Rattle.si_walks.specs.Laws.{JoinedConflictStays, KeptJoinedConflictStays};
-ghost use Rattle.si_walks.specs.Laws.{JoinedIsNeverResolved, WalkJoinsConflict};
+ghost use Rattle.si_walks.specs.Laws.{JoinedIsNeverResolved, WalkJoinsConflict, WaysAreFirstWalks};
+ghost use Rattle.si_walks.specs.Laws.{WaysAreUnique, WaysExist};
 
 use si_insert::resolved::Resolved;
 
@@ -23,3 +24,11 @@ pub fn resolved_has_none(resolved: &Resolved)
     let lineage = resolved.lineage();
     let _trace = lineage.trace();
 }
+
+/// Each state of a graph has one first path from the start, and in a deterministic graph the events
+/// of this are the first walk.
+pub fn first_paths()
+    ensures unique { WaysAreUnique }
+    ensures exist { WaysExist }
+    ensures walks { WaysAreFirstWalks }
+{}

@@ -6,5 +6,6 @@ pub mod arcs;
 pub mod distances;
 pub mod laws;
 mod sources;
+pub mod tree;
 pub mod walk;
 pub mod witness;
