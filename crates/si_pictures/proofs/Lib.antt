@@ -6,4 +6,5 @@ pub mod TokenReading
 pub mod GrammarStatements
 pub mod OneTokenReading
 pub mod PictureLemmas
+pub mod SeenLemmas
 pub mod PictureLaws

@@ -1,7 +1,7 @@
 -- The text of a picture: there is one, and it is read as the picture.
 use Rattle.std.proofs.Common.{◌≡◌, ℕ, ◌^◌, ◌<◌, ◌≤◌, ◌==◌, ◌↔◌, not, Bool, true}
 use Rattle.std.proofs.Common.{false, List, [], ◌∷◌, ◌++◌, map, length, codes, decimal}
-use Rattle.std.proofs.Common.{Contains, if◌then◌else◌, refl, sym, ap, subst, ◌∙◌, arith, inl, inr}
+use Rattle.std.proofs.Common.{Contains, if◌then◌else◌, refl, sym, ap₂, subst, ◌∙◌, arith, inl, inr}
 use Rattle.std.specs.List.{list_all}
 use Rattle.std.specs.Str.Parse.{AllDigits}
 use Rattle.std.proofs.lemmas.Bool.{and_from, le-leb}
@@ -11,37 +11,58 @@ use Rattle.std.proofs.lemmas.List.FromFn.{get_or-range_with_len, length-range_wi
 use Rattle.std.proofs.lemmas.Str.Parse.{digit_from_value}
 use Rattle.si_base.specs.declared.graph.Edge.{Edge}
 use Rattle.si_base.specs.declared.graph.Signal.{Signal}
-use Rattle.si_base.specs.Codes.{CodedGraph, IsCoded}
+use Rattle.si_base.specs.Graph.{StateGraph, IsGraph}
 use Rattle.si_base.specs.Words.{is_digit}
 use Rattle.si_graph.proofs.ListMembers.{Contains-cons_cases, Contains-nil, Contains-from_map}
-use Rattle.si_conflicts.specs.Conflicts.{AreConflicts}
-use Rattle.si_conflicts.proofs.OneConflictList.{one_list}
-use Rattle.si_conflicts.proofs.ConflictsExist.{some_conflicts}
+use Rattle.si_conflicts.proofs.OneConflictList.{one_list, first_unique}
+use Rattle.si_conflicts.proofs.ConflictsExist.{some_conflicts, some_first}
 use Rattle.si_pictures.specs.CodeWord.{first}
 use Rattle.si_pictures.specs.Grammar.{Attribute, Statement, Setting, IsReadAs}
-use Rattle.si_pictures.specs.InConflict.{is_among}
 use Rattle.si_pictures.specs.Picture.{label_attribute, two_borders, in_red, dashed_style, state_label, state_node}
-use Rattle.si_pictures.specs.Picture.{drives, arc_link}
+use Rattle.si_pictures.specs.Picture.{without_arrow, without_constraint, conflict_line, is_red_state, title}
+use Rattle.si_pictures.specs.Picture.{drives, arc_link, AreShown, max_lines}
 use Rattle.si_pictures.specs.Picture.{picture, IsDotText}
+use Rattle.si_pictures.specs.Seen.{graph_of, is_red_arc}
+use Rattle.si_pictures.specs.declared.seen.Seen.{Seen}
+use Rattle.si_pictures.specs.declared.seen.Seen.TheVariants.{Proper, Coded, Uncoded}
 use Rattle.si_pictures.specs.Writing.{dot_text}
+use Rattle.si_pictures.proofs.PictureLemmas.{link_of}
 use Rattle.si_pictures.proofs.TokenReading.{NameReads, IsNumber}
 use Rattle.si_pictures.proofs.GrammarStatements.{AreNamed, IsSound, graph_read}
 use Rattle.si_pictures.proofs.OneTokenReading.{one_reading}
 use Rattle.si_sg.specs.CanonicalText.{event_word}
 
 -- ---- one text, and some
-pub one_dot_text : (model : List ℕ) (states : List (List ℕ)) (c : CodedGraph) (x y : List ℕ)
-    → IsDotText model states c x → IsDotText model states c y → x ≡ y
-one_dot_text model states c x y a b =
-    a.text_is ∙ ap (λ (pairs : List (ℕ × ℕ)). dot_text (picture model states c (is_among pairs)))
-    (one_list c a.conflicts b.conflicts a.are b.are) ∙ sym b.text_is
+one_shown : (x : Seen) (a b l m : List (ℕ × ℕ)) → AreShown x a l → AreShown x b m → (a ≡ b) × (l ≡ m)
+one_shown (Proper c) a b l m one other =
+    (one_list c a b one.0 other.0, first_unique c max_lines l m one.1 other.1)
+one_shown (Coded c breach) a b l m one other = (one.0 ∙ sym other.0, one.1 ∙ sym other.1)
+one_shown (Uncoded g breach) a b l m one other = (one.0 ∙ sym other.0, one.1 ∙ sym other.1)
 
-pub some_dot_text : (model : List ℕ) (states : List (List ℕ)) (c : CodedGraph)
-    → (text : List ℕ) × IsDotText model states c text
-some_dot_text model states c =
-    let all = some_conflicts c in (
-      dot_text (picture model states c (is_among all.0)),
-      record { conflicts = all.0; are = all.1; text_is = refl },
+some_shown : (x : Seen) → (a l : List (ℕ × ℕ)) × AreShown x a l
+some_shown (Proper c) =
+    let all = some_conflicts c in
+    let drawn = some_first c max_lines in (all.0, drawn.0, (all.1, drawn.1))
+some_shown (Coded c breach) = ([], [], (refl, refl))
+some_shown (Uncoded g breach) = ([], [], (refl, refl))
+
+drawn_as : (model : List ℕ) (states : List (List ℕ)) (x : Seen) (text : List ℕ) (conflicts lines : List (ℕ × ℕ))
+    → IsDotText model states x text → AreShown x conflicts lines
+    → text ≡ dot_text (picture model states x conflicts lines)
+drawn_as model states x text conflicts lines is are =
+    let same = one_shown x is.conflicts conflicts is.lines lines is.are are in
+    is.text_is ∙ ap₂ (λ (a l : List (ℕ × ℕ)). dot_text (picture model states x a l)) same.0 same.1
+
+pub one_dot_text : (model : List ℕ) (states : List (List ℕ)) (x : Seen) (s t : List ℕ)
+    → IsDotText model states x s → IsDotText model states x t → s ≡ t
+one_dot_text model states x s t a b = drawn_as model states x s b.conflicts b.lines a b.are ∙ sym b.text_is
+
+pub some_dot_text : (model : List ℕ) (states : List (List ℕ)) (x : Seen)
+    → (text : List ℕ) × IsDotText model states x text
+some_dot_text model states x =
+    let (all, drawn, are) = some_shown x in (
+      dot_text (picture model states x all drawn),
+      record { conflicts = all; lines = drawn; are = are; text_is = refl },
     )
 
 -- ---- its numbers
@@ -84,21 +105,32 @@ both_named xs ys first next = λ x there. elim (Contains-append_cases xs ys x th
 ]
 
 -- ---- its statements
-node_sound : (c : CodedGraph) (states : List (List ℕ)) (s : ℕ) (marked : Bool) → s < 2 ^ 64
-    → IsSound (state_node c states s marked)
-node_sound c states s marked small = (
+node_sound : (x : Seen) (states : List (List ℕ)) (s : ℕ) (marked : Bool) → s < 2 ^ 64
+    → IsSound (state_node x states s marked)
+node_sound x states s marked small = (
   number s small,
-  behind_label (state_label c states s) _
-      (both_named _ _ (others_named (s == c.graph.start) two_borders (λ rest. refl))
+  behind_label (state_label x states s) _
+      (both_named _ _ (others_named (s == (graph_of x).start) two_borders (λ rest. refl))
       (others_named marked in_red (λ rest. refl))),
 )
 
-link_sound : (signals : List Signal) (a : Edge) → a.from < 2 ^ 64 → a.to < 2 ^ 64 → IsSound (arc_link signals a)
-link_sound signals a from to = (
+link_sound : (signals : List Signal) (a : Edge) (marked : Bool) → a.from < 2 ^ 64 → a.to < 2 ^ 64
+    → IsSound (arc_link signals a marked)
+link_sound signals a marked from to = (
   number a.from from,
   number a.to to,
   behind_label (event_word signals a.event) _
-      (others_named (not (drives signals a.event.sig)) dashed_style (λ rest. refl)),
+      (both_named _ _ (others_named (not (drives signals a.event.sig)) dashed_style (λ rest. refl))
+      (others_named marked in_red (λ rest. refl))),
+)
+
+line_sound : (pair : ℕ × ℕ) → pair.0 < 2 ^ 64 → pair.1 < 2 ^ 64 → IsSound (conflict_line pair)
+line_sound pair one other = (
+  number pair.0 one,
+  number pair.1 other,
+  both_named (without_arrow ∷ []) (in_red ∷ without_constraint ∷ []) (others_named true without_arrow (λ rest. refl))
+      (both_named (in_red ∷ []) (without_constraint ∷ []) (others_named true in_red (λ rest. refl))
+      (others_named true without_constraint (λ rest. refl))),
 )
 
 among_first : (n s : ℕ) → Contains (first n) s → s < n
@@ -108,43 +140,72 @@ among_first n s (j, within, at) =
     let is = get_or-range_with_len 0 n j s below in
     omega (arith, below, sym at ∙ is)
 
-small : (c : CodedGraph) (s : ℕ) → IsCoded c → s < c.graph.states → s < 2 ^ 64
-small c s coded below = let few : c.graph.states ≤ 262144 = coded.graph_is.few_states in omega (arith, few, below)
+small : (g : StateGraph) (s : ℕ) → IsGraph g → s < g.states → s < 2 ^ 64
+small g s is below = let few : g.states ≤ 262144 = is.few_states in omega (arith, few, below)
 
-picture_sound : (model : List ℕ) (states : List (List ℕ)) (c : CodedGraph) (marked : ℕ → Bool) → IsCoded c
-    → (x : Statement) → Contains (picture model states c marked) x → IsSound x
-unfolding picture
-picture_sound model states c marked coded x there =
-    let node : ℕ → Statement = λ s. state_node c states s (marked s) in
-    let link : Edge → Statement = λ a. arc_link c.graph.signals a in
-    elim (Contains-cons_cases (Setting (label_attribute model))
-    (map node (first c.graph.states) ++ map link c.graph.edges) x
-    there) [
-      | inl same ↦ subst IsSound same label_named
-      | inr later ↦ elim (Contains-append_cases (map node (first c.graph.states)) (map link c.graph.edges) x later) [
-        | inl nodes ↦ (
-            let (s, among, is) = Contains-from_map node (first c.graph.states) x nodes in
-            subst IsSound is (node_sound c states s (marked s)
-            (small c s coded (among_first c.graph.states s among))))
-        | inr links ↦ (
-            let (a, (k, below, at), is) = Contains-from_map link c.graph.edges x links in
-            let ends = subst (λ (b : Edge). (b.from < c.graph.states) × (b.event.sig < length c.graph.signals)
-            × (b.to < c.graph.states)) at (coded.graph_is.within k a below) in
-            subst IsSound is (link_sound c.graph.signals a (small c a.from coded ends.0)
-            (small c a.to coded ends.2)))
+-- both states of a pair that has a line are states of the graph
+ends_within : (x : Seen) (conflicts lines : List (ℕ × ℕ)) → AreShown x conflicts lines → (pair : ℕ × ℕ)
+    → Contains lines pair → (pair.0 < (graph_of x).states) × (pair.1 < (graph_of x).states)
+ends_within (Proper c) conflicts lines are pair there =
+    let is = are.1.each pair there in
+    let order = is.order in
+    let within = is.within in
+    (omega (arith, order, within), within)
+ends_within (Coded c breach) conflicts lines are pair there =
+    absurd (Contains-nil pair (subst (λ (l : List (ℕ × ℕ)). Contains l pair) are.1 there))
+ends_within (Uncoded g breach) conflicts lines are pair there =
+    absurd (Contains-nil pair (subst (λ (l : List (ℕ × ℕ)). Contains l pair) are.1 there))
+
+module _ (model : List ℕ) (states : List (List ℕ)) (x : Seen) (conflicts lines : List (ℕ × ℕ))
+    (graph : IsGraph (graph_of x)) (are : AreShown x conflicts lines) where
+  abbrev g : StateGraph
+  g = graph_of x
+
+  abbrev node : ℕ → Statement
+  node s = state_node x states s (is_red_state x conflicts s)
+
+  nodes_sound : (y : Statement) → Contains (map node (first g.states)) y → IsSound y
+  nodes_sound y there =
+      let (s, among, is) = Contains-from_map node (first g.states) y there in
+      subst IsSound is (node_sound x states s (is_red_state x conflicts s) (small g s graph (among_first g.states s among)))
+
+  links_sound : (y : Statement) → Contains (map (link_of x) g.edges) y → IsSound y
+  links_sound y there =
+      let (a, (k, below, at), is) = Contains-from_map (link_of x) g.edges y there in
+      let ends = subst (λ (b : Edge). (b.from < g.states) × (b.event.sig < length g.signals) × (b.to < g.states)) at
+      (graph.within k a below) in
+      subst IsSound is (link_sound g.signals a (is_red_arc x a) (small g a.from graph ends.0)
+      (small g a.to graph ends.2))
+
+  lines_sound : (y : Statement) → Contains (map conflict_line lines) y → IsSound y
+  lines_sound y there =
+      let (pair, among, is) = Contains-from_map conflict_line lines y there in
+      let ends = ends_within x conflicts lines are pair among in
+      subst IsSound is (line_sound pair (small g pair.0 graph ends.0) (small g pair.1 graph ends.1))
+
+  picture_sound : (y : Statement) → Contains (picture model states x conflicts lines) y → IsSound y
+  unfolding picture
+  picture_sound y there = elim (Contains-cons_cases (Setting (label_attribute (title model g.signals)))
+      (map node (first g.states) ++ (map (link_of x) g.edges ++ map conflict_line lines)) y there) [
+        | inl same ↦ subst IsSound same label_named
+        | inr later ↦ elim (Contains-append_cases (map node (first g.states))
+            (map (link_of x) g.edges ++ map conflict_line lines) y later) [
+              | inl nodes ↦ nodes_sound y nodes
+              | inr others ↦ elim (Contains-append_cases (map (link_of x) g.edges) (map conflict_line lines) y others) [
+                | inl links ↦ links_sound y links
+                | inr joins ↦ lines_sound y joins
+              ]
+            ]
       ]
-    ]
 
-pub read_back : (model : List ℕ) (states : List (List ℕ)) (c : CodedGraph) (text : List ℕ)
-    (conflicts : List (ℕ × ℕ)) (xs : List Statement) → IsCoded c → IsDotText model states c text
-    → AreConflicts c conflicts → IsReadAs text xs ↔ (xs ≡ picture model states c (is_among conflicts))
-read_back model states c text conflicts xs coded is are =
-    let drawn = picture model states c (is_among conflicts) in
-    let whole : text ≡ dot_text drawn = is.text_is
-    ∙ ap (λ (pairs : List (ℕ × ℕ)). dot_text (picture model states c (is_among pairs)))
-    (one_list c is.conflicts conflicts is.are are) in
+pub read_back : (model : List ℕ) (states : List (List ℕ)) (x : Seen) (text : List ℕ)
+    (conflicts lines : List (ℕ × ℕ)) (ys : List Statement) → IsGraph (graph_of x) → IsDotText model states x text
+    → AreShown x conflicts lines → IsReadAs text ys ↔ (ys ≡ picture model states x conflicts lines)
+read_back model states x text conflicts lines ys graph is are =
+    let drawn = picture model states x conflicts lines in
+    let whole = drawn_as model states x text conflicts lines is are in
     let read : IsReadAs text drawn = subst (λ (t : List ℕ). IsReadAs t drawn) (sym whole)
-    (graph_read drawn (picture_sound model states c (is_among conflicts) coded)) in (
-      λ reads. one_reading text xs drawn reads read,
+    (graph_read drawn (picture_sound model states x conflicts lines graph are)) in (
+      λ reads. one_reading text ys drawn reads read,
       λ same. subst (IsReadAs text) (sym same) read,
     )

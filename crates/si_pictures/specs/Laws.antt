@@ -1,10 +1,10 @@
 -- (law) The laws of pictures, one word each.
 use Rattle.std.specs.Prelude.{◌≡◌, ℕ, ◌↔◌, List}
-use Rattle.si_base.specs.Codes.{CodedGraph, IsCoded}
-use Rattle.si_conflicts.specs.Conflicts.{AreConflicts}
+use Rattle.si_base.specs.Graph.{IsGraph}
 use Rattle.si_pictures.specs.Grammar.{Statement, IsReadAs}
-use Rattle.si_pictures.specs.InConflict.{is_among}
-use Rattle.si_pictures.specs.Picture.{picture, IsDotText}
+use Rattle.si_pictures.specs.Picture.{picture, AreShown, IsDotText}
+use Rattle.si_pictures.specs.Seen.{graph_of}
+use Rattle.si_pictures.specs.declared.seen.Seen.{Seen}
 
 -- a text is that of one graph at most
 abbrev pub TextsHaveOneReading : Type 0
@@ -13,16 +13,16 @@ TextsHaveOneReading = (text : List ℕ) (xs ys : List Statement) → IsReadAs te
 
 -- the text of a picture is read as that picture, and as nothing else
 abbrev pub PicturesAreReadBack : Type 0
-PicturesAreReadBack = (model : List ℕ) (states : List (List ℕ)) (c : CodedGraph) (text : List ℕ)
-    (conflicts : List (ℕ × ℕ)) (xs : List Statement) → IsCoded c → IsDotText model states c text
-    → AreConflicts c conflicts
-    → IsReadAs text xs ↔ (xs ≡ picture model states c (is_among conflicts))
+PicturesAreReadBack = (model : List ℕ) (states : List (List ℕ)) (seen : Seen) (text : List ℕ)
+    (conflicts lines : List (ℕ × ℕ)) (xs : List Statement) → IsGraph (graph_of seen)
+    → IsDotText model states seen text → AreShown seen conflicts lines
+    → IsReadAs text xs ↔ (xs ≡ picture model states seen conflicts lines)
 
--- a coded graph with names for its states has one text
+-- what was read, with names for its states, has one text
 abbrev pub PictureTextsAreUnique : Type 0
-PictureTextsAreUnique = (model : List ℕ) (states : List (List ℕ)) (c : CodedGraph)
-    (x y : List ℕ) → IsDotText model states c x → IsDotText model states c y → x ≡ y
+PictureTextsAreUnique = (model : List ℕ) (states : List (List ℕ)) (seen : Seen)
+    (x y : List ℕ) → IsDotText model states seen x → IsDotText model states seen y → x ≡ y
 
 abbrev pub PictureTextsExist : Type 0
-PictureTextsExist = (model : List ℕ) (states : List (List ℕ)) (c : CodedGraph)
-    → (text : List ℕ) × IsDotText model states c text
+PictureTextsExist = (model : List ℕ) (states : List (List ℕ)) (seen : Seen)
+    → (text : List ℕ) × IsDotText model states seen text

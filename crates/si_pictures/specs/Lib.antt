@@ -1,6 +1,7 @@
 pub mod CodeWord
 pub mod StatesText
 pub mod InConflict
+pub mod Seen
 pub mod Tokens
 pub mod Grammar
 pub mod Writing

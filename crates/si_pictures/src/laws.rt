@@ -3,7 +3,7 @@
 ghost use Rattle.si_pictures.specs.Laws.{TextsHaveOneReading, PicturesAreReadBack};
 ghost use Rattle.si_pictures.specs.Laws.{PictureTextsAreUnique, PictureTextsExist};
 
-/// A graph with names for its states has one text of its picture.
+/// What was read, with names for its states, has one text of its picture.
 pub fn pictures_are_unique()
     ensures one { PictureTextsAreUnique }
     ensures some { PictureTextsExist }

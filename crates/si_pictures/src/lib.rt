@@ -6,4 +6,6 @@ pub mod conflict_states;
 pub mod dot_text;
 mod dot_writing;
 pub mod laws;
+mod red;
+pub mod seen;
 pub mod states_text;

@@ -1,6 +1,7 @@
 pub mod FoldLemmas
 pub mod FoldTexts
 pub mod ReportLemmas
+pub mod PicturedLemmas
 pub mod ReplayLemmas
 pub mod ReplayEnds
 pub mod ResolvingLemmas

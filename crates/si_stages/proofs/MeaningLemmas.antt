@@ -23,18 +23,23 @@ use Rattle.si_readings.specs.Laws.{AtMostOne, HasResult}
 use Rattle.si_stages.specs.Laws.{EndsOrDiffers}
 use Rattle.si_stages.specs.Laws.{FreeGraphsAreMapped, FreeGraphsAreSynthesised}
 use Rattle.si_stages.specs.Mapping.{EndsInCells}
-use Rattle.si_stages.specs.Meaning.{report, synth, mapping, replay}
+use Rattle.si_stages.specs.Meaning.{on_proper, report_on, report, synth, mapping, replay}
 use Rattle.si_readings.specs.Readings.{MappingReadings, ReplayReadings, library_from, mapping_readings}
 use Rattle.si_stages.specs.Resolving.{resolution}
 use Rattle.si_readings.specs.declared.library_format.LibraryFormat.{LibraryFormat}
 use Rattle.si_stages.specs.declared.replay_kind.ReplayReport.{ReplayReport}
+use Rattle.si_stages.specs.declared.report_kind.ProperReport.{ProperReport}
+use Rattle.si_stages.specs.declared.report_kind.ProperReport.TheVariants as told
 use Rattle.si_stages.specs.declared.report_kind.Report.{Report}
+use Rattle.si_stages.specs.declared.report_kind.Report.TheVariants.{Summary, Regions, Conflicts, Covers, Fold}
+use Rattle.si_stages.specs.declared.report_kind.Report.TheVariants.{States, Explain, Dot, Lint}
 use Rattle.si_readings.proofs.CheckLemmas.{graph_one, proper_one, match_lists_one}
 use Rattle.si_stages.proofs.GivenLineages.{given_lineage}
 use Rattle.si_stages.proofs.MappingLemmas.{cells_text_one, cells_text_some, is_library, is_mapping}
 use Rattle.si_readings.proofs.ReadingLemmas.{mapping_readings_are, mapping_readings_one, mapping_readings_some}
 use Rattle.si_readings.proofs.ReadingLemmas.{replay_readings_are, replay_readings_one, replay_readings_some}
 use Rattle.si_readings.proofs.CheckNames.{given_named_states}
+use Rattle.si_stages.proofs.PicturedLemmas.{drawn_one, drawn_some, listed_one, listed_some}
 use Rattle.si_stages.proofs.ReportLemmas.{told_one, told_some}
 use Rattle.si_stages.proofs.ResolutionLemmas.{IsResolution, resolution_is, resolution_of}
 use Rattle.si_stages.proofs.ResolutionLemmas.{resolution_one, resolution_some}
@@ -44,10 +49,23 @@ use Rattle.si_readings.proofs.StageLemmas.{then_one, then_some}
 use Rattle.si_stages.proofs.SynthesisLemmas.{is_synthesis, synthesis_one, synthesis_some}
 
 -- ---- to one answer at most
+on_proper_one : (what : ProperReport) (given : Sg) → AtMostOne (on_proper what given.model given.states given.graph)
+on_proper_one what given = then_one _ _ (proper_one given.graph given.states)
+    (λ coded sound. told_one what given.model given.states coded sound.coded_is)
+
+report_on_one : (what : Report) (given : Sg) → AtMostOne (report_on what given.model given.states given.graph)
+report_on_one Summary given = on_proper_one told.Summary given
+report_on_one Regions given = on_proper_one told.Regions given
+report_on_one Conflicts given = on_proper_one told.Conflicts given
+report_on_one Covers given = on_proper_one told.Covers given
+report_on_one Fold given = on_proper_one told.Fold given
+report_on_one States given = listed_one given.states given.graph
+report_on_one Explain given = on_proper_one told.Explain given
+report_on_one Dot given = drawn_one given.model given.states given.graph
+report_on_one Lint given = on_proper_one told.Lint given
+
 pub report_one : (what : Report) (file text : List ℕ) → AtMostOne (report what file text)
-report_one what file text = then_one _ _ (graph_one file text) (λ given is.
-    then_one _ _ (proper_one given.graph given.states)
-    (λ coded sound. told_one what given.model given.states coded sound.coded_is))
+report_one what file text = then_one _ _ (graph_one file text) (λ given is. report_on_one what given)
 
 pub synth_one : (style : Style) (file text : List ℕ) → AtMostOne (synth style file text)
 synth_one style file text = then_one _ _ (graph_one file text) (λ given is.
@@ -73,9 +91,25 @@ replay_one what g a n b s c = then_one _ _ (replay_readings_one g a n b s c)
     (λ _ same. replay_end_one what readings.given.graph readings.given.states readings.netlist readings.events)))
 
 -- ---- and to some answer
+on_proper_some : (what : ProperReport) (text : List ℕ) (given : Sg) → IsGivenBy text given
+    → HasResult (on_proper what given.model given.states given.graph)
+on_proper_some what text given is = then_some _ _ (proper_some text given is)
+    (λ coded sound. told_some what given.model given.states coded sound.coded_is)
+
+report_on_some : (what : Report) (text : List ℕ) (given : Sg) → IsGivenBy text given
+    → HasResult (report_on what given.model given.states given.graph)
+report_on_some Summary text given is = on_proper_some told.Summary text given is
+report_on_some Regions text given is = on_proper_some told.Regions text given is
+report_on_some Conflicts text given is = on_proper_some told.Conflicts text given is
+report_on_some Covers text given is = on_proper_some told.Covers text given is
+report_on_some Fold text given is = on_proper_some told.Fold text given is
+report_on_some States text given is = listed_some given.states given.graph (given_named_states text given is)
+report_on_some Explain text given is = on_proper_some told.Explain text given is
+report_on_some Dot text given is = drawn_some given.model given.states given.graph (given_named_states text given is)
+report_on_some Lint text given is = on_proper_some told.Lint text given is
+
 pub report_some : (what : Report) (file text : List ℕ) → HasResult (report what file text)
-report_some what file text = then_some _ _ (graph_some file text) (λ given is. then_some _ _ (proper_some text given is)
-    (λ coded sound. told_some what given.model given.states coded sound.coded_is))
+report_some what file text = then_some _ _ (graph_some file text) (λ given is. report_on_some what text given is)
 
 pub synth_some : (style : Style) (file text : List ℕ) → HasResult (synth style file text)
 synth_some style file text = then_some _ _ (graph_some file text) (λ given is.

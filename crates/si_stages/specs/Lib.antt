@@ -5,6 +5,7 @@ pub mod Mapping
 pub mod Replayed
 pub mod Fold
 pub mod Reports
+pub mod Pictured
 pub mod Audited
 pub mod Meaning
 pub mod Laws

@@ -12,20 +12,39 @@ use Rattle.si_readings.specs.Checks.{proper, match_lists}
 use Rattle.si_stages.specs.Mapping.{cells_text}
 use Rattle.si_readings.specs.Readings.{graph_in, mapping_readings}
 use Rattle.si_readings.specs.Readings.{audit_readings, replay_readings}
+use Rattle.si_stages.specs.Pictured.{drawn, listed}
 use Rattle.si_stages.specs.Replayed.{replay_on}
 use Rattle.si_stages.specs.Reports.{report_text}
 use Rattle.si_stages.specs.Resolving.{resolution}
 use Rattle.si_stages.specs.Synthesis.{synthesis}
 use Rattle.si_readings.specs.declared.library_format.LibraryFormat.{LibraryFormat}
 use Rattle.si_stages.specs.declared.replay_kind.ReplayReport.{ReplayReport}
+use Rattle.si_stages.specs.declared.report_kind.ProperReport.{ProperReport}
+use Rattle.si_stages.specs.declared.report_kind.ProperReport.TheVariants as told
 use Rattle.si_stages.specs.declared.report_kind.Report.{Report}
+use Rattle.si_stages.specs.declared.report_kind.Report.TheVariants.{Summary, Regions, Conflicts}
+use Rattle.si_stages.specs.declared.report_kind.Report.TheVariants.{Covers, Fold, States, Explain}
+use Rattle.si_stages.specs.declared.report_kind.Report.TheVariants.{Dot, Lint}
 
--- the report on a graph, of this model and with these names of its states
-abbrev pub report_on : Report → (model : List ℕ) → (states : List (List ℕ)) → StateGraph
+-- the report on a proper graph, of this model and with these names of its states
+abbrev pub on_proper : ProperReport → (model : List ℕ) → (states : List (List ℕ)) → StateGraph
     → Stage TextRefusal (List ℕ)
-report_on what model states graph = do
+on_proper what model states graph = do
   coded ← proper graph states
   report_text what model states coded
+
+-- and on a graph, which needs to be proper but for its states and its picture
+abbrev pub report_on : Report → (model : List ℕ) → (states : List (List ℕ)) → StateGraph
+    → Stage TextRefusal (List ℕ)
+report_on Summary model states graph = on_proper told.Summary model states graph
+report_on Regions model states graph = on_proper told.Regions model states graph
+report_on Conflicts model states graph = on_proper told.Conflicts model states graph
+report_on Covers model states graph = on_proper told.Covers model states graph
+report_on Fold model states graph = on_proper told.Fold model states graph
+report_on States model states graph = listed states graph
+report_on Explain model states graph = on_proper told.Explain model states graph
+report_on Dot model states graph = drawn model states graph
+report_on Lint model states graph = on_proper told.Lint model states graph
 
 abbrev pub report : Report → (file text : List ℕ) → Stage TextRefusal (List ℕ)
 report what file text = do

@@ -8,15 +8,13 @@ use Rattle.si_lint.specs.LintText.{IsLintText}
 use Rattle.si_listings.specs.ConflictText.{IsConflictText}
 use Rattle.si_listings.specs.CoverText.{IsCoverText}
 use Rattle.si_listings.specs.RegionText.{IsRegionText}
-use Rattle.si_pictures.specs.Picture.{IsDotText}
-use Rattle.si_pictures.specs.StatesText.{states_text}
 use Rattle.si_refusals.specs.Refusal.{TextRefusal}
 use Rattle.si_refusals.specs.Stages.{Stage, gives, shows}
-use Rattle.si_stages.specs.declared.report_kind.Report.{Report}
 use Rattle.si_stages.specs.Fold.{IsFoldText}
-use Rattle.si_stages.specs.declared.report_kind.Report.TheVariants.{Summary, Regions}
-use Rattle.si_stages.specs.declared.report_kind.Report.TheVariants.{Conflicts, Covers, Fold}
-use Rattle.si_stages.specs.declared.report_kind.Report.TheVariants.{States, Dot, Explain, Lint}
+use Rattle.si_stages.specs.declared.report_kind.ProperReport.{ProperReport}
+use Rattle.si_stages.specs.declared.report_kind.ProperReport.TheVariants.{Summary, Regions}
+use Rattle.si_stages.specs.declared.report_kind.ProperReport.TheVariants.{Conflicts, Covers, Fold}
+use Rattle.si_stages.specs.declared.report_kind.ProperReport.TheVariants.{Explain, Lint}
 
 -- a line of a word and a number
 abbrev pub count_line : List ℕ → ℕ → List (List ℕ)
@@ -33,17 +31,14 @@ summary coded = text_of ((codes "proper" ∷ [])
     ∷ [])
 
 -- of a graph with this model and these names of its states: its summary; the text of its regions;
--- the text of its conflicts; the text of its covers; the text of its folded graph; the text of its
--- states; the text that explains its conflicts; the text of its picture; the text of what is worth a
--- second look
-abbrev pub report_text : Report → (model : List ℕ) → (states : List (List ℕ)) → CodedGraph
+-- the text of its conflicts; the text of its covers; the text of its folded graph; the text that
+-- explains its conflicts; the text of what is worth a second look
+abbrev pub report_text : ProperReport → (model : List ℕ) → (states : List (List ℕ)) → CodedGraph
     → Stage TextRefusal (List ℕ)
 report_text Summary model states coded = gives (summary coded)
 report_text Regions model states coded = shows (IsRegionText coded states)
 report_text Conflicts model states coded = shows (IsConflictText coded states)
 report_text Covers model states coded = shows (IsCoverText coded states)
 report_text Fold model states coded = shows (IsFoldText model states coded)
-report_text States model states coded = gives (states_text coded states)
 report_text Explain model states coded = shows (IsExplainText coded states)
-report_text Dot model states coded = shows (IsDotText model states coded)
 report_text Lint model states coded = shows (IsLintText coded states)

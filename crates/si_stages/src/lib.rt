@@ -11,6 +11,7 @@ pub mod inserted;
 pub mod inserted_laws;
 pub mod mapping;
 pub mod netlist_report;
+mod pictured;
 pub mod replay_kind;
 pub mod replayed;
 pub mod report;

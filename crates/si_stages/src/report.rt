@@ -9,7 +9,8 @@ ghost use Rattle.si_stages.specs.Reports as reports;
 ghost use Rattle.si_stages.specs.Reports.{count_line, summary};
 
 use crate::fold::fold_text;
-use crate::report_kind::Report;
+use crate::pictured::{drawn, listed};
+use crate::report_kind::{ProperReport, Report};
 use si_base::ids::NoMemory;
 use si_base::names::Names;
 use si_base::text::{Name, Text};
@@ -22,8 +23,6 @@ use si_listings::conflict_listing::list_conflicts;
 use si_listings::cover_listing::list_covers;
 use si_listings::region_listing::list_regions;
 use si_netlist::write::add_values_line;
-use si_pictures::dot_text::draw;
-use si_pictures::states_text::list_states;
 use si_readings::checks::proper_of;
 use si_readings::readings::graph_in;
 use si_refusals::refusals::Refusal;
@@ -36,7 +35,8 @@ use std::alloc::Global;
 /// # Errors
 ///
 /// `BadText` exactly where the text has a fault, with the first, else `Improper` exactly where the
-/// graph isn't proper, with its first breach. `NoMemory` only where memory runs out.
+/// graph isn't proper, with its first breach, and the report is on proper graphs alone. `NoMemory`
+/// only where memory runs out.
 pub fn report<'w>(
     alloc: Global,
     what: Report,
@@ -69,6 +69,33 @@ fn report_on(
     ensures err { IfErr result
         (λ r. MayStop (stage.report_on what model.now states.now graph) (ending_of r)) }
 {
+    match what {
+        Report::Summary => on_proper(alloc, ProperReport::Summary, graph, model, states),
+        Report::Regions => on_proper(alloc, ProperReport::Regions, graph, model, states),
+        Report::Conflicts => on_proper(alloc, ProperReport::Conflicts, graph, model, states),
+        Report::Covers => on_proper(alloc, ProperReport::Covers, graph, model, states),
+        Report::Fold => on_proper(alloc, ProperReport::Fold, graph, model, states),
+        Report::States => listed(alloc, graph, states),
+        Report::Explain => on_proper(alloc, ProperReport::Explain, graph, model, states),
+        Report::Dot => drawn(alloc, graph, model, states),
+        Report::Lint => on_proper(alloc, ProperReport::Lint, graph, model, states),
+    }
+}
+
+/// The report on the graph with this model and these names of its states, where it is proper.
+fn on_proper(
+    alloc: Global,
+    what: ProperReport,
+    graph: Graph,
+    model: &Name,
+    states: &Names,
+) -> Result<Text, Refusal<'static>>
+    requires { IsNamed graph states.now }
+    ensures ok { IfOk result
+        (λ output. stage.on_proper what model.now states.now graph (Ok output)) }
+    ensures err { IfErr result
+        (λ r. MayStop (stage.on_proper what model.now states.now graph) (ending_of r)) }
+{
     let proper = proper_of(alloc, graph, states)?;
     match report_text(alloc, what, &proper, model, states) {
         Ok(text) => Ok(text),
@@ -79,7 +106,7 @@ fn report_on(
 /// What is told of a proper graph with this model and these names of its states.
 fn report_text(
     alloc: Global,
-    what: Report,
+    what: ProperReport,
     graph: &Proper,
     model: &Name,
     states: &Names,
@@ -89,15 +116,13 @@ fn report_text(
         (Ok text)) }
 {
     match what {
-        Report::Summary => summary_of(alloc, graph.coded()),
-        Report::Regions => list_regions(alloc, graph.coded(), states),
-        Report::Conflicts => list_conflicts(alloc, graph.coded(), states),
-        Report::Covers => list_covers(alloc, graph, states),
-        Report::Fold => fold_text(alloc, graph, model, states),
-        Report::States => list_states(alloc, graph.coded(), states),
-        Report::Explain => explain(alloc, graph.coded(), states),
-        Report::Dot => draw(alloc, graph.coded(), model.bytes(), states),
-        Report::Lint => lint(alloc, graph, states),
+        ProperReport::Summary => summary_of(alloc, graph.coded()),
+        ProperReport::Regions => list_regions(alloc, graph.coded(), states),
+        ProperReport::Conflicts => list_conflicts(alloc, graph.coded(), states),
+        ProperReport::Covers => list_covers(alloc, graph, states),
+        ProperReport::Fold => fold_text(alloc, graph, model, states),
+        ProperReport::Explain => explain(alloc, graph.coded(), states),
+        ProperReport::Lint => lint(alloc, graph, states),
     }
 }
 

@@ -1,6 +1,6 @@
-//! The reports on a proper graph.
+//! The reports on a graph.
 
-/// What is told of a proper graph.
+/// What is told of a graph.
 #[derive(Clone, Copy, PartialEq, Eq, Debug)]
 pub enum Report {
     /// That it is proper, and its size.
@@ -14,13 +14,32 @@ pub enum Report {
     /// Its folded graph, as a canonical text: one state for each class of states that no walk tells
     /// apart.
     Fold,
-    /// Its states, with their codes and the events that they enable.
+    /// Its states, with their codes and the events that they enable, whether it is proper or not.
     States,
     /// How many conflicts it has, and the first of them explained: codes, enabled events, walks,
     /// and whether inputs alone lead to both states.
     Explain,
-    /// Its picture, for Graphviz.
+    /// Its picture, for Graphviz, whether it is proper or not.
     Dot,
     /// Dead ends, arcs of no return, disabled inputs and what else is worth a second look.
+    Lint,
+}
+
+/// What is told of a proper graph alone.
+#[derive(Clone, Copy, PartialEq, Eq, Debug)]
+pub enum ProperReport {
+    /// That it is proper, and its size.
+    Summary,
+    /// Its regions.
+    Regions,
+    /// Its conflicts.
+    Conflicts,
+    /// Its covers.
+    Covers,
+    /// Its folded graph.
+    Fold,
+    /// Its conflicts, explained.
+    Explain,
+    /// What is worth a second look.
     Lint,
 }

@@ -7,8 +7,8 @@ use Rattle.si_pictures.proofs.dot_text.add_state.Goals as goal
 pub returns : goal.returns
 returns c =
     let start = c.eq.ensures ∙ ap (λ t. c.args.s == t) (c.start.ensures
-    ∙ ap (λ (g : StateGraph). g.start) c.graph.ensures.same) in
-    left_as _ _ _ _ (node_by_calls c.args.graph.now c.args.states.now c.args.s c.eq.result c.args.marked c.args.text.now
+    ∙ ap (λ (g : StateGraph). g.start) c.graph.ensures) in
+    left_as _ _ _ _ (node_by_calls c.args.seen.now c.args.states.now c.args.s c.eq.result c.args.marked c.args.text.now
     _ _ _ _ _ _ start c.in_ok-add.ensures.added c.in_ok-add_number.ensures c.in_ok-add-2.ensures.added
     c.in_ok-add_state_label.ensures c.in_ok-add_attribute_if.ensures c.in_ok-add_attribute_if-2.ensures)
     c.add-3.ensures.added

@@ -4,5 +4,5 @@ use Rattle.si_pictures.proofs.CodeLemmas.{events_at}
 use Rattle.si_pictures.proofs.states_text.add_events.Given as goal
 
 abbrev pub invariant-loop-i : goal.invariant-loop-i
-invariant-loop-i l = l.text ++ parts_from (events_at l.graph l.s) (length l.graph.graph.signals) l.i
-    ≡ l.initial.text ++ parts_from (events_at l.graph l.s) (length l.graph.graph.signals) 0
+invariant-loop-i l = l.text ++ parts_from (events_at l.graph l.s) (length l.graph.signals) l.i
+    ≡ l.initial.text ++ parts_from (events_at l.graph l.s) (length l.graph.signals) 0
