@@ -6,8 +6,9 @@ ghost use Rattle.si_lint.specs.LintText.{IsLintText, told_count};
 ghost use Rattle.si_lint.specs.Loops.Lines.{findings_of};
 
 use crate::findings::{Found, findings};
-use crate::lines::{add_dead, add_dropped, add_one_ways, add_pairs, add_told, add_unused};
-use crate::lines::{add_withdrawals};
+use crate::lines::{
+    add_dead, add_dropped, add_one_ways, add_pairs, add_told, add_unused, add_withdrawals,
+};
 use si_base::ids::NoMemory;
 use si_base::names::Names;
 use si_base::text::Text;

@@ -10,7 +10,7 @@ use Rattle.std.proofs.lemmas.List.Elements.{Contains-push, Contains-push_cases, 
 use Rattle.std.proofs.lemmas.List.Quantifiers.{all_pairs_push}
 use Rattle.std.proofs.lemmas.Map.Keys.{sorted_from_strictly_increasing}
 use Rattle.si_base.specs.Sets.{IsIn}
-use Rattle.si_base.specs.Graph.{StateGraph, IsCut, IsReachable}
+use Rattle.si_base.specs.Graph.{StateGraph, IsCut}
 use Rattle.si_graph.proofs.ListMembers.{Contains-nil}
 use Rattle.si_graph.proofs.SearchLemmas.{stays_in, in_cases, is_set, in_none}
 use Rattle.si_sg.specs.Dropped.{AreUnreached}

@@ -17,11 +17,7 @@ use si_sg::read::{Whole, read_with_dropped};
 use std::alloc::Global;
 
 /// The graph that the text gives, and the names of the states that it hasn't.
-pub(crate) fn whole_in<'w>(
-    alloc: Global,
-    file: &'w str,
-    text: &[u8],
-) -> Result<Whole, Refusal<'w>>
+pub(crate) fn whole_in<'w>(alloc: Global, file: &'w str, text: &[u8]) -> Result<Whole, Refusal<'w>>
     ensures ok { IfOk result (λ w. stage.whole_in file.now text.now (Ok (whole_now w))) }
     ensures err { IfErr result (λ r. MayStop (stage.whole_in file.now text.now) (ending_of r)) }
     ensures named { IfOk result (λ w. IsNamed w.sg.graph w.sg.states) }

@@ -1,5 +1,5 @@
 -- The first paths: that there is one at most, and that in a deterministic graph their events are the first walks.
-use Rattle.std.proofs.Common.{◌≡◌, ℕ, zero, suc, ◌<◌, ◌≤◌, ◌⊎◌, List, [], ◌∷◌, length, map, Contains, refl, sym, ap, ap₂}
+use Rattle.std.proofs.Common.{◌≡◌, ℕ, zero, suc, ◌<◌, ◌≤◌, List, [], ◌∷◌, length, map, Contains, refl, sym, ap, ap₂}
 use Rattle.std.proofs.Common.{subst, ◌∙◌, arith, inl, inr, Option, Some, None}
 use Rattle.std.proofs.lemmas.Bool.{cases_order, cases_eq, cases_lt}
 use Rattle.std.proofs.lemmas.List.{length-map}
@@ -110,8 +110,11 @@ way_is_first_walk g s es one is = subst (IsFirstWalk g All g.start s) (sym is.ev
       where
         places : (bs : List Edge) → IsPath g g.start bs s
             → Before (walk_place (events_of bs)) (walk_place (events_of is.path)) → ComesBefore bs is.path
-        places bs path (inl less) = inl (omega (arith, length-map bs (λ (a : Edge). a.event),
-            length-map is.path (λ (a : Edge). a.event)))
+        places bs path (inl less) = inl (omega (
+          arith,
+          length-map bs (λ (a : Edge). a.event),
+          length-map is.path (λ (a : Edge). a.event),
+        ))
         places bs path (inr (size, rest)) = inr (
           omega (arith, length-map bs (λ (a : Edge). a.event), length-map is.path (λ (a : Edge). a.event)),
           steps g s g.start bs is.path one path is.first.holds rest,
