@@ -34,7 +34,6 @@ use Rattle.si_lint.proofs.MergedLemmas.{one_least, same_pair}
 use Rattle.si_lint.proofs.WithdrawalLemmas.{same_loss}
 use Rattle.si_walks.specs.declared.arcs.Arcs.TheVariants.{All, OfInputs}
 use Rattle.si_walks.specs.Joined.{Source, IsSourceOrNone, IsJoinedConflict}
-use Rattle.si_walks.specs.Walks.{IsFirstWalk}
 use Rattle.si_walks.proofs.FirstWalks.{one_first_walk}
 use Rattle.si_walks.proofs.FirstPaths.{some_way_to, way_is_first_walk}
 use Rattle.si_walks.specs.Paths.{IsWayTo}

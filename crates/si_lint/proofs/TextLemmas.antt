@@ -1,6 +1,6 @@
 -- The text, kind by kind.
 use Rattle.std.proofs.Common.{◌≡◌, ℕ, ◌<◌, ◌∙◌, List, [], ◌∷◌, ◌++◌, All, length, get_or, Contains, sym, ap, subst, arith}
-use Rattle.std.proofs.Common.{codes, decimal, refl}
+use Rattle.std.proofs.Common.{codes, refl}
 use Rattle.std.proofs.lemmas.List.{append-nil, get_or_default}
 use Rattle.std.proofs.lemmas.Option.{slice_get_within}
 use Rattle.si_base.specs.declared.ids.Event.{Event}

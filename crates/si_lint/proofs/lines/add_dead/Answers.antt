@@ -1,4 +1,4 @@
-use Rattle.std.proofs.Common.{◌≡◌, ◌<◌, ◌∙◌, ℕ, List, ap, arith, codes}
+use Rattle.std.proofs.Common.{◌≡◌, ◌<◌, ◌∙◌, ℕ, List, arith, codes}
 use Rattle.si_base.specs.declared.ids.Event.{Event}
 use Rattle.si_explain.proofs.EventLemmas.{events_line_as}
 use Rattle.si_lint.specs.LintText.{dead_line}

@@ -1,4 +1,4 @@
-use Rattle.std.proofs.Common.{◌≡◌, ◌<◌, ◌∙◌, ℕ, List, ap, arith, codes}
+use Rattle.std.proofs.Common.{◌≡◌, ◌∙◌, ℕ, List, arith}
 use Rattle.si_base.specs.declared.ids.Event.{Event}
 use Rattle.si_lint.specs.LintText.{one_way_line}
 use Rattle.si_lint.specs.Loops.Lines.{ArcIsWithin}
