@@ -77,8 +77,8 @@ in_take n xs x (i, within, at) =
     (i, omega arith, sym (get_or-take n xs i x (omega arith)) ∙ at)
 
 -- the walks to states of the graph are the same
-module _ (c : CodedGraph) (states dropped : List (List ℕ)) (walk other : ℕ → List Event) (walks : AreFirstWalks c.graph walk)
-    (also : AreFirstWalks c.graph other) (f : Findings) (are : AreFindings c f) where
+module _ (c : CodedGraph) (states dropped : List (List ℕ)) (walk other : ℕ → List Event)
+    (walks : AreFirstWalks c.graph walk) (also : AreFirstWalks c.graph other) (f : Findings) (are : AreFindings c f) where
   same_walk : (s : ℕ) → s < c.graph.states → walk s ≡ other s
   same_walk s within =
       one_first_walk c.graph All c.graph.start s (walk s) (other s) (walks s within) (also s within)

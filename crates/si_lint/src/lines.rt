@@ -3,8 +3,8 @@
 ghost use Rattle.std.specs.Prelude.{◌≡◌, ◌<◌, ◌++◌, OnOk, All, length, take};
 ghost use Rattle.si_base.specs.Words.{line, text_of};
 ghost use Rattle.si_conflicts.specs.Conflicts.{pairs_of};
-ghost use Rattle.si_lint.specs.LintText.{max_told, kind_lines, dropped_line, unused_line, dead_line};
-ghost use Rattle.si_lint.specs.LintText.{one_way_line, loss_line, pair_line, told_line};
+ghost use Rattle.si_lint.specs.LintText.{max_told, kind_lines, dropped_line, unused_line};
+ghost use Rattle.si_lint.specs.LintText.{dead_line, one_way_line, loss_line, pair_line, told_line};
 ghost use Rattle.si_lint.specs.Loops.Lines.{AddsLines, ArcIsWithin, LossIsWithin, PairIsWithin};
 ghost use Rattle.si_walks.specs.Tree.{IsTree};
 

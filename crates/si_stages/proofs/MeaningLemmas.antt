@@ -109,7 +109,8 @@ report_on_some Covers text given dropped is = on_proper_some told.Covers text gi
 report_on_some Fold text given dropped is = on_proper_some told.Fold text given is
 report_on_some States text given dropped is = listed_some given.states given.graph (given_named_states text given is)
 report_on_some Explain text given dropped is = on_proper_some told.Explain text given is
-report_on_some Dot text given dropped is = drawn_some given.model given.states given.graph (given_named_states text given is)
+report_on_some Dot text given dropped is =
+    drawn_some given.model given.states given.graph (given_named_states text given is)
 report_on_some Lint text given dropped is = linted_some text given dropped is
 
 pub report_some : (what : Report) (file text : List ℕ) → HasResult (report what file text)

@@ -102,7 +102,8 @@ way_is_first_walk g s es one is = subst (IsFirstWalk g All g.start s) (sym is.ev
   none_before = none;
 })
   where
-    none : (fs : List Event) → WalkAlong g All g.start fs s → Before (walk_place fs) (walk_place (events_of is.path)) → ⊥
+    none : (fs : List Event) → WalkAlong g All g.start fs s
+        → Before (walk_place fs) (walk_place (events_of is.path)) → ⊥
     none fs walk before =
         let other = path_of_walk g g.start s fs walk in
         let events = subst (λ l. Before (walk_place l) (walk_place (events_of is.path))) (sym other.2) before in

@@ -1,5 +1,5 @@
--- (field) Paths of arcs, and the first of them, which tells one walk to a state in every graph, also
--- where one event leads from a state to several.
+-- (field) Paths of arcs, and the first of them, which tells one walk to a state in every graph,
+-- also where one event leads from a state to several.
 use Rattle.std.specs.Prelude.{◌≡◌, ℕ, List, [], ◌∷◌, length, map, Contains}
 use Rattle.si_base.specs.declared.ids.Event.{Event}
 use Rattle.si_base.specs.declared.graph.Edge.{Edge}

@@ -61,11 +61,13 @@ returns c =
     let same = c.graph-graph.ensures.same in
     let known = c.signals.ensures ∙ ap (λ (g : StateGraph). g.signals) same in
     text_by_calls d c.args.states.now c.args.dropped.now f _ _ _ _ _ _ _ _ _ _ _ _ _ c.graph-graph.ensures.coded
-    c.requires.found known (omega (arith, c.from.ensures, c.count.ensures, c.len.ensures.len)) c.in_ok-text.ensures c.in_ok-add_told.ensures c.in_ok-add_dropped.ensures
+    c.requires.found known (omega (arith, c.from.ensures, c.count.ensures, c.len.ensures.len))
+    c.in_ok-text.ensures c.in_ok-add_told.ensures c.in_ok-add_dropped.ensures
     (rw c.deref.ensures.value at c.in_ok-add_unused.ensures)
     (rw (same, c.deref-3.ensures.value) at c.in_ok-add_dead.ensures)
     (rw (same, c.deref-5.ensures.value) at c.in_ok-add_one_ways.ensures)
     (rw c.deref-6.ensures.value at c.in_ok-add_withdrawals.ensures)
     (rw c.deref-7.ensures.value at c.in_ok-add_withdrawals-2.ensures)
-    (rw c.deref-8.ensures.value at c.in_ok-add_pairs.ensures) (rw c.deref-9.ensures.value at c.in_ok-add_pairs-2.ensures)
+    (rw c.deref-8.ensures.value at c.in_ok-add_pairs.ensures)
+    (rw c.deref-9.ensures.value at c.in_ok-add_pairs-2.ensures)
     (rw c.deref-10.ensures.value at c.in_ok-add_pairs-3.ensures)
