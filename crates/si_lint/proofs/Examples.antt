@@ -1,4 +1,4 @@
--- What is told of the C-element without its last arc, as a text.
+-- What is told of the C-element without its last arc, beside a state that isn't reached, as a text.
 use Rattle.std.proofs.Common.{◌≡◌, ℕ, ◌==◌, List, [], ◌∷◌, ◌++◌, cond, refl, codes, lit<}
 use Rattle.std.proofs.lemmas.Fmt.{decimal_digit}
 use Rattle.si_base.specs.declared.ids.Event.{Event}
@@ -31,7 +31,7 @@ findings = record {
   unresolvable = [];
 }
 
-told : lint_text signals names walk findings
-    ≡ codes "told 3\ndead s7 a+ b+ c+ a- b-\noneway s0 a+ s1\noneway s0 b+ s2\n"
+told : lint_text signals names (codes "s8" ∷ []) walk findings
+    ≡ codes "told 4\ndropped s8\ndead s7 a+ b+ c+ a- b-\noneway s0 a+ s1\noneway s0 b+ s2\n"
 unfolding lint_text
-told = rw (decimal_digit 3 (lit< tt)) refl
+told = rw (decimal_digit 4 (lit< tt)) refl

@@ -1,6 +1,6 @@
 -- The lines of each kind, one after another.
 use Rattle.std.proofs.Common.{◌≡◌, ℕ, zero, suc, ◌+◌, ◌<◌, ◌≤◌, ◌∙◌, List, [], ◌∷◌, ◌++◌, map, take, length, get_or, refl}
-use Rattle.std.proofs.Common.{All, sym, ap, ap₂, subst, append_assoc, codes, arith}
+use Rattle.std.proofs.Common.{All, sym, ap, ap₂, subst, append_assoc, codes, arith, ◌⊎◌, inl, inr}
 use Rattle.std.proofs.lemmas.Grind.{flat_map-append}
 use Rattle.std.proofs.lemmas.List.{append-nil, map-append, take_more, take_all, get_or_default}
 use Rattle.std.proofs.lemmas.List.Elements.{All-take, All-contains, All-from_recursion}
@@ -8,9 +8,10 @@ use Rattle.si_base.specs.Words.{line, text_of}
 use Rattle.si_base.specs.declared.ids.Event.{Event}
 use Rattle.si_base.specs.declared.graph.Edge.{Edge}
 use Rattle.si_base.specs.declared.graph.Signal.{Signal}
-use Rattle.si_base.specs.Codes.{CodedGraph}
+use Rattle.si_base.specs.Graph.{StateGraph, IsGraph}
 use Rattle.si_base.specs.Proper.{Loss}
 use Rattle.si_explain.specs.ExplainText.{events_words}
+use Rattle.si_explain.proofs.EventLemmas.{walk_signals}
 use Rattle.si_lint.specs.LintText.{max_told, kind_lines, one_way_line, loss_line}
 use Rattle.si_conflicts.specs.declared.conflicts.Pair.{Pair}
 use Rattle.si_conflicts.specs.Conflicts.{pairs_of}
@@ -18,8 +19,8 @@ use Rattle.si_graph.proofs.ListMembers.{Contains-map}
 use Rattle.si_lint.specs.Loops.Lines.{AddsLines, PairIsWithin}
 use Rattle.si_sg.specs.CanonicalText.{state_at, event_word}
 use Rattle.si_walks.specs.declared.arcs.Arcs.TheVariants.{All as AllArcs}
-use Rattle.si_walks.specs.Walks.{IsFirstWalk}
-use Rattle.si_walks.proofs.FirstWalks.{one_first_walk}
+use Rattle.si_walks.specs.Paths.{IsWayTo, events_of}
+use Rattle.si_walks.proofs.FirstPaths.{one_way_to, walk_of_path}
 use Rattle.si_words.specs.Loops.Writing.{spaced}
 use Rattle.si_words.proofs.WritingLemmas.{whole_line}
 
@@ -50,6 +51,14 @@ module _ {A : Type 0} (line_of : A → List (List ℕ)) (xs : List A) where
   lines_all k found old text all first is =
       is ∙ ap (λ (l : List A). old ++ text_of (map line_of l)) (take_all k xs all ∙ first)
 
+-- those of the first of a list that isn't at hand as one
+pub lines_to : {A : Type 0} (line_of : A → List (List ℕ)) (xs : List A) (k : ℕ) (old text : List ℕ)
+    → ((k ≡ length xs) × (length xs ≤ max_told)) ⊎ (k ≡ max_told) → text ≡ old ++ first_lines line_of xs k
+    → text ≡ old ++ text_of (kind_lines line_of xs)
+lines_to {A} line_of xs k old text (inl (all, few)) is = is ∙ ap (λ (l : List A). old ++ text_of (map line_of l))
+    (take_all k xs (omega arith) ∙ sym (take_all max_told xs few))
+lines_to line_of xs k old text (inr most) is = is ∙ ap (λ (n : ℕ). old ++ first_lines line_of xs n) most
+
 -- the lines of what items stand for
 fused : {A B C : Type 0} (f : A → B) (h : B → C) (n : ℕ) (xs : List A)
     → map h (take n (map f xs)) ≡ map (λ x. h (f x)) (take n xs)
@@ -64,24 +73,30 @@ lines_of_named f line_of found old text is =
     is ∙ ap (λ (l : List (List (List ℕ))). old ++ text_of l) (sym (fused f line_of max_told found))
 
 -- ---- lines with walks
-module _ (c : CodedGraph) {A : Type 0} (line_of : (ℕ → List Event) → A → List (List ℕ)) (xs : List A) where
-  pub walks_none : (old : List ℕ) → AddsLines c.graph (λ walk. map (line_of walk) (take 0 xs)) old old
+module _ (g : StateGraph) {A : Type 0} (line_of : (ℕ → List Event) → A → List (List ℕ)) (xs : List A) where
+  pub walks_none : (old : List ℕ) → AddsLines g (λ walk. map (line_of walk) (take 0 xs)) old old
   walks_none old walk walks = lines_none (line_of walk) xs old
 
   pub walks_more : (k : ℕ) (x : A) (s : ℕ) (es : List Event) (old text new : List ℕ) → k < length xs
-      → x ≡ get_or xs k x → s < c.graph.states → IsFirstWalk c.graph AllArcs c.graph.start s es
-      → AddsLines c.graph (λ walk. map (line_of walk) (take k xs)) old text
+      → x ≡ get_or xs k x → s < g.states → IsWayTo g s es
+      → AddsLines g (λ walk. map (line_of walk) (take k xs)) old text
       → ((walk : ℕ → List Event) → es ≡ walk s → new ≡ text ++ line (line_of walk x))
-      → AddsLines c.graph (λ walk. map (line_of walk) (take (k + 1) xs)) old new
-  walks_more k x s es old text new within at small first so_far is walk walks =
-      let same = one_first_walk c.graph AllArcs c.graph.start s es (walk s) first (walks s small) in
+      → AddsLines g (λ walk. map (line_of walk) (take (k + 1) xs)) old new
+  walks_more k x s es old text new within at small way so_far is walk walks =
+      let same = one_way_to g s es (walk s) way (walks s small) in
       lines_more (line_of walk) xs k x old text new within at (so_far walk walks) (is walk same)
 
   pub walks_all : (k : ℕ) (found : List A) (old text : List ℕ) → length xs ≤ k → xs ≡ take max_told found
-      → AddsLines c.graph (λ walk. map (line_of walk) (take k xs)) old text
-      → AddsLines c.graph (λ walk. kind_lines (line_of walk) found) old text
+      → AddsLines g (λ walk. map (line_of walk) (take k xs)) old text
+      → AddsLines g (λ walk. kind_lines (line_of walk) found) old text
   walks_all k found old text all first is walk walks =
       lines_all (line_of walk) xs k found old text all first (is walk walks)
+
+-- the events of a way are of signals
+pub way_signals : (g : StateGraph) (s : ℕ) (es : List Event) → IsGraph g → IsWayTo g s es
+    → All (λ e. e.sig < length g.signals) es
+way_signals g s es is way = subst (All (λ (e : Event). e.sig < length g.signals)) (sym way.events_are)
+    (walk_signals g AllArcs g.start (events_of way.path) s is (walk_of_path g g.start s way.path way.first.holds))
 
 -- ---- lines by their calls
 grouped : (text word one event other events end : List ℕ)

@@ -7,7 +7,7 @@ use Rattle.si_base.specs.declared.ids.Event.{Event}
 use Rattle.si_base.specs.declared.graph.Edge.{Edge}
 use Rattle.si_base.specs.declared.graph.Signal.{Signal}
 use Rattle.si_base.specs.Graph.{StateGraph, Step, IsGraph, IsNonInput, arc, enables, event_place}
-use Rattle.si_base.specs.Codes.{CodedGraph, IsCoded, code, IsIdle}
+use Rattle.si_base.specs.Codes.{CodedGraph, IsCoded, code, IsIdle, IsConnected, IsDeterministic}
 use Rattle.si_base.specs.Proper.{Loss, loss_place, pair_place, IsConflict}
 use Rattle.si_base.specs.Words.{text_of}
 use Rattle.si_base.proofs.GraphSteps.{step_from_enables}
@@ -21,7 +21,6 @@ use Rattle.si_checks.proofs.SearchDecisions.{Decided}
 use Rattle.si_conflicts.specs.Conflicts.{AreFirstConflicts}
 use Rattle.si_conflicts.proofs.ConflictsExist.{some_conflicts, some_first}
 use Rattle.si_conflicts.proofs.OneConflictList.{first_unique}
-use Rattle.si_explain.proofs.EventLemmas.{start_leads}
 use Rattle.si_fold.specs.Alike.{IsLeastAlike}
 use Rattle.si_fold.specs.Folded.{IsClassOf, AreClasses}
 use Rattle.si_fold.proofs.FoldedExists.{some_folded}
@@ -35,8 +34,10 @@ use Rattle.si_lint.proofs.MergedLemmas.{one_least, same_pair}
 use Rattle.si_lint.proofs.WithdrawalLemmas.{same_loss}
 use Rattle.si_walks.specs.declared.arcs.Arcs.TheVariants.{All, OfInputs}
 use Rattle.si_walks.specs.Joined.{Source, IsSourceOrNone, IsJoinedConflict}
-use Rattle.si_walks.specs.Walks.{IsFirstWalk}
-use Rattle.si_walks.proofs.FirstWalks.{one_first_walk, some_first_walk}
+use Rattle.si_walks.proofs.FirstWalks.{one_first_walk}
+use Rattle.si_walks.proofs.FirstPaths.{some_way_to, way_is_first_walk}
+use Rattle.si_walks.specs.Paths.{IsWayTo}
+use Rattle.si_lint.specs.Loops.Lines.{AreWays}
 use Rattle.si_walks.proofs.SourceLemmas.{some_source_or_none}
 use Rattle.si_walks.proofs.WalkEvents.{taken}
 
@@ -76,8 +77,8 @@ in_take n xs x (i, within, at) =
     (i, omega arith, sym (get_or-take n xs i x (omega arith)) ∙ at)
 
 -- the walks to states of the graph are the same
-module _ (c : CodedGraph) (states : List (List ℕ)) (walk other : ℕ → List Event) (walks : AreFirstWalks c.graph walk)
-    (also : AreFirstWalks c.graph other) (f : Findings) (are : AreFindings c f) where
+module _ (c : CodedGraph) (states dropped : List (List ℕ)) (walk other : ℕ → List Event)
+    (walks : AreFirstWalks c.graph walk) (also : AreFirstWalks c.graph other) (f : Findings) (are : AreFindings c f) where
   same_walk : (s : ℕ) → s < c.graph.states → walk s ≡ other s
   same_walk s within =
       one_first_walk c.graph All c.graph.start s (walk s) (other s) (walks s within) (also s within)
@@ -97,38 +98,36 @@ module _ (c : CodedGraph) (states : List (List ℕ)) (walk other : ℕ → List 
       let within = step_within c.graph a.from a.event a.to graph is.step in
       ap (λ (es : List Event). one_way_line c.graph.signals states (λ t. es) a) (same_walk a.from within.0)))
 
-  pub same_text : IsGraph c.graph → lint_text c.graph.signals states walk f ≡ lint_text c.graph.signals states other f
+  pub same_text : IsGraph c.graph
+      → lint_text c.graph.signals states dropped walk f ≡ lint_text c.graph.signals states dropped other f
   unfolding lint_text
   same_text graph = rw (same_dead, same_one_way graph) refl
 
-pub one_lint_text : (c : CodedGraph) (states : List (List ℕ)) (x y : List ℕ) → IsCoded c → IsLintText c states x
-    → IsLintText c states y → x ≡ y
-one_lint_text c states x y coded a b =
+pub one_lint_text : (c : CodedGraph) (states dropped : List (List ℕ)) (x y : List ℕ) → IsCoded c
+    → IsLintText c states dropped x → IsLintText c states dropped y → x ≡ y
+one_lint_text c states dropped x y coded a b =
     let same = one_findings c a.findings b.findings a.are b.are in
-    a.text_is ∙ same_text c states a.walk b.walk a.walks b.walks a.findings a.are coded.graph_is
-    ∙ ap (lint_text c.graph.signals states b.walk) same ∙ sym b.text_is
+    a.text_is ∙ same_text c states dropped a.walk b.walk a.walks b.walks a.findings a.are coded.graph_is
+    ∙ ap (lint_text c.graph.signals states dropped b.walk) same ∙ sym b.text_is
 
 -- ---- some walks
-module _ (c : CodedGraph) (coded : IsCoded c) where
-  first_to : (s : ℕ) → s < c.graph.states → (es : List Event) × IsFirstWalk c.graph All c.graph.start s es
-  first_to s within =
-      some_first_walk c.graph All s coded.deterministic c.graph.start (start_leads c s coded within)
+pub some_ways : (g : StateGraph) → IsConnected g → (walk : ℕ → List Event) × AreWays g walk
+some_ways g connected = (
+  (λ s. picked s (cases_lt s g.states)),
+  (λ s within. picked_is s (cases_lt s g.states) within),
+)
+  where
+    picked : (s : ℕ) → (s < g.states) ⊎ (g.states ≤ s) → List Event
+    picked s (inl within) = (some_way_to g connected s within).0
+    picked s (inr past) = []
 
-  picked : (s : ℕ) → (s < c.graph.states) ⊎ (c.graph.states ≤ s) → List Event
-  picked s (inl within) = (first_to s within).0
-  picked s (inr past) = []
+    picked_is : (s : ℕ) (d : (s < g.states) ⊎ (g.states ≤ s)) → s < g.states → IsWayTo g s (picked s d)
+    picked_is s (inl within) small = (some_way_to g connected s within).1
+    picked_is s (inr past) small = absurd (omega arith)
 
-  picked_is : (s : ℕ) (d : (s < c.graph.states) ⊎ (c.graph.states ≤ s)) → s < c.graph.states
-      → IsFirstWalk c.graph All c.graph.start s (picked s d)
-  unfolding picked first_to
-  picked_is s (inl within) small = (first_to s within).1
-  picked_is s (inr past) small = absurd (omega arith)
-
-  pub some_walks : (walk : ℕ → List Event) × AreFirstWalks c.graph walk
-  some_walks = (
-    (λ s. picked s (cases_lt s c.graph.states)),
-    (λ s within. picked_is s (cases_lt s c.graph.states) within),
-  )
+pub ways_are_walks : (g : StateGraph) (walk : ℕ → List Event) → IsDeterministic g → AreWays g walk
+    → AreFirstWalks g walk
+ways_are_walks g walk one ways s within = way_is_first_walk g s (walk s) one (ways s within)
 
 -- ---- all numbers below another
 abbrev below : ℕ → List ℕ
@@ -417,8 +416,9 @@ module _ (c : CodedGraph) (coded : IsCoded c) where
         | inr none ↦ inr (λ is. none (into pair is))
       ]
 
-pub some_lint_text : (c : CodedGraph) (states : List (List ℕ)) → IsCoded c → (text : List ℕ) × IsLintText c states text
-some_lint_text c states coded =
+pub some_lint_text : (c : CodedGraph) (states dropped : List (List ℕ)) → IsCoded c
+    → (text : List ℕ) × IsLintText c states dropped text
+some_lint_text c states dropped coded =
     let g = c.graph in
     let is = coded.graph_is in
     let unused = some_unused g is in
@@ -429,7 +429,7 @@ some_lint_text c states coded =
     let same_codes = some_same_codes c coded in
     let merged = some_merged c coded in
     let unresolvable = some_unresolvable c coded in
-    let walks = some_walks c coded in
+    let walks = some_ways g coded.connected in
     let findings : Findings = record {
       unused = unused.0;
       dead = dead.0;
@@ -440,7 +440,7 @@ some_lint_text c states coded =
       merged = merged.0;
       unresolvable = unresolvable.0;
     } in (
-      lint_text g.signals states walks.0 findings,
+      lint_text g.signals states dropped walks.0 findings,
       record {
         findings = findings;
         are = record {
@@ -454,7 +454,7 @@ some_lint_text c states coded =
           unresolvable = unresolvable.1;
         };
         walk = walks.0;
-        walks = walks.1;
+        walks = ways_are_walks g walks.0 coded.deterministic walks.1;
         text_is = refl;
       },
     )

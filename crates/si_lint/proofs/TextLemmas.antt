@@ -1,6 +1,6 @@
 -- The text, kind by kind.
 use Rattle.std.proofs.Common.{◌≡◌, ℕ, ◌<◌, ◌∙◌, List, [], ◌∷◌, ◌++◌, All, length, get_or, Contains, sym, ap, subst, arith}
-use Rattle.std.proofs.Common.{codes, decimal, refl}
+use Rattle.std.proofs.Common.{codes, refl}
 use Rattle.std.proofs.lemmas.List.{append-nil, get_or_default}
 use Rattle.std.proofs.lemmas.Option.{slice_get_within}
 use Rattle.si_base.specs.declared.ids.Event.{Event}
@@ -15,9 +15,9 @@ use Rattle.si_carried.specs.Lint.{IsOneWay, Withdraws, IsSameCode}
 use Rattle.si_lint.specs.All.{AreAll}
 use Rattle.si_lint.specs.Findings.{IsMerged, IsUnresolvable, Findings, AreFindings}
 use Rattle.si_lint.specs.LintText.{unused_line, dead_line, one_way_line, loss_line, pair_line, kind_lines, told_count}
-use Rattle.si_lint.specs.LintText.{lint_text, AreFirstWalks, IsLintText}
+use Rattle.si_lint.specs.LintText.{lint_text, dropped_line, told_line, IsLintText}
 use Rattle.si_lint.specs.Loops.Lines.{AddsLines, ArcIsWithin, LossIsWithin, PairIsWithin}
-use Rattle.si_lint.proofs.LintTexts.{some_walks}
+use Rattle.si_lint.proofs.LintTexts.{some_ways, ways_are_walks}
 
 -- what holds of all that have a property holds of the items of their list
 pub all_hold : {A : Type 0} (place : A → List ℕ) (P Q : A → Type 0) (xs : List A) → AreAll place P xs
@@ -48,39 +48,39 @@ unresolvable_is_within c n size p is =
     (omega (arith, conflict.order, conflict.within, size), omega (arith, conflict.within, size))
 
 -- the text that the calls make
-pub text_by_calls : (c : CodedGraph) (states : List (List ℕ)) (f : Findings) (known : List Signal) (count : ℕ)
-    (number t0 t1 t2 t3 t4 t5 t6 t7 t8 t9 : List ℕ) → IsCoded c → AreFindings c f → known ≡ c.graph.signals
-    → count ≡ told_count f → number ≡ decimal count → t0 ≡ codes ""
-    → t1 ≡ t0 ++ line (codes "told" ∷ number ∷ [])
-    → t2 ≡ t1 ++ text_of (kind_lines (unused_line known) f.unused)
-    → AddsLines c.graph (λ walk. kind_lines (dead_line c.graph.signals states walk) f.dead) t2 t3
-    → AddsLines c.graph (λ walk. kind_lines (one_way_line c.graph.signals states walk) f.one_way) t3 t4
-    → t5 ≡ t4 ++ text_of (kind_lines (loss_line (codes "choice") c.graph.signals states) f.choices)
-    → t6 ≡ t5 ++ text_of (kind_lines (loss_line (codes "disabled") c.graph.signals states) f.disablings)
-    → t7 ≡ t6 ++ text_of (kind_lines (pair_line (codes "samecode") states) f.same_codes)
-    → t8 ≡ t7 ++ text_of (kind_lines (pair_line (codes "alike") states) f.merged)
-    → t9 ≡ t8 ++ text_of (kind_lines (pair_line (codes "unresolvable") states) f.unresolvable)
-    → IsLintText c states t9
+pub text_by_calls : (c : CodedGraph) (states dropped : List (List ℕ)) (f : Findings) (known : List Signal) (count : ℕ)
+    (t0 t1 t2 t3 t4 t5 t6 t7 t8 t9 t10 : List ℕ) → IsCoded c → AreFindings c f → known ≡ c.graph.signals
+    → count ≡ told_count dropped f → t0 ≡ codes "" → t1 ≡ t0 ++ line (told_line count)
+    → t2 ≡ t1 ++ text_of (kind_lines dropped_line dropped)
+    → t3 ≡ t2 ++ text_of (kind_lines (unused_line known) f.unused)
+    → AddsLines c.graph (λ walk. kind_lines (dead_line c.graph.signals states walk) f.dead) t3 t4
+    → AddsLines c.graph (λ walk. kind_lines (one_way_line c.graph.signals states walk) f.one_way) t4 t5
+    → t6 ≡ t5 ++ text_of (kind_lines (loss_line (codes "choice") c.graph.signals states) f.choices)
+    → t7 ≡ t6 ++ text_of (kind_lines (loss_line (codes "disabled") c.graph.signals states) f.disablings)
+    → t8 ≡ t7 ++ text_of (kind_lines (pair_line (codes "samecode") states) f.same_codes)
+    → t9 ≡ t8 ++ text_of (kind_lines (pair_line (codes "alike") states) f.merged)
+    → t10 ≡ t9 ++ text_of (kind_lines (pair_line (codes "unresolvable") states) f.unresolvable)
+    → IsLintText c states dropped t10
 unfolding lint_text
-text_by_calls c states f known count number t0 t1 t2 t3 t4 t5 t6 t7 t8 t9 coded are signals counted told e0 e1 e2 e3 e4
-    e5 e6 e7 e8 e9 =
-    let some = some_walks c coded in
+text_by_calls c states dropped f known count t0 t1 t2 t3 t4 t5 t6 t7 t8 t9 t10 coded are signals counted e0 e1 e2 e3
+    e4 e5 e6 e7 e8 e9 e10 =
+    let some = some_ways c.graph coded.connected in
     record {
       findings = f;
       are = are;
       walk = some.0;
-      walks = some.1;
-      text_is = text_is some.0 (e3 some.0 some.1) (e4 some.0 some.1);
+      walks = ways_are_walks c.graph some.0 coded.deterministic some.1;
+      text_is = text_is some.0 (e4 some.0 some.1) (e5 some.0 some.1);
     }
   where
-    head : t1 ≡ text_of ((codes "told" ∷ decimal (told_count f) ∷ []) ∷ [])
-    head = e1 ∙ rw (e0, told, counted) (sym (append-nil (line (codes "told" ∷ decimal (told_count f) ∷ []))))
+    head : t1 ≡ text_of (told_line (told_count dropped f) ∷ [])
+    head = e1 ∙ rw (e0, counted) (sym (append-nil (line (told_line (told_count dropped f)))))
 
-    unused : t2 ≡ t1 ++ text_of (kind_lines (unused_line c.graph.signals) f.unused)
-    unused = e2 ∙ ap (λ (l : List Signal). t1 ++ text_of (kind_lines (unused_line l) f.unused)) signals
+    unused : t3 ≡ t2 ++ text_of (kind_lines (unused_line c.graph.signals) f.unused)
+    unused = e3 ∙ ap (λ (l : List Signal). t2 ++ text_of (kind_lines (unused_line l) f.unused)) signals
 
     text_is : (walk : ℕ → List Event)
-        → t3 ≡ t2 ++ text_of (kind_lines (dead_line c.graph.signals states walk) f.dead)
-        → t4 ≡ t3 ++ text_of (kind_lines (one_way_line c.graph.signals states walk) f.one_way)
-        → t9 ≡ lint_text c.graph.signals states walk f
-    text_is walk dead one_way = rw (e9, e8, e7, e6, e5, one_way, dead, unused, head) refl
+        → t4 ≡ t3 ++ text_of (kind_lines (dead_line c.graph.signals states walk) f.dead)
+        → t5 ≡ t4 ++ text_of (kind_lines (one_way_line c.graph.signals states walk) f.one_way)
+        → t10 ≡ lint_text c.graph.signals states dropped walk f
+    text_is walk dead one_way = rw (e10, e9, e8, e7, e6, one_way, dead, unused, e2, head) refl

@@ -22,12 +22,20 @@ max_told = 1000
 abbrev pub AreFirstWalks : StateGraph → (ℕ → List Event) → Type 0
 AreFirstWalks g walk = (s : ℕ) → s < g.states → IsFirstWalk g All g.start s (walk s)
 
--- how many there are of all kinds
-abbrev pub told_count : Findings → ℕ
-told_count f = length f.unused + length f.dead + length f.one_way + length f.choices
-    + length f.disablings + length f.same_codes + length f.merged + length f.unresolvable
+-- how many there are of all kinds, with the states that were dropped
+abbrev pub told_count : List (List ℕ) → Findings → ℕ
+told_count dropped f = length dropped + length f.unused + length f.dead + length f.one_way
+    + length f.choices + length f.disablings + length f.same_codes + length f.merged
+    + length f.unresolvable
 
 -- ---- the lines, each by its words
+abbrev pub told_line : ℕ → List (List ℕ)
+told_line count = codes "told" ∷ decimal count ∷ []
+
+-- the name of a state of the text that no walk reaches
+abbrev pub dropped_line : List ℕ → List (List ℕ)
+dropped_line name = codes "dropped" ∷ name ∷ []
+
 abbrev pub unused_line : List Signal → ℕ → List (List ℕ)
 unused_line signals a = codes "unused" ∷ name_of signals a ∷ []
 
@@ -55,9 +63,11 @@ kind_lines line_of xs = map line_of (take max_told xs)
 
 -- ---- the text
 -- how many lines there would be, and the lines, kind by kind
-unfoldable pub lint_text : List Signal → List (List ℕ) → (ℕ → List Event) → Findings → List ℕ
-lint_text signals states walk f =
-    text_of ((codes "told" ∷ decimal (told_count f) ∷ []) ∷ [])
+unfoldable pub lint_text : List Signal → (states dropped : List (List ℕ)) → (ℕ → List Event)
+    → Findings → List ℕ
+lint_text signals states dropped walk f =
+    text_of (told_line (told_count dropped f) ∷ [])
+    ++ text_of (kind_lines dropped_line dropped)
     ++ text_of (kind_lines (unused_line signals) f.unused)
     ++ text_of (kind_lines (dead_line signals states walk) f.dead)
     ++ text_of (kind_lines (one_way_line signals states walk) f.one_way)
@@ -67,10 +77,12 @@ lint_text signals states walk f =
     ++ text_of (kind_lines (pair_line (codes "alike") states) f.merged)
     ++ text_of (kind_lines (pair_line (codes "unresolvable") states) f.unresolvable)
 
--- what is told of c, with these names of its states: all that it has of each kind, and first walks
-pub record IsLintText (c : CodedGraph) (states : List (List ℕ)) (text : List ℕ) : Type 0 where
+-- what is told of c, with these names of its states and of those that were dropped: all that it has
+-- of each kind, and first walks
+pub record IsLintText (c : CodedGraph) (states dropped : List (List ℕ)) (text : List ℕ)
+    : Type 0 where
   pub findings : Findings
   pub are : AreFindings c findings
   pub walk : ℕ → List Event
   pub walks : AreFirstWalks c.graph walk
-  pub text_is : text ≡ lint_text c.graph.signals states walk findings
+  pub text_is : text ≡ lint_text c.graph.signals states dropped walk findings

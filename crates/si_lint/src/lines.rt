@@ -1,13 +1,12 @@
 //! The lines of each kind.
 
-ghost use Rattle.std.specs.Prelude.{◌≡◌, ◌<◌, ◌++◌, IfOk, OnOk, All, length, take};
+ghost use Rattle.std.specs.Prelude.{◌≡◌, ◌<◌, ◌++◌, OnOk, All, length, take};
 ghost use Rattle.si_base.specs.Words.{line, text_of};
 ghost use Rattle.si_conflicts.specs.Conflicts.{pairs_of};
-ghost use Rattle.si_lint.specs.LintText.{max_told, kind_lines, unused_line, dead_line};
-ghost use Rattle.si_lint.specs.LintText.{one_way_line, loss_line, pair_line};
+ghost use Rattle.si_lint.specs.LintText.{max_told, kind_lines, dropped_line, unused_line};
+ghost use Rattle.si_lint.specs.LintText.{dead_line, one_way_line, loss_line, pair_line, told_line};
 ghost use Rattle.si_lint.specs.Loops.Lines.{AddsLines, ArcIsWithin, LossIsWithin, PairIsWithin};
-ghost use Rattle.si_walks.specs.Walks.{IsFirstWalk};
-ghost use Rattle.si_walks.specs.declared.arcs.Arcs.TheVariants as kind;
+ghost use Rattle.si_walks.specs.Tree.{IsTree};
 
 use crate::withdrawals::Withdrawal;
 use si_base::graph::{Edge, Signal, signal_name};
@@ -17,9 +16,9 @@ use si_base::text::Text;
 use si_conflicts::conflicts::Pair;
 use si_explain::events::{add_events, add_events_line};
 use si_graph::coded::Coded;
+use si_graph::graph::Graph;
 use si_sg::write::name_at;
-use si_walks::arcs::Arcs;
-use si_walks::walk::shortest_walk;
+use si_walks::tree::way_to;
 use si_words::writing::{add_line, add_word};
 use std::alloc::Global;
 
@@ -35,6 +34,27 @@ fn printed<T>(found: &[T]) -> &[T]
     }
     let first = &found[..MAX_TOLD];
     first
+}
+
+/// Adds the line of how many lines there would be.
+pub(crate) fn add_told(alloc: Global, text: &mut Text, count: u128) -> Result<(), NoMemory>
+    ensures { OnOk result (text.new ≡ text.old ++ line (told_line count)) }
+{
+    let Ok(count) = count.to_string(alloc) else {
+        return Err(NoMemory);
+    };
+    add_line(text, b"told", &[count.as_bytes()])
+}
+
+/// Adds the lines of states that were dropped.
+pub(crate) fn add_dropped(text: &mut Text, dropped: &Names) -> Result<(), NoMemory>
+    ensures { OnOk result (text.new ≡ text.old
+        ++ text_of (kind_lines dropped_line dropped.now)) }
+{
+    for k in 0..dropped.len().min(MAX_TOLD as u32) {
+        add_line(text, b"dropped", &[dropped.get(k)])?;
+    }
+    Ok(())
 }
 
 /// Adds the lines of signals that never switch.
@@ -53,19 +73,22 @@ pub(crate) fn add_unused(text: &mut Text, signals: &[Signal], found: &[Sig]) -> 
 pub(crate) fn add_dead(
     alloc: Global,
     text: &mut Text,
-    coded: &Coded,
+    graph: &Graph,
+    last: &[Option<Edge>],
     states: &Names,
     found: &[StateId],
 ) -> Result<(), NoMemory>
-    requires states { length states.now ≡ coded.now.graph.states }
-    requires within { All (λ s. s < coded.now.graph.states) found.now }
-    ensures { let g = coded.now.graph in OnOk result (AddsLines g
+    requires states { length states.now ≡ graph.now.states }
+    requires tree { IsTree graph.now last.now }
+    requires within { All (λ s. s < graph.now.states) found.now }
+    ensures { let g = graph.now in OnOk result (AddsLines g
         (λ walk. kind_lines (dead_line g.signals states.now walk) found.now) text.old text.new) }
 {
+    let _arcs = graph.arcs();
+    let signals = graph.signals();
     let first = printed(found);
     for s in first {
-        let walk = walk_to(alloc, coded, *s)?;
-        let signals = coded.graph().signals();
+        let walk = way_to(alloc, graph, last, *s)?;
         add_events_line(text, b"dead", signals, states, *s, walk.as_slice())?;
     }
     Ok(())
@@ -75,20 +98,24 @@ pub(crate) fn add_dead(
 pub(crate) fn add_one_ways(
     alloc: Global,
     text: &mut Text,
-    coded: &Coded,
+    graph: &Graph,
+    last: &[Option<Edge>],
     states: &Names,
     found: &[Edge],
 ) -> Result<(), NoMemory>
-    requires states { length states.now ≡ coded.now.graph.states }
-    requires within { All (ArcIsWithin coded.now.graph) found.now }
-    ensures { let g = coded.now.graph in OnOk result (AddsLines g
+    requires states { length states.now ≡ graph.now.states }
+    requires tree { IsTree graph.now last.now }
+    requires within { All (ArcIsWithin graph.now) found.now }
+    ensures { let g = graph.now in OnOk result (AddsLines g
         (λ walk. kind_lines (one_way_line g.signals states.now walk) found.now)
         text.old text.new) }
 {
+    let _arcs = graph.arcs();
+    let signals = graph.signals();
     let first = printed(found);
     for arc in first {
-        let walk = walk_to(alloc, coded, arc.from)?;
-        add_one_way(text, coded.graph().signals(), states, arc, walk.as_slice())?;
+        let walk = way_to(alloc, graph, last, arc.from)?;
+        add_one_way(text, signals, states, arc, walk.as_slice())?;
     }
     Ok(())
 }
@@ -114,16 +141,6 @@ fn add_one_way(
     add_word(text, name_at(states, arc.to))?;
     add_events(text, signals, walk)?;
     text.add(b"\n")
-}
-
-/// The first walk from the start to a state.
-fn walk_to(alloc: Global, coded: &Coded, s: StateId) -> Result<Vec<Event>, NoMemory>
-    requires { s < coded.now.graph.states }
-    ensures { let g = coded.now.graph in
-        IfOk result (λ walk. IsFirstWalk g kind.All g.start s walk.items) }
-{
-    let start = coded.graph().start();
-    shortest_walk(alloc, coded, &Arcs::All, start, s)
 }
 
 /// Adds the lines of input events that another event disables.

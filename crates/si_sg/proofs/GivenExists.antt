@@ -1,8 +1,8 @@
 -- A text without fault gives a graph.
 use Rattle.std.proofs.Common.{◌≡◌, ◌<◌, ℕ, List, [], ◌∷◌, map, length, get_or, All}
-use Rattle.std.proofs.Common.{refl, arith, inl, inr, None}
+use Rattle.std.proofs.Common.{refl, arith, inl, inr, None, Contains, ◌⊎◌, sym, subst}
 use Rattle.std.specs.List.{slice_index_or}
-use Rattle.std.proofs.lemmas.Bool.{cases_Bool}
+use Rattle.std.proofs.lemmas.Bool.{cases_Bool, cases_eq}
 use Rattle.std.proofs.lemmas.List.{length-map}
 use Rattle.std.proofs.lemmas.List.Elements.{All-contains, Contains-get_or}
 use Rattle.si_base.specs.declared.graph.Edge.{Edge}
@@ -12,6 +12,9 @@ use Rattle.si_base.specs.Lines.{Line, numbered}
 use Rattle.si_base.specs.GivenGraph.{Sg as SgValue}
 use Rattle.si_graph.proofs.ArcsInOrder.{arcs_in_order}
 use Rattle.si_graph.proofs.CutExists.{some_cut}
+use Rattle.si_graph.proofs.ListMembers.{Contains-nil, Contains-here, Contains-there, Contains-cons_cases}
+use Rattle.si_sg.specs.Dropped.{IsDroppedBy}
+use Rattle.si_sg.proofs.OtherLemmas.{some_others, ascending}
 use Rattle.si_sg.specs.Header.{Header, no_header, declared, is_state_graph}
 use Rattle.si_sg.specs.Section.{Section, no_section}
 use Rattle.si_sg.specs.GivenGraph.{IsGivenBy, IsSpelled, edge_of, model_in, signals_in, start_in}
@@ -84,8 +87,9 @@ module _ (h : Header) (x : Section) (are : AreSignals (declared h))
         },
       )
 
-pub some_given : (text : List ℕ) → graph_fault text ≡ None → (sg : SgValue) × IsGivenBy text sg
-some_given text none =
+some_whole : (text : List ℕ) → graph_fault text ≡ None
+    → (g : StateGraph) × IsSpelled (signals_in (header_of text)) (section_of text) g
+some_whole text none =
     let nothing : AreSignals (declared no_header) = record { apart = tt; few = omega arith } in
     let header = header_good (after_last text) no_header (numbered text) nothing none in
     let h : Header = header_of text in
@@ -93,7 +97,13 @@ some_given text none =
     let section : IsWholeSection (length (signals_in h)) x =
     section_read (after_last text) h (declared h) (signals_in h)
     (after_header (numbered text)) x refl refl header.section refl in
-    let whole = some_graph h x header.signals section in
+    some_graph h x header.signals section
+
+pub some_given : (text : List ℕ) → graph_fault text ≡ None → (sg : SgValue) × IsGivenBy text sg
+some_given text none =
+    let h : Header = header_of text in
+    let x : Section = section_of text in
+    let whole = some_whole text none in
     let cut = some_cut whole.0 whole.1.graph in
     let names : List (List ℕ) = map (λ s. slice_index_or x.states s []) cut.0 in (
       record { model = model_in h.models; graph = cut.1; states = names },
@@ -104,5 +114,41 @@ some_given text none =
           spelled = whole.1;
           given = record { kept = cut.0; cut = cut.2; model_is = refl; states_are = refl };
         };
+      },
+    )
+
+-- ---- the states that it hasn't
+among : (xs : List ℕ) (s : ℕ) → Contains xs s ⊎ (Contains xs s → ⊥)
+among [] s = inr (Contains-nil s)
+among (x ∷ xs) s = elim (cases_eq s x) [
+  | inl same ↦ inl (subst (Contains (x ∷ xs)) (sym same) (Contains-here x xs))
+  | inr other ↦ elim (among xs s) [
+    | inl there ↦ inl (Contains-there x xs s there)
+    | inr none ↦ inr (λ there. elim (Contains-cons_cases x xs s there) [
+      | inl same ↦ other (sym same)
+      | inr later ↦ none later
+    ])
+  ]
+]
+
+pub some_dropped : (text : List ℕ) → graph_fault text ≡ None → (names : List (List ℕ)) × IsDroppedBy text names
+some_dropped text none =
+    let whole = some_whole text none in
+    let cut = some_cut whole.0 whole.1.graph in
+    let others = some_others (Contains cut.0) (among cut.0) whole.0.states in (
+      map (λ s. slice_index_or (section_of text).states s []) others.0,
+      record {
+        whole = whole.0;
+        spelled = whole.1;
+        states = others.0;
+        are = record {
+          exactly = λ s. (
+            (λ there. let is = (others.1.exactly s).0 there in
+                (is.0, λ reached. is.1 ((cut.2.reachable s).1 reached))),
+            (λ is. (others.1.exactly s).1 (is.0, λ kept. is.1 ((cut.2.reachable s).0 kept))),
+          );
+          in_order = ascending others.0 others.1.in_order;
+        };
+        named = refl;
       },
     )

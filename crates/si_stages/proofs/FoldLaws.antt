@@ -36,7 +36,7 @@ pub texts_read_back : FoldTextsReadBack
 texts_read_back file text output comes =
     let read = passed _ _ output comes in
     let checked = passed _ _ output read.2 in
-    gives_folded text output read.0 read.1 checked.0 checked.1 checked.2
+    gives_folded text output read.0.given read.1.0 checked.0 checked.1 checked.2
 
 -- ---- a netlist for the graph that the text of a folded graph gives
 module _ (text folded_text output : List ℕ) (f : GivesFolded text folded_text) (read : Sg)

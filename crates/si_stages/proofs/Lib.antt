@@ -2,6 +2,7 @@ pub mod FoldLemmas
 pub mod FoldTexts
 pub mod ReportLemmas
 pub mod PicturedLemmas
+pub mod LintedLemmas
 pub mod ReplayLemmas
 pub mod ReplayEnds
 pub mod ResolvingLemmas

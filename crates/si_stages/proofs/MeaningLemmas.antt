@@ -39,6 +39,8 @@ use Rattle.si_stages.proofs.MappingLemmas.{cells_text_one, cells_text_some, is_l
 use Rattle.si_readings.proofs.ReadingLemmas.{mapping_readings_are, mapping_readings_one, mapping_readings_some}
 use Rattle.si_readings.proofs.ReadingLemmas.{replay_readings_are, replay_readings_one, replay_readings_some}
 use Rattle.si_readings.proofs.CheckNames.{given_named_states}
+use Rattle.si_stages.proofs.LintedLemmas.{whole_one, whole_some}
+use Rattle.si_stages.proofs.LintedLemmas.{told_one as linted_one, told_some as linted_some}
 use Rattle.si_stages.proofs.PicturedLemmas.{drawn_one, drawn_some, listed_one, listed_some}
 use Rattle.si_stages.proofs.ReportLemmas.{told_one, told_some}
 use Rattle.si_stages.proofs.ResolutionLemmas.{IsResolution, resolution_is, resolution_of}
@@ -53,19 +55,21 @@ on_proper_one : (what : ProperReport) (given : Sg) → AtMostOne (on_proper what
 on_proper_one what given = then_one _ _ (proper_one given.graph given.states)
     (λ coded sound. told_one what given.model given.states coded sound.coded_is)
 
-report_on_one : (what : Report) (given : Sg) → AtMostOne (report_on what given.model given.states given.graph)
-report_on_one Summary given = on_proper_one told.Summary given
-report_on_one Regions given = on_proper_one told.Regions given
-report_on_one Conflicts given = on_proper_one told.Conflicts given
-report_on_one Covers given = on_proper_one told.Covers given
-report_on_one Fold given = on_proper_one told.Fold given
-report_on_one States given = listed_one given.states given.graph
-report_on_one Explain given = on_proper_one told.Explain given
-report_on_one Dot given = drawn_one given.model given.states given.graph
-report_on_one Lint given = on_proper_one told.Lint given
+report_on_one : (what : Report) (given : Sg) (dropped : List (List ℕ))
+    → AtMostOne (report_on what given.model given.states dropped given.graph)
+report_on_one Summary given dropped = on_proper_one told.Summary given
+report_on_one Regions given dropped = on_proper_one told.Regions given
+report_on_one Conflicts given dropped = on_proper_one told.Conflicts given
+report_on_one Covers given dropped = on_proper_one told.Covers given
+report_on_one Fold given dropped = on_proper_one told.Fold given
+report_on_one States given dropped = listed_one given.states given.graph
+report_on_one Explain given dropped = on_proper_one told.Explain given
+report_on_one Dot given dropped = drawn_one given.model given.states given.graph
+report_on_one Lint given dropped = linted_one given.states dropped given.graph
 
 pub report_one : (what : Report) (file text : List ℕ) → AtMostOne (report what file text)
-report_one what file text = then_one _ _ (graph_one file text) (λ given is. report_on_one what given)
+report_one what file text =
+    then_one _ _ (whole_one file text) (λ whole is. report_on_one what whole.given whole.dropped)
 
 pub synth_one : (style : Style) (file text : List ℕ) → AtMostOne (synth style file text)
 synth_one style file text = then_one _ _ (graph_one file text) (λ given is.
@@ -96,20 +100,22 @@ on_proper_some : (what : ProperReport) (text : List ℕ) (given : Sg) → IsGive
 on_proper_some what text given is = then_some _ _ (proper_some text given is)
     (λ coded sound. told_some what given.model given.states coded sound.coded_is)
 
-report_on_some : (what : Report) (text : List ℕ) (given : Sg) → IsGivenBy text given
-    → HasResult (report_on what given.model given.states given.graph)
-report_on_some Summary text given is = on_proper_some told.Summary text given is
-report_on_some Regions text given is = on_proper_some told.Regions text given is
-report_on_some Conflicts text given is = on_proper_some told.Conflicts text given is
-report_on_some Covers text given is = on_proper_some told.Covers text given is
-report_on_some Fold text given is = on_proper_some told.Fold text given is
-report_on_some States text given is = listed_some given.states given.graph (given_named_states text given is)
-report_on_some Explain text given is = on_proper_some told.Explain text given is
-report_on_some Dot text given is = drawn_some given.model given.states given.graph (given_named_states text given is)
-report_on_some Lint text given is = on_proper_some told.Lint text given is
+report_on_some : (what : Report) (text : List ℕ) (given : Sg) (dropped : List (List ℕ)) → IsGivenBy text given
+    → HasResult (report_on what given.model given.states dropped given.graph)
+report_on_some Summary text given dropped is = on_proper_some told.Summary text given is
+report_on_some Regions text given dropped is = on_proper_some told.Regions text given is
+report_on_some Conflicts text given dropped is = on_proper_some told.Conflicts text given is
+report_on_some Covers text given dropped is = on_proper_some told.Covers text given is
+report_on_some Fold text given dropped is = on_proper_some told.Fold text given is
+report_on_some States text given dropped is = listed_some given.states given.graph (given_named_states text given is)
+report_on_some Explain text given dropped is = on_proper_some told.Explain text given is
+report_on_some Dot text given dropped is =
+    drawn_some given.model given.states given.graph (given_named_states text given is)
+report_on_some Lint text given dropped is = linted_some text given dropped is
 
 pub report_some : (what : Report) (file text : List ℕ) → HasResult (report what file text)
-report_some what file text = then_some _ _ (graph_some file text) (λ given is. report_on_some what text given is)
+report_some what file text =
+    then_some _ _ (whole_some file text) (λ whole is. report_on_some what text whole.given whole.dropped is.0)
 
 pub synth_some : (style : Style) (file text : List ℕ) → HasResult (synth style file text)
 synth_some style file text = then_some _ _ (graph_some file text) (λ given is.

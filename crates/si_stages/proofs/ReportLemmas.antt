@@ -2,7 +2,6 @@
 use Rattle.std.proofs.Common.{ℕ, List}
 use Rattle.si_base.specs.Codes.{CodedGraph, IsCoded}
 use Rattle.si_explain.proofs.ExplainTexts.{one_explain_text, some_explain_text}
-use Rattle.si_lint.proofs.LintTexts.{one_lint_text, some_lint_text}
 use Rattle.si_listings.proofs.CoverLemmas.{one_cover_text, some_cover_text}
 use Rattle.si_listings.proofs.ListingLemmas.{one_region_text, one_conflict_text}
 use Rattle.si_listings.proofs.ListingsExist.{some_region_text, some_conflict_text}
@@ -10,7 +9,7 @@ use Rattle.si_readings.specs.Laws.{AtMostOne, HasResult}
 use Rattle.si_stages.specs.Reports.{summary, report_text}
 use Rattle.si_stages.specs.declared.report_kind.ProperReport.{ProperReport}
 use Rattle.si_stages.specs.declared.report_kind.ProperReport.TheVariants.{Summary, Regions, Conflicts, Covers, Fold}
-use Rattle.si_stages.specs.declared.report_kind.ProperReport.TheVariants.{Explain, Lint}
+use Rattle.si_stages.specs.declared.report_kind.ProperReport.TheVariants.{Explain}
 use Rattle.si_stages.proofs.FoldLemmas.{one_fold_text, some_fold_text}
 use Rattle.si_readings.proofs.StageLemmas.{gives_one, gives_some, shows_one, shows_some}
 
@@ -22,7 +21,6 @@ told_one Conflicts model states coded is = shows_one _ (one_conflict_text coded 
 told_one Covers model states coded is = shows_one _ (one_cover_text coded states)
 told_one Fold model states coded is = shows_one _ (one_fold_text model states coded is)
 told_one Explain model states coded is = shows_one _ (one_explain_text coded states)
-told_one Lint model states coded is = shows_one _ (λ x y. one_lint_text coded states x y is)
 
 pub told_some : (what : ProperReport) (model : List ℕ) (states : List (List ℕ)) (coded : CodedGraph) → IsCoded coded
     → HasResult (report_text what model states coded)
@@ -32,4 +30,3 @@ told_some Conflicts model states coded is = shows_some _ (some_conflict_text cod
 told_some Covers model states coded is = shows_some _ (some_cover_text coded states is)
 told_some Fold model states coded is = shows_some _ (some_fold_text model states coded is)
 told_some Explain model states coded is = shows_some _ (some_explain_text coded states is)
-told_some Lint model states coded is = shows_some _ (some_lint_text coded states is)

@@ -6,6 +6,7 @@ pub mod Replayed
 pub mod Fold
 pub mod Reports
 pub mod Pictured
+pub mod Linted
 pub mod Audited
 pub mod Meaning
 pub mod Laws

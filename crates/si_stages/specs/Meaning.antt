@@ -11,6 +11,7 @@ use Rattle.si_stages.specs.Audited.{certification}
 use Rattle.si_readings.specs.Checks.{proper, match_lists}
 use Rattle.si_stages.specs.Mapping.{cells_text}
 use Rattle.si_readings.specs.Readings.{graph_in, mapping_readings}
+use Rattle.si_stages.specs.Linted.{whole_in, told}
 use Rattle.si_readings.specs.Readings.{audit_readings, replay_readings}
 use Rattle.si_stages.specs.Pictured.{drawn, listed}
 use Rattle.si_stages.specs.Replayed.{replay_on}
@@ -20,7 +21,7 @@ use Rattle.si_stages.specs.Synthesis.{synthesis}
 use Rattle.si_readings.specs.declared.library_format.LibraryFormat.{LibraryFormat}
 use Rattle.si_stages.specs.declared.replay_kind.ReplayReport.{ReplayReport}
 use Rattle.si_stages.specs.declared.report_kind.ProperReport.{ProperReport}
-use Rattle.si_stages.specs.declared.report_kind.ProperReport.TheVariants as told
+use Rattle.si_stages.specs.declared.report_kind.ProperReport.TheVariants as kind
 use Rattle.si_stages.specs.declared.report_kind.Report.{Report}
 use Rattle.si_stages.specs.declared.report_kind.Report.TheVariants.{Summary, Regions, Conflicts}
 use Rattle.si_stages.specs.declared.report_kind.Report.TheVariants.{Covers, Fold, States, Explain}
@@ -33,23 +34,24 @@ on_proper what model states graph = do
   coded ← proper graph states
   report_text what model states coded
 
--- and on a graph, which needs to be proper but for its states and its picture
-abbrev pub report_on : Report → (model : List ℕ) → (states : List (List ℕ)) → StateGraph
+-- and on a graph, with the names of the states that were dropped: it needs to be proper but for its
+-- states and its picture
+abbrev pub report_on : Report → (model : List ℕ) → (states dropped : List (List ℕ)) → StateGraph
     → Stage TextRefusal (List ℕ)
-report_on Summary model states graph = on_proper told.Summary model states graph
-report_on Regions model states graph = on_proper told.Regions model states graph
-report_on Conflicts model states graph = on_proper told.Conflicts model states graph
-report_on Covers model states graph = on_proper told.Covers model states graph
-report_on Fold model states graph = on_proper told.Fold model states graph
-report_on States model states graph = listed states graph
-report_on Explain model states graph = on_proper told.Explain model states graph
-report_on Dot model states graph = drawn model states graph
-report_on Lint model states graph = on_proper told.Lint model states graph
+report_on Summary model states dropped graph = on_proper kind.Summary model states graph
+report_on Regions model states dropped graph = on_proper kind.Regions model states graph
+report_on Conflicts model states dropped graph = on_proper kind.Conflicts model states graph
+report_on Covers model states dropped graph = on_proper kind.Covers model states graph
+report_on Fold model states dropped graph = on_proper kind.Fold model states graph
+report_on States model states dropped graph = listed states graph
+report_on Explain model states dropped graph = on_proper kind.Explain model states graph
+report_on Dot model states dropped graph = drawn model states graph
+report_on Lint model states dropped graph = told states dropped graph
 
 abbrev pub report : Report → (file text : List ℕ) → Stage TextRefusal (List ℕ)
 report what file text = do
-  given ← graph_in file text
-  report_on what given.model given.states given.graph
+  whole ← whole_in file text
+  report_on what whole.given.model whole.given.states whole.dropped whole.given.graph
 
 abbrev pub synth : Style → (file text : List ℕ) → Stage TextRefusal (List ℕ)
 synth style file text = do

@@ -4,7 +4,6 @@ use Rattle.si_base.specs.Codes.{CodedGraph, code}
 use Rattle.si_base.specs.NetlistText.{bits_from, word_if_any}
 use Rattle.si_base.specs.Words.{text_of}
 use Rattle.si_explain.specs.ExplainText.{IsExplainText}
-use Rattle.si_lint.specs.LintText.{IsLintText}
 use Rattle.si_listings.specs.ConflictText.{IsConflictText}
 use Rattle.si_listings.specs.CoverText.{IsCoverText}
 use Rattle.si_listings.specs.RegionText.{IsRegionText}
@@ -14,7 +13,7 @@ use Rattle.si_stages.specs.Fold.{IsFoldText}
 use Rattle.si_stages.specs.declared.report_kind.ProperReport.{ProperReport}
 use Rattle.si_stages.specs.declared.report_kind.ProperReport.TheVariants.{Summary, Regions}
 use Rattle.si_stages.specs.declared.report_kind.ProperReport.TheVariants.{Conflicts, Covers, Fold}
-use Rattle.si_stages.specs.declared.report_kind.ProperReport.TheVariants.{Explain, Lint}
+use Rattle.si_stages.specs.declared.report_kind.ProperReport.TheVariants.{Explain}
 
 -- a line of a word and a number
 abbrev pub count_line : List ℕ → ℕ → List (List ℕ)
@@ -32,7 +31,7 @@ summary coded = text_of ((codes "proper" ∷ [])
 
 -- of a graph with this model and these names of its states: its summary; the text of its regions;
 -- the text of its conflicts; the text of its covers; the text of its folded graph; the text that
--- explains its conflicts; the text of what is worth a second look
+-- explains its conflicts
 abbrev pub report_text : ProperReport → (model : List ℕ) → (states : List (List ℕ)) → CodedGraph
     → Stage TextRefusal (List ℕ)
 report_text Summary model states coded = gives (summary coded)
@@ -41,4 +40,3 @@ report_text Conflicts model states coded = shows (IsConflictText coded states)
 report_text Covers model states coded = shows (IsCoverText coded states)
 report_text Fold model states coded = shows (IsFoldText model states coded)
 report_text Explain model states coded = shows (IsExplainText coded states)
-report_text Lint model states coded = shows (IsLintText coded states)

@@ -9,6 +9,7 @@ pub mod fold_laws;
 pub mod genlib;
 pub mod inserted;
 pub mod inserted_laws;
+mod linted;
 pub mod mapping;
 pub mod netlist_report;
 mod pictured;

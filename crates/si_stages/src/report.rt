@@ -9,6 +9,7 @@ ghost use Rattle.si_stages.specs.Reports as reports;
 ghost use Rattle.si_stages.specs.Reports.{count_line, summary};
 
 use crate::fold::fold_text;
+use crate::linted::{told, whole_in};
 use crate::pictured::{drawn, listed};
 use crate::report_kind::{ProperReport, Report};
 use si_base::ids::NoMemory;
@@ -18,15 +19,13 @@ use si_checks::proper::Proper;
 use si_explain::explain::explain;
 use si_graph::coded::Coded;
 use si_graph::graph::Graph;
-use si_lint::lint::lint;
 use si_listings::conflict_listing::list_conflicts;
 use si_listings::cover_listing::list_covers;
 use si_listings::region_listing::list_regions;
 use si_netlist::write::add_values_line;
 use si_readings::checks::proper_of;
-use si_readings::readings::graph_in;
 use si_refusals::refusals::Refusal;
-use si_sg::read::Sg;
+use si_sg::read::{Sg, Whole};
 use si_words::writing::add_line;
 use std::alloc::Global;
 
@@ -47,27 +46,30 @@ pub fn report<'w>(
     ensures err { IfErr result
         (λ r. MayStop (stage.report what file.now text.now) (ending_of r)) }
 {
+    let Whole { sg, dropped } = whole_in(alloc, file, text)?;
     let Sg {
         model,
         graph,
         states,
-    } = graph_in(alloc, file, text)?;
-    report_on(alloc, what, graph, &model, &states)
+    } = sg;
+    report_on(alloc, what, graph, &model, &states, &dropped)
 }
 
-/// The report on the graph with this model and these names of its states.
+/// The report on the graph with this model and these names of its states and of those that were
+/// dropped.
 fn report_on(
     alloc: Global,
     what: Report,
     graph: Graph,
     model: &Name,
     states: &Names,
+    dropped: &Names,
 ) -> Result<Text, Refusal<'static>>
     requires { IsNamed graph states.now }
     ensures ok { IfOk result
-        (λ output. stage.report_on what model.now states.now graph (Ok output)) }
-    ensures err { IfErr result
-        (λ r. MayStop (stage.report_on what model.now states.now graph) (ending_of r)) }
+        (λ output. stage.report_on what model.now states.now dropped.now graph (Ok output)) }
+    ensures err { IfErr result (λ r.
+        MayStop (stage.report_on what model.now states.now dropped.now graph) (ending_of r)) }
 {
     match what {
         Report::Summary => on_proper(alloc, ProperReport::Summary, graph, model, states),
@@ -78,7 +80,7 @@ fn report_on(
         Report::States => listed(alloc, graph, states),
         Report::Explain => on_proper(alloc, ProperReport::Explain, graph, model, states),
         Report::Dot => drawn(alloc, graph, model, states),
-        Report::Lint => on_proper(alloc, ProperReport::Lint, graph, model, states),
+        Report::Lint => told(alloc, graph, states, dropped),
     }
 }
 
@@ -122,7 +124,6 @@ fn report_text(
         ProperReport::Covers => list_covers(alloc, graph, states),
         ProperReport::Fold => fold_text(alloc, graph, model, states),
         ProperReport::Explain => explain(alloc, graph.coded(), states),
-        ProperReport::Lint => lint(alloc, graph, states),
     }
 }
 

@@ -21,7 +21,8 @@ pub enum Report {
     Explain,
     /// Its picture, for Graphviz, whether it is proper or not.
     Dot,
-    /// Dead ends, arcs of no return, disabled inputs and what else is worth a second look.
+    /// States that were dropped, dead ends, arcs of no return, disabled inputs and what else is
+    /// worth a second look.
     Lint,
 }
 
@@ -40,6 +41,4 @@ pub enum ProperReport {
     Fold,
     /// Its conflicts, explained.
     Explain,
-    /// What is worth a second look.
-    Lint,
 }

@@ -1,10 +1,11 @@
 -- A train of pulses: each second pulse of the input switches the output.
-use Rattle.std.proofs.Common.{List, [], ◌∷◌, refl, codes, lit<, inl}
+use Rattle.std.proofs.Common.{◌≡◌, List, [], ◌∷◌, refl, codes, lit<, inl}
 use Rattle.si_base.specs.declared.graph.Signal.{Signal}
 use Rattle.si_base.specs.declared.graph.SigKind.TheVariants.{Input, Output}
 use Rattle.si_base.specs.Graph.{StateGraph, arc, rise, fall}
 use Rattle.si_base.specs.Codes.{CodedGraph}
 use Rattle.si_base.specs.Proper.{IsConflict}
+use Rattle.si_walks.specs.Paths.{path_place}
 use Rattle.si_walks.specs.Walks.{InputsLead}
 use Rattle.si_walks.specs.Joined.{IsJoinedConflict}
 use Rattle.si_walks.proofs.Joined.{walk_joins}
@@ -48,6 +49,10 @@ joined =
 -- so it stays unresolved
 stays : IsJoinedConflict coded_train (0, 2)
 stays = walk_joins coded_train (0, 2) conflict (inl joined)
+
+-- ---- the place of the path along `a+` and `a-`: two arcs, each with its event and its target
+place : path_place (arc 0 (rise 0) 1 ∷ arc 1 (fall 0) 2 ∷ []) ≡ 2 ∷ 0 ∷ 1 ∷ 1 ∷ 2 ∷ []
+place = refl
 
 -- ---- two inputs pulse in turn, by choice, and each has an answer of its own
 abbrev choice_signals : List Signal

@@ -3,6 +3,11 @@ pub mod DistanceSearch
 pub mod DistanceLayers
 pub mod SourceNearest
 pub mod FirstWalks
+pub mod PathLemmas
+pub mod FirstPaths
+pub mod TreeGrowth
+pub mod TreeLoops
+pub mod TreeWays
 pub mod WalkSteps
 pub mod SourceLemmas
 pub mod Joined

@@ -1,4 +1,6 @@
 pub mod Walks
+pub mod Paths
+pub mod Tree
 pub mod Distances
 pub mod Joined
 pub mod Twins

@@ -8,7 +8,7 @@ use Rattle.si_base.specs.Words.{text_of}
 use Rattle.si_conflicts.specs.Conflicts.{pairs_of}
 use Rattle.si_lint.specs.declared.findings.Found.{Found}
 use Rattle.si_lint.specs.Findings.{Findings}
-use Rattle.si_lint.specs.LintText.{AreFirstWalks}
+use Rattle.si_walks.specs.Paths.{IsWayTo}
 
 -- the code's findings
 abbrev pub findings_of : Found → Findings
@@ -23,11 +23,15 @@ findings_of f = record {
   unresolvable = pairs_of f.unresolvable.items;
 }
 
--- the text goes on with these lines, whatever gives the first walks
+-- for each state the events of the first path from the start to it
+abbrev pub AreWays : StateGraph → (ℕ → List Event) → Type 0
+AreWays g walk = (s : ℕ) → s < g.states → IsWayTo g s (walk s)
+
+-- the text goes on with these lines, whatever gives the first paths
 abbrev pub AddsLines : StateGraph → ((ℕ → List Event) → List (List (List ℕ))) → List ℕ → List ℕ
     → Type 0
 AddsLines g lines old new =
-    (walk : ℕ → List Event) → AreFirstWalks g walk → new ≡ old ++ text_of (lines walk)
+    (walk : ℕ → List Event) → AreWays g walk → new ≡ old ++ text_of (lines walk)
 
 -- the states and signals of what is printed are those of the graph
 abbrev pub ArcIsWithin : StateGraph → Edge → Type 0

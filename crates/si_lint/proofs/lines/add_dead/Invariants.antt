@@ -4,5 +4,5 @@ use Rattle.si_lint.specs.Loops.Lines.{AddsLines}
 use Rattle.si_lint.proofs.lines.add_dead.Given as goal
 
 abbrev pub invariant-loop-s : goal.invariant-loop-s
-invariant-loop-s l = AddsLines l.coded.graph
-    (λ walk. map (dead_line l.coded.graph.signals l.states walk) (take l.s-index l.first)) l.initial.text l.text
+invariant-loop-s l = AddsLines l.graph
+    (λ walk. map (dead_line l.graph.signals l.states walk) (take l.s-index l.first)) l.initial.text l.text

@@ -4,5 +4,5 @@ use Rattle.si_lint.specs.Loops.Lines.{AddsLines}
 use Rattle.si_lint.proofs.lines.add_one_ways.Given as goal
 
 abbrev pub invariant-loop-arc : goal.invariant-loop-arc
-invariant-loop-arc l = AddsLines l.coded.graph
-    (λ walk. map (one_way_line l.coded.graph.signals l.states walk) (take l.arc-index l.first)) l.initial.text l.text
+invariant-loop-arc l = AddsLines l.graph
+    (λ walk. map (one_way_line l.graph.signals l.states walk) (take l.arc-index l.first)) l.initial.text l.text

@@ -37,10 +37,10 @@ pub returns-in-Explain-clause-err : goal.returns-in-Explain-clause-err
 returns-in-Explain-clause-err c = rw c.in-Explain.is c.on_proper-in-Explain.ensures.err
 
 pub returns-in-Lint-clause-ok : goal.returns-in-Lint-clause-ok
-returns-in-Lint-clause-ok c = rw c.in-Lint.is c.on_proper-in-Lint.ensures.ok
+returns-in-Lint-clause-ok c = rw c.in-Lint.is c.told.ensures.ok
 
 pub returns-in-Lint-clause-err : goal.returns-in-Lint-clause-err
-returns-in-Lint-clause-err c = rw c.in-Lint.is c.on_proper-in-Lint.ensures.err
+returns-in-Lint-clause-err c = rw c.in-Lint.is c.told.ensures.err
 
 pub returns-in-States-clause-ok : goal.returns-in-States-clause-ok
 returns-in-States-clause-ok c = rw c.in-States.is c.listed.ensures.ok
