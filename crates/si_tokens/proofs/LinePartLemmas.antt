@@ -1,0 +1,106 @@
+-- Parts of a list: what a loop over them keeps, and what is written is read.
+use Rattle.std.proofs.Common.{◌≡◌, ℕ, ◌+◌, ◌<◌, ◌≤◌, List, [], ◌∷◌, ◌++◌, length, map, drop, get_or, option_or}
+use Rattle.std.proofs.Common.{Option, Some, None, Result, Ok, Err, refl, sym, ap, subst, ◌∙◌, add-one, append_assoc}
+use Rattle.std.proofs.Math.Seq.{drop-cons}
+use Rattle.std.proofs.lemmas.List.{append-nil, drop_all, map_push}
+use Rattle.std.specs.List.{AllByRecursion}
+use Rattle.si_base.specs.declared.fault.TextKind.{TextKind}
+use Rattle.si_tokens.specs.LineParts.{Part, made, behind_fault, both, then_rest, each_after, each}
+use Rattle.si_tokens.specs.Loops.LineParts.{held}
+
+held_none : {A : Type 0} (fault : Option TextKind) → held fault (None {A = Result A TextKind}) ≡ None
+held_none None = refl
+held_none (Some kind) = refl
+
+held_more : {A : Type 0} (fault : Option TextKind) (kind : TextKind) (part : Part A)
+    → held fault (behind_fault kind part) ≡ held (option_or fault (Some kind)) part
+held_more None kind part = refl
+held_more (Some first) kind None = refl
+held_more (Some first) kind (Some read) = refl
+
+-- ---- a loop over a list of parts
+module _ {V W A : Type 0} (read : List A → W → Part A) (seen : V → W) (before : List A) (fault : Option TextKind)
+    (vs : List V) (i : ℕ) where
+  abbrev pub left : ℕ → List W
+  left k = map seen (drop k vs)
+
+  module _ (v : V) (inside : i < length vs) where
+    left_is : left i ≡ seen (get_or vs i v) ∷ left (i + 1)
+    left_is = ap (map seen) (drop-cons vs i v inside ∙ rw add-one refl)
+
+    step : (part : Part A) → read before (seen (get_or vs i v)) ≡ part → held fault (each_after read before (left i))
+        ≡ held fault (then_rest (λ sofar. each_after read sofar (left (i + 1))) before part)
+    step part is = ap (λ ws. held fault (each_after read before ws)) left_is
+        ∙ ap (λ p. held fault (then_rest (λ sofar. each_after read sofar (left (i + 1))) before p)) is
+
+    pub other_form : read before (seen (get_or vs i v)) ≡ None → held fault (each_after read before (left i)) ≡ None
+    other_form is = step None is ∙ held_none fault
+
+    pub with_fault : (kind : TextKind) → read before (seen (get_or vs i v)) ≡ Some (Err kind)
+        → held fault (each_after read before (left i))
+        ≡ held (option_or fault (Some kind)) (each_after read before (left (i + 1)))
+    with_fault kind is = step (Some (Err kind)) is ∙ held_more fault kind (each_after read before (left (i + 1)))
+
+    pub with_value : (a : A) → read before (seen (get_or vs i v)) ≡ Some (Ok a)
+        → held fault (each_after read before (left i)) ≡ held fault (each_after read (before ++ a ∷ []) (left (i + 1)))
+    with_value a is = step (Some (Ok a)) is
+
+  pub all_read : length vs ≤ i → held fault (each_after read before (left i)) ≡ held fault (Some (Ok before))
+  all_read past = ap (λ ws. held fault (each_after read before (map seen ws))) (drop_all i vs past)
+
+-- ---- one part, and two
+no_value : {A B : Type 0} (kind : TextKind) (part : Part A) (b : B) → behind_fault kind part ≡ Some (Ok b) → ⊥
+no_value kind None b is = cc
+no_value kind (Some read) b is = cc
+
+pub made_read : {A B : Type 0} (make : A → B) (part : Part A) (b : B) → made make part ≡ Some (Ok b)
+    → (a : A) × (part ≡ Some (Ok a)) × (make a ≡ b)
+made_read make None b is = absurd cc
+made_read make (Some (Err kind)) b is = absurd cc
+made_read make (Some (Ok a)) b is = (a, refl, cc)
+
+pub both_read : {A B C : Type 0} (make : A → B → C) (one : Part A) (other : Part B) (c : C)
+    → both make one other ≡ Some (Ok c)
+    → (a : A) × (b : B) × (one ≡ Some (Ok a)) × (other ≡ Some (Ok b)) × (make a b ≡ c)
+both_read make None other c is = absurd cc
+both_read make (Some (Err kind)) other c is = absurd (no_value kind other c is)
+both_read make (Some (Ok a)) None c is = absurd cc
+both_read make (Some (Ok a)) (Some (Err kind)) c is = absurd cc
+both_read make (Some (Ok a)) (Some (Ok b)) c is = (a, b, refl, refl, cc)
+
+-- ---- lists that are written word for word
+module _ {W A : Type 0} (read : List A → W → Part A) (word : A → W) where
+  -- what is read is written as it stood, and has what each step keeps
+  pub each_back : (Keeps : List A → Type 0)
+      → ((before : List A) (w : W) (a : A) → Keeps before → read before w ≡ Some (Ok a)
+      → Keeps (before ++ a ∷ []) × (word a ≡ w))
+      → (before : List A) (ws : List W) (all : List A) → Keeps before → each_after read before ws ≡ Some (Ok all)
+      → Keeps all × (map word all ≡ map word before ++ ws)
+  each_back Keeps step before [] all keeps is =
+      let same : before ≡ all = cc in
+      (subst Keeps same keeps, ap (map word) (sym same) ∙ sym (append-nil (map word before)))
+  each_back Keeps step before (w ∷ ws) all keeps is =
+      by_part (read before w) (λ a. step before w a keeps) (λ sofar. each_back Keeps step sofar ws all) is
+    where
+      by_part : (part : Part A) → ((a : A) → part ≡ Some (Ok a) → Keeps (before ++ a ∷ []) × (word a ≡ w))
+          → ((sofar : List A) → Keeps sofar → each_after read sofar ws ≡ Some (Ok all)
+          → Keeps all × (map word all ≡ map word sofar ++ ws))
+          → then_rest (λ sofar. each_after read sofar ws) before part ≡ Some (Ok all)
+          → Keeps all × (map word all ≡ map word before ++ w ∷ ws)
+      by_part None here later is = absurd cc
+      by_part (Some (Err kind)) here later is = absurd (no_value kind (each_after read before ws) all is)
+      by_part (Some (Ok a)) here later is =
+          let (kept, same) = here a refl in
+          let (all_kept, back) = later (before ++ a ∷ []) kept is in
+          let first : map word (before ++ a ∷ []) ++ ws ≡ map word before ++ word a ∷ ws =
+          ap (λ l. l ++ ws) (map_push word before a) ∙ append_assoc (map word before) (word a ∷ []) ws in
+          (all_kept, back ∙ first ∙ ap (λ v. map word before ++ v ∷ ws) same)
+
+-- what is written is read, where no part asks for those before it
+pub each_forth : {W A : Type 0} (read : W → Part A) (word : A → W) (before all : List A)
+    → AllByRecursion (λ a. read (word a) ≡ Some (Ok a)) all
+    → each_after (λ sofar. read) before (map word all) ≡ Some (Ok (before ++ all))
+each_forth read word before [] good = ap (λ l. Some (Ok l)) (sym (append-nil before))
+each_forth read word before (a ∷ all) good =
+    ap (then_rest (λ sofar. each_after (λ _. read) sofar (map word all)) before) good.0
+    ∙ each_forth read word (before ++ a ∷ []) all good.1 ∙ ap (λ l. Some (Ok l)) (append_assoc before (a ∷ []) all)
