@@ -1,11 +1,12 @@
 -- Cubes, read one word after another.
-use Rattle.std.proofs.Common.{◌≡◌, ℕ, ◌+◌, ◌≤◌, ◌<◌, ◌&&◌, Bool, true, false, List, [], ◌∷◌, ◌++◌, length, drop, get_or}
-use Rattle.std.proofs.Common.{refl, sym, ap, ◌∙◌, arith, Bor, nat_le, nat_lt, inl, inr, ◌⊎◌, option_or}
+use Rattle.std.proofs.Common.{◌≡◌, ℕ, ◌+◌, ◌≤◌, ◌<◌, ◌&&◌, true, false, List, [], ◌∷◌, length, drop, get_or}
+use Rattle.std.proofs.Common.{refl, sym, ap, ◌∙◌, arith, Bor, codes, nat_le, nat_lt, inl, inr, ◌⊎◌}
 use Rattle.std.proofs.Common.{Option, Some, None, Ok, Err}
 use Rattle.std.proofs.lemmas.Bool.{true≢false}
 use Rattle.std.proofs.lemmas.List.Folds.{list_all-append}
 use Rattle.std.proofs.lemmas.Nat.Bits.{bit_at-zero}
 use Rattle.std.specs.List.{list_all}
+use Rattle.std.specs.Option.{option_or}
 use Rattle.si_base.specs.Bits.{bit, IsSet}
 use Rattle.si_base.specs.Limits.{code_width}
 use Rattle.si_base.specs.declared.fault.TextKind.{TextKind}
@@ -13,10 +14,11 @@ use Rattle.si_base.specs.declared.fault.TextKind.TheVariants.{BadLine}
 use Rattle.si_base.specs.declared.ids.Literal.{Literal}
 use Rattle.si_cube.specs.Literals.{literals_of, IsWithin}
 use Rattle.si_words.specs.Loops.Reads.{words_now}
-use Rattle.si_tokens.specs.LineParts.{Part, each_after}
-use Rattle.si_tokens.specs.Loops.LineParts.{held}
+use Rattle.si_words.specs.Sums.{is_one}
+use Rattle.si_tokens.specs.LineParts.{held, each_after}
 use Rattle.si_tokens.proofs.LinePartLemmas.{other_form, with_fault, with_value}
-use Rattle.si_netlist_reader.specs.GateParts.{literal_part, in_order, next_literal}
+use Rattle.si_tokens.specs.SumParts.{literal_part}
+use Rattle.si_netlist_reader.specs.GateParts.{in_order, next_literal, cube_part}
 use Rattle.si_netlist_reader.proofs.CubeLemmas.{none_of, pushed}
 
 module _ (names : List (List ℕ)) (words : List (Bor (List ℕ))) where
@@ -35,6 +37,14 @@ module _ (names : List (List ℕ)) (words : List (Bor (List ℕ))) where
     below = λ j on. absurd (true≢false (sym on ∙ rw (bit_at-zero j) refl));
     within = λ j on. absurd (true≢false (sym on ∙ rw (bit_at-zero j) refl));
   }
+
+  pub one_read : is_one (codes "1") (words_now words) ≡ true
+      → Some (Ok (literals_of 0 0)) ≡ cube_part names (words_now words)
+  one_read one = ap (λ ls. Some (Ok ls)) none_of ∙ by_words (words_now words) one
+    where
+      by_words : (ws : List (List ℕ)) → is_one (codes "1") ws ≡ true → Some (Ok []) ≡ cube_part names ws
+      by_words [] one = absurd (true≢false (sym one))
+      by_words (w ∷ ws) one = rw one refl
 
   module _ (i : ℕ) (d : Bor (List ℕ)) (inside : i < length words) (care value next : ℕ) (fault : Option TextKind)
       (so_far : InCube i care value next fault) where
@@ -73,7 +83,8 @@ module _ (names : List (List ℕ)) (words : List (Bor (List ℕ))) where
         let before : (j : ℕ) → bit care j ≡ true → j < l.sig = λ j on. omega (arith, so_far.below j on) in
         let longer = pushed l.sig care value care2 value2 l.plain small s t before in
         let in_turn : nat_le next l.sig ≡ true = grind arith in
-        let one = ap (in_order literals) is ∙ rw (so_far.order l.sig, in_turn) refl in
+        let one : next_literal names literals word ≡ Some (Ok l) =
+        ap (in_order literals) is ∙ rw (so_far.order l.sig, in_turn) refl in
         record {
           read = ap (λ ls. held fault (each_after (next_literal names) ls (words_now (drop (i + 1) words)))) longer
               ∙ sym (with_value (next_literal names) now literals fault words i d inside l one) ∙ so_far.read;

@@ -70,7 +70,7 @@ module _ (signals : List Signal) where
     | inl form ↦ (
         let named = and_parts (is_signal_name cell) (nat_le (length words) 4) form in
         let few : length words ≤ 4 = leb-true (length words) 4 named.1 in
-        let (good, back) = each_back (λ before. literal_part names) (literal_word signals) AreHere pin_added [] words
+        let (good, back) = each_back (λ before. literal_part names) (literal_word signals) AreHere pin_added words
         literals (All-nil _) (rw form at is) in
         let many : length literals ≡ length words = sym (length-map literals (literal_word signals)) ∙ ap length back in
         (named.0, omega (arith, many, few), good, back))
@@ -117,8 +117,10 @@ module _ (signals : List Signal) where
   gate_read name [] none = absurd cc
   gate_read name (head ∷ words) none = elim (cases_Bool (bytes_eq name head)) [
     | inl same ↦ (
-        let (as_written, good) = by_part (gate_part names words) refl (rw same at none) in
-        (ap₂ (λ (x : List ℕ) (xs : List (List ℕ)). x ∷ xs) (sym ((bytes_eq-Decides name head).0 same)) as_written, good))
+        let (as_written, good) = by_part (gate_part names words) refl (rw same at none) in (
+          ap₂ (λ (x : List ℕ) (xs : List (List ℕ)). x ∷ xs) (sym ((bytes_eq-Decides name head).0 same)) as_written,
+          good,
+        ))
     | inr other ↦ absurd (let bad : part_fault {A = Gate} None ≡ None = rw other at none in cc)
   ]
     where

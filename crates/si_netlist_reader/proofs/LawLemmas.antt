@@ -1,6 +1,6 @@
 -- What the words of cubes and sums spell is written as these words.
-use Rattle.std.proofs.Common.{◌≡◌, ℕ, ◌<◌, true, List, [], ◌∷◌, ◌++◌, length, refl, ap, subst, ◌∙◌, arith, nat_lt}
-use Rattle.std.proofs.Common.{Some, None, Ok, Err, if◌then◌else◌, inl, inr, AllPairs, All}
+use Rattle.std.proofs.Common.{◌≡◌, ℕ, ◌<◌, true, List, [], ◌∷◌, ◌++◌, length, refl, subst, arith, nat_lt}
+use Rattle.std.proofs.Common.{Some, None, Ok, Err, inl, inr}
 use Rattle.std.proofs.lemmas.Bool.{cases_Bool, ltb-true}
 use Rattle.std.proofs.lemmas.List.Elements.{All-nil, All-push}
 use Rattle.std.proofs.lemmas.List.Quantifiers.{all_pairs_push}

@@ -1,6 +1,6 @@
 -- The words of a gate spell that gate, and have bytes of words only.
-use Rattle.std.proofs.Common.{if◌then◌else◌, ◌≡◌, ℕ, ◌<◌, ◌≤◌, Bool, true, false, List, [], ◌∷◌, ◌++◌, length, map, All}
-use Rattle.std.proofs.Common.{refl, sym, ap, ap₂, ◌∙◌, arith, codes, bytes_eq, Option, Some, None, Ok}
+use Rattle.std.proofs.Common.{if◌then◌else◌, ◌≡◌, ℕ, ◌≤◌, Bool, true, false, List, [], ◌∷◌, ◌++◌, length, map, All}
+use Rattle.std.proofs.Common.{refl, sym, ap, ap₂, ◌∙◌, arith, codes, bytes_eq, Some, None, Ok}
 use Rattle.std.proofs.lemmas.Bool.{true≢false, and_parts, and_from, le-leb, false_from_ne_true}
 use Rattle.std.proofs.lemmas.List.{length-map}
 use Rattle.std.proofs.lemmas.List.Elements.{recursion_from_All}
@@ -15,12 +15,13 @@ use Rattle.si_base.specs.NetlistText.{literal_word, sum_words, gate_words}
 use Rattle.si_base.specs.Words.{is_signal_name, is_name_byte, is_letter}
 use Rattle.si_base.specs.WellFormed.{IsCube, IsSum, IsGate}
 use Rattle.si_words.proofs.NameByteLemmas.{dark_letter, dark_name_byte}
+use Rattle.si_words.specs.Sums.{is_literal}
 use Rattle.si_tokens.specs.LineParts.{made, both, part_fault, part_value}
 use Rattle.si_tokens.specs.SumParts.{literal_part}
 use Rattle.si_tokens.proofs.CutLemmas.{Unlike, cut_made}
 use Rattle.si_tokens.proofs.LinePartLemmas.{each_forth}
 use Rattle.si_tokens.proofs.SumPartLemmas as sums
-use Rattle.si_netlist_reader.specs.GateParts.{sum_part, pins_part, gc_part, cell_part, gate_part, gate_fault, gate_of}
+use Rattle.si_netlist_reader.specs.GateParts.{pins_part, gc_part, cell_part, gate_part, gate_fault, gate_of}
 use Rattle.si_netlist_reader.proofs.LawTextLemmas.{IsDark}
 use Rattle.si_netlist_reader.proofs.LawLineLemmas.{AreNames}
 use Rattle.si_netlist_reader.proofs.LawWrittenSumLemmas.{IsThere, AreThere, all_there, sum_forth}

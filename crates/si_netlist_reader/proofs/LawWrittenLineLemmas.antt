@@ -244,6 +244,12 @@ insert_good i is dark =
       ap (insertion_with i.name) cut,
       (
         refl,
-        (dark, (refl, append_all IsDark i.up (codes "down" ∷ i.down) (listed_dark i.up up) (refl, listed_dark i.down down))),
+        (
+          dark,
+          (
+            refl,
+            append_all IsDark i.up (codes "down" ∷ i.down) (listed_dark i.up up) (refl, listed_dark i.down down),
+          ),
+        ),
       ),
     )

@@ -1,5 +1,6 @@
 -- The words of a sum spell that sum.
-use Rattle.std.proofs.Common.{◌≡◌, ℕ, ◌<◌, true, List, [], ◌∷◌, ◌++◌, length, map, get_or, AllPairs, sym, ap, subst}
+use Rattle.std.proofs.Common.{◌≡◌, ℕ, ◌<◌, true, List, [], ◌∷◌, ◌++◌, length, map, get_or, AllPairs, refl}
+use Rattle.std.proofs.Common.{sym, ap, subst}
 use Rattle.std.proofs.Common.{◌∙◌, arith, nat_lt, Some, Ok, append_assoc}
 use Rattle.std.proofs.lemmas.Bool.{lt-ltb}
 use Rattle.std.proofs.lemmas.List.{append-nil, length-append, get_or_append_left, get_or_at}
@@ -12,6 +13,7 @@ use Rattle.si_base.specs.NetlistText.{literal_word, cube_words, sum_words}
 use Rattle.si_base.specs.WellFormed.{IsCube, IsSum}
 use Rattle.si_base.specs.declared.graph.Signal.{Signal}
 use Rattle.si_base.specs.declared.ids.Literal.{Literal}
+use Rattle.si_words.specs.Sums.{is_literal}
 use Rattle.si_tokens.specs.LineParts.{each_after}
 use Rattle.si_tokens.proofs.SumPartLemmas as sums
 use Rattle.si_netlist_reader.specs.GateParts.{in_order, next_literal, cube_part, sum_part}

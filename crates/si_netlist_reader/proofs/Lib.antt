@@ -11,6 +11,7 @@ pub mod LawWrittenLineLemmas
 pub mod WriteLaw
 pub mod HeaderLemmas
 pub mod RowLoopLemmas
+pub mod GateLineLemmas
 pub mod InsertLineLemmas
 pub mod CubeLemmas
 pub mod CubeReading

@@ -30,7 +30,8 @@ use Rattle.si_netlist_reader.proofs.LawTextLemmas.{IsDark, ended_text, tail_text
 use Rattle.si_netlist_reader.proofs.LawLineLemmas.{AreNames}
 use Rattle.si_netlist_reader.proofs.LawKindLemmas.{signals_by, driven_by, netlist_by, lines_by, lines_are, gate_lines}
 use Rattle.si_netlist_reader.proofs.LawKindLemmas.{inserted_of, driven_of, all_names, driven_names}
-use Rattle.si_netlist_reader.proofs.LawWrittenGateLemmas.{AreDark, gate_written, gate_line_good, gate_spelled, dark_name}
+use Rattle.si_netlist_reader.proofs.LawWrittenGateLemmas.{AreDark, gate_written}
+use Rattle.si_netlist_reader.proofs.LawWrittenGateLemmas.{gate_line_good, gate_spelled, dark_name}
 use Rattle.si_netlist_reader.proofs.LawWrittenLineLemmas.{model_good, names_good, front_names, signals_named}
 use Rattle.si_netlist_reader.proofs.LawWrittenLineLemmas.{start_good, start_dark, start_spelled, insert_good}
 use Rattle.si_netlist_reader.proofs.ReadLaw.{gates_in, inserts_in, with_rest, gate_rows_at}

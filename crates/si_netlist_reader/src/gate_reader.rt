@@ -8,6 +8,7 @@ ghost use Rattle.si_netlist.specs.Loops.Parts.{gate_seen};
 ghost use Rattle.si_netlist_reader.specs.GateParts as gates;
 ghost use Rattle.si_netlist_reader.specs.Loops.Headers.{gate_in};
 ghost use Rattle.si_tokens.specs.LineParts.{made, each};
+ghost use Rattle.si_tokens.specs.SumParts.{literal_part};
 ghost use Rattle.si_words.specs.Loops.Reads.{words_now};
 ghost use Rattle.si_words.specs.Sums as sums;
 
@@ -26,7 +27,7 @@ use std::alloc::Global;
 /// The literal of a word.
 fn read_literal(signals: &Names, word: &[u8]) -> Option<Result<Literal, TextKind>>
     requires { length signals.now ≤ max_signals }
-    ensures read { result ≡ gates.literal_part signals.now word.now }
+    ensures read { result ≡ literal_part signals.now word.now }
     ensures within { IfSome result (λ read. IfOk read (λ l. l.sig < max_signals)) }
 {
     let name = literal_name(word);
@@ -94,10 +95,12 @@ fn read_sum(
     let mut cubes = Vec::new(alloc);
     let mut fault = None;
     for part in &parts {
-        match read_cube(signals, *part) {
-            None => return Ok(None),
-            Some(Err(kind)) => fault = fault.or(Some(kind)),
-            Some(Ok(cube)) => cubes.push(cube)?,
+        let Some(cube) = read_cube(signals, *part) else {
+            return Ok(None);
+        };
+        match cube {
+            Err(kind) => fault = fault.or(Some(kind)),
+            Ok(cube) => cubes.push(cube)?,
         }
     }
     match fault {
@@ -157,15 +160,17 @@ fn read_literals(
 ) -> Result<Option<Result<Vec<Literal>, TextKind>>, NoMemory>
     requires { length signals.now ≤ max_signals }
     ensures { IfOk result (λ read. made (λ literals. literals.items) read
-        ≡ each (gates.literal_part signals.now) (words_now words.now)) }
+        ≡ each (literal_part signals.now) (words_now words.now)) }
 {
     let mut literals = Vec::new(alloc);
     let mut fault = None;
     for word in words {
-        match read_literal(signals, *word) {
-            None => return Ok(None),
-            Some(Err(kind)) => fault = fault.or(Some(kind)),
-            Some(Ok(literal)) => literals.push(literal)?,
+        let Some(literal) = read_literal(signals, *word) else {
+            return Ok(None);
+        };
+        match literal {
+            Err(kind) => fault = fault.or(Some(kind)),
+            Ok(literal) => literals.push(literal)?,
         }
     }
     match fault {

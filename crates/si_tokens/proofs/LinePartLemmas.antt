@@ -1,16 +1,16 @@
 -- Parts of a list: what a loop over them keeps, and what is written is read.
-use Rattle.std.proofs.Common.{◌≡◌, ℕ, ◌+◌, ◌<◌, ◌≤◌, List, [], ◌∷◌, ◌++◌, length, map, drop, get_or, option_or}
-use Rattle.std.proofs.Common.{Option, Some, None, Result, Ok, Err, refl, sym, ap, subst, ◌∙◌, add-one, append_assoc}
+use Rattle.std.proofs.Common.{◌≡◌, ℕ, ◌+◌, ◌<◌, ◌≤◌, List, [], ◌∷◌, ◌++◌, length, map, drop, get_or}
+use Rattle.std.proofs.Common.{Option, Some, None, Ok, Err, refl, sym, ap, subst, ◌∙◌, add-one, append_assoc}
 use Rattle.std.proofs.Math.Seq.{drop-cons}
 use Rattle.std.proofs.lemmas.List.{append-nil, drop_all, map_push}
 use Rattle.std.specs.List.{AllByRecursion}
+use Rattle.std.specs.Option.{option_or}
 use Rattle.si_base.specs.declared.fault.TextKind.{TextKind}
-use Rattle.si_tokens.specs.LineParts.{Part, made, behind_fault, both, then_rest, each_after, each}
-use Rattle.si_tokens.specs.Loops.LineParts.{held}
+use Rattle.si_tokens.specs.LineParts.{Part, made, behind_fault, held, both, then_rest, each_after}
 
-held_none : {A : Type 0} (fault : Option TextKind) → held fault (None {A = Result A TextKind}) ≡ None
-held_none None = refl
-held_none (Some kind) = refl
+held_none : {A : Type 0} (fault : Option TextKind) (part : Part A) → part ≡ None → held fault part ≡ None
+held_none None part is = is
+held_none (Some kind) part is = ap (behind_fault kind) is
 
 held_more : {A : Type 0} (fault : Option TextKind) (kind : TextKind) (part : Part A)
     → held fault (behind_fault kind part) ≡ held (option_or fault (Some kind)) part
@@ -26,7 +26,9 @@ module _ {V W A : Type 0} (read : List A → W → Part A) (seen : V → W) (bef
 
   module _ (v : V) (inside : i < length vs) where
     left_is : left i ≡ seen (get_or vs i v) ∷ left (i + 1)
-    left_is = ap (map seen) (drop-cons vs i v inside ∙ rw add-one refl)
+    left_is =
+        let same : drop i vs ≡ get_or vs i v ∷ drop (i + 1) vs = rw (drop-cons vs i v inside, add-one) refl in
+        ap (map seen) same
 
     step : (part : Part A) → read before (seen (get_or vs i v)) ≡ part → held fault (each_after read before (left i))
         ≡ held fault (then_rest (λ sofar. each_after read sofar (left (i + 1))) before part)
@@ -34,7 +36,7 @@ module _ {V W A : Type 0} (read : List A → W → Part A) (seen : V → W) (bef
         ∙ ap (λ p. held fault (then_rest (λ sofar. each_after read sofar (left (i + 1))) before p)) is
 
     pub other_form : read before (seen (get_or vs i v)) ≡ None → held fault (each_after read before (left i)) ≡ None
-    other_form is = step None is ∙ held_none fault
+    other_form is = step None is ∙ held_none fault None refl
 
     pub with_fault : (kind : TextKind) → read before (seen (get_or vs i v)) ≡ Some (Err kind)
         → held fault (each_after read before (left i))
@@ -68,33 +70,46 @@ both_read make (Some (Ok a)) None c is = absurd cc
 both_read make (Some (Ok a)) (Some (Err kind)) c is = absurd cc
 both_read make (Some (Ok a)) (Some (Ok b)) c is = (a, b, refl, refl, cc)
 
--- ---- lists that are written word for word
-module _ {W A : Type 0} (read : List A → W → Part A) (word : A → W) where
-  -- what is read is written as it stood, and has what each step keeps
-  pub each_back : (Keeps : List A → Type 0)
-      → ((before : List A) (w : W) (a : A) → Keeps before → read before w ≡ Some (Ok a)
-      → Keeps (before ++ a ∷ []) × (word a ≡ w))
-      → (before : List A) (ws : List W) (all : List A) → Keeps before → each_after read before ws ≡ Some (Ok all)
-      → Keeps all × (map word all ≡ map word before ++ ws)
-  each_back Keeps step before [] all keeps is =
-      let same : before ≡ all = cc in
-      (subst Keeps same keeps, ap (map word) (sym same) ∙ sym (append-nil (map word before)))
-  each_back Keeps step before (w ∷ ws) all keeps is =
-      by_part (read before w) (λ a. step before w a keeps) (λ sofar. each_back Keeps step sofar ws all) is
+-- ---- lists
+module _ {W A : Type 0} (read : List A → W → Part A) where
+  -- what each part keeps holds at the end
+  pub each_read : (Keeps : List A → List W → Type 0)
+      → ((before : List A) (w : W) (ws : List W) (a : A) → Keeps before (w ∷ ws) → read before w ≡ Some (Ok a)
+      → Keeps (before ++ a ∷ []) ws)
+      → (before : List A) (ws : List W) (all : List A) → Keeps before ws → each_after read before ws ≡ Some (Ok all)
+      → Keeps all []
+  each_read Keeps step before [] all keeps is =
+      let same : before ≡ all = cc in subst (λ (l : List A). Keeps l []) same keeps
+  each_read Keeps step before (w ∷ ws) all keeps is =
+      by_part (read before w) (λ a. step before w ws a keeps) (λ sofar. each_read Keeps step sofar ws all) is
     where
-      by_part : (part : Part A) → ((a : A) → part ≡ Some (Ok a) → Keeps (before ++ a ∷ []) × (word a ≡ w))
-          → ((sofar : List A) → Keeps sofar → each_after read sofar ws ≡ Some (Ok all)
-          → Keeps all × (map word all ≡ map word sofar ++ ws))
-          → then_rest (λ sofar. each_after read sofar ws) before part ≡ Some (Ok all)
-          → Keeps all × (map word all ≡ map word before ++ w ∷ ws)
+      by_part : (part : Part A) → ((a : A) → part ≡ Some (Ok a) → Keeps (before ++ a ∷ []) ws)
+          → ((sofar : List A) → Keeps sofar ws → each_after read sofar ws ≡ Some (Ok all) → Keeps all [])
+          → then_rest (λ sofar. each_after read sofar ws) before part ≡ Some (Ok all) → Keeps all []
       by_part None here later is = absurd cc
       by_part (Some (Err kind)) here later is = absurd (no_value kind (each_after read before ws) all is)
-      by_part (Some (Ok a)) here later is =
-          let (kept, same) = here a refl in
-          let (all_kept, back) = later (before ++ a ∷ []) kept is in
-          let first : map word (before ++ a ∷ []) ++ ws ≡ map word before ++ word a ∷ ws =
-          ap (λ l. l ++ ws) (map_push word before a) ∙ append_assoc (map word before) (word a ∷ []) ws in
-          (all_kept, back ∙ first ∙ ap (λ v. map word before ++ v ∷ ws) same)
+      by_part (Some (Ok a)) here later is = later (before ++ a ∷ []) (here a refl) is
+
+  -- what is read is written as it stood, too
+  pub each_back : (word : A → W) (Keeps : List A → Type 0)
+      → ((before : List A) (w : W) (a : A) → Keeps before → read before w ≡ Some (Ok a)
+      → Keeps (before ++ a ∷ []) × (word a ≡ w))
+      → (ws : List W) (all : List A) → Keeps [] → each_after read [] ws ≡ Some (Ok all)
+      → Keeps all × (map word all ≡ ws)
+  each_back word Keeps step ws all keeps is =
+      let (kept, back) = each_read (λ before left. Keeps before × (map word before ++ left ≡ ws)) one [] ws all
+      (keeps, refl) is in
+      (kept, sym (append-nil (map word all)) ∙ back)
+    where
+      one : (before : List A) (w : W) (left : List W) (a : A) → Keeps before × (map word before ++ w ∷ left ≡ ws)
+          → read before w ≡ Some (Ok a) → Keeps (before ++ a ∷ []) × (map word (before ++ a ∷ []) ++ left ≡ ws)
+      one before w left a keeps is =
+          let (kept, same) = step before w a keeps.0 is in (
+            kept,
+            ap (λ (l : List W). l ++ left) (map_push word before a)
+                ∙ append_assoc (map word before) (word a ∷ []) left
+                ∙ ap (λ (v : W). map word before ++ v ∷ left) same ∙ keeps.1,
+          )
 
 -- what is written is read, where no part asks for those before it
 pub each_forth : {W A : Type 0} (read : W → Part A) (word : A → W) (before all : List A)

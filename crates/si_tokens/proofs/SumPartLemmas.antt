@@ -1,7 +1,7 @@
 -- Literals, cubes and sums: what is read is written as it stood, and what is written is read.
-use Rattle.std.proofs.Common.{◌≡◌, ◌≢◌, ℕ, ◌+◌, ◌<◌, ◌≤◌, ◌==◌, Bool, true, false, not, List, [], ◌∷◌, ◌++◌, length}
+use Rattle.std.proofs.Common.{◌≡◌, ◌≢◌, ℕ, ◌+◌, ◌<◌, ◌==◌, Bool, true, false, not, List, [], ◌∷◌, ◌++◌, length}
 use Rattle.std.proofs.Common.{get_or, map, refl, sym, ap, subst, ◌∙◌, arith, bytes_eq, codes, eqb-true, unwrap_or, inl}
-use Rattle.std.proofs.Common.{inr, ◌⊎◌, Option, Some, None, Result, Ok, Err, if◌then◌else◌, position, IsTrue, AllPairs}
+use Rattle.std.proofs.Common.{inr, ◌⊎◌, Option, Some, None, Ok, if◌then◌else◌, position, IsTrue, AllPairs}
 use Rattle.std.proofs.Common.{All}
 use Rattle.std.proofs.lemmas.Bool.{true≢false, cases_Bool, and_parts, lt-ltb, false_from_ne_true, not_from_false}
 use Rattle.std.proofs.lemmas.List.{append-nil, length_push}
@@ -189,7 +189,7 @@ module _ (signals : List Signal) (next : List Literal → List ℕ → Part Lite
         subst (λ (c : List Literal). Keeps c × (cube_words signals c ≡ w ∷ ws)) empty
         (none, sym (only_word (codes "1") (w ∷ ws) one)))
     | inr many ↦ (
-        let (kept, back) = each_back next (literal_word signals) Keeps step [] (w ∷ ws) cube none (rw many at is) in
+        let (kept, back) = each_back next (literal_word signals) Keeps step (w ∷ ws) cube none (rw many at is) in
         (kept, as_cube cube back))
   ]
     where
@@ -253,12 +253,6 @@ no_parts words none = clash _ _ (length-slice_split (bytes_eq (codes "+")) words
     clash : (m n : ℕ) → m ≡ n + 1 → m ≡ 0 → ⊥
     clash m n e z = absurd (omega arith)
 
-no_parts : (words : List (List ℕ)) → [] ≡ parts_at (codes "+") words → ⊥
-no_parts words none = clash _ _ (length-slice_split (bytes_eq (codes "+")) words) (sym (ap length none))
-  where
-    clash : (m n : ℕ) → m ≡ n + 1 → m ≡ 0 → ⊥
-    clash m n e z = absurd (omega arith)
-
 module _ (signals : List Signal) (cube : List (List ℕ) → Part (List Literal)) where
   more_are : (cubes : Sum) → more_cubes signals cubes ≡ more_parts (map (cube_words signals) cubes)
   more_are [] = refl
@@ -282,7 +276,7 @@ module _ (signals : List Signal) (cube : List (List ℕ) → Part (List Literal)
         subst (λ (s : Sum). Keeps s × (sum_words signals s ≡ words)) same
         (none, sym (only_word (codes "0") words one)))
     | inr many ↦ (
-        let (kept, back) = each_back (λ before. cube) (cube_words signals) Keeps step [] (parts_at (codes "+") words) sum
+        let (kept, back) = each_back (λ before. cube) (cube_words signals) Keeps step (parts_at (codes "+") words) sum
         none (rw many at is) in
         (kept, as_sum words sum back))
   ]

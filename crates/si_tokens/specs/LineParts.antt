@@ -18,6 +18,11 @@ abbrev pub behind_fault : {A B : Type 0} → TextKind → Part A → Part B
 behind_fault kind None = None
 behind_fault kind (Some part) = Some (Err kind)
 
+-- a part behind others, which have this fault if they have one
+abbrev pub held : {A : Type 0} → Option TextKind → Part A → Part A
+held None part = part
+held (Some kind) part = behind_fault kind part
+
 -- one part and then another
 abbrev pub both : {A B C : Type 0} → (A → B → C) → Part A → Part B → Part C
 both make None second = None

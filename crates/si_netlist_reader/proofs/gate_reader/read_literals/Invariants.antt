@@ -1,8 +1,7 @@
 use Rattle.std.proofs.Common.{◌≡◌, drop}
-use Rattle.si_tokens.specs.LineParts.{each, each_after}
-use Rattle.si_tokens.specs.Loops.LineParts.{held}
+use Rattle.si_tokens.specs.LineParts.{each, each_after, held}
 use Rattle.si_words.specs.Loops.Reads.{words_now}
-use Rattle.si_netlist_reader.specs.GateParts.{literal_part}
+use Rattle.si_tokens.specs.SumParts.{literal_part}
 use Rattle.si_netlist_reader.proofs.gate_reader.read_literals.Given as goal
 
 abbrev pub invariant-loop-word : goal.invariant-loop-word

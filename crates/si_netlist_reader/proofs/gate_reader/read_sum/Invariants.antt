@@ -1,6 +1,5 @@
 use Rattle.std.proofs.Common.{◌≡◌, drop}
-use Rattle.si_tokens.specs.LineParts.{each, each_after}
-use Rattle.si_tokens.specs.Loops.LineParts.{held}
+use Rattle.si_tokens.specs.LineParts.{each_after, held}
 use Rattle.si_words.specs.Loops.Reads.{words_now, parts_now}
 use Rattle.si_netlist_reader.specs.GateParts.{cube_part, sum_part}
 use Rattle.si_netlist_reader.proofs.gate_reader.read_sum.Given as goal
