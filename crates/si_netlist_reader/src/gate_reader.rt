@@ -1,6 +1,6 @@
 //! Gates, read from the words of gate lines. Each literal is looked up once.
 
-ghost use Rattle.std.specs.Prelude.{◌≡◌, ◌≤◌, ◌<◌, length, codes, IfOk, IfSome};
+ghost use Rattle.std.specs.Prelude.{◌≡◌, ◌≤◌, length, codes, IfOk};
 ghost use Rattle.std.specs.Prelude.{MatchResult, None, Some};
 ghost use Rattle.si_base.specs.Limits.{max_signals};
 ghost use Rattle.si_base.specs.Netlist as base;
@@ -13,35 +13,16 @@ ghost use Rattle.si_words.specs.Loops.Reads.{words_now};
 ghost use Rattle.si_words.specs.Sums as sums;
 
 use si_base::fault::TextKind;
-use si_base::ids::{Code, Literal, NoMemory, Sig};
+use si_base::ids::{Code, Literal, NoMemory};
 use si_base::names::Names;
 use si_base::text::Name;
 use si_cube::cube::Cube;
 use si_cube::sum::Sum;
 use si_netlist::gate::Gate;
+use si_tokens::literals::read_literal;
 use si_words::gate_lines::{cut_at, is_one, parts_of};
-use si_words::lists::place_of;
-use si_words::words::{is_signal_name, literal_name};
+use si_words::words::is_signal_name;
 use std::alloc::Global;
-
-/// The literal of a word.
-fn read_literal(signals: &Names, word: &[u8]) -> Option<Result<Literal, TextKind>>
-    requires { length signals.now ≤ max_signals }
-    ensures read { result ≡ literal_part signals.now word.now }
-    ensures within { IfSome result (λ read. IfOk read (λ l. l.sig < max_signals)) }
-{
-    let name = literal_name(word);
-    if !is_signal_name(name) {
-        return None;
-    }
-    match place_of(signals, name) {
-        Some(place) => Some(Ok(Literal {
-            sig: Sig(place as u8),
-            plain: word == name,
-        })),
-        None => Some(Err(TextKind::Undeclared)),
-    }
-}
 
 /// The cube of words: `1`, or literals whose signals rise.
 fn read_cube(signals: &Names, words: &[&[u8]]) -> Option<Result<Cube, TextKind>>

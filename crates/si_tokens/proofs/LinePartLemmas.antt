@@ -1,6 +1,6 @@
 -- Parts of a list: what a loop over them keeps, and what is written is read.
 use Rattle.std.proofs.Common.{◌≡◌, ℕ, ◌+◌, ◌<◌, ◌≤◌, List, [], ◌∷◌, ◌++◌, length, map, drop, get_or}
-use Rattle.std.proofs.Common.{Option, Some, None, Ok, Err, refl, sym, ap, subst, ◌∙◌, add-one, append_assoc}
+use Rattle.std.proofs.Common.{is_some, Option, Some, None, Ok, Err, refl, sym, ap, subst, ◌∙◌, add-one, append_assoc}
 use Rattle.std.proofs.Math.Seq.{drop-cons}
 use Rattle.std.proofs.lemmas.List.{append-nil, drop_all, map_push}
 use Rattle.std.specs.List.{AllByRecursion}
@@ -19,33 +19,47 @@ held_more (Some first) kind None = refl
 held_more (Some first) kind (Some read) = refl
 
 -- ---- a loop over a list of parts
+module _ {W A : Type 0} (read : List A → W → Part A) (before : List A) (fault : Option TextKind) (w : W)
+    (ws : List W) where
+  step : (part : Part A) → read before w ≡ part → held fault (each_after read before (w ∷ ws))
+      ≡ held fault (then_rest (λ sofar. each_after read sofar ws) before part)
+  step part = ap (λ p. held fault (then_rest (λ sofar. each_after read sofar ws) before p))
+
+  next_none : read before w ≡ None → held fault (each_after read before (w ∷ ws)) ≡ None
+  next_none is = step None is ∙ held_none fault None refl
+
+  pub next_fault : (kind : TextKind) → read before w ≡ Some (Err kind) → held fault (each_after read before (w ∷ ws))
+      ≡ held (option_or fault (Some kind)) (each_after read before ws)
+  next_fault kind is = step (Some (Err kind)) is ∙ held_more fault kind (each_after read before ws)
+
+  pub next_value : (a : A) → read before w ≡ Some (Ok a)
+      → held fault (each_after read before (w ∷ ws)) ≡ held fault (each_after read (before ++ a ∷ []) ws)
+  next_value a = step (Some (Ok a))
+
+-- the parts from the i-th on
 module _ {V W A : Type 0} (read : List A → W → Part A) (seen : V → W) (before : List A) (fault : Option TextKind)
     (vs : List V) (i : ℕ) where
   abbrev pub left : ℕ → List W
   left k = map seen (drop k vs)
 
   module _ (v : V) (inside : i < length vs) where
-    left_is : left i ≡ seen (get_or vs i v) ∷ left (i + 1)
+    left_is : held fault (each_after read before (left i))
+        ≡ held fault (each_after read before (seen (get_or vs i v) ∷ left (i + 1)))
     left_is =
         let same : drop i vs ≡ get_or vs i v ∷ drop (i + 1) vs = rw (drop-cons vs i v inside, add-one) refl in
-        ap (map seen) same
-
-    step : (part : Part A) → read before (seen (get_or vs i v)) ≡ part → held fault (each_after read before (left i))
-        ≡ held fault (then_rest (λ sofar. each_after read sofar (left (i + 1))) before part)
-    step part is = ap (λ ws. held fault (each_after read before ws)) left_is
-        ∙ ap (λ p. held fault (then_rest (λ sofar. each_after read sofar (left (i + 1))) before p)) is
+        ap (λ ws. held fault (each_after read before (map seen ws))) same
 
     pub other_form : read before (seen (get_or vs i v)) ≡ None → held fault (each_after read before (left i)) ≡ None
-    other_form is = step None is ∙ held_none fault None refl
+    other_form is = left_is ∙ next_none read before fault _ (left (i + 1)) is
 
     pub with_fault : (kind : TextKind) → read before (seen (get_or vs i v)) ≡ Some (Err kind)
         → held fault (each_after read before (left i))
         ≡ held (option_or fault (Some kind)) (each_after read before (left (i + 1)))
-    with_fault kind is = step (Some (Err kind)) is ∙ held_more fault kind (each_after read before (left (i + 1)))
+    with_fault kind is = left_is ∙ next_fault read before fault _ (left (i + 1)) kind is
 
     pub with_value : (a : A) → read before (seen (get_or vs i v)) ≡ Some (Ok a)
         → held fault (each_after read before (left i)) ≡ held fault (each_after read (before ++ a ∷ []) (left (i + 1)))
-    with_value a is = step (Some (Ok a)) is
+    with_value a is = left_is ∙ next_value read before fault _ (left (i + 1)) a is
 
   pub all_read : length vs ≤ i → held fault (each_after read before (left i)) ≡ held fault (Some (Ok before))
   all_read past = ap (λ ws. held fault (each_after read before (map seen ws))) (drop_all i vs past)
@@ -69,6 +83,41 @@ both_read make (Some (Err kind)) other c is = absurd (no_value kind other c is)
 both_read make (Some (Ok a)) None c is = absurd cc
 both_read make (Some (Ok a)) (Some (Err kind)) c is = absurd cc
 both_read make (Some (Ok a)) (Some (Ok b)) c is = (a, b, refl, refl, cc)
+
+-- ---- forms
+pub made_form : {A B : Type 0} (make : A → B) (part : Part A) → is_some (made make part) ≡ is_some part
+made_form make None = refl
+made_form make (Some (Err kind)) = refl
+made_form make (Some (Ok a)) = refl
+
+behind_form : {A : Type 0} (kind : TextKind) (part : Part A)
+    → is_some (behind_fault {B = A} kind part) ≡ is_some part
+behind_form kind None = refl
+behind_form kind (Some read) = refl
+
+-- two readings that tell the same forms word for word
+pub each_form : {W A : Type 0} (read other : List A → W → Part A)
+    → ((before after : List A) (w : W) → is_some (read before w) ≡ is_some (other after w))
+    → (before after : List A) (ws : List W)
+    → is_some (each_after read before ws) ≡ is_some (each_after other after ws)
+each_form read other same before after [] = refl
+each_form {W} {A} read other same before after (w ∷ ws) =
+    by_parts (read before w) (other after w) (same before after w) (λ b a. each_form read other same b a ws)
+  where
+    by_parts : (one two : Part A) → is_some one ≡ is_some two
+        → ((b a : List A) → is_some (each_after read b ws) ≡ is_some (each_after other a ws))
+        → is_some (then_rest (λ sofar. each_after read sofar ws) before one)
+        ≡ is_some (then_rest (λ sofar. each_after other sofar ws) after two)
+    by_parts None None e later = refl
+    by_parts None (Some r) e later = absurd cc
+    by_parts (Some r) None e later = absurd cc
+    by_parts (Some (Err k)) (Some (Err j)) e later =
+        behind_form k (each_after read before ws) ∙ later before after ∙ sym (behind_form j (each_after other after ws))
+    by_parts (Some (Err k)) (Some (Ok a)) e later =
+        behind_form k (each_after read before ws) ∙ later before (after ++ a ∷ [])
+    by_parts (Some (Ok a)) (Some (Err j)) e later =
+        later (before ++ a ∷ []) after ∙ sym (behind_form j (each_after other after ws))
+    by_parts (Some (Ok a)) (Some (Ok b)) e later = later (before ++ a ∷ []) (after ++ b ∷ [])
 
 -- ---- lists
 module _ {W A : Type 0} (read : List A → W → Part A) where

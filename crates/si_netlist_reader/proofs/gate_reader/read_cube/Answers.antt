@@ -1,4 +1,4 @@
-use Rattle.std.proofs.Common.{◌<◌, ◌+◌, Bool, Some, sym, ◌∙◌, ap, arith, subst}
+use Rattle.std.proofs.Common.{length, ◌<◌, ◌+◌, Bool, Some, sym, ◌∙◌, ap, arith, subst}
 use Rattle.std.proofs.lemmas.Result.{IfOk-at_ok}
 use Rattle.si_base.specs.declared.ids.Literal.{Literal}
 use Rattle.si_base.specs.Bits.{IsSet}
@@ -31,8 +31,9 @@ loop-word-preserved c = elim c.match-branch-2.branch [
   | in-Ok+else-literal-next w ↦
       let read = sym c.in_ok-kind.ensures.read ∙ ap (λ r. Some r) w.in-Ok.is in
       let sig = ap (λ (l : Literal). l.sig) w.literal.view_is in
-      let small : w.in-Ok.literal.sig < code_width =
-      IfOk-at_ok (λ (l : Literal). l.sig < code_width) w.in-Ok.is c.in_ok-kind.ensures.within in
+      let there : w.in-Ok.literal.sig < length c.args.signals.now =
+      IfOk-at_ok (λ (l : Literal). l.sig < length c.args.signals.now) w.in-Ok.is c.in_ok-kind.ensures.within in
+      let small : w.in-Ok.literal.sig < code_width = omega (arith, there, c.requires) in
       let Set : Bool → Type 0 = λ v. IsSet c.loop-word.value w.in-Ok.literal.sig v w.set-value.result in
       let set : Set w.in-Ok.literal.plain =
       subst Set (ap (λ (l : Literal). l.plain) w.literal-in-Ok.view_is) w.set-value.ensures in
