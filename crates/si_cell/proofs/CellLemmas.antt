@@ -349,11 +349,6 @@ module _ (cells : List (List ℕ)) (words : CellWords) where
       by_form (Kind kind) None (Some read) shown = absurd cc
       by_form (Kind kind) (Some k) (Some read) shown = shown
 
-  -- where it has none, it is that of the sum
-  pub fault_of_sum : (names : List (List ℕ)) → front_fault cells words ≡ None → names ≡ declared words.pins
-      → cell_fault cells (Some words) ≡ part_fault (sum_part names words.sum)
-  fault_of_sum names none is = rw (none, is) refl
-
   -- the cell that was read
   pub cell_read : (names : List (List ℕ)) (name : List ℕ) (pins : List (List ℕ)) (sum : Sum)
       → front_fault cells words ≡ None → names ≡ declared words.pins → sum_part names words.sum ≡ Some (Ok sum)

@@ -20,7 +20,7 @@ use Rattle.si_cube.specs.Literals.{literals_of}
 use Rattle.si_words.specs.Loops.Reads.{words_now}
 use Rattle.si_words.specs.Sums.{is_one}
 use Rattle.si_tokens.specs.LineParts.{made, held, each_after}
-use Rattle.si_tokens.proofs.LinePartLemmas.{other_form, with_fault, with_value, all_read}
+use Rattle.si_tokens.proofs.LinePartLemmas.{with_fault, with_value, all_read}
 use Rattle.si_cell.specs.CellWords.{plain_part, new_among, next_literal, cube_part}
 use Rattle.si_cell.specs.Literals.{same_literal, in_literal_order}
 use Rattle.si_cell.proofs.OrderLemmas.{Makes, makes_none, makes_more, makes_in_order}
@@ -106,9 +106,6 @@ module _ (names : List (List ℕ)) (words : List (Bor (List ℕ))) where
         ≡ each_after (next_literal names) [] (words_now words)
     pub built : Built before care value
 
-  pub in_none : InCube 0 0 0 None
-  in_none = record { before = []; read = refl; built = built_none }
-
   abbrev now : Bor (List ℕ) → List ℕ
   now w = w.now
 
@@ -145,10 +142,6 @@ module _ (names : List (List ℕ)) (words : List (Bor (List ℕ))) where
           built = built_more so_far.before l care value care2 value2 so_far.built free s t;
         }
 
-    no_literal : plain_part names word ≡ None → each_after (next_literal names) [] (words_now words) ≡ None
-    no_literal is = sym so_far.read ∙ other_form (next_literal names) now so_far.before fault words i d inside
-        (ap (new_among so_far.before) is)
-
   -- ---- all words
   by_literals : (length words == 0) ≡ false → is_one (codes "1") (words_now words) ≡ false
       → cube_part names (words_now words)
@@ -171,12 +164,6 @@ module _ (names : List (List ℕ)) (words : List (Bor (List ℕ))) where
       by_words (w ∷ ws) one = rw one refl
 
   module _ (some : (length words == 0) ≡ false) (many : is_one (codes "1") (words_now words) ≡ false) where
-    pub no_cube : (i : ℕ) (d : Bor (List ℕ)) (inside : i < length words) (care value : ℕ) (fault : Option TextKind)
-        → InCube i care value fault → plain_part names (get_or words i d).now ≡ None
-        → cube_part names (words_now words) ≡ None
-    no_cube i d inside care value fault so_far is =
-        by_literals some many ∙ ap (made in_literal_order) (no_literal i d inside care value fault so_far is)
-
     pub cube_read : (i care value : ℕ) (fault : Option TextKind) → length words ≤ i → InCube i care value fault
         → held fault (Some (Ok (literals_of care value))) ≡ cube_part names (words_now words)
     cube_read i care value fault past all = ordered fault all.before (makes_in_order all.before care value all.built.made_of)

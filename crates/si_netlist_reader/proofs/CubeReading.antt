@@ -16,7 +16,7 @@ use Rattle.si_cube.specs.Literals.{literals_of, IsWithin}
 use Rattle.si_words.specs.Loops.Reads.{words_now}
 use Rattle.si_words.specs.Sums.{is_one}
 use Rattle.si_tokens.specs.LineParts.{held, each_after}
-use Rattle.si_tokens.proofs.LinePartLemmas.{other_form, with_fault, with_value}
+use Rattle.si_tokens.proofs.LinePartLemmas.{with_fault, with_value}
 use Rattle.si_tokens.specs.SumParts.{literal_part}
 use Rattle.si_netlist_reader.specs.GateParts.{in_order, next_literal, cube_part}
 use Rattle.si_netlist_reader.proofs.CubeLemmas.{none_of, pushed}
@@ -105,7 +105,3 @@ module _ (names : List (List ℕ)) (words : List (Bor (List ℕ))) where
 
         later : (k : ℕ) → (nat_le next k && (nat_lt l.sig k && true)) ≡ nat_le next2 k
         later k = grind arith
-
-    pub no_cube : literal_part names word ≡ None → each_after (next_literal names) [] (words_now words) ≡ None
-    no_cube is = sym so_far.read
-        ∙ other_form (next_literal names) now literals fault words i d inside (ap (in_order literals) is)

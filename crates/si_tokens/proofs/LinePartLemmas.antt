@@ -8,10 +8,6 @@ use Rattle.std.specs.Option.{option_or}
 use Rattle.si_base.specs.declared.fault.TextKind.{TextKind}
 use Rattle.si_tokens.specs.LineParts.{Part, made, behind_fault, held, both, then_rest, each_after}
 
-held_none : {A : Type 0} (fault : Option TextKind) (part : Part A) → part ≡ None → held fault part ≡ None
-held_none None part is = is
-held_none (Some kind) part is = ap (behind_fault kind) is
-
 held_more : {A : Type 0} (fault : Option TextKind) (kind : TextKind) (part : Part A)
     → held fault (behind_fault kind part) ≡ held (option_or fault (Some kind)) part
 held_more None kind part = refl
@@ -24,9 +20,6 @@ module _ {W A : Type 0} (read : List A → W → Part A) (before : List A) (faul
   step : (part : Part A) → read before w ≡ part → held fault (each_after read before (w ∷ ws))
       ≡ held fault (then_rest (λ sofar. each_after read sofar ws) before part)
   step part = ap (λ p. held fault (then_rest (λ sofar. each_after read sofar ws) before p))
-
-  next_none : read before w ≡ None → held fault (each_after read before (w ∷ ws)) ≡ None
-  next_none is = step None is ∙ held_none fault None refl
 
   pub next_fault : (kind : TextKind) → read before w ≡ Some (Err kind) → held fault (each_after read before (w ∷ ws))
       ≡ held (option_or fault (Some kind)) (each_after read before ws)
@@ -48,9 +41,6 @@ module _ {V W A : Type 0} (read : List A → W → Part A) (seen : V → W) (bef
     left_is =
         let same : drop i vs ≡ get_or vs i v ∷ drop (i + 1) vs = rw (drop-cons vs i v inside, add-one) refl in
         ap (λ ws. held fault (each_after read before (map seen ws))) same
-
-    pub other_form : read before (seen (get_or vs i v)) ≡ None → held fault (each_after read before (left i)) ≡ None
-    other_form is = left_is ∙ next_none read before fault _ (left (i + 1)) is
 
     pub with_fault : (kind : TextKind) → read before (seen (get_or vs i v)) ≡ Some (Err kind)
         → held fault (each_after read before (left i))
