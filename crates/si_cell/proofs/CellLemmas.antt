@@ -27,9 +27,8 @@ use Rattle.si_cube.proofs.LiteralLemmas.{rising_of}
 use Rattle.si_cube.specs.Literals.{InSignalOrder}
 use Rattle.si_words.proofs.FaultLemmas.{both, not_when}
 use Rattle.si_words.proofs.SumWordLemmas.{unmarked}
-use Rattle.si_words.specs.GateLines.{place_in}
 use Rattle.si_words.specs.Names.{stands_in}
-use Rattle.si_words.specs.Sums.{is_one, is_literal, literal_name, parts_at}
+use Rattle.si_words.specs.Sums.{is_one, is_literal, literal_name, parts_at, place_in}
 use Rattle.si_tokens.proofs.LinePartLemmas.{made_read, made_form, each_form, each_read}
 use Rattle.si_tokens.specs.LineParts.{Part, held, part_fault}
 use Rattle.si_tokens.specs.SumParts.{literal_at, cube_by}

@@ -19,8 +19,7 @@ use Rattle.si_base.specs.NetlistText.{cube_words, more_cubes, sum_words, literal
 use Rattle.si_base.specs.Words.{is_signal_name, is_name_byte}
 use Rattle.si_base.specs.declared.graph.Signal.{Signal}
 use Rattle.si_base.specs.declared.ids.Literal.{Literal}
-use Rattle.si_words.specs.GateLines.{place_in}
-use Rattle.si_words.specs.Sums.{parts_at, literal_name, is_literal, is_one}
+use Rattle.si_words.specs.Sums.{parts_at, literal_name, is_literal, is_one, place_in}
 use Rattle.si_words.proofs.NameWords.{name_bytes}
 use Rattle.si_words.proofs.SumWordLemmas.{unmarked, marked}
 use Rattle.si_tokens.specs.LineParts.{Part, each, each_after}

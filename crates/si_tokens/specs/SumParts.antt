@@ -5,8 +5,7 @@ use Rattle.si_base.specs.declared.ids.Literal.{Literal}
 use Rattle.si_base.specs.declared.fault.TextKind.{TextKind}
 use Rattle.si_base.specs.declared.fault.TextKind.TheVariants.{Undeclared}
 use Rattle.si_base.specs.Netlist.{Sum}
-use Rattle.si_words.specs.GateLines.{place_in}
-use Rattle.si_words.specs.Sums.{is_literal, is_one, literal_name, parts_at}
+use Rattle.si_words.specs.Sums.{is_literal, is_one, literal_name, parts_at, place_in}
 use Rattle.si_tokens.specs.LineParts.{Part, each, each_after}
 
 -- the literal of a word whose signal has this place among those declared
