@@ -1,3 +1,4 @@
+mod Examples
 pub mod LawLemmas
 pub mod LawFitLemmas
 pub mod LawTextLemmas
