@@ -1,23 +1,25 @@
 -- What holds of each expanded sum, and of each library that a text spells.
 use Rattle.std.proofs.Common.{◌≡◌, ℕ, zero, suc, ◌+◌, ◌<◌, ◌≤◌, not, Bool, true, false, List, [], ◌∷◌, ◌++◌, length}
 use Rattle.std.proofs.Common.{map, filter, if◌then◌else◌, bytes_eq, codes, Option, Some, None, All, refl, sym, ◌∙◌}
-use Rattle.std.proofs.Common.{arith, inl, inr}
+use Rattle.std.proofs.Common.{arith, inl, inr, Ok, Err}
 use Rattle.std.proofs.lemmas.Bool.{true≢false, cases_Bool, not-false}
 use Rattle.std.proofs.lemmas.List.{append-nil, length-map}
 use Rattle.std.proofs.lemmas.List.Elements.{All-nil, All-cons, All-push, filter_passes}
 use Rattle.std.proofs.lemmas.List.Kept.{AllPairs-cons}
-use Rattle.si_base.specs.Faults.{when, first_after}
+use Rattle.si_base.specs.Faults.{when}
 use Rattle.si_base.specs.Limits.{code_width}
 use Rattle.si_base.specs.Lines.{Line, has_bad_byte, numbered}
 use Rattle.si_base.specs.Netlist.{Sum}
 use Rattle.si_base.specs.WellFormed.{IsCube, IsSum}
 use Rattle.si_base.specs.Words.{is_signal_name}
+use Rattle.si_base.specs.declared.fault.TextKind.{TextKind}
 use Rattle.si_base.specs.declared.fault.TextKind.TheVariants.{BadByte, BadLine, BadName}
 use Rattle.si_base.specs.declared.ids.Literal.{Literal}
 use Rattle.si_words.proofs.FaultLemmas.{both, not_when, line_none}
 use Rattle.si_words.specs.Sums.{is_empty}
 use Rattle.si_cube.specs.Literals.{InSignalOrder}
-use Rattle.si_cell.specs.CellWords.{CellWords, cell_words, cell_fault, cell_name_fault, pin_fault, cell_of, is_cell_sum}
+use Rattle.si_tokens.specs.LineParts.{Part, held, part_fault, part_value}
+use Rattle.si_cell.specs.CellWords.{CellWords, cell_words, cell_fault, cell_name_fault, front_fault, sum_part, declared}
 use Rattle.si_cell.specs.Expanded.{placed, placed_sum, plain, sources, expanded}
 use Rattle.si_cell.specs.Library.{Library, Instance, Cell, IsCell, AreCells, IsLibrary, IsInstance, cell_at}
 use Rattle.si_cell.specs.LibraryText.{words, name_words_fault, name_fault, name_in, name_line_fault, is_end, names_of}
@@ -25,7 +27,7 @@ use Rattle.si_cell.specs.LibraryText.{cell_words_fault, cell_line_fault, with_li
 use Rattle.si_cell.specs.LibraryText.{lines_fault, library_in, library_fault, library_of}
 use Rattle.si_cell.specs.Literals.{same_literal, has_literal, complement, both_from, clashes, in_literal_order}
 use Rattle.si_cell.proofs.CubeLemmas.{found, same_is}
-use Rattle.si_cell.proofs.CellLemmas.{good_pins, good_name, is_cell, more_cells, plain_words}
+use Rattle.si_cell.proofs.CellLemmas.{good_pins, good_name, is_cell, more_cells}
 use Rattle.si_cell.proofs.ExpandedLemmas.{all_small, placed_small, sum_inside}
 
 -- ---- expanded sums
@@ -108,20 +110,23 @@ expanded_is_sum n library i z good is small within =
 -- ---- libraries of texts
 cell_added : (cells : List Cell) (o : Option CellWords) → AreCells cells → cell_fault (names_of cells) o ≡ None
     → AreCells (cells ++ spelled o)
-cell_added cells None good none = absurd (no_some none)
-  where
-    no_some : Some BadLine ≡ None → ⊥
-    no_some e = cc
+cell_added cells None good none = absurd cc
 cell_added cells (Some w) good none =
-    let form = both (when (not (is_cell_sum w.sum)) BadLine) _ none in
-    let named = both (cell_name_fault (names_of cells) w.name) _ form.1 in
-    let pinned = both (first_after pin_fault [] w.pins) _ named.1 in
-    let name = good_name (names_of cells) w.name named.0 in
-    let pins = good_pins w.pins pinned.0 in
-    let plain_form = plain_words w.sum (not-false _ (not_when _ BadLine form.0)) in
-    more_cells cells (cell_of w) good (is_cell w.name w.pins w.sum _ name.0 pins.0 pins.1 pins.2 refl pinned.1
-    plain_form) name.1
-    (rw length-map at name.2)
+    by_parts (front_fault (names_of cells) w) (sum_part (declared w.pins) w.sum) refl refl none
+  where
+    by_parts : (front : Option TextKind) (part : Part Sum) → front_fault (names_of cells) w ≡ front
+        → sum_part (declared w.pins) w.sum ≡ part → part_fault (held front part) ≡ None
+        → AreCells (cells ++ record { name = w.name; pins = w.pins; sum = part_value [] part } ∷ [])
+    by_parts None None at read none = absurd cc
+    by_parts (Some kind) None at read none = absurd cc
+    by_parts (Some kind) (Some r) at read none = absurd cc
+    by_parts None (Some (Err kind)) at read none = absurd cc
+    by_parts None (Some (Ok sum)) at read none =
+        let front = both (cell_name_fault (names_of cells) w.name) _ at in
+        let name = good_name (names_of cells) w.name front.0 in
+        let (pins_good, distinct, few) = good_pins w.pins front.1 in
+        let cell = is_cell w.name w.pins w.sum sum name.0 pins_good distinct few read in
+        more_cells cells _ good cell name.1 (rw length-map at name.2)
 
 words_added : (cells : List Cell) (ws : List (List ℕ)) → AreCells cells → is_end ws ≡ false
     → cell_words_fault cells ws ≡ None → AreCells (cells ++ spelled (cell_words ws))

@@ -4,7 +4,6 @@ pub mod OrderLemmas
 pub mod CubeLemmas
 pub mod CellLemmas
 mod PinCubeLemmas
-pub mod PartLemmas
 pub mod PlacedLemmas
 pub mod ExpandedLemmas
 mod TableLemmas

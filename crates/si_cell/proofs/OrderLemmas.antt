@@ -7,7 +7,6 @@ use Rattle.std.proofs.lemmas.List.Folds.{list_any-append}
 use Rattle.std.proofs.lemmas.Nat.Bits.{bit_at-zero}
 use Rattle.std.proofs.Math.Bool.{or-false}
 use mathlib.Core.Bool.{beq}
-use Rattle.si_base.proofs.GraphSteps.{beq-refl}
 use Rattle.si_base.specs.Bits.{bit, IsSet}
 use Rattle.si_base.specs.Limits.{code_width}
 use Rattle.si_base.specs.declared.ids.Literal.{Literal}
@@ -63,20 +62,6 @@ makes_more literals m care value care2 value2 made agree s t = record {
       | inr other ↦ rw (other.0, s.others l.sig other.1, t.others l.sig other.1) (or-false (bit care l.sig
           && beq (bit value l.sig) l.plain))
     ]
-
--- a literal of the signal of one that is there
-pub there_is : (literals : List Literal) (k care value : ℕ) → Makes literals care value → bit care k ≡ true
-    → has_literal literals (record { sig = k; plain = bit value k }) ≡ true
-there_is literals k care value made there = made.holds (record { sig = k; plain = bit value k })
-    ∙ rw there (beq-refl (bit value k))
-
-pub cared_for : (literals : List Literal) (l : Literal) (care value : ℕ) → Makes literals care value
-    → has_literal literals l ≡ true → bit care l.sig ≡ true
-cared_for literals l care value made there = by_bit (bit care l.sig) (sym (made.holds l) ∙ there)
-  where
-    by_bit : (b : Bool) → (b && beq (bit value l.sig) l.plain) ≡ true → b ≡ true
-    by_bit true e = refl
-    by_bit false e = absurd (true≢false (sym e))
 
 in_order_from : (literals : List Literal) (care value : ℕ) → Makes literals care value → (n i : ℕ)
     → literals_from n i care value ≡ filter (has_literal literals) (both_from n i)

@@ -1,8 +1,7 @@
 -- Words that are taken up to a mark.
-use Rattle.std.proofs.Common.{◌≡◌, ℕ, ◌<◌, Bool, true, false, List, [], ◌∷◌, ◌++◌, map, length, refl}
+use Rattle.std.proofs.Common.{◌≡◌, ℕ, ◌<◌, true, false, List, [], ◌∷◌, ◌++◌, length, refl}
 use Rattle.std.proofs.Common.{sym, ap, ◌∙◌, arith, Bor, All, Some, None, bytes_eq, nat_lt}
 use Rattle.std.proofs.Common.{lt-ltb}
-use Rattle.std.specs.List.{list_all}
 use Rattle.std.proofs.Math.Seq.{take-append_seam, drop-append-add}
 use Rattle.std.proofs.lemmas.List.{append-nil, length-append}
 use Rattle.std.proofs.lemmas.List.Elements.{All-head, All-tail}
@@ -10,11 +9,6 @@ use Rattle.std.proofs.lemmas.List.Splits.{slice_split_none, slice_split_at}
 use Rattle.si_words.specs.Loops.Reads.{words_now}
 use Rattle.si_words.specs.Sums.{cut_at, len_before, parts_at}
 use Rattle.si_cell.specs.Loops.Reads.{parts_left}
-
-pub list_all-map : {A B : Type 0} (f : A → B) (p : B → Bool) (xs : List A)
-    → list_all (λ x. p (f x)) xs ≡ list_all p (map f xs)
-list_all-map f p [] = refl
-list_all-map f p (x ∷ xs) = rw (list_all-map f p xs) refl
 
 module _ (mark : List ℕ) where
   abbrev Other : List ℕ → Type 0

@@ -1,17 +1,18 @@
 -- (text) The line of a cell: its fault, and the cell that it spells.
-use Rattle.std.specs.Prelude.{ℕ, ◌&&◌, ◌||◌, not, Bool, List, [], ◌∷◌, ◌++◌, length, map, nat_le}
-use Rattle.std.specs.Prelude.{bytes_eq, codes, if◌then◌else◌, Option, Some, None, option_map}
+use Rattle.std.specs.Prelude.{ℕ, ◌==◌, ◌||◌, not, List, [], ◌∷◌, ◌++◌, length, nat_le}
+use Rattle.std.specs.Prelude.{bytes_eq, codes, if◌then◌else◌, Option, Some, None, Ok, Err, option_map}
 use Rattle.std.specs.List.{list_any}
 use Rattle.si_base.specs.declared.ids.Literal.{Literal}
 use Rattle.si_base.specs.declared.fault.TextKind.{TextKind}
-use Rattle.si_base.specs.declared.fault.TextKind.TheVariants.{BadLine, BadName, Repeated}
-use Rattle.si_base.specs.declared.fault.TextKind.TheVariants.{Undeclared, TooManyCells, TooManyPins}
-use Rattle.si_base.specs.Faults.{when, ◌otherwise◌, first_after, first_in}
+use Rattle.si_base.specs.declared.fault.TextKind.TheVariants.{BadName, Repeated}
+use Rattle.si_base.specs.declared.fault.TextKind.TheVariants.{TooManyCells, TooManyPins}
+use Rattle.si_base.specs.Faults.{when, ◌otherwise◌, first_after}
 use Rattle.si_base.specs.Netlist.{Sum}
 use Rattle.si_base.specs.Words.{is_signal_name}
-use Rattle.si_words.specs.GateLines.{literal_of}
 use Rattle.si_words.specs.Names.{stands_in}
-use Rattle.si_words.specs.Sums.{is_one, is_cube, is_sum, cut_at, parts_at, literal_name}
+use Rattle.si_words.specs.Sums.{cut_at}
+use Rattle.si_tokens.specs.LineParts.{Part, made, held, part_fault, part_value}
+use Rattle.si_tokens.specs.SumParts.{literal_part, cube_by, sum_by}
 use Rattle.si_cell.specs.Library.{Cell, own}
 use Rattle.si_cell.specs.Limits.{max_cells, max_pins}
 use Rattle.si_cell.specs.Literals.{in_literal_order}
@@ -33,15 +34,7 @@ cell_words (head ∷ name ∷ ws) =
     if bytes_eq (codes ".cell") head then option_map (around name) (cut_at (codes "=") ws) else None
 cell_words _ = None
 
--- a cube in which the own output stands only plain
-abbrev pub is_cell_cube : List (List ℕ) → Bool
-is_cell_cube cube = is_cube cube && not (stands_in cube (codes "q'"))
-
--- a sum in which the own output stands only plain
-abbrev pub is_cell_sum : List (List ℕ) → Bool
-is_cell_sum sum = is_sum sum && not (stands_in sum (codes "q'"))
-
--- ---- the faults of its words, from left to right
+-- ---- what stands before the sum
 
 -- the name, after the cells of these names
 abbrev pub cell_name_fault : List (List ℕ) → List ℕ → Option TextKind
@@ -57,48 +50,54 @@ pin_fault before pin =
     otherwise when (stands_in before pin) Repeated
     otherwise when (nat_le max_pins (length before)) TooManyPins
 
--- a literal, after those before it in its cube, where these names are declared:
--- the pins and the own output
-abbrev pub literal_fault : List (List ℕ) → List (List ℕ) → List ℕ → Option TextKind
-literal_fault declared before word =
-    when (list_any (λ w. bytes_eq (literal_name word) (literal_name w)) before) Repeated
-    otherwise when (not (stands_in declared (literal_name word))) Undeclared
+-- the faults of the name and the pins, from left to right, after the cells of these names
+abbrev pub front_fault : List (List ℕ) → CellWords → Option TextKind
+front_fault cells words =
+    cell_name_fault cells words.name otherwise first_after pin_fault [] words.pins
 
-abbrev pub cube_fault : List (List ℕ) → List (List ℕ) → Option TextKind
-cube_fault declared ws =
-    if is_one (codes "1") ws then None else first_after (literal_fault declared) [] ws
+-- ---- the sum
 
-abbrev pub sum_fault : List (List ℕ) → List (List ℕ) → Option TextKind
-sum_fault declared ws =
-    if is_one (codes "0") ws then None else first_in (cube_fault declared) (parts_at (codes "+") ws)
+-- a literal whose signal stands in no literal before it
+abbrev pub new_among : List Literal → Part Literal → Part Literal
+new_among before None = None
+new_among before (Some (Err kind)) = Some (Err kind)
+new_among before (Some (Ok l)) =
+    Some (if list_any (λ m. m.sig == l.sig) before then Err Repeated else Ok l)
+
+-- the own output stands only plain
+abbrev pub plain_part : List (List ℕ) → List ℕ → Part Literal
+plain_part names word =
+    if bytes_eq (codes "q'") word then None else literal_part names word
+
+abbrev pub next_literal : List (List ℕ) → List Literal → List ℕ → Part Literal
+next_literal names before word = new_among before (plain_part names word)
+
+-- the literals in the order of the names, whatever their order in the text
+abbrev pub cube_part : List (List ℕ) → List (List ℕ) → Part (List Literal)
+cube_part names words = made in_literal_order (cube_by (next_literal names) words)
+
+abbrev pub sum_part : List (List ℕ) → List (List ℕ) → Part Sum
+sum_part names words = sum_by (cube_part names) words
 
 -- the names that literals may have
 abbrev pub declared : List (List ℕ) → List (List ℕ)
 declared pins = pins ++ own ∷ []
 
--- the line of a cell, after the cells of these names
+-- ---- the line, after the cells of these names
+
+-- that the sum has another form comes first
+abbrev pub line_part : List (List ℕ) → Option CellWords → Part Sum
+line_part cells None = None
+line_part cells (Some words) =
+    held (front_fault cells words) (sum_part (declared words.pins) words.sum)
+
 abbrev pub cell_fault : List (List ℕ) → Option CellWords → Option TextKind
-cell_fault cells None = Some BadLine
-cell_fault cells (Some words) =
-    when (not (is_cell_sum words.sum)) BadLine
-    otherwise cell_name_fault cells words.name
-    otherwise first_after pin_fault [] words.pins
-    otherwise sum_fault (declared words.pins) words.sum
+cell_fault cells words = part_fault (line_part cells words)
 
--- ---- the cell
-
--- the literals in the order of the names, whatever their order in the text
-abbrev pub cube_of : List (List ℕ) → List (List ℕ) → List Literal
-cube_of declared ws =
-    if is_one (codes "1") ws then [] else in_literal_order (map (literal_of declared) ws)
-
-abbrev pub sum_of : List (List ℕ) → List (List ℕ) → Sum
-sum_of declared ws =
-    if is_one (codes "0") ws then [] else map (cube_of declared) (parts_at (codes "+") ws)
-
+-- the cell of a line without fault
 abbrev pub cell_of : CellWords → Cell
 cell_of words = record {
   name = words.name;
   pins = words.pins;
-  sum = sum_of (declared words.pins) words.sum;
+  sum = part_value [] (sum_part (declared words.pins) words.sum);
 }

@@ -1,7 +1,7 @@
 //! Cells, read from the words of their lines.
 
 ghost use Rattle.std.specs.Prelude.{◌≡◌, ◌≢◌, ◌≤◌, ◌<◌, ◌+◌, ◌++◌, ◌∷◌, [], AllPairs};
-ghost use Rattle.std.specs.Prelude.{length, IfOk, OnOk, IfErr, None, Some, false, if◌then◌else◌};
+ghost use Rattle.std.specs.Prelude.{length, IfOk, OnOk, IfErr, None, Some, is_some, false, if◌then◌else◌};
 ghost use Rattle.si_base.specs.Faults.{◌otherwise◌, first_after};
 ghost use Rattle.si_base.specs.TextFaults.{Tells};
 ghost use Rattle.si_base.specs.declared.fault.LineFault.TheVariants as line_faults;
@@ -9,7 +9,7 @@ ghost use Rattle.si_base.specs.declared.fault.TextKind.TheVariants as text_kinds
 ghost use Rattle.si_words.specs.Names.{stands_in};
 ghost use Rattle.si_words.specs.Loops.Reads.{words_now};
 ghost use Rattle.si_cell.specs.CellWords.{cell_name_fault, pin_fault, cell_fault, cell_of};
-ghost use Rattle.si_cell.specs.CellWords.{declared, is_cell_sum};
+ghost use Rattle.si_cell.specs.CellWords.{declared, front_fault, sum_part};
 ghost use Rattle.si_cell.specs.Library.{IsCell};
 ghost use Rattle.si_cell.specs.LibraryText.{names_of};
 ghost use Rattle.si_cell.specs.Limits.{max_cells, max_pins};
@@ -18,7 +18,7 @@ ghost use Rattle.si_cell.specs.Loops.Reads.{cell_words_now};
 use crate::cell::Cell;
 use crate::limits::{MAX_CELLS, MAX_PINS};
 use crate::sums::read_sum;
-use crate::words::{Front, is_cell_sum};
+use crate::words::Front;
 use si_base::fault::{LineFault, TextKind};
 use si_base::ids::NoMemory;
 use si_base::lines::Words;
@@ -115,8 +115,8 @@ fn names_of(alloc: Global, words: &[&[u8]]) -> Result<Vec<Name>, NoMemory>
 ///
 /// Fails with the first fault of the name and the pins, and where memory runs out.
 fn names_for(alloc: Global, cells: &[Cell], front: &Front<'_>) -> Result<Names, LineFault>
-    ensures fault { Tells result (cell_name_fault (names_of cells.now) front.now.name.now
-        otherwise first_after pin_fault [] (words_now front.now.pins.items)) }
+    ensures fault { Tells result
+        (front_fault (names_of cells.now) (cell_words_now front.now [])) }
     ensures value { IfOk result (λ names. names ≡ declared (words_now front.now.pins.items)) }
 {
     if let Some(kind) = cell_name_kind(cells, front.name) {
@@ -128,10 +128,11 @@ fn names_for(alloc: Global, cells: &[Cell], front: &Front<'_>) -> Result<Names, 
 /// The fault of a line that has this one before its sum, whose words are left. That they have
 /// another form comes first.
 fn line_fault(alloc: Global, fault: LineFault, words: &mut Words<'_>) -> Result<LineFault, NoMemory>
-    ensures { IfOk result (λ first. first ≡ (if is_cell_sum words.old then fault
-        else line_faults.Kind text_kinds.BadLine)) }
+    ensures { IfOk result (λ first. first
+        ≡ (if is_some (sum_part [] words.old) then fault else line_faults.Kind text_kinds.BadLine)) }
 {
-    if is_cell_sum(alloc, words)? {
+    let declared = Names::new(alloc)?;
+    if read_sum(alloc, &declared, words)?.is_some() {
         Ok(fault)
     } else {
         Ok(LineFault::Kind(TextKind::BadLine))
@@ -158,7 +159,13 @@ pub(crate) fn read_cell(
         Ok(declared) => declared,
         Err(fault) => return Err(line_fault(alloc, fault, words)?),
     };
-    let sum = read_sum(alloc, &declared, words)?;
+    let Some(sum) = read_sum(alloc, &declared, words)? else {
+        return Err(LineFault::Kind(TextKind::BadLine));
+    };
+    let sum = match sum {
+        Ok(sum) => sum,
+        Err(kind) => return Err(LineFault::Kind(kind)),
+    };
     let name = Name::copy_of(alloc, front.name)?;
     let pins = names_of(alloc, &front.pins)?;
     Ok(Cell::new(name, pins, sum))

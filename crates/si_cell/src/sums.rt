@@ -1,112 +1,116 @@
 //! The sums of cells, read from their words.
 
-ghost use Rattle.std.specs.Prelude.{◌≡◌, ◌≤◌, ◌+◌, length, IfOk, MatchResult, None, Some};
-ghost use Rattle.std.specs.Prelude.{if◌then◌else◌, not, codes};
-ghost use Rattle.std.specs.List.{list_all};
-ghost use Rattle.si_base.specs.Faults.{when, ◌otherwise◌};
-ghost use Rattle.si_base.specs.TextFaults.{Tells};
-ghost use Rattle.si_base.specs.declared.fault.TextKind.TheVariants as text_kinds;
+ghost use Rattle.std.specs.Prelude.{◌≡◌, ◌≤◌, ◌<◌, ◌+◌, ◌∷◌, length, IfOk, IfSome, None, Some, codes};
 ghost use Rattle.si_words.specs.Loops.Reads.{words_now};
-ghost use Rattle.si_cell.specs.CellWords.{cube_fault, cube_of, sum_fault, sum_of};
-ghost use Rattle.si_cell.specs.CellWords.{is_cell_cube, is_cell_sum};
+ghost use Rattle.si_tokens.specs.LineParts.{each};
+ghost use Rattle.si_cell.specs.CellWords as cell;
 ghost use Rattle.si_cell.specs.Limits.{max_pins};
 ghost use Rattle.si_cell.specs.Loops.Reads.{parts_left};
 
 use crate::pin_sum::{PinCube, PinSum};
-use crate::words::{are_cell_cubes, is_cell_cube, is_zero, take_before};
-use si_base::fault::{LineFault, TextKind};
-use si_base::ids::{Code, NoMemory, Sig};
+use crate::words::{is_zero, take_before};
+use si_base::fault::TextKind;
+use si_base::ids::{Code, Literal, NoMemory};
 use si_base::lines::Words;
 use si_base::names::Names;
 use si_cube::cube::Cube;
+use si_tokens::literals::read_literal;
 use si_words::gate_lines::is_one;
-use si_words::lists::place_of;
-use si_words::words::literal_name;
 use std::alloc::Global;
 
-/// The cube of words that are literals or `1`, where these names are declared.
-///
-/// Fails with its first fault: a name that stands in it already, or that isn't declared.
-fn read_cube(declared: &Names, words: &[&[u8]]) -> Result<Cube, TextKind>
+/// The literal of a word, where these names are declared. The own output stands only plain.
+fn read_plain(declared: &Names, word: &[u8]) -> Option<Result<Literal, TextKind>>
     requires { length declared.now ≤ max_pins + 1 }
-    ensures { MatchResult result
-        (λ cube. (cube_fault declared.now (words_now words.now) ≡ None)
-        × (cube ≡ cube_of declared.now (words_now words.now)))
-        (λ kind. cube_fault declared.now (words_now words.now) ≡ Some kind) }
+    ensures read { result ≡ cell.plain_part declared.now word.now }
+    ensures within { IfSome result (λ read. IfOk read (λ l. l.sig < length declared.now)) }
+{
+    if b"q'".as_slice() == word {
+        return None;
+    }
+    read_literal(declared, word)
+}
+
+/// The cube of words, where these names are declared: `1`, or literals of one signal each.
+fn read_cube(declared: &Names, words: &[&[u8]]) -> Option<Result<Cube, TextKind>>
+    requires { length declared.now ≤ max_pins + 1 }
+    ensures { result ≡ cell.cube_part declared.now (words_now words.now) }
 {
     let mut care = Code(0);
     let mut value = Code(0);
+    if words.is_empty() {
+        return None;
+    }
     if is_one(b"1", words) {
-        return Ok(Cube { care, value });
+        return Some(Ok(Cube { care, value }));
     }
+    let mut fault = None;
     for word in words {
-        let name = literal_name(*word);
-        let Some(place) = place_of(declared, name) else {
-            return Err(TextKind::Undeclared);
-        };
-        let sig = Sig(place as u8);
-        if care.get(sig) {
-            return Err(TextKind::Repeated);
+        match read_plain(declared, *word)? {
+            Err(kind) => fault = fault.or(Some(kind)),
+            Ok(literal) => {
+                if care.get(literal.sig) {
+                    fault = fault.or(Some(TextKind::Repeated));
+                    continue;
+                }
+                care = care.set(literal.sig, true);
+                value = value.set(literal.sig, literal.plain);
+            }
         }
-        care = care.set(sig, true);
-        value = value.set(sig, *word == name);
     }
-    Ok(Cube { care, value })
+    match fault {
+        Some(kind) => Some(Err(kind)),
+        None => Some(Ok(Cube { care, value })),
+    }
 }
 
-/// The fault of a sum that has this one, where these parts are left. That one of them has another
-/// form comes first.
-fn sum_fault_kind<'a>(
-    kind: TextKind,
+/// The cubes of a sum from this part on, where the words behind it are left if there are `more`.
+fn read_cubes<'a>(
+    alloc: Global,
+    declared: &Names,
     words: &mut Words<'a>,
     part: &mut Vec<&'a [u8]>,
     more: bool,
-) -> Result<TextKind, NoMemory>
-    ensures { IfOk result (λ first. first ≡
-        (if list_all is_cell_cube (parts_left (codes "+") more words.old) then kind
-        else text_kinds.BadLine)) }
+) -> Result<Option<Result<PinSum, TextKind>>, NoMemory>
+    requires { length declared.now ≤ max_pins + 1 }
+    ensures { IfOk result (λ read. read ≡ each (cell.cube_part declared.now)
+        (words_now part.old.items ∷ parts_left (codes "+") more words.old)) }
 {
-    if are_cell_cubes(words, part, more)? {
-        Ok(kind)
-    } else {
-        Ok(TextKind::BadLine)
+    let mut sum = PinSum::new(alloc);
+    let mut fault = None;
+    let mut left = more;
+    loop {
+        let Some(cube) = read_cube(declared, part) else {
+            return Ok(None);
+        };
+        match cube {
+            Err(kind) => fault = fault.or(Some(kind)),
+            Ok(cube) => sum.push(PinCube::of(&cube))?,
+        }
+        if !left {
+            break;
+        }
+        left = take_before(b"+", words, part)?;
+    }
+    match fault {
+        Some(kind) => Ok(Some(Err(kind))),
+        None => Ok(Some(Ok(sum))),
     }
 }
 
 /// The sum of the words left, where these names are declared: `0`, or cubes with `+` between them.
 /// The words are taken one after the other, and only those of one cube are held.
-///
-/// Fails where they have another form, then with the first fault of a cube, and where memory runs
-/// out.
 pub(crate) fn read_sum(
     alloc: Global,
     declared: &Names,
     words: &mut Words<'_>,
-) -> Result<PinSum, LineFault>
+) -> Result<Option<Result<PinSum, TextKind>>, NoMemory>
     requires { length declared.now ≤ max_pins + 1 }
-    ensures fault { Tells result (when (not (is_cell_sum words.old)) text_kinds.BadLine
-        otherwise sum_fault declared.now words.old) }
-    ensures value { IfOk result (λ sum. sum ≡ sum_of declared.now words.old) }
+    ensures { IfOk result (λ read. read ≡ cell.sum_part declared.now words.old) }
 {
-    let mut sum = PinSum::new(alloc);
     let mut part = Vec::new(alloc);
-    let mut more = true;
-    while more {
-        more = take_before(b"+", words, &mut part)?;
-        if !is_cell_cube(&part) {
-            return if sum.is_empty() && is_zero(&part, more) {
-                Ok(sum)
-            } else {
-                Err(LineFault::Kind(TextKind::BadLine))
-            };
-        }
-        match read_cube(declared, &part) {
-            Ok(cube) => sum.push(PinCube::of(&cube))?,
-            Err(kind) => {
-                let first = sum_fault_kind(kind, words, &mut part, more)?;
-                return Err(LineFault::Kind(first));
-            }
-        }
+    let more = take_before(b"+", words, &mut part)?;
+    if is_zero(&part, more) {
+        return Ok(Some(Ok(PinSum::new(alloc))));
     }
-    Ok(sum)
+    read_cubes(alloc, declared, words, &mut part, more)
 }

@@ -1,11 +1,9 @@
 -- The line of a cell has no fault, and spells that cell.
-use Rattle.std.proofs.Common.{IsTrue, option_map, if◌then◌else◌, ◌≡◌, ◌≢◌, ℕ, suc, ◌+◌, ◌<◌, ◌≤◌, Bool, true}
-use Rattle.std.proofs.Common.{false, List, [], ◌∷◌, ◌++◌, length, get_or, All, AllPairs, refl, sym, ap, ap₂}
-use Rattle.std.proofs.Common.{subst, ◌∙◌, arith, append_assoc, codes, bytes_eq, nat_le, nat_lt, position}
-use Rattle.std.proofs.Common.{unwrap_or, Option, Some, None}
-use Rattle.std.proofs.lemmas.Bool.{true≢false, and_from, or_from, lt-ltb, lt-leb}
-use Rattle.std.proofs.lemmas.Bool.{false_from_ne_true}
-use Rattle.std.proofs.lemmas.List.{length_push, length-append, map-append, take_at, get_or_at, get_or_append_left}
+use Rattle.std.proofs.Common.{IsTrue, option_map, if◌then◌else◌, ◌≡◌, ◌≢◌, ℕ, ◌+◌, ◌<◌, ◌≤◌, Bool, true, false}
+use Rattle.std.proofs.Common.{List, [], ◌∷◌, ◌++◌, length, get_or, All, AllPairs, refl, sym, ap, subst, ◌∙◌, arith}
+use Rattle.std.proofs.Common.{append_assoc, codes, bytes_eq, nat_le, position, Option, Some, None, Ok}
+use Rattle.std.proofs.lemmas.Bool.{true≢false, and_from, lt-leb, false_from_ne_true}
+use Rattle.std.proofs.lemmas.List.{length_push, length-append, map-append, get_or_at, get_or_append_left}
 use Rattle.std.proofs.lemmas.List.Elements.{All-push, recursion_from_All}
 use Rattle.std.proofs.lemmas.List.Folds.{list_all-append, list_any_none}
 use Rattle.std.proofs.lemmas.List.Quantifiers.{all_pairs_push}
@@ -20,20 +18,20 @@ use Rattle.si_base.specs.Netlist.{Sum}
 use Rattle.si_base.specs.NetlistText.{literal_word, sum_words}
 use Rattle.si_base.specs.WellFormed.{IsCube}
 use Rattle.si_base.specs.Words.{is_word_byte, is_signal_name}
+use Rattle.si_words.proofs.NameWords.{name_word}
+use Rattle.si_words.proofs.WrittenLineLemmas.{IsWord, AreWords}
 use Rattle.si_words.specs.Names.{stands_in}
-use Rattle.si_words.specs.Sums.{cut_at, len_before}
-use Rattle.si_words.specs.GateLines.{literal_of}
-use Rattle.si_cell.specs.CellWords.{CellWords, around, cell_words, pin_fault, cell_fault, cell_of, declared}
-use Rattle.si_cell.specs.CellWords.{sum_of, sum_fault}
+use Rattle.si_cube.specs.Literals.{InSignalOrder}
+use Rattle.si_tokens.proofs.CutLemmas.{cut_made}
+use Rattle.si_tokens.proofs.SumPartLemmas as sums
+use Rattle.si_tokens.specs.LineParts.{part_fault, part_value}
+use Rattle.si_tokens.specs.SumParts.{literal_part}
+use Rattle.si_cell.proofs.CubeLemmas.{names_same}
+use Rattle.si_cell.specs.CellWords.{CellWords, around, cell_words, pin_fault, sum_part, cell_fault, cell_of, declared}
 use Rattle.si_cell.specs.Library.{Cell, IsCell, IsPinName, own}
 use Rattle.si_cell.specs.Limits.{max_cells, max_pins}
-use Rattle.si_cell.proofs.CubeLemmas.{same_name, names_same}
+use Rattle.si_genlib.proofs.WrittenSumLemmas.{AreNames, sum_forth}
 use Rattle.si_genlib.specs.Written.{cell_line, signals_in}
-use Rattle.si_words.proofs.WrittenLineLemmas.{IsWord, AreWords}
-use Rattle.si_words.proofs.SumWordLemmas.{behind}
-use Rattle.si_words.proofs.NameWords.{name_word}
-use Rattle.si_genlib.proofs.WrittenSumLemmas.{AreNames, SumFits, place, good_name, literal_spelled, of_sum}
-use Rattle.si_genlib.proofs.WrittenSumLemmas.{sum_good, sum_is, sum_spelled}
 
 -- ---- names are words
 
@@ -79,24 +77,6 @@ pins_good before (pin ∷ pins) good distinct few =
     (subst (AllPairs (λ x y. x ≢ y)) (sym shift) distinct)
     (subst (λ (ns : List (List ℕ)). length ns ≤ max_pins) (sym shift) few))
 
--- ---- the cut at `=`
-
-len_at : (mark : List ℕ) (xs ys : List (List ℕ)) → AllByRecursion (λ w. bytes_eq mark w ≡ false) xs
-    → len_before mark (xs ++ mark ∷ ys) ≡ length xs
-len_at mark [] ys unlike = rw (same_name mark mark refl) refl
-len_at mark (x ∷ xs) ys unlike = rw (unlike.0, len_at mark xs ys unlike.1) (next (length xs))
-  where
-    next : (n : ℕ) → 1 + n ≡ suc n
-    next n = omega arith
-
-cut_made : (mark : List ℕ) (xs ys : List (List ℕ)) → AllByRecursion (λ w. bytes_eq mark w ≡ false) xs
-    → cut_at mark (xs ++ mark ∷ ys) ≡ Some (xs, ys)
-cut_made mark xs ys unlike =
-    let pair : List (List ℕ) → List (List ℕ) → Option (List (List ℕ) × List (List ℕ)) = λ a b. Some (a, b) in
-    let within : nat_lt (length xs) (length (xs ++ mark ∷ ys)) ≡ true =
-    lt-ltb _ _ (omega (arith, length-append xs (mark ∷ ys))) in
-    rw (len_at mark xs ys unlike, within) (ap₂ pair (take_at xs (mark ∷ ys) (length xs) refl) (behind xs ys mark))
-
 -- ---- a cell
 
 named : (pins : List (List ℕ)) → names_in (signals_of Input pins) ≡ pins
@@ -136,65 +116,51 @@ module _ (cell : Cell) (is : IsCell cell) where
   how_many : length (names_in signals) ≡ count + 1
   how_many = ap length (names_are cell) ∙ length_push cell.pins own
 
-  cubes_fit : (cubes : Sum) → AllByRecursion (IsCube (count + 1)) cubes → SumFits signals names_good cubes
-  cubes_fit [] are = tt
-  cubes_fit (cube ∷ cubes) are = (
-    record {
-      there = subst (λ (n : ℕ). AllByRecursion (λ (l : Literal). l.sig < n) cube) (sym how_many)
-          (recursion_from_All (λ (l : Literal). l.sig < count + 1) cube are.0.there);
-      rising = are.0.rising;
-    },
-    cubes_fit cubes are.1,
-  )
+  -- ---- the literals of its sum
+  abbrev Here : Literal → Type 0
+  Here l = (l.sig < length (names_in signals)) × (l.sig ≡ count → IsTrue l.plain)
 
-  fits : SumFits signals names_good cell.sum
-  fits = cubes_fit cell.sum (recursion_from_All (IsCube (count + 1)) cell.sum is.sum)
-
-  -- ---- the own output stands only plain
   own_place : position (λ n. bytes_eq own n) (names_in signals) ≡ Some count
   own_place =
       let at : get_or (names_in signals) count [] ≡ own = ap (λ (ns : List (List ℕ)). get_or ns count [])
       (names_are cell) ∙ get_or_at cell.pins own [] [] count refl in
       subst (λ (w : List ℕ). position (λ n. bytes_eq w n) (names_in signals) ≡ Some count) at
-      (place signals names_good count (omega (arith, how_many)))
+      (sums.place signals names_good.good names_good.distinct count (omega (arith, how_many)))
 
-  not_marked : (l : Literal) → l.sig < count + 1 → (l.sig ≡ count → IsTrue l.plain)
-      → bytes_eq (codes "q'") (literal_word signals l) ≡ false
-  not_marked l there plain = false_from_ne_true _ (λ same.
-      let spelled : literal_of (names_in signals) (codes "q'") ≡ l =
-      ap (literal_of (names_in signals)) (names_same (codes "q'") (literal_word signals l) same)
-      ∙ literal_spelled signals names_good l (rw how_many there) in
-      let at : l.sig ≡ count = ap (λ (m : Literal). m.sig) (sym spelled)
-      ∙ ap (λ (o : Option ℕ). unwrap_or o 0) own_place in
-      true≢false (sym (plain at) ∙ ap (λ (m : Literal). m.plain) (sym spelled)))
+  -- the own output stands only plain
+  not_marked : (l : Literal) → Here l → bytes_eq (codes "q'") (literal_word signals l) ≡ false
+  not_marked l here = false_from_ne_true _ (λ same.
+      let read : literal_part (names_in signals) (codes "q'") ≡ Some (Ok l) =
+      ap (literal_part (names_in signals)) (names_same (codes "q'") (literal_word signals l) same)
+      ∙ sums.literal_forth signals names_good.good names_good.distinct l here.0 in
+      let spelled : Some (Ok (record { sig = count; plain = false })) ≡ Some (Ok l) = rw own_place at read in
+      let is_it : record { sig = count; plain = false } ≡ l = cc in
+      let at : l.sig ≡ count = ap (λ (m : Literal). m.sig) (sym is_it) in
+      true≢false (sym (here.1 at) ∙ ap (λ (m : Literal). m.plain) (sym is_it)))
 
-  abbrev Unmarked : List ℕ → Type 0
-  Unmarked w = bytes_eq (codes "q'") w ≡ false
-
-  none_marked : (ws : List (List ℕ)) → AllByRecursion Unmarked ws → stands_in ws (codes "q'") ≡ false
-  none_marked [] are = refl
-  none_marked (w ∷ ws) are = or_from _ _ are.0 (none_marked ws are.1)
-
-  only_plain : stands_in sum (codes "q'") ≡ false
-  only_plain = none_marked sum (of_sum Unmarked signals refl cell.sum refl refl
-      (by_cubes cell.sum (recursion_from_All (IsCube (count + 1)) cell.sum is.sum)
-      (recursion_from_All (All (λ (l : Literal). l.sig ≡ count → IsTrue l.plain)) cell.sum is.own_plain)))
+  all_here : AllByRecursion (AllByRecursion Here) cell.sum
+  all_here = by_cubes cell.sum (recursion_from_All (IsCube (count + 1)) cell.sum is.sum)
+      (recursion_from_All (All (λ (l : Literal). l.sig ≡ count → IsTrue l.plain)) cell.sum is.own_plain)
     where
-      by_literals : (ls : List Literal) → AllByRecursion (λ (l : Literal). l.sig < count + 1) ls
-          → AllByRecursion (λ (l : Literal). l.sig ≡ count → IsTrue l.plain) ls
-          → AllByRecursion (λ (l : Literal). Unmarked (literal_word signals l)) ls
-      by_literals [] there plain = tt
-      by_literals (l ∷ ls) there plain = (not_marked l there.0 plain.0, by_literals ls there.1 plain.1)
-
       by_cubes : (cubes : Sum) → AllByRecursion (IsCube (count + 1)) cubes
           → AllByRecursion (All (λ (l : Literal). l.sig ≡ count → IsTrue l.plain)) cubes
-          → AllByRecursion (λ cube. AllByRecursion (λ (l : Literal). Unmarked (literal_word signals l)) cube) cubes
+          → AllByRecursion (AllByRecursion Here) cubes
       by_cubes [] are plain = tt
       by_cubes (cube ∷ cubes) are plain = (
-        by_literals cube (recursion_from_All (λ (l : Literal). l.sig < count + 1) cube are.0.there)
-            (recursion_from_All (λ (l : Literal). l.sig ≡ count → IsTrue l.plain) cube plain.0),
+        recursion_from_All Here cube (λ k d inside. (rw how_many (are.0.there k d inside), plain.0 k d inside)),
         by_cubes cubes are.1 plain.1,
       )
+
+  rising : AllByRecursion InSignalOrder cell.sum
+  rising = each_rises cell.sum (recursion_from_All (IsCube (count + 1)) cell.sum is.sum)
+    where
+      each_rises : (cubes : Sum) → AllByRecursion (IsCube (count + 1)) cubes → AllByRecursion InSignalOrder cubes
+      each_rises [] are = tt
+      each_rises (cube ∷ cubes) are = (are.0.rising, each_rises cubes are.1)
+
+  sum_read : sum_part (declared cell.pins) sum ≡ Some (Ok cell.sum)
+  sum_read = subst (λ (ns : List (List ℕ)). sum_part ns sum ≡ Some (Ok cell.sum)) (names_are cell)
+      (sum_forth signals names_good Here (λ l here. here.0) not_marked cell.sum all_here rising)
 
   -- ---- the words of the line
   pins_unlike : AllByRecursion (λ w. bytes_eq (codes "=") w ≡ false) cell.pins
@@ -217,23 +183,12 @@ module _ (cell : Cell) (is : IsCell cell) where
       → cell_fault before (Some words) ≡ None
   line_good before new few =
       let room : nat_le max_cells (length before) ≡ false = lt-leb max_cells (length before) few in
-      let sum_none : sum_fault (declared cell.pins) sum ≡ None =
-      subst (λ (ns : List (List ℕ)). sum_fault ns sum ≡ None) (names_are cell)
-      (sum_good signals names_good cell.sum fits) in
-      rw (
-        sum_is signals names_good cell.sum fits,
-        only_plain,
-        is.name,
-        new,
-        room,
-        pins_good [] cell.pins is.pins is.distinct is.few_pins,
-      ) sum_none
+      rw (is.name, new, room, pins_good [] cell.pins is.pins is.distinct is.few_pins) (ap part_fault sum_read)
 
   pub line_spelled : cell_of words ≡ cell
   line_spelled =
       let make : Sum → Cell = λ s. record { name = cell.name; pins = cell.pins; sum = s } in
-      ap make (ap (λ (ns : List (List ℕ)). sum_of ns sum) (sym (names_are cell))
-      ∙ sum_spelled signals names_good cell.sum fits)
+      ap make (ap (part_value []) sum_read)
 
   pub line_words : AreWords (cell_line cell)
   line_words = (
@@ -241,7 +196,7 @@ module _ (cell : Cell) (is : IsCell cell) where
     (
       name_word cell.name is.name,
       pins_then cell.pins (recursion_from_All IsPinName cell.pins is.pins)
-          (refl, of_sum IsWord signals refl cell.sum refl refl (by_cubes cell.sum fits)),
+          (refl, sums.of_sum IsWord Here signals literal_is_word refl cell.sum refl refl all_here),
     ),
   )
     where
@@ -250,16 +205,6 @@ module _ (cell : Cell) (is : IsCell cell) where
       pins_then [] are later = later
       pins_then (pin ∷ pins) are later = (name_word pin are.0.signal_name, pins_then pins are.1 later)
 
-      by_literals : (ls : List Literal) → AllByRecursion (λ (l : Literal). l.sig < length (names_in signals)) ls
-          → AllByRecursion (λ (l : Literal). IsWord (literal_word signals l)) ls
-      by_literals [] there = tt
-      by_literals (l ∷ ls) there = (
-        signed_is_word (name_of signals l.sig) l.plain (name_word (name_of signals l.sig)
-            (good_name signals names_good l.sig there.0)),
-        by_literals ls there.1,
-      )
-
-      by_cubes : (cubes : Sum) → SumFits signals names_good cubes
-          → AllByRecursion (λ cube. AllByRecursion (λ (l : Literal). IsWord (literal_word signals l)) cube) cubes
-      by_cubes [] are = tt
-      by_cubes (cube ∷ cubes) are = (by_literals cube are.0.there, by_cubes cubes are.1)
+      literal_is_word : (l : Literal) → Here l → IsWord (literal_word signals l)
+      literal_is_word l here = signed_is_word (name_of signals l.sig) l.plain (name_word (name_of signals l.sig)
+          (sums.good_name signals names_good.good names_good.distinct l.sig here.0))

@@ -30,8 +30,8 @@ use Rattle.si_words.specs.Lines.{names_fault, rest_of}
 use Rattle.si_netlist_reader.specs.NetlistValue.{insertion_with, insertion_of, first_word, code_of_bits}
 use Rattle.si_netlist_reader.proofs.LawTextLemmas.{IsDark}
 use Rattle.si_words.proofs.FaultLemmas.{both, not_when}
-use Rattle.si_netlist_reader.proofs.LawSumLemmas.{only_word}
-use Rattle.si_netlist_reader.proofs.LawGateLemmas.{cut_facts}
+use Rattle.si_tokens.proofs.SumPartLemmas.{only_word}
+use Rattle.si_tokens.proofs.CutLemmas.{cut_facts}
 
 same_word : (a b : List ℕ) → bytes_eq a b ≡ true → b ≡ a
 same_word a b same = sym ((bytes_eq-Decides a b).0 same)

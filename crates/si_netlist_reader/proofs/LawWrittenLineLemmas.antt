@@ -28,8 +28,9 @@ use Rattle.si_words.proofs.NameWords.{same_bytes}
 use Rattle.si_netlist_reader.specs.NetlistValue.{insertion_with, insertion_of, first_word, code_of_bits}
 use Rattle.si_netlist_reader.proofs.LawTextLemmas.{IsDark}
 use Rattle.si_netlist_reader.proofs.LawLineLemmas.{AreNames, bit_next, code_fits_bits, Listed}
-use Rattle.si_netlist_reader.proofs.LawWrittenSumLemmas.{AreDark, dark_append, Unlike}
-use Rattle.si_netlist_reader.proofs.LawWrittenGateLemmas.{cut_made}
+use Rattle.si_tokens.proofs.CutLemmas.{Unlike, cut_made}
+use Rattle.si_netlist_reader.proofs.LawWrittenGateLemmas.{AreDark}
+use Rattle.si_tokens.proofs.SumPartLemmas.{append_all}
 
 not_empty : {A : Type 0} (xs : List A) → 0 < length xs → is_empty xs ≡ false
 not_empty [] some = absurd (omega arith)
@@ -243,6 +244,12 @@ insert_good i is dark =
       ap (insertion_with i.name) cut,
       (
         refl,
-        (dark, (refl, dark_append i.up (codes "down" ∷ i.down) (listed_dark i.up up) (refl, listed_dark i.down down))),
+        (
+          dark,
+          (
+            refl,
+            append_all IsDark i.up (codes "down" ∷ i.down) (listed_dark i.up up) (refl, listed_dark i.down down),
+          ),
+        ),
       ),
     )

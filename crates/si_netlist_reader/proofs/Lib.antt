@@ -1,7 +1,7 @@
+mod Examples
 pub mod LawLemmas
 pub mod LawFitLemmas
 pub mod LawTextLemmas
-pub mod LawSumLemmas
 pub mod LawGateLemmas
 pub mod LawLineLemmas
 pub mod LawKindLemmas
@@ -14,10 +14,7 @@ pub mod HeaderLemmas
 pub mod RowLoopLemmas
 pub mod GateLineLemmas
 pub mod InsertLineLemmas
-pub mod OrderLemmas
 pub mod CubeLemmas
 pub mod CubeReading
-pub mod PartLemmas
-pub mod SumReading
 pub mod SignalLemmas
 pub mod ReaderLemmas

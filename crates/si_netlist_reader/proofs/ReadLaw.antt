@@ -18,8 +18,8 @@ use Rattle.si_words.specs.Lines.{Form, words_of, ended, tail_of, rest_of}
 use Rattle.si_words.specs.Rows.{Left, all_lines, begins_with, fault_of}
 use Rattle.std.proofs.lemmas.Slice.Eq.{bytes_eq-Decides}
 use Rattle.si_base.specs.Graph.{names_in}
-use Rattle.si_words.specs.GateLines.{gate_fault}
-use Rattle.si_netlist_reader.specs.NetlistValue.{gate_of, insertion_of, first_word, code_of_bits, netlist_of}
+use Rattle.si_netlist_reader.specs.GateParts.{gate_fault, gate_of}
+use Rattle.si_netlist_reader.specs.NetlistValue.{insertion_of, first_word, code_of_bits, netlist_of}
 use Rattle.si_netlist_reader.specs.NetlistValue.{netlist_of_lines}
 use Rattle.si_netlist_reader.proofs.LawFitLemmas.{Fits, fits, fits_map}
 use Rattle.si_netlist_reader.proofs.LawTextLemmas.{closed, text_back, lines_back, words_dark}

@@ -17,7 +17,7 @@ use Rattle.si_netlist_reader.specs.Loops.Headers.{ReadsHeader, gate_in, signals_
 use Rattle.si_netlist_reader.specs.NetlistFault.{netlist_fault, version_at, version_of, after_version, body, due_in}
 use Rattle.si_netlist_reader.specs.NetlistFault.{due_after, insert_fault, word_fault, names_at}
 use Rattle.si_words.specs.Lines.{Form, words_of}
-use Rattle.si_words.specs.GateLines.{gate_fault}
+use Rattle.si_netlist_reader.specs.GateParts.{gate_fault}
 use Rattle.si_netlist_reader.specs.NetlistValue.{netlist_of, netlist_of_lines, insertion_of}
 use Rattle.si_words.specs.Rows.{Left, all_lines, fault_of, TakesForm}
 use Rattle.si_words.specs.Loops.RowValues.{TakesAll}

@@ -22,16 +22,16 @@ use Rattle.si_netlist_reader.specs.NetlistFault.{due, due_in, netlist_fault, ver
 use Rattle.si_netlist_reader.specs.NetlistFault.{word_fault}
 use Rattle.si_words.specs.Lines.{Form, words_of, rest_of, has_bad_byte_here}
 use Rattle.si_words.specs.Rows.{Left, all_lines, begins_with, fault_of}
-use Rattle.si_words.specs.GateLines.{gate_fault}
-use Rattle.si_netlist_reader.specs.NetlistValue.{gate_of, insertion_of, first_word, code_of_bits, netlist_of}
+use Rattle.si_netlist_reader.specs.GateParts.{gate_fault, gate_of}
+use Rattle.si_netlist_reader.specs.NetlistValue.{insertion_of, first_word, code_of_bits, netlist_of}
 use Rattle.si_netlist_reader.specs.NetlistValue.{netlist_of_lines}
 use Rattle.si_netlist_reader.proofs.LawFitLemmas.{Fits, no_fault}
 use Rattle.si_netlist_reader.proofs.LawTextLemmas.{IsDark, ended_text, tail_text}
 use Rattle.si_netlist_reader.proofs.LawLineLemmas.{AreNames}
 use Rattle.si_netlist_reader.proofs.LawKindLemmas.{signals_by, driven_by, netlist_by, lines_by, lines_are, gate_lines}
 use Rattle.si_netlist_reader.proofs.LawKindLemmas.{inserted_of, driven_of, all_names, driven_names}
-use Rattle.si_netlist_reader.proofs.LawWrittenSumLemmas.{AreDark}
-use Rattle.si_netlist_reader.proofs.LawWrittenGateLemmas.{gate_written, gate_line_good, dark_name}
+use Rattle.si_netlist_reader.proofs.LawWrittenGateLemmas.{AreDark, gate_written}
+use Rattle.si_netlist_reader.proofs.LawWrittenGateLemmas.{gate_line_good, gate_spelled, dark_name}
 use Rattle.si_netlist_reader.proofs.LawWrittenLineLemmas.{model_good, names_good, front_names, signals_named}
 use Rattle.si_netlist_reader.proofs.LawWrittenLineLemmas.{start_good, start_dark, start_spelled, insert_good}
 use Rattle.si_netlist_reader.proofs.ReadLaw.{gates_in, inserts_in, with_rest, gate_rows_at}
@@ -118,7 +118,7 @@ gates_pass signals [] [] are named count is = tt
 gates_pass signals [] (g ∷ gs) are named count is = absurd (omega arith)
 gates_pass signals (x ∷ xs) [] are named count is = absurd (omega arith)
 gates_pass signals (x ∷ xs) (g ∷ gs) are named count is =
-    let written = gate_written signals g are is.0 in (
+    let written = gate_written signals are g is.0 in (
       (gate_line_good signals x.name g written, (dark_name x.name named.0, written.dark), λ none. cc),
       gates_pass signals xs gs are named.1 (omega arith) is.1,
     )
@@ -131,10 +131,10 @@ gates_spelled signals [] [] are named count is = refl
 gates_spelled signals [] (g ∷ gs) are named count is = absurd (omega arith)
 gates_spelled signals (x ∷ xs) [] are named count is = absurd (omega arith)
 gates_spelled signals (x ∷ xs) (g ∷ gs) are named count is =
-    let written = gate_written signals g are is.0 in
+    let written = gate_written signals are g is.0 in
     let words = line_words (x.name ∷ gate_words signals g) (dark_name x.name named.0, written.dark) (λ none. cc) in
     ap₂ (λ (a : Gate) (b : List Gate). a ∷ b)
-    (ap (λ (ws : List (List ℕ)). gate_of (names_in signals) (rest_of ws)) words ∙ written.spelled)
+    (ap (λ (ws : List (List ℕ)). gate_of (names_in signals) (rest_of ws)) words ∙ gate_spelled signals g written)
     (gates_spelled signals xs gs are named.1 (omega arith) is.1)
 
 gates_many : (signals driven : List Signal) (gates : List Gate) → length gates ≡ length driven

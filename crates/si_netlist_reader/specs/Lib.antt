@@ -1,3 +1,4 @@
+pub mod GateParts
 pub mod NetlistFault
 pub mod NetlistValue
 pub mod Loops

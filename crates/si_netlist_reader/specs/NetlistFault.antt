@@ -12,7 +12,7 @@ use Rattle.si_words.specs.Names.{stands_in}
 use Rattle.si_words.specs.Sums.{is_empty, is_one, cut_at}
 use Rattle.si_words.specs.Lines.{Form, words_of, rest_of, names_fault}
 use Rattle.si_words.specs.Rows.{Left, all_lines, begins_with, after_line, fault_of}
-use Rattle.si_words.specs.GateLines.{gate_fault}
+use Rattle.si_netlist_reader.specs.GateParts.{gate_fault}
 
 -- any word but a lone brace
 abbrev pub is_model_word : List ℕ → Bool

@@ -1,45 +1,16 @@
 -- (text) The netlist that a text without fault spells.
 use Rattle.std.specs.Prelude.{ℕ, ◌+◌, ◌*◌, ◌==◌, List, [], ◌∷◌, ◌++◌, length, map, take, drop}
-use Rattle.std.specs.Prelude.{bytes_eq, codes, Option, Some, None, if◌then◌else◌}
-use Rattle.si_base.specs.declared.ids.Literal.{Literal}
+use Rattle.std.specs.Prelude.{codes, Option, Some, None, if◌then◌else◌}
 use Rattle.si_base.specs.declared.graph.SigKind.TheVariants.{Input, Output, Internal, Inserted}
-use Rattle.si_base.specs.Netlist.{Sum, Gate, SumGate, Gc, Cell, Insertion, Netlist}
+use Rattle.si_base.specs.Netlist.{Insertion, Netlist}
 use Rattle.si_base.specs.Bytes.{digit_one}
 use Rattle.si_base.specs.GivenGraph.{signals_of}
-use Rattle.si_words.specs.Sums.{is_one, parts_at, cut_at}
+use Rattle.si_words.specs.Sums.{cut_at}
 use Rattle.si_netlist_reader.specs.NetlistFault.{names_at, body}
 use Rattle.si_words.specs.Lines.{words_of, rest_of}
-use Rattle.si_words.specs.GateLines.{literal_of}
+use Rattle.si_netlist_reader.specs.GateParts.{gate_of}
 
--- ---- gates
-abbrev pub cube_of : List (List ℕ) → List (List ℕ) → List Literal
-cube_of names words = if is_one (codes "1") words then [] else map (literal_of names) words
-
-abbrev pub sum_of : List (List ℕ) → List (List ℕ) → Sum
-sum_of names words = if is_one (codes "0") words then []
-    else map (cube_of names) (parts_at (codes "+") words)
-
-abbrev pub gc_of : List (List ℕ) → Option (List (List ℕ) × List (List ℕ)) → Gate
-gc_of names None = SumGate []
-gc_of names (Some (set, reset)) = Gc (sum_of names set) (sum_of names reset)
-
-abbrev pub instance_of : List (List ℕ) → List (List ℕ) → Sum → Gate
-instance_of names [] sum = SumGate sum
-instance_of names (cell ∷ literals) sum = Cell cell (map (literal_of names) literals) sum
-
-abbrev pub cell_of : List (List ℕ) → Option (List (List ℕ) × List (List ℕ)) → Gate
-cell_of names None = SumGate []
-cell_of names (Some (pins, sum)) = instance_of names pins (sum_of names sum)
-
--- the words after the name of the signal
-abbrev pub gate_of : List (List ℕ) → List (List ℕ) → Gate
-gate_of names [] = SumGate []
-gate_of names (kind ∷ words) =
-    if bytes_eq (codes "sum") kind then SumGate (sum_of names words)
-    else if bytes_eq (codes "gc") kind then gc_of names (cut_at (codes "|") words)
-    else cell_of names (cut_at (codes ":") words)
-
--- ---- the other lines
+-- ---- lines before the gates
 abbrev pub insertion_with : List ℕ → Option (List (List ℕ) × List (List ℕ)) → Insertion
 insertion_with name None = record { name = name; up = []; down = [] }
 insertion_with name (Some (up, down)) = record { name = name; up = up; down = down }

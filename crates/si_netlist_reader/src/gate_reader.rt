@@ -1,57 +1,33 @@
 //! Gates, read from the words of gate lines. Each literal is looked up once.
 
-ghost use Rattle.std.specs.Prelude.{◌≡◌, ◌≤◌, length, codes, ◌<◌, IfOk, IfSome};
-ghost use Rattle.std.specs.Prelude.{MatchResult, None, Some, map};
-ghost use Rattle.std.specs.List.{list_all};
+ghost use Rattle.std.specs.Prelude.{◌≡◌, ◌≤◌, length, codes, IfOk};
+ghost use Rattle.std.specs.Prelude.{MatchResult, None, Some};
 ghost use Rattle.si_base.specs.Limits.{max_signals};
-ghost use Rattle.si_base.specs.Faults.{◌otherwise◌, first_in};
-ghost use Rattle.si_words.specs.GateLines as gates;
+ghost use Rattle.si_base.specs.Netlist as base;
+ghost use Rattle.si_netlist.specs.Loops.Parts.{gate_seen};
+ghost use Rattle.si_netlist_reader.specs.GateParts as gates;
+ghost use Rattle.si_netlist_reader.specs.Loops.Headers.{gate_in};
+ghost use Rattle.si_tokens.specs.LineParts.{made, each};
+ghost use Rattle.si_tokens.specs.SumParts.{literal_part};
 ghost use Rattle.si_words.specs.Loops.Reads.{words_now};
 ghost use Rattle.si_words.specs.Sums as sums;
-ghost use Rattle.si_base.specs.Netlist as base;
-ghost use Rattle.si_netlist_reader.specs.Loops.Headers.{gate_in};
-ghost use Rattle.si_netlist_reader.specs.NetlistValue as value;
-ghost use Rattle.si_netlist.specs.Loops.Parts.{gate_seen};
-ghost use Rattle.si_netlist_reader.specs.Loops.Reading.{Reads};
 
 use si_base::fault::TextKind;
-use si_base::ids::{Code, Literal, NoMemory, Sig};
+use si_base::ids::{Code, Literal, NoMemory};
 use si_base::names::Names;
 use si_base::text::Name;
 use si_cube::cube::Cube;
 use si_cube::sum::Sum;
 use si_netlist::gate::Gate;
+use si_tokens::literals::read_literal;
 use si_words::gate_lines::{cut_at, is_one, parts_of};
-use si_words::lists::place_of;
-use si_words::words::{is_signal_name, literal_name};
+use si_words::words::is_signal_name;
 use std::alloc::Global;
-
-/// The literal of a word.
-fn read_literal(signals: &Names, word: &[u8]) -> Option<Result<Literal, TextKind>>
-    requires { length signals.now ≤ max_signals }
-    ensures read { Reads (λ l. l) (sums.is_literal word.now) (gates.pin_fault signals.now word.now)
-        (gates.literal_of signals.now word.now) result }
-    ensures within { IfSome result (λ read. IfOk read (λ l. l.sig < max_signals)) }
-{
-    let name = literal_name(word);
-    if !is_signal_name(name) {
-        return None;
-    }
-    match place_of(signals, name) {
-        Some(place) => Some(Ok(Literal {
-            sig: Sig(place as u8),
-            plain: word == name,
-        })),
-        None => Some(Err(TextKind::Undeclared)),
-    }
-}
 
 /// The cube of words: `1`, or literals whose signals rise.
 fn read_cube(signals: &Names, words: &[&[u8]]) -> Option<Result<Cube, TextKind>>
     requires { length signals.now ≤ max_signals }
-    ensures { Reads (λ cube. cube) (sums.is_cube (words_now words.now))
-        (gates.sum_fault signals.now (words_now words.now))
-        (value.cube_of signals.now (words_now words.now)) result }
+    ensures { result ≡ gates.cube_part signals.now (words_now words.now) }
 {
     let mut care = Code(0);
     let mut value = Code(0);
@@ -65,36 +41,23 @@ fn read_cube(signals: &Names, words: &[&[u8]]) -> Option<Result<Cube, TextKind>>
     let mut next = 0;
     let mut fault = None;
     for word in words {
-        let literal = read_literal(signals, *word)?;
-        if fault.is_some() {
-            continue;
-        }
-        let literal = match literal {
-            Ok(literal) => literal,
-            Err(kind) => {
-                fault = Some(kind);
-                continue;
+        match read_literal(signals, *word)? {
+            Err(kind) => fault = fault.or(Some(kind)),
+            Ok(literal) => {
+                if literal.sig.0 < next {
+                    fault = fault.or(Some(TextKind::BadLine));
+                    continue;
+                }
+                care = care.set(literal.sig, true);
+                value = value.set(literal.sig, literal.plain);
+                next = literal.sig.0 + 1;
             }
-        };
-        if literal.sig.0 < next {
-            fault = Some(TextKind::BadLine);
-            continue;
         }
-        care = care.set(literal.sig, true);
-        value = value.set(literal.sig, literal.plain);
-        next = literal.sig.0 + 1;
     }
     match fault {
         Some(kind) => Some(Err(kind)),
         None => Some(Ok(Cube { care, value })),
     }
-}
-
-/// The first of two faults, of which there may be no earlier one.
-fn first_fault(earlier: Option<TextKind>, later: TextKind) -> TextKind
-    ensures { Some result ≡ (earlier otherwise Some later) }
-{
-    earlier.unwrap_or(later)
 }
 
 /// The sum of words: `0`, or cubes with `+` between them.
@@ -104,9 +67,7 @@ fn read_sum(
     words: &[&[u8]],
 ) -> Result<Option<Result<Sum, TextKind>>, NoMemory>
     requires { length signals.now ≤ max_signals }
-    ensures { IfOk result (Reads (λ sum. sum) (sums.is_sum (words_now words.now))
-        (gates.sum_fault signals.now (words_now words.now))
-        (value.sum_of signals.now (words_now words.now))) }
+    ensures { IfOk result (λ read. read ≡ gates.sum_part signals.now (words_now words.now)) }
 {
     if is_one(b"0", words) {
         return Ok(Some(Ok(Sum::new(Vec::new(alloc)))));
@@ -118,14 +79,10 @@ fn read_sum(
         let Some(cube) = read_cube(signals, *part) else {
             return Ok(None);
         };
-        let cube = match cube {
-            Ok(cube) => cube,
-            Err(kind) => {
-                fault = Some(first_fault(fault, kind));
-                continue;
-            }
-        };
-        cubes.push(cube)?;
+        match cube {
+            Err(kind) => fault = fault.or(Some(kind)),
+            Ok(cube) => cubes.push(cube)?,
+        }
     }
     match fault {
         Some(kind) => Ok(Some(Err(kind))),
@@ -140,9 +97,8 @@ fn read_sum_gate(
     words: &[&[u8]],
 ) -> Result<Option<Result<Gate, TextKind>>, NoMemory>
     requires { length signals.now ≤ max_signals }
-    ensures { IfOk result (Reads gate_seen (sums.is_sum (words_now words.now))
-        (gates.sum_fault signals.now (words_now words.now))
-        (base.SumGate (value.sum_of signals.now (words_now words.now)))) }
+    ensures { IfOk result (λ read. made gate_seen read
+        ≡ made base.SumGate (gates.sum_part signals.now (words_now words.now))) }
 {
     match read_sum(alloc, signals, words)? {
         None => Ok(None),
@@ -158,10 +114,8 @@ fn read_gc(
     words: &[&[u8]],
 ) -> Result<Option<Result<Gate, TextKind>>, NoMemory>
     requires { length signals.now ≤ max_signals }
-    ensures { IfOk result
-        (Reads gate_seen (gates.are_sums (sums.cut_at (codes "|") (words_now words.now)))
-        (gates.sum_fault signals.now (words_now words.now))
-        (value.gc_of signals.now (sums.cut_at (codes "|") (words_now words.now)))) }
+    ensures { IfOk result (λ read. made gate_seen read
+        ≡ gates.gc_part signals.now (sums.cut_at (codes "|") (words_now words.now))) }
 {
     let Some((set, reset)) = cut_at(b"|", words) else {
         return Ok(None);
@@ -186,10 +140,8 @@ fn read_literals(
     words: &[&[u8]],
 ) -> Result<Option<Result<Vec<Literal>, TextKind>>, NoMemory>
     requires { length signals.now ≤ max_signals }
-    ensures { IfOk result
-        (Reads (λ literals. literals.items) (list_all sums.is_literal (words_now words.now))
-        (first_in (gates.pin_fault signals.now) (words_now words.now))
-        (map (gates.literal_of signals.now) (words_now words.now))) }
+    ensures { IfOk result (λ read. made (λ literals. literals.items) read
+        ≡ each (literal_part signals.now) (words_now words.now)) }
 {
     let mut literals = Vec::new(alloc);
     let mut fault = None;
@@ -197,14 +149,10 @@ fn read_literals(
         let Some(literal) = read_literal(signals, *word) else {
             return Ok(None);
         };
-        let literal = match literal {
-            Ok(literal) => literal,
-            Err(kind) => {
-                fault = Some(first_fault(fault, kind));
-                continue;
-            }
-        };
-        literals.push(literal)?;
+        match literal {
+            Err(kind) => fault = fault.or(Some(kind)),
+            Ok(literal) => literals.push(literal)?,
+        }
     }
     match fault {
         Some(kind) => Ok(Some(Err(kind))),
@@ -219,10 +167,8 @@ fn read_cell(
     words: &[&[u8]],
 ) -> Result<Option<Result<Gate, TextKind>>, NoMemory>
     requires { length signals.now ≤ max_signals }
-    ensures { IfOk result
-        (Reads gate_seen (gates.are_pins_and_sum (sums.cut_at (codes ":") (words_now words.now)))
-        (gates.cell_fault signals.now (sums.cut_at (codes ":") (words_now words.now)))
-        (value.cell_of signals.now (sums.cut_at (codes ":") (words_now words.now)))) }
+    ensures { IfOk result (λ read. made gate_seen read
+        ≡ gates.cell_part signals.now (sums.cut_at (codes ":") (words_now words.now))) }
 {
     let Some((pins, sum)) = cut_at(b":", words) else {
         return Ok(None);
@@ -257,9 +203,8 @@ fn read_gate(
     words: &[&[u8]],
 ) -> Result<Option<Result<Gate, TextKind>>, NoMemory>
     requires { length signals.now ≤ max_signals }
-    ensures { IfOk result (Reads gate_seen (gates.is_gate (words_now words.now))
-        (gates.literals_fault signals.now (words_now words.now))
-        (value.gate_of signals.now (words_now words.now))) }
+    ensures { IfOk result
+        (λ read. made gate_seen read ≡ gates.gate_part signals.now (words_now words.now)) }
 {
     let [kind, rest @ ..] = words else {
         return Ok(None);

@@ -3,7 +3,7 @@
 ghost use Rattle.std.specs.Prelude.{◌≤◌, List, length, IfOk, map, drop, ◌++◌, ◌∷◌};
 ghost use Rattle.si_base.specs.Limits.{max_signals};
 ghost use Rattle.si_base.specs.TextFaults.{ToldBy};
-ghost use Rattle.si_words.specs.GateLines.{gate_fault};
+ghost use Rattle.si_netlist_reader.specs.GateParts.{gate_fault};
 ghost use Rattle.si_words.specs.Lines.{Form};
 ghost use Rattle.si_words.specs.Loops.RowValues.{TakesValue, TakesAll};
 ghost use Rattle.si_words.specs.Rows.{fault_of};

@@ -1,3 +1,5 @@
 pub mod Unread
 pub mod Decimal
+pub mod LineParts
+pub mod SumParts
 pub mod Loops

@@ -1,10 +1,8 @@
 -- Words.
 use Rattle.std.proofs.Common.{◌≡◌, ℕ, ◌-◌, ◌==◌, Bool, false, List, [], ◌∷◌, ◌++◌, length, take, suc, ◌+◌}
-use Rattle.std.proofs.Common.{drop, map, refl, ap, ◌∙◌, arith, Some, inl, inr}
-use Rattle.si_words.specs.GateLines.{last_of}
+use Rattle.std.proofs.Common.{drop, map, refl, ap, ◌∙◌, arith, inl, inr}
 use Rattle.std.specs.List.{list_any, slice_split, prefix_len, onto_first}
 use Rattle.std.proofs.lemmas.Bool.{cases_Bool}
-use Rattle.si_base.specs.Words as words
 use Rattle.si_words.specs.Sums.{literal_name}
 
 pub list_any-map : {A B : Type 0} (f : A → B) (p : B → Bool) (xs : List A)
@@ -42,11 +40,6 @@ slice_split-map {A = A} f p (x ∷ xs) = elim (cases_Bool (p (f x))) [
   | inl yes_it ↦ rw (yes_it, slice_split-map f p xs) refl
   | inr no_it ↦ rw (no_it, onto_first-map f x (slice_split (λ (y : A). p (f y)) xs), slice_split-map f p xs) refl
 ]
-
-pub last_pushed : {A : Type 0} (xs : List A) (x : A) → last_of (xs ++ x ∷ []) ≡ Some x
-last_pushed [] x = refl
-last_pushed (y ∷ []) x = refl
-last_pushed (y ∷ z ∷ xs) x = last_pushed (z ∷ xs) x
 
 -- what a pattern with a rest gives as the rest
 pub tail_is : {A : Type 0} (xs : List A) → take (length xs - 1) (drop 1 xs) ≡ drop 1 xs

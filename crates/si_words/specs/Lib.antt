@@ -2,7 +2,6 @@ pub mod Names
 pub mod Events
 pub mod Sums
 pub mod Lines
-pub mod GateLines
 pub mod Rows
 pub mod Ends
 pub mod Loops

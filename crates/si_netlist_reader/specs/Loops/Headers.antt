@@ -7,7 +7,8 @@ use Rattle.si_base.specs.GivenGraph.{signals_of}
 use Rattle.si_netlist_reader.specs.declared.header.Header.{Header}
 use Rattle.si_netlist_reader.specs.NetlistFault.{due_in, due_after, names_at}
 use Rattle.si_words.specs.Lines.{rest_of}
-use Rattle.si_netlist_reader.specs.NetlistValue.{first_word, code_of_bits, gate_of}
+use Rattle.si_netlist_reader.specs.GateParts.{gate_of}
+use Rattle.si_netlist_reader.specs.NetlistValue.{first_word, code_of_bits}
 use Rattle.si_words.specs.Rows.{Left, fault_of}
 
 -- the model's name, by the words of its line

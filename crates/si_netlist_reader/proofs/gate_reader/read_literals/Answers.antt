@@ -1,31 +1,20 @@
-use Rattle.si_words.specs.GateLines.{pin_fault, literal_of}
-use Rattle.si_words.specs.Loops.Reads.{words_now}
-use Rattle.si_words.specs.Sums.{is_literal}
-use Rattle.si_netlist_reader.proofs.PartLemmas.{without_form, good_part, bad_part, reads_fault, reads_value}
-use Rattle.si_netlist_reader.proofs.PartLemmas.{word_within, word_at}
+use Rattle.std.proofs.Common.{List, ℕ, Bor, Some, sym, ap, ◌∙◌}
+use Rattle.si_tokens.specs.SumParts.{literal_part}
+use Rattle.si_tokens.proofs.LinePartLemmas.{with_fault, with_value}
 use Rattle.si_netlist_reader.proofs.gate_reader.read_literals.Goals as goal
-
-pub returns-in_default : goal.returns-in_default
-returns-in_default c =
-    without_form is_literal (pin_fault c.args.signals.now) (literal_of c.args.signals.now)
-    (words_now c.args.words.now) c.loop-word.word-index _
-    (word_within c.args.words.now _ c.loop-word-test.true) (word_at c.args.words.now _ _ c.loop-word-test.true)
-    c.in_default.ensures.read
-
-pub loop-word-preserved-in-Err : goal.loop-word-preserved-in-Err
-loop-word-preserved-in-Err c =
-    let read = reads_fault _ _ _ _ c.in-Some.literal c.in-Err.kind c.in-Err.is c.in-Some.ensures.read in
-    bad_part is_literal (pin_fault c.args.signals.now) (literal_of c.args.signals.now)
-    (words_now c.args.words.now) c.loop-word.word-index _
-    (word_within c.args.words.now _ c.loop-word-test.true) (word_at c.args.words.now _ _ c.loop-word-test.true)
-    c.loop-word.literals.items c.loop-word.fault c.in-Err.kind c.first_fault.result
-    read.0 read.1 c.first_fault.ensures c.loop-word.invariant
+use Rattle.si_netlist_reader.proofs.gate_reader.read_literals.Goals.{in-Err, in-Ok+in_ok-push-in-Ok}
 
 pub loop-word-preserved : goal.loop-word-preserved
 loop-word-preserved c =
-    let read = reads_value _ _ _ _ c.in-Some.literal c.in-Ok.literal c.in-Ok.is c.in-Some.ensures.read in
-    good_part is_literal (pin_fault c.args.signals.now) (literal_of c.args.signals.now)
-    (words_now c.args.words.now) c.loop-word.word-index _
-    (word_within c.args.words.now _ c.loop-word-test.true) (word_at c.args.words.now _ _ c.loop-word-test.true)
-    c.loop-word.literals.items c.push.new.self.items c.in-Ok.literal c.loop-word.fault
-    read.0 read.1 read.2 c.in_ok-push.ensures.items c.loop-word.invariant
+    let now : Bor (List ℕ) → List ℕ = λ w. w.now in
+    let read = sym c.in-Some.ensures.read in
+    elim c.match-literal.branch [
+      | in-Err w ↦ rw (w.literals-is, w.fault-is, w.or-fault.ensures)
+          (sym (with_fault (λ before. literal_part c.args.signals.now) now c.loop-word.literals.items c.loop-word.fault
+          c.args.words.now c.loop-word.word-index _ c.loop-word-test.true w.in-Err.kind
+          (read ∙ ap (λ r. Some r) w.in-Err.is)) ∙ c.loop-word.invariant)
+      | in-Ok+in_ok-push-in-Ok w ↦ rw (w.literals-is, w.fault-is, w.in_ok-push-in-Ok.ensures.items)
+          (sym (with_value (λ before. literal_part c.args.signals.now) now c.loop-word.literals.items c.loop-word.fault
+          c.args.words.now c.loop-word.word-index _ c.loop-word-test.true w.in-Ok.literal
+          (read ∙ ap (λ r. Some r) w.in-Ok.is)) ∙ c.loop-word.invariant)
+    ]

@@ -1,9 +1,10 @@
-use Rattle.si_words.specs.GateLines.{pin_fault, literal_of}
+use Rattle.std.proofs.Common.{◌≡◌, drop}
+use Rattle.si_tokens.specs.LineParts.{each, each_after, held}
 use Rattle.si_words.specs.Loops.Reads.{words_now}
-use Rattle.si_words.specs.Sums.{is_literal}
-use Rattle.si_netlist_reader.proofs.PartLemmas.{InParts}
+use Rattle.si_tokens.specs.SumParts.{literal_part}
 use Rattle.si_netlist_reader.proofs.gate_reader.read_literals.Given as goal
 
 abbrev pub invariant-loop-word : goal.invariant-loop-word
-invariant-loop-word l = InParts is_literal (pin_fault l.signals) (literal_of l.signals)
-    (words_now l.words) l.word-index l.literals.items l.fault
+invariant-loop-word l = held l.fault
+    (each_after (λ before. literal_part l.signals) l.literals.items (words_now (drop l.word-index l.words)))
+    ≡ each (literal_part l.signals) (words_now l.words)

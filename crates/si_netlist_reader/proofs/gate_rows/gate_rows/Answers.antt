@@ -1,6 +1,6 @@
 use Rattle.std.proofs.Common.{◌≤◌, length, arith, ap, ◌∙◌, map}
 use Rattle.std.proofs.lemmas.Result.{err_from_is_err_and}
-use Rattle.si_words.specs.GateLines.{gate_fault}
+use Rattle.si_netlist_reader.specs.GateParts.{gate_fault}
 use Rattle.si_netlist_reader.specs.Loops.Headers.{gate_in}
 use Rattle.si_netlist.specs.Loops.Parts.{gate_seen}
 use Rattle.std.proofs.lemmas.List.{map_push}

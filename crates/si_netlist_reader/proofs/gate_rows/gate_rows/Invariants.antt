@@ -1,6 +1,6 @@
 use Rattle.std.proofs.Common.{map}
 use Rattle.si_netlist_reader.specs.Loops.Headers.{gate_in}
-use Rattle.si_words.specs.GateLines.{gate_fault}
+use Rattle.si_netlist_reader.specs.GateParts.{gate_fault}
 use Rattle.si_netlist.specs.Loops.Parts.{gate_seen}
 use Rattle.si_netlist_reader.proofs.RowLoopLemmas.{Doing}
 use Rattle.si_netlist_reader.proofs.gate_rows.gate_rows.Given as goal
