@@ -13,7 +13,7 @@ use Rattle.si_base.specs.Sets.{IsIn}
 use Rattle.si_base.proofs.StepCodes.{step_within}
 use Rattle.si_graph.specs.Loops.Arcs.{AreOut, edge_at, no_edge}
 use Rattle.si_graph.specs.Loops.Reach.{Marks, MarksAll}
-use Rattle.si_graph.proofs.SearchLemmas.{Explores, in_none, marks_all_as, marks_both, marks_same}
+use Rattle.si_graph.proofs.SearchLemmas.{Explores, in_none, marks_all_as, marks_both}
 use Rattle.si_walks.specs.Twins.{AreTwinPairs, AreTwins, MovesLead, Move, OfFirst, OfSecond, OfBoth, pair_number}
 use Rattle.si_walks.specs.Twins.{IsFirstTwinOrNone, IsTwinConflict, max_twin_states}
 use Rattle.si_base.specs.Order.{Before}
@@ -23,12 +23,6 @@ use Rattle.si_walks.specs.Loops.TwinMoves.{BothMove, ByStep, FirstMoves, IsDiago
 use Rattle.si_walks.specs.Loops.TwinMoves.{none_of}
 
 -- ---- what a call marks
--- nothing, where there is nothing to mark
-pub none_taken : (Q : ℕ → Type 0) (marks : List Bool) (work : List ℕ) → ((l : ℕ) → Q l → ⊥)
-    → MarksAll Q marks work marks work
-none_taken Q marks work none =
-    record { marks_are = marks_same Q marks work; all = λ l has. absurd (none l has) }
-
 -- one call after the other
 pub both_taken : (Q R : ℕ → Type 0) (a : List Bool) (w : List ℕ) (b : List Bool) (v : List ℕ) (d : List Bool)
     (u : List ℕ) → MarksAll Q a w b v → MarksAll R b v d u → MarksAll (λ l. Q l ⊎ R l) a w d u
