@@ -3,13 +3,9 @@
 ghost use Rattle.std.specs.Prelude.{ℕ};
 ghost use Rattle.si_walks.specs.Joined.{IsJoinedConflict};
 ghost use Rattle.si_walks.specs.Laws.{JoinedConflictStays, KeptJoinedConflictStays};
-<<<<<<< HEAD
-ghost use Rattle.si_walks.specs.Laws.{JoinedIsNeverResolved, WalkJoinsConflict};
-ghost use Rattle.si_walks.specs.Twins.{JoinedIsTwin, TwinIsNeverResolved};
-=======
 ghost use Rattle.si_walks.specs.Laws.{JoinedIsNeverResolved, WalkJoinsConflict, WaysAreFirstWalks};
 ghost use Rattle.si_walks.specs.Laws.{WaysAreUnique, WaysExist};
->>>>>>> 506f3d112afd903e8b6197fee0c0c27056d5ed27
+ghost use Rattle.si_walks.specs.Twins.{JoinedIsTwin, TwinIsNeverResolved};
 
 use si_insert::resolved::Resolved;
 
@@ -30,19 +26,18 @@ pub fn resolved_has_none(resolved: &Resolved)
     let _trace = lineage.trace();
 }
 
-<<<<<<< HEAD
-/// Nothing that is inserted resolves a conflict to whose two states moves of twins lead from one
-/// state: an input waits for nothing, and at two states of one code the circuit does the same. A
-/// conflict whose states input events join is one of these.
-pub fn twin_conflicts()
-    ensures never_resolved { TwinIsNeverResolved }
-    ensures joined { JoinedIsTwin }
-=======
 /// Each state of a graph has one first path from the start, and in a deterministic graph the events
 /// of this are the first walk.
 pub fn first_paths()
     ensures unique { WaysAreUnique }
     ensures exist { WaysExist }
     ensures walks { WaysAreFirstWalks }
->>>>>>> 506f3d112afd903e8b6197fee0c0c27056d5ed27
+{}
+
+/// Nothing that is inserted resolves a conflict to whose two states moves of twins lead from one
+/// state: an input waits for nothing, and at two states of one code the circuit does the same. A
+/// conflict whose states input events join is one of these.
+pub fn twin_conflicts()
+    ensures never_resolved { TwinIsNeverResolved }
+    ensures joined { JoinedIsTwin }
 {}

@@ -6,10 +6,7 @@ pub mod arcs;
 pub mod distances;
 pub mod laws;
 mod sources;
-<<<<<<< HEAD
-pub mod twin_pairs;
-=======
 pub mod tree;
->>>>>>> 506f3d112afd903e8b6197fee0c0c27056d5ed27
+pub mod twin_pairs;
 pub mod walk;
 pub mod witness;
