@@ -1,175 +1,155 @@
 -- No two forms overlap: words ask for one command at most.
 use Rattle.std.proofs.Common.{◌≡◌, ℕ, zero, suc, ◌<◌, List, [], ◌∷◌, length, get_or, refl, sym, ap, ap₂, subst}
-use Rattle.std.proofs.Common.{◌∙◌, arith, inl, inr, Bool, true, false, ◌&&◌, not, bytes_eq, String, Global}
-use Rattle.std.proofs.lemmas.Bool.{cases_lt, not-true, and_from, and_parts}
+use Rattle.std.proofs.Common.{◌∙◌, arith, inl, inr, Bool, true, false, ◌&&◌, ◌||◌, not, bytes_eq, String, Global}
+use Rattle.std.proofs.lemmas.Bool.{cases_lt, not-true, and_parts}
 use Rattle.std.proofs.lemmas.Slice.Eq.{bytes_eq-Decides}
-use Rattle.std.specs.List.{list_all}
-use Rattle.si_tool.specs.Command.{Slot, Word, File, fill, form_of, HasForm, Request, Asks, words_of}
-use Rattle.si_tool.specs.declared.command.Task.{Task}
-use Rattle.si_tool.specs.declared.command.TheConstants.{TASKS}
-use Rattle.si_tool.proofs.CommandTasks.{each_listed, first_task}
+use Rattle.std.specs.List.{list_all, list_any}
+use Rattle.si_words.specs.Names.{stands_in}
+use Rattle.si_tool.specs.Command.{Slot, Word, File, OneOf, form_of, HasForm, Request, Asks, tasks, words_of}
+use Rattle.si_tool.specs.declared.task.Task.{Task}
+use Rattle.si_tool.proofs.CommandTasks.{each_listed, first_task, meets, overlaps, task_at}
+use Rattle.si_tool.proofs.FormLemmas.{Stands, with_file, with_choice, begins, not_without_words}
 
 -- ---- the test
-abbrev meets : Slot → Slot → Bool
-meets (Word x) (Word y) = bytes_eq x y
-meets slot other = true
-
--- some words may have both forms
-abbrev overlaps : List Slot → List Slot → Bool
-overlaps [] [] = true
-overlaps (slot ∷ form) (other ∷ others) = meets slot other && overlaps form others
-overlaps form others = false
-
 abbrev none_overlaps : List Task → Bool
 none_overlaps [] = true
-none_overlaps (task ∷ tasks) =
-    list_all (λ other. not (overlaps (form_of task) (form_of other))) tasks && none_overlaps tasks
+none_overlaps (task ∷ later) =
+    list_all (λ other. not (overlaps (form_of task) (form_of other))) later && none_overlaps later
 
-tasks_apart : none_overlaps TASKS ≡ true
+tasks_apart : none_overlaps tasks ≡ true
 tasks_apart = refl
 
 -- ---- words with both of two forms
-abbrev Stands : Slot → List ℕ → Type 0
-Stands (Word own) word = word ≡ own
-Stands File word = Unit {0}
+or_left : (a b : Bool) → a ≡ true → (a || b) ≡ true
+or_left true b holds = refl
+or_left false b holds = cc
 
--- the files with that of a place
-abbrev with_slot : Slot → (word : List ℕ) → List (List ℕ) → List (List ℕ)
-with_slot (Word own) word files = files
-with_slot File word files = word ∷ files
+or_right : (a b : Bool) → b ≡ true → (a || b) ≡ true
+or_right true b holds = refl
+or_right false b holds = holds
 
-record Split (slot : Slot) (form : List Slot) (words files : List (List ℕ)) : Type 0 where
-  word : List ℕ
-  later : List (List ℕ)
-  rest : List (List ℕ)
-  words_are : words ≡ word ∷ later
-  files_are : files ≡ with_slot slot word rest
-  stands : Stands slot word
-  has : HasForm form later rest
+both_true : (a b : Bool) → a ≡ true → b ≡ true → elim a [ true ↦ b | false ↦ false ] ≡ true
+both_true true b one two = two
+both_true false b one two = one
 
-split : (slot : Slot) (form : List Slot) (words files : List (List ℕ)) → HasForm (slot ∷ form) words files
-    → Split slot form words files
-split (Word own) form words files has = record {
-  word = own;
-  later = fill form files;
-  rest = files;
-  words_are = has.0;
-  files_are = refl;
-  stands = refl;
-  has = (refl, has.1);
-}
-split File form words [] has = absurd (omega (arith, has.1))
-split File form words (file ∷ files) has = record {
-  word = file;
-  later = fill form files;
-  rest = files;
-  words_are = has.0;
-  files_are = refl;
-  stands = tt;
-  has = (refl, omega (arith, has.1));
-}
+one_of_both : (words others : List (List ℕ)) (word : List ℕ) → stands_in words word ≡ true
+    → stands_in others word ≡ true → list_any (λ w. stands_in others w) words ≡ true
+one_of_both [] others word one two = cc
+one_of_both (own ∷ words) others word one two = first (bytes_eq word own) refl (one_of_both words others word)
+  where
+    first : (b : Bool) → bytes_eq word own ≡ b
+        → (stands_in words word ≡ true → stands_in others word ≡ true → list_any (λ w. stands_in others w) words ≡ true)
+        → (stands_in others own || list_any (λ w. stands_in others w) words) ≡ true
+    first true is later =
+        let same : word ≡ own = (bytes_eq-Decides word own).0 is in
+        or_left (stands_in others own) _ (subst (λ (w : List ℕ). stands_in others w ≡ true) same two)
+    first false is later = or_right (stands_in others own) _ (later (rw is at one) two)
 
-both_meet : (slot other : Slot) (x y : List ℕ) → x ≡ y → Stands slot x → Stands other y → meets slot other ≡ true
-both_meet (Word a) (Word b) x y same one two = (bytes_eq-Decides a b).1 (sym one ∙ same ∙ two)
-both_meet (Word a) File x y same one two = refl
-both_meet File other x y same one two = refl
+both_meet : (slot other : Slot) (word : List ℕ) → Stands slot word → Stands other word → meets slot other ≡ true
+both_meet (Word a) (Word b) word one two = (bytes_eq-Decides a b).1 (sym one ∙ two)
+both_meet (Word a) (File name) word one two = refl
+both_meet (Word a) (OneOf name words) word one two = rw (sym one) two
+both_meet (File name) other word one two = refl
+both_meet (OneOf name words) (Word b) word one two = rw (sym two) one
+both_meet (OneOf name words) (File other) word one two = refl
+both_meet (OneOf name words) (OneOf other others) word one two = one_of_both words others word one two
 
-both_overlap : (form other : List Slot) (words files others : List (List ℕ)) → HasForm form words files
-    → HasForm other words others → overlaps form other ≡ true
-both_overlap [] [] words files others one two = refl
-both_overlap [] (slot ∷ other) words files others one two =
-    let second = split slot other words others two in
-    let none = one.0 in
-    let some = second.words_are in
-    cc
-both_overlap (slot ∷ form) [] words files others one two =
-    let first = split slot form words files one in
-    let none = two.0 in
-    let some = first.words_are in
-    cc
-both_overlap (slot ∷ form) (place ∷ other) words files others one two =
-    let first = split slot form words files one in
-    let second = split place other words others two in
-    let same = sym first.words_are ∙ second.words_are in
-    let heads : first.word ≡ second.word = cc in
-    let tails : second.later ≡ first.later = cc in
-    let has = subst (λ (ws : List (List ℕ)). HasForm other ws second.rest) tails second.has in
-    and_from (meets slot place) (overlaps form other)
-    (both_meet slot place first.word second.word heads first.stands second.stands)
-    (both_overlap form other first.later first.rest second.rest first.has has)
+both_overlap : (form other : List Slot) (words files choices others later : List (List ℕ))
+    → HasForm form words files choices → HasForm other words others later → overlaps form other ≡ true
+both_overlap [] [] words files choices others later one two = refl
+both_overlap [] (slot ∷ other) words files choices others later one two =
+    absurd (not_without_words slot other others later (subst (λ (ws : List (List ℕ)). HasForm (slot ∷ other) ws others later) one.0 two))
+both_overlap (slot ∷ form) [] words files choices others later one two =
+    absurd (not_without_words slot form files choices (subst (λ (ws : List (List ℕ)). HasForm (slot ∷ form) ws files choices) two.0 one))
+both_overlap (slot ∷ form) (place ∷ other) [] files choices others later one two =
+    absurd (not_without_words slot form files choices one)
+both_overlap (slot ∷ form) (place ∷ other) (word ∷ words) files choices others later one two =
+    let first = begins slot form word words files choices one in
+    let second = begins place other word words others later two in
+    let rest = both_overlap form other words first.later_files first.later_choices second.later_files
+    second.later_choices first.has second.has in
+    both_true (meets slot place) (overlaps form other) (both_meet slot place word first.stands second.stands) rest
 
-same_with : (slot : Slot) (word other : List ℕ) (rest others : List (List ℕ)) → word ≡ other → rest ≡ others
-    → with_slot slot word rest ≡ with_slot slot other others
-same_with slot word other rest others same tails = cc
+-- words name the files of one form in one way, and choose in one way
+nothing_given : (words files choices : List (List ℕ)) → HasForm [] words files choices → (files ≡ []) × (choices ≡ [])
+nothing_given words [] [] has = (refl, refl)
+nothing_given words [] (choice ∷ choices) has = absurd has.1
+nothing_given words (file ∷ files) choices has = absurd has.1
 
--- words name the files of one form in one way
-same_files : (form : List Slot) (words files others : List (List ℕ)) → HasForm form words files
-    → HasForm form words others → files ≡ others
-same_files [] words [] [] one two = refl
-same_files [] words (file ∷ files) others one two = absurd (omega (arith, one.1))
-same_files [] words [] (file ∷ others) one two = absurd (omega (arith, two.1))
-same_files (slot ∷ form) words files others one two =
-    let first = split slot form words files one in
-    let second = split slot form words others two in
-    let same = sym first.words_are ∙ second.words_are in
-    let heads : first.word ≡ second.word = cc in
-    let tails : second.later ≡ first.later = cc in
-    let has = subst (λ (ws : List (List ℕ)). HasForm form ws second.rest) tails second.has in
-    let rests = same_files form first.later first.rest second.rest first.has has in
-    first.files_are ∙ same_with slot first.word second.word first.rest second.rest heads rests ∙ sym second.files_are
+same_given : (form : List Slot) (words files choices others later : List (List ℕ)) → HasForm form words files choices
+    → HasForm form words others later → (files ≡ others) × (choices ≡ later)
+same_given [] words files choices others later one two =
+    let none = nothing_given words files choices one in
+    let also = nothing_given words others later two in
+    (none.0 ∙ sym also.0, none.1 ∙ sym also.1)
+same_given (slot ∷ form) [] files choices others later one two = absurd (not_without_words slot form files choices one)
+same_given (slot ∷ form) (word ∷ words) files choices others later one two =
+    let first = begins slot form word words files choices one in
+    let second = begins slot form word words others later two in
+    let rest = same_given form words first.later_files first.later_choices second.later_files second.later_choices
+    first.has second.has in
+    let file_of : List (List ℕ) → List (List ℕ) = λ names. with_file slot word names in
+    let choice_of : List (List ℕ) → List (List ℕ) = λ names. with_choice slot word names in (
+      first.files_are ∙ ap file_of rest.0 ∙ sym second.files_are,
+      first.choices_are ∙ ap choice_of rest.1 ∙ sym second.choices_are,
+    )
 
 -- ---- what the test shows
-one_of_all : (p : Task → Bool) (tasks : List Task) (place : ℕ) → list_all p tasks ≡ true → place < length tasks
-    → p (get_or tasks place first_task) ≡ true
+one_of_all : (p : Task → Bool) (later : List Task) (place : ℕ) → list_all p later ≡ true → place < length later
+    → p (get_or later place first_task) ≡ true
 one_of_all p [] place all below = absurd (omega (arith, below))
-one_of_all p (task ∷ tasks) zero all below = (and_parts (p task) (list_all p tasks) all).0
-one_of_all p (task ∷ tasks) (suc place) all below =
-    one_of_all p tasks place (and_parts (p task) (list_all p tasks) all).1 (omega (arith, below))
+one_of_all p (task ∷ later) zero all below = (and_parts (p task) (list_all p later) all).0
+one_of_all p (task ∷ later) (suc place) all below =
+    one_of_all p later place (and_parts (p task) (list_all p later) all).1 (omega (arith, below))
 
-apart : (tasks : List Task) (i j : ℕ) → none_overlaps tasks ≡ true → i < j → j < length tasks
-    → overlaps (form_of (get_or tasks i first_task)) (form_of (get_or tasks j first_task)) ≡ false
+apart : (later : List Task) (i j : ℕ) → none_overlaps later ≡ true → i < j → j < length later
+    → overlaps (form_of (get_or later i first_task)) (form_of (get_or later j first_task)) ≡ false
 apart [] i j none before below = absurd (omega (arith, below))
-apart (task ∷ tasks) i zero none before below = absurd (omega (arith, before))
-apart (task ∷ tasks) zero (suc j) none before below =
+apart (task ∷ later) i zero none before below = absurd (omega (arith, before))
+apart (task ∷ later) zero (suc j) none before below =
     let test : Task → Bool = λ other. not (overlaps (form_of task) (form_of other)) in
-    let all = (and_parts (list_all test tasks) (none_overlaps tasks) none).0 in
-    not-true _ (one_of_all test tasks j all (omega (arith, below)))
-apart (task ∷ tasks) (suc i) (suc j) none before below =
+    let all = (and_parts (list_all test later) (none_overlaps later) none).0 in
+    not-true _ (one_of_all test later j all (omega (arith, below)))
+apart (task ∷ later) (suc i) (suc j) none before below =
     let test : Task → Bool = λ other. not (overlaps (form_of task) (form_of other)) in
-    let rest = (and_parts (list_all test tasks) (none_overlaps tasks) none).1 in
-    apart tasks i j rest (omega (arith, before)) (omega (arith, below))
+    let rest = (and_parts (list_all test later) (none_overlaps later) none).1 in
+    apart later i j rest (omega (arith, before)) (omega (arith, below))
 
 -- words that ask for a task, by its place in the table
-abbrev AsksAt : List (String Global) → ℕ → List (List ℕ) → Type 0
-AsksAt words place files = HasForm (form_of (get_or TASKS place first_task)) (words_of words) files
+abbrev AsksAt : List (String Global) → ℕ → (files choices : List (List ℕ)) → Type 0
+AsksAt words place files choices = HasForm (form_of (task_at place)) (words_of words) files choices
 
-not_two : (words : List (String Global)) (i j : ℕ) (files others : List (List ℕ)) → i < j → j < 35
-    → AsksAt words i files → AsksAt words j others → ⊥
-not_two words i j files others before below one two =
-    let overlap = both_overlap (form_of (get_or TASKS i first_task)) (form_of (get_or TASKS j first_task))
-    (words_of words) files others one two in
-    let none = apart TASKS i j tasks_apart before below in
-    cc
+module _ (words : List (String Global)) where
+  not_two : (i j : ℕ) (files choices others later : List (List ℕ)) → i < j → j < length tasks
+      → AsksAt words i files choices → AsksAt words j others later → ⊥
+  not_two i j files choices others later before below one two =
+      let overlap = both_overlap (form_of (task_at i)) (form_of (task_at j))
+      (words_of words) files choices others later one two in
+      let none = apart tasks i j tasks_apart before below in
+      cc
 
-same_place : (words : List (String Global)) (i j : ℕ) (files others : List (List ℕ)) → i < 35 → j < 35
-    → AsksAt words i files → AsksAt words j others → i ≡ j
-same_place words i j files others first second one two = elim (cases_lt i j) [
-  | inl before ↦ absurd (not_two words i j files others before second one two)
-  | inr after ↦ (elim (cases_lt j i) [
-    | inl later ↦ absurd (not_two words j i others files later first two one)
-    | inr equal ↦ omega arith
-  ])
-]
+  same_place : (i j : ℕ) (files choices others later : List (List ℕ)) → i < length tasks → j < length tasks
+      → AsksAt words i files choices → AsksAt words j others later → i ≡ j
+  same_place i j files choices others later first second one two = elim (cases_lt i j) [
+    | inl before ↦ absurd (not_two i j files choices others later before second one two)
+    | inr after ↦ (elim (cases_lt j i) [
+      | inl behind ↦ absurd (not_two j i others later files choices behind first two one)
+      | inr equal ↦ omega arith
+    ])
+  ]
 
-pub one_request : (words : List (String Global)) (a b : Request) → Asks words a → Asks words b → a ≡ b
-one_request words a b one two =
-    let here = each_listed a.task in
-    let there = each_listed b.task in
-    let Holds : List (List ℕ) → Task → Type 0 = λ files task. HasForm (form_of task) (words_of words) files in
-    let places = same_place words here.0 there.0 a.files b.files here.1 there.1
-    (subst (Holds a.files) (sym here.2) one) (subst (Holds b.files) (sym there.2) two) in
-    let tasks : a.task ≡ b.task = sym here.2 ∙ ap (λ (k : ℕ). get_or TASKS k first_task) places ∙ there.2 in
-    let files = same_files (form_of b.task) (words_of words) a.files b.files
-    (subst (Holds a.files) tasks one) two in
-    let request : Task → List (List ℕ) → Request = λ task names. record { task = task; files = names } in
-    ap₂ request tasks files
+  pub one_request : (a b : Request) → Asks words a → Asks words b → a ≡ b
+  one_request a b one two =
+      let here = each_listed a.task in
+      let there = each_listed b.task in
+      let HasOne : Task → Type 0 = λ task. HasForm (form_of task) (words_of words) a.files a.choices in
+      let HasOther : Task → Type 0 = λ task. HasForm (form_of task) (words_of words) b.files b.choices in
+      let places = same_place here.0 there.0 a.files a.choices b.files b.choices here.1 there.1
+      (subst HasOne (sym here.2) one) (subst HasOther (sym there.2) two) in
+      let same : a.task ≡ b.task = sym here.2 ∙ ap (λ (k : ℕ). task_at k) places ∙ there.2 in
+      let given = same_given (form_of b.task) (words_of words) a.files a.choices b.files b.choices
+      (subst HasOne same one) two in
+      let request : Task → List (List ℕ) → List (List ℕ) → Request =
+      λ task files choices. record { task = task; files = files; choices = choices } in
+      ap₂ (λ (task : Task) (files : List (List ℕ)). request task files a.choices) same given.0
+      ∙ ap (λ (choices : List (List ℕ)). request b.task b.files choices) given.1

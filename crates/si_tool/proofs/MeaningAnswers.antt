@@ -3,14 +3,15 @@ use Rattle.std.proofs.Common.{◌≡◌, ℕ, List, [], ◌∷◌, length, Resul
 use Rattle.std.proofs.Common.{◌⊎◌, inl, inr}
 use Rattle.si_io.specs.Outside.{Rose}
 use Rattle.si_tool.specs.About.{about_text}
-use Rattle.si_tool.specs.Command.{Request, file_count, form_of, number_of}
+use Rattle.si_tool.specs.Command.{Request, Fit, form_of, number_of}
 use Rattle.si_tool.specs.Loads.{Contents, Counts, loads, load_well, loads_well, AreTold}
 use Rattle.si_tool.specs.Meaning.{meaning, ComesTo}
 use Rattle.si_refusals.specs.Refusal.{TextRefusal, ReadFault, Answer, Output, FileRefused, TextRefused}
-use Rattle.si_tool.specs.declared.command.Task.{Task}
-use Rattle.si_tool.specs.declared.command.Task.TheVariants.{About, Tell, Synth, Map, FromGenlib, Verilog, Replay, Audit}
-use Rattle.si_tool.specs.declared.command.Task.TheVariants.{Exercise}
-use Rattle.si_tool.specs.declared.command.Task.TheVariants.{TellNetlist, Resolve, Insert, Same}
+use Rattle.si_tool.specs.declared.task.Task.{Task}
+use Rattle.si_tool.specs.declared.task.Topic.TheVariants.{Help, Version}
+use Rattle.si_tool.specs.declared.task.Task.TheVariants.{About, Tell, Synth, Map, FromGenlib, Verilog, Replay, Audit}
+use Rattle.si_tool.specs.declared.task.Task.TheVariants.{Exercise}
+use Rattle.si_tool.specs.declared.task.Task.TheVariants.{TellNetlist, Resolve, Insert, Same}
 use Rattle.si_readings.specs.Laws.{AtMostOne, HasResult}
 use Rattle.si_readings.specs.declared.library_format.LibraryFormat.TheVariants.{Own, Genlib}
 use Rattle.si_stages.proofs.AuditLemmas.{audit_one, audit_some}
@@ -25,42 +26,47 @@ use Rattle.si_stages.proofs.NetlistReportLemmas.{netlist_report_one, netlist_rep
 use Rattle.si_stages.proofs.VerilogLemmas.{verilog_one, verilog_some}
 use Rattle.si_tool.proofs.LoadLemmas.{all_one, all_some, all_or_fault, as_many}
 use Rattle.si_tool.proofs.CommandTasks.{few_handshakes}
+use Rattle.si_tool.proofs.FormLemmas.{count_of_files}
 
 -- ---- by their texts: to one answer at most
-pub meaning_one : (task : Task) (files texts : List (List ℕ)) → AtMostOne (meaning task files texts)
-meaning_one (About topic) [] [] = gives_one (about_text topic)
-meaning_one (Tell what) (file ∷ []) (text ∷ []) = report_one what file text
-meaning_one (Synth style) (file ∷ []) (text ∷ []) = synth_one style file text
-meaning_one (Map format) (g ∷ l ∷ []) (a ∷ b ∷ []) = mapping_one format g a l b
-meaning_one FromGenlib (file ∷ []) (text ∷ []) = genlib_one file text
-meaning_one Verilog (file ∷ []) (text ∷ []) = verilog_one file text
-meaning_one (TellNetlist what) (file ∷ []) (text ∷ []) = netlist_report_one what file text
-meaning_one (Replay what) (g ∷ n ∷ s ∷ []) (a ∷ b ∷ c ∷ []) = replay_one what g a n b s c
-meaning_one Audit (g ∷ n ∷ []) (a ∷ b ∷ []) = audit_one g a n b
-meaning_one Resolve (file ∷ []) (text ∷ []) = resolve_one file text
-meaning_one Insert (g ∷ n ∷ []) (a ∷ b ∷ []) = insert_one g a n b
-meaning_one Same (f ∷ g ∷ []) (a ∷ b ∷ []) = same_one f a g b
-meaning_one (Exercise count) [] [] = exercise_one (number_of count)
-meaning_one task files texts = λ a b one other. absurd one
+pub meaning_one : (task : Task) (files choices texts : List (List ℕ)) → AtMostOne (meaning task files choices texts)
+meaning_one (About topic) [] choices [] = gives_one (about_text topic)
+meaning_one (Tell what) (file ∷ []) choices (text ∷ []) = report_one what file text
+meaning_one (Synth style) (file ∷ []) choices (text ∷ []) = synth_one style file text
+meaning_one (Map format) (g ∷ l ∷ []) choices (a ∷ b ∷ []) = mapping_one format g a l b
+meaning_one FromGenlib (file ∷ []) choices (text ∷ []) = genlib_one file text
+meaning_one Verilog (file ∷ []) choices (text ∷ []) = verilog_one file text
+meaning_one (TellNetlist what) (file ∷ []) choices (text ∷ []) = netlist_report_one what file text
+meaning_one (Replay what) (g ∷ n ∷ s ∷ []) choices (a ∷ b ∷ c ∷ []) = replay_one what g a n b s c
+meaning_one Audit (g ∷ n ∷ []) choices (a ∷ b ∷ []) = audit_one g a n b
+meaning_one Resolve (file ∷ []) choices (text ∷ []) = resolve_one file text
+meaning_one Insert (g ∷ n ∷ []) choices (a ∷ b ∷ []) = insert_one g a n b
+meaning_one Same (f ∷ g ∷ []) choices (a ∷ b ∷ []) = same_one f a g b
+meaning_one Exercise [] (digit ∷ []) [] = exercise_one (number_of digit)
+meaning_one task files choices texts = λ a b one other. absurd one
 
--- ---- and to some answer, where a task has as many files as its form, and each its text
-pub meaning_some : (task : Task) (files texts : List (List ℕ)) → length files ≡ file_count (form_of task)
-    → length texts ≡ length files → HasResult (meaning task files texts)
-meaning_some (About topic) [] [] many each = gives_some (about_text topic)
-meaning_some (Tell what) (file ∷ []) (text ∷ []) many each = report_some what file text
-meaning_some (Synth style) (file ∷ []) (text ∷ []) many each = synth_some style file text
-meaning_some (Map Own) (g ∷ l ∷ []) (a ∷ b ∷ []) many each = mapping_some Own g a l b
-meaning_some (Map Genlib) (g ∷ l ∷ []) (a ∷ b ∷ []) many each = mapping_some Genlib g a l b
-meaning_some FromGenlib (file ∷ []) (text ∷ []) many each = genlib_some file text
-meaning_some Verilog (file ∷ []) (text ∷ []) many each = verilog_some file text
-meaning_some (TellNetlist what) (file ∷ []) (text ∷ []) many each = netlist_report_some what file text
-meaning_some (Replay what) (g ∷ n ∷ s ∷ []) (a ∷ b ∷ c ∷ []) many each = replay_some what g a n b s c
-meaning_some Audit (g ∷ n ∷ []) (a ∷ b ∷ []) many each = audit_some g a n b
-meaning_some Resolve (file ∷ []) (text ∷ []) many each = resolve_some file text
-meaning_some Insert (g ∷ n ∷ []) (a ∷ b ∷ []) many each = insert_some g a n b
-meaning_some Same (f ∷ g ∷ []) (a ∷ b ∷ []) many each = same_some f a g b
-meaning_some (Exercise count) [] [] many each = exercise_some (number_of count) (few_handshakes count)
-meaning_some task files texts many each = absurd (omega (arith, many, each))
+-- ---- and to some answer, where a task has the files and choices of its form, and each file its text
+pub meaning_some : (task : Task) (files choices texts : List (List ℕ)) → Fit (form_of task) files choices
+    → length texts ≡ length files → HasResult (meaning task files choices texts)
+meaning_some (About Help) [] choices [] fit each = gives_some (about_text Help)
+meaning_some (About Version) [] choices [] fit each = gives_some (about_text Version)
+meaning_some (Tell what) (file ∷ []) choices (text ∷ []) fit each = report_some what file text
+meaning_some (Synth style) (file ∷ []) choices (text ∷ []) fit each = synth_some style file text
+meaning_some (Map Own) (g ∷ l ∷ []) choices (a ∷ b ∷ []) fit each = mapping_some Own g a l b
+meaning_some (Map Genlib) (g ∷ l ∷ []) choices (a ∷ b ∷ []) fit each = mapping_some Genlib g a l b
+meaning_some FromGenlib (file ∷ []) choices (text ∷ []) fit each = genlib_some file text
+meaning_some Verilog (file ∷ []) choices (text ∷ []) fit each = verilog_some file text
+meaning_some (TellNetlist what) (file ∷ []) choices (text ∷ []) fit each = netlist_report_some what file text
+meaning_some (Replay what) (g ∷ n ∷ s ∷ []) choices (a ∷ b ∷ c ∷ []) fit each = replay_some what g a n b s c
+meaning_some Audit (g ∷ n ∷ []) choices (a ∷ b ∷ []) fit each = audit_some g a n b
+meaning_some Resolve (file ∷ []) choices (text ∷ []) fit each = resolve_some file text
+meaning_some Insert (g ∷ n ∷ []) choices (a ∷ b ∷ []) fit each = insert_some g a n b
+meaning_some Same (f ∷ g ∷ []) choices (a ∷ b ∷ []) fit each = same_some f a g b
+meaning_some Exercise [] (digit ∷ []) [] fit each =
+    exercise_some (number_of digit) (few_handshakes digit fit.0)
+meaning_some task files choices texts fit each =
+    let many = count_of_files (form_of task) files choices fit in
+    absurd (omega (arith, many, each))
 
 -- ---- by their files: to one answer at most
 pub command_one : (content : Contents) (asked : Request) (a b : Answer) → AreTold content asked.files
@@ -72,12 +78,12 @@ command_one content asked a b told = by a b
 
     texts_one : (texts others : List (List ℕ)) (r q : Result (List ℕ) TextRefusal)
         → loads_well content asked.files (Ok texts) → loads_well content asked.files (Ok others)
-        → meaning asked.task asked.files texts r → meaning asked.task asked.files others q → r ≡ q
+        → meaning asked.task asked.files asked.choices texts r → meaning asked.task asked.files asked.choices others q → r ≡ q
     texts_one texts others r q one other means also =
         let same = loaded_one (Ok texts) (Ok others) one other in
         let same_texts : texts ≡ others = cc in
-        let Means : List (List ℕ) → Type 0 = λ ts. meaning asked.task asked.files ts r in
-        meaning_one asked.task asked.files others r q (subst Means same_texts means) also
+        let Means : List (List ℕ) → Type 0 = λ ts. meaning asked.task asked.files asked.choices ts r in
+        meaning_one asked.task asked.files asked.choices others r q (subst Means same_texts means) also
 
     by : (a b : Answer) → ComesTo (loads_well content) asked a → ComesTo (loads_well content) asked b → a ≡ b
     by (Output t) (Output u) x y = (let same = texts_one x.0 y.0 (Ok t) (Ok u) x.1 y.1 x.2 y.2 in cc)
@@ -123,17 +129,17 @@ command_or_fault content before now asked (FileRefused r) is =
 
 -- ---- told files come to some answer
 pub command_some : (content : Contents) (asked : Request)
-    → length asked.files ≡ file_count (form_of asked.task) → AreTold content asked.files
+    → Fit (form_of asked.task) asked.files asked.choices → AreTold content asked.files
     → (a : Answer) × ComesTo (loads_well content) asked a
-command_some content asked many told = go (all_some content asked.files told)
+command_some content asked fit told = go (all_some content asked.files told)
   where
     answered : (texts : List (List ℕ)) → loads_well content asked.files (Ok texts)
-        → HasResult (meaning asked.task asked.files texts) → (a : Answer) × ComesTo (loads_well content) asked a
+        → HasResult (meaning asked.task asked.files asked.choices texts) → (a : Answer) × ComesTo (loads_well content) asked a
     answered texts are (Ok output, means) = (Output output, (texts, are, means))
     answered texts are (Err refusal, means) = (TextRefused refusal, (texts, are, means))
 
     go : HasResult (loads_well content asked.files) → (a : Answer) × ComesTo (loads_well content) asked a
     go (Err refusal, is) = (FileRefused refusal, is)
     go (Ok texts, is) =
-        answered texts is (meaning_some asked.task asked.files texts many
+        answered texts is (meaning_some asked.task asked.files asked.choices texts fit
         (as_many (load_well content) asked.files texts is))

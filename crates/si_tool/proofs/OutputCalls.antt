@@ -113,20 +113,20 @@ not_loaded loading asked (Answered (FileRefused refusal)) may = may
 not_loaded loading asked e may = absurd may
 
 not_done : (loading : LoadStage) (asked : Request) (texts : List (List ℕ)) (e : Ending)
-    → loading asked.files (Ok texts) → MayStop (meaning asked.task asked.files texts) e → MayStopCommand loading asked e
+    → loading asked.files (Ok texts) → MayStop (meaning asked.task asked.files asked.choices texts) e → MayStopCommand loading asked e
 not_done loading asked texts NoMemory are may = tt
 not_done loading asked texts (Answered (TextRefused refusal)) are may = (texts, are, may)
 not_done loading asked texts e are may = absurd may
 
 pub came_ok : {X : Type 0} (loading : LoadStage) (asked : Request) (texts : List (List ℕ)) (r : Result (List ℕ) X)
-    → loading asked.files (Ok texts) → IfOk r (λ t. meaning asked.task asked.files texts (Ok t))
+    → loading asked.files (Ok texts) → IfOk r (λ t. meaning asked.task asked.files asked.choices texts (Ok t))
     → IfOk r (λ t. ComesTo loading asked (Output t))
 came_ok loading asked texts (Ok t) are is = (texts, are, is)
 came_ok loading asked texts (Err e) are is = tt
 
 pub came_err : {X : Type 0} (loading : LoadStage) (asked : Request) (texts : List (List ℕ)) (r : Result X Refusal)
-    → loading asked.files (Ok texts) → IfErr r (λ f. MayStop (meaning asked.task asked.files texts) (ending_of f))
+    → loading asked.files (Ok texts) → IfErr r (λ f. MayStop (meaning asked.task asked.files asked.choices texts) (ending_of f))
     → IfErr r (λ f. MayStopCommand loading asked (ending_of f))
 came_err loading asked texts r are may =
-    err_map r (MayStop (meaning asked.task asked.files texts)) (MayStopCommand loading asked)
+    err_map r (MayStop (meaning asked.task asked.files asked.choices texts)) (MayStopCommand loading asked)
     (λ e. not_done loading asked texts e are) may

@@ -9,16 +9,16 @@ use Rattle.si_tool.specs.Laws.{PutsAudit}
 use Rattle.si_tool.specs.Loads.{Contents, Counts, loads}
 use Rattle.si_tool.specs.Meaning.{meaning}
 use Rattle.si_tool.specs.Run.{SinkChange, Ends}
-use Rattle.si_tool.specs.declared.command.Task.TheVariants.{Audit}
+use Rattle.si_tool.specs.declared.task.Task.TheVariants.{Audit}
 use Rattle.si_tool.proofs.RunOutputs.{puts_output}
 
 abbrev audit_of : (graph netlist : List ℕ) → Request
-audit_of graph netlist = record { task = Audit; files = graph ∷ netlist ∷ [] }
+audit_of graph netlist = record { task = Audit; files = graph ∷ netlist ∷ []; choices = [] }
 
 -- each of the two files has one text
 puts_audit : (content : Contents) (before now : Counts) (graph netlist : List ℕ) (out : SinkChange)
     (output : List ℕ) (texts : List (List ℕ)) → loads content before now (graph ∷ netlist ∷ []) (Ok texts)
-    → meaning Audit (graph ∷ netlist ∷ []) texts (Ok output) → Appends out.old output out.new
+    → meaning Audit (graph ∷ netlist ∷ []) [] texts (Ok output) → Appends out.old output out.new
     → PutsAudit content before now graph netlist out
 puts_audit content before now graph netlist out output [] loaded means written = absurd means
 puts_audit content before now graph netlist out output (a ∷ []) loaded means written = absurd means

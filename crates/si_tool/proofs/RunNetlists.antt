@@ -1,5 +1,5 @@
 -- What a run of `synth` or `map` that is done puts on `out`: a netlist that implements the graph of its file.
-use Rattle.std.proofs.Common.{◌≡◌, ℕ, List, [], ◌∷◌, Ok, String, Global, refl, subst, ◌∙◌, inl, inr}
+use Rattle.std.proofs.Common.{◌≡◌, ℕ, List, [], ◌∷◌, Ok, String, Global, subst, ◌∙◌, inl, inr}
 use Rattle.si_base.specs.Codes.{CodedGraph}
 use Rattle.si_base.specs.GivenGraph.{Sg}
 use Rattle.si_base.specs.System.{IsFor}
@@ -27,7 +27,7 @@ use Rattle.si_tool.specs.Loads.{Contents, Counts, load, loads}
 use Rattle.si_tool.specs.Meaning.{meaning}
 use Rattle.si_tool.specs.Run.{SinkChange, Ends}
 use Rattle.si_tool.specs.Theorem.{AskForNetlist, ImplementsText, PutsNetlist}
-use Rattle.si_tool.specs.declared.command.Task.TheVariants.{Map, Synth}
+use Rattle.si_tool.specs.declared.task.Task.TheVariants.{Map, Synth}
 use Rattle.si_tool.proofs.RunOutputs.{puts_output}
 
 -- ---- over texts
@@ -85,14 +85,14 @@ module _ (content : Contents) (before now : Counts) (file : List ℕ) (out : Sin
       }
 
   of_synth : (style : Style) (texts : List (List ℕ)) → loads content before now (file ∷ []) (Ok texts)
-      → meaning (Synth style) (file ∷ []) texts (Ok output) → PutsNetlist (content file) out.old out.new
+      → meaning (Synth style) (file ∷ []) [] texts (Ok output) → PutsNetlist (content file) out.old out.new
   of_synth style [] loaded means = absurd means
   of_synth style (text ∷ []) loaded means = first_put [] text [] loaded (synth_implements style file text output means)
   of_synth style (text ∷ other ∷ texts) loaded means = absurd means
 
   of_map : (format : LibraryFormat) (library : List ℕ) (texts : List (List ℕ))
       → loads content before now (file ∷ library ∷ []) (Ok texts)
-      → meaning (Map format) (file ∷ library ∷ []) texts (Ok output) → PutsNetlist (content file) out.old out.new
+      → meaning (Map format) (file ∷ library ∷ []) [] texts (Ok output) → PutsNetlist (content file) out.old out.new
   of_map format library [] loaded means = absurd means
   of_map format library (text ∷ []) loaded means = absurd means
   of_map format library (text ∷ cells ∷ []) loaded means =
@@ -104,18 +104,18 @@ module _ (words : List (String Global)) (content : Contents) (before now : Count
   pub netlist_put : (file : List ℕ) → Ends words (loads content before now) out err result → result ≡ status.Done
       → AskForNetlist file (words_of words) → PutsNetlist (content file) out.old out.new
   netlist_put file ends is (inl asks) =
-      let asked : Request = record { task = Synth Complex; files = file ∷ [] } in
-      let puts = puts_output words content before now out err result asked (asks, refl) ends is in
+      let asked : Request = record { task = Synth Complex; files = file ∷ []; choices = [] } in
+      let puts = puts_output words content before now out err result asked (asks, tt) ends is in
       of_synth content before now file out puts.output puts.written Complex puts.texts puts.loaded puts.means
   netlist_put file ends is (inr (inl asks)) =
-      let asked : Request = record { task = Synth GeneralisedC; files = file ∷ [] } in
-      let puts = puts_output words content before now out err result asked (asks, refl) ends is in
+      let asked : Request = record { task = Synth GeneralisedC; files = file ∷ []; choices = [] } in
+      let puts = puts_output words content before now out err result asked (asks, tt) ends is in
       of_synth content before now file out puts.output puts.written GeneralisedC puts.texts puts.loaded puts.means
   netlist_put file ends is (inr (inr (inl (library, asks)))) =
-      let asked : Request = record { task = Map Own; files = file ∷ library ∷ [] } in
-      let puts = puts_output words content before now out err result asked (asks, refl) ends is in
+      let asked : Request = record { task = Map Own; files = file ∷ library ∷ []; choices = [] } in
+      let puts = puts_output words content before now out err result asked (asks, tt) ends is in
       of_map content before now file out puts.output puts.written Own library puts.texts puts.loaded puts.means
   netlist_put file ends is (inr (inr (inr (library, asks)))) =
-      let asked : Request = record { task = Map Genlib; files = file ∷ library ∷ [] } in
-      let puts = puts_output words content before now out err result asked (asks, refl) ends is in
+      let asked : Request = record { task = Map Genlib; files = file ∷ library ∷ []; choices = [] } in
+      let puts = puts_output words content before now out err result asked (asks, tt) ends is in
       of_map content before now file out puts.output puts.written Genlib library puts.texts puts.loaded puts.means

@@ -8,7 +8,7 @@ use Rattle.si_tool.specs.Command.{Request, Asks}
 use Rattle.si_tool.specs.Loads.{Contents, Counts, loads}
 use Rattle.si_tool.specs.Meaning.{ComesTo, meaning}
 use Rattle.si_tool.specs.Run.{SinkChange, Ends}
-use Rattle.si_tool.specs.declared.command.Task.{Task}
+use Rattle.si_tool.specs.declared.task.Task.{Task}
 use Rattle.si_tool.proofs.FormOverlap.{one_request}
 use Rattle.si_tool.proofs.LoadLemmas.{loads_as_many}
 use Rattle.si_tool.proofs.RunLemmas.{ends_done}
@@ -18,7 +18,7 @@ pub record PutsOutput (content : Contents) (before now : Counts) (asked : Reques
   pub texts : List (List ℕ)
   pub loaded : loads content before now asked.files (Ok texts)
   pub output : List ℕ
-  pub means : meaning asked.task asked.files texts (Ok output)
+  pub means : meaning asked.task asked.files asked.choices texts (Ok output)
   pub written : Appends out.old output out.new
 
 -- the same of a task of one file, which has one text
@@ -27,7 +27,7 @@ pub record PutsOfFile (content : Contents) (before now : Counts) (task : Task) (
   pub text : List ℕ
   pub loaded : loads content before now (file ∷ []) (Ok (text ∷ []))
   pub output : List ℕ
-  pub means : meaning task (file ∷ []) (text ∷ []) (Ok output)
+  pub means : meaning task (file ∷ []) [] (text ∷ []) (Ok output)
   pub written : Appends out.old output out.new
 
 module _ (words : List (String Global)) (content : Contents) (before now : Counts) (out err : SinkChange)
@@ -47,16 +47,16 @@ module _ (words : List (String Global)) (content : Contents) (before now : Count
         written = done.written;
       }
 
-  pub puts_of_file : (task : Task) (file : List ℕ) → Asks words (record { task = task; files = file ∷ [] })
+  pub puts_of_file : (task : Task) (file : List ℕ) → Asks words (record { task = task; files = file ∷ []; choices = [] })
       → Ends words (loads content before now) out err result → result ≡ status.Done
       → PutsOfFile content before now task file out
   puts_of_file task file asks ends is =
-      let puts = puts_output (record { task = task; files = file ∷ [] }) asks ends is in
+      let puts = puts_output (record { task = task; files = file ∷ []; choices = [] }) asks ends is in
       of_one puts.output puts.texts puts.loaded puts.means puts.written
       (loads_as_many content before now (file ∷ []) puts.texts puts.loaded)
     where
       of_one : (output : List ℕ) (texts : List (List ℕ)) → loads content before now (file ∷ []) (Ok texts)
-          → meaning task (file ∷ []) texts (Ok output) → Appends out.old output out.new → length texts ≡ 1
+          → meaning task (file ∷ []) [] texts (Ok output) → Appends out.old output out.new → length texts ≡ 1
           → PutsOfFile content before now task file out
       of_one output [] loaded means written many = absurd (omega (arith, many))
       of_one output (text ∷ []) loaded means written many = record {

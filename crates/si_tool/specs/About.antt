@@ -1,48 +1,41 @@
 -- (command) What the program tells of itself.
-use Rattle.std.specs.Prelude.{◌≡◌, ℕ, List, [], ◌∷◌, ◌++◌, codes}
-use Rattle.std.specs.List.{join_with_byte}
+use Rattle.std.specs.Prelude.{◌≡◌, ℕ, List, ◌∷◌, ◌++◌, length, drop, codes}
+use Rattle.std.specs.List.{flat_map}
 use Rattle.si_base.specs.Bytes.{space}
-use Rattle.si_readings.specs.declared.library_format.LibraryFormat.TheVariants.{Own, Genlib}
-use Rattle.si_tool.specs.Command.{fill, form_of}
-use Rattle.si_tool.specs.declared.about.TheConstants.{HELP}
-use Rattle.si_tool.specs.declared.about.Topic.{Topic}
-use Rattle.si_tool.specs.declared.about.Topic.TheVariants.{Help, Version}
-use Rattle.si_tool.specs.declared.command.Task.{Task}
-use Rattle.si_tool.specs.declared.command.Task.TheVariants.{About, Map, FromGenlib, Verilog}
-use Rattle.si_tool.specs.declared.command.Task.TheVariants.{Replay, Audit, Insert, Exercise, TellNetlist, Same}
+use Rattle.si_tool.specs.Command.{Slot, Word, File, OneOf, Row, form_of, rows}
+use Rattle.si_tool.specs.declared.about.TheConstants.{HELP_HEAD, HELP_TAIL, BLANKS}
+use Rattle.si_tool.specs.declared.task.Task.{Task}
+use Rattle.si_tool.specs.declared.task.Topic.{Topic}
+use Rattle.si_tool.specs.declared.task.Topic.TheVariants.{Help, Version}
 
--- the help is said once, where the code has it
+-- what the help shows for a place of a form
+abbrev pub shown_slot : Slot → List ℕ
+shown_slot (Word word) = word
+shown_slot (File name) = name
+shown_slot (OneOf name words) = name
+
+-- the words of a form, behind that of the program
+abbrev pub shown_form : List Slot → List ℕ
+shown_form form = codes "sisyn" ++ flat_map (λ slot. space ∷ shown_slot slot) form
+
+-- its line of the help, up to what is said of it
+abbrev pub shown_part : List Slot → List ℕ
+shown_part form = codes "\n  " ++ shown_form form ++ codes "  "
+
+-- and all of it
+abbrev pub row_line : Row → List ℕ
+row_line row = shown_part row.form ++ drop (length (shown_form row.form)) BLANKS.now ++ row.says
+
+-- a line for each row of the table, between what stands before them and behind
+abbrev pub help_text : List ℕ
+help_text = HELP_HEAD.now ++ flat_map row_line rows ++ HELP_TAIL.now
+
 abbrev pub about_text : Topic → List ℕ
-about_text (Help word) = HELP.now
+about_text Help = help_text
 about_text Version = codes "sisyn 0.1\n"
-
--- what the help calls the files of a task
-abbrev pub file_names : Task → List (List ℕ)
-file_names (Map Own) = codes "F" ∷ codes "LIB" ∷ []
-file_names (Map Genlib) = codes "F" ∷ codes "FILE" ∷ []
-file_names FromGenlib = codes "FILE" ∷ []
-file_names Verilog = codes "NETLIST" ∷ []
-file_names (TellNetlist report) = codes "NETLIST" ∷ []
-file_names (Replay report) = codes "F" ∷ codes "NETLIST" ∷ codes "SCHEDULE" ∷ []
-file_names Audit = codes "F" ∷ codes "NETLIST" ∷ []
-file_names Insert = codes "F" ∷ codes "NETLIST" ∷ []
-file_names Same = codes "F" ∷ codes "G" ∷ []
-file_names task = codes "F" ∷ []
-
--- the words with which the help shows a task: those of its form, with these names of files; `N`
--- stands for a digit, and the three words that ask for help share a line
-abbrev pub shown_words : Task → List (List ℕ)
-shown_words (About (Help word)) = codes "--help," ∷ codes "-h" ∷ codes "or" ∷ codes "help" ∷ []
-shown_words (Exercise count) = codes "exercise" ∷ codes "N" ∷ []
-shown_words task = fill (form_of task) (file_names task)
-
--- they stand behind `sisyn`, and before what is said of the task
-abbrev pub shown_part : Task → List ℕ
-shown_part task = codes "\n  " ++ join_with_byte space (codes "sisyn" ∷ shown_words task)
-    ++ codes "  "
 
 -- a line of the text shows the task
 pub record Shows (text : List ℕ) (task : Task) : Type 0 where
   pub before : List ℕ
   pub after : List ℕ
-  pub stands : text ≡ before ++ shown_part task ++ after
+  pub stands : text ≡ before ++ shown_part (form_of task) ++ after

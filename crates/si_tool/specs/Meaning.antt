@@ -4,10 +4,10 @@ use Rattle.std.specs.Prelude.{ℕ, List, [], ◌∷◌, String, Ok, Err}
 use Rattle.std.specs.declared.alloc.Global.{Global}
 use Rattle.si_tool.specs.About.{about_text}
 use Rattle.si_tool.specs.Command.{Request, Asks, number_of}
-use Rattle.si_tool.specs.declared.command.Task.{Task}
-use Rattle.si_tool.specs.declared.command.Task.TheVariants.{About, Tell, Synth, Map, FromGenlib}
-use Rattle.si_tool.specs.declared.command.Task.TheVariants.{Verilog, Replay, Audit, Exercise}
-use Rattle.si_tool.specs.declared.command.Task.TheVariants.{TellNetlist, Resolve, Insert, Same}
+use Rattle.si_tool.specs.declared.task.Task.{Task}
+use Rattle.si_tool.specs.declared.task.Task.TheVariants.{About, Tell, Synth, Map, FromGenlib}
+use Rattle.si_tool.specs.declared.task.Task.TheVariants.{Verilog, Replay, Audit, Exercise}
+use Rattle.si_tool.specs.declared.task.Task.TheVariants.{TellNetlist, Resolve, Insert, Same}
 use Rattle.si_refusals.specs.Ending.{Ending, NoMemory, Answered}
 use Rattle.si_refusals.specs.Refusal.{FileRefusal, TextRefusal, Answer, Output}
 use Rattle.si_refusals.specs.Refusal.{FileRefused, TextRefused}
@@ -20,23 +20,24 @@ use Rattle.si_likeness.specs.Same.{same}
 use Rattle.si_stages.specs.NetlistReports.{netlist_report}
 use Rattle.si_stages.specs.Verilog.{verilog}
 
--- a task over its files, each with its text
-abbrev pub meaning : Task → (files texts : List (List ℕ)) → Stage TextRefusal (List ℕ)
-meaning (About topic) [] [] = gives (about_text topic)
-meaning (Tell what) (file ∷ []) (text ∷ []) = report what file text
-meaning (Synth style) (file ∷ []) (text ∷ []) = synth style file text
-meaning (Map format) (g ∷ l ∷ []) (graph ∷ library ∷ []) = mapping format g graph l library
-meaning FromGenlib (file ∷ []) (text ∷ []) = genlib file text
-meaning Verilog (file ∷ []) (text ∷ []) = verilog file text
-meaning (TellNetlist what) (file ∷ []) (text ∷ []) = netlist_report what file text
-meaning (Replay what) (g ∷ n ∷ s ∷ []) (graph ∷ netlist ∷ schedule ∷ []) =
+-- a task over its files, each with its text, and the words that are chosen
+abbrev pub meaning : Task → (files choices texts : List (List ℕ)) → Stage TextRefusal (List ℕ)
+meaning (About topic) [] choices [] = gives (about_text topic)
+meaning (Tell what) (file ∷ []) choices (text ∷ []) = report what file text
+meaning (Synth style) (file ∷ []) choices (text ∷ []) = synth style file text
+meaning (Map format) (g ∷ l ∷ []) choices (graph ∷ library ∷ []) =
+    mapping format g graph l library
+meaning FromGenlib (file ∷ []) choices (text ∷ []) = genlib file text
+meaning Verilog (file ∷ []) choices (text ∷ []) = verilog file text
+meaning (TellNetlist what) (file ∷ []) choices (text ∷ []) = netlist_report what file text
+meaning (Replay what) (g ∷ n ∷ s ∷ []) choices (graph ∷ netlist ∷ schedule ∷ []) =
     replay what g graph n netlist s schedule
-meaning Audit (g ∷ n ∷ []) (graph ∷ netlist ∷ []) = audit g graph n netlist
-meaning Resolve (file ∷ []) (text ∷ []) = resolve file text
-meaning Insert (g ∷ n ∷ []) (graph ∷ netlist ∷ []) = insert g graph n netlist
-meaning Same (f ∷ g ∷ []) (one ∷ other ∷ []) = same f one g other
-meaning (Exercise count) [] [] = exercise (number_of count)
-meaning task files texts = λ answer. ⊥
+meaning Audit (g ∷ n ∷ []) choices (graph ∷ netlist ∷ []) = audit g graph n netlist
+meaning Resolve (file ∷ []) choices (text ∷ []) = resolve file text
+meaning Insert (g ∷ n ∷ []) choices (graph ∷ netlist ∷ []) = insert g graph n netlist
+meaning Same (f ∷ g ∷ []) choices (one ∷ other ∷ []) = same f one g other
+meaning Exercise [] (digit ∷ []) [] = exercise (number_of digit)
+meaning task files choices texts = λ answer. ⊥
 
 -- ---- the same over files
 
@@ -49,10 +50,10 @@ abbrev pub ComesTo : LoadStage → Request → Answer → Type 0
 ComesTo loading asked (FileRefused refusal) = loading asked.files (Err refusal)
 ComesTo loading asked (TextRefused refusal) =
     (texts : List (List ℕ)) × loading asked.files (Ok texts)
-    × meaning asked.task asked.files texts (Err refusal)
+    × meaning asked.task asked.files asked.choices texts (Err refusal)
 ComesTo loading asked (Output text) =
     (texts : List (List ℕ)) × loading asked.files (Ok texts)
-    × meaning asked.task asked.files texts (Ok text)
+    × meaning asked.task asked.files asked.choices texts (Ok text)
 
 -- what the words ask for comes to this answer
 pub record WordsComeTo (words : List (String Global)) (loading : LoadStage)

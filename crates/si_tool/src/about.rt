@@ -1,76 +1,23 @@
 //! What the program tells of itself.
 
-ghost use Rattle.std.specs.Prelude.{◌≡◌, IfOk};
-ghost use Rattle.si_tool.specs.About.{about_text};
-ghost use Rattle.si_tool.specs.Command as command;
+ghost use Rattle.std.specs.Prelude.{◌≡◌, ◌++◌, IfOk, OnOk, drop};
+ghost use Rattle.si_tool.specs.About.{about_text, help_text, row_line, shown_form};
+ghost use Rattle.si_tool.specs.Loops.Reads.{row_now, slots_now};
 
+use crate::form::Slot;
+use crate::table::{Row, rows};
+use crate::task::Topic;
 use si_base::ids::NoMemory;
 use si_base::text::Text;
+use si_words::writing::add_word;
 use std::alloc::Global;
 
-/// What is asked of the program itself.
-#[derive(Clone, Copy, PartialEq, Eq, Debug)]
-pub enum Topic {
-    /// How it is called, asked by this word.
-    Help(HelpWord),
-    /// Its version.
-    Version,
-}
+/// What stands before the lines of the commands.
+const HELP_HEAD: &[u8] = b"sisyn makes circuits without a clock from state graphs.
+";
 
-/// The words that ask for help.
-#[derive(Clone, Copy, PartialEq, Eq, Debug)]
-pub enum HelpWord {
-    /// `--help`
-    Long,
-    /// `-h`
-    Short,
-    /// `help`
-    Plain,
-}
-
-impl Topic {
-    /// The word that asks for it.
-    pub fn word(self) -> &'static str
-        ensures { result.now ≡ command.topic_word self }
-    {
-        match self {
-            Topic::Help(HelpWord::Long) => "--help",
-            Topic::Help(HelpWord::Short) => "-h",
-            Topic::Help(HelpWord::Plain) => "help",
-            Topic::Version => "--version",
-        }
-    }
-}
-
-/// Each form of the command line, what the files are, some examples, and where the documents are.
-const HELP: &[u8] = b"sisyn makes circuits without a clock from state graphs.
-
-  sisyn check F                      the size of a graph, where it is proper
-  sisyn states F                     its states: their codes, what they enable
-  sisyn regions F                    where events are excited, and what follows
-  sisyn conflicts F                  states that no gates can tell apart
-  sisyn explain F                    walks to them, and which no signal resolves
-  sisyn lint F                       dead ends, and more worth a second look
-  sisyn covers F                     sums for each signal, and monotonous cubes
-  sisyn fold F                       the graph with alike states merged
-  sisyn dot F                        the graph as a picture for Graphviz
-  sisyn synth F complex              a netlist of complex gates
-  sisyn synth F gc                   a netlist of generalised C-elements
-  sisyn map F LIB                    a netlist of cells of a library
-  sisyn map F genlib FILE            a netlist of gates of a library of genlib
-  sisyn resolve F                    the graph with its conflicts resolved
-  sisyn insert F NETLIST             the graph after insertions of a netlist
-  sisyn genlib FILE                  a library of genlib as a library of cells
-  sisyn verilog NETLIST              a netlist as a module of Verilog
-  sisyn loops NETLIST                which pins to cut, so that it has no loop
-  sisyn reset NETLIST                which outputs to force, so that it starts
-  sisyn replay F NETLIST SCHEDULE    where a schedule over a netlist ends
-  sisyn wave F NETLIST SCHEDULE      the same as a Value Change Dump
-  sisyn audit F NETLIST              whether a netlist is certified for a graph
-  sisyn same F G                     whether two graphs behave alike
-  sisyn exercise N                   the sizes of N handshakes, from 1 to 8
-  sisyn --help, -h or help           this text
-  sisyn --version                    the version
+/// What stands behind them: what the files are, some examples, and where the documents are.
+const HELP_TAIL: &[u8] = b"
 
 F and G are state graphs, in the text that petrify calls .sg: lists of signals,
 then arcs such as 's0 a+ s1'. Petri nets (.g) are not read: unfold them first.
@@ -103,12 +50,63 @@ commands, docs/GUIDE.md what to do where a run is refused, docs/FORMATS.md each
 text, line and status, docs/THEOREM.md what is proved.
 ";
 
+/// Blanks behind a form, so that what is said of each begins in one column.
+const BLANKS: &[u8] = b"                                 ";
+
 /// The text on a topic. It fails only where memory runs out.
 pub fn about(alloc: Global, topic: Topic) -> Result<Text, NoMemory>
     ensures { IfOk result (λ text. text ≡ about_text topic) }
 {
     match topic {
-        Topic::Help(_) => Text::copy_of(alloc, HELP),
+        Topic::Help => help(alloc),
         Topic::Version => Text::copy_of(alloc, b"sisyn 0.1\n"),
     }
+}
+
+/// The help: a line for each row of the table, between what stands before them and behind.
+fn help(alloc: Global) -> Result<Text, NoMemory>
+    ensures { IfOk result (λ text. text ≡ help_text) }
+{
+    let mut text = Text::copy_of(alloc, HELP_HEAD)?;
+    for row in rows() {
+        add_row(&mut text, row)?;
+    }
+    text.add(HELP_TAIL)?;
+    Ok(text)
+}
+
+/// Adds the line of a row behind a line end: its form, and what is said of it.
+fn add_row(text: &mut Text, row: &Row) -> Result<(), NoMemory>
+    ensures { OnOk result (text.new ≡ text.old ++ row_line (row_now row.now)) }
+{
+    text.add(b"\n  ")?;
+    let before = text.bytes().len();
+    add_form(text, row.form)?;
+    let width = text.bytes().len() - before;
+    text.add(b"  ")?;
+    text.add(blanks(width))?;
+    text.add(row.says.as_bytes())?;
+    Ok(())
+}
+
+/// The blanks behind a form of this width.
+fn blanks(width: usize) -> &'static [u8]
+    ensures { result.now ≡ drop width BLANKS.now }
+{
+    if width < BLANKS.len() {
+        &BLANKS[width..]
+    } else {
+        &[]
+    }
+}
+
+/// Adds the program's name and the words of a form, as the help shows them.
+fn add_form(text: &mut Text, form: &[Slot<'_>]) -> Result<(), NoMemory>
+    ensures { OnOk result (text.new ≡ text.old ++ shown_form (slots_now form.now)) }
+{
+    text.add(b"sisyn")?;
+    for slot in form {
+        add_word(text, slot.shown().as_bytes())?;
+    }
+    Ok(())
 }

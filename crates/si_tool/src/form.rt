@@ -1,9 +1,11 @@
 //! The form of a command, and the words that have it.
 
-ghost use Rattle.std.specs.Prelude.{ℕ, List, IfOk, MatchOption};
+ghost use Rattle.std.specs.Prelude.{◌≡◌, ℕ, List, IfOk, MatchOption};
 ghost use Rattle.si_words.specs.Loops.Reads.{words_now};
+ghost use Rattle.si_words.specs.Names.{stands_in};
+ghost use Rattle.si_tool.specs.About.{shown_slot};
 ghost use Rattle.si_tool.specs.Command.{HasForm, words_of};
-ghost use Rattle.si_tool.specs.Loops.Reads.{slots_now};
+ghost use Rattle.si_tool.specs.Loops.Reads.{slot_now, slots_now};
 
 use std::alloc::{AllocError, Global};
 
@@ -12,21 +14,48 @@ use std::alloc::{AllocError, Global};
 pub enum Slot<'a> {
     /// This word.
     Word(&'a str),
-    /// The name of a file.
-    File,
+    /// The name of a file, which the help calls so.
+    File(&'a str),
+    /// One of these words, which the help calls so.
+    OneOf(&'a str, &'a [&'a str]),
 }
 
-/// The files that the words name, where they have the form, and `None` where they don't.
-pub fn files_in<'w>(
+impl<'a> Slot<'a> {
+    /// How the help shows it.
+    pub fn shown(self) -> &'a str
+        ensures { result.now ≡ shown_slot (slot_now self.entry) }
+    {
+        match self {
+            Slot::Word(word) => word,
+            Slot::File(name) => name,
+            Slot::OneOf(name, _) => name,
+        }
+    }
+}
+
+/// What the words of a command say besides its form, in their order.
+#[derive(Drop)]
+pub struct Given<'w> {
+    /// The names of its files.
+    pub files: Vec<&'w str>,
+    /// The words that it leaves to choose.
+    pub choices: Vec<&'w str>,
+}
+
+/// What the words give where they have the form, and `None` where they don't.
+pub fn given_in<'w>(
     alloc: Global,
     words: &'w [String],
     form: &[Slot<'_>],
-) -> Result<Option<Vec<&'w str>>, AllocError>
+) -> Result<Option<Given<'w>>, AllocError>
     ensures { IfOk result (λ found. MatchOption found
-        ((files : List (List ℕ)) → HasForm (slots_now form.now) (words_of words.now) files → ⊥)
-        (λ files. HasForm (slots_now form.now) (words_of words.now) (words_now files.items))) }
+        ((files choices : List (List ℕ))
+        → HasForm (slots_now form.now) (words_of words.now) files choices → ⊥)
+        (λ given. HasForm (slots_now form.now) (words_of words.now)
+        (words_now given.files.items) (words_now given.choices.items))) }
 {
     let mut files = Vec::new(alloc);
+    let mut choices = Vec::new(alloc);
     if words.len() != form.len() {
         return Ok(None);
     }
@@ -38,8 +67,21 @@ pub fn files_in<'w>(
                     return Ok(None);
                 }
             }
-            Slot::File => files.push(word)?,
+            Slot::File(_) => files.push(word)?,
+            Slot::OneOf(_, listed) => {
+                if !is_listed(listed, word) {
+                    return Ok(None);
+                }
+                choices.push(word)?;
+            }
         }
     }
-    Ok(Some(files))
+    Ok(Some(Given { files, choices }))
+}
+
+/// Whether one of the words is this one.
+fn is_listed(words: &[&str], word: &str) -> bool
+    ensures { result ≡ stands_in (words_now words.now) word.now }
+{
+    words.iter().any(|w| word == *w)
 }

@@ -4,9 +4,11 @@
 pub mod about;
 pub mod command;
 pub mod fold_law;
-mod form;
+pub mod form;
 pub mod laws;
 mod output;
 pub mod refusing;
 pub mod run;
 pub mod sure;
+pub mod table;
+pub mod task;

@@ -1,17 +1,20 @@
 //! What a command puts on `out`.
 
-ghost use Rattle.std.specs.Prelude.{◌≡◌, ℕ, ◌≤◌, List, IfOk, IfErr, OnErr, Ok, length};
+ghost use Rattle.std.specs.Prelude.{◌≡◌, ℕ, ◌≤◌, List, IfOk, IfErr, OnErr, Ok, ◌<◌, length, true};
 ghost use Rattle.si_words.specs.Loops.Reads.{words_now};
 ghost use Rattle.si_refusals.specs.Ending.{MayStop, MayStopLoading, ending_of};
 ghost use Rattle.si_refusals.specs.Refusal.{Output};
-ghost use Rattle.si_tool.specs.Command.{file_count, form_of};
+ghost use Rattle.si_tool.specs.Command.{Fit, digits, form_of, number_of};
+ghost use Rattle.si_handshakes.specs.Handshakes.{max_handshakes};
+ghost use Rattle.si_words.specs.Names.{stands_in};
 ghost use Rattle.si_tool.specs.Loads as stage;
 ghost use Rattle.si_tool.specs.Loads.{CountsStay, IsUnread, LoadsFirst, loads};
 ghost use Rattle.si_tool.specs.Meaning.{ComesTo, MayStopCommand, meaning};
 ghost use Rattle.si_tool.specs.Loops.Reads.{request_of, texts_now};
 
 use crate::about::about;
-use crate::command::{Command, Task};
+use crate::command::Command;
+use crate::task::Task;
 use si_base::limits::MAX_TEXT;
 use si_base::text::Text;
 use si_exercise::exercise::exercise;
@@ -35,34 +38,42 @@ pub fn output<'w, H: Shelf>(
     command: &Command<'w>,
     shelf: &mut H,
 ) -> Result<Text, Refusal<'w>>
-    requires { length command.now.files.items ≡ file_count (form_of command.now.task) }
+    requires { Fit (form_of command.now.task) (words_now command.now.given.files.items)
+        (words_now command.now.given.choices.items) }
     ensures ok { IfOk result (λ text. ComesTo
         (loads (H.content shelf.old) (H.faults shelf.old) (H.faults shelf.new))
         (request_of command.now) (Output text)) }
     ensures err { IfErr result (λ r. MayStopCommand
         (loads (H.content shelf.old) (H.faults shelf.old) (H.faults shelf.new))
         (request_of command.now) (ending_of r)) }
-    ensures loaded { LoadsFirst H.loads (words_now command.now.files.items) shelf.old shelf.new }
+    ensures loaded { LoadsFirst H.loads (words_now command.now.given.files.items) shelf.old shelf.new }
     ensures later { (n : List ℕ) → H.faults shelf.old n ≤ H.faults shelf.new n }
     ensures same { (n : List ℕ) → H.content shelf.new n ≡ H.content shelf.old n }
 {
-    let texts = load_all(alloc, &command.files, shelf)?;
-    output_of_texts(alloc, command.task, &command.files, &texts)
+    let texts = load_all(alloc, &command.given.files, shelf)?;
+    output_of_texts(
+        alloc,
+        command.task,
+        &command.given.files,
+        &command.given.choices,
+        &texts,
+    )
 }
 
-/// The output of a task over its files, each with its text.
+/// The output of a task over its files, each with its text, and the words that are chosen.
 fn output_of_texts<'w>(
     alloc: Global,
     task: Task,
     files: &[&'w str],
+    choices: &[&str],
     texts: &[Vec<u8>],
 ) -> Result<Text, Refusal<'w>>
-    requires files { length files.now ≡ file_count (form_of task) }
+    requires given { Fit (form_of task) (words_now files.now) (words_now choices.now) }
     requires texts { length texts.now ≡ length files.now }
     ensures ok { IfOk result (λ text.
-        meaning task (words_now files.now) (texts_now texts.now) (Ok text)) }
+        meaning task (words_now files.now) (words_now choices.now) (texts_now texts.now) (Ok text)) }
     ensures err { IfErr result (λ r. MayStop
-        (meaning task (words_now files.now) (texts_now texts.now)) (ending_of r)) }
+        (meaning task (words_now files.now) (words_now choices.now) (texts_now texts.now)) (ending_of r)) }
 {
     match task {
         Task::About(topic) => Ok(about(alloc, topic)?),
@@ -82,8 +93,18 @@ fn output_of_texts<'w>(
         Task::Resolve => resolve(alloc, files[0], &texts[0]),
         Task::Insert => insert(alloc, files[0], &texts[0], files[1], &texts[1]),
         Task::Same => same(alloc, files[0], &texts[0], files[1], &texts[1]),
-        Task::Exercise(count) => Ok(exercise(alloc, count.number())?),
+        Task::Exercise => Ok(exercise(alloc, number(choices[0]))?),
     }
+}
+
+/// The number that a digit from 1 to 8 spells.
+fn number(digit: &str) -> u32
+    requires { stands_in digits digit.now ≡ true }
+    ensures number { result ≡ number_of digit.now }
+    ensures some { 0 < result }
+    ensures few { result ≤ max_handshakes }
+{
+    u32::from(digit.as_bytes()[0] - b'0')
 }
 
 /// The texts of the files, loaded one after another.

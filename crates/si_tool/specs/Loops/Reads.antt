@@ -2,10 +2,11 @@
 use Rattle.std.specs.Prelude.{ℕ, List, map, Vec}
 use Rattle.std.specs.declared.alloc.Global.{Global}
 use Rattle.si_words.specs.Loops.Reads.{words_now}
-use Rattle.si_tool.specs.Command.{Request, Slot, Word, File}
+use Rattle.si_tool.specs.Command.{Request, Row, Slot, Word, File, OneOf}
 use Rattle.si_tool.specs.declared.command.Command.{Command}
 use Rattle.si_tool.specs.declared.form.Slot.{Slot as HeldSlot}
 use Rattle.si_tool.specs.declared.form.Slot.TheVariants as held
+use Rattle.si_tool.specs.declared.table.Row.{Row as HeldRow}
 
 -- texts, by their bytes
 abbrev pub texts_now : List (Vec ℕ Global) → List (List ℕ)
@@ -14,11 +15,20 @@ texts_now texts = map (λ text. text.items) texts
 -- a form, with its words by their bytes
 abbrev pub slot_now : HeldSlot → Slot
 slot_now (held.Word word) = Word word.now
-slot_now held.File = File
+slot_now (held.File name) = File name.now
+slot_now (held.OneOf name words) = OneOf name.now (words_now words.now)
 
 abbrev pub slots_now : List HeldSlot → List Slot
 slots_now form = map slot_now form
 
--- a command: its task, with its files by their names
+-- a row of the table
+abbrev pub row_now : HeldRow → Row
+row_now row = record { form = slots_now row.form.now; says = row.says.now }
+
+-- a command: its task, with what its words give it
 abbrev pub request_of : Command → Request
-request_of command = record { task = command.task; files = words_now command.files.items }
+request_of command = record {
+  task = command.task;
+  files = words_now command.given.files.items;
+  choices = words_now command.given.choices.items;
+}

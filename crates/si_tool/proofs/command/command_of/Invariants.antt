@@ -1,6 +1,6 @@
 use Rattle.si_tool.proofs.CommandTasks.{AsksNoneBefore}
 use Rattle.si_tool.proofs.command.command_of.Given as goal
 
--- the words ask for none of the tasks so far
-abbrev pub invariant-loop-task : goal.invariant-loop-task
-invariant-loop-task l = AsksNoneBefore l.words l.task-index
+-- the words have the form of none of the rows so far
+abbrev pub invariant-loop-row : goal.invariant-loop-row
+invariant-loop-row l = AsksNoneBefore l.words l.row-index

@@ -26,8 +26,8 @@ output_of_texts-requires g c =
     let as_many : length texts ≡ length files =
     sym (length-map texts (λ text. text.items)) ∙ each ∙ length-map files (λ name. name.now) in
     record {
-      files = rw c.deref-2.ensures.value c.requires;
-      texts = rw (c.deref-2.ensures.value, c.deref-3.ensures.value) (rw c.deref.ensures.value at as_many);
+      given = rw (c.deref-2.ensures.value, c.deref-3.ensures.value) c.requires;
+      texts = rw (c.deref-2.ensures.value, c.deref-4.ensures.value) (rw c.deref.ensures.value at as_many);
     }
 
 pub returns-clause-ok : goal.returns-clause-ok
@@ -37,7 +37,7 @@ returns-clause-ok g c =
     let asked = request_of c.args.command.now in
     came_ok loading asked (texts_now c.in_ok-texts.texts.items) c.output_of_texts.result
     (rw c.deref.ensures.value at c.in_ok-texts.ensures.ok)
-    (rw (c.deref-2.ensures.value, c.deref-3.ensures.value) at c.output_of_texts.ensures.ok)
+    (rw (c.deref-2.ensures.value, c.deref-3.ensures.value, c.deref-4.ensures.value) at c.output_of_texts.ensures.ok)
 
 pub returns-clause-err : goal.returns-clause-err
 returns-clause-err g c =
@@ -46,4 +46,4 @@ returns-clause-err g c =
     let asked = request_of c.args.command.now in
     came_err loading asked (texts_now c.in_ok-texts.texts.items) c.output_of_texts.result
     (rw c.deref.ensures.value at c.in_ok-texts.ensures.ok)
-    (rw (c.deref-2.ensures.value, c.deref-3.ensures.value) at c.output_of_texts.ensures.err)
+    (rw (c.deref-2.ensures.value, c.deref-3.ensures.value, c.deref-4.ensures.value) at c.output_of_texts.ensures.err)

@@ -1,71 +1,85 @@
 use Rattle.std.proofs.Common.{◌∙◌}
+use Rattle.si_words.specs.Loops.Reads.{words_now}
+use Rattle.si_tool.specs.Command.{form_of}
 use Rattle.si_tool.proofs.ReadsLemmas.{read_one, read_two, read_three}
 use Rattle.si_tool.proofs.CommandTasks.{two_files}
+use Rattle.si_tool.proofs.FormLemmas.{count_of_names}
 use Rattle.si_tool.proofs.output.output_of_texts.Goals as goal
 
 pub returns-in-Tell-clause-ok : goal.returns-in-Tell-clause-ok
 returns-in-Tell-clause-ok c =
-    let are = read_one c.args.files.now c.args.texts.now _ _ (rw c.in-Tell.is at c.requires.files) c.requires.texts
+    let many = count_of_names (form_of c.args.task) c.args.files.now (words_now c.args.choices.now) c.requires.given in
+    let are = read_one c.args.files.now c.args.texts.now _ _ (rw c.in-Tell.is at many) c.requires.texts
     c.index-texts-0.is c.deref.ensures.value in
     rw (c.in-Tell.is, are.0, are.1) c.report.ensures.ok
 
 pub returns-in-Tell-clause-err : goal.returns-in-Tell-clause-err
 returns-in-Tell-clause-err c =
-    let are = read_one c.args.files.now c.args.texts.now _ _ (rw c.in-Tell.is at c.requires.files) c.requires.texts
+    let many = count_of_names (form_of c.args.task) c.args.files.now (words_now c.args.choices.now) c.requires.given in
+    let are = read_one c.args.files.now c.args.texts.now _ _ (rw c.in-Tell.is at many) c.requires.texts
     c.index-texts-0.is c.deref.ensures.value in
     rw (c.in-Tell.is, are.0, are.1) c.report.ensures.err
 
 pub returns-in-Synth-clause-ok : goal.returns-in-Synth-clause-ok
 returns-in-Synth-clause-ok c =
-    let are = read_one c.args.files.now c.args.texts.now _ _ (rw c.in-Synth.is at c.requires.files) c.requires.texts
+    let many = count_of_names (form_of c.args.task) c.args.files.now (words_now c.args.choices.now) c.requires.given in
+    let are = read_one c.args.files.now c.args.texts.now _ _ (rw c.in-Synth.is at many) c.requires.texts
     c.index-texts-0-in-Synth.is c.deref-in-Synth.ensures.value in
     rw (c.in-Synth.is, are.0, are.1) c.synth.ensures.ok
 
 pub returns-in-Synth-clause-err : goal.returns-in-Synth-clause-err
 returns-in-Synth-clause-err c =
-    let are = read_one c.args.files.now c.args.texts.now _ _ (rw c.in-Synth.is at c.requires.files) c.requires.texts
+    let many = count_of_names (form_of c.args.task) c.args.files.now (words_now c.args.choices.now) c.requires.given in
+    let are = read_one c.args.files.now c.args.texts.now _ _ (rw c.in-Synth.is at many) c.requires.texts
     c.index-texts-0-in-Synth.is c.deref-in-Synth.ensures.value in
     rw (c.in-Synth.is, are.0, are.1) c.synth.ensures.err
 
 pub returns-in-Verilog-clause-ok : goal.returns-in-Verilog-clause-ok
 returns-in-Verilog-clause-ok c =
-    let are = read_one c.args.files.now c.args.texts.now _ _ (rw c.in-Verilog.is at c.requires.files) c.requires.texts
+    let many = count_of_names (form_of c.args.task) c.args.files.now (words_now c.args.choices.now) c.requires.given in
+    let are = read_one c.args.files.now c.args.texts.now _ _ (rw c.in-Verilog.is at many) c.requires.texts
     c.index-texts-0-in-Verilog.is c.deref-in-Verilog.ensures.value in
     rw (c.in-Verilog.is, are.0, are.1) c.verilog.ensures.ok
 
 pub returns-in-Verilog-clause-err : goal.returns-in-Verilog-clause-err
 returns-in-Verilog-clause-err c =
-    let are = read_one c.args.files.now c.args.texts.now _ _ (rw c.in-Verilog.is at c.requires.files) c.requires.texts
+    let many = count_of_names (form_of c.args.task) c.args.files.now (words_now c.args.choices.now) c.requires.given in
+    let are = read_one c.args.files.now c.args.texts.now _ _ (rw c.in-Verilog.is at many) c.requires.texts
     c.index-texts-0-in-Verilog.is c.deref-in-Verilog.ensures.value in
     rw (c.in-Verilog.is, are.0, are.1) c.verilog.ensures.err
 
 pub returns-in-TellNetlist-clause-ok : goal.returns-in-TellNetlist-clause-ok
 returns-in-TellNetlist-clause-ok c =
-    let are = read_one c.args.files.now c.args.texts.now _ _ (rw c.in-TellNetlist.is at c.requires.files) c.requires.texts
+    let many = count_of_names (form_of c.args.task) c.args.files.now (words_now c.args.choices.now) c.requires.given in
+    let are = read_one c.args.files.now c.args.texts.now _ _ (rw c.in-TellNetlist.is at many) c.requires.texts
     c.index-texts-0-in-TellNetlist.is c.deref-in-TellNetlist.ensures.value in
     rw (c.in-TellNetlist.is, are.0, are.1) c.netlist_report.ensures.ok
 
 pub returns-in-TellNetlist-clause-err : goal.returns-in-TellNetlist-clause-err
 returns-in-TellNetlist-clause-err c =
-    let are = read_one c.args.files.now c.args.texts.now _ _ (rw c.in-TellNetlist.is at c.requires.files) c.requires.texts
+    let many = count_of_names (form_of c.args.task) c.args.files.now (words_now c.args.choices.now) c.requires.given in
+    let are = read_one c.args.files.now c.args.texts.now _ _ (rw c.in-TellNetlist.is at many) c.requires.texts
     c.index-texts-0-in-TellNetlist.is c.deref-in-TellNetlist.ensures.value in
     rw (c.in-TellNetlist.is, are.0, are.1) c.netlist_report.ensures.err
 
 pub returns-in-FromGenlib-clause-ok : goal.returns-in-FromGenlib-clause-ok
 returns-in-FromGenlib-clause-ok c =
-    let are = read_one c.args.files.now c.args.texts.now _ _ (rw c.in-FromGenlib.is at c.requires.files)
+    let many = count_of_names (form_of c.args.task) c.args.files.now (words_now c.args.choices.now) c.requires.given in
+    let are = read_one c.args.files.now c.args.texts.now _ _ (rw c.in-FromGenlib.is at many)
     c.requires.texts c.index-texts-0-in-FromGenlib.is c.deref-in-FromGenlib.ensures.value in
     rw (c.in-FromGenlib.is, are.0, are.1) c.genlib.ensures.ok
 
 pub returns-in-FromGenlib-clause-err : goal.returns-in-FromGenlib-clause-err
 returns-in-FromGenlib-clause-err c =
-    let are = read_one c.args.files.now c.args.texts.now _ _ (rw c.in-FromGenlib.is at c.requires.files)
+    let many = count_of_names (form_of c.args.task) c.args.files.now (words_now c.args.choices.now) c.requires.given in
+    let are = read_one c.args.files.now c.args.texts.now _ _ (rw c.in-FromGenlib.is at many)
     c.requires.texts c.index-texts-0-in-FromGenlib.is c.deref-in-FromGenlib.ensures.value in
     rw (c.in-FromGenlib.is, are.0, are.1) c.genlib.ensures.err
 
 pub returns-in-Map-clause-ok : goal.returns-in-Map-clause-ok
 returns-in-Map-clause-ok c =
-    let counted = rw c.in-Map.is at c.requires.files in
+    let many = count_of_names (form_of c.args.task) c.args.files.now (words_now c.args.choices.now) c.requires.given in
+    let counted = rw c.in-Map.is at many in
     let are = read_two c.args.files.now c.args.texts.now _ _ _ _ (counted ∙ two_files c.in-Map.format)
     c.requires.texts c.index-texts-0-in-Map.is c.index-texts-1.is c.deref-in-Map.ensures.value
     c.deref-in-Map-2.ensures.value in
@@ -73,7 +87,8 @@ returns-in-Map-clause-ok c =
 
 pub returns-in-Map-clause-err : goal.returns-in-Map-clause-err
 returns-in-Map-clause-err c =
-    let counted = rw c.in-Map.is at c.requires.files in
+    let many = count_of_names (form_of c.args.task) c.args.files.now (words_now c.args.choices.now) c.requires.given in
+    let counted = rw c.in-Map.is at many in
     let are = read_two c.args.files.now c.args.texts.now _ _ _ _ (counted ∙ two_files c.in-Map.format)
     c.requires.texts c.index-texts-0-in-Map.is c.index-texts-1.is c.deref-in-Map.ensures.value
     c.deref-in-Map-2.ensures.value in
@@ -81,68 +96,78 @@ returns-in-Map-clause-err c =
 
 pub returns-in-Replay-clause-ok : goal.returns-in-Replay-clause-ok
 returns-in-Replay-clause-ok c =
-    let are = read_three c.args.files.now c.args.texts.now _ _ _ _ _ _ (rw c.in-Replay.is at c.requires.files)
+    let many = count_of_names (form_of c.args.task) c.args.files.now (words_now c.args.choices.now) c.requires.given in
+    let are = read_three c.args.files.now c.args.texts.now _ _ _ _ _ _ (rw c.in-Replay.is at many)
     c.requires.texts c.index-texts-0-in-Replay.is c.index-texts-1-in-Replay.is c.index-texts-2.is
     c.deref-in-Replay.ensures.value c.deref-in-Replay-2.ensures.value c.deref-in-Replay-3.ensures.value in
     rw (c.in-Replay.is, are.0, are.1) c.replay_texts.ensures.ok
 
 pub returns-in-Replay-clause-err : goal.returns-in-Replay-clause-err
 returns-in-Replay-clause-err c =
-    let are = read_three c.args.files.now c.args.texts.now _ _ _ _ _ _ (rw c.in-Replay.is at c.requires.files)
+    let many = count_of_names (form_of c.args.task) c.args.files.now (words_now c.args.choices.now) c.requires.given in
+    let are = read_three c.args.files.now c.args.texts.now _ _ _ _ _ _ (rw c.in-Replay.is at many)
     c.requires.texts c.index-texts-0-in-Replay.is c.index-texts-1-in-Replay.is c.index-texts-2.is
     c.deref-in-Replay.ensures.value c.deref-in-Replay-2.ensures.value c.deref-in-Replay-3.ensures.value in
     rw (c.in-Replay.is, are.0, are.1) c.replay_texts.ensures.err
 
 pub returns-in-Audit-clause-ok : goal.returns-in-Audit-clause-ok
 returns-in-Audit-clause-ok c =
-    let are = read_two c.args.files.now c.args.texts.now _ _ _ _ (rw c.in-Audit.is at c.requires.files)
+    let many = count_of_names (form_of c.args.task) c.args.files.now (words_now c.args.choices.now) c.requires.given in
+    let are = read_two c.args.files.now c.args.texts.now _ _ _ _ (rw c.in-Audit.is at many)
     c.requires.texts c.index-texts-0-in-Audit.is c.index-texts-1-in-Audit.is c.deref-in-Audit.ensures.value
     c.deref-in-Audit-2.ensures.value in
     rw (c.in-Audit.is, are.0, are.1) c.audit_texts.ensures.ok
 
 pub returns-in-Audit-clause-err : goal.returns-in-Audit-clause-err
 returns-in-Audit-clause-err c =
-    let are = read_two c.args.files.now c.args.texts.now _ _ _ _ (rw c.in-Audit.is at c.requires.files)
+    let many = count_of_names (form_of c.args.task) c.args.files.now (words_now c.args.choices.now) c.requires.given in
+    let are = read_two c.args.files.now c.args.texts.now _ _ _ _ (rw c.in-Audit.is at many)
     c.requires.texts c.index-texts-0-in-Audit.is c.index-texts-1-in-Audit.is c.deref-in-Audit.ensures.value
     c.deref-in-Audit-2.ensures.value in
     rw (c.in-Audit.is, are.0, are.1) c.audit_texts.ensures.err
 
 pub returns-in-Resolve-clause-ok : goal.returns-in-Resolve-clause-ok
 returns-in-Resolve-clause-ok c =
-    let are = read_one c.args.files.now c.args.texts.now _ _ (rw c.in-Resolve.is at c.requires.files) c.requires.texts
+    let many = count_of_names (form_of c.args.task) c.args.files.now (words_now c.args.choices.now) c.requires.given in
+    let are = read_one c.args.files.now c.args.texts.now _ _ (rw c.in-Resolve.is at many) c.requires.texts
     c.index-texts-0-in-Resolve.is c.deref-in-Resolve.ensures.value in
     rw (c.in-Resolve.is, are.0, are.1) c.resolve.ensures.ok
 
 pub returns-in-Resolve-clause-err : goal.returns-in-Resolve-clause-err
 returns-in-Resolve-clause-err c =
-    let are = read_one c.args.files.now c.args.texts.now _ _ (rw c.in-Resolve.is at c.requires.files) c.requires.texts
+    let many = count_of_names (form_of c.args.task) c.args.files.now (words_now c.args.choices.now) c.requires.given in
+    let are = read_one c.args.files.now c.args.texts.now _ _ (rw c.in-Resolve.is at many) c.requires.texts
     c.index-texts-0-in-Resolve.is c.deref-in-Resolve.ensures.value in
     rw (c.in-Resolve.is, are.0, are.1) c.resolve.ensures.err
 
 pub returns-in-Insert-clause-ok : goal.returns-in-Insert-clause-ok
 returns-in-Insert-clause-ok c =
-    let are = read_two c.args.files.now c.args.texts.now _ _ _ _ (rw c.in-Insert.is at c.requires.files)
+    let many = count_of_names (form_of c.args.task) c.args.files.now (words_now c.args.choices.now) c.requires.given in
+    let are = read_two c.args.files.now c.args.texts.now _ _ _ _ (rw c.in-Insert.is at many)
     c.requires.texts c.index-texts-0-in-Insert.is c.index-texts-1-in-Insert.is c.deref-in-Insert.ensures.value
     c.deref-in-Insert-2.ensures.value in
     rw (c.in-Insert.is, are.0, are.1) c.insert.ensures.ok
 
 pub returns-in-Insert-clause-err : goal.returns-in-Insert-clause-err
 returns-in-Insert-clause-err c =
-    let are = read_two c.args.files.now c.args.texts.now _ _ _ _ (rw c.in-Insert.is at c.requires.files)
+    let many = count_of_names (form_of c.args.task) c.args.files.now (words_now c.args.choices.now) c.requires.given in
+    let are = read_two c.args.files.now c.args.texts.now _ _ _ _ (rw c.in-Insert.is at many)
     c.requires.texts c.index-texts-0-in-Insert.is c.index-texts-1-in-Insert.is c.deref-in-Insert.ensures.value
     c.deref-in-Insert-2.ensures.value in
     rw (c.in-Insert.is, are.0, are.1) c.insert.ensures.err
 
 pub returns-in-Same-clause-ok : goal.returns-in-Same-clause-ok
 returns-in-Same-clause-ok c =
-    let are = read_two c.args.files.now c.args.texts.now _ _ _ _ (rw c.in-Same.is at c.requires.files)
+    let many = count_of_names (form_of c.args.task) c.args.files.now (words_now c.args.choices.now) c.requires.given in
+    let are = read_two c.args.files.now c.args.texts.now _ _ _ _ (rw c.in-Same.is at many)
     c.requires.texts c.index-texts-0-in-Same.is c.index-texts-1-in-Same.is c.deref-in-Same.ensures.value
     c.deref-in-Same-2.ensures.value in
     rw (c.in-Same.is, are.0, are.1) c.same.ensures.ok
 
 pub returns-in-Same-clause-err : goal.returns-in-Same-clause-err
 returns-in-Same-clause-err c =
-    let are = read_two c.args.files.now c.args.texts.now _ _ _ _ (rw c.in-Same.is at c.requires.files)
+    let many = count_of_names (form_of c.args.task) c.args.files.now (words_now c.args.choices.now) c.requires.given in
+    let are = read_two c.args.files.now c.args.texts.now _ _ _ _ (rw c.in-Same.is at many)
     c.requires.texts c.index-texts-0-in-Same.is c.index-texts-1-in-Same.is c.deref-in-Same.ensures.value
     c.deref-in-Same-2.ensures.value in
     rw (c.in-Same.is, are.0, are.1) c.same.ensures.err

@@ -1,0 +1,88 @@
+use Rattle.std.proofs.Common.{◌<◌, ◌≤◌, ◌∙◌, [], ◌∷◌, length, refl, sym, arith, string_bytes}
+use Rattle.std.proofs.lemmas.List.{length-map, map-append}
+use Rattle.std.proofs.Math.ListN.{drop_of_length-le}
+use Rattle.si_tool.specs.Command.{words_of}
+use Rattle.si_tool.specs.Loops.Reads.{slots_now, slot_now}
+use Rattle.si_tool.proofs.FormLemmas.{no_form_of_length, none_filled, other_word, word_filled, all_filled}
+use Rattle.si_tool.proofs.FormLemmas.{file_filled, choice_filled, true_not_false}
+use Rattle.si_tool.proofs.FormLemmas.{slot_at, word_at, words_differ, words_same}
+use Rattle.si_tool.proofs.form.given_in.Goals.{in-Word+else-ne, in-File+in_ok-push-in-File, in-OneOf+else-not-is_listed+in_ok-push-in-OneOf}
+use Rattle.si_tool.proofs.form.given_in.Goals as goal
+
+pub returns-then-words-form : goal.returns-then-words-form
+returns-then-words-form c = λ files choices.
+    let form = c.args.form.now in
+    let words = c.args.words.now in
+    no_form_of_length (slots_now form) (words_of words) files choices
+    (λ same. c.if-words-form.true
+    (omega (arith, same, length-map form slot_now, length-map words (λ w. string_bytes w))))
+
+pub loop-place-init : goal.loop-place-init
+loop-place-init c = rw (c.new-files.ensures.items, c.new-choices.ensures.items)
+    (none_filled (slots_now c.args.form.now) (words_of c.args.words.now))
+
+pub returns-then-ne : goal.returns-then-ne
+returns-then-ne c =
+    let below : c.loop-place.place < length c.args.words.now =
+    omega (arith, c.loop-place-test.true, c.if-words-form.false) in
+    let slot = slot_at c.args.form.now c.loop-place.place _ _ c.loop-place-test.true c.in-Word.is in
+    let word = word_at c.args.words.now c.loop-place.place c.index-words-place.result c.as_str-word.result.now
+    below c.index-words-place.is c.as_str-word.ensures.value in
+    other_word _ _ _ _ _ _ _ _ _ c.loop-place.invariant slot word
+    (words_differ _ _ _ c.ne.ensures c.if-ne.true)
+
+pub returns-then-not-is_listed : goal.returns-then-not-is_listed
+returns-then-not-is_listed c =
+    let below : c.loop-place.place < length c.args.words.now =
+    omega (arith, c.loop-place-test.true, c.if-words-form.false) in
+    let slot = slot_at c.args.form.now c.loop-place.place _ _ c.loop-place-test.true c.in-OneOf.is in
+    let word = word_at c.args.words.now c.loop-place.place c.index-words-place.result c.as_str-word.result.now
+    below c.index-words-place.is c.as_str-word.ensures.value in
+    other_word _ _ _ _ _ _ _ _ _ c.loop-place.invariant slot word
+    (λ stands. true_not_false (sym stands ∙ sym c.is_listed.ensures ∙ c.if-not-is_listed.true))
+
+pub loop-place-preserved : goal.loop-place-preserved
+loop-place-preserved c =
+    let below : c.loop-place.place < length c.args.words.now =
+    omega (arith, c.loop-place-test.true, c.if-words-form.false) in
+    let word = word_at c.args.words.now c.loop-place.place c.index-words-place.result c.as_str-word.result.now
+    below c.index-words-place.is c.as_str-word.ensures.value in
+    elim c.match-slot.branch [
+      | in-Word+else-ne w ↦
+          let slot = slot_at c.args.form.now c.loop-place.place _ _ c.loop-place-test.true w.in-Word.is in
+          rw (w.files-is, w.choices-is) (word_filled _ _ _ _ _ _ _ _ c.loop-place.invariant _ slot word refl refl
+          (words_same _ _ _ w.ne.ensures w.if-ne.false))
+      | in-File+in_ok-push-in-File w ↦
+          let slot = slot_at c.args.form.now c.loop-place.place _ _ c.loop-place-test.true w.in-File.is in
+          let filled = file_filled _ _ _ _ _ _ _ _ c.loop-place.invariant _ slot word refl refl in
+          let pushed = w.in_ok-push-in-File.ensures.items in
+          rw (
+            w.files-is,
+            w.choices-is,
+            pushed,
+            map-append (λ name. name.now) c.loop-place.files.items (c.as_str-word.result ∷ []),
+          ) filled
+      | in-OneOf+else-not-is_listed+in_ok-push-in-OneOf w ↦
+          let slot = slot_at c.args.form.now c.loop-place.place _ _ c.loop-place-test.true w.in-OneOf.is in
+          let stands = sym w.is_listed.ensures ∙ w.if-not-is_listed.false in
+          let filled = choice_filled _ _ _ _ _ _ _ _ c.loop-place.invariant _ _ slot word refl refl stands in
+          let pushed = w.in_ok-push-in-OneOf.ensures.items in
+          rw (
+            w.files-is,
+            w.choices-is,
+            pushed,
+            map-append (λ name. name.now) c.loop-place.choices.items (c.as_str-word.result ∷ []),
+          ) filled
+    ]
+
+pub returns : goal.returns
+returns c =
+    let form = slots_now c.args.form.now in
+    let words = words_of c.args.words.now in
+    let place = c.loop-place.place in
+    let many_slots = length-map c.args.form.now slot_now in
+    let many_words = length-map c.args.words.now (λ w. string_bytes w) in
+    let no_slot : length form ≤ place = omega (arith, many_slots, c.loop-place-test.false) in
+    let no_word : length words ≤ place = omega (arith, many_words, c.loop-place-test.false, c.if-words-form.false) in
+    all_filled form words _ _ place c.loop-place.invariant
+    (drop_of_length-le form no_slot) (drop_of_length-le words no_word)

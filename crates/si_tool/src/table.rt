@@ -1,0 +1,171 @@
+//! The table of the commands: a row for each form in which one is written.
+
+ghost use Rattle.std.specs.Prelude.{◌≡◌, map};
+ghost use Rattle.si_tool.specs.Command as command;
+ghost use Rattle.si_tool.specs.Loops.Reads.{row_now};
+
+use crate::form::Slot;
+use crate::form::Slot::{File, OneOf, Word};
+use crate::task::{Task, Topic};
+use si_circuit::style::Style;
+use si_readings::library_format::LibraryFormat;
+use si_stages::netlist_report::NetlistReport;
+use si_stages::replay_kind::ReplayReport;
+use si_stages::report_kind::Report;
+
+/// A command: what it does, the form in which it is written, with the names of its files, and what
+/// the help says of it.
+#[derive(Clone, Copy)]
+pub struct Row {
+    pub task: Task,
+    pub form: &'static [Slot<'static>],
+    pub says: &'static str,
+}
+
+/// The words that ask for the help.
+const HELP_WORDS: &[&str] = &["--help", "-h", "help"];
+
+/// The digits from 1 to 8.
+const DIGITS: &[&str] = &["1", "2", "3", "4", "5", "6", "7", "8"];
+
+/// The rows.
+const ROWS: &[Row] = &[
+    Row {
+        task: Task::Tell(Report::Summary),
+        form: &[Word("check"), File("F")],
+        says: "the size of a graph, where it is proper",
+    },
+    Row {
+        task: Task::Tell(Report::States),
+        form: &[Word("states"), File("F")],
+        says: "its states: their codes, what they enable",
+    },
+    Row {
+        task: Task::Tell(Report::Regions),
+        form: &[Word("regions"), File("F")],
+        says: "where events are excited, and what follows",
+    },
+    Row {
+        task: Task::Tell(Report::Conflicts),
+        form: &[Word("conflicts"), File("F")],
+        says: "states that no gates can tell apart",
+    },
+    Row {
+        task: Task::Tell(Report::Explain),
+        form: &[Word("explain"), File("F")],
+        says: "walks to them, and which no signal resolves",
+    },
+    Row {
+        task: Task::Tell(Report::Lint),
+        form: &[Word("lint"), File("F")],
+        says: "dead ends, and more worth a second look",
+    },
+    Row {
+        task: Task::Tell(Report::Covers),
+        form: &[Word("covers"), File("F")],
+        says: "sums for each signal, and monotonous cubes",
+    },
+    Row {
+        task: Task::Tell(Report::Fold),
+        form: &[Word("fold"), File("F")],
+        says: "the graph with alike states merged",
+    },
+    Row {
+        task: Task::Tell(Report::Dot),
+        form: &[Word("dot"), File("F")],
+        says: "the graph as a picture for Graphviz",
+    },
+    Row {
+        task: Task::Synth(Style::Complex),
+        form: &[Word("synth"), File("F"), Word("complex")],
+        says: "a netlist of complex gates",
+    },
+    Row {
+        task: Task::Synth(Style::GeneralisedC),
+        form: &[Word("synth"), File("F"), Word("gc")],
+        says: "a netlist of generalised C-elements",
+    },
+    Row {
+        task: Task::Map(LibraryFormat::Own),
+        form: &[Word("map"), File("F"), File("LIB")],
+        says: "a netlist of cells of a library",
+    },
+    Row {
+        task: Task::Map(LibraryFormat::Genlib),
+        form: &[Word("map"), File("F"), Word("genlib"), File("FILE")],
+        says: "a netlist of gates of a library of genlib",
+    },
+    Row {
+        task: Task::Resolve,
+        form: &[Word("resolve"), File("F")],
+        says: "the graph with its conflicts resolved",
+    },
+    Row {
+        task: Task::Insert,
+        form: &[Word("insert"), File("F"), File("NETLIST")],
+        says: "the graph after insertions of a netlist",
+    },
+    Row {
+        task: Task::FromGenlib,
+        form: &[Word("genlib"), File("FILE")],
+        says: "a library of genlib as a library of cells",
+    },
+    Row {
+        task: Task::Verilog,
+        form: &[Word("verilog"), File("NETLIST")],
+        says: "a netlist as a module of Verilog",
+    },
+    Row {
+        task: Task::TellNetlist(NetlistReport::Loops),
+        form: &[Word("loops"), File("NETLIST")],
+        says: "which pins to cut, so that it has no loop",
+    },
+    Row {
+        task: Task::TellNetlist(NetlistReport::Reset),
+        form: &[Word("reset"), File("NETLIST")],
+        says: "which outputs to force, so that it starts",
+    },
+    Row {
+        task: Task::Replay(ReplayReport::End),
+        form: &[Word("replay"), File("F"), File("NETLIST"), File("SCHEDULE")],
+        says: "where a schedule over a netlist ends",
+    },
+    Row {
+        task: Task::Replay(ReplayReport::Wave),
+        form: &[Word("wave"), File("F"), File("NETLIST"), File("SCHEDULE")],
+        says: "the same as a Value Change Dump",
+    },
+    Row {
+        task: Task::Audit,
+        form: &[Word("audit"), File("F"), File("NETLIST")],
+        says: "whether a netlist is certified for a graph",
+    },
+    Row {
+        task: Task::Same,
+        form: &[Word("same"), File("F"), File("G")],
+        says: "whether two graphs behave alike",
+    },
+    Row {
+        task: Task::Exercise,
+        form: &[Word("exercise"), OneOf("N", DIGITS)],
+        says: "the sizes of N handshakes, from 1 to 8",
+    },
+    Row {
+        task: Task::About(Topic::Help),
+        form: &[OneOf("--help, -h or help", HELP_WORDS)],
+        says: "this text",
+    },
+    Row {
+        task: Task::About(Topic::Version),
+        form: &[Word("--version")],
+        says: "the version",
+    },
+];
+
+/// Each command, in the order of the help. No two of them have a form in common.
+pub fn rows() -> &'static [Row]
+    ensures tasks { map (λ row. row.task) result.now ≡ command.tasks }
+    ensures rows { map row_now result.now ≡ command.rows }
+{
+    ROWS
+}

@@ -1,0 +1,47 @@
+//! What a command does.
+
+use si_circuit::style::Style;
+use si_readings::library_format::LibraryFormat;
+use si_stages::netlist_report::NetlistReport;
+use si_stages::replay_kind::ReplayReport;
+use si_stages::report_kind::Report;
+
+/// What is asked of the program itself.
+#[derive(Clone, Copy, PartialEq, Eq, Debug)]
+pub enum Topic {
+    /// How it is called.
+    Help,
+    /// Its version.
+    Version,
+}
+
+/// What a command does, whatever its files.
+#[derive(Clone, Copy, PartialEq, Eq, Debug)]
+pub enum Task {
+    /// What the program tells of itself.
+    About(Topic),
+    /// A report on a graph.
+    Tell(Report),
+    /// The netlist of a graph, with gates of the style.
+    Synth(Style),
+    /// The netlist of a graph, of the cells of a library that is read in the format.
+    Map(LibraryFormat),
+    /// A library of genlib in the tool's own format.
+    FromGenlib,
+    /// A netlist as a module of Verilog.
+    Verilog,
+    /// A report on a netlist.
+    TellNetlist(NetlistReport),
+    /// What is told of a schedule over a netlist beside a graph.
+    Replay(ReplayReport),
+    /// Whether a netlist is certified for a graph.
+    Audit,
+    /// The graph after the insertions that resolve its conflicts.
+    Resolve,
+    /// The graph after the insertions of a netlist.
+    Insert,
+    /// Whether two graphs behave alike.
+    Same,
+    /// The sizes of as many handshakes as the words choose.
+    Exercise,
+}
