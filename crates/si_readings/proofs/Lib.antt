@@ -3,6 +3,7 @@ pub mod CheckBreaches
 pub mod StageLemmas
 pub mod CheckLemmas
 pub mod CheckNames
+pub mod SeenGraphLemmas
 pub mod ReadingsExist
 pub mod ReadingLemmas
 pub mod Examples

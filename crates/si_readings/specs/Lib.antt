@@ -1,3 +1,4 @@
 pub mod Readings
 pub mod Checks
+pub mod SeenGraph
 pub mod Laws

@@ -4,3 +4,4 @@
 pub mod checks;
 pub mod library_format;
 pub mod readings;
+pub mod seen_graph;

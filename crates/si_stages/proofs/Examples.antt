@@ -16,7 +16,7 @@ use Rattle.si_insert.specs.Lineage.{History, given_current}
 use Rattle.si_pictures.specs.declared.seen.Breach.TheVariants.{Inconsistent, Noncommutative}
 use Rattle.si_refusals.specs.declared.rejection.NamedRejection.TheVariants.{Delays, Gate}
 use Rattle.si_stages.specs.Audited.{IsNamedSo, audit_text}
-use Rattle.si_stages.specs.Pictured.{breach_of}
+use Rattle.si_readings.specs.SeenGraph.{breach_of}
 use Rattle.si_stages.specs.Replayed.{replay_text, shown_signal}
 use Rattle.si_stages.specs.Reports.{summary}
 use Rattle.si_system.specs.declared.verdict.Verdict.TheVariants.{Lost, Blocked}

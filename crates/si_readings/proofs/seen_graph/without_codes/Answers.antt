@@ -1,8 +1,8 @@
 use Rattle.std.proofs.Common.{refl}
 use Rattle.si_base.specs.Proper.{Split}
 use Rattle.si_checks.specs.Laws.{HasSplit, HasNoValues}
-use Rattle.si_stages.proofs.PicturedLemmas.{split_uncoded, values_uncoded}
-use Rattle.si_stages.proofs.pictured.without_codes.Goals as goal
+use Rattle.si_readings.proofs.SeenGraphLemmas.{split_uncoded, values_uncoded}
+use Rattle.si_readings.proofs.seen_graph.without_codes.Goals as goal
 
 pub returns-in-Nondeterministic : goal.returns-in-Nondeterministic
 returns-in-Nondeterministic c =

@@ -2,7 +2,7 @@ use Rattle.std.proofs.Common.{refl}
 use Rattle.si_base.specs.Proper.{Fork, Loss}
 use Rattle.si_checks.specs.Laws.{HasFork, HasLoss}
 use Rattle.si_readings.proofs.CheckLemmas.{coded_consistent}
-use Rattle.si_stages.proofs.pictured.with_codes.Goals as goal
+use Rattle.si_readings.proofs.seen_graph.with_codes.Goals as goal
 
 pub returns-in-Noncommutative : goal.returns-in-Noncommutative
 returns-in-Noncommutative c =
