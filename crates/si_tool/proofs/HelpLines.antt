@@ -68,6 +68,7 @@ all_lines line f held made k are end =
 pub help_ends : (held : List HeldRow) (k : ℕ) (start text all : List ℕ) → map row_now held ≡ rows → length held ≤ k
     → start ≡ HELP_HEAD.now → text ≡ start ++ flat_map (λ row. row_line (row_now row)) (take k held)
     → all ≡ text ++ HELP_TAIL.now → all ≡ help_text
+unfolding help_text
 help_ends held k start text all are_rows end begin is more =
     let lines = all_lines row_line row_now held rows k are_rows end in
     more ∙ ap (λ (t : List ℕ). t ++ HELP_TAIL.now) (is ∙ ap₂ (λ (l m : List ℕ). l ++ m) begin lines)
@@ -75,6 +76,7 @@ help_ends held k start text all are_rows end begin is more =
 pub page_ends : (word start first second third last : List ℕ) → start ≡ word → first ≡ start ++ codes "\n"
     → second ≡ first ++ flat_map (line_of word) rows → third ≡ second ++ codes "\n\n"
     → last ≡ third ++ flat_map (note_of word) notes → last ≡ page_text word
+unfolding page_text
 page_ends word start first second third last one two three four five = rw (five, four, three, two, one) refl
 
 -- ---- a row of the table has its line
@@ -107,6 +109,7 @@ shown_in line head tail listed k past below whole =
     }
 
 pub each_shown : (task : Task) → Shows help_text task
+unfolding help_text
 each_shown task =
     let listed = each_listed task in
     subst (λ (t : Task). Shows help_text t) listed.2
@@ -121,6 +124,7 @@ line_whole word row is = chosen (begins word row.form) is
     chosen false holds = cc
 
 pub page_shows : (task : Task) (word : List ℕ) → begins word (form_of task) ≡ true → Shows (page_text word) task
+unfolding page_text
 page_shows task word is =
     let listed = each_listed task in
     let head = word ++ codes "\n" in

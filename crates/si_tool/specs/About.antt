@@ -33,7 +33,7 @@ abbrev pub row_line : Row → List ℕ
 row_line row = shown_part row.form ++ drop (length (shown_form row.form)) BLANKS.now ++ row.says
 
 -- a line for each row of the table, between what stands before them and behind
-abbrev pub help_text : List ℕ
+unfoldable pub help_text : List ℕ
 help_text = HELP_HEAD.now ++ flat_map row_line rows ++ HELP_TAIL.now
 
 -- a form begins with a word
@@ -54,7 +54,7 @@ abbrev pub note_of : (word : List ℕ) → List ℕ × List ℕ → List ℕ
 note_of word note = if bytes_eq note.0 word then note.1 else []
 
 -- the page of a word: a line for each of the forms that begin with it, and what the notes say
-abbrev pub page_text : (word : List ℕ) → List ℕ
+unfoldable pub page_text : (word : List ℕ) → List ℕ
 page_text word = word ++ codes "\n" ++ flat_map (line_of word) rows ++ codes "\n\n"
     ++ flat_map (note_of word) notes
 

@@ -102,11 +102,11 @@ fn page(alloc: Global, word: &str) -> Result<Text, NoMemory>
 }
 
 /// Adds the note, where it is of the word.
-fn add_note_of(text: &mut Text, word: &str, own: &str, note: &str) -> Result<(), NoMemory>
+fn add_note_of(text: &mut Text, word: &str, own: &str, note: &[u8]) -> Result<(), NoMemory>
     ensures { OnOk result (text.new ≡ text.old ++ note_of word.now (own.now, note.now)) }
 {
     if own == word {
-        text.add(note.as_bytes())?;
+        text.add(note)?;
     }
     Ok(())
 }

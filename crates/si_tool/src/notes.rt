@@ -5,10 +5,10 @@ ghost use Rattle.si_tool.specs.About as about;
 
 /// For each word with which a form begins: what the commands of that word write, an example, and the
 /// statuses with which they end.
-const NOTES: &[(&str, &str)] = &[
+const NOTES: &[(&str, &[u8])] = &[
     (
         "check",
-        "It writes `proper`, which says that a circuit without hazards can exist for the
+        b"It writes `proper`, which says that a circuit without hazards can exist for the
 graph, and how many signals, states and arcs it has, and its start.
 
 Example:
@@ -21,20 +21,20 @@ a graph that isn't proper.
     ),
     (
         "states",
-        "It writes the signals, and for each state its code, with a * behind the digit
-of an excited signal, and the events that it enables.
+        b"It writes the signals, and for each state its code, with a * behind the digit
+of an excited signal, and the events that it enables; where the graph has no
+codes, a - stands for each. It takes each graph, proper or not.
 
 Example:
 
   sisyn states examples/c-element.sg
 
-Statuses: 0, 1 nomemory, 3 readfault, 4 writefault, 5 toolong, 6 badtext, 7 of
-a graph that isn't proper.
+Statuses: 0, 1 nomemory, 3 readfault, 4 writefault, 5 toolong, 6 badtext.
 ",
     ),
     (
         "regions",
-        "It writes for each event where it is excited (er), where it has just switched
+        b"It writes for each event where it is excited (er), where it has just switched
 (sr), and where it stays as it is from there on (qr).
 
 Example:
@@ -47,7 +47,7 @@ a graph that isn't proper.
     ),
     (
         "conflicts",
-        "It writes how many pairs of states have one code and enable different events of
+        b"It writes how many pairs of states have one code and enable different events of
 outputs, and the first 1,000 of them.
 
 Example:
@@ -60,8 +60,9 @@ a graph that isn't proper.
     ),
     (
         "explain",
-        "It writes of the first 10 conflicts the code, what both states enable, a
-shortest walk to each, and whether no inserted signal can resolve it.
+        b"It writes of the first 10 conflicts the code, what both states enable, a
+shortest walk to each, and whether no inserted signal can resolve it, as inputs
+alone lead to both states, or the circuit can't tell the two apart (twins).
 
 Example:
 
@@ -73,8 +74,9 @@ a graph that isn't proper.
     ),
     (
         "lint",
-        "It writes lines on what is worth a second look, as dead ends, arcs of no return,
-inputs that are disabled, unused signals, equal codes and alike states.
+        b"It writes lines on what is worth a second look, as dropped states, dead ends,
+arcs of no return, inputs that are disabled, unused signals, equal codes and
+alike states.
 
 Example:
 
@@ -86,7 +88,7 @@ a graph that isn't proper.
     ),
     (
         "covers",
-        "It writes for each signal that isn't an input sums for its next value, its set
+        b"It writes for each signal that isn't an input sums for its next value, its set
 and its reset, and the monotonous cubes; or the first conflict.
 
 Example:
@@ -99,7 +101,7 @@ a graph that isn't proper.
     ),
     (
         "fold",
-        "It writes the graph with those states merged that no walk tells apart.
+        b"It writes the graph with those states merged that no walk tells apart.
 
 Example:
 
@@ -111,19 +113,19 @@ a graph that isn't proper.
     ),
     (
         "dot",
-        "It writes the graph in Graphviz's language.
+        b"It writes the graph in Graphviz's language, with its conflicts in red, or with
+the breach that `check` shows: it takes each graph, proper or not.
 
 Example:
 
   sisyn dot examples/vme-read.sg | dot -Tsvg > vme-read.svg
 
-Statuses: 0, 1 nomemory, 3 readfault, 4 writefault, 5 toolong, 6 badtext, 7 of
-a graph that isn't proper.
+Statuses: 0, 1 nomemory, 3 readfault, 4 writefault, 5 toolong, 6 badtext.
 ",
     ),
     (
         "synth",
-        "It writes a netlist: a line for each signal that was inserted to resolve
+        b"It writes a netlist: a line for each signal that was inserted to resolve
 conflicts, and a gate for each signal that isn't an input.
 
 Example:
@@ -136,7 +138,7 @@ a graph that isn't proper, 8 unresolved.
     ),
     (
         "map",
-        "It writes a netlist as `synth` does, with a cell of the library for each
+        b"It writes a netlist as `synth` does, with a cell of the library for each
 signal; where none fits, further signals take a gate apart.
 
 Example:
@@ -149,7 +151,7 @@ a graph that isn't proper, 8 unresolved, 9 unmapped.
     ),
     (
         "resolve",
-        "It writes the graph after the insertions that `synth` makes.
+        b"It writes the graph after the insertions that `synth` makes.
 
 Example:
 
@@ -161,7 +163,7 @@ a graph that isn't proper, 8 unresolved.
     ),
     (
         "insert",
-        "It writes the graph after the insertions that a netlist names.
+        b"It writes the graph after the insertions that a netlist names.
 
 Example:
 
@@ -173,7 +175,7 @@ a graph that isn't proper, 11 rejected.
     ),
     (
         "genlib",
-        "It writes a library of genlib, the format of SIS and ABC, as one of cells.
+        b"It writes a library of genlib, the format of SIS and ABC, as one of cells.
 
 Example:
 
@@ -184,7 +186,7 @@ Statuses: 0, 1 nomemory, 3 readfault, 4 writefault, 5 toolong, 6 badtext.
     ),
     (
         "verilog",
-        "It writes the netlist as a module of Verilog.
+        b"It writes the netlist as a module of Verilog.
 
 Example:
 
@@ -195,7 +197,7 @@ Statuses: 0, 1 nomemory, 3 readfault, 4 writefault, 5 toolong, 6 badtext.
     ),
     (
         "loops",
-        "It writes how many arcs lead from gate to gate, and those pins that, cut, leave
+        b"It writes how many arcs lead from gate to gate, and those pins that, cut, leave
 no loop.
 
 Example:
@@ -207,7 +209,7 @@ Statuses: 0, 1 nomemory, 3 readfault, 4 writefault, 5 toolong, 6 badtext.
     ),
     (
         "reset",
-        "It writes which gates settle by themselves while the inputs are held, and which
+        b"It writes which gates settle by themselves while the inputs are held, and which
 outputs to force so that all do.
 
 Example:
@@ -219,7 +221,7 @@ Statuses: 0, 1 nomemory, 3 readfault, 4 writefault, 5 toolong, 6 badtext.
     ),
     (
         "replay",
-        "It writes `done`, how many events were fired, the values of the signals, and the
+        b"It writes `done`, how many events were fired, the values of the signals, and the
 state of the graph; or where the circuit first leaves the graph.
 
 Example:
@@ -232,7 +234,7 @@ a graph that isn't proper, 10 differs.
     ),
     (
         "wave",
-        "It writes the same replay as a Value Change Dump.
+        b"It writes the same replay as a Value Change Dump.
 
 Example:
 
@@ -244,7 +246,7 @@ a graph that isn't proper, 10 differs.
     ),
     (
         "audit",
-        "It writes `audited` where the netlist, whoever wrote it, is certified to be
+        b"It writes `audited` where the netlist, whoever wrote it, is certified to be
 right for the graph, and what it has.
 
 Example:
@@ -257,7 +259,7 @@ a graph that isn't proper, 11 rejected.
     ),
     (
         "same",
-        "It writes `same` and the sizes of both; or the first walk after which the one
+        b"It writes `same` and the sizes of both; or the first walk after which the one
 graph does what the other doesn't.
 
 Example:
@@ -270,7 +272,7 @@ a graph that isn't proper, 14 unlike.
     ),
     (
         "exercise",
-        "It makes the graph of N handshakes, checks it and makes its netlist, and writes
+        b"It makes the graph of N handshakes, checks it and makes its netlist, and writes
 their sizes.
 
 Example:
@@ -282,7 +284,7 @@ Statuses: 0, 1 nomemory, 4 writefault.
     ),
     (
         "help",
-        "It writes the page of a command: its forms, what it writes, an example, and the
+        b"It writes the page of a command: its forms, what it writes, an example, and the
 statuses with which it ends.
 
 Example:
@@ -294,7 +296,7 @@ Statuses: 0, 1 nomemory, 4 writefault.
     ),
     (
         "--version",
-        "It writes one line.
+        b"It writes one line.
 
 Example:
 
@@ -306,7 +308,7 @@ Statuses: 0, 1 nomemory, 4 writefault.
 ];
 
 /// The notes: each beside the word of which it tells.
-pub fn notes() -> &'static [(&'static str, &'static str)]
+pub fn notes() -> &'static [(&'static str, &'static [u8])]
     ensures { map (λ note. (note.0.now, note.1.now)) result.now ≡ about.notes }
 {
     NOTES
