@@ -1,5 +1,5 @@
 -- The table has a row for each task, with the form of the task.
-use Rattle.std.proofs.Common.{◌≡◌, ℕ, zero, suc, ◌+◌, ◌-◌, ◌<◌, ◌≤◌, List, [], ◌∷◌, length, map, get_or, refl, sym, ap, subst}
+use Rattle.std.proofs.Common.{◌≡◌, ℕ, zero, suc, ◌+◌, ◌-◌, ◌<◌, ◌≤◌, List, [], ◌∷◌, length, map, get_or, refl, sym, ap, subst, codes, not}
 use Rattle.std.proofs.Common.{◌∙◌, arith, inl, inr, lit≤, Bool, true, false, bytes_eq, String, Global}
 use Rattle.std.proofs.Math.ListN.{get_or-map}
 use Rattle.std.proofs.lemmas.Bool.{cases_lt}
@@ -14,7 +14,7 @@ use Rattle.si_stages.specs.declared.replay_kind.ReplayReport.TheVariants.{End, W
 use Rattle.si_stages.specs.declared.report_kind.Report.TheVariants.{Summary, Regions, Conflicts, Covers, Fold}
 use Rattle.si_stages.specs.declared.report_kind.Report.TheVariants.{States, Explain, Dot, Lint}
 use Rattle.si_words.specs.Names.{stands_in}
-use Rattle.si_tool.specs.Command.{Slot, Word, OneOf, Asks, AsksNothing, HasForm, form_of, words_of}
+use Rattle.si_tool.specs.Command.{Slot, Word, LoneFile, OneOf, Asks, AsksNothing, HasForm, form_of, words_of}
 use Rattle.si_tool.specs.Command.{Row, digits, file_count, number_of, row_of, rows, tasks}
 use Rattle.si_handshakes.specs.Handshakes.{max_handshakes}
 use Rattle.si_tool.specs.Loops.Reads.{row_now, slots_now}
@@ -22,11 +22,14 @@ use Rattle.si_tool.specs.declared.table.Row.{Row as HeldRow}
 use Rattle.si_tool.specs.declared.task.Task.{Task}
 use Rattle.si_tool.specs.declared.task.Task.TheVariants.{About, Tell, Synth, Map, FromGenlib, Verilog, Replay, Audit}
 use Rattle.si_tool.specs.declared.task.Task.TheVariants.{TellNetlist, Resolve, Insert, Same, Exercise}
-use Rattle.si_tool.specs.declared.task.Topic.TheVariants.{Help, Version}
+use Rattle.si_tool.specs.declared.task.Topic.TheVariants.{Help, Page, Version}
+use Rattle.si_tool.specs.declared.task.HelpPlace.TheVariants.{Before, Behind}
 
 -- ---- the test whether some words may have both of two forms
 abbrev pub meets : Slot → Slot → Bool
 meets (Word x) (Word y) = bytes_eq x y
+meets (Word x) (LoneFile name) = not (bytes_eq x (codes "--help"))
+meets (LoneFile name) (Word y) = not (bytes_eq y (codes "--help"))
 meets (Word x) (OneOf name words) = stands_in words x
 meets (OneOf name words) (Word y) = stands_in words y
 meets (OneOf name words) (OneOf other others) = list_any (λ w. stands_in others w) words
@@ -57,6 +60,8 @@ place task = place_among tasks (form_of task)
 
 pub each_listed : (task : Task) → IsListed task
 each_listed (About Help) = (place (About Help), lit≤ tt, refl)
+each_listed (About (Page Before)) = (place (About (Page Before)), lit≤ tt, refl)
+each_listed (About (Page Behind)) = (place (About (Page Behind)), lit≤ tt, refl)
 each_listed (About Version) = (place (About Version), lit≤ tt, refl)
 each_listed (Tell Summary) = (place (Tell Summary), lit≤ tt, refl)
 each_listed (Tell Regions) = (place (Tell Regions), lit≤ tt, refl)

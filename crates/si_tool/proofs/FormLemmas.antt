@@ -1,5 +1,5 @@
 -- Words and forms, place by place.
-use Rattle.std.proofs.Common.{◌≡◌, ◌≢◌, ℕ, suc, ◌+◌, ◌<◌, List, [], ◌∷◌, ◌++◌, length, map, drop, get_or, refl, sym, ap}
+use Rattle.std.proofs.Common.{◌≡◌, ◌≢◌, ℕ, suc, ◌+◌, ◌<◌, List, [], ◌∷◌, ◌++◌, length, map, drop, get_or, refl, sym, ap, codes}
 use Rattle.std.proofs.Common.{◌∙◌, arith, append-nil, append_assoc, add-one, String, string_bytes, Global, Bool, true}
 use Rattle.std.proofs.Common.{false, not, bytes_eq, Bor}
 use Rattle.std.proofs.lemmas.Slice.Eq.{bytes_eq-Decides}
@@ -7,7 +7,7 @@ use Rattle.std.proofs.Math.Seq.{drop-cons}
 use Rattle.std.proofs.lemmas.List.{drop-map, length-map}
 use Rattle.si_words.specs.Loops.Reads.{words_now}
 use Rattle.si_words.specs.Names.{stands_in}
-use Rattle.si_tool.specs.Command.{Slot, Word, File, OneOf, fill, file_count, Fit, HasForm, words_of}
+use Rattle.si_tool.specs.Command.{Slot, Word, File, LoneFile, OneOf, fill, file_count, choice_count, Fit, HasForm, words_of}
 use Rattle.si_tool.specs.Loops.Reads.{slot_now, slots_now}
 use Rattle.si_tool.specs.declared.form.Slot.{Slot as HeldSlot}
 
@@ -18,6 +18,8 @@ length_fill [] files choices fit = refl
 length_fill (Word word ∷ form) files choices fit = ap suc (length_fill form files choices fit)
 length_fill (File name ∷ form) [] choices fit = absurd fit
 length_fill (File name ∷ form) (file ∷ files) choices fit = ap suc (length_fill form files choices fit)
+length_fill (LoneFile name ∷ form) [] choices fit = absurd fit
+length_fill (LoneFile name ∷ form) (file ∷ files) choices fit = ap suc (length_fill form files choices fit.1)
 length_fill (OneOf name words ∷ form) files [] fit = absurd fit
 length_fill (OneOf name words ∷ form) files (choice ∷ choices) fit = ap suc (length_fill form files choices fit.1)
 
@@ -36,6 +38,10 @@ count_of_files (File name ∷ form) [] choices fit = absurd fit
 count_of_files (File name ∷ form) (file ∷ files) choices fit =
     let fewer = count_of_files form files choices fit in
     omega (arith, fewer)
+count_of_files (LoneFile name ∷ form) [] choices fit = absurd fit
+count_of_files (LoneFile name ∷ form) (file ∷ files) choices fit =
+    let fewer = count_of_files form files choices fit.1 in
+    omega (arith, fewer)
 count_of_files (OneOf name words ∷ form) files [] fit = absurd fit
 count_of_files (OneOf name words ∷ form) files (choice ∷ choices) fit = count_of_files form files choices fit.1
 
@@ -44,23 +50,46 @@ pub count_of_names : (form : List Slot) (files : List (Bor (List ℕ))) (choices
 count_of_names form files choices fit =
     sym (length-map files (λ name. name.now)) ∙ count_of_files form (words_now files) choices fit
 
+pub count_of_choices : (form : List Slot) (files choices : List (List ℕ)) → Fit form files choices
+    → length choices ≡ choice_count form
+count_of_choices [] [] [] fit = refl
+count_of_choices [] [] (choice ∷ choices) fit = absurd fit
+count_of_choices [] (file ∷ files) choices fit = absurd fit
+count_of_choices (Word word ∷ form) files choices fit = count_of_choices form files choices fit
+count_of_choices (File name ∷ form) [] choices fit = absurd fit
+count_of_choices (File name ∷ form) (file ∷ files) choices fit = count_of_choices form files choices fit
+count_of_choices (LoneFile name ∷ form) [] choices fit = absurd fit
+count_of_choices (LoneFile name ∷ form) (file ∷ files) choices fit = count_of_choices form files choices fit.1
+count_of_choices (OneOf name words ∷ form) files [] fit = absurd fit
+count_of_choices (OneOf name words ∷ form) files (choice ∷ choices) fit =
+    let fewer = count_of_choices form files choices fit.1 in
+    omega (arith, fewer)
+
+pub count_of_chosen : (form : List Slot) (files : List (List ℕ)) (choices : List (Bor (List ℕ)))
+    → Fit form files (words_now choices) → length choices ≡ choice_count form
+count_of_chosen form files choices fit =
+    sym (length-map choices (λ name. name.now)) ∙ count_of_choices form files (words_now choices) fit
+
 -- ---- words of a form that begins with a place
 
 -- the word may stand in the place
 abbrev pub Stands : Slot → (word : List ℕ) → Type 0
 Stands (Word own) word = word ≡ own
 Stands (File name) word = Unit {0}
+Stands (LoneFile name) word = word ≢ codes "--help"
 Stands (OneOf name words) word = stands_in words word ≡ true
 
 -- the files, and the choices, behind what the word of the place gives
 abbrev pub with_file : Slot → (word : List ℕ) → (files : List (List ℕ)) → List (List ℕ)
 with_file (Word own) word files = files
 with_file (File name) word files = word ∷ files
+with_file (LoneFile name) word files = word ∷ files
 with_file (OneOf name words) word files = files
 
 abbrev pub with_choice : Slot → (word : List ℕ) → (choices : List (List ℕ)) → List (List ℕ)
 with_choice (Word own) word choices = choices
 with_choice (File name) word choices = choices
+with_choice (LoneFile name) word choices = choices
 with_choice (OneOf name words) word choices = word ∷ choices
 
 -- the word stands in the place, and the others have the rest of the form
@@ -99,6 +128,19 @@ begins (File name) form word words (file ∷ files) choices has =
       stands = tt;
       has = (tails, has.1);
     }
+begins (LoneFile name) form word words [] choices has = absurd has.1
+begins (LoneFile name) form word words (file ∷ files) choices has =
+    let same = has.0 in
+    let heads : file ≡ word = cc in
+    let tails : words ≡ fill form files choices = cc in
+    record {
+      later_files = files;
+      later_choices = choices;
+      files_are = ap (λ (w : List ℕ). w ∷ files) heads;
+      choices_are = refl;
+      stands = rw (sym heads) has.1.0;
+      has = (tails, has.1.1);
+    }
 begins (OneOf name own) form word words files [] has = absurd has.1
 begins (OneOf name own) form word words files (choice ∷ choices) has =
     let same = has.0 in
@@ -120,6 +162,8 @@ pub with_first : (slot : Slot) (form : List Slot) (word : List ℕ) (words files
 with_first (Word own) form word words files choices stands has = (cc (stands, has.0), has.1)
 with_first (File name) form word words files choices stands has =
     (ap (λ (l : List (List ℕ)). word ∷ l) has.0, has.1)
+with_first (LoneFile name) form word words files choices stands has =
+    (ap (λ (l : List (List ℕ)). word ∷ l) has.0, (stands, has.1))
 with_first (OneOf name own) form word words files choices stands has =
     (ap (λ (l : List (List ℕ)). word ∷ l) has.0, (stands, has.1))
 
@@ -129,6 +173,8 @@ pub not_without_words : (slot : Slot) (form : List Slot) (files choices : List (
 not_without_words (Word own) form files choices has = (let none = has.0 in cc)
 not_without_words (File name) form [] choices has = has.1
 not_without_words (File name) form (file ∷ files) choices has = (let none = has.0 in cc)
+not_without_words (LoneFile name) form [] choices has = has.1
+not_without_words (LoneFile name) form (file ∷ files) choices has = (let none = has.0 in cc)
 not_without_words (OneOf name own) form files [] has = has.1
 not_without_words (OneOf name own) form files (choice ∷ choices) has = (let none = has.0 in cc)
 
@@ -164,12 +210,14 @@ files_behind : (slot : Slot) (word : List ℕ) (files later : List (List ℕ))
     → (files ++ with_file slot word []) ++ later ≡ files ++ with_file slot word later
 files_behind (Word own) word files later = append_assoc files [] later
 files_behind (File name) word files later = append_assoc files (word ∷ []) later
+files_behind (LoneFile name) word files later = append_assoc files (word ∷ []) later
 files_behind (OneOf name own) word files later = append_assoc files [] later
 
 choices_behind : (slot : Slot) (word : List ℕ) (choices later : List (List ℕ))
     → (choices ++ with_choice slot word []) ++ later ≡ choices ++ with_choice slot word later
 choices_behind (Word own) word choices later = append_assoc choices [] later
 choices_behind (File name) word choices later = append_assoc choices [] later
+choices_behind (LoneFile name) word choices later = append_assoc choices [] later
 choices_behind (OneOf name own) word choices later = append_assoc choices (word ∷ []) later
 
 module _ (form tail : List Slot) (words others files choices : List (List ℕ)) (place : ℕ) (slot : Slot)
@@ -225,6 +273,13 @@ module _ (form tail : List Slot) (words others files choices : List (List ℕ)) 
   file_filled name here at next_slot next_word = rw (append-nil choices) at
       (place_filled form tail words others files choices place (File name) word filled here at tt next_slot next_word)
 
+  pub lone_filled : (name : List ℕ) → drop place form ≡ LoneFile name ∷ tail → drop place words ≡ word ∷ others
+      → drop (place + 1) form ≡ tail → drop (place + 1) words ≡ others → word ≢ codes "--help"
+      → IsFilled form words (files ++ word ∷ []) choices (place + 1)
+  lone_filled name here at next_slot next_word stands = rw (append-nil choices) at
+      (place_filled form tail words others files choices place (LoneFile name) word filled here at stands next_slot
+      next_word)
+
   pub choice_filled : (name : List ℕ) (listed : List (List ℕ)) → drop place form ≡ OneOf name listed ∷ tail
       → drop place words ≡ word ∷ others → drop (place + 1) form ≡ tail → drop (place + 1) words ≡ others
       → stands_in listed word ≡ true → IsFilled form words files (choices ++ word ∷ []) (place + 1)
@@ -261,6 +316,14 @@ word_at words place word bytes below is same =
     ∙ ap (λ b. b ∷ drop (place + 1) (words_of words)) (ap (λ w. string_bytes w) (sym is) ∙ sym same)
 
 -- ---- whether two words are equal, as the code tests it
+pub word_same : (x y : List ℕ) (same : Bool) → same ≡ bytes_eq x y → same ≡ true → x ≡ y
+word_same x y same is yes_same = (bytes_eq-Decides x y).0 (sym is ∙ yes_same)
+
+pub word_other : (x y : List ℕ) (same : Bool) → same ≡ bytes_eq x y → same ≡ false → x ≢ y
+word_other x y same is no_same equal =
+    let yes_same = (bytes_eq-Decides x y).1 equal in
+    cc
+
 pub words_differ : (x y : List ℕ) (differs : Bool) → differs ≡ not (bytes_eq x y) → differs ≡ true → x ≢ y
 words_differ x y differs is yes_differ same =
     let equal = (bytes_eq-Decides x y).1 same in

@@ -1,20 +1,25 @@
 -- The help shows each command; and the texts that are put together of lines.
-use Rattle.std.proofs.Common.{◌≡◌, ◌-◌, ◌++◌, ◌<◌, ◌≤◌, ℕ, suc, List, ◌∷◌, length, map, take, drop, get_or}
-use Rattle.std.proofs.Common.{◌∙◌, refl, sym, ap, ap₂, subst, arith, append_assoc, codes}
+use Rattle.std.proofs.Common.{◌≡◌, ◌+◌, ◌-◌, ◌++◌, ◌<◌, ◌≤◌, ℕ, suc, List, [], ◌∷◌, length, map, take, drop, get_or}
+use Rattle.std.proofs.Common.{◌∙◌, refl, sym, ap, ap₂, subst, arith, append_assoc, codes, Bool, true, false, bytes_eq}
+use Rattle.std.specs.Prelude.{if◌then◌else◌}
 use Rattle.std.proofs.Math.Seq.{drop-cons, take_all}
 use Rattle.std.proofs.lemmas.Grind.{flat_map-append}
 use Rattle.std.proofs.lemmas.List.{take-append-drop, length-append}
 use Rattle.std.proofs.lemmas.List.Folds.{flat_map-map}
-use Rattle.std.specs.List.{flat_map}
+use Rattle.std.proofs.lemmas.Slice.Eq.{bytes_eq-Decides}
+use Rattle.std.specs.List.{flat_map, list_all}
 use Rattle.si_base.specs.Bytes.{space}
+use Rattle.si_words.specs.Names.{stands_in}
 use Rattle.si_tool.specs.About.{Shows, shown_form, shown_part, shown_slot, row_line, help_text}
-use Rattle.si_tool.specs.Command.{Row, Slot, form_of, row_of, rows, tasks}
+use Rattle.si_tool.specs.About.{begins, line_of, note_of, notes, page_text}
+use Rattle.si_tool.specs.Command.{Row, Slot, Word, File, LoneFile, OneOf, command_words, form_of, row_of, rows, tasks}
 use Rattle.si_tool.specs.Loops.Reads.{row_now, slot_now, slots_now}
 use Rattle.si_tool.specs.declared.about.TheConstants.{HELP_HEAD, HELP_TAIL, BLANKS}
 use Rattle.si_tool.specs.declared.form.Slot.{Slot as HeldSlot}
 use Rattle.si_tool.specs.declared.table.Row.{Row as HeldRow}
 use Rattle.si_tool.specs.declared.task.Task.{Task}
 use Rattle.si_tool.proofs.CommandTasks.{each_listed, first_task}
+use Rattle.si_tool.proofs.FormOverlap.{one_of_all}
 
 -- ---- forms and lines, as the code adds them
 pub form_added : (form : List HeldSlot) (k : ℕ) (old start text : List ℕ) → length form ≤ k
@@ -53,16 +58,26 @@ row_added row old first second third fourth last before behind blanks says one t
     added ∙ ap₂ (λ (l m : List ℕ). ((((old ++ codes "\n  ") ++ shown_form row.form) ++ codes "  ") ++ l) ++ m) gap text
     ∙ joined old (codes "\n  ") (shown_form row.form) (codes "  ") (drop (length (shown_form row.form)) BLANKS.now) row.says
 
--- the lines of the rows that the code holds
+-- the lines of all items of a list that the code holds
+pub all_lines : {A B : Type 0} (line : B → List ℕ) (f : A → B) (held : List A) (made : List B) (k : ℕ)
+    → map f held ≡ made → length held ≤ k → flat_map (λ x. line (f x)) (take k held) ≡ flat_map line made
+all_lines line f held made k are end =
+    ap (λ l. flat_map (λ x. line (f x)) l) (take_all k held end) ∙ sym (flat_map-map line f held)
+    ∙ ap (λ l. flat_map line l) are
+
 pub help_ends : (held : List HeldRow) (k : ℕ) (start text all : List ℕ) → map row_now held ≡ rows → length held ≤ k
     → start ≡ HELP_HEAD.now → text ≡ start ++ flat_map (λ row. row_line (row_now row)) (take k held)
     → all ≡ text ++ HELP_TAIL.now → all ≡ help_text
-help_ends held k start text all are_rows end begins is more =
-    let whole : take k held ≡ held = take_all k held end in
-    let lines : flat_map (λ row. row_line (row_now row)) (take k held) ≡ flat_map row_line rows =
-    ap (λ l. flat_map (λ row. row_line (row_now row)) l) whole ∙ sym (flat_map-map row_line row_now held)
-    ∙ ap (λ l. flat_map row_line l) are_rows in
-    more ∙ ap (λ (t : List ℕ). t ++ HELP_TAIL.now) (is ∙ ap₂ (λ (l m : List ℕ). l ++ m) begins lines)
+unfolding help_text
+help_ends held k start text all are_rows end begin is more =
+    let lines = all_lines row_line row_now held rows k are_rows end in
+    more ∙ ap (λ (t : List ℕ). t ++ HELP_TAIL.now) (is ∙ ap₂ (λ (l m : List ℕ). l ++ m) begin lines)
+
+pub page_ends : (word start first second third last : List ℕ) → start ≡ word → first ≡ start ++ codes "\n"
+    → second ≡ first ++ flat_map (line_of word) rows → third ≡ second ++ codes "\n\n"
+    → last ≡ third ++ flat_map (note_of word) notes → last ≡ page_text word
+unfolding page_text
+page_ends word start first second third last one two three four five = rw (five, four, three, two, one) refl
 
 -- ---- a row of the table has its line
 cut_behind : (head lines part blanks says later tail : List ℕ)
@@ -70,18 +85,20 @@ cut_behind : (head lines part blanks says later tail : List ℕ)
     ≡ (head ++ lines) ++ part ++ (blanks ++ says ++ later ++ tail)
 cut_behind head lines part blanks says later tail = simp append_assoc refl
 
-shown_in : (head tail : List ℕ) (listed : List Task) (k : ℕ) (past : Task) → k < length listed
-    → Shows (head ++ flat_map row_line (map row_of listed) ++ tail) (get_or listed k past)
-shown_in head tail listed k past below =
+shown_in : (line : Row → List ℕ) (head tail : List ℕ) (listed : List Task) (k : ℕ) (past : Task)
+    → k < length listed → line (row_of (get_or listed k past)) ≡ row_line (row_of (get_or listed k past))
+    → Shows (head ++ flat_map line (map row_of listed) ++ tail) (get_or listed k past)
+shown_in line head tail listed k past below whole =
     let task = get_or listed k past in
-    let line : Task → List ℕ = λ t. row_line (row_of t) in
-    let before = flat_map line (take k listed) in
-    let later = flat_map line (drop (suc k) listed) in
+    let line_at : Task → List ℕ = λ t. line (row_of t) in
+    let before = flat_map line_at (take k listed) in
+    let later = flat_map line_at (drop (suc k) listed) in
     let cut : listed ≡ take k listed ++ task ∷ drop (suc k) listed =
     sym (take-append-drop k listed) ∙ ap (λ l. take k listed ++ l) (drop-cons listed k past below) in
-    let lines : flat_map row_line (map row_of listed) ≡ before ++ (line task ++ later) =
-    flat_map-map row_line row_of listed
-    ∙ ap (λ l. flat_map line l) cut ∙ flat_map-append line (take k listed) (task ∷ drop (suc k) listed) in
+    let lines : flat_map line (map row_of listed) ≡ before ++ (row_line (row_of task) ++ later) =
+    flat_map-map line row_of listed ∙ ap (λ l. flat_map line_at l) cut
+    ∙ flat_map-append line_at (take k listed) (task ∷ drop (suc k) listed)
+    ∙ ap (λ (l : List ℕ). before ++ (l ++ later)) whole in
     let form = form_of task in
     let blanks = drop (length (shown_form form)) BLANKS.now in
     record {
@@ -92,7 +109,54 @@ shown_in head tail listed k past below =
     }
 
 pub each_shown : (task : Task) → Shows help_text task
+unfolding help_text
 each_shown task =
     let listed = each_listed task in
     subst (λ (t : Task). Shows help_text t) listed.2
-    (shown_in HELP_HEAD.now HELP_TAIL.now tasks listed.0 first_task listed.1)
+    (shown_in row_line HELP_HEAD.now HELP_TAIL.now tasks listed.0 first_task listed.1 refl)
+
+-- ---- and its page
+line_whole : (word : List ℕ) (row : Row) → begins word row.form ≡ true → line_of word row ≡ row_line row
+line_whole word row is = chosen (begins word row.form) is
+  where
+    chosen : (b : Bool) → b ≡ true → (if b then row_line row else []) ≡ row_line row
+    chosen true holds = refl
+    chosen false holds = cc
+
+pub page_shows : (task : Task) (word : List ℕ) → begins word (form_of task) ≡ true → Shows (page_text word) task
+unfolding page_text
+page_shows task word is =
+    let listed = each_listed task in
+    let head = word ++ codes "\n" in
+    let tail = codes "\n\n" ++ flat_map (note_of word) notes in
+    let there = subst (λ (t : Task). begins word (form_of t) ≡ true) (sym listed.2) is in
+    let shown = shown_in (line_of word) head tail tasks listed.0 first_task listed.1
+    (line_whole word (row_of (get_or tasks listed.0 first_task)) there) in
+    let whole : head ++ flat_map (line_of word) rows ++ tail ≡ page_text word =
+    sym (append_assoc (head ++ flat_map (line_of word) rows) (codes "\n\n") (flat_map (note_of word) notes)) in
+    subst (λ (text : List ℕ). Shows text task) whole
+    (subst (λ (t : Task). Shows (head ++ flat_map (line_of word) rows ++ tail) t) listed.2 shown)
+
+-- the word with which a form begins is one of those of the commands
+abbrev has_page : List Slot → Bool
+has_page (Word own ∷ form) = stands_in command_words own
+has_page form = true
+
+all_have_pages : list_all (λ task. has_page (form_of task)) tasks ≡ true
+all_have_pages = refl
+
+page_of_first : (form : List Slot) (word : List ℕ) → has_page form ≡ true → begins word form ≡ true
+    → stands_in command_words word ≡ true
+page_of_first [] word page is = cc
+page_of_first (Word own ∷ form) word page is =
+    subst (λ (w : List ℕ). stands_in command_words w ≡ true) ((bytes_eq-Decides own word).0 is) page
+page_of_first (File name ∷ form) word page is = cc
+page_of_first (LoneFile name ∷ form) word page is = cc
+page_of_first (OneOf name words ∷ form) word page is = cc
+
+pub has_its_page : (task : Task) (word : List ℕ) → begins word (form_of task) ≡ true
+    → stands_in command_words word ≡ true
+has_its_page task word is =
+    let listed = each_listed task in
+    let page = one_of_all (λ t. has_page (form_of t)) tasks listed.0 all_have_pages listed.1 in
+    page_of_first (form_of task) word (subst (λ (t : Task). has_page (form_of t) ≡ true) listed.2 page) is

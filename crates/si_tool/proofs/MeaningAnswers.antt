@@ -8,7 +8,8 @@ use Rattle.si_tool.specs.Loads.{Contents, Counts, loads, load_well, loads_well, 
 use Rattle.si_tool.specs.Meaning.{meaning, ComesTo}
 use Rattle.si_refusals.specs.Refusal.{TextRefusal, ReadFault, Answer, Output, FileRefused, TextRefused}
 use Rattle.si_tool.specs.declared.task.Task.{Task}
-use Rattle.si_tool.specs.declared.task.Topic.TheVariants.{Help, Version}
+use Rattle.si_tool.specs.declared.task.Topic.TheVariants.{Help, Page, Version}
+use Rattle.si_tool.specs.declared.task.HelpPlace.TheVariants.{Before, Behind}
 use Rattle.si_tool.specs.declared.task.Task.TheVariants.{About, Tell, Synth, Map, FromGenlib, Verilog, Replay, Audit}
 use Rattle.si_tool.specs.declared.task.Task.TheVariants.{Exercise}
 use Rattle.si_tool.specs.declared.task.Task.TheVariants.{TellNetlist, Resolve, Insert, Same}
@@ -30,7 +31,7 @@ use Rattle.si_tool.proofs.FormLemmas.{count_of_files}
 
 -- ---- by their texts: to one answer at most
 pub meaning_one : (task : Task) (files choices texts : List (List ℕ)) → AtMostOne (meaning task files choices texts)
-meaning_one (About topic) [] choices [] = gives_one (about_text topic)
+meaning_one (About topic) [] choices [] = gives_one (about_text topic choices)
 meaning_one (Tell what) (file ∷ []) choices (text ∷ []) = report_one what file text
 meaning_one (Synth style) (file ∷ []) choices (text ∷ []) = synth_one style file text
 meaning_one (Map format) (g ∷ l ∷ []) choices (a ∷ b ∷ []) = mapping_one format g a l b
@@ -48,8 +49,10 @@ meaning_one task files choices texts = λ a b one other. absurd one
 -- ---- and to some answer, where a task has the files and choices of its form, and each file its text
 pub meaning_some : (task : Task) (files choices texts : List (List ℕ)) → Fit (form_of task) files choices
     → length texts ≡ length files → HasResult (meaning task files choices texts)
-meaning_some (About Help) [] choices [] fit each = gives_some (about_text Help)
-meaning_some (About Version) [] choices [] fit each = gives_some (about_text Version)
+meaning_some (About Help) [] choices [] fit each = gives_some (about_text Help choices)
+meaning_some (About (Page Before)) [] choices [] fit each = gives_some (about_text (Page Before) choices)
+meaning_some (About (Page Behind)) [] choices [] fit each = gives_some (about_text (Page Behind) choices)
+meaning_some (About Version) [] choices [] fit each = gives_some (about_text Version choices)
 meaning_some (Tell what) (file ∷ []) choices (text ∷ []) fit each = report_some what file text
 meaning_some (Synth style) (file ∷ []) choices (text ∷ []) fit each = synth_some style file text
 meaning_some (Map Own) (g ∷ l ∷ []) choices (a ∷ b ∷ []) fit each = mapping_some Own g a l b

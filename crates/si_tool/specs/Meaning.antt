@@ -22,7 +22,7 @@ use Rattle.si_stages.specs.Verilog.{verilog}
 
 -- a task over its files, each with its text, and the words that are chosen
 abbrev pub meaning : Task → (files choices texts : List (List ℕ)) → Stage TextRefusal (List ℕ)
-meaning (About topic) [] choices [] = gives (about_text topic)
+meaning (About topic) [] choices [] = gives (about_text topic choices)
 meaning (Tell what) (file ∷ []) choices (text ∷ []) = report what file text
 meaning (Synth style) (file ∷ []) choices (text ∷ []) = synth style file text
 meaning (Map format) (g ∷ l ∷ []) choices (graph ∷ library ∷ []) =

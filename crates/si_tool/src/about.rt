@@ -1,10 +1,15 @@
 //! What the program tells of itself.
 
-ghost use Rattle.std.specs.Prelude.{◌≡◌, ◌++◌, IfOk, OnOk, drop};
-ghost use Rattle.si_tool.specs.About.{about_text, help_text, row_line, shown_form};
+ghost use Rattle.std.specs.Prelude.{◌≡◌, ◌++◌, IfOk, OnOk, drop, length};
+ghost use Rattle.si_tool.specs.About.{about_text, begins, help_text, line_of, page_text, row_line};
+ghost use Rattle.si_tool.specs.About.{note_of, shown_form};
+ghost use Rattle.si_tool.specs.Command.{choice_count, form_of};
+ghost use Rattle.si_tool.specs.declared.task.Task.TheVariants.{About};
+ghost use Rattle.si_words.specs.Loops.Reads.{words_now};
 ghost use Rattle.si_tool.specs.Loops.Reads.{row_now, slots_now};
 
 use crate::form::Slot;
+use crate::notes::notes;
 use crate::table::{Row, rows};
 use crate::task::Topic;
 use si_base::ids::NoMemory;
@@ -50,16 +55,21 @@ commands, docs/GUIDE.md what to do where a run is refused, docs/FORMATS.md each
 text, line and status, docs/THEOREM.md what is proved.
 ";
 
+/// The program and its version, and the toolchain with which it was proved.
+const VERSION: &[u8] = b"sisyn 0.1, proved by Rattle kit 13b\n";
+
 /// Blanks behind a form, so that what is said of each begins in one column.
 const BLANKS: &[u8] = b"                                 ";
 
-/// The text on a topic. It fails only where memory runs out.
-pub fn about(alloc: Global, topic: Topic) -> Result<Text, NoMemory>
-    ensures { IfOk result (λ text. text ≡ about_text topic) }
+/// The text on a topic, for the words that are chosen. It fails only where memory runs out.
+pub fn about(alloc: Global, topic: Topic, choices: &[&str]) -> Result<Text, NoMemory>
+    requires { length choices.now ≡ choice_count (form_of (About topic)) }
+    ensures { IfOk result (λ text. text ≡ about_text topic (words_now choices.now)) }
 {
     match topic {
         Topic::Help => help(alloc),
-        Topic::Version => Text::copy_of(alloc, b"sisyn 0.1\n"),
+        Topic::Page(_) => page(alloc, choices[0]),
+        Topic::Version => Text::copy_of(alloc, VERSION),
     }
 }
 
@@ -73,6 +83,52 @@ fn help(alloc: Global) -> Result<Text, NoMemory>
     }
     text.add(HELP_TAIL)?;
     Ok(text)
+}
+
+/// The page of a command: its word, a line for each of its forms, and what the notes say of it.
+fn page(alloc: Global, word: &str) -> Result<Text, NoMemory>
+    ensures { IfOk result (λ text. text ≡ page_text word.now) }
+{
+    let mut text = Text::copy_of(alloc, word.as_bytes())?;
+    text.add(b"\n")?;
+    for row in rows() {
+        add_row_of(&mut text, word, row)?;
+    }
+    text.add(b"\n\n")?;
+    for (own, note) in notes() {
+        add_note_of(&mut text, word, own, note)?;
+    }
+    Ok(text)
+}
+
+/// Adds the note, where it is of the word.
+fn add_note_of(text: &mut Text, word: &str, own: &str, note: &[u8]) -> Result<(), NoMemory>
+    ensures { OnOk result (text.new ≡ text.old ++ note_of word.now (own.now, note.now)) }
+{
+    if own == word {
+        text.add(note)?;
+    }
+    Ok(())
+}
+
+/// Adds the line of a row, where its form begins with the word.
+fn add_row_of(text: &mut Text, word: &str, row: &Row) -> Result<(), NoMemory>
+    ensures { OnOk result (text.new ≡ text.old ++ line_of word.now (row_now row.now)) }
+{
+    if begins_with(row.form, word) {
+        add_row(text, row)?;
+    }
+    Ok(())
+}
+
+/// Whether the form begins with the word.
+fn begins_with(form: &[Slot<'_>], word: &str) -> bool
+    ensures { result ≡ begins word.now (slots_now form.now) }
+{
+    match form.first() {
+        Some(Slot::Word(own)) => *own == word,
+        _ => false,
+    }
 }
 
 /// Adds the line of a row behind a line end: its form, and what is said of it.

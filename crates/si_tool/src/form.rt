@@ -16,6 +16,9 @@ pub enum Slot<'a> {
     Word(&'a str),
     /// The name of a file, which the help calls so.
     File(&'a str),
+    /// The same of a file that stands alone behind the command: any word but `--help`, which asks
+    /// for the command's page.
+    LoneFile(&'a str),
     /// One of these words, which the help calls so.
     OneOf(&'a str, &'a [&'a str]),
 }
@@ -28,6 +31,7 @@ impl<'a> Slot<'a> {
         match self {
             Slot::Word(word) => word,
             Slot::File(name) => name,
+            Slot::LoneFile(name) => name,
             Slot::OneOf(name, _) => name,
         }
     }
@@ -68,6 +72,12 @@ pub fn given_in<'w>(
                 }
             }
             Slot::File(_) => files.push(word)?,
+            Slot::LoneFile(_) => {
+                if word == "--help" {
+                    return Ok(None);
+                }
+                files.push(word)?;
+            }
             Slot::OneOf(_, listed) => {
                 if !is_listed(listed, word) {
                     return Ok(None);

@@ -6,6 +6,7 @@ pub mod command;
 pub mod fold_law;
 pub mod form;
 pub mod laws;
+pub mod notes;
 mod output;
 pub mod refusing;
 pub mod run;

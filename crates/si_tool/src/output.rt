@@ -76,7 +76,7 @@ fn output_of_texts<'w>(
         (meaning task (words_now files.now) (words_now choices.now) (texts_now texts.now)) (ending_of r)) }
 {
     match task {
-        Task::About(topic) => Ok(about(alloc, topic)?),
+        Task::About(topic) => Ok(about(alloc, topic, choices)?),
         Task::Tell(what) => report(alloc, what, files[0], &texts[0]),
         Task::Synth(style) => synth(alloc, style, files[0], &texts[0]),
         Task::Verilog => verilog(alloc, files[0], &texts[0]),

@@ -5,8 +5,8 @@ ghost use Rattle.si_tool.specs.Command as command;
 ghost use Rattle.si_tool.specs.Loops.Reads.{row_now};
 
 use crate::form::Slot;
-use crate::form::Slot::{File, OneOf, Word};
-use crate::task::{Task, Topic};
+use crate::form::Slot::{File, LoneFile, OneOf, Word};
+use crate::task::{HelpPlace, Task, Topic};
 use si_circuit::style::Style;
 use si_readings::library_format::LibraryFormat;
 use si_stages::netlist_report::NetlistReport;
@@ -25,6 +25,34 @@ pub struct Row {
 /// The words that ask for the help.
 const HELP_WORDS: &[&str] = &["--help", "-h", "help"];
 
+/// The words that a form begins with: those of the commands.
+const COMMANDS: &[&str] = &[
+    "check",
+    "states",
+    "regions",
+    "conflicts",
+    "explain",
+    "lint",
+    "covers",
+    "fold",
+    "dot",
+    "synth",
+    "map",
+    "resolve",
+    "insert",
+    "genlib",
+    "verilog",
+    "loops",
+    "reset",
+    "replay",
+    "wave",
+    "audit",
+    "same",
+    "exercise",
+    "help",
+    "--version",
+];
+
 /// The digits from 1 to 8.
 const DIGITS: &[&str] = &["1", "2", "3", "4", "5", "6", "7", "8"];
 
@@ -32,47 +60,47 @@ const DIGITS: &[&str] = &["1", "2", "3", "4", "5", "6", "7", "8"];
 const ROWS: &[Row] = &[
     Row {
         task: Task::Tell(Report::Summary),
-        form: &[Word("check"), File("F")],
+        form: &[Word("check"), LoneFile("F")],
         says: "the size of a graph, where it is proper",
     },
     Row {
         task: Task::Tell(Report::States),
-        form: &[Word("states"), File("F")],
+        form: &[Word("states"), LoneFile("F")],
         says: "its states: their codes, what they enable",
     },
     Row {
         task: Task::Tell(Report::Regions),
-        form: &[Word("regions"), File("F")],
+        form: &[Word("regions"), LoneFile("F")],
         says: "where events are excited, and what follows",
     },
     Row {
         task: Task::Tell(Report::Conflicts),
-        form: &[Word("conflicts"), File("F")],
+        form: &[Word("conflicts"), LoneFile("F")],
         says: "states that no gates can tell apart",
     },
     Row {
         task: Task::Tell(Report::Explain),
-        form: &[Word("explain"), File("F")],
+        form: &[Word("explain"), LoneFile("F")],
         says: "walks to them, and which no signal resolves",
     },
     Row {
         task: Task::Tell(Report::Lint),
-        form: &[Word("lint"), File("F")],
+        form: &[Word("lint"), LoneFile("F")],
         says: "dead ends, and more worth a second look",
     },
     Row {
         task: Task::Tell(Report::Covers),
-        form: &[Word("covers"), File("F")],
+        form: &[Word("covers"), LoneFile("F")],
         says: "sums for each signal, and monotonous cubes",
     },
     Row {
         task: Task::Tell(Report::Fold),
-        form: &[Word("fold"), File("F")],
+        form: &[Word("fold"), LoneFile("F")],
         says: "the graph with alike states merged",
     },
     Row {
         task: Task::Tell(Report::Dot),
-        form: &[Word("dot"), File("F")],
+        form: &[Word("dot"), LoneFile("F")],
         says: "the graph as a picture for Graphviz",
     },
     Row {
@@ -97,7 +125,7 @@ const ROWS: &[Row] = &[
     },
     Row {
         task: Task::Resolve,
-        form: &[Word("resolve"), File("F")],
+        form: &[Word("resolve"), LoneFile("F")],
         says: "the graph with its conflicts resolved",
     },
     Row {
@@ -107,22 +135,22 @@ const ROWS: &[Row] = &[
     },
     Row {
         task: Task::FromGenlib,
-        form: &[Word("genlib"), File("FILE")],
+        form: &[Word("genlib"), LoneFile("FILE")],
         says: "a library of genlib as a library of cells",
     },
     Row {
         task: Task::Verilog,
-        form: &[Word("verilog"), File("NETLIST")],
+        form: &[Word("verilog"), LoneFile("NETLIST")],
         says: "a netlist as a module of Verilog",
     },
     Row {
         task: Task::TellNetlist(NetlistReport::Loops),
-        form: &[Word("loops"), File("NETLIST")],
+        form: &[Word("loops"), LoneFile("NETLIST")],
         says: "which pins to cut, so that it has no loop",
     },
     Row {
         task: Task::TellNetlist(NetlistReport::Reset),
-        form: &[Word("reset"), File("NETLIST")],
+        form: &[Word("reset"), LoneFile("NETLIST")],
         says: "which outputs to force, so that it starts",
     },
     Row {
@@ -156,9 +184,19 @@ const ROWS: &[Row] = &[
         says: "this text",
     },
     Row {
+        task: Task::About(Topic::Page(HelpPlace::Before)),
+        form: &[Word("help"), OneOf("COMMAND", COMMANDS)],
+        says: "what a command writes, and how it may end",
+    },
+    Row {
+        task: Task::About(Topic::Page(HelpPlace::Behind)),
+        form: &[OneOf("COMMAND", COMMANDS), Word("--help")],
+        says: "the same",
+    },
+    Row {
         task: Task::About(Topic::Version),
         form: &[Word("--version")],
-        says: "the version",
+        says: "the version, and what proved it",
     },
 ];
 

@@ -11,8 +11,19 @@ use si_stages::report_kind::Report;
 pub enum Topic {
     /// How it is called.
     Help,
+    /// The page of a command that the words choose.
+    Page(HelpPlace),
     /// Its version.
     Version,
+}
+
+/// Where the word that asks for the page of a command stands.
+#[derive(Clone, Copy, PartialEq, Eq, Debug)]
+pub enum HelpPlace {
+    /// Before the command: `help`.
+    Before,
+    /// Behind it: `--help`.
+    Behind,
 }
 
 /// What a command does, whatever its files.

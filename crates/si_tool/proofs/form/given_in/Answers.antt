@@ -4,9 +4,9 @@ use Rattle.std.proofs.Math.ListN.{drop_of_length-le}
 use Rattle.si_tool.specs.Command.{words_of}
 use Rattle.si_tool.specs.Loops.Reads.{slots_now, slot_now}
 use Rattle.si_tool.proofs.FormLemmas.{no_form_of_length, none_filled, other_word, word_filled, all_filled}
-use Rattle.si_tool.proofs.FormLemmas.{file_filled, choice_filled, true_not_false}
+use Rattle.si_tool.proofs.FormLemmas.{file_filled, lone_filled, choice_filled, true_not_false, word_same, word_other}
 use Rattle.si_tool.proofs.FormLemmas.{slot_at, word_at, words_differ, words_same}
-use Rattle.si_tool.proofs.form.given_in.Goals.{in-Word+else-ne, in-File+in_ok-push-in-File, in-OneOf+else-not-is_listed+in_ok-push-in-OneOf}
+use Rattle.si_tool.proofs.form.given_in.Goals.{in-Word+else-ne, in-File+in_ok-push-in-File, in-OneOf+else-not-is_listed+in_ok-push-in-OneOf, in-LoneFile+else-eq+in_ok-push-in-LoneFile}
 use Rattle.si_tool.proofs.form.given_in.Goals as goal
 
 pub returns-then-words-form : goal.returns-then-words-form
@@ -30,6 +30,16 @@ returns-then-ne c =
     below c.index-words-place.is c.as_str-word.ensures.value in
     other_word _ _ _ _ _ _ _ _ _ c.loop-place.invariant slot word
     (words_differ _ _ _ c.ne.ensures c.if-ne.true)
+
+pub returns-then-eq : goal.returns-then-eq
+returns-then-eq c =
+    let below : c.loop-place.place < length c.args.words.now =
+    omega (arith, c.loop-place-test.true, c.if-words-form.false) in
+    let slot = slot_at c.args.form.now c.loop-place.place _ _ c.loop-place-test.true c.in-LoneFile.is in
+    let word = word_at c.args.words.now c.loop-place.place c.index-words-place.result c.as_str-word.result.now
+    below c.index-words-place.is c.as_str-word.ensures.value in
+    other_word _ _ _ _ _ _ _ _ _ c.loop-place.invariant slot word
+    (λ stands. stands (word_same _ _ _ c.eq.ensures c.if-eq.true))
 
 pub returns-then-not-is_listed : goal.returns-then-not-is_listed
 returns-then-not-is_listed c =
@@ -56,6 +66,17 @@ loop-place-preserved c =
           let slot = slot_at c.args.form.now c.loop-place.place _ _ c.loop-place-test.true w.in-File.is in
           let filled = file_filled _ _ _ _ _ _ _ _ c.loop-place.invariant _ slot word refl refl in
           let pushed = w.in_ok-push-in-File.ensures.items in
+          rw (
+            w.files-is,
+            w.choices-is,
+            pushed,
+            map-append (λ name. name.now) c.loop-place.files.items (c.as_str-word.result ∷ []),
+          ) filled
+      | in-LoneFile+else-eq+in_ok-push-in-LoneFile w ↦
+          let slot = slot_at c.args.form.now c.loop-place.place _ _ c.loop-place-test.true w.in-LoneFile.is in
+          let filled = lone_filled _ _ _ _ _ _ _ _ c.loop-place.invariant _ slot word refl refl
+          (word_other _ _ _ w.eq.ensures w.if-eq.false) in
+          let pushed = w.in_ok-push-in-LoneFile.ensures.items in
           rw (
             w.files-is,
             w.choices-is,

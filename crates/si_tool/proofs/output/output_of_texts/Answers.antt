@@ -1,10 +1,16 @@
-use Rattle.std.proofs.Common.{◌∙◌}
+use Rattle.std.proofs.Common.{◌≡◌, ◌∙◌, length, subst}
 use Rattle.si_words.specs.Loops.Reads.{words_now}
-use Rattle.si_tool.specs.Command.{form_of}
+use Rattle.si_tool.specs.Command.{choice_count, form_of}
+use Rattle.si_tool.specs.declared.task.Task.{Task}
 use Rattle.si_tool.proofs.ReadsLemmas.{read_one, read_two, read_three}
 use Rattle.si_tool.proofs.CommandTasks.{two_files}
-use Rattle.si_tool.proofs.FormLemmas.{count_of_names}
+use Rattle.si_tool.proofs.FormLemmas.{count_of_names, count_of_chosen}
 use Rattle.si_tool.proofs.output.output_of_texts.Goals as goal
+
+pub about-requires : goal.about-requires
+about-requires c =
+    let many = count_of_chosen (form_of c.args.task) (words_now c.args.files.now) c.args.choices.now c.requires.given in
+    subst (λ (task : Task). length c.args.choices.now ≡ choice_count (form_of task)) c.in-About.is many
 
 pub returns-in-Tell-clause-ok : goal.returns-in-Tell-clause-ok
 returns-in-Tell-clause-ok c =

@@ -1,0 +1,43 @@
+# completions of sisyn for bash
+_sisyn() {
+  local word=${COMP_WORDS[COMP_CWORD]}
+  local words= files=
+  case "$COMP_CWORD ${COMP_WORDS[1]}" in
+    1\ *) words='check states regions conflicts explain lint covers fold dot synth map resolve insert genlib verilog loops reset replay wave audit same exercise help --version --help -h' ;;
+    '2 check') files=yes ;;
+    '2 states') files=yes ;;
+    '2 regions') files=yes ;;
+    '2 conflicts') files=yes ;;
+    '2 explain') files=yes ;;
+    '2 lint') files=yes ;;
+    '2 covers') files=yes ;;
+    '2 fold') files=yes ;;
+    '2 dot') files=yes ;;
+    '2 synth') files=yes ;;
+    '3 synth') words='complex gc' ;;
+    '2 map') files=yes ;;
+    '3 map') words='genlib'; files=yes ;;
+    '4 map') files=yes ;;
+    '2 resolve') files=yes ;;
+    '2 insert') files=yes ;;
+    '3 insert') files=yes ;;
+    '2 genlib') files=yes ;;
+    '2 verilog') files=yes ;;
+    '2 loops') files=yes ;;
+    '2 reset') files=yes ;;
+    '2 replay') files=yes ;;
+    '3 replay') files=yes ;;
+    '4 replay') files=yes ;;
+    '2 wave') files=yes ;;
+    '3 wave') files=yes ;;
+    '4 wave') files=yes ;;
+    '2 audit') files=yes ;;
+    '3 audit') files=yes ;;
+    '2 same') files=yes ;;
+    '3 same') files=yes ;;
+    '2 exercise') words='1 2 3 4 5 6 7 8' ;;
+    '2 help') words='check states regions conflicts explain lint covers fold dot synth map resolve insert genlib verilog loops reset replay wave audit same exercise help --version' ;;
+  esac
+  mapfile -t COMPREPLY < <(compgen -W "$words" -- "$word"; [ -z "$files" ] || compgen -f -- "$word")
+}
+complete -o filenames -F _sisyn sisyn
