@@ -47,7 +47,7 @@ Examples, beside the sources:
   sisyn replay examples/c-element.sg examples/c-element.net <(echo 'a+ b+ c+')
   sisyn wave examples/c-element.sg examples/c-element.net <(echo 'a+ b+ c+')
   sisyn audit examples/vme-read.sg examples/vme-read.net
-  sisyn same examples/passivator.sg examples/passivator-by-hand.sg
+  sisyn fold examples/vme-read.sg | sisyn same examples/vme-read.sg /dev/stdin
   sisyn exercise 5
 
 The documents stand beside the sources: README.md has a walk through the

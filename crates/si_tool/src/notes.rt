@@ -169,8 +169,8 @@ Example:
 
   sisyn insert examples/vme-read.sg examples/vme-read.net
 
-Statuses: 0, 1 nomemory, 3 readfault, 4 writefault, 5 toolong, 6 badtext, 7 of
-a graph that isn't proper, 11 rejected.
+Statuses: 0, 1 nomemory, 3 readfault, 4 writefault, 5 toolong, 6 badtext or
+lists, 7 of a graph that isn't proper, 11 rejected.
 ",
     ),
     (
@@ -228,8 +228,8 @@ Example:
 
   sisyn replay examples/c-element.sg examples/c-element.net <(echo 'a+ b+ c+')
 
-Statuses: 0, 1 nomemory, 3 readfault, 4 writefault, 5 toolong, 6 badtext, 7 of
-a graph that isn't proper, 10 differs.
+Statuses: 0, 1 nomemory, 3 readfault, 4 writefault, 5 toolong, 6 badtext or
+lists, 7 of a graph that isn't proper, 10 differs.
 ",
     ),
     (
@@ -240,8 +240,8 @@ Example:
 
   sisyn wave examples/c-element.sg examples/c-element.net <(echo 'a+ b+ c+')
 
-Statuses: 0, 1 nomemory, 3 readfault, 4 writefault, 5 toolong, 6 badtext, 7 of
-a graph that isn't proper, 10 differs.
+Statuses: 0, 1 nomemory, 3 readfault, 4 writefault, 5 toolong, 6 badtext or
+lists, 7 of a graph that isn't proper, 10 differs.
 ",
     ),
     (
@@ -253,8 +253,8 @@ Example:
 
   sisyn audit examples/vme-read.sg examples/vme-read.net
 
-Statuses: 0, 1 nomemory, 3 readfault, 4 writefault, 5 toolong, 6 badtext, 7 of
-a graph that isn't proper, 11 rejected.
+Statuses: 0, 1 nomemory, 3 readfault, 4 writefault, 5 toolong, 6 badtext or
+lists, 7 of a graph that isn't proper, 11 rejected.
 ",
     ),
     (
@@ -264,10 +264,10 @@ graph does what the other doesn't.
 
 Example:
 
-  sisyn same examples/passivator.sg examples/passivator-by-hand.sg
+  sisyn fold examples/vme-read.sg | sisyn same examples/vme-read.sg /dev/stdin
 
-Statuses: 0, 1 nomemory, 3 readfault, 4 writefault, 5 toolong, 6 badtext, 7 of
-a graph that isn't proper, 14 unlike.
+Statuses: 0, 1 nomemory, 3 readfault, 4 writefault, 5 toolong, 6 badtext or
+lists, 7 of a graph that isn't proper, 14 unlike.
 ",
     ),
     (
