@@ -2,7 +2,8 @@
 use Rattle.std.proofs.Common.{◌≡◌, ℕ, Bool, true, false, List, [], ◌∷◌, ◌++◌, refl, Some, None, codes}
 use Rattle.si_base.specs.declared.fault.TextKind.TheVariants as kinds
 use Rattle.si_base.specs.declared.ids.Literal.{Literal}
-use Rattle.si_cell.specs.Library.{Library, instance_value, table_of}
+use Rattle.si_cell.specs.Library.{Library, admits, instance_value, table_of, with_pins}
+use Rattle.si_cell.specs.declared.pins.Pins.TheVariants.{Any, Plain}
 use Rattle.si_cell.specs.Expanded.{expanded}
 use Rattle.si_cell.specs.Literals.{in_literal_order}
 use Rattle.si_cell.specs.LibraryText.{library_fault, library_of}
@@ -27,12 +28,23 @@ small = record {
     pins = codes "a" ∷ codes "b" ∷ [];
     sum = (lit 0 false ∷ lit 1 true ∷ []) ∷ (lit 1 false ∷ lit 2 true ∷ []) ∷ [] ∷ [];
   } ∷ [];
+  pins = Any;
 }
 
 spelled : library_of (codes "# a library\n.library small # the name\n\n.cell GATE a b = b a' + q b' + 1\n.end of it\n")
     ≡ small
 unfolding in_literal_order
 spelled = refl
+
+-- plain pins have no complement, and take no cell away
+plain_alone : admits Plain (lit 1 false) ≡ false
+plain_alone = refl
+
+any_literal : admits Any (lit 1 false) ≡ true
+any_literal = refl
+
+same_cells : (with_pins Plain small).cells ≡ small.cells
+same_cells = refl
 
 no_lines : library_fault [] ≡ Some (1, kinds.NoEnd)
 no_lines = refl

@@ -25,6 +25,7 @@ use Rattle.si_cell.specs.Library.{Library, Instance, Cell, IsCell, AreCells, IsL
 use Rattle.si_cell.specs.LibraryText.{words, name_words_fault, name_fault, name_in, name_line_fault, is_end, names_of}
 use Rattle.si_cell.specs.LibraryText.{cell_words_fault, cell_line_fault, with_line, spelled, cell_lines_fault, cells_in}
 use Rattle.si_cell.specs.LibraryText.{lines_fault, library_in, library_fault, library_of}
+use Rattle.si_cell.specs.declared.pins.Pins.TheVariants.{Any}
 use Rattle.si_cell.specs.Literals.{same_literal, has_literal, complement, both_from, clashes, in_literal_order}
 use Rattle.si_cell.proofs.CubeLemmas.{found, same_is}
 use Rattle.si_cell.proofs.CellLemmas.{good_pins, good_name, is_cell, more_cells}
@@ -171,7 +172,11 @@ lines_good last (line ∷ lines) none =
     by_words : (ws : List (List ℕ)) → (lines_fault last lines ≡ None → IsLibrary (library_in lines))
         → name_words_fault ws ≡ None → (if is_empty ws then lines_fault last lines else cell_lines_fault last [] lines)
         ≡ None
-        → IsLibrary (if is_empty ws then library_in lines else record { name = name_in ws; cells = cells_in [] lines })
+        → IsLibrary (if is_empty ws then library_in lines else record {
+          name = name_in ws;
+          cells = cells_in [] lines;
+          pins = Any;
+        })
     by_words [] later named none = later none
     by_words (w ∷ ws) later named none = record {
       name = name_good

@@ -1,6 +1,7 @@
 -- (field) Libraries of cells, and the values of their instances.
 use Rattle.std.specs.Prelude.{◌≡◌, ◌≢◌, ℕ, ◌<◌, ◌≤◌, ◌+◌, ◌*◌, Bool, List, [], ◌∷◌, ◌++◌, length}
 use Rattle.std.specs.Prelude.{map, codes, if◌then◌else◌, slice_index_or, IsTrue, All, AllPairs}
+use Rattle.std.specs.Prelude.{true}
 use Rattle.std.specs.List.{range_with_len}
 use Rattle.si_base.specs.declared.ids.Literal.{Literal}
 use Rattle.si_base.specs.Limits.{code_width}
@@ -8,6 +9,8 @@ use Rattle.si_base.specs.Netlist.{Sum, literal_value, sum_value}
 use Rattle.si_base.specs.WellFormed.{IsSum}
 use Rattle.si_base.specs.Words.{is_signal_name}
 use Rattle.si_cell.specs.Limits.{max_cells, max_pins, table_codes}
+use Rattle.si_cell.specs.declared.pins.Pins.{Pins}
+use Rattle.si_cell.specs.declared.pins.Pins.TheVariants.{Any, Plain}
 
 -- the name that stands for a cell's own output
 abbrev pub own : List ℕ
@@ -20,9 +23,20 @@ pub record Cell : Type 0 where
   pub pins : List (List ℕ)
   pub sum : Sum
 
+-- its cells, and which literals the pins of its instances may have
 pub record Library : Type 0 where
   pub name : List ℕ
   pub cells : List Cell
+  pub pins : Pins
+
+-- whether such a pin may have the literal
+abbrev pub admits : Pins → Literal → Bool
+admits Any l = true
+admits Plain l = l.plain
+
+-- the same cells with pins of that kind
+abbrev pub with_pins : Pins → Library → Library
+with_pins pins library = record { name = library.name; cells = library.cells; pins = pins }
 
 -- an instance: the place of its cell in the library, and a literal for each pin
 pub record Instance : Type 0 where

@@ -10,6 +10,7 @@ use Rattle.si_words.specs.Ends.{after_last}
 use Rattle.si_words.specs.Sums.{is_empty}
 use Rattle.si_cell.specs.CellWords.{CellWords, cell_words, cell_fault, cell_of}
 use Rattle.si_cell.specs.Library.{Cell, Library}
+use Rattle.si_cell.specs.declared.pins.Pins.TheVariants.{Any}
 
 abbrev pub words : List ℕ → List (List ℕ)
 words line = words_in false (before_comment line)
@@ -90,10 +91,10 @@ lines_fault last (line ∷ lines) =
     )
 
 abbrev pub library_in : List Line → Library
-library_in [] = record { name = []; cells = [] }
+library_in [] = record { name = []; cells = []; pins = Any }
 library_in (line ∷ lines) =
     if is_empty (words line.1) then library_in lines
-    else record { name = name_in (words line.1); cells = cells_in [] lines }
+    else record { name = name_in (words line.1); cells = cells_in [] lines; pins = Any }
 
 -- ---- the text
 

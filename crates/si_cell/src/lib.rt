@@ -8,6 +8,7 @@ pub mod laws;
 pub mod library;
 pub mod limits;
 pub mod pin_sum;
+pub mod pins;
 pub mod reader;
 mod sums;
 mod words;

@@ -3,19 +3,23 @@
 ghost use Rattle.std.specs.Prelude.{◌≡◌, ◌<◌, ◌≤◌, All, length};
 ghost use Rattle.si_base.specs.Limits.{code_width};
 ghost use Rattle.si_base.specs.Netlist.{literal_value};
+ghost use Rattle.si_cell.specs.Library as library;
 ghost use Rattle.si_cell.specs.Library.{IsLibrary, IsInstance, cell_at, instance_value, pin_values};
 ghost use Rattle.si_cell.specs.Limits.{max_pins};
+ghost use Rattle.si_cell.specs.declared.pins.Pins.TheVariants as pins;
 
 use crate::cell::{Cell, Instance, PinLiteral};
+use crate::pins::Pins;
 use si_base::ids::{Code, Literal};
 use si_base::text::Name;
 use std::marker::Model;
 
-/// A library: its name, and its cells.
+/// A library: its name, its cells, and which literals the pins of its instances may have.
 #[derive(Drop)]
 pub struct Library {
     name: Name,
     cells: Vec<Cell>,
+    pins: Pins,
 }
 
 impl Model for Library {
@@ -23,18 +27,38 @@ impl Model for Library {
 
     ghost Value = { spec.Library };
 
-    ghost view = { λ l. record { name = l.name; cells = l.cells.items } };
+    ghost view = { λ l. record { name = l.name; cells = l.cells.items; pins = l.pins } };
 
-    ghost invariant = { λ l. spec.IsLibrary (record { name = l.name; cells = l.cells.items }) };
+    ghost invariant = { λ l.
+        spec.IsLibrary (record { name = l.name; cells = l.cells.items; pins = l.pins }) };
 }
 
 impl Library {
-    /// The library of these cells.
+    /// The library of these cells, whose pins may have any literals.
     pub fn make(name: Name, cells: Vec<Cell>) -> Library
-        requires { IsLibrary (record { name = name; cells = cells.items }) }
-        ensures { result ≡ record { name = name; cells = cells.items } }
+        requires { IsLibrary (record { name = name; cells = cells.items; pins = pins.Any }) }
+        ensures { result ≡ record { name = name; cells = cells.items; pins = pins.Any } }
     {
-        Library { name, cells }
+        Library {
+            name,
+            cells,
+            pins: Pins::Any,
+        }
+    }
+
+    /// The same cells with pins of that kind.
+    pub fn with_pins(self, pins: Pins) -> Library
+        ensures { result ≡ library.with_pins pins self }
+    {
+        let Library { name, cells, .. } = self;
+        Library { name, cells, pins }
+    }
+
+    /// Which literals the pins of its instances may have.
+    pub fn pins(&self) -> Pins
+        ensures { result ≡ self.now.pins }
+    {
+        self.pins
     }
 
     /// Its name.

@@ -24,20 +24,20 @@ use Rattle.si_circuit.proofs.GateLemmas.{is_netlist}
 use Rattle.si_circuit.proofs.CoveredGates.{has_gates}
 
 -- an instance that is there, as the gate of z
-record IsGateOf (c : CodedGraph) (library : Library) (z : ℕ) (i : Instance) : Type 0 where
-  gate : cell_gate c library z ≡ instance_gate library z i
-  over : IsOver c library i
-  fits : Fits c library z i
+pub record IsGateOf (c : CodedGraph) (library : Library) (z : ℕ) (i : Instance) : Type 0 where
+  pub gate : cell_gate c library z ≡ instance_gate library z i
+  pub over : IsOver c library i
+  pub fits : Fits c library z i
 
 gate_when : (c : CodedGraph) (library : Library) (z : ℕ) (o : Option Instance) → first_fit c library z ≡ o → IsSome o
     → (i : Instance) × (first_fit c library z ≡ Some i)
 gate_when c library z None is some = absurd (false≢true some)
 gate_when c library z (Some i) is some = (i, is)
 
-few_signals : (c : CodedGraph) → IsCoded c → length c.graph.signals ≤ code_width
+pub few_signals : (c : CodedGraph) → IsCoded c → length c.graph.signals ≤ code_width
 few_signals c is = omega (is.graph_is.few_signals, arith)
 
-gate_found : (c : CodedGraph) (library : Library) (z : ℕ) → IsCoded c → IsSome (first_fit c library z)
+pub gate_found : (c : CodedGraph) (library : Library) (z : ℕ) → IsCoded c → IsSome (first_fit c library z)
     → (i : Instance) × IsGateOf c library z i
 gate_found c library z is some =
     let found = gate_when c library z (first_fit c library z) refl some in

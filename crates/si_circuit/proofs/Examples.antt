@@ -1,15 +1,20 @@
 -- Worked examples of chosen netlists and their texts.
-use Rattle.std.proofs.Common.{◌≡◌, ◌++◌, ℕ, true, false, List, [], ◌∷◌, refl, codes}
+use Rattle.std.proofs.Common.{◌≡◌, ◌++◌, ℕ, ◌<◌, true, false, List, [], ◌∷◌, refl, codes, lit<}
+use Rattle.std.proofs.lemmas.List.Elements.{All-nil, All-cons}
 use Rattle.si_base.specs.declared.ids.Literal.{Literal}
 use Rattle.si_base.specs.declared.graph.Signal.{Signal}
 use Rattle.si_base.specs.declared.graph.SigKind.TheVariants.{Input, Output}
 use Rattle.si_base.specs.Graph.{arc, rise, fall}
 use Rattle.si_base.specs.Codes.{CodedGraph}
-use Rattle.si_base.specs.Netlist.{SumGate, Gc}
+use Rattle.si_base.specs.Netlist.{SumGate, Gc, Cell}
 use Rattle.si_base.specs.NetlistText.{netlist_text}
+use Rattle.si_cell.specs.Library.{Library}
+use Rattle.si_cell.specs.declared.pins.Pins.TheVariants.{Plain}
+use Rattle.si_cell.proofs.ExpandedLemmas.{bit_of}
 use Rattle.si_cover.specs.Demands.{chosen_sum}
 use Rattle.si_circuit.specs.declared.style.Style.TheVariants.{Complex, GeneralisedC}
 use Rattle.si_circuit.specs.Gates.{chosen_netlist, gate_of, netlist_of}
+use Rattle.si_circuit.specs.Wires.{IsWired}
 
 abbrev input : List ℕ → Signal
 input name = record { name = name; kind = Input }
@@ -93,3 +98,23 @@ pulses_complex = refl
 pulses_generalised : gate_of GeneralisedC pulses 2 ≡ Gc ((plain 1 ∷ []) ∷ []) ((complemented 1 ∷ []) ∷ [])
 unfolding chosen_sum
 pulses_generalised = refl
+
+-- ---- the gate of signal 1, a buffer of signal 0, is the cell and a wire
+abbrev buffers : Library
+buffers = record {
+  name = codes "l";
+  cells = record { name = codes "BUF"; pins = codes "a" ∷ []; sum = (plain 0 ∷ []) ∷ [] } ∷ [];
+  pins = Plain;
+}
+
+buffer_is_wired : IsWired buffers 2 1 (Cell (codes "BUF") (plain 0 ∷ []) ((plain 0 ∷ []) ∷ []))
+buffer_is_wired = record {
+  cell = 0;
+  in_library = lit< tt;
+  reads = 0 ∷ [];
+  pins = refl;
+  signals = All-cons (λ y. y < 2) 0 [] (lit< tt) (All-nil (λ y. y < 2));
+  sum = (plain 0 ∷ []) ∷ [];
+  gate_is = refl;
+  value = λ values. rw bit_of refl;
+}

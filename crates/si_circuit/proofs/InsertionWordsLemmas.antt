@@ -1,5 +1,5 @@
 -- What the writers of insertions have still to add, a step at a time.
-use Rattle.std.proofs.Common.{◌≡◌, ℕ, ◌+◌, List, ◌∷◌, ◌++◌, drop}
+use Rattle.std.proofs.Common.{◌≡◌, ℕ, List, ◌∷◌, ◌++◌, drop}
 use Rattle.std.proofs.Common.{append_assoc, codes, refl, sym, ap, ◌∙◌}
 use Rattle.std.proofs.lemmas.Grind.{flat_map-append}
 use Rattle.si_base.specs.Netlist.{Insertion}

@@ -1,6 +1,7 @@
 pub mod CoveredGates
 pub mod GateLemmas
 pub mod CellLemmas
+pub mod WireLemmas
 pub mod Examples
 pub mod SpellingDescents
 pub mod SpellingWords

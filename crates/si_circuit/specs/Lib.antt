@@ -5,3 +5,4 @@ pub mod Spelling
 pub mod InsertionWords
 pub mod Circuits
 pub mod Cells
+pub mod Wires

@@ -10,6 +10,7 @@ ghost use Rattle.si_base.specs.WellFormed.{IsNetlist};
 ghost use Rattle.si_insert.specs.declared.lineage.TraceStep.{TraceStep};
 ghost use Rattle.si_insert.specs.Lineage.{Current, History, IsLineage};
 ghost use Rattle.si_cell.specs.Library.{Library, IsLibrary};
+ghost use Rattle.si_cell.specs.declared.pins.Pins.TheVariants.{Plain};
 ghost use Rattle.si_circuit.specs.declared.style.Style.{Style};
 ghost use Rattle.si_circuit.specs.Cells.{AllFit, cell_gate};
 ghost use Rattle.si_circuit.specs.Covered.{HasCoverGates, HasPrimeGates};
@@ -17,6 +18,7 @@ ghost use Rattle.si_circuit.specs.Gates.{chosen_netlist, gate_of, netlist_of};
 ghost use Rattle.si_circuit.specs.Spelled.{AreInserted, AreSpelled};
 ghost use Rattle.si_circuit.specs.Spelling.{AreDescents, WordsTellStates, descents_along};
 ghost use Rattle.si_circuit.specs.Spelling.{given_descents};
+ghost use Rattle.si_circuit.specs.Wires.{IsOfCellsAndWires};
 
 /// Gates whose sums are covers give the next values: complex gates by covers of the next-value
 /// codes, generalised C-elements by covers of the set and of the reset codes. Whether the sums are
@@ -78,6 +80,13 @@ pub fn cell_gates_make_netlists()
         → IsCoded c → IsLibrary library → AllFit c library → AreSpelled model c.graph.signals
         → AreInserted inserts c.graph.signals
         → IsNetlist (netlist_of (cell_gate c library) model inserts c) }
+{}
+
+/// Where the library's pins are plain, they are cells and wires: each pin reads a signal as it is.
+pub fn plain_pins_read_signals()
+    ensures { (c : CodedGraph) (library : Library) (model : List ℕ) (inserts : List Insertion)
+        → IsCoded c → IsLibrary library → AllFit c library → library.pins ≡ Plain
+        → IsOfCellsAndWires library (netlist_of (cell_gate c library) model inserts c) }
 {}
 
 /// After the insertions of a lineage the spelled states are its current states: each with its

@@ -7,7 +7,8 @@ use Rattle.si_base.specs.Graph.{arc, rise, fall}
 use Rattle.si_base.specs.declared.graph.SigKind.TheVariants.{Input, Output}
 use Rattle.si_base.specs.declared.ids.Literal.{Literal}
 use Rattle.si_base.proofs.GivenGraphUnique.{contains_from_in}
-use Rattle.si_cell.specs.Library.{Cell, Library, Instance}
+use Rattle.si_cell.specs.Library.{Cell, Library, Instance, with_pins}
+use Rattle.si_cell.specs.declared.pins.Pins.TheVariants.{Any, Plain}
 use Rattle.si_match.specs.Fit.{literals_of_signals}
 use Rattle.si_match.specs.Support.{support_of}
 use Rattle.si_match.proofs.FitLemmas.{literal_in}
@@ -54,7 +55,7 @@ and_4 = record {
 }
 
 abbrev library : List Cell → Library
-library cells = record { name = codes "l"; cells = cells }
+library cells = record { name = codes "l"; cells = cells; pins = Any }
 
 -- ---- pins
 support : support_of c_element 2 ≡ 7
@@ -86,6 +87,13 @@ divisors_of_c : AreDivisors c_element (library (and_4 ∷ buffer ∷ [])) 2 (
     )
 unfolding divisors_of
 divisors_of_c = record { pins = literals_of_signals 3; are_pins = pins_of_c; are = refl }
+
+-- with plain pins half of them are left
+plain_divisors_of_c : AreDivisors c_element (with_pins Plain (library (and_4 ∷ buffer ∷ []))) 2 (
+    instance_of 1 (plain 0 ∷ []) ∷ instance_of 1 (plain 1 ∷ []) ∷ instance_of 1 (plain 2 ∷ []) ∷ []
+    )
+unfolding divisors_of
+plain_divisors_of_c = record { pins = literals_of_signals 3; are_pins = pins_of_c; are = refl }
 
 -- the pins are both literals of one signal, and one of the next
 on_distinct_signals : divisors_of 2 (library (and_2 ∷ [])) (plain 0 ∷ complemented 0 ∷ complemented 1 ∷ [])

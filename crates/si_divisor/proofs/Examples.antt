@@ -15,6 +15,7 @@ use Rattle.si_insert.specs.Partition.{class_of}
 use Rattle.si_divisor.specs.declared.fault.NoPartition.TheVariants.{Unforced, Contradiction, LeavesForced, Constant}
 use Rattle.si_divisor.specs.Targets.{forced_by, target}
 use Rattle.si_cell.specs.Library.{Cell, Library, Instance, instance_value}
+use Rattle.si_cell.specs.declared.pins.Pins.TheVariants.{Any}
 use Rattle.si_divisor.specs.PartitionFor.{Sets, AreSets, class_by, IsPartitionFor, ShowsNone}
 use Rattle.si_divisor.proofs.OnePartitionFor.{one_partition}
 use Rattle.si_divisor.proofs.SwitchingTests.{settles_if, switches_if, each_member, each_at, targets_if}
@@ -40,7 +41,7 @@ abbrev cell_of : Sum → Cell
 cell_of sum = record { name = codes "G"; pins = codes "a" ∷ codes "b" ∷ []; sum = sum }
 
 abbrev library_of : Sum → Library
-library_of sum = record { name = codes "one"; cells = cell_of sum ∷ [] }
+library_of sum = record { name = codes "one"; cells = cell_of sum ∷ []; pins = Any }
 
 abbrev instance_of : List Literal → Instance
 instance_of literals = record { cell = 0; literals = literals }

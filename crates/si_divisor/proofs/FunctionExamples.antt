@@ -7,6 +7,7 @@ use Rattle.si_base.specs.Bits.{bit}
 use Rattle.si_base.specs.Netlist.{Sum, sum_value}
 use Rattle.si_base.specs.declared.ids.Literal.{Literal}
 use Rattle.si_cell.specs.Library.{Cell, Library, Instance, code_of}
+use Rattle.si_cell.specs.declared.pins.Pins.TheVariants.{Any}
 use Rattle.si_divisor.specs.declared.function.Function.{Function}
 use Rattle.si_divisor.specs.Functions.{IsFunction}
 
@@ -21,7 +22,7 @@ abbrev cell : Cell
 cell = record { name = codes "C2"; pins = codes "a" ∷ codes "b" ∷ []; sum = c2 }
 
 abbrev library : Library
-library = record { name = codes "one"; cells = cell ∷ [] }
+library = record { name = codes "one"; cells = cell ∷ []; pins = Any }
 
 abbrev instance_of : List Literal → Instance
 instance_of literals = record { cell = 0; literals = literals }

@@ -58,8 +58,8 @@ is_divisor pins i =
     has_few_pins (length i.literals) && list_all (has_literal pins) i.literals
     && are_apart i.literals
 
--- of the instances over so many signals, in their order, those by these pins, as far as they are
--- allowed
+-- of the library's instances over so many signals, in their order, those by these pins, as far as
+-- they are allowed
 unfoldable pub divisors_of : ℕ → Library → List Literal → List Instance
 divisors_of signals library pins =
     take max_divisors (filter (is_divisor pins) (instances signals library))

@@ -1,8 +1,9 @@
 //! The divisors of a signal.
 
 ghost use Rattle.std.specs.Prelude.{◌≡◌, ◌≤◌, ◌+◌, ◌++◌, ◌↔◌, true, IfOk, OnOk, IsTrue, All};
-ghost use Rattle.std.specs.Prelude.{length, take};
+ghost use Rattle.std.specs.Prelude.{filter, length, take};
 ghost use Rattle.si_base.specs.Graph.{IsNonInput};
+ghost use Rattle.si_cell.specs.Library as library;
 ghost use Rattle.si_cell.specs.Limits.{max_pins};
 ghost use Rattle.si_checks.specs.Loops.Lent.{coded_of};
 ghost use Rattle.si_divisor.specs.Divisors.{AreDivisors, are_apart, has_few_pins, max_divisors};
@@ -14,6 +15,7 @@ use si_base::ids::{Literal, NoMemory, Sig};
 use si_cell::cell::{Instance, PinLiteral};
 use si_cell::library::Library;
 use si_cell::limits::MAX_PINS;
+use si_cell::pins::Pins;
 use si_checks::distinct::Distinct;
 use std::alloc::Global;
 
@@ -24,9 +26,9 @@ pub const MAX_DIVISOR_PINS: usize = 3;
 pub const MAX_DIVISORS: usize = 65_536;
 
 /// The divisors of `z`: the instances of cells with one to three pins by pin literals of `z` on
-/// distinct signals, ordered by cell in library order, then by their literals in literal order, the
-/// first pin first. There are at most 65,536: those behind are left out. It fails only where memory
-/// runs out.
+/// distinct signals, as far as the library's pins may have these, ordered by cell in library order,
+/// then by their literals in literal order, the first pin first. There are at most 65,536: those
+/// behind are left out. It fails only where memory runs out.
 ///
 /// Source: the book, on the decomposition of gates.
 pub fn divisors(
@@ -39,8 +41,24 @@ pub fn divisors(
     ensures { IfOk result
         (λ divisors. AreDivisors (coded_of graph.entry) library.now z divisors.items) }
 {
-    let pins = pin_set(alloc, graph, z)?;
+    let all = pin_set(alloc, graph, z)?;
+    let pins = admitted(alloc, library.pins(), all.as_slice())?;
     over_pins(alloc, library, pins.as_slice())
+}
+
+/// Those of the literals that such pins may have.
+fn admitted(alloc: Global, allowed: Pins, literals: &[Literal]) -> Result<Vec<Literal>, NoMemory>
+    ensures { IfOk result
+        (λ kept. kept.items ≡ filter (library.admits allowed) literals.now) }
+{
+    let mut kept = Vec::new(alloc);
+    for literal in literals {
+        if !allowed.admits(*literal) {
+            continue;
+        }
+        kept.push(*literal)?;
+    }
+    Ok(kept)
 }
 
 /// The divisors by these pin literals.

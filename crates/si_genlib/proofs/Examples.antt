@@ -3,6 +3,7 @@ use Rattle.std.proofs.Common.{◌≡◌, ℕ, List, [], ◌∷◌, ◌++◌, tru
 use Rattle.si_base.specs.declared.ids.Literal.{Literal}
 use Rattle.si_base.specs.declared.fault.TextKind.TheVariants as kinds
 use Rattle.si_cell.specs.Library.{Cell}
+use Rattle.si_cell.specs.declared.pins.Pins.TheVariants.{Any}
 use Rattle.si_genlib.specs.GenlibText.{genlib_fault, library_of, all_cells}
 use Rattle.si_genlib.specs.Statements.{name_at, decimal_at, out_at, equals_at, body_at, gate_at, phase_at, pin_at}
 use Rattle.si_genlib.specs.Statements.{gate_statement_at, pin_statement_at, statement_at}
@@ -95,6 +96,7 @@ c_element = record {
 several_spell : library_of several ≡ record {
   name = codes "genlib";
   cells = inverter ∷ nand ∷ one ∷ c_element ∷ [];
+  pins = Any;
 }
 unfolding small several inverter nand one c_element plain complemented library_of all_cells name_at decimal_at out_at
     equals_at body_at gate_at phase_at pin_at gate_statement_at pin_statement_at statement_at word word_at

@@ -2,6 +2,7 @@
 use Rattle.std.proofs.Common.{◌≡◌, ℕ, Bool, true, false, List, [], ◌∷◌, refl, codes}
 use Rattle.si_base.specs.declared.ids.Literal.{Literal}
 use Rattle.si_cell.specs.Library.{Cell, Library}
+use Rattle.si_cell.specs.declared.pins.Pins.TheVariants.{Any}
 use Rattle.si_genlib.specs.Written.{library_text}
 
 abbrev lit : ℕ → Bool → Literal
@@ -26,7 +27,7 @@ abbrev always : List (List Literal) → Cell
 always sum = record { name = codes "one"; pins = []; sum = sum }
 
 abbrev genlib : List Cell → Library
-genlib cells = record { name = codes "genlib"; cells = cells }
+genlib cells = record { name = codes "genlib"; cells = cells; pins = Any }
 
 two_cells : library_text (genlib (nand ∷ c_element ∷ []))
     ≡ codes ".library genlib\n.cell _1310_nand p1 p2 = p2' + p1'\n.cell C2 p1 p2 = p1 p2 + p1 q + p2 q\n.end\n"

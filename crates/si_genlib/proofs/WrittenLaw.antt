@@ -10,10 +10,11 @@ use Rattle.si_words.proofs.SumWordLemmas.{list_any-map}
 use Rattle.si_words.specs.Ends.{after_last}
 use Rattle.si_words.specs.Names.{stands_in}
 use Rattle.si_cell.specs.CellWords.{cell_words}
-use Rattle.si_cell.specs.Library.{Cell, IsCell, AreCells, Library, IsLibrary}
+use Rattle.si_cell.specs.Library.{Cell, IsCell, AreCells, Library, IsLibrary, with_pins}
 use Rattle.si_cell.specs.Limits.{max_cells}
 use Rattle.si_cell.specs.LibraryText.{names_of, cell_line_fault, spelled, cell_lines_fault, cells_in, lines_fault}
 use Rattle.si_cell.specs.LibraryText.{library_in, library_fault, library_of}
+use Rattle.si_cell.specs.declared.pins.Pins.TheVariants.{Any}
 use Rattle.si_genlib.specs.Written.{cell_line, library_lines, library_text}
 use Rattle.si_genlib.proofs.WrittenCellLemmas.{at_here, is_new, words_cut, line_good, line_spelled}
 use Rattle.si_genlib.proofs.WrittenCellLemmas.{line_words}
@@ -102,9 +103,9 @@ module _ (library : Library) (is : IsLibrary library) where
   lines_good : (last : ℕ) → lines_fault last (written 1 (library_lines library)) ≡ None
   lines_good last = rw (good_line head head_words, words_back false head head_words, is.name) (read last).fault
 
-  lines_spell : library_in (written 1 (library_lines library)) ≡ library
+  lines_spell : library_in (written 1 (library_lines library)) ≡ with_pins Any library
   lines_spell =
-      let make : List Cell → Library = λ cs. record { name = library.name; cells = cs } in
+      let make : List Cell → Library = λ cs. record { name = library.name; cells = cs; pins = Any } in
       rw (words_back false head head_words) (ap make (read 0).cells_are)
 
   no_fault_in_text : library_fault (library_text library) ≡ None
@@ -112,10 +113,10 @@ module _ (library : Library) (is : IsLibrary library) where
   no_fault_in_text = ap (lines_fault (after_last (library_text library))) (lines_are (library_text library) refl)
       ∙ lines_good (after_last (library_text library))
 
-  text_spells : library_of (library_text library) ≡ library
+  text_spells : library_of (library_text library) ≡ with_pins Any library
   unfolding library_text
   text_spells = ap library_in (lines_are (library_text library) refl) ∙ lines_spell
 
 pub text_reads_back : (library : Library) → IsLibrary library
-    → (library_fault (library_text library) ≡ None) × (library_of (library_text library) ≡ library)
+    → (library_fault (library_text library) ≡ None) × (library_of (library_text library) ≡ with_pins Any library)
 text_reads_back library is = (no_fault_in_text library is, text_spells library is)

@@ -5,6 +5,7 @@ use Rattle.si_base.specs.Lines.{numbered}
 use Rattle.si_base.specs.declared.fault.TextKind.{TextKind}
 use Rattle.si_base.specs.declared.fault.TextKind.TheVariants.{BadByte, NoEnd}
 use Rattle.si_cell.specs.Library.{Cell, Library}
+use Rattle.si_cell.specs.declared.pins.Pins.TheVariants.{Any}
 use Rattle.si_words.specs.Ends.{after_last}
 use Rattle.si_tokens.specs.declared.fault.Stop.{Stop}
 use Rattle.si_tokens.specs.declared.fault.Stop.TheVariants.{Cut, Fault}
@@ -37,4 +38,5 @@ unfoldable pub library_of : List ℕ → Library
 library_of text = record {
   name = codes "genlib";
   cells = cells_or_none (all_cells nothing_yet (unread text));
+  pins = Any;
 }

@@ -8,6 +8,7 @@ use Rattle.si_base.specs.Limits.{code_width}
 use Rattle.si_base.specs.Order.{Before}
 use Rattle.si_base.specs.declared.graph.SigKind.TheVariants.{Input, Output}
 use Rattle.si_cell.specs.Library.{Cell, Library}
+use Rattle.si_cell.specs.declared.pins.Pins.TheVariants.{Any}
 use Rattle.si_match.specs.Fit.{first_fit}
 use Rattle.si_match.specs.Support.{support_of}
 use Rattle.si_match.specs.Weight.{weight_of}
@@ -35,6 +36,7 @@ buffers = record {
     pins = codes "a" ∷ [];
     sum = (record { sig = 0; plain = true } ∷ []) ∷ [];
   } ∷ [];
+  pins = Any;
 }
 
 no_weight : weight_of follower buffers ≡ 0

@@ -1,10 +1,10 @@
 -- What a signal that never waits for a new one adds to the weight of the inserted graph at least.
-use Rattle.std.proofs.Common.{◌≡◌, ◌≢◌, ℕ, zero, suc, ◌+◌, ◌<◌, ◌≤◌, ◌⊎◌, ◌||◌, not, Bool, true, false, List, [], ◌∷◌}
+use Rattle.std.proofs.Common.{◌≡◌, ℕ, zero, suc, ◌+◌, ◌<◌, ◌≤◌, ◌⊎◌, ◌||◌, not, Bool, true, false, List, [], ◌∷◌}
 use Rattle.std.proofs.Common.{length, slice_get, is_none, Option, Some, None, refl, sym, ap, subst, ◌∙◌, arith}
-use Rattle.std.proofs.Common.{inl, inr, length-append, if◌then◌else◌}
+use Rattle.std.proofs.Common.{inl, inr, length-append, if◌then◌else◌, map, get_or}
 use Rattle.std.proofs.lemmas.Bool.{cases_Bool, cases_lt, true≢false}
 use Rattle.std.proofs.lemmas.Bool.Decides.{eqb_tells}
-use Rattle.std.proofs.lemmas.List.Elements.{All-nil}
+use Rattle.std.proofs.lemmas.List.{get_or-map, length-map}
 use mathlib.Core.Bool.{beq}
 use Rattle.si_base.specs.Bits.{bit, flip}
 use Rattle.si_base.specs.Codes.{CodedGraph, IsCoded, code, next_value}
@@ -15,7 +15,7 @@ use Rattle.si_base.specs.declared.ids.Literal.{Literal}
 use Rattle.si_base.proofs.BitFacts.{flip-same, flip-other}
 use Rattle.si_base.proofs.GraphSteps.{beq-refl}
 use Rattle.si_base.proofs.StepCodes.{step_within, code_fits, no_bit}
-use Rattle.si_cell.specs.Library.{Library, Instance, IsInstance, cell_at, no_cell}
+use Rattle.si_cell.specs.Library.{Library, Instance, cell_at, no_cell}
 use Rattle.si_insert.specs.declared.partition.Class.{Class}
 use Rattle.si_insert.specs.declared.partition.Class.TheVariants.{Low, Rising, High, Falling}
 use Rattle.si_insert.specs.Partition.{class_of, IsLawful}
@@ -24,16 +24,18 @@ use Rattle.si_insert.proofs.AcceptedLosses.{driven_after}
 use Rattle.si_insert.proofs.InsertionCopies.{copy, placed}
 use Rattle.si_insert.proofs.InsertionProper.{goes_on}
 use Rattle.si_insert.proofs.PartitionClasses.{entry_there}
-use Rattle.si_match.specs.Fit.{first_fit, fits, IsOver}
+use Rattle.si_match.specs.Fit.{first_fit}
+use Rattle.si_match.specs.Loops.Choices.{AreAmong}
+use Rattle.si_match.specs.Loops.Known.{FitsByReading}
 use Rattle.si_match.specs.Support.{agree, determines, support_of}
-use Rattle.si_match.specs.Triggers.{IsTrigger, IsUnread, IsNeeded, AreMissing, AreTriggers}
+use Rattle.si_match.specs.Triggers.{IsTrigger, IsUnread, AreTriggers}
 use Rattle.si_match.specs.Weight.{added_weight, size_from}
 use Rattle.si_match.proofs.CodeLemmas.{all_from}
 use Rattle.si_match.proofs.DroppingLemmas.{agree_by_bits, bits_of_agree, next_by, triggers_are_support}
 use Rattle.si_match.proofs.DroppingLemmas.{triggers_in_support}
-use Rattle.si_match.proofs.FitLemmas.{fit_fits, tells, told}
+use Rattle.si_match.proofs.ChoiceLemmas.{owed_first, owed_unfit, trigger_read}
+use Rattle.si_match.proofs.FitLemmas.{fit_fits}
 use Rattle.si_match.proofs.SupportLemmas.{support_determines}
-use Rattle.si_match.proofs.TriggerLemmas.{missing_refutes, trigger_needed}
 use Rattle.si_match.proofs.UnfitLemmas.{one_le, size_le, triggers_le, unfit_adds}
 use Rattle.si_map.specs.Loops.Least.{HaveFewPins}
 use Rattle.si_map.specs.Loops.Waiting.{NeverWaits}
@@ -182,48 +184,41 @@ module _ (c : CodedGraph) (classes : List Class) (new : Signal) (copies : List C
           let last : one_if (bit read (0 + n)) ≡ 1 = ap (λ m. one_if (bit read m)) place ∙ ap one_if read_new in
           omega (arith, size_last n 0 read, last, size_le n 0 triggers read read_triggers, many)
 
-      new_needed : (f : Instance) → IsInstance library f → IsNeeded d z (cell_at library f.cell) n
-      new_needed f instance literals pins inside unread = elim (cases_Bool (fits d z (cell_at library f.cell)
-          literals)) [
-            | inr no_fit ↦ no_fit
-            | inl fits_all ↦ absurd (
-                let g : Instance = record { cell = f.cell; literals = literals } in
-                let over : IsOver d library g = record {
-                  instance = record {
-                    cell = instance.cell;
-                    pins = pins;
-                    signals = λ k l below.
-                        (let low = inside k l below in omega (arith, low, made.graph_is.few_signals));
-                  };
-                  signals = inside;
-                } in
-                fits_by_new c classes new copies h is lawful inserted library z old never unfit g over
-                (tells d library z g made fits_all) unread)
-          ]
-
-      missing : (f : Instance) → IsInstance library f → AreMissing d z (cell_at library f.cell) [] read
-      missing f instance i there = elim (eqb_tells i n) [
-        | inl same ↦ (subst (IsNeeded d z (cell_at library f.cell)) (sym same.1) (new_needed f instance), none_read)
+      -- each instance that fits z reads them all
+      by_reading : (i : ℕ) → bit read i ≡ true → FitsByReading d library i z
+      by_reading i there = elim (eqb_tells i n) [
+        | inl same ↦ (λ f over fit unread.
+            fits_by_new c classes new copies h is lawful inserted library z old never unfit f over fit
+            (subst (λ (k : ℕ). IsUnread k f.literals) same.1 unread))
         | inr other ↦ (
             let given : bit triggers i ≡ true = sym (flip-other triggers n i other.1) ∙ there in
-            (trigger_needed d z (cell_at library f.cell) i made (all_stay i given), none_read))
+            trigger_read d library z made triggers all_stay i given)
       ]
-        where
-          none_read : IsUnread i []
-          none_read = All-nil (λ (l : Literal). l.sig ≢ i)
+
+      no_own : bit triggers z ≡ false
+      no_own = elim (cases_Bool (bit triggers z)) [
+        | inl there ↦ (let own = are z there in absurd (own.other refl))
+        | inr absent ↦ absent
+      ]
+
+      z_unread : bit read z ≡ false
+      z_unread = flip-other triggers n z (λ same. omega (arith, old, same)) ∙ no_own
+
+      -- the signals of literals are those that they read
+      among_own : (ls : List Literal) → AreAmong (z ∷ map (λ l. l.sig) ls) ls
+      among_own ls k l inside =
+          let within : k < length (map (λ (m : Literal). m.sig) ls) = rw length-map inside in
+          (suc k, omega (arith, within), get_or-map (λ (m : Literal). m.sig) ls k l (get_or ls k l).sig inside)
 
       never_fits : (f : Instance) → first_fit d library z ≡ Some f → ⊥
       never_fits f found =
           let (over, fit) = fit_fits d library z f made found in
-          let cell = cell_at library f.cell in
+          let short : length (cell_at library f.cell).pins ≤ most = few f.cell no_cell over.instance.cell in
           let pins = over.instance.pins in
-          let short : length cell.pins ≤ most = few f.cell no_cell over.instance.cell in
           let too_many : length f.literals < size_from (suc n) 0 read = omega (arith, many_read, pins, short) in
-          let no_fit : fits d z cell f.literals ≡ false =
-          missing_refutes d z cell (suc n) (length f.literals) [] read (missing f over.instance)
-          (omega (arith, pins)) (All-nil (λ (l : Literal). l.sig < length h.signals)) too_many f.literals refl
-          over.signals in
-          true≢false (sym (told d library z f made fit) ∙ no_fit)
+          owed_unfit d library z (suc n) (length f.literals) (map (λ l. l.sig) f.literals) [] read
+          (length-map f.literals (λ l. l.sig)) (owed_first d library z read by_reading z_unread) too_many f over fit
+          (among_own f.literals)
 
       pub stays_unfit : is_none (first_fit d library z) ≡ true
       stays_unfit = by_first (first_fit d library z) refl

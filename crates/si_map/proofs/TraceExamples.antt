@@ -7,6 +7,7 @@ use Rattle.si_base.specs.Graph.{IsNonInput, is_driven}
 use Rattle.si_base.specs.declared.graph.Signal.{Signal}
 use Rattle.si_base.specs.declared.graph.SigKind.TheVariants.{Input, Output}
 use Rattle.si_cell.specs.Library.{Library, Instance}
+use Rattle.si_cell.specs.declared.pins.Pins.TheVariants.{Any}
 use Rattle.si_circuit.specs.Cells.{AllFit, IsFirstUnfit}
 use Rattle.si_divisor.specs.Divisors.{divisors_of}
 use Rattle.si_insert.specs.Lineage.{Current, given_current}
@@ -17,7 +18,7 @@ use Rattle.si_map.proofs.EndLemmas.{not_both}
 use Rattle.si_map.proofs.Examples.{follower, buffers}
 
 abbrev no_cells : Library
-no_cells = record { name = codes "l"; cells = [] }
+no_cells = record { name = codes "l"; cells = []; pins = Any }
 
 abbrev start : Current
 start = given_current follower

@@ -100,6 +100,7 @@ module _ (c : CodedGraph) (classes : List Class) (new : Signal) (copies : List C
         instance = over.instance;
         signals = λ k l inside. (let small = over.signals k l inside in
             omega (arith, small, count));
+        admitted = over.admitted;
       },
       λ k within. (
           let (x, at, there) = copy_at c.graph classes new copies h k inserted within in
@@ -119,6 +120,7 @@ module _ (c : CodedGraph) (classes : List Class) (new : Signal) (copies : List C
           instance = over.instance;
           signals = λ k l inside. (let small = over.signals k l inside in let other = unread k l inside in
               grind (arith, small, count, other));
+          admitted = over.admitted;
         }
 
         given_fits : Fits c library z f

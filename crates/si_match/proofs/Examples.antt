@@ -13,11 +13,12 @@ use Rattle.si_base.specs.Netlist.{Sum, sum_value}
 use Rattle.si_base.specs.declared.graph.Signal.{Signal}
 use Rattle.si_base.specs.declared.graph.SigKind.TheVariants.{Input, Output}
 use Rattle.si_base.specs.declared.ids.Literal.{Literal}
-use Rattle.si_cell.specs.Library.{Cell, Library, instance_value}
+use Rattle.si_cell.specs.Library.{Cell, Library, instance_value, with_pins}
+use Rattle.si_cell.specs.declared.pins.Pins.TheVariants.{Any, Plain}
 use Rattle.si_match.specs.Loops.Choices.{AreAmong, AreOwed, Ascends, NoneFitsOver}
 use Rattle.si_match.specs.Loops.Columns.{AreColumns, first_pin_values}
 use Rattle.si_match.specs.Loops.Dropping.{AreTried}
-use Rattle.si_match.specs.Fit.{first_fit}
+use Rattle.si_match.specs.Fit.{first_fit, literals_for}
 use Rattle.si_match.specs.Functions.{AreFunctions, function_table, function_tables, value_at}
 use Rattle.si_match.specs.Loops.Known.{AreKnown, FitsByReading}
 use Rattle.si_match.specs.Loops.Places.{Agrees, AgreesAt, AreSeen, Differs, placed_code}
@@ -61,7 +62,7 @@ above : (n k i : ℕ) → n < 2 ^ k → k ≤ i → bit n i ≡ false
 above n k i small from_k = ap (λ (b : ℕ). b == 1) (bit_at_above n k i small from_k)
 
 abbrev library : List Cell → Library
-library cells = record { name = codes "l"; cells = cells }
+library cells = record { name = codes "l"; cells = cells; pins = Any }
 
 none : first_fit c_element (library (buffer ∷ [])) 2 ≡ None
 unfolding first_fit
@@ -71,6 +72,18 @@ first : first_fit c_element (library (buffer ∷ inverting ∷ [])) 2
     ≡ Some (record { cell = 1; literals = lit 0 false ∷ lit 1 false ∷ [] })
 unfolding first_fit
 first = refl
+
+-- with plain pins it doesn't: the C-element's own cell is wanted
+none_plain : first_fit c_element (with_pins Plain (library (buffer ∷ inverting ∷ []))) 2 ≡ None
+unfolding first_fit
+none_plain = refl
+
+-- the plain literals of two signals, and all of them
+plain_literals : literals_for Plain 2 ≡ lit 0 true ∷ lit 1 true ∷ []
+plain_literals = refl
+
+any_literals : literals_for Any 2 ≡ lit 0 true ∷ lit 0 false ∷ lit 1 true ∷ lit 1 false ∷ []
+any_literals = refl
 
 support : support_of c_element 2 ≡ 7
 unfolding support_of

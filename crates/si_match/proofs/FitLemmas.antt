@@ -1,6 +1,6 @@
 -- The first fitting instance fits, and without one none fits.
 use Rattle.std.proofs.Common.{◌≡◌, ℕ, zero, suc, ◌⊎◌, ◌+◌, ◌<◌, ◌≤◌, Bool, true, false, List, [], ◌∷◌, ◌++◌, length}
-use Rattle.std.proofs.Common.{map, get_or, Some, None, All, refl, sym, ap, ◌∙◌, arith, inl, inr, subst}
+use Rattle.std.proofs.Common.{map, filter, get_or, Some, None, All, refl, sym, ap, ◌∙◌, arith, inl, inr, subst}
 use Rattle.std.specs.Prelude.{flat_map}
 use Rattle.std.specs.List.{enumerate_from}
 use Rattle.std.proofs.lemmas.Bool.{true≢false, cases_Bool}
@@ -13,9 +13,11 @@ use Rattle.si_base.proofs.GraphSteps.{beq-refl, beq-true}
 use Rattle.si_base.specs.Codes.{CodedGraph, IsCoded, code, next_value}
 use Rattle.si_base.specs.Limits.{code_width}
 use Rattle.si_base.specs.declared.ids.Literal.{Literal}
-use Rattle.si_cell.specs.Library.{Cell, Library, Instance, IsInstance, cell_at, no_cell}
+use Rattle.si_cell.specs.Library.{Cell, Library, Instance, IsInstance, admits, cell_at, no_cell}
 use Rattle.si_cell.specs.Literals.{both_from}
-use Rattle.si_match.specs.Fit.{fits, suits, states_of, first_that, lists_of, literals_of_signals, instances_of}
+use Rattle.si_cell.specs.declared.pins.Pins.{Pins}
+use Rattle.si_match.specs.Fit.{fits, suits, states_of, first_that, lists_of, literals_of_signals, literals_for}
+use Rattle.si_match.specs.Fit.{instances_of}
 use Rattle.si_match.specs.Fit.{instances, first_fit, IsOver, Fits}
 use Rattle.si_match.proofs.CodeLemmas.{all_from}
 use Rattle.si_match.proofs.StateLemmas.{state_at, states_are}
@@ -60,6 +62,26 @@ from_flat f y (x ∷ xs) here = elim (in_append y (f x) (flat_map f xs) (rw flat
   | inl one ↦ (x, inl refl, one)
   | inr other ↦ (let (z, there, at) = from_flat f y xs other in (z, inr there, at))
 ]
+
+in_filter : {A : Type 0} (p : A → Bool) (x : A) (xs : List A) → In x xs → p x ≡ true → In x (filter p xs)
+in_filter p x [] here passes = absurd here
+in_filter p x (z ∷ xs) (inl same) passes = rw (ap p (sym same) ∙ passes) (inl same)
+in_filter p x (z ∷ xs) (inr later) passes = elim (cases_Bool (p z)) [
+  | inl kept ↦ rw kept (inr (in_filter p x xs later passes))
+  | inr dropped ↦ rw dropped (in_filter p x xs later passes)
+]
+
+from_filter : {A : Type 0} (p : A → Bool) (x : A) (xs : List A) → In x (filter p xs) → In x xs × (p x ≡ true)
+from_filter p x [] here = absurd here
+from_filter p x (z ∷ xs) here = elim (cases_Bool (p z)) [
+  | inl kept ↦ by_place kept (from_filter p x xs) (rw kept at here)
+  | inr dropped ↦ (let (there, passes) = from_filter p x xs (rw dropped at here) in (inr there, passes))
+]
+  where
+    by_place : p z ≡ true → (In x (filter p xs) → In x xs × (p x ≡ true)) → In x (z ∷ filter p xs)
+        → In x (z ∷ xs) × (p x ≡ true)
+    by_place kept behind (inl same) = (inl same, ap p same ∙ kept)
+    by_place kept behind (inr later) = let (there, passes) = behind later in (inr there, passes)
 
 -- ---- the first that passes
 first_passes : {A : Type 0} (test : A → Bool) (xs : List A) (x : A) → first_that test xs ≡ Some x → In x xs
@@ -111,29 +133,39 @@ literal_small (suc n) i l (inl same) = let e : l.sig ≡ i = ap (λ (m : Literal
 literal_small (suc n) i l (inr (inl same)) = let e : l.sig ≡ i = ap (λ (m : Literal). m.sig) same in omega (arith, e)
 literal_small (suc n) i l (inr (inr later)) = let small = literal_small n (i + 1) l later in omega (arith, small)
 
-list_in : (n : ℕ) (ls : List Literal) → All (λ (l : Literal). l.sig < n) ls
-    → In ls (lists_of (length ls) (literals_of_signals n))
-list_in n [] small = inl refl
-list_in n (l ∷ ls) small =
-    in_flat (λ m. map (λ ms. m ∷ ms) (lists_of (length ls) (literals_of_signals n))) l (l ∷ ls) (literals_of_signals n)
-    (literal_in n 0 l (omega arith) (let here = small 0 l (omega arith) in omega (arith, here)))
-    (in_map (λ ms. l ∷ ms) ls (lists_of (length ls) (literals_of_signals n)) (list_in n ls (λ k d inside. small
-    (suc k) d (omega (arith, inside)))))
+module _ (allowed : Pins) (n : ℕ) where
+  abbrev Admitted : Literal → Type 0
+  Admitted l = admits allowed l ≡ true
 
-list_small : (n pins : ℕ) (ls : List Literal) → In ls (lists_of pins (literals_of_signals n)) → (length ls ≡ pins)
-    × All (λ (l : Literal). l.sig < n) ls
-list_small n zero ls (inl same) = rw same (refl, λ k d inside. absurd (omega arith))
-list_small n zero ls (inr never) = absurd never
-list_small n (suc pins) ls here =
-    let (l, there, at) = from_flat (λ m. map (λ ms. m ∷ ms) (lists_of pins (literals_of_signals n))) ls
-    (literals_of_signals n) here in
-    let (rest, rest_in, same) = from_map (λ ms. l ∷ ms) ls (lists_of pins (literals_of_signals n)) at in
-    let (count, small) = list_small n pins rest rest_in in
-    rw same (
-      ap suc count,
-      All-cons (λ (m : Literal). m.sig < n) l rest (let low = literal_small n 0 l there in omega
-          (arith, low)) small,
-    )
+  list_in : (ls : List Literal) → All (λ (l : Literal). l.sig < n) ls → All Admitted ls
+      → In ls (lists_of (length ls) (literals_for allowed n))
+  list_in [] small admitted = inl refl
+  list_in (l ∷ ls) small admitted =
+      let listed = literal_in n 0 l (omega arith) (let here = small 0 l (omega arith) in omega (arith, here)) in
+      in_flat (λ m. map (λ ms. m ∷ ms) (lists_of (length ls) (literals_for allowed n))) l (l ∷ ls)
+      (literals_for allowed n)
+      (in_filter (admits allowed) l (literals_of_signals n) listed (admitted 0 l (omega arith)))
+      (in_map (λ ms. l ∷ ms) ls (lists_of (length ls) (literals_for allowed n)) (list_in ls
+      (λ k d inside. small (suc k) d (omega (arith, inside)))
+      (λ k d inside. admitted (suc k) d (omega (arith, inside)))))
+
+  list_small : (pins : ℕ) (ls : List Literal) → In ls (lists_of pins (literals_for allowed n))
+      → (length ls ≡ pins) × All (λ (l : Literal). l.sig < n) ls × All Admitted ls
+  list_small zero ls (inl same) =
+      rw same (refl, λ k d inside. absurd (omega arith), λ k d inside. absurd (omega arith))
+  list_small zero ls (inr never) = absurd never
+  list_small (suc pins) ls here =
+      let (l, there, at) = from_flat (λ m. map (λ ms. m ∷ ms) (lists_of pins (literals_for allowed n))) ls
+      (literals_for allowed n) here in
+      let (rest, rest_in, same) = from_map (λ ms. l ∷ ms) ls (lists_of pins (literals_for allowed n)) at in
+      let (count, small, admitted) = list_small pins rest rest_in in
+      let (listed, passes) = from_filter (admits allowed) l (literals_of_signals n) there in
+      rw same (
+        ap suc count,
+        All-cons (λ (m : Literal). m.sig < n) l rest (let low = literal_small n 0 l listed in omega
+            (arith, low)) small,
+        All-cons Admitted l rest passes admitted,
+      )
 
 cell_in : (from : ℕ) (cells : List Cell) (k : ℕ) → k < length cells
     → In (from + k, get_or cells k no_cell) (enumerate_from from cells)
@@ -160,25 +192,28 @@ from_cells from (x ∷ cells) p (inr later) =
     (suc k, omega (arith, inside), same ∙ (let pair : ℕ → ℕ × Cell = λ n. (n, get_or cells k no_cell) in ap pair e))
 
 module _ (n : ℕ) (library : Library) (i : Instance) where
-  pub listed_in : IsInstance library i → All (λ (l : Literal). l.sig < n) i.literals → In i (instances n library)
-  listed_in instance signals =
+  pub listed_in : IsInstance library i → All (λ (l : Literal). l.sig < n) i.literals
+      → All (λ (l : Literal). admits library.pins l ≡ true) i.literals → In i (instances n library)
+  listed_in instance signals admitted =
       let here : In (i.cell, cell_at library i.cell) (enumerate_from 0 library.cells) =
       (let e : 0 + i.cell ≡ i.cell = omega arith in
       subst (λ k. In (k, cell_at library i.cell) (enumerate_from 0 library.cells)) e
       (cell_in 0 library.cells i.cell instance.cell)) in
-      let listed : In i.literals (lists_of (length (cell_at library i.cell).pins) (literals_of_signals n)) =
-      subst (λ k. In i.literals (lists_of k (literals_of_signals n))) instance.pins (list_in n i.literals signals) in
-      in_flat (instances_of n) (i.cell, cell_at library i.cell) i (enumerate_from 0 library.cells) here
+      let listed : In i.literals (lists_of (length (cell_at library i.cell).pins) (literals_for library.pins n)) =
+      subst (λ k. In i.literals (lists_of k (literals_for library.pins n))) instance.pins
+      (list_in library.pins n i.literals signals admitted) in
+      in_flat (instances_of library.pins n) (i.cell, cell_at library i.cell) i (enumerate_from 0 library.cells) here
       (in_map (λ ls. record { cell = i.cell; literals = ls }) i.literals _ listed)
 
   pub from_listed : n ≤ code_width → In i (instances n library)
       → IsInstance library i × All (λ (l : Literal). l.sig < n) i.literals
+      × All (λ (l : Literal). admits library.pins l ≡ true) i.literals
   from_listed width here =
-      let (p, p_in, i_in) = from_flat (instances_of n) i (enumerate_from 0 library.cells) here in
+      let (p, p_in, i_in) = from_flat (instances_of library.pins n) i (enumerate_from 0 library.cells) here in
       let (k, inside, is_p) = from_cells 0 library.cells p p_in in
       let (ls, ls_in, is_i) = from_map (λ ms. record { cell = p.0; literals = ms }) i
-      (lists_of (length p.1.pins) (literals_of_signals n)) i_in in
-      let (count, small) = list_small n (length p.1.pins) ls ls_in in
+      (lists_of (length p.1.pins) (literals_for library.pins n)) i_in in
+      let (count, small, admitted) = list_small library.pins n (length p.1.pins) ls ls_in in
       let place : 0 + k ≡ k = omega arith in
       let at_cell : i.cell ≡ k = ap (λ (j : Instance). j.cell) is_i ∙ ap (λ (q : ℕ × Cell). q.0) is_p ∙ place in
       let pins : length p.1.pins ≡ length (cell_at library i.cell).pins =
@@ -190,17 +225,19 @@ module _ (n : ℕ) (library : Library) (i : Instance) where
           signals = rw literals_are (λ j d within. (let low = small j d within in omega (arith, low, width)));
         },
         rw literals_are small,
+        rw literals_are admitted,
       )
 
 pub instance_in : (c : CodedGraph) (library : Library) (i : Instance) → IsOver c library i
     → In i (instances (length c.graph.signals) library)
-instance_in c library i over = listed_in (length c.graph.signals) library i over.instance over.signals
+instance_in c library i over =
+    listed_in (length c.graph.signals) library i over.instance over.signals over.admitted
 
 pub instance_over : (c : CodedGraph) (library : Library) (i : Instance) → length c.graph.signals ≤ code_width
     → In i (instances (length c.graph.signals) library) → IsOver c library i
 instance_over c library i width here =
-    let (instance, signals) = from_listed (length c.graph.signals) library i width here in
-    record { instance = instance; signals = signals }
+    let (instance, signals, admitted) = from_listed (length c.graph.signals) library i width here in
+    record { instance = instance; signals = signals; admitted = admitted }
 
 -- ---- what the test tells
 module _ (c : CodedGraph) (library : Library) (z : ℕ) (i : Instance) (coded : IsCoded c) where

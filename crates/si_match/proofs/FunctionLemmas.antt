@@ -1,7 +1,7 @@
 -- The truth tables of all instances over the places.
-use Rattle.std.proofs.Common.{◌≡◌, ℕ, suc, ◌+◌, ◌*◌, ◌/◌, ◌%◌, ◌<◌, ◌≤◌, ◌==◌, List, [], ◌∷◌, ◌++◌}
+use Rattle.std.proofs.Common.{◌≡◌, ℕ, suc, ◌+◌, ◌<◌, ◌≤◌, List, [], ◌∷◌, ◌++◌}
 use Rattle.std.proofs.Common.{length, map, take, get_or}
-use Rattle.std.proofs.Common.{All, Contains, false, refl, sym, ap, ◌∙◌, arith, append_assoc}
+use Rattle.std.proofs.Common.{All, Contains, false, true, refl, sym, ap, ◌∙◌, arith, append_assoc}
 use Rattle.std.specs.Prelude.{flat_map}
 use Rattle.std.specs.List.{enumerate_from, range_with_len}
 use Rattle.std.proofs.lemmas.Grind.{flat_map-append}
@@ -13,27 +13,29 @@ use Rattle.si_base.proofs.GivenGraphUnique.{contains_from_in, in_from_contains}
 use Rattle.si_base.specs.Bits.{bit}
 use Rattle.si_base.specs.Limits.{code_width}
 use Rattle.si_base.specs.declared.ids.Literal.{Literal}
-use Rattle.si_cell.specs.Library.{Cell, Library, Instance, IsInstance, cell_at, no_cell}
+use Rattle.si_cell.specs.Library.{Cell, Library, Instance, IsInstance, admits, cell_at, no_cell}
 use Rattle.si_cell.specs.Limits.{table_codes}
 use Rattle.si_cell.proofs.ExpandedLemmas.{bit_of}
-use Rattle.si_match.specs.Fit.{lists_of, literals_of_signals, instances_of, instances}
+use Rattle.si_cell.specs.declared.pins.Pins.{Pins}
+use Rattle.si_match.specs.Fit.{lists_of, literals_for, instances_of, instances}
 use Rattle.si_match.specs.Functions.{AreFunctions, function_table, function_tables, places, value_at}
 use Rattle.si_match.proofs.FitLemmas.{listed_in, from_listed, in_map, from_map}
-use Rattle.si_match.proofs.SearchLemmas.{literal_of_place, literals_count}
+use Rattle.si_match.specs.Loops.Search.{literal_at, literal_count}
+use Rattle.si_match.proofs.SearchLemmas.{literal_for, count_for}
 
 map_same : {A B : Type 0} (f g : A → B) (xs : List A) → ((x : A) → f x ≡ g x) → map f xs ≡ map g xs
 map_same f g [] same = refl
 map_same f g (x ∷ xs) same = rw (same x, map_same f g xs same) refl
 
-abbrev all_literals : List Literal
-all_literals = literals_of_signals places
-
--- all lists of one more literal, this one first
-abbrev with_next : ℕ → Literal → List (List Literal)
-with_next more l = map (λ ls. l ∷ ls) (lists_of more all_literals)
-
 -- ---- literal after literal at the next pin
-module _ (cell : Cell) (literals : List Literal) where
+module _ (allowed : Pins) (cell : Cell) (literals : List Literal) where
+  abbrev all_literals : List Literal
+  all_literals = literals_for allowed places
+
+  -- all lists of one more literal, this one first
+  abbrev with_next : ℕ → Literal → List (List Literal)
+  with_next more l = map (λ ls. l ∷ ls) (lists_of more all_literals)
+
   abbrev table_with : List Literal → ℕ
   table_with rest = function_table cell (literals ++ rest)
 
@@ -41,17 +43,17 @@ module _ (cell : Cell) (literals : List Literal) where
   abbrev pub tables_before : ℕ → ℕ → List ℕ
   tables_before more place = map table_with (flat_map (with_next more) (take place all_literals))
 
-  module _ (more place : ℕ) (l : Literal) (within : place < 2 * places)
-      (l_is : l ≡ record { sig = place / 2; plain = place % 2 == 0 }) where
+  module _ (more place : ℕ) (l : Literal) (within : place < literal_count allowed places)
+      (l_is : l ≡ literal_at allowed place) where
     abbrev tables_with : List ℕ
     tables_with = map (λ rest. function_table cell ((literals ++ l ∷ []) ++ rest)) (lists_of more all_literals)
 
     inside : place < length all_literals
-    inside = rw literals_count within
+    inside = rw count_for within
 
     wider : take (place + 1) all_literals ≡ take place all_literals ++ l ∷ []
     wider = take_more all_literals place l inside
-        ∙ ap (λ (m : Literal). take place all_literals ++ m ∷ []) (literal_of_place places place l within ∙ sym l_is)
+        ∙ ap (λ (m : Literal). take place all_literals ++ m ∷ []) (literal_for allowed places place l within ∙ sym l_is)
 
     more_lists : flat_map (with_next more) (take (place + 1) all_literals)
         ≡ flat_map (with_next more) (take place all_literals) ++ with_next more l
@@ -74,10 +76,10 @@ module _ (cell : Cell) (literals : List Literal) where
         ∙ sym (map-append table_with (flat_map (with_next more) (take place all_literals)) (with_next more l))
         ∙ ap (map table_with) (sym more_lists))
 
-  pub all_before : (more less place : ℕ) → more ≡ suc less → 2 * places ≤ place
+  pub all_before : (more less place : ℕ) → more ≡ suc less → literal_count allowed places ≤ place
       → tables_before less place ≡ map table_with (lists_of more all_literals)
   all_before more less place more_is past =
-      let count : length all_literals ≤ place = rw literals_count past in
+      let count : length all_literals ≤ place = rw count_for past in
       ap (λ (ls : List Literal). map table_with (flat_map (with_next less) ls)) (take_all place all_literals count)
       ∙ ap (λ (n : ℕ). map table_with (lists_of n all_literals)) (sym more_is)
 
@@ -87,16 +89,18 @@ module _ (library : Library) where
   table_in i = function_table (cell_at library i.cell) i.literals
 
   abbrev pub tables_of_first : ℕ → List ℕ
-  tables_of_first k = map table_in (flat_map (instances_of places) (take k (enumerate_from 0 library.cells)))
+  tables_of_first k = map table_in (flat_map (instances_of library.pins places) (take k (enumerate_from 0 library.cells)))
 
-  pub next_cell : (k : ℕ) (cell : Cell) (pins : ℕ) (made : List ℕ) → k < length library.cells
+  pub next_cell : (k : ℕ) (cell : Cell) (pins : ℕ) (made : List ℕ) (allowed : Pins) → allowed ≡ library.pins
+      → k < length library.cells
       → cell ≡ cell_at library k → pins ≡ length cell.pins → made ≡ tables_of_first k
-      → made ++ map (λ ls. function_table cell ls) (lists_of pins all_literals) ≡ tables_of_first (k + 1)
-  next_cell k cell pins made within cell_is pins_are made_is =
-      ap (λ (ts : List ℕ). ts ++ map (λ ls. function_table cell ls) (lists_of pins all_literals)) made_is
+      → made ++ map (λ ls. function_table cell ls) (lists_of pins (literals_for allowed places))
+      ≡ tables_of_first (k + 1)
+  next_cell k cell pins made allowed kind within cell_is pins_are made_is =
+      ap (λ (ts : List ℕ). ts ++ map (λ ls. function_table cell ls) (lists_of pins (literals_for allowed places))) made_is
       ∙ ap (λ (ts : List ℕ). tables_of_first k ++ ts) of_cell
-      ∙ sym (map-append table_in (flat_map (instances_of places) (take k (enumerate_from 0 library.cells)))
-      (instances_of places (k, cell_at library k)))
+      ∙ sym (map-append table_in (flat_map (instances_of library.pins places) (take k (enumerate_from 0 library.cells)))
+      (instances_of library.pins places (k, cell_at library k)))
       ∙ ap (map table_in) (sym more_instances)
     where
       numbered : List (ℕ × Cell)
@@ -112,44 +116,45 @@ module _ (library : Library) where
           get_or-enumerate_from 0 library.cells k (k, no_cell) within
           ∙ ap (λ (n : ℕ). pair n (cell_at library k)) e
 
-      more_instances : flat_map (instances_of places) (take (k + 1) numbered)
-          ≡ flat_map (instances_of places) (take k numbered) ++ instances_of places (k, cell_at library k)
+      more_instances : flat_map (instances_of library.pins places) (take (k + 1) numbered)
+          ≡ flat_map (instances_of library.pins places) (take k numbered) ++ instances_of library.pins places (k, cell_at library k)
       more_instances =
-          ap (flat_map (instances_of places)) (take_more numbered k (k, no_cell) inside
+          ap (flat_map (instances_of library.pins places)) (take_more numbered k (k, no_cell) inside
           ∙ ap (λ (p : ℕ × Cell). take k numbered ++ p ∷ []) at)
-          ∙ flat_map-append (instances_of places) (take k numbered) ((k, cell_at library k) ∷ [])
-          ∙ ap (λ (is : List Instance). flat_map (instances_of places) (take k numbered) ++ is)
-          (flat_map-cons (instances_of places) (k, cell_at library k) []
-          ∙ append-nil (instances_of places (k, cell_at library k)))
+          ∙ flat_map-append (instances_of library.pins places) (take k numbered) ((k, cell_at library k) ∷ [])
+          ∙ ap (λ (is : List Instance). flat_map (instances_of library.pins places) (take k numbered) ++ is)
+          (flat_map-cons (instances_of library.pins places) (k, cell_at library k) []
+          ∙ append-nil (instances_of library.pins places (k, cell_at library k)))
 
-      of_cell : map (λ ls. function_table cell ls) (lists_of pins all_literals)
-          ≡ map table_in (instances_of places (k, cell_at library k))
-      of_cell = rw (pins_are, cell_is) (sym (map-map table_in
-          (λ ls. record { cell = k; literals = ls }) (lists_of (length (cell_at library k).pins) all_literals)))
+      of_cell : map (λ ls. function_table cell ls) (lists_of pins (literals_for allowed places))
+          ≡ map table_in (instances_of library.pins places (k, cell_at library k))
+      of_cell = rw (kind, pins_are, cell_is) (sym (map-map table_in
+          (λ ls. record { cell = k; literals = ls }) (lists_of (length (cell_at library k).pins) (literals_for library.pins places))))
 
   pub all_cells : (k : ℕ) → length library.cells ≤ k → tables_of_first k ≡ function_tables library
   all_cells k past =
       let count : length (enumerate_from 0 library.cells) ≤ k = rw length-enumerate_from past in
-      ap (λ (ps : List (ℕ × Cell)). map table_in (flat_map (instances_of places) ps))
+      ap (λ (ps : List (ℕ × Cell)). map table_in (flat_map (instances_of library.pins places) ps))
       (take_all k (enumerate_from 0 library.cells) count)
 
   -- ---- which tables there are
   module _ (tables : List ℕ) (are : AreFunctions library tables) where
     pub has_table : (i : Instance) → IsInstance library i → All (λ l. l.sig < places) i.literals
-        → Contains tables (table_in i)
-    has_table i instance placed =
+        → All (λ l. admits library.pins l ≡ true) i.literals → Contains tables (table_in i)
+    has_table i instance placed admitted =
         (are (table_in i)).1 (contains_from_in (function_tables library) (table_in i)
-        (in_map table_in i (instances places library) (listed_in places library i instance placed)))
+        (in_map table_in i (instances places library) (listed_in places library i instance placed admitted)))
 
     pub instance_of_table : (t : ℕ) → Contains tables t → (i : Instance) × IsInstance library i
-        × All (λ l. l.sig < places) i.literals × (t ≡ table_in i)
+        × All (λ l. l.sig < places) i.literals × All (λ l. admits library.pins l ≡ true) i.literals
+        × (t ≡ table_in i)
     instance_of_table t there =
         let (k, within, at) = (are t).0 there in
         let (i, i_in, is) = from_map table_in t (instances places library)
         (in_from_contains (function_tables library) t k within at) in
         let width : places ≤ code_width = omega arith in
-        let (instance, placed) = from_listed places library i width i_in in
-        (i, instance, placed, is)
+        let (instance, placed, admitted) = from_listed places library i width i_in in
+        (i, instance, placed, admitted, is)
 
 -- ---- what a table tells
 pub table_bit : (cell : Cell) (literals : List Literal) (m : ℕ) → m < table_codes

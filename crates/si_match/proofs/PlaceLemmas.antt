@@ -14,7 +14,9 @@ use Rattle.si_base.specs.Bits.{bit}
 use Rattle.si_base.specs.Codes.{CodedGraph, IsCoded, code}
 use Rattle.si_base.specs.Netlist.{literal_value, sum_value}
 use Rattle.si_base.specs.declared.ids.Literal.{Literal}
-use Rattle.si_cell.specs.Library.{Cell, Library, Instance, IsInstance, cell_at, code_of, pin_values}
+use Rattle.si_cell.specs.Library.{Cell, Library, Instance, IsInstance, admits, cell_at, code_of, pin_values}
+use Rattle.si_cell.specs.declared.pins.Pins.{Pins}
+use Rattle.si_cell.specs.declared.pins.Pins.TheVariants.{Any, Plain}
 use Rattle.si_cell.specs.Limits.{max_pins, table_codes}
 use Rattle.si_cell.proofs.CubeLemmas.{and_first, and_second}
 use Rattle.si_cell.proofs.ExpandedLemmas.{bit_of}
@@ -44,6 +46,12 @@ placed_small (y ∷ ys) k =
 -- the literal of the signal that stands at the literal's place
 abbrev pub at_place : List ℕ → Literal → Literal
 at_place signals l = record { sig = get_or signals l.sig 0; plain = l.plain }
+
+-- another signal makes no difference to whether pins may have the literal
+pub admitted_of : (allowed : Pins) (l : Literal) (sig : ℕ)
+    → admits allowed (record { sig = sig; plain = l.plain }) ≡ admits allowed l
+admitted_of Any l sig = refl
+admitted_of Plain l sig = refl
 
 values_same : (signals : List ℕ) (k : ℕ) (ls : List Literal) → All (λ (l : Literal). l.sig < length signals) ls
     → map (literal_value (placed_code signals k)) ls ≡ map (literal_value k) (map (at_place signals) ls)
@@ -100,18 +108,22 @@ module _ (c : CodedGraph) (library : Library) (z : ℕ) (chosen tables : List �
   -- a table that agrees is that of a fitting instance
   pub agreeing_fits : (t : ℕ) → Contains tables t → Agrees c z chosen t → IsFitted c library z
   agreeing_fits t there agrees =
-      let (i, instance, in_places, t_is) = instance_of_table library tables are t there in
-      fitting i instance in_places t_is
+      let (i, instance, in_places, admitted, t_is) = instance_of_table library tables are t there in
+      fitting i instance in_places admitted t_is
     where
       Small : Literal → Type 0
       Small l = l.sig < length c.graph.signals
+
+      Admitted : Literal → Type 0
+      Admitted l = admits library.pins l ≡ true
 
       all_small : All (λ y. y < length c.graph.signals) (z ∷ chosen)
       all_small = All-cons (λ (y : ℕ). y < length c.graph.signals) z chosen z_small small
 
       fitting : (i : Instance) → IsInstance library i → All (λ l. l.sig < places) i.literals
+          → All (λ l. admits library.pins l ≡ true) i.literals
           → t ≡ function_table (cell_at library i.cell) i.literals → IsFitted c library z
-      fitting i instance in_places t_is = (
+      fitting i instance in_places admitted t_is = (
         record { cell = i.cell; literals = map (at_place (z ∷ chosen)) i.literals },
         record {
           instance = record {
@@ -121,6 +133,8 @@ module _ (c : CodedGraph) (library : Library) (z : ℕ) (chosen tables : List �
                 omega (arith, below, is.graph_is.few_signals));
           };
           signals = signals_small;
+          admitted = All-map Admitted (at_place (z ∷ chosen)) i.literals (λ k d within.
+              admitted_of library.pins (get_or i.literals k d) _ ∙ admitted k d within);
         },
         λ s within. sym (value_told (cell_at library i.cell) i.literals placed (code c s))
             ∙ ap (λ (u : ℕ). bit u (placed_code (z ∷ chosen) (code c s))) (sym t_is) ∙ agrees s within,
@@ -157,8 +171,21 @@ module _ (c : CodedGraph) (library : Library) (z : ℕ) (chosen tables : List �
             signals = λ k d within. (let below = in_places k d within in omega (arith, below));
           }
 
+          Admitted : Literal → Type 0
+          Admitted l = admits library.pins l ≡ true
+
+          -- each is admitted, since the literal of the signal at its place is
+          admitted : All Admitted ps
+          admitted k d within =
+              let at : get_or i.literals k (at_place (z ∷ chosen) d) ≡ at_place (z ∷ chosen) (get_or ps k d) =
+              rw (← same) (get_or-map (at_place (z ∷ chosen)) ps k d (at_place (z ∷ chosen) d) within) in
+              let inside : k < length i.literals = rw (← same, length-map) within in
+              sym (admitted_of library.pins (get_or ps k d) _) ∙ sym (ap (admits library.pins) at)
+              ∙ over.admitted k (at_place (z ∷ chosen) d) inside
+
           there : Contains tables (function_table (cell_at library i.cell) ps)
           there = has_table library tables are (record { cell = i.cell; literals = ps }) instance in_places
+              admitted
 
 -- ---- what was seen
 -- a number that isn't 0 has a bit

@@ -18,6 +18,7 @@ use Rattle.si_base.specs.declared.ids.Literal.{Literal}
 use Rattle.si_cell.specs.Library.{Cell, pin_values}
 use Rattle.si_graph.specs.NextCodes.{IsNextCode}
 use Rattle.si_match.specs.Fit.{suits, fits}
+use Rattle.si_cell.specs.declared.pins.Pins.{Pins}
 use Rattle.si_match.specs.Loops.Search.{IsRefuted, first_completion}
 use Rattle.si_match.specs.Support.{agree}
 use Rattle.si_match.specs.Triggers.{IsTrigger, IsUnread, IsNeeded, AreMissing, AreTriggers}
@@ -172,12 +173,12 @@ missing_refutes c z cell n (suc more) literals missing are pins inside many (l �
     (omega (arith, many, drop)) rest (omega (arith, count))
     (λ k d within. rest_inside (suc k) d (omega (arith, within)))
 
-pub missing_now : (c : CodedGraph) (z : ℕ) (cell : Cell) (literals : List Literal) (more missing size : ℕ)
+pub missing_now : (allowed : Pins) (c : CodedGraph) (z : ℕ) (cell : Cell) (literals : List Literal) (more missing size : ℕ)
     → AreMissing c z cell literals missing → length literals + more ≡ length cell.pins
     → All (λ l. l.sig < length c.graph.signals) literals → size ≡ size_from (length c.graph.signals) 0 missing
-    → more < size → first_completion c z cell literals more ≡ None
-missing_now c z cell literals more missing size are pins inside size_is many =
-    refuted c z cell literals more (missing_refutes c z cell (length c.graph.signals) more literals missing are pins
+    → more < size → first_completion allowed c z cell literals more ≡ None
+missing_now allowed c z cell literals more missing size are pins inside size_is many =
+    refuted allowed c z cell literals more (missing_refutes c z cell (length c.graph.signals) more literals missing are pins
     inside (omega (arith, many, size_is)))
 
 -- ---- the triggers that are found

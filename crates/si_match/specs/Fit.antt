@@ -1,6 +1,6 @@
 -- (field) The instances of a library over the signals of a graph, and the first that fits a signal.
 use Rattle.std.specs.Prelude.{◌≡◌, ℕ, ◌<◌, Bool, List, [], ◌∷◌, zero, suc, length, map, flat_map}
-use Rattle.std.specs.Prelude.{if◌then◌else◌, All, Option, Some, None}
+use Rattle.std.specs.Prelude.{if◌then◌else◌, All, IsTrue, Option, Some, None, filter}
 use Rattle.std.specs.List.{list_all, enumerate_from}
 use mathlib.Core.Bool.{beq}
 use Rattle.si_base.specs.Bits.{bit}
@@ -8,8 +8,9 @@ use Rattle.si_base.specs.Codes.{CodedGraph, code, next_value}
 use Rattle.si_base.specs.Netlist.{sum_value}
 use Rattle.si_base.specs.declared.ids.Literal.{Literal}
 use Rattle.si_cell.specs.Library.{Cell, Library, Instance, IsInstance, cell_at, pin_values}
-use Rattle.si_cell.specs.Library.{instance_value}
+use Rattle.si_cell.specs.Library.{instance_value, admits}
 use Rattle.si_cell.specs.Literals.{both_from}
+use Rattle.si_cell.specs.declared.pins.Pins.{Pins}
 
 -- ---- all instances, by cell in library order, then by their literals in literal order, the first
 -- pin first
@@ -23,14 +24,19 @@ lists_of (suc pins) literals = flat_map (λ l. map (λ ls. l ∷ ls) (lists_of p
 abbrev pub literals_of_signals : ℕ → List Literal
 literals_of_signals signals = both_from signals 0
 
+-- those of them that such pins may have
+abbrev pub literals_for : Pins → ℕ → List Literal
+literals_for pins signals = filter (admits pins) (literals_of_signals signals)
+
 -- the instances of a cell that stands at that place
-abbrev pub instances_of : ℕ → ℕ × Cell → List Instance
-instances_of signals p =
+abbrev pub instances_of : Pins → ℕ → ℕ × Cell → List Instance
+instances_of pins signals p =
     map (λ ls. record { cell = p.0; literals = ls })
-    (lists_of (length p.1.pins) (literals_of_signals signals))
+    (lists_of (length p.1.pins) (literals_for pins signals))
 
 abbrev pub instances : ℕ → Library → List Instance
-instances signals library = flat_map (instances_of signals) (enumerate_from 0 library.cells)
+instances signals library =
+    flat_map (instances_of library.pins signals) (enumerate_from 0 library.cells)
 
 -- ---- fitting
 
@@ -61,10 +67,11 @@ first_fit c library z =
 
 -- ---- what it is for an instance to fit
 
--- an instance over signals of the graph
+-- an instance over signals of the graph, by literals that the library's pins may have
 pub record IsOver (c : CodedGraph) (library : Library) (i : Instance) : Type 0 where
   pub instance : IsInstance library i
   pub signals : All (λ l. l.sig < length c.graph.signals) i.literals
+  pub admitted : All (λ l. IsTrue (admits library.pins l)) i.literals
 
 -- at every state its value, where the own output has the value of z, is the next value of z
 abbrev pub Fits : CodedGraph → Library → ℕ → Instance → Type 0

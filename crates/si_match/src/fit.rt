@@ -1,6 +1,7 @@
 //! The first instance that fits a signal.
 
 ghost use Rattle.std.specs.Prelude.{◌≡◌, ℕ, ◌<◌, All, [], length};
+ghost use Rattle.si_base.specs.Codes.{IsCoded};
 ghost use Rattle.si_base.specs.Graph.{IsNonInput};
 ghost use Rattle.si_checks.specs.Loops.Lent.{coded_of};
 ghost use Rattle.si_cell.specs.Library.{cell_at};
@@ -18,8 +19,9 @@ use si_graph::coded::Coded;
 
 /// The first instance of the library that fits `z`: at every state its value, where its cell's own
 /// output has the value of `z`, is the next value of `z`. A signal may stand at several pins, and
-/// may be `z` itself. Instances are ordered by cell in library order, then by their literals in
-/// literal order, the first pin first. `None` exactly where none fits.
+/// may be `z` itself; where the library's pins are plain, no complement does. Instances are ordered
+/// by cell in library order, then by their literals in literal order, the first pin first. `None`
+/// exactly where none fits.
 ///
 /// Each gate of `z` has to read its trigger signals. The search ends below literals at the first
 /// pins that leave too few pins for them, or where a state beside an arc of a trigger, or one that
@@ -40,13 +42,14 @@ pub(crate) fn first_fitting(
     z: Sig,
     needed: Triggers,
 ) -> Option<Instance>
+    requires coded { IsCoded coded.now }
     requires signal { z < length coded.now.graph.signals }
     requires needed { (k : ℕ) → k < length library.now.cells
         → AreMissing coded.now z (cell_at library.now k) [] needed.signals }
     requires states { All (λ s. s < coded.now.graph.states) needed.witnesses.items }
     ensures { result ≡ first_fit coded.now library.now z }
 {
-    let choices = 2 * coded.graph().signals().len();
+    let allowed = library.pins();
     let Triggers {
         signals,
         mut witnesses,
@@ -58,7 +61,7 @@ pub(crate) fn first_fitting(
         let pins = cell.pins.len();
         if complete(
             coded,
-            choices,
+            allowed,
             z,
             cell,
             &mut witnesses,

@@ -6,14 +6,15 @@ ghost use Rattle.si_base.specs.declared.ids.Literal.{Literal};
 ghost use Rattle.si_cell.specs.Limits.{max_pins};
 ghost use Rattle.si_cell.specs.Library.{Cell as CellValue, IsLibrary};
 ghost use Rattle.si_match.specs.Loops.Columns.{AreColumns};
-ghost use Rattle.si_match.specs.Fit.{lists_of, literals_of_signals};
+ghost use Rattle.si_match.specs.Fit.{lists_of, literals_for};
 ghost use Rattle.si_match.specs.Functions.{AreFunctions, function_table, function_tables, places};
 
 use crate::columns::{columns_of, table_of, with_literal};
-use crate::search::literal_at;
+use crate::search::{literal_at, literal_count};
 use si_base::ids::NoMemory;
 use si_cell::library::Library;
 use si_cell::limits::MAX_PINS;
+use si_cell::pins::Pins;
 use std::alloc::Global;
 use std::marker::Model;
 
@@ -81,33 +82,39 @@ fn all_tables(alloc: Global, library: &Library) -> Result<Vec<u32>, NoMemory>
     ensures tables { IfOk result (λ tables. tables.items ≡ function_tables library.now) }
     ensures library { IsLibrary library.now }
 {
+    let allowed = library.pins();
     let mut tables = Vec::new(alloc);
     for k in 0..library.cells().len() {
         let cell = library.cell(k as u8);
         let columns = columns_of(cell);
-        add_tables(&mut tables, columns.as_slice(), cell.pins.len())?;
+        add_tables(&mut tables, allowed, columns.as_slice(), cell.pins.len())?;
     }
     Ok(tables)
 }
 
-/// Adds the truth tables of the cell that has these columns, with each choice of literals of places
-/// at its last pins, so many.
-fn add_tables(tables: &mut Vec<u32>, columns: &[u32], more: usize) -> Result<(), NoMemory>
+/// Adds the truth tables of the cell that has these columns, with each choice of allowed literals
+/// of places at its last pins, so many.
+fn add_tables(
+    tables: &mut Vec<u32>,
+    allowed: Pins,
+    columns: &[u32],
+    more: usize,
+) -> Result<(), NoMemory>
     requires few { more ≤ max_pins }
     requires count { length columns.now ≡ 2 ^ (more + 1) }
     ensures { OnOk result ((cell : CellValue) (literals : List Literal)
         → AreColumns cell literals columns.now
         → tables.new.items ≡ tables.old.items
         ++ map (λ rest. function_table cell (literals ++ rest))
-        (lists_of more (literals_of_signals places))) }
+        (lists_of more (literals_for allowed places))) }
 {
     if more == 0 {
         tables.push(table_of(columns))?;
         return Ok(());
     }
-    for place in 0..2 * PLACES {
-        let chosen = with_literal(columns, literal_at(place));
-        add_tables(tables, chosen.as_slice(), more - 1)?;
+    for place in 0..literal_count(allowed, PLACES) {
+        let chosen = with_literal(columns, literal_at(allowed, place));
+        add_tables(tables, allowed, chosen.as_slice(), more - 1)?;
     }
     Ok(())
 }

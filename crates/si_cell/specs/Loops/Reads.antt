@@ -6,6 +6,7 @@ use Rattle.si_words.specs.Loops.Reads.{words_now}
 use Rattle.si_words.specs.Sums.{parts_at}
 use Rattle.si_cell.specs.declared.words.Front.{Front}
 use Rattle.si_cell.specs.CellWords.{CellWords}
+use Rattle.si_cell.specs.declared.pins.Pins.TheVariants.{Any}
 use Rattle.si_cell.specs.LibraryText.{lines_fault, library_in, cell_lines_fault, cells_in}
 
 -- the words of a cell's line, where those of the sum are left
@@ -24,5 +25,9 @@ parts_left mark more words = if more then parts_at mark words else []
 -- stand behind it
 pub record ReadsName (last : ℕ) (old new : List Line) (name : List ℕ) : Type 0 where
   pub fault : lines_fault last old ≡ cell_lines_fault last [] new
-  pub library : library_in old ≡ record { name = name; cells = cells_in [] new }
+  pub library : library_in old ≡ record {
+    name = name;
+    cells = cells_in [] new;
+    pins = Any;
+  }
   pub good : IsTrue (is_signal_name name)

@@ -1,16 +1,31 @@
 -- The search for literals, pin after pin.
-use Rattle.std.specs.Prelude.{◌≡◌, ℕ, ◌<◌, ◌≤◌, ◌++◌, false, List, Option, length, All}
+use Rattle.std.specs.Prelude.{◌≡◌, ℕ, ◌*◌, ◌/◌, ◌%◌, ◌==◌, ◌<◌, ◌≤◌, ◌++◌, true, false, List}
+use Rattle.std.specs.Prelude.{Option, length, All}
 use Rattle.si_base.specs.Bits.{bit}
 use Rattle.si_base.specs.Codes.{CodedGraph}
 use Rattle.si_base.specs.declared.ids.Literal.{Literal}
 use Rattle.si_cell.specs.Library.{Cell}
-use Rattle.si_match.specs.Fit.{suits, fits, first_that, lists_of, literals_of_signals}
+use Rattle.si_cell.specs.declared.pins.Pins.{Pins}
+use Rattle.si_cell.specs.declared.pins.Pins.TheVariants.{Any, Plain}
+use Rattle.si_match.specs.Fit.{suits, fits, first_that, lists_of, literals_for}
 
--- of the literals at the first pins, the first completion by so many more that fits z
-abbrev pub first_completion : CodedGraph → ℕ → Cell → List Literal → ℕ → Option (List Literal)
-first_completion c z cell literals more =
+-- how many literals of so many signals such pins may have
+abbrev pub literal_count : Pins → ℕ → ℕ
+literal_count Any signals = 2 * signals
+literal_count Plain signals = signals
+
+-- the one at a place among them
+abbrev pub literal_at : Pins → ℕ → Literal
+literal_at Any place = record { sig = place / 2; plain = place % 2 == 0 }
+literal_at Plain place = record { sig = place; plain = true }
+
+-- of the literals at the first pins, the first completion that fits z by so many more that such
+-- pins may have
+abbrev pub first_completion : Pins → CodedGraph → ℕ → Cell → List Literal → ℕ
+    → Option (List Literal)
+first_completion allowed c z cell literals more =
     first_that (λ rest. fits c z cell (literals ++ rest))
-    (lists_of more (literals_of_signals (length c.graph.signals)))
+    (lists_of more (literals_for allowed (length c.graph.signals)))
 
 -- at the state no completion by so many more has the next value of z
 abbrev pub IsRefutedAt : CodedGraph → ℕ → Cell → List Literal → ℕ → ℕ × ℕ → Type 0

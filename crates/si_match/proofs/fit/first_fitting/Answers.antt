@@ -29,7 +29,7 @@ returns-then-complete c =
     let within : c.loop-k.k < length c.args.library.now.cells = search rules in
     let count : c.len-pins.result ≡ length c.cell-cell.result.now.pins = search rules in
     found_cell c.args.coded.now c.args.coded.now c.args.z c.args.library.now c.loop-k.k c.cell-cell.result.now
-    c.new-literals.result.items c.len-pins.result refl within c.cell-cell.ensures.cell
+    c.new-literals.result.items c.len-pins.result c.pins-allowed.result refl c.pins-allowed.ensures within c.cell-cell.ensures.cell
     c.new-literals.ensures count c.loop-k.invariant.told c.complete.new.literals.items
     (c.complete.ensures.found c.if-complete.true)
 
@@ -39,7 +39,8 @@ loop-k-preserved c =
     let count : c.len-pins.result ≡ length c.cell-cell.result.now.pins = search rules in
     record {
       told = none_cell c.args.coded.now c.args.coded.now c.args.z c.args.library.now c.loop-k.k
-          c.cell-cell.result.now c.new-literals.result.items c.len-pins.result refl within c.cell-cell.ensures.cell
+          c.cell-cell.result.now c.new-literals.result.items c.len-pins.result c.pins-allowed.result refl
+          c.pins-allowed.ensures within c.cell-cell.ensures.cell
           c.new-literals.ensures count c.loop-k.invariant.told (c.complete.ensures.none c.if-complete.false);
       within = c.complete.ensures.witnesses;
     }

@@ -10,4 +10,4 @@ decreases-add_tables l = l.more
 
 abbrev pub invariant-loop-place : goal.invariant-loop-place
 invariant-loop-place l = (cell : Cell) (literals : List Literal) → AreColumns cell literals l.columns
-    → l.tables.items ≡ l.fn.tables.items ++ tables_before cell literals (l.more - 1) l.place
+    → l.tables.items ≡ l.fn.tables.items ++ tables_before l.allowed cell literals (l.more - 1) l.place

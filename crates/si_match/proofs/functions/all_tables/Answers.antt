@@ -10,7 +10,7 @@ loop-k-preserved c =
     let count : c.len.result ≡ length cell.pins = search rules in
     let columns = subst (AreColumns cell []) (sym c.as_slice.ensures.value) c.columns_of-columns.ensures.columns in
     c.in_ok-add_tables.ensures cell [] columns ∙ next_cell c.args.library.now c.loop-k.k cell c.len.result
-    c.loop-k.tables.items within c.cell-cell.ensures.cell count c.loop-k.invariant
+    c.loop-k.tables.items c.pins-allowed.result c.pins-allowed.ensures within c.cell-cell.ensures.cell count c.loop-k.invariant
 
 pub returns-clause-tables : goal.returns-clause-tables
 returns-clause-tables c =

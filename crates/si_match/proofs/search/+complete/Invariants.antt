@@ -8,8 +8,8 @@ decreases-complete l = l.more
 
 abbrev pub invariant-loop-place : goal.invariant-loop-place
 invariant-loop-place l = record {
-  told : from_place l.coded l.z l.cell l.fn.literals.items (l.more - 1) l.place
-      ≡ first_completion l.coded l.z l.cell l.fn.literals.items l.more;
+  told : from_place l.allowed l.coded l.z l.cell l.fn.literals.items (l.more - 1) l.place
+      ≡ first_completion l.allowed l.coded l.z l.cell l.fn.literals.items l.more;
   kept : l.literals.items ≡ l.fn.literals.items;
   within : All (λ s. s < l.coded.graph.states) l.witnesses.items;
 }
