@@ -1,18 +1,16 @@
 -- A graph with names for its states has one report.
-use Rattle.std.proofs.Common.{◌≡◌, ◌≢◌, ℕ, zero, suc, ◌+◌, ◌<◌, ◌≤◌, ◌⊎◌, true, List, [], ◌∷◌, map, take, length, Contains, IsTrue, Some}
-use Rattle.std.proofs.Common.{None, Option, refl, sym, ap, ap₂, subst, ◌∙◌, arith, inl, inr, slice_index, get_or}
+use Rattle.std.proofs.Common.{◌≡◌, ◌≢◌, ℕ, zero, suc, ◌<◌, ◌≤◌, ◌⊎◌, true, List, [], ◌∷◌, map, take, length, Contains, IsTrue, Some}
+use Rattle.std.proofs.Common.{None, Option, refl, sym, ap, ap₂, subst, ◌∙◌, arith, inl, inr, slice_index}
 use Rattle.std.proofs.lemmas.Bool.{cases_lt, cases_eq}
 use Rattle.std.proofs.lemmas.List.{length-take, get_or-take}
 use Rattle.si_base.specs.declared.ids.Event.{Event}
 use Rattle.si_base.specs.declared.graph.Edge.{Edge}
-use Rattle.si_base.specs.declared.graph.Signal.{Signal}
-use Rattle.si_base.specs.Graph.{StateGraph, Step, IsGraph, IsNonInput, arc, enables, event_place}
+use Rattle.si_base.specs.Graph.{StateGraph, Step, IsGraph, arc, enables, event_place}
 use Rattle.si_base.specs.Codes.{CodedGraph, IsCoded, code, IsIdle, IsConnected, IsDeterministic}
 use Rattle.si_base.specs.Proper.{Loss, loss_place, pair_place, IsConflict}
-use Rattle.si_base.specs.Words.{text_of}
 use Rattle.si_base.proofs.GraphSteps.{step_from_enables}
 use Rattle.si_base.proofs.StepCodes.{step_within}
-use Rattle.si_carried.specs.Always.{IsDead, Leads}
+use Rattle.si_carried.specs.Always.{IsDead}
 use Rattle.si_carried.specs.Lint.{IsUnused, IsDeadState, IsOneWay, Withdraws, IsChoice, IsDisabling, IsSameCode}
 use Rattle.si_carried.proofs.DecidingWalks.{leads_decided}
 use Rattle.si_graph.proofs.OrderLemmas.{event_from_place}
@@ -22,11 +20,12 @@ use Rattle.si_conflicts.specs.Conflicts.{AreFirstConflicts}
 use Rattle.si_conflicts.proofs.ConflictsExist.{some_conflicts, some_first}
 use Rattle.si_conflicts.proofs.OneConflictList.{first_unique}
 use Rattle.si_fold.specs.Alike.{IsLeastAlike}
-use Rattle.si_fold.specs.Folded.{IsClassOf, AreClasses}
+use Rattle.si_fold.specs.Folded.{IsClassOf}
 use Rattle.si_fold.proofs.FoldedExists.{some_folded}
 use Rattle.si_graph.proofs.ListMembers.{Contains-here, Contains-there, Contains-map}
 use Rattle.si_lint.specs.All.{AreAll, number_place, arc_place}
-use Rattle.si_lint.specs.Findings.{IsMerged, merged_place, IsUnresolvable, max_looked_at, Findings, AreFindings}
+use Rattle.si_lint.specs.Findings.{IsMerged, merged_place, IsJoinedOfFirst, IsUnresolvable, max_looked_at}
+use Rattle.si_lint.specs.Findings.{Findings, AreFindings}
 use Rattle.si_lint.specs.LintText.{max_told, AreFirstWalks, dead_line, one_way_line, kind_lines, lint_text, IsLintText}
 use Rattle.si_lint.proofs.Alls.{one_all}
 use Rattle.si_lint.proofs.AllsExist.{some_all}
@@ -37,6 +36,8 @@ use Rattle.si_walks.specs.Joined.{Source, IsSourceOrNone, IsJoinedConflict}
 use Rattle.si_walks.proofs.FirstWalks.{one_first_walk}
 use Rattle.si_walks.proofs.FirstPaths.{some_way_to, way_is_first_walk}
 use Rattle.si_walks.specs.Paths.{IsWayTo}
+use Rattle.si_walks.specs.Twins.{IsTwinConflict, max_twin_states}
+use Rattle.si_walks.proofs.TwinsDecided.{twins_or_not}
 use Rattle.si_lint.specs.Loops.Lines.{AreWays}
 use Rattle.si_walks.proofs.SourceLemmas.{some_source_or_none}
 use Rattle.si_walks.proofs.WalkEvents.{taken}
@@ -398,22 +399,58 @@ module _ (c : CodedGraph) (coded : IsCoded c) where
 
   some_unresolvable : (xs : List (ℕ × ℕ)) × AreAll pair_place (IsUnresolvable c) xs
   some_unresolvable = some_all pair_place (IsUnresolvable c) (λ x y. refl) (λ x y p q same. equal_pairs x y same)
-      decided first.0 (λ pair is. into pair is)
+      decided all_pairs (λ pair is. into pair is)
     where
       first : (pairs : List (ℕ × ℕ)) × AreFirstConflicts c max_looked_at pairs
       first = some_first c max_looked_at
 
-      into : (pair : ℕ × ℕ) → IsUnresolvable c pair → Contains first.0 pair
-      into pair is = subst (λ (l : List (ℕ × ℕ)). Contains l pair)
+      listed : (pair : ℕ × ℕ) → IsJoinedOfFirst c pair → Contains first.0 pair
+      listed pair is = subst (λ (l : List (ℕ × ℕ)). Contains l pair)
           (first_unique c max_looked_at is.looked_at first.0 is.first first.1) is.among
 
-      decided : (pair : ℕ × ℕ) → Decided (IsUnresolvable c pair)
-      decided pair = elim (among first.0 pair) [
+      within : (pair : ℕ × ℕ) → IsConflict c pair → Contains all_pairs pair
+      within pair is = in_all pair (omega (arith, is.order, is.within)) is.within
+
+      into : (pair : ℕ × ℕ) → IsUnresolvable c pair → Contains all_pairs pair
+      into pair is = elim is [
+        | inl twins ↦ within pair twins.1.conflict
+        | inr large ↦ within pair large.1.joined.conflict
+      ]
+
+      joined_first : (pair : ℕ × ℕ) → Decided (IsJoinedOfFirst c pair)
+      joined_first pair = elim (among first.0 pair) [
         | inl there ↦ elim (joined pair (first.1.each pair there)) [
           | inl is ↦ inl (record { joined = is; looked_at = first.0; first = first.1; among = there })
           | inr is_not ↦ inr (λ is. is_not is.joined)
         ]
-        | inr none ↦ inr (λ is. none (into pair is))
+        | inr none ↦ inr (λ is. none (listed pair is))
+      ]
+
+      of_twins : (pair : ℕ × ℕ) → Decided (IsTwinConflict c pair)
+      of_twins pair = elim (conflict pair) [
+        | inl is ↦ elim (twins_or_not c coded pair.0 pair.1 (omega (arith, is.order, is.within)) is.within) [
+          | inl twins ↦ inl (record { conflict = is; twins = twins })
+          | inr apart ↦ inr (λ both. apart both.twins)
+        ]
+        | inr is_not ↦ inr (λ both. is_not both.conflict)
+      ]
+
+      decided : (pair : ℕ × ℕ) → Decided (IsUnresolvable c pair)
+      decided pair = elim (cases_lt max_twin_states n) [
+        | inl many ↦ elim (joined_first pair) [
+          | inl is ↦ inl (inr (many, is))
+          | inr is_not ↦ inr (λ is. elim is [
+            | inl twins ↦ absurd (omega (arith, many, twins.0))
+            | inr large ↦ is_not large.1
+          ])
+        ]
+        | inr few ↦ elim (of_twins pair) [
+          | inl is ↦ inl (inl (few, is))
+          | inr is_not ↦ inr (λ is. elim is [
+            | inl twins ↦ is_not twins.1
+            | inr large ↦ absurd (omega (arith, few, large.0))
+          ])
+        ]
       ]
 
 pub some_lint_text : (c : CodedGraph) (states dropped : List (List ℕ)) → IsCoded c

@@ -1,6 +1,6 @@
 -- The arcs after which the start can't be reached any more.
 use Rattle.std.proofs.Common.{◌≡◌, ℕ, ◌<◌, ◌⊎◌, ◌↔◌, List, [], ◌∷◌, length, get_or, Contains, Option, Some, None}
-use Rattle.std.proofs.Common.{◌++◌, IsTrue, refl, sym, ap, subst, ◌∙◌, inl, inr, is_some}
+use Rattle.std.proofs.Common.{◌++◌, IsTrue, refl, sym, subst, ◌∙◌, inl, inr, is_some}
 use Rattle.std.proofs.lemmas.Bool.{true≢false}
 use Rattle.std.specs.declared.cmp.Ordering.{Ordering}
 use Rattle.std.specs.declared.cmp.Ordering.TheVariants.{Less, Equal, Greater}
@@ -10,7 +10,7 @@ use Rattle.std.proofs.lemmas.Map.Lookups.{exact_unsigned}
 use Rattle.si_base.specs.declared.ids.Event.{Event}
 use Rattle.si_base.specs.declared.graph.Edge.{Edge}
 use Rattle.si_base.specs.EdgeOrder.{event_cmp, edge_cmp}
-use Rattle.si_base.specs.Graph.{StateGraph, Walk, IsGraph, event_place}
+use Rattle.si_base.specs.Graph.{StateGraph, Walk, IsGraph}
 use Rattle.si_base.specs.Order.{Before}
 use Rattle.si_base.proofs.OrderAscending.{nat_less, sorted_at}
 use Rattle.si_base.proofs.StepCodes.{step_within}
@@ -26,7 +26,7 @@ use Rattle.si_walks.specs.declared.arcs.Arcs.TheVariants.{All}
 use Rattle.si_walks.proofs.FirstWalks.{along_all}
 
 -- ---- whether the start can be reached
-walk_of : (g : StateGraph) (s : ℕ) (es : List Event) (t : ℕ) → WalkAlong g All s es t → Walk g s es t
+pub walk_of : (g : StateGraph) (s : ℕ) (es : List Event) (t : ℕ) → WalkAlong g All s es t → Walk g s es t
 walk_of g s [] t walk = walk
 walk_of g s (e ∷ es) t (u, takes, step, walk) = (u, step, walk_of g u es t walk)
 

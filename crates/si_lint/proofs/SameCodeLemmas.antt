@@ -1,11 +1,11 @@
 -- States of equal code that are no conflict, by rings of states and by keys.
-use Rattle.std.proofs.Common.{◌≡◌, ◌≢◌, ℕ, ◌+◌, ◌<◌, ◌≤◌, ◌⊎◌, List, [], ◌∷◌, ◌++◌, Some, None, refl, sym, ap, subst, ◌∙◌}
-use Rattle.std.proofs.Common.{arith, inl, inr, slice_index}
+use Rattle.std.proofs.Common.{◌≡◌, ◌≢◌, ℕ, ◌<◌, List, [], ◌∷◌, ◌++◌, refl, sym, ap, subst, ◌∙◌}
+use Rattle.std.proofs.Common.{arith, inl, inr}
 use Rattle.std.proofs.lemmas.Bool.{cases_order}
 use Rattle.std.proofs.lemmas.List.{map-append}
 use Rattle.si_base.specs.Codes.{CodedGraph, IsCoded, code}
 use Rattle.si_base.specs.Order.{Before}
-use Rattle.si_base.specs.Proper.{IsConflict, pair_place}
+use Rattle.si_base.specs.Proper.{pair_place}
 use Rattle.si_carried.specs.Lint.{IsSameCode}
 use Rattle.si_conflicts.specs.declared.keys.Key.{Key}
 use Rattle.si_conflicts.specs.declared.conflicts.Pair.{Pair}

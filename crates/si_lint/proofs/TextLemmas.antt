@@ -1,6 +1,6 @@
 -- The text, kind by kind.
-use Rattle.std.proofs.Common.{◌≡◌, ℕ, ◌<◌, ◌∙◌, List, [], ◌∷◌, ◌++◌, All, length, get_or, Contains, sym, ap, subst, arith}
-use Rattle.std.proofs.Common.{codes, refl}
+use Rattle.std.proofs.Common.{◌≡◌, ℕ, ◌∙◌, List, [], ◌∷◌, ◌++◌, All, get_or, sym, ap, arith}
+use Rattle.std.proofs.Common.{codes, refl, inl, inr}
 use Rattle.std.proofs.lemmas.List.{append-nil, get_or_default}
 use Rattle.std.proofs.lemmas.Option.{slice_get_within}
 use Rattle.si_base.specs.declared.ids.Event.{Event}
@@ -8,7 +8,7 @@ use Rattle.si_base.specs.declared.graph.Edge.{Edge}
 use Rattle.si_base.specs.declared.graph.Signal.{Signal}
 use Rattle.si_base.specs.Graph.{StateGraph, IsGraph}
 use Rattle.si_base.specs.Codes.{CodedGraph, IsCoded}
-use Rattle.si_base.specs.Proper.{Loss}
+use Rattle.si_base.specs.Proper.{Loss, IsConflict}
 use Rattle.si_base.specs.Words.{line, text_of}
 use Rattle.si_base.proofs.StepCodes.{step_within}
 use Rattle.si_carried.specs.Lint.{IsOneWay, Withdraws, IsSameCode}
@@ -43,9 +43,13 @@ merged_is_within c n size p is =
 
 pub unresolvable_is_within : (c : CodedGraph) (n : ℕ) → n ≡ c.graph.states → (p : ℕ × ℕ) → IsUnresolvable c p
     → PairIsWithin n p
-unresolvable_is_within c n size p is =
-    let conflict = is.joined.conflict in
-    (omega (arith, conflict.order, conflict.within, size), omega (arith, conflict.within, size))
+unresolvable_is_within c n size p is = elim is [
+  | inl twins ↦ inside twins.1.conflict
+  | inr large ↦ inside large.1.joined.conflict
+]
+  where
+    inside : IsConflict c p → PairIsWithin n p
+    inside conflict = (omega (arith, conflict.order, conflict.within, size), omega (arith, conflict.within, size))
 
 -- the text that the calls make
 pub text_by_calls : (c : CodedGraph) (states dropped : List (List ℕ)) (f : Findings) (known : List Signal) (count : ℕ)

@@ -1,4 +1,6 @@
 -- What the parts of a computation keep: for the proofs of the code, and in no promise of a run.
 pub mod Search
 pub mod Withdrawals
+pub mod Breaches
+pub mod Jumps
 pub mod Lines

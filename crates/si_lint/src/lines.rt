@@ -26,7 +26,7 @@ use std::alloc::Global;
 const MAX_TOLD: usize = 1000;
 
 /// Those of a kind that are printed.
-fn printed<T>(found: &[T]) -> &[T]
+pub(crate) fn printed<T>(found: &[T]) -> &[T]
     ensures { result.now ≡ take max_told found.now }
 {
     if found.len() <= MAX_TOLD {

@@ -3,9 +3,11 @@ use Rattle.std.specs.Prelude.{◌≡◌, ℕ, ◌<◌, List, ◌++◌, length}
 use Rattle.si_base.specs.declared.ids.Event.{Event}
 use Rattle.si_base.specs.declared.graph.Edge.{Edge}
 use Rattle.si_base.specs.Graph.{StateGraph}
-use Rattle.si_base.specs.Proper.{Loss}
+use Rattle.si_base.specs.Proper.{Loss, Split, Fork}
 use Rattle.si_base.specs.Words.{text_of}
 use Rattle.si_conflicts.specs.Conflicts.{pairs_of}
+use Rattle.si_lint.specs.declared.clashes.Clash.{Clash}
+use Rattle.si_lint.specs.declared.clashes.Clash.TheVariants.{Torn, Apart}
 use Rattle.si_lint.specs.declared.findings.Found.{Found}
 use Rattle.si_lint.specs.Findings.{Findings}
 use Rattle.si_walks.specs.Paths.{IsWayTo}
@@ -40,6 +42,18 @@ ArcIsWithin g a = (a.from < g.states) × (a.event.sig < length g.signals) × (a.
 abbrev pub LossIsWithin : StateGraph → Loss → Type 0
 LossIsWithin g b = (b.s < g.states) × (b.lost.sig < length g.signals)
     × (b.by.sig < length g.signals)
+
+abbrev pub SplitIsWithin : StateGraph → Split → Type 0
+SplitIsWithin g b = (b.s < g.states) × (b.e.sig < length g.signals) × (b.t < g.states)
+    × (b.u < g.states)
+
+abbrev pub ForkIsWithin : StateGraph → Fork → Type 0
+ForkIsWithin g b = (b.s < g.states) × (b.a.sig < length g.signals) × (b.c.sig < length g.signals)
+    × (b.w < g.states) × (b.w2 < g.states)
+
+abbrev pub ClashIsWithin : StateGraph → Clash → Type 0
+ClashIsWithin g (Torn x) = ArcIsWithin g x
+ClashIsWithin g (Apart x y) = ArcIsWithin g x × ArcIsWithin g y
 
 abbrev pub PairIsWithin : ℕ → ℕ × ℕ → Type 0
 PairIsWithin states pair = (pair.0 < states) × (pair.1 < states)

@@ -1,9 +1,11 @@
 -- What the parts of a search for all that have a property add to a list.
 use Rattle.std.specs.Prelude.{◌≡◌, ℕ, ◌<◌, List, ◌++◌, take, Contains}
 use Rattle.si_base.specs.declared.graph.Edge.{Edge}
+use Rattle.si_base.specs.Codes.{CodedGraph}
 use Rattle.si_base.specs.Graph.{StateGraph}
 use Rattle.si_carried.specs.Always.{Leads}
 use Rattle.si_lint.specs.All.{AreAll}
+use Rattle.si_walks.specs.Twins.{IsTwinConflict}
 
 -- all that have P are put last, in the order of their places
 pub record Adds {A : Type 0} (place : A → List ℕ) (P : A → Type 0) (old new : List A) : Type 0 where
@@ -26,3 +28,7 @@ IsLost g a = Leads g a.from g.start × (Leads g a.to g.start → ⊥)
 -- some arc switches the signal
 abbrev pub IsSwitched : List Edge → ℕ → Type 0
 IsSwitched edges z = (a : Edge) × Contains edges a × (a.event.sig ≡ z)
+
+-- a conflict of twins whose first state is p
+abbrev pub IsTwinConflictOf : CodedGraph → ℕ → ℕ × ℕ → Type 0
+IsTwinConflictOf c p pair = IsTwinConflict c pair × (pair.0 ≡ p)

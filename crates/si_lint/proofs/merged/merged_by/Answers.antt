@@ -1,4 +1,4 @@
-use Rattle.std.proofs.Common.{◌≡◌, ◌∙◌, [], ap, arith}
+use Rattle.std.proofs.Common.{◌∙◌, [], ap, arith}
 use Rattle.si_base.specs.Graph.{StateGraph}
 use Rattle.si_conflicts.specs.Conflicts.{pairs_of}
 use Rattle.si_lint.specs.Findings.{IsMerged, merged_place}

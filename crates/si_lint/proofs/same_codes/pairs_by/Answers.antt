@@ -1,4 +1,4 @@
-use Rattle.std.proofs.Common.{◌≡◌, ℕ, ◌<◌, ◌∙◌, [], ap, sym, arith}
+use Rattle.std.proofs.Common.{◌<◌, ◌∙◌, [], ap, sym, arith}
 use Rattle.std.proofs.lemmas.Bool.{true≢false}
 use Rattle.si_base.specs.Graph.{StateGraph}
 use Rattle.si_base.specs.Proper.{pair_place}

@@ -1,7 +1,7 @@
 use Rattle.std.proofs.Common.{◌∙◌, [], ap}
 use Rattle.si_base.specs.Proper.{pair_place}
 use Rattle.si_conflicts.specs.Conflicts.{pairs_of}
-use Rattle.si_lint.specs.Findings.{IsUnresolvable}
+use Rattle.si_lint.specs.Findings.{IsJoinedOfFirst}
 use Rattle.si_lint.proofs.Alls.{all_added, first_none, first_more, first_all}
 use Rattle.si_lint.proofs.UnresolvableLemmas.{IsOf, pairs_order, pair_states, unresolvable_here, unresolvable_pass}
 use Rattle.si_lint.proofs.UnresolvableLemmas.{unresolvable_each, pushed_pair}
@@ -17,7 +17,7 @@ find_witness-requires-clause-q c = (pair_states c.args.coded.now c.args.pairs.no
     c.pair-item.result c.loop-pair-test.true c.pair-item.is).1
 
 pub loop-pair-init : goal.loop-pair-init
-loop-pair-init c = rw c.new-found.ensures.items (first_none pair_place (IsUnresolvable c.args.coded.now) IsOf
+loop-pair-init c = rw c.new-found.ensures.items (first_none pair_place (IsJoinedOfFirst c.args.coded.now) IsOf
     c.args.pairs.now (pairs_order c.args.coded.now c.args.pairs.now c.requires) [])
 
 pub loop-pair-preserved : goal.loop-pair-preserved
@@ -31,7 +31,7 @@ loop-pair-preserved c =
     let inside = c.loop-pair-test.true in
     let at = c.pair-item.is in
     let source = c.in_ok-witness.witness in
-    let more = first_more pair_place (IsUnresolvable d) IsOf pairs (pairs_order d pairs first) k x [] (pairs_of old) in
+    let more = first_more pair_place (IsJoinedOfFirst d) IsOf pairs (pairs_order d pairs first) k x [] (pairs_of old) in
     elim c.if-is_some.branch [
       | then-is_some+in_ok-push w ↦ more _ inside at c.loop-pair.invariant
           (unresolvable_here d pairs first k x source (pairs_of old) _ c.is_some.result inside at
@@ -47,7 +47,7 @@ returns c =
     let d = c.args.coded.now in
     let pairs = c.args.pairs.now in
     let order = pairs_order d pairs c.requires in
-    all_added pair_place (IsUnresolvable d) (pairs_of c.loop-pair.found.items)
-    (first_all pair_place (IsUnresolvable d) IsOf pairs order c.loop-pair.pair-index []
+    all_added pair_place (IsJoinedOfFirst d) (pairs_of c.loop-pair.found.items)
+    (first_all pair_place (IsJoinedOfFirst d) IsOf pairs order c.loop-pair.pair-index []
     (pairs_of c.loop-pair.found.items) c.loop-pair-test.false (unresolvable_each d pairs c.requires)
     c.loop-pair.invariant)

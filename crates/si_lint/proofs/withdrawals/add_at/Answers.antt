@@ -8,16 +8,9 @@ use Rattle.si_lint.proofs.Alls.{first_none, first_more, first_all}
 use Rattle.si_lint.proofs.WithdrawalLemmas.{at_order, at_here, at_pass, at_each}
 use Rattle.si_lint.proofs.withdrawals.add_at.Goals as goal
 
-pub is_driven-requires : goal.is_driven-requires
-is_driven-requires c = out_signal c.args.graph.now c.args.s c.arcs_out-arcs.result.now c.arcs_out-arcs.ensures
+pub is_lost-requires : goal.is_lost-requires
+is_lost-requires c = out_signal c.args.graph.now c.args.s c.arcs_out-arcs.result.now c.arcs_out-arcs.ensures
     c.loop-x.x-index c.x-item.result c.loop-x-test.true c.x-item.is
-
-pub add_of-requires-clause-signal : goal.add_of-requires-clause-signal
-add_of-requires-clause-signal c = out_signal c.args.graph.now c.args.s c.arcs_out-arcs.result.now
-    c.arcs_out-arcs.ensures c.loop-x.x-index c.x-item.result c.loop-x-test.true c.x-item.is
-
-pub add_of-requires-clause-input : goal.add_of-requires-clause-input
-add_of-requires-clause-input c = λ driven. true≢false (sym (c.is_driven.ensures.1 driven) ∙ c.if-is_driven.false)
 
 pub add_of-requires-clause-enabled : goal.add_of-requires-clause-enabled
 add_of-requires-clause-enabled c =
@@ -26,29 +19,30 @@ add_of-requires-clause-enabled c =
     c.arcs_out-arcs.ensures c.loop-x.x-index x c.loop-x-test.true c.x-item.is)
 
 pub loop-x-init : goal.loop-x-init
-loop-x-init c = first_none loss_place (WithdrawsAt c.args.graph.now c.args.by.now c.args.s)
+loop-x-init c = first_none loss_place (WithdrawsAt c.args.graph.now c.args.kind.now c.args.s)
     IsOfLost c.arcs_out-arcs.result.now (at_order c.args.graph.now c.args.s
-    c.arcs_out-arcs.result.now c.arcs_out-arcs.ensures c.requires c.args.by.now) c.args.found.now.items
+    c.arcs_out-arcs.result.now c.arcs_out-arcs.ensures c.requires c.args.kind.now) c.args.found.now.items
 
-pub loop-x-preserved-then-is_driven : goal.loop-x-preserved-then-is_driven
-loop-x-preserved-then-is_driven c =
+pub loop-x-preserved-then-not-is_lost : goal.loop-x-preserved-then-not-is_lost
+loop-x-preserved-then-not-is_lost c =
     let g = c.args.graph.now in
     let arcs = c.arcs_out-arcs.result.now in
     let out = c.arcs_out-arcs.ensures in
-    let by = c.args.by.now in
+    let by = c.args.kind.now in
     let x = c.x-item.result in
     let old = c.loop-x.found.items in
     first_more loss_place (WithdrawsAt g by c.args.s) IsOfLost arcs
     (at_order g c.args.s arcs out c.requires by) c.loop-x.x-index x c.args.found.now.items old old c.loop-x-test.true
     c.x-item.is c.loop-x.invariant
-    (at_pass g c.args.s arcs out c.requires by x old (c.is_driven.ensures.0 c.if-is_driven.true))
+    (at_pass g c.args.s arcs out c.requires by x old
+    (λ lost. true≢false (sym (c.is_lost.ensures.1 lost) ∙ c.if-not-is_lost.true)))
 
 pub loop-x-preserved : goal.loop-x-preserved
 loop-x-preserved c =
     let g = c.args.graph.now in
     let arcs = c.arcs_out-arcs.result.now in
     let out = c.arcs_out-arcs.ensures in
-    let by = c.args.by.now in
+    let by = c.args.kind.now in
     let x = c.x-item.result in
     let old = c.loop-x.found.items in
     first_more loss_place (WithdrawsAt g by c.args.s) IsOfLost arcs
@@ -60,7 +54,7 @@ returns c =
     let g = c.args.graph.now in
     let arcs = c.arcs_out-arcs.result.now in
     let out = c.arcs_out-arcs.ensures in
-    let by = c.args.by.now in
+    let by = c.args.kind.now in
     first_all loss_place (WithdrawsAt g by c.args.s) IsOfLost arcs
     (at_order g c.args.s arcs out c.requires by) c.loop-x.x-index c.args.found.now.items c.loop-x.found.items
     c.loop-x-test.false (at_each g c.args.s arcs out c.requires by) c.loop-x.invariant

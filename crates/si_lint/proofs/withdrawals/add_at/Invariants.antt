@@ -5,5 +5,5 @@ use Rattle.si_lint.proofs.withdrawals.add_at.Given as goal
 
 abbrev pub invariant-loop-x : goal.invariant-loop-x
 invariant-loop-x l = Adds loss_place
-    (IsOfFirst (WithdrawsAt l.graph l.by l.s) IsOfLost l.arcs l.x-index) l.initial.found.items
+    (IsOfFirst (WithdrawsAt l.graph l.kind l.s) IsOfLost l.arcs l.x-index) l.initial.found.items
     l.found.items

@@ -5,5 +5,5 @@ use Rattle.si_lint.proofs.withdrawals.add_of.Given as goal
 
 abbrev pub invariant-loop-y : goal.invariant-loop-y
 invariant-loop-y l = Adds loss_place
-    (IsOfFirst (WithdrawsOf l.graph l.by l.s l.lost) IsOfCause l.arcs l.y-index)
+    (IsOfFirst (WithdrawsOf l.graph l.kind l.s l.lost) IsOfCause l.arcs l.y-index)
     l.initial.found.items l.found.items

@@ -6,4 +6,4 @@ use Rattle.si_lint.proofs.withdrawals.withdrawals.Given as goal
 
 abbrev pub invariant-loop-k : goal.invariant-loop-k
 invariant-loop-k l =
-    Adds loss_place (IsBelow (WithdrawsBy l.coded.graph l.by) (λ b. b.s) l.k) [] l.found.items
+    Adds loss_place (IsBelow (WithdrawsBy l.graph l.kind) (λ b. b.s) l.k) [] l.found.items
