@@ -1,0 +1,3 @@
+pub mod LiteralCounts
+pub mod NeverLemmas
+pub mod OfferLemmas

@@ -1,0 +1,4 @@
+pub mod Literals
+pub mod Never
+pub mod Suggested
+pub mod Loops

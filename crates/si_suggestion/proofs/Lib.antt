@@ -1,0 +1,3 @@
+pub mod GivenNetlists
+pub mod SuggestionsExist
+pub mod SuggestionLaws
