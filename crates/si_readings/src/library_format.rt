@@ -1,10 +1,13 @@
 //! The formats in which libraries are read.
 
-/// In which format a library of cells is read.
+use si_cell::pins::Pins;
+
+/// In which format a library of cells is read, and which literals the pins of its instances may
+/// have.
 #[derive(Clone, Copy, PartialEq, Eq, Debug)]
 pub enum LibraryFormat {
     /// The tool's own: a line for each cell, with its pins and its sum.
-    Own,
+    Own(Pins),
     /// Genlib: a statement for each gate, with its output and an expression.
-    Genlib,
+    Genlib(Pins),
 }

@@ -64,7 +64,7 @@ pub fn graph_in<'w>(alloc: Global, file: &'w str, text: &[u8]) -> Result<Sg, Ref
     }
 }
 
-/// The library that the text spells in the format.
+/// The library that the text spells in the format, with pins of its kind.
 pub fn library_in<'w>(
     alloc: Global,
     format: LibraryFormat,
@@ -88,8 +88,14 @@ fn library_from(alloc: Global, format: LibraryFormat, text: &[u8]) -> Result<Lib
         (stage.library_from format text.now) }
 {
     match format {
-        LibraryFormat::Own => read_library(alloc, text),
-        LibraryFormat::Genlib => read_genlib(alloc, text),
+        LibraryFormat::Own(pins) => {
+            let library = read_library(alloc, text)?;
+            Ok(library.with_pins(pins))
+        }
+        LibraryFormat::Genlib(pins) => {
+            let library = read_genlib(alloc, text)?;
+            Ok(library.with_pins(pins))
+        }
     }
 }
 

@@ -22,7 +22,6 @@ use Rattle.si_insert.specs.Lineage.{History}
 use Rattle.si_netlist_reader.specs.NetlistFault.{netlist_fault}
 use Rattle.si_netlist_reader.specs.NetlistValue.{netlist_of}
 use Rattle.si_netlist_reader.proofs.ReadLaw.{read_is_netlist}
-use Rattle.si_refusals.specs.Ending.{NoMemory}
 use Rattle.si_refusals.specs.Refusal.{TextRefusal, Rejected}
 use Rattle.si_refusals.specs.Stages.{Stage, Then, Passes}
 use Rattle.si_refusals.specs.declared.rejection.NamedRejection.{NamedRejection}

@@ -1,6 +1,6 @@
 -- The text of a graph after insertions: it comes to one answer, is read back, and gives the same gates.
 use Rattle.std.proofs.Common.{◌≡◌, ◌≢◌, ℕ, suc, List, [], ◌∷◌, Ok, Err, All, IsTrue, refl, sym, ap, subst, ◌∙◌, inl}
-use Rattle.std.proofs.Common.{inr, arith, map, filter, length, Bool}
+use Rattle.std.proofs.Common.{inr, arith, map, filter, Bool}
 use Rattle.std.proofs.lemmas.List.{get_or-map, length-map}
 use Rattle.std.proofs.lemmas.List.Elements.{All-filter, All-map}
 use Rattle.si_audit.proofs.AuditExists.{certified_or_faulty}

@@ -7,10 +7,12 @@ use Rattle.si_base.specs.Limits.{max_signals}
 use Rattle.si_base.specs.Netlist.{Netlist}
 use Rattle.si_base.specs.NetlistText.{netlist_text}
 use Rattle.si_base.specs.Proper.{HasNoConflict}
-use Rattle.si_cell.specs.Library.{Library, IsLibrary}
+use Rattle.si_cell.specs.Library.{Library, IsLibrary, with_pins}
+use Rattle.si_cell.specs.declared.pins.Pins.{Pins}
 use Rattle.si_cell.proofs.LawLemmas.{text_is_library}
 use Rattle.si_genlib.proofs.LibraryLemmas.{is_library as gates_are_library}
 use Rattle.si_circuit.proofs.CellLemmas.{cells_give, cells_are_netlist}
+use Rattle.si_circuit.proofs.WireLemmas.{cells_are_wired}
 use Rattle.si_circuit.specs.Cells.{AllFit, cell_gate, mapped_netlist}
 use Rattle.si_circuit.specs.Circuits.{AreStateNames}
 use Rattle.si_circuit.specs.Spelling.{insertions_of}
@@ -102,16 +104,21 @@ is_mapping library text sg l m output good given is ends output_is =
       maps = ends;
       written = is_written gate sg m output line gives forms output_is;
       gates_are = refl;
+      wired = cells_are_wired c library sg.model inserts coded good fit;
       none_inserted = λ free all.
           no_insertion gate sg m
           (nothing_inserted library l m ends.trace is.resolves ends.goes ends.maps.goes free all);
     }
 
+-- whatever literals its pins may have, the cells are those of a library
+still_library : (pins : Pins) (library : Library) → IsLibrary library → IsLibrary (with_pins pins library)
+still_library pins library is = record { name = is.name; cells = is.cells }
+
 -- the library that a text without fault spells
 pub is_library : (format : LibraryFormat) (text : List ℕ) (library : Library) → fault_in format text ≡ None
     → library ≡ library_from format text → IsLibrary library
-is_library Own text library none is = subst IsLibrary (sym is) (text_is_library text none)
-is_library Genlib text library none is = subst IsLibrary (sym is) (gates_are_library text)
+is_library (Own pins) text library none is = subst IsLibrary (sym is) (still_library pins _ (text_is_library text none))
+is_library (Genlib pins) text library none is = subst IsLibrary (sym is) (still_library pins _ (gates_are_library text))
 
 -- ---- one result
 one_lineage : (l m n : History) (xs ys : List TraceStep) → ExtendsBy l xs m → ExtendsBy l ys n → xs ≡ ys

@@ -111,7 +111,8 @@ report_on_some States text given dropped is = listed_some given.states given.gra
 report_on_some Explain text given dropped is = on_proper_some told.Explain text given is
 report_on_some Dot text given dropped is =
     drawn_some given.model given.states given.graph (given_named_states text given is)
-report_on_some Lint text given dropped is = linted_some text given dropped is
+report_on_some Lint text given dropped is =
+    linted_some given.states dropped given.graph (given_named_states text given is)
 
 pub report_some : (what : Report) (file text : List ℕ) → HasResult (report what file text)
 report_some what file text =

@@ -1,6 +1,7 @@
 -- (command) What `genlib` means over the text of its file: its library, in the tool's own format.
 use Rattle.std.specs.Prelude.{◌≡◌, ℕ, List, None}
 use Rattle.si_cell.specs.LibraryText.{library_fault, library_of}
+use Rattle.si_cell.specs.declared.pins.Pins.TheVariants.{Any}
 use Rattle.si_genlib.specs.GenlibText.{genlib_fault}
 use Rattle.si_genlib.specs.GenlibText as gates
 use Rattle.si_genlib.specs.Written.{library_text}
@@ -11,7 +12,7 @@ use Rattle.si_readings.specs.declared.library_format.LibraryFormat.TheVariants.{
 
 abbrev pub genlib : (file text : List ℕ) → Stage TextRefusal (List ℕ)
 genlib file text = do
-  cells ← library_in Genlib file text
+  cells ← library_in (Genlib Any) file text
   gives (library_text cells)
 
 -- the text of gates has no fault, and the output is its library as a text of cells, which is read

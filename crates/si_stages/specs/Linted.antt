@@ -2,9 +2,12 @@
 use Rattle.std.specs.Prelude.{ℕ, List, Ok, Err}
 use Rattle.si_base.specs.GivenGraph.{Sg}
 use Rattle.si_base.specs.Graph.{StateGraph}
+use Rattle.si_lint.specs.BreachText.{IsBreachText}
 use Rattle.si_lint.specs.LintText.{IsLintText}
-use Rattle.si_readings.specs.Checks.{proper}
+use Rattle.si_pictures.specs.declared.seen.Seen.{Seen}
+use Rattle.si_pictures.specs.declared.seen.Seen.TheVariants.{Proper, Coded, Uncoded}
 use Rattle.si_readings.specs.Readings.{TellsFault}
+use Rattle.si_readings.specs.SeenGraph.{IsSeen}
 use Rattle.si_refusals.specs.Refusal.{TextRefusal}
 use Rattle.si_refusals.specs.Stages.{Stage, ◌>>=◌, shows}
 use Rattle.si_sg.specs.Dropped.{IsDroppedBy}
@@ -26,8 +29,14 @@ whole_in file text (Ok whole) =
     IsGivenBy text whole.given × IsDroppedBy text whole.dropped
 whole_in file text (Err refusal) = TellsFault file (graph_fault text) refusal
 
--- what is told of a graph with these names of its states and of those that were dropped
+-- what is told of a graph as it was read, with these names of its states and of those that were
+-- dropped: of a proper graph what is worth a second look, and of any other all its breaches
+abbrev pub IsTold : (states dropped : List (List ℕ)) → Seen → List ℕ → Type 0
+IsTold states dropped (Proper coded) text = IsLintText coded states dropped text
+IsTold states dropped (Coded coded breach) text = IsBreachText coded.graph states dropped text
+IsTold states dropped (Uncoded graph breach) text = IsBreachText graph states dropped text
+
 abbrev pub told : (states dropped : List (List ℕ)) → StateGraph → Stage TextRefusal (List ℕ)
 told states dropped graph = do
-  coded ← proper graph states
-  shows (IsLintText coded states dropped)
+  seen ← shows (IsSeen graph)
+  shows (IsTold states dropped seen)

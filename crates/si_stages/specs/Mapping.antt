@@ -4,8 +4,10 @@ use Rattle.si_base.specs.GivenGraph.{Sg}
 use Rattle.si_base.specs.NetlistText.{name_of, netlist_text}
 use Rattle.si_base.specs.Proper.{HasNoConflict}
 use Rattle.si_cell.specs.Library.{Library}
+use Rattle.si_cell.specs.declared.pins.Pins.TheVariants.{Plain}
 use Rattle.si_circuit.specs.Cells.{AllFit, mapped_netlist}
 use Rattle.si_circuit.specs.Spelling.{insertions_of}
+use Rattle.si_circuit.specs.Wires.{IsOfCellsAndWires}
 use Rattle.si_insert.specs.declared.lineage.TraceStep.{TraceStep}
 use Rattle.si_insert.specs.Lineage.{ExtendsBy, History}
 use Rattle.si_map.specs.declared.map.MapStuck.{MapStuck}
@@ -31,14 +33,16 @@ pub record EndsUnfit (library : Library) (l m : History) (z : ℕ) : Type 0 wher
 
 -- the output is the text of a netlist that is written for the given graph, over the lineage that
 -- mapping makes of l: its gates are, for the current graph, the first fitting instances of the
--- library, and its insertions those of the trace; where the given graph has no conflict and its
--- signals fit cells, there is none
+-- library, which read signals as they are where the library's pins are plain; and its insertions
+-- are those of the trace; where the given graph has no conflict and its signals fit cells, there is
+-- none
 pub record IsMapping (library : Library) (given : Sg) (l : History) (output : List ℕ)
     : Type 0 where
   pub lineage : History
   pub maps : EndsInCells library l lineage
   pub written : IsWritten given lineage output
   pub gates_are : written.netlist ≡ mapped_netlist library given.model given.states lineage
+  pub wired : library.pins ≡ Plain → IsOfCellsAndWires library written.netlist
   pub none_inserted : HasNoConflict l.given → AllFit l.given library
       → written.netlist.inserts ≡ []
 

@@ -1,6 +1,7 @@
 //! From the text of a library in genlib to its text in the tool's own format.
 
 ghost use Rattle.std.specs.Prelude.{ℕ, ◌↔◌, List, IfOk, IfErr, Ok, Err};
+ghost use Rattle.si_cell.specs.declared.pins.Pins.{Pins as PinsValue};
 ghost use Rattle.si_genlib.specs.GenlibText.{genlib_fault};
 ghost use Rattle.si_refusals.specs.Ending.{MayStop, ending_of};
 ghost use Rattle.si_refusals.specs.Refusal.{TextRefusal};
@@ -11,6 +12,7 @@ ghost use Rattle.si_readings.specs.Readings.{TellsFault};
 ghost use Rattle.si_readings.specs.declared.library_format.LibraryFormat.TheVariants as formats;
 
 use si_base::text::Text;
+use si_cell::pins::Pins;
 use si_genlib::write::write_library;
 use si_readings::library_format::LibraryFormat;
 use si_readings::readings::library_in;
@@ -28,7 +30,7 @@ pub fn genlib<'w>(alloc: Global, file: &'w str, text: &[u8]) -> Result<Text, Ref
     ensures ok { IfOk result (λ output. stage.genlib file.now text.now (Ok output)) }
     ensures err { IfErr result (λ r. MayStop (stage.genlib file.now text.now) (ending_of r)) }
 {
-    let library = library_in(alloc, LibraryFormat::Genlib, file, text)?;
+    let library = library_in(alloc, LibraryFormat::Genlib(Pins::Any), file, text)?;
     let output = write_library(alloc, &library)?;
     Ok(output)
 }
@@ -44,10 +46,11 @@ pub fn genlib_texts_become_libraries()
 {}
 
 /// A law, whose function does nothing: a graph is mapped to the gates of a genlib text as it is
-/// mapped to the cells of the text that `genlib` writes for it.
+/// mapped to the cells of the text that `genlib` writes for it, with pins of either kind.
 pub fn gates_are_mapped_as_their_cells()
-    ensures { (graph graph_text gates gates_text cells cells_text output : List ℕ)
+    ensures { (pins : PinsValue)
+        (graph graph_text gates gates_text cells cells_text output : List ℕ)
         → stage.genlib gates gates_text (Ok cells_text)
-        → mapping formats.Genlib graph graph_text gates gates_text (Ok output)
-        ↔ mapping formats.Own graph graph_text cells cells_text (Ok output) }
+        → mapping (formats.Genlib pins) graph graph_text gates gates_text (Ok output)
+        ↔ mapping (formats.Own pins) graph graph_text cells cells_text (Ok output) }
 {}

@@ -31,8 +31,9 @@ use std::alloc::Global;
 
 /// The text of the netlist of the graph that the text spells, with its conflicts resolved and
 /// further signals inserted until each that the circuit drives fits a cell, and of the first
-/// fitting instances of the library that the other text spells in the format. A refusal shows the
-/// names of the texts' files.
+/// fitting instances of the library that the other text spells in the format. Where its pins are to
+/// be plain, the netlist is cells and wires: each pin of each gate reads a signal as it is. A
+/// refusal shows the names of the texts' files.
 ///
 /// # Errors
 ///

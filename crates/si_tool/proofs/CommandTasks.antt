@@ -1,5 +1,6 @@
 -- The table has a row for each task, with the form of the task.
-use Rattle.std.proofs.Common.{◌≡◌, ℕ, zero, suc, ◌+◌, ◌-◌, ◌<◌, ◌≤◌, List, [], ◌∷◌, length, map, get_or, refl, sym, ap, subst, codes, not}
+use Rattle.std.proofs.Common.{◌≡◌, ℕ, zero, suc, ◌+◌, ◌-◌, ◌<◌, ◌≤◌, List, [], ◌∷◌, length, map, get_or, refl, sym}
+use Rattle.std.proofs.Common.{ap, subst, codes, not}
 use Rattle.std.proofs.Common.{◌∙◌, arith, inl, inr, lit≤, Bool, true, false, bytes_eq, String, Global}
 use Rattle.std.proofs.Math.ListN.{get_or-map}
 use Rattle.std.proofs.lemmas.Bool.{cases_lt}
@@ -7,6 +8,7 @@ use Rattle.std.proofs.lemmas.Slice.Eq.{bytes_eq-Decides}
 use Rattle.std.proofs.lemmas.List.{length-map}
 use Rattle.std.specs.List.{list_any}
 use Rattle.si_circuit.specs.declared.style.Style.TheVariants.{Complex, GeneralisedC}
+use Rattle.si_cell.specs.declared.pins.Pins.TheVariants.{Any, Plain}
 use Rattle.si_readings.specs.declared.library_format.LibraryFormat.TheVariants.{Own, Genlib}
 use Rattle.si_readings.specs.declared.library_format.LibraryFormat.{LibraryFormat}
 use Rattle.si_stages.specs.declared.netlist_report.NetlistReport.TheVariants.{Loops, Reset}
@@ -14,14 +16,15 @@ use Rattle.si_stages.specs.declared.replay_kind.ReplayReport.TheVariants.{End, W
 use Rattle.si_stages.specs.declared.report_kind.Report.TheVariants.{Summary, Regions, Conflicts, Covers, Fold}
 use Rattle.si_stages.specs.declared.report_kind.Report.TheVariants.{States, Explain, Dot, Lint}
 use Rattle.si_words.specs.Names.{stands_in}
-use Rattle.si_tool.specs.Command.{Slot, Word, LoneFile, OneOf, Asks, AsksNothing, HasForm, form_of, words_of}
+use Rattle.si_tool.specs.Command.{Slot, Word, LoneFile, LibraryFile, OneOf, Asks, AsksNothing, HasForm, form_of}
+use Rattle.si_tool.specs.Command.{words_of}
 use Rattle.si_tool.specs.Command.{Row, digits, file_count, number_of, row_of, rows, tasks}
 use Rattle.si_handshakes.specs.Handshakes.{max_handshakes}
 use Rattle.si_tool.specs.Loops.Reads.{row_now, slots_now}
 use Rattle.si_tool.specs.declared.table.Row.{Row as HeldRow}
 use Rattle.si_tool.specs.declared.task.Task.{Task}
 use Rattle.si_tool.specs.declared.task.Task.TheVariants.{About, Tell, Synth, Map, FromGenlib, Verilog, Replay, Audit}
-use Rattle.si_tool.specs.declared.task.Task.TheVariants.{TellNetlist, Resolve, Insert, Same, Exercise}
+use Rattle.si_tool.specs.declared.task.Task.TheVariants.{TellNetlist, Resolve, Insert, Same, Exercise, Suggest}
 use Rattle.si_tool.specs.declared.task.Topic.TheVariants.{Help, Page, Version}
 use Rattle.si_tool.specs.declared.task.HelpPlace.TheVariants.{Before, Behind}
 
@@ -30,6 +33,8 @@ abbrev pub meets : Slot → Slot → Bool
 meets (Word x) (Word y) = bytes_eq x y
 meets (Word x) (LoneFile name) = not (bytes_eq x (codes "--help"))
 meets (LoneFile name) (Word y) = not (bytes_eq y (codes "--help"))
+meets (Word x) (LibraryFile name) = not (bytes_eq x (codes "genlib"))
+meets (LibraryFile name) (Word y) = not (bytes_eq y (codes "genlib"))
 meets (Word x) (OneOf name words) = stands_in words x
 meets (OneOf name words) (Word y) = stands_in words y
 meets (OneOf name words) (OneOf other others) = list_any (λ w. stands_in others w) words
@@ -74,8 +79,12 @@ each_listed (Tell Dot) = (place (Tell Dot), lit≤ tt, refl)
 each_listed (Tell Lint) = (place (Tell Lint), lit≤ tt, refl)
 each_listed (Synth Complex) = (place (Synth Complex), lit≤ tt, refl)
 each_listed (Synth GeneralisedC) = (place (Synth GeneralisedC), lit≤ tt, refl)
-each_listed (Map Own) = (place (Map Own), lit≤ tt, refl)
-each_listed (Map Genlib) = (place (Map Genlib), lit≤ tt, refl)
+each_listed (Suggest Complex) = (place (Suggest Complex), lit≤ tt, refl)
+each_listed (Suggest GeneralisedC) = (place (Suggest GeneralisedC), lit≤ tt, refl)
+each_listed (Map (Own Any)) = (place (Map (Own Any)), lit≤ tt, refl)
+each_listed (Map (Own Plain)) = (place (Map (Own Plain)), lit≤ tt, refl)
+each_listed (Map (Genlib Any)) = (place (Map (Genlib Any)), lit≤ tt, refl)
+each_listed (Map (Genlib Plain)) = (place (Map (Genlib Plain)), lit≤ tt, refl)
 each_listed Resolve = (place Resolve, lit≤ tt, refl)
 each_listed Insert = (place Insert, lit≤ tt, refl)
 each_listed FromGenlib = (place FromGenlib, lit≤ tt, refl)
@@ -170,10 +179,12 @@ asks_nothing words held place have_tasks end none request asks =
     none listed.0 (omega (arith, listed.1, many, as_many, end)) request.files request.choices
     (subst HasIt (sym listed.2) asks)
 
--- a graph and a library, in whichever format, are two files
+-- a graph and a library, in whichever format and with whichever pins, are two files
 pub two_files : (format : LibraryFormat) → file_count (form_of (Map format)) ≡ 2
-two_files Own = refl
-two_files Genlib = refl
+two_files (Own Any) = refl
+two_files (Own Plain) = refl
+two_files (Genlib Any) = refl
+two_files (Genlib Plain) = refl
 
 -- ---- digits
 

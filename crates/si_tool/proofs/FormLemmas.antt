@@ -1,5 +1,6 @@
 -- Words and forms, place by place.
-use Rattle.std.proofs.Common.{◌≡◌, ◌≢◌, ℕ, suc, ◌+◌, ◌<◌, List, [], ◌∷◌, ◌++◌, length, map, drop, get_or, refl, sym, ap, codes}
+use Rattle.std.proofs.Common.{◌≡◌, ◌≢◌, ℕ, suc, ◌+◌, ◌<◌, List, [], ◌∷◌, ◌++◌, length, map, drop, get_or, refl, sym}
+use Rattle.std.proofs.Common.{ap, codes}
 use Rattle.std.proofs.Common.{◌∙◌, arith, append-nil, append_assoc, add-one, String, string_bytes, Global, Bool, true}
 use Rattle.std.proofs.Common.{false, not, bytes_eq, Bor}
 use Rattle.std.proofs.lemmas.Slice.Eq.{bytes_eq-Decides}
@@ -7,7 +8,8 @@ use Rattle.std.proofs.Math.Seq.{drop-cons}
 use Rattle.std.proofs.lemmas.List.{drop-map, length-map}
 use Rattle.si_words.specs.Loops.Reads.{words_now}
 use Rattle.si_words.specs.Names.{stands_in}
-use Rattle.si_tool.specs.Command.{Slot, Word, File, LoneFile, OneOf, fill, file_count, choice_count, Fit, HasForm, words_of}
+use Rattle.si_tool.specs.Command.{Slot, Word, File, LoneFile, LibraryFile, OneOf, fill, file_count, choice_count, Fit}
+use Rattle.si_tool.specs.Command.{HasForm, words_of}
 use Rattle.si_tool.specs.Loops.Reads.{slot_now, slots_now}
 use Rattle.si_tool.specs.declared.form.Slot.{Slot as HeldSlot}
 
@@ -20,6 +22,8 @@ length_fill (File name ∷ form) [] choices fit = absurd fit
 length_fill (File name ∷ form) (file ∷ files) choices fit = ap suc (length_fill form files choices fit)
 length_fill (LoneFile name ∷ form) [] choices fit = absurd fit
 length_fill (LoneFile name ∷ form) (file ∷ files) choices fit = ap suc (length_fill form files choices fit.1)
+length_fill (LibraryFile name ∷ form) [] choices fit = absurd fit
+length_fill (LibraryFile name ∷ form) (file ∷ files) choices fit = ap suc (length_fill form files choices fit.1)
 length_fill (OneOf name words ∷ form) files [] fit = absurd fit
 length_fill (OneOf name words ∷ form) files (choice ∷ choices) fit = ap suc (length_fill form files choices fit.1)
 
@@ -42,6 +46,10 @@ count_of_files (LoneFile name ∷ form) [] choices fit = absurd fit
 count_of_files (LoneFile name ∷ form) (file ∷ files) choices fit =
     let fewer = count_of_files form files choices fit.1 in
     omega (arith, fewer)
+count_of_files (LibraryFile name ∷ form) [] choices fit = absurd fit
+count_of_files (LibraryFile name ∷ form) (file ∷ files) choices fit =
+    let fewer = count_of_files form files choices fit.1 in
+    omega (arith, fewer)
 count_of_files (OneOf name words ∷ form) files [] fit = absurd fit
 count_of_files (OneOf name words ∷ form) files (choice ∷ choices) fit = count_of_files form files choices fit.1
 
@@ -60,6 +68,8 @@ count_of_choices (File name ∷ form) [] choices fit = absurd fit
 count_of_choices (File name ∷ form) (file ∷ files) choices fit = count_of_choices form files choices fit
 count_of_choices (LoneFile name ∷ form) [] choices fit = absurd fit
 count_of_choices (LoneFile name ∷ form) (file ∷ files) choices fit = count_of_choices form files choices fit.1
+count_of_choices (LibraryFile name ∷ form) [] choices fit = absurd fit
+count_of_choices (LibraryFile name ∷ form) (file ∷ files) choices fit = count_of_choices form files choices fit.1
 count_of_choices (OneOf name words ∷ form) files [] fit = absurd fit
 count_of_choices (OneOf name words ∷ form) files (choice ∷ choices) fit =
     let fewer = count_of_choices form files choices fit.1 in
@@ -77,6 +87,7 @@ abbrev pub Stands : Slot → (word : List ℕ) → Type 0
 Stands (Word own) word = word ≡ own
 Stands (File name) word = Unit {0}
 Stands (LoneFile name) word = word ≢ codes "--help"
+Stands (LibraryFile name) word = word ≢ codes "genlib"
 Stands (OneOf name words) word = stands_in words word ≡ true
 
 -- the files, and the choices, behind what the word of the place gives
@@ -84,12 +95,14 @@ abbrev pub with_file : Slot → (word : List ℕ) → (files : List (List ℕ)) 
 with_file (Word own) word files = files
 with_file (File name) word files = word ∷ files
 with_file (LoneFile name) word files = word ∷ files
+with_file (LibraryFile name) word files = word ∷ files
 with_file (OneOf name words) word files = files
 
 abbrev pub with_choice : Slot → (word : List ℕ) → (choices : List (List ℕ)) → List (List ℕ)
 with_choice (Word own) word choices = choices
 with_choice (File name) word choices = choices
 with_choice (LoneFile name) word choices = choices
+with_choice (LibraryFile name) word choices = choices
 with_choice (OneOf name words) word choices = word ∷ choices
 
 -- the word stands in the place, and the others have the rest of the form
@@ -141,6 +154,19 @@ begins (LoneFile name) form word words (file ∷ files) choices has =
       stands = rw (sym heads) has.1.0;
       has = (tails, has.1.1);
     }
+begins (LibraryFile name) form word words [] choices has = absurd has.1
+begins (LibraryFile name) form word words (file ∷ files) choices has =
+    let same = has.0 in
+    let heads : file ≡ word = cc in
+    let tails : words ≡ fill form files choices = cc in
+    record {
+      later_files = files;
+      later_choices = choices;
+      files_are = ap (λ (w : List ℕ). w ∷ files) heads;
+      choices_are = refl;
+      stands = rw (sym heads) has.1.0;
+      has = (tails, has.1.1);
+    }
 begins (OneOf name own) form word words files [] has = absurd has.1
 begins (OneOf name own) form word words files (choice ∷ choices) has =
     let same = has.0 in
@@ -164,6 +190,8 @@ with_first (File name) form word words files choices stands has =
     (ap (λ (l : List (List ℕ)). word ∷ l) has.0, has.1)
 with_first (LoneFile name) form word words files choices stands has =
     (ap (λ (l : List (List ℕ)). word ∷ l) has.0, (stands, has.1))
+with_first (LibraryFile name) form word words files choices stands has =
+    (ap (λ (l : List (List ℕ)). word ∷ l) has.0, (stands, has.1))
 with_first (OneOf name own) form word words files choices stands has =
     (ap (λ (l : List (List ℕ)). word ∷ l) has.0, (stands, has.1))
 
@@ -175,6 +203,8 @@ not_without_words (File name) form [] choices has = has.1
 not_without_words (File name) form (file ∷ files) choices has = (let none = has.0 in cc)
 not_without_words (LoneFile name) form [] choices has = has.1
 not_without_words (LoneFile name) form (file ∷ files) choices has = (let none = has.0 in cc)
+not_without_words (LibraryFile name) form [] choices has = has.1
+not_without_words (LibraryFile name) form (file ∷ files) choices has = (let none = has.0 in cc)
 not_without_words (OneOf name own) form files [] has = has.1
 not_without_words (OneOf name own) form files (choice ∷ choices) has = (let none = has.0 in cc)
 
@@ -211,6 +241,7 @@ files_behind : (slot : Slot) (word : List ℕ) (files later : List (List ℕ))
 files_behind (Word own) word files later = append_assoc files [] later
 files_behind (File name) word files later = append_assoc files (word ∷ []) later
 files_behind (LoneFile name) word files later = append_assoc files (word ∷ []) later
+files_behind (LibraryFile name) word files later = append_assoc files (word ∷ []) later
 files_behind (OneOf name own) word files later = append_assoc files [] later
 
 choices_behind : (slot : Slot) (word : List ℕ) (choices later : List (List ℕ))
@@ -218,6 +249,7 @@ choices_behind : (slot : Slot) (word : List ℕ) (choices later : List (List ℕ
 choices_behind (Word own) word choices later = append_assoc choices [] later
 choices_behind (File name) word choices later = append_assoc choices [] later
 choices_behind (LoneFile name) word choices later = append_assoc choices [] later
+choices_behind (LibraryFile name) word choices later = append_assoc choices [] later
 choices_behind (OneOf name own) word choices later = append_assoc choices (word ∷ []) later
 
 module _ (form tail : List Slot) (words others files choices : List (List ℕ)) (place : ℕ) (slot : Slot)
@@ -278,6 +310,13 @@ module _ (form tail : List Slot) (words others files choices : List (List ℕ)) 
       → IsFilled form words (files ++ word ∷ []) choices (place + 1)
   lone_filled name here at next_slot next_word stands = rw (append-nil choices) at
       (place_filled form tail words others files choices place (LoneFile name) word filled here at stands next_slot
+      next_word)
+
+  pub library_filled : (name : List ℕ) → drop place form ≡ LibraryFile name ∷ tail → drop place words ≡ word ∷ others
+      → drop (place + 1) form ≡ tail → drop (place + 1) words ≡ others → word ≢ codes "genlib"
+      → IsFilled form words (files ++ word ∷ []) choices (place + 1)
+  library_filled name here at next_slot next_word stands = rw (append-nil choices) at
+      (place_filled form tail words others files choices place (LibraryFile name) word filled here at stands next_slot
       next_word)
 
   pub choice_filled : (name : List ℕ) (listed : List (List ℕ)) → drop place form ≡ OneOf name listed ∷ tail

@@ -1,11 +1,14 @@
 -- No two forms overlap: words ask for one command at most.
-use Rattle.std.proofs.Common.{◌≡◌, ℕ, zero, suc, ◌<◌, List, [], ◌∷◌, length, get_or, refl, sym, ap, ap₂, subst, codes, ◌≢◌}
+use Rattle.std.proofs.Common.{◌≡◌, ℕ, zero, suc, ◌<◌, List, [], ◌∷◌, length, get_or, refl, sym, ap, ap₂, subst, codes}
+use Rattle.std.proofs.Common.{◌≢◌}
 use Rattle.std.proofs.Common.{◌∙◌, arith, inl, inr, Bool, true, false, ◌&&◌, ◌||◌, not, bytes_eq, String, Global}
 use Rattle.std.proofs.lemmas.Bool.{cases_lt, not-true, and_parts}
 use Rattle.std.proofs.lemmas.Slice.Eq.{bytes_eq-Decides}
 use Rattle.std.specs.List.{list_all, list_any}
 use Rattle.si_words.specs.Names.{stands_in}
-use Rattle.si_tool.specs.Command.{Slot, Word, File, LoneFile, OneOf, form_of, HasForm, Request, Asks, tasks, words_of}
+use Rattle.si_tool.specs.Command.{Slot, Word, File, LoneFile, LibraryFile, OneOf, form_of, HasForm, Request, Asks}
+use Rattle.si_tool.specs.Command.{tasks}
+use Rattle.si_tool.specs.Command.{words_of}
 use Rattle.si_tool.specs.declared.task.Task.{Task}
 use Rattle.si_tool.proofs.CommandTasks.{each_listed, first_task, meets, overlaps, task_at}
 use Rattle.si_tool.proofs.FormLemmas.{Stands, with_file, with_choice, begins, not_without_words}
@@ -45,26 +48,34 @@ one_of_both (own ∷ words) others word one two = first (bytes_eq word own) refl
         or_left (stands_in others own) _ (subst (λ (w : List ℕ). stands_in others w ≡ true) same two)
     first false is later = or_right (stands_in others own) _ (later (rw is at one) two)
 
-not_equal : (word : List ℕ) → word ≢ codes "--help" → not (bytes_eq word (codes "--help")) ≡ true
-not_equal word differ = by (bytes_eq word (codes "--help")) refl
+not_equal : (word other : List ℕ) → word ≢ other → not (bytes_eq word other) ≡ true
+not_equal word other differ = by (bytes_eq word other) refl
   where
-    by : (b : Bool) → bytes_eq word (codes "--help") ≡ b → not b ≡ true
-    by true is = absurd (differ ((bytes_eq-Decides word (codes "--help")).0 is))
+    by : (b : Bool) → bytes_eq word other ≡ b → not b ≡ true
+    by true is = absurd (differ ((bytes_eq-Decides word other).0 is))
     by false is = refl
 
 both_meet : (slot other : Slot) (word : List ℕ) → Stands slot word → Stands other word → meets slot other ≡ true
 both_meet (Word a) (Word b) word one two = (bytes_eq-Decides a b).1 (sym one ∙ two)
 both_meet (Word a) (File name) word one two = refl
-both_meet (Word a) (LoneFile name) word one two = not_equal a (λ same. two (one ∙ same))
+both_meet (Word a) (LoneFile name) word one two = not_equal a (codes "--help") (λ same. two (one ∙ same))
+both_meet (Word a) (LibraryFile name) word one two = not_equal a (codes "genlib") (λ same. two (one ∙ same))
 both_meet (Word a) (OneOf name words) word one two = rw (sym one) two
 both_meet (File name) other word one two = refl
-both_meet (LoneFile name) (Word b) word one two = not_equal b (λ same. one (two ∙ same))
+both_meet (LoneFile name) (Word b) word one two = not_equal b (codes "--help") (λ same. one (two ∙ same))
 both_meet (LoneFile name) (File other) word one two = refl
 both_meet (LoneFile name) (LoneFile other) word one two = refl
+both_meet (LoneFile name) (LibraryFile other) word one two = refl
 both_meet (LoneFile name) (OneOf other words) word one two = refl
+both_meet (LibraryFile name) (Word b) word one two = not_equal b (codes "genlib") (λ same. one (two ∙ same))
+both_meet (LibraryFile name) (File other) word one two = refl
+both_meet (LibraryFile name) (LoneFile other) word one two = refl
+both_meet (LibraryFile name) (LibraryFile other) word one two = refl
+both_meet (LibraryFile name) (OneOf other words) word one two = refl
 both_meet (OneOf name words) (Word b) word one two = rw (sym two) one
 both_meet (OneOf name words) (File other) word one two = refl
 both_meet (OneOf name words) (LoneFile other) word one two = refl
+both_meet (OneOf name words) (LibraryFile other) word one two = refl
 both_meet (OneOf name words) (OneOf other others) word one two = one_of_both words others word one two
 
 both_overlap : (form other : List Slot) (words files choices others later : List (List ℕ))

@@ -12,7 +12,8 @@ use Rattle.si_base.specs.Bytes.{space}
 use Rattle.si_words.specs.Names.{stands_in}
 use Rattle.si_tool.specs.About.{Shows, shown_form, shown_part, shown_slot, row_line, help_text}
 use Rattle.si_tool.specs.About.{begins, line_of, note_of, notes, page_text}
-use Rattle.si_tool.specs.Command.{Row, Slot, Word, File, LoneFile, OneOf, command_words, form_of, row_of, rows, tasks}
+use Rattle.si_tool.specs.Command.{Row, Slot, Word, File, LoneFile, LibraryFile, OneOf, command_words, form_of, row_of}
+use Rattle.si_tool.specs.Command.{rows, tasks}
 use Rattle.si_tool.specs.Loops.Reads.{row_now, slot_now, slots_now}
 use Rattle.si_tool.specs.declared.about.TheConstants.{HELP_HEAD, HELP_TAIL, BLANKS}
 use Rattle.si_tool.specs.declared.form.Slot.{Slot as HeldSlot}
@@ -152,6 +153,7 @@ page_of_first (Word own ∷ form) word page is =
     subst (λ (w : List ℕ). stands_in command_words w ≡ true) ((bytes_eq-Decides own word).0 is) page
 page_of_first (File name ∷ form) word page is = cc
 page_of_first (LoneFile name ∷ form) word page is = cc
+page_of_first (LibraryFile name ∷ form) word page is = cc
 page_of_first (OneOf name words ∷ form) word page is = cc
 
 pub has_its_page : (task : Task) (word : List ℕ) → begins word (form_of task) ≡ true

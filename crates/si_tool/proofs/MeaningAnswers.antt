@@ -5,15 +5,16 @@ use Rattle.si_io.specs.Outside.{Rose}
 use Rattle.si_tool.specs.About.{about_text}
 use Rattle.si_tool.specs.Command.{Request, Fit, form_of, number_of}
 use Rattle.si_tool.specs.Loads.{Contents, Counts, loads, load_well, loads_well, AreTold}
-use Rattle.si_tool.specs.Meaning.{meaning, ComesTo}
+use Rattle.si_tool.specs.Meaning.{meaning, ComesTo, IsDetermined}
 use Rattle.si_refusals.specs.Refusal.{TextRefusal, ReadFault, Answer, Output, FileRefused, TextRefused}
 use Rattle.si_tool.specs.declared.task.Task.{Task}
 use Rattle.si_tool.specs.declared.task.Topic.TheVariants.{Help, Page, Version}
 use Rattle.si_tool.specs.declared.task.HelpPlace.TheVariants.{Before, Behind}
 use Rattle.si_tool.specs.declared.task.Task.TheVariants.{About, Tell, Synth, Map, FromGenlib, Verilog, Replay, Audit}
 use Rattle.si_tool.specs.declared.task.Task.TheVariants.{Exercise}
-use Rattle.si_tool.specs.declared.task.Task.TheVariants.{TellNetlist, Resolve, Insert, Same}
+use Rattle.si_tool.specs.declared.task.Task.TheVariants.{TellNetlist, Resolve, Insert, Same, Suggest}
 use Rattle.si_readings.specs.Laws.{AtMostOne, HasResult}
+use Rattle.si_cell.specs.declared.pins.Pins.TheVariants.{Any, Plain}
 use Rattle.si_readings.specs.declared.library_format.LibraryFormat.TheVariants.{Own, Genlib}
 use Rattle.si_stages.proofs.AuditLemmas.{audit_one, audit_some}
 use Rattle.si_exercise.proofs.ExerciseLemmas.{exercise_one, exercise_some}
@@ -25,26 +26,29 @@ use Rattle.si_readings.proofs.StageLemmas.{gives_one, gives_some}
 use Rattle.si_likeness.proofs.SameLemmas.{same_one, same_some}
 use Rattle.si_stages.proofs.NetlistReportLemmas.{netlist_report_one, netlist_report_some}
 use Rattle.si_stages.proofs.VerilogLemmas.{verilog_one, verilog_some}
+use Rattle.si_suggestion.proofs.SuggestionsExist.{suggest_some}
 use Rattle.si_tool.proofs.LoadLemmas.{all_one, all_some, all_or_fault, as_many}
 use Rattle.si_tool.proofs.CommandTasks.{few_handshakes}
 use Rattle.si_tool.proofs.FormLemmas.{count_of_files}
 
 -- ---- by their texts: to one answer at most
-pub meaning_one : (task : Task) (files choices texts : List (List ℕ)) → AtMostOne (meaning task files choices texts)
-meaning_one (About topic) [] choices [] = gives_one (about_text topic choices)
-meaning_one (Tell what) (file ∷ []) choices (text ∷ []) = report_one what file text
-meaning_one (Synth style) (file ∷ []) choices (text ∷ []) = synth_one style file text
-meaning_one (Map format) (g ∷ l ∷ []) choices (a ∷ b ∷ []) = mapping_one format g a l b
-meaning_one FromGenlib (file ∷ []) choices (text ∷ []) = genlib_one file text
-meaning_one Verilog (file ∷ []) choices (text ∷ []) = verilog_one file text
-meaning_one (TellNetlist what) (file ∷ []) choices (text ∷ []) = netlist_report_one what file text
-meaning_one (Replay what) (g ∷ n ∷ s ∷ []) choices (a ∷ b ∷ c ∷ []) = replay_one what g a n b s c
-meaning_one Audit (g ∷ n ∷ []) choices (a ∷ b ∷ []) = audit_one g a n b
-meaning_one Resolve (file ∷ []) choices (text ∷ []) = resolve_one file text
-meaning_one Insert (g ∷ n ∷ []) choices (a ∷ b ∷ []) = insert_one g a n b
-meaning_one Same (f ∷ g ∷ []) choices (a ∷ b ∷ []) = same_one f a g b
-meaning_one Exercise [] (digit ∷ []) [] = exercise_one (number_of digit)
-meaning_one task files choices texts = λ a b one other. absurd one
+pub meaning_one : (task : Task) (files choices texts : List (List ℕ)) → IsDetermined task
+    → AtMostOne (meaning task files choices texts)
+meaning_one (Suggest style) files choices texts one = absurd one
+meaning_one (About topic) [] choices [] one = gives_one (about_text topic choices)
+meaning_one (Tell what) (file ∷ []) choices (text ∷ []) one = report_one what file text
+meaning_one (Synth style) (file ∷ []) choices (text ∷ []) one = synth_one style file text
+meaning_one (Map format) (g ∷ l ∷ []) choices (a ∷ b ∷ []) one = mapping_one format g a l b
+meaning_one FromGenlib (file ∷ []) choices (text ∷ []) one = genlib_one file text
+meaning_one Verilog (file ∷ []) choices (text ∷ []) one = verilog_one file text
+meaning_one (TellNetlist what) (file ∷ []) choices (text ∷ []) one = netlist_report_one what file text
+meaning_one (Replay what) (g ∷ n ∷ s ∷ []) choices (a ∷ b ∷ c ∷ []) one = replay_one what g a n b s c
+meaning_one Audit (g ∷ n ∷ []) choices (a ∷ b ∷ []) one = audit_one g a n b
+meaning_one Resolve (file ∷ []) choices (text ∷ []) one = resolve_one file text
+meaning_one Insert (g ∷ n ∷ []) choices (a ∷ b ∷ []) one = insert_one g a n b
+meaning_one Same (f ∷ g ∷ []) choices (a ∷ b ∷ []) one = same_one f a g b
+meaning_one Exercise [] (digit ∷ []) [] one = exercise_one (number_of digit)
+meaning_one task files choices texts one = λ a b first second. absurd first
 
 -- ---- and to some answer, where a task has the files and choices of its form, and each file its text
 pub meaning_some : (task : Task) (files choices texts : List (List ℕ)) → Fit (form_of task) files choices
@@ -55,8 +59,11 @@ meaning_some (About (Page Behind)) [] choices [] fit each = gives_some (about_te
 meaning_some (About Version) [] choices [] fit each = gives_some (about_text Version choices)
 meaning_some (Tell what) (file ∷ []) choices (text ∷ []) fit each = report_some what file text
 meaning_some (Synth style) (file ∷ []) choices (text ∷ []) fit each = synth_some style file text
-meaning_some (Map Own) (g ∷ l ∷ []) choices (a ∷ b ∷ []) fit each = mapping_some Own g a l b
-meaning_some (Map Genlib) (g ∷ l ∷ []) choices (a ∷ b ∷ []) fit each = mapping_some Genlib g a l b
+meaning_some (Suggest style) (file ∷ []) choices (text ∷ []) fit each = suggest_some style file text
+meaning_some (Map (Own Any)) (g ∷ l ∷ []) choices (a ∷ b ∷ []) fit each = mapping_some (Own Any) g a l b
+meaning_some (Map (Own Plain)) (g ∷ l ∷ []) choices (a ∷ b ∷ []) fit each = mapping_some (Own Plain) g a l b
+meaning_some (Map (Genlib Any)) (g ∷ l ∷ []) choices (a ∷ b ∷ []) fit each = mapping_some (Genlib Any) g a l b
+meaning_some (Map (Genlib Plain)) (g ∷ l ∷ []) choices (a ∷ b ∷ []) fit each = mapping_some (Genlib Plain) g a l b
 meaning_some FromGenlib (file ∷ []) choices (text ∷ []) fit each = genlib_some file text
 meaning_some Verilog (file ∷ []) choices (text ∷ []) fit each = verilog_some file text
 meaning_some (TellNetlist what) (file ∷ []) choices (text ∷ []) fit each = netlist_report_some what file text
@@ -72,9 +79,9 @@ meaning_some task files choices texts fit each =
     absurd (omega (arith, many, each))
 
 -- ---- by their files: to one answer at most
-pub command_one : (content : Contents) (asked : Request) (a b : Answer) → AreTold content asked.files
-    → ComesTo (loads_well content) asked a → ComesTo (loads_well content) asked b → a ≡ b
-command_one content asked a b told = by a b
+pub command_one : (content : Contents) (asked : Request) (a b : Answer) → IsDetermined asked.task
+    → AreTold content asked.files → ComesTo (loads_well content) asked a → ComesTo (loads_well content) asked b → a ≡ b
+command_one content asked a b determined told = by a b
   where
     loaded_one : AtMostOne (loads_well content asked.files)
     loaded_one = all_one content asked.files told
@@ -86,7 +93,7 @@ command_one content asked a b told = by a b
         let same = loaded_one (Ok texts) (Ok others) one other in
         let same_texts : texts ≡ others = cc in
         let Means : List (List ℕ) → Type 0 = λ ts. meaning asked.task asked.files asked.choices ts r in
-        meaning_one asked.task asked.files asked.choices others r q (subst Means same_texts means) also
+        meaning_one asked.task asked.files asked.choices others determined r q (subst Means same_texts means) also
 
     by : (a b : Answer) → ComesTo (loads_well content) asked a → ComesTo (loads_well content) asked b → a ≡ b
     by (Output t) (Output u) x y = (let same = texts_one x.0 y.0 (Ok t) (Ok u) x.1 y.1 x.2 y.2 in cc)

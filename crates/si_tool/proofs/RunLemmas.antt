@@ -8,7 +8,7 @@ use Rattle.si_refusals.specs.Ending.{Ending, NoMemory, Usage, WriteFault, Answer
 use Rattle.si_refusals.specs.Ending.{ending_of}
 use Rattle.si_tool.specs.Laws.{ShowsCause}
 use Rattle.si_tool.specs.Loads.{Contents, Counts, AreTold, AreLoaded, LoadsOf, StopsLoading, loads, loads_well, no_faults}
-use Rattle.si_tool.specs.Meaning.{LoadStage, ComesTo, MayStopCommand, WordsComeTo}
+use Rattle.si_tool.specs.Meaning.{LoadStage, ComesTo, IsDetermined, MayStopCommand, WordsComeTo}
 use Rattle.si_refusals.specs.Refusal.{TextRefusal, Answer, Output, FileRefused, TextRefused}
 use Rattle.si_refusals.specs.Refusal.{ReadFault, TooLong}
 use Rattle.si_refusals.specs.Refusal.{Improper, answer_status, text_status}
@@ -31,9 +31,10 @@ comes_as : (words : List (String Global)) (content : Contents) (before now : Cou
 comes_as words content before now a b come deserve =
     let same = one_request words deserve.asked come.asked deserve.asks come.asks in
     let told = subst (λ (k : Request). AreTold content k.files) same deserve.told in
+    let determined = subst (λ (k : Request). IsDetermined k.task) same deserve.determined in
     let there = subst (λ (k : Request). ComesTo (loads_well content) k b) same deserve.comes in
     elim (command_or_fault content before now come.asked a come.comes) [
-      | inl here ↦ inl (command_one content come.asked a b told here there)
+      | inl here ↦ inl (command_one content come.asked a b determined told here there)
       | inr fault ↦ inr fault
     ]
 

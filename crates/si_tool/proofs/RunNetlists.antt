@@ -1,6 +1,8 @@
--- What a run of `synth` or `map` that is done puts on `out`: a netlist that implements the graph of its file.
+-- What a run of `synth`, `suggest` or `map` that is done puts on `out`: a netlist that implements the graph of its file.
 use Rattle.std.proofs.Common.{◌≡◌, ℕ, List, [], ◌∷◌, Ok, String, Global, subst, ◌∙◌, inl, inr}
+use Rattle.si_base.specs.Behaviour.{Implements}
 use Rattle.si_base.specs.Codes.{CodedGraph}
+use Rattle.si_base.specs.Graph.{StateGraph}
 use Rattle.si_base.specs.GivenGraph.{Sg}
 use Rattle.si_base.specs.System.{IsFor}
 use Rattle.si_circuit.specs.declared.style.Style.{Style}
@@ -9,6 +11,7 @@ use Rattle.si_insert.specs.Lineage.{History}
 use Rattle.si_io.specs.Outside.{Appends, IsContent}
 use Rattle.si_readings.specs.Checks.{IsSound, proper}
 use Rattle.si_readings.specs.Readings.{graph_in, mapping_readings}
+use Rattle.si_cell.specs.declared.pins.Pins.TheVariants.{Any, Plain}
 use Rattle.si_readings.specs.declared.library_format.LibraryFormat.{LibraryFormat}
 use Rattle.si_readings.specs.declared.library_format.LibraryFormat.TheVariants.{Own, Genlib}
 use Rattle.si_readings.proofs.ReadingLemmas.{mapping_readings_are}
@@ -22,12 +25,13 @@ use Rattle.si_stages.specs.Meaning.{mapping, synth}
 use Rattle.si_stages.specs.Resolving.{lineage_of, resolution}
 use Rattle.si_stages.specs.Synthesis.{synthesis}
 use Rattle.si_stages.specs.Written.{IsWritten}
-use Rattle.si_tool.specs.Command.{Request, words_of}
+use Rattle.si_suggestion.specs.Suggestion.{suggest, suggestion}
+use Rattle.si_tool.specs.Command.{Asks, Request, words_of}
 use Rattle.si_tool.specs.Loads.{Contents, Counts, load, loads}
 use Rattle.si_tool.specs.Meaning.{meaning}
 use Rattle.si_tool.specs.Run.{SinkChange, Ends}
 use Rattle.si_tool.specs.Theorem.{AskForNetlist, ImplementsText, PutsNetlist}
-use Rattle.si_tool.specs.declared.task.Task.TheVariants.{Map, Synth}
+use Rattle.si_tool.specs.declared.task.Task.TheVariants.{Map, Suggest, Synth}
 use Rattle.si_tool.proofs.RunOutputs.{puts_output}
 
 -- ---- over texts
@@ -66,6 +70,26 @@ map_implements format g text n library output comes =
     let (coded, sound, ends) = passed (proper given.graph given.states) (λ c. lineage_of c given.states) l resolves in
     written given told.lineage coded text output is sound (told.maps.goes.given_stays ∙ ends.given_is) told.written
 
+suggest_implements : (style : Style) (file text output : List ℕ) → suggest style file text (Ok output)
+    → ImplementsText text output
+suggest_implements style file text output comes =
+    let (given, is, later) = passed (graph_in file text) _ output comes in
+    let (coded, sound, told) =
+    passed (proper given.graph given.states) (suggestion style given.model given.states) output later in
+    record {
+      given = given;
+      is_given = is;
+      netlist = told.netlist;
+      is_netlist = told.is_netlist;
+      output_is = told.output_is;
+      model_is = told.model_is;
+      coded = coded;
+      is_coded = sound.coded_is;
+      graph_is = sound.same_graph;
+      is_for = told.is_for;
+      implements = subst (λ (g : StateGraph). Implements told.netlist g) sound.same_graph told.implements;
+    }
+
 -- ---- over a run
 module _ (content : Contents) (before now : Counts) (file : List ℕ) (out : SinkChange) (output : List ℕ)
     (done : Appends out.old output out.new) where
@@ -90,6 +114,13 @@ module _ (content : Contents) (before now : Counts) (file : List ℕ) (out : Sin
   of_synth style (text ∷ []) loaded means = first_put [] text [] loaded (synth_implements style file text output means)
   of_synth style (text ∷ other ∷ texts) loaded means = absurd means
 
+  of_suggest : (style : Style) (texts : List (List ℕ)) → loads content before now (file ∷ []) (Ok texts)
+      → meaning (Suggest style) (file ∷ []) [] texts (Ok output) → PutsNetlist (content file) out.old out.new
+  of_suggest style [] loaded means = absurd means
+  of_suggest style (text ∷ []) loaded means =
+      first_put [] text [] loaded (suggest_implements style file text output means)
+  of_suggest style (text ∷ other ∷ texts) loaded means = absurd means
+
   of_map : (format : LibraryFormat) (library : List ℕ) (texts : List (List ℕ))
       → loads content before now (file ∷ library ∷ []) (Ok texts)
       → meaning (Map format) (file ∷ library ∷ []) [] texts (Ok output) → PutsNetlist (content file) out.old out.new
@@ -101,21 +132,37 @@ module _ (content : Contents) (before now : Counts) (file : List ℕ) (out : Sin
 
 module _ (words : List (String Global)) (content : Contents) (before now : Counts) (out err : SinkChange)
     (result : Status) where
+  map_put : (format : LibraryFormat) (file library : List ℕ)
+      → Ends words (loads content before now) out err result → result ≡ status.Done
+      → Asks words (record { task = Map format; files = file ∷ library ∷ []; choices = [] })
+      → PutsNetlist (content file) out.old out.new
+  map_put format file library ends is asks =
+      let asked : Request = record { task = Map format; files = file ∷ library ∷ []; choices = [] } in
+      let puts = puts_output words content before now out err result asked asks ends is in
+      of_map content before now file out puts.output puts.written format library puts.texts puts.loaded puts.means
+
   pub netlist_put : (file : List ℕ) → Ends words (loads content before now) out err result → result ≡ status.Done
       → AskForNetlist file (words_of words) → PutsNetlist (content file) out.old out.new
-  netlist_put file ends is (inl asks) =
+  netlist_put file ends is (inl (inl asks)) =
       let asked : Request = record { task = Synth Complex; files = file ∷ []; choices = [] } in
       let puts = puts_output words content before now out err result asked (asks, tt) ends is in
       of_synth content before now file out puts.output puts.written Complex puts.texts puts.loaded puts.means
-  netlist_put file ends is (inr (inl asks)) =
+  netlist_put file ends is (inl (inr asks)) =
       let asked : Request = record { task = Synth GeneralisedC; files = file ∷ []; choices = [] } in
       let puts = puts_output words content before now out err result asked (asks, tt) ends is in
       of_synth content before now file out puts.output puts.written GeneralisedC puts.texts puts.loaded puts.means
-  netlist_put file ends is (inr (inr (inl (library, asks)))) =
-      let asked : Request = record { task = Map Own; files = file ∷ library ∷ []; choices = [] } in
+  netlist_put file ends is (inr (inl (inl asks))) =
+      let asked : Request = record { task = Suggest Complex; files = file ∷ []; choices = [] } in
       let puts = puts_output words content before now out err result asked (asks, tt) ends is in
-      of_map content before now file out puts.output puts.written Own library puts.texts puts.loaded puts.means
-  netlist_put file ends is (inr (inr (inr (library, asks)))) =
-      let asked : Request = record { task = Map Genlib; files = file ∷ library ∷ []; choices = [] } in
+      of_suggest content before now file out puts.output puts.written Complex puts.texts puts.loaded puts.means
+  netlist_put file ends is (inr (inl (inr asks))) =
+      let asked : Request = record { task = Suggest GeneralisedC; files = file ∷ []; choices = [] } in
       let puts = puts_output words content before now out err result asked (asks, tt) ends is in
-      of_map content before now file out puts.output puts.written Genlib library puts.texts puts.loaded puts.means
+      of_suggest content before now file out puts.output puts.written GeneralisedC puts.texts puts.loaded puts.means
+  netlist_put file ends is (inr (inr (inl (library, asks)))) = map_put (Own Any) file library ends is (asks, tt)
+  netlist_put file ends is (inr (inr (inr (inl (library, asks))))) =
+      map_put (Genlib Any) file library ends is (asks, tt)
+  netlist_put file ends is (inr (inr (inr (inr (inl (library, other, asks)))))) =
+      map_put (Own Plain) file library ends is (asks, (other, tt))
+  netlist_put file ends is (inr (inr (inr (inr (inr (library, asks)))))) =
+      map_put (Genlib Plain) file library ends is (asks, tt)

@@ -3,7 +3,7 @@ use Rattle.std.specs.Prelude.{◌≡◌, ℕ, Bool, false, if◌then◌else◌, 
 use Rattle.std.specs.Prelude.{bytes_eq, length, map, drop, codes}
 use Rattle.std.specs.List.{flat_map}
 use Rattle.si_base.specs.Bytes.{space}
-use Rattle.si_tool.specs.Command.{Slot, Word, File, LoneFile, OneOf, Row, form_of}
+use Rattle.si_tool.specs.Command.{Slot, Word, File, LoneFile, LibraryFile, OneOf, Row, form_of}
 use Rattle.si_tool.specs.Command.{Request, rows}
 use Rattle.si_tool.specs.declared.about.TheConstants.{HELP_HEAD, HELP_TAIL, BLANKS, VERSION}
 use Rattle.si_tool.specs.declared.notes.TheConstants.{NOTES}
@@ -18,6 +18,7 @@ abbrev pub shown_slot : Slot → List ℕ
 shown_slot (Word word) = word
 shown_slot (File name) = name
 shown_slot (LoneFile name) = name
+shown_slot (LibraryFile name) = name
 shown_slot (OneOf name words) = name
 
 -- the words of a form, behind that of the program

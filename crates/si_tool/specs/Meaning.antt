@@ -7,7 +7,7 @@ use Rattle.si_tool.specs.Command.{Request, Asks, number_of}
 use Rattle.si_tool.specs.declared.task.Task.{Task}
 use Rattle.si_tool.specs.declared.task.Task.TheVariants.{About, Tell, Synth, Map, FromGenlib}
 use Rattle.si_tool.specs.declared.task.Task.TheVariants.{Verilog, Replay, Audit, Exercise}
-use Rattle.si_tool.specs.declared.task.Task.TheVariants.{TellNetlist, Resolve, Insert, Same}
+use Rattle.si_tool.specs.declared.task.Task.TheVariants.{TellNetlist, Resolve, Insert, Same, Suggest}
 use Rattle.si_refusals.specs.Ending.{Ending, NoMemory, Answered}
 use Rattle.si_refusals.specs.Refusal.{FileRefusal, TextRefusal, Answer, Output}
 use Rattle.si_refusals.specs.Refusal.{FileRefused, TextRefused}
@@ -19,12 +19,14 @@ use Rattle.si_stages.specs.Meaning.{report, synth, mapping, replay, audit}
 use Rattle.si_likeness.specs.Same.{same}
 use Rattle.si_stages.specs.NetlistReports.{netlist_report}
 use Rattle.si_stages.specs.Verilog.{verilog}
+use Rattle.si_suggestion.specs.Suggestion.{suggest}
 
 -- a task over its files, each with its text, and the words that are chosen
 abbrev pub meaning : Task → (files choices texts : List (List ℕ)) → Stage TextRefusal (List ℕ)
 meaning (About topic) [] choices [] = gives (about_text topic choices)
 meaning (Tell what) (file ∷ []) choices (text ∷ []) = report what file text
 meaning (Synth style) (file ∷ []) choices (text ∷ []) = synth style file text
+meaning (Suggest style) (file ∷ []) choices (text ∷ []) = suggest style file text
 meaning (Map format) (g ∷ l ∷ []) choices (graph ∷ library ∷ []) =
     mapping format g graph l library
 meaning FromGenlib (file ∷ []) choices (text ∷ []) = genlib file text
@@ -38,6 +40,11 @@ meaning Insert (g ∷ n ∷ []) choices (graph ∷ netlist ∷ []) = insert g gr
 meaning Same (f ∷ g ∷ []) choices (one ∷ other ∷ []) = same f one g other
 meaning Exercise [] (digit ∷ []) [] = exercise (number_of digit)
 meaning task files choices texts = λ answer. ⊥
+
+-- whether what a task means is one answer alone: what is suggested may be one of several netlists
+abbrev pub IsDetermined : Task → Type 0
+IsDetermined (Suggest style) = ⊥
+IsDetermined task = Unit {0}
 
 -- ---- the same over files
 

@@ -40,6 +40,7 @@ Examples, beside the sources:
   sisyn lint examples/vme-read.sg
   sisyn dot examples/vme-read.sg | dot -Tsvg > vme-read.svg
   sisyn synth examples/vme-read.sg complex > vme-read.net
+  sisyn suggest examples/duplicator.sg complex > duplicator.net
   sisyn map examples/c-element-three.sg genlib examples/everyday.genlib
   sisyn resolve examples/vme-read.sg | sisyn synth /dev/stdin gc
   sisyn verilog examples/vme-read.net > vme-read.v

@@ -1,6 +1,6 @@
 //! The form of a command, and the words that have it.
 
-ghost use Rattle.std.specs.Prelude.{◌≡◌, ℕ, List, IfOk, MatchOption};
+ghost use Rattle.std.specs.Prelude.{◌≡◌, ℕ, List, IfOk, MatchOption, bytes_eq, codes};
 ghost use Rattle.si_words.specs.Loops.Reads.{words_now};
 ghost use Rattle.si_words.specs.Names.{stands_in};
 ghost use Rattle.si_tool.specs.About.{shown_slot};
@@ -19,6 +19,9 @@ pub enum Slot<'a> {
     /// The same of a file that stands alone behind the command: any word but `--help`, which asks
     /// for the command's page.
     LoneFile(&'a str),
+    /// The same of a library behind which words stand: any word but `genlib`, which tells the
+    /// format of the file behind it.
+    LibraryFile(&'a str),
     /// One of these words, which the help calls so.
     OneOf(&'a str, &'a [&'a str]),
 }
@@ -32,6 +35,7 @@ impl<'a> Slot<'a> {
             Slot::Word(word) => word,
             Slot::File(name) => name,
             Slot::LoneFile(name) => name,
+            Slot::LibraryFile(name) => name,
             Slot::OneOf(name, _) => name,
         }
     }
@@ -78,6 +82,12 @@ pub fn given_in<'w>(
                 }
                 files.push(word)?;
             }
+            Slot::LibraryFile(_) => {
+                if names_a_format(word) {
+                    return Ok(None);
+                }
+                files.push(word)?;
+            }
             Slot::OneOf(_, listed) => {
                 if !is_listed(listed, word) {
                     return Ok(None);
@@ -87,6 +97,13 @@ pub fn given_in<'w>(
         }
     }
     Ok(Some(Given { files, choices }))
+}
+
+/// Whether the word tells the format of the file behind it.
+fn names_a_format(word: &str) -> bool
+    ensures { result ≡ bytes_eq word.now (codes "genlib") }
+{
+    word == "genlib"
 }
 
 /// Whether one of the words is this one.

@@ -76,14 +76,14 @@ a graph that isn't proper.
         "lint",
         b"It writes lines on what is worth a second look, as dropped states, dead ends,
 arcs of no return, inputs that are disabled, unused signals, equal codes and
-alike states.
+alike states. Of a graph that isn't proper it writes all breaches, each with a
+shortest walk.
 
 Example:
 
   sisyn lint examples/vme-read.sg
 
-Statuses: 0, 1 nomemory, 3 readfault, 4 writefault, 5 toolong, 6 badtext, 7 of
-a graph that isn't proper.
+Statuses: 0, 1 nomemory, 3 readfault, 4 writefault, 5 toolong, 6 badtext.
 ",
     ),
     (
@@ -137,9 +137,25 @@ a graph that isn't proper, 8 unresolved.
 ",
     ),
     (
+        "suggest",
+        b"It writes a netlist as `synth` does, also of graphs of which `synth` is
+unresolved: it looks at further signals, and where `synth` has a netlist, at
+ones with fewer literals. It tells which conflict no signals can resolve.
+
+Example:
+
+  sisyn suggest examples/duplicator.sg complex > duplicator.net
+
+Statuses: 0, 1 nomemory, 3 readfault, 4 writefault, 5 toolong, 6 badtext, 7 of
+a graph that isn't proper, 8 unresolvable or unresolved.
+",
+    ),
+    (
         "map",
         b"It writes a netlist as `synth` does, with a cell of the library for each
-signal; where none fits, further signals take a gate apart.
+signal; where none fits, further signals take a gate apart. With `plain` no pin
+has a complement, so that the netlist is cells and wires. A library in a file
+genlib is named ./genlib there.
 
 Example:
 

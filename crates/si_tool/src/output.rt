@@ -30,6 +30,7 @@ use si_stages::replayed::replay_texts;
 use si_stages::report::report;
 use si_stages::synth::synth;
 use si_stages::verilog::verilog;
+use si_suggestion::suggested::suggest_text;
 use std::alloc::Global;
 
 /// The output of a command over the files of the shelf, or the refusal that is due.
@@ -79,6 +80,7 @@ fn output_of_texts<'w>(
         Task::About(topic) => Ok(about(alloc, topic, choices)?),
         Task::Tell(what) => report(alloc, what, files[0], &texts[0]),
         Task::Synth(style) => synth(alloc, style, files[0], &texts[0]),
+        Task::Suggest(style) => suggest_text(alloc, style, files[0], &texts[0]),
         Task::Verilog => verilog(alloc, files[0], &texts[0]),
         Task::TellNetlist(what) => netlist_report(alloc, what, files[0], &texts[0]),
         Task::FromGenlib => genlib(alloc, files[0], &texts[0]),

@@ -5,8 +5,9 @@ ghost use Rattle.si_tool.specs.Command as command;
 ghost use Rattle.si_tool.specs.Loops.Reads.{row_now};
 
 use crate::form::Slot;
-use crate::form::Slot::{File, LoneFile, OneOf, Word};
+use crate::form::Slot::{File, LibraryFile, LoneFile, OneOf, Word};
 use crate::task::{HelpPlace, Task, Topic};
+use si_cell::pins::Pins;
 use si_circuit::style::Style;
 use si_readings::library_format::LibraryFormat;
 use si_stages::netlist_report::NetlistReport;
@@ -37,6 +38,7 @@ const COMMANDS: &[&str] = &[
     "fold",
     "dot",
     "synth",
+    "suggest",
     "map",
     "resolve",
     "insert",
@@ -114,14 +116,40 @@ const ROWS: &[Row] = &[
         says: "a netlist of generalised C-elements",
     },
     Row {
-        task: Task::Map(LibraryFormat::Own),
+        task: Task::Suggest(Style::Complex),
+        form: &[Word("suggest"), File("F"), Word("complex")],
+        says: "the same by a wider search",
+    },
+    Row {
+        task: Task::Suggest(Style::GeneralisedC),
+        form: &[Word("suggest"), File("F"), Word("gc")],
+        says: "the same by a wider search",
+    },
+    Row {
+        task: Task::Map(LibraryFormat::Own(Pins::Any)),
         form: &[Word("map"), File("F"), File("LIB")],
         says: "a netlist of cells of a library",
     },
     Row {
-        task: Task::Map(LibraryFormat::Genlib),
+        task: Task::Map(LibraryFormat::Own(Pins::Plain)),
+        form: &[Word("map"), File("F"), LibraryFile("LIB"), Word("plain")],
+        says: "the same of cells and wires alone",
+    },
+    Row {
+        task: Task::Map(LibraryFormat::Genlib(Pins::Any)),
         form: &[Word("map"), File("F"), Word("genlib"), File("FILE")],
         says: "a netlist of gates of a library of genlib",
+    },
+    Row {
+        task: Task::Map(LibraryFormat::Genlib(Pins::Plain)),
+        form: &[
+            Word("map"),
+            File("F"),
+            Word("genlib"),
+            File("FILE"),
+            Word("plain"),
+        ],
+        says: "the same of gates and wires alone",
     },
     Row {
         task: Task::Resolve,

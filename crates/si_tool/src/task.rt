@@ -35,7 +35,10 @@ pub enum Task {
     Tell(Report),
     /// The netlist of a graph, with gates of the style.
     Synth(Style),
-    /// The netlist of a graph, of the cells of a library that is read in the format.
+    /// A netlist of a graph, with gates of the style, that a wider search may have found.
+    Suggest(Style),
+    /// The netlist of a graph, of the cells of a library that is read in the format, with pins of
+    /// its kind.
     Map(LibraryFormat),
     /// A library of genlib in the tool's own format.
     FromGenlib,

@@ -2,7 +2,7 @@
 use Rattle.std.specs.Prelude.{ℕ, List, map, Vec}
 use Rattle.std.specs.declared.alloc.Global.{Global}
 use Rattle.si_words.specs.Loops.Reads.{words_now}
-use Rattle.si_tool.specs.Command.{Request, Row, Slot, Word, File, LoneFile, OneOf}
+use Rattle.si_tool.specs.Command.{Request, Row, Slot, Word, File, LoneFile, LibraryFile, OneOf}
 use Rattle.si_tool.specs.declared.command.Command.{Command}
 use Rattle.si_tool.specs.declared.form.Slot.{Slot as HeldSlot}
 use Rattle.si_tool.specs.declared.form.Slot.TheVariants as held
@@ -17,6 +17,7 @@ abbrev pub slot_now : HeldSlot → Slot
 slot_now (held.Word word) = Word word.now
 slot_now (held.File name) = File name.now
 slot_now (held.LoneFile name) = LoneFile name.now
+slot_now (held.LibraryFile name) = LibraryFile name.now
 slot_now (held.OneOf name words) = OneOf name.now (words_now words.now)
 
 abbrev pub slots_now : List HeldSlot → List Slot

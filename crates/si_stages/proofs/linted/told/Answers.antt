@@ -1,14 +1,16 @@
-use Rattle.std.proofs.Common.{Ok}
-use Rattle.si_readings.proofs.ReadingRefusals.{stops}
-use Rattle.si_readings.proofs.StageLemmas.{stop_first}
+use Rattle.std.proofs.Common.{sym, subst}
+use Rattle.si_base.specs.Codes.{IsConnected}
 use Rattle.si_refusals.specs.Stages.{Passes}
-use Rattle.si_stages.specs.Linted.{told}
+use Rattle.si_stages.proofs.LintedLemmas.{seen_graph}
 use Rattle.si_stages.proofs.linted.told.Goals as goal
 
-pub returns-in_err-proper-clause-err : goal.returns-in_err-proper-clause-err
-returns-in_err-proper-clause-err c =
-    stops (told c.args.states.now c.args.dropped.now c.args.graph) c.from_residual.result _ c.from_residual.ensures.1
-    (stop_first _ _ _ c.in_err-proper.ensures.err)
+pub told_of-requires-clause-connected : goal.told_of-requires-clause-connected
+told_of-requires-clause-connected c = subst IsConnected
+    (sym (seen_graph c.args.graph c.in_ok-seen.seen c.in_ok-seen.ensures)) c.requires.connected
+
+pub told_of-requires-clause-names : goal.told_of-requires-clause-names
+told_of-requires-clause-names c =
+    rw (seen_graph c.args.graph c.in_ok-seen.seen c.in_ok-seen.ensures) c.requires.names
 
 pub returns-clause-ok : goal.returns-clause-ok
-returns-clause-ok c = Passes c.in_ok-proper.proper c.in_ok-proper.ensures.ok c.in_ok-output.ensures
+returns-clause-ok c = Passes c.in_ok-seen.seen c.in_ok-seen.ensures c.in_ok-output.ensures

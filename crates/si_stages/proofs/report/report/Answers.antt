@@ -4,7 +4,7 @@ use Rattle.si_readings.proofs.ReadingRefusals.{err_map, stops}
 use Rattle.si_readings.proofs.StageLemmas.{stop_first, stop_next}
 use Rattle.si_refusals.specs.Ending.{MayStop}
 use Rattle.si_refusals.specs.Stages.{Passes}
-use Rattle.si_stages.specs.Linted.{Whole, whole_now}
+use Rattle.si_stages.specs.Linted.{whole_now}
 use Rattle.si_stages.specs.Meaning.{report, report_on}
 use Rattle.si_stages.proofs.report.report.Goals as goal
 

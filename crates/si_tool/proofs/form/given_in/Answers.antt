@@ -4,9 +4,10 @@ use Rattle.std.proofs.Math.ListN.{drop_of_length-le}
 use Rattle.si_tool.specs.Command.{words_of}
 use Rattle.si_tool.specs.Loops.Reads.{slots_now, slot_now}
 use Rattle.si_tool.proofs.FormLemmas.{no_form_of_length, none_filled, other_word, word_filled, all_filled}
-use Rattle.si_tool.proofs.FormLemmas.{file_filled, lone_filled, choice_filled, true_not_false, word_same, word_other}
+use Rattle.si_tool.proofs.FormLemmas.{file_filled, lone_filled, library_filled, choice_filled, true_not_false}
+use Rattle.si_tool.proofs.FormLemmas.{word_same, word_other}
 use Rattle.si_tool.proofs.FormLemmas.{slot_at, word_at, words_differ, words_same}
-use Rattle.si_tool.proofs.form.given_in.Goals.{in-Word+else-ne, in-File+in_ok-push-in-File, in-OneOf+else-not-is_listed+in_ok-push-in-OneOf, in-LoneFile+else-eq+in_ok-push-in-LoneFile}
+use Rattle.si_tool.proofs.form.given_in.Goals.{in-Word+else-ne, in-File+in_ok-push-in-File, in-OneOf+else-not-is_listed+in_ok-push-in-OneOf, in-LoneFile+else-eq+in_ok-push-in-LoneFile, in-LibraryFile+else-names_a_format+in_ok-push-in-LibraryFile}
 use Rattle.si_tool.proofs.form.given_in.Goals as goal
 
 pub returns-then-words-form : goal.returns-then-words-form
@@ -40,6 +41,16 @@ returns-then-eq c =
     below c.index-words-place.is c.as_str-word.ensures.value in
     other_word _ _ _ _ _ _ _ _ _ c.loop-place.invariant slot word
     (λ stands. stands (word_same _ _ _ c.eq.ensures c.if-eq.true))
+
+pub returns-then-names_a_format : goal.returns-then-names_a_format
+returns-then-names_a_format c =
+    let below : c.loop-place.place < length c.args.words.now =
+    omega (arith, c.loop-place-test.true, c.if-words-form.false) in
+    let slot = slot_at c.args.form.now c.loop-place.place _ _ c.loop-place-test.true c.in-LibraryFile.is in
+    let word = word_at c.args.words.now c.loop-place.place c.index-words-place.result c.as_str-word.result.now
+    below c.index-words-place.is c.as_str-word.ensures.value in
+    other_word _ _ _ _ _ _ _ _ _ c.loop-place.invariant slot word
+    (λ stands. stands (word_same _ _ _ c.names_a_format.ensures c.if-names_a_format.true))
 
 pub returns-then-not-is_listed : goal.returns-then-not-is_listed
 returns-then-not-is_listed c =
@@ -77,6 +88,17 @@ loop-place-preserved c =
           let filled = lone_filled _ _ _ _ _ _ _ _ c.loop-place.invariant _ slot word refl refl
           (word_other _ _ _ w.eq.ensures w.if-eq.false) in
           let pushed = w.in_ok-push-in-LoneFile.ensures.items in
+          rw (
+            w.files-is,
+            w.choices-is,
+            pushed,
+            map-append (λ name. name.now) c.loop-place.files.items (c.as_str-word.result ∷ []),
+          ) filled
+      | in-LibraryFile+else-names_a_format+in_ok-push-in-LibraryFile w ↦
+          let slot = slot_at c.args.form.now c.loop-place.place _ _ c.loop-place-test.true w.in-LibraryFile.is in
+          let filled = library_filled _ _ _ _ _ _ _ _ c.loop-place.invariant _ slot word refl refl
+          (word_other _ _ _ w.names_a_format.ensures w.if-names_a_format.false) in
+          let pushed = w.in_ok-push-in-LibraryFile.ensures.items in
           rw (
             w.files-is,
             w.choices-is,

@@ -40,6 +40,20 @@ returns-in-Synth-clause-err c =
     c.index-texts-0-in-Synth.is c.deref-in-Synth.ensures.value in
     rw (c.in-Synth.is, are.0, are.1) c.synth.ensures.err
 
+pub returns-in-Suggest-clause-ok : goal.returns-in-Suggest-clause-ok
+returns-in-Suggest-clause-ok c =
+    let many = count_of_names (form_of c.args.task) c.args.files.now (words_now c.args.choices.now) c.requires.given in
+    let are = read_one c.args.files.now c.args.texts.now _ _ (rw c.in-Suggest.is at many) c.requires.texts
+    c.index-texts-0-in-Suggest.is c.deref-in-Suggest.ensures.value in
+    rw (c.in-Suggest.is, are.0, are.1) c.suggest_text.ensures.ok
+
+pub returns-in-Suggest-clause-err : goal.returns-in-Suggest-clause-err
+returns-in-Suggest-clause-err c =
+    let many = count_of_names (form_of c.args.task) c.args.files.now (words_now c.args.choices.now) c.requires.given in
+    let are = read_one c.args.files.now c.args.texts.now _ _ (rw c.in-Suggest.is at many) c.requires.texts
+    c.index-texts-0-in-Suggest.is c.deref-in-Suggest.ensures.value in
+    rw (c.in-Suggest.is, are.0, are.1) c.suggest_text.ensures.err
+
 pub returns-in-Verilog-clause-ok : goal.returns-in-Verilog-clause-ok
 returns-in-Verilog-clause-ok c =
     let many = count_of_names (form_of c.args.task) c.args.files.now (words_now c.args.choices.now) c.requires.given in
