@@ -8,9 +8,9 @@ use Rattle.si_base.specs.Order.{Before}
 use Rattle.si_graph.specs.Loops.Arcs.{AreOut}
 use Rattle.si_graph.proofs.ListMembers.{Contains-here}
 use Rattle.si_carried.specs.Lint.{IsDeadState}
-use Rattle.si_lint.specs.All.{number_place}
-use Rattle.si_lint.specs.Loops.Search.{Adds}
-use Rattle.si_lint.proofs.Alls.{adds_none, adds_one}
+use Rattle.si_told.specs.All.{number_place}
+use Rattle.si_told.specs.Loops.Search.{Adds}
+use Rattle.si_told.proofs.Alls.{adds_none, adds_one}
 
 is_dead : (g : StateGraph) (s : ℕ) (arcs : List Edge) → AreOut g s arcs → s < g.states → length arcs ≡ 0
     → IsDeadState g s

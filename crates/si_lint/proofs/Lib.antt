@@ -1,5 +1,3 @@
-pub mod Alls
-mod AllsExist
 mod UnusedLemmas
 mod DeadLemmas
 mod OneWayLemmas
@@ -7,15 +5,7 @@ mod WithdrawalLemmas
 mod SameCodeLemmas
 mod MergedLemmas
 mod UnresolvableLemmas
-mod SplitLemmas
-mod ForkSearch
-mod JumpLemmas
-mod ClashLemmas
 pub mod LintTexts
-pub mod BreachTexts
-mod ClashValues
-mod FirstTold
 mod LineLemmas
 mod TextLemmas
-mod BreachLines
 mod Examples

@@ -23,12 +23,13 @@ use Rattle.si_fold.specs.Alike.{IsLeastAlike}
 use Rattle.si_fold.specs.Folded.{IsClassOf}
 use Rattle.si_fold.proofs.FoldedExists.{some_folded}
 use Rattle.si_graph.proofs.ListMembers.{Contains-here, Contains-there, Contains-map}
-use Rattle.si_lint.specs.All.{AreAll, number_place, arc_place}
+use Rattle.si_told.specs.All.{AreAll, number_place, arc_place}
 use Rattle.si_lint.specs.Findings.{IsMerged, merged_place, IsJoinedOfFirst, IsUnresolvable, max_looked_at}
 use Rattle.si_lint.specs.Findings.{Findings, AreFindings}
-use Rattle.si_lint.specs.LintText.{max_told, AreFirstWalks, dead_line, one_way_line, kind_lines, lint_text, IsLintText}
-use Rattle.si_lint.proofs.Alls.{one_all}
-use Rattle.si_lint.proofs.AllsExist.{some_all}
+use Rattle.si_told.specs.ToldLines.{max_told, kind_lines}
+use Rattle.si_lint.specs.LintText.{AreFirstWalks, dead_line, one_way_line, lint_text, IsLintText}
+use Rattle.si_told.proofs.Alls.{one_all}
+use Rattle.si_told.proofs.AllsExist.{some_all}
 use Rattle.si_lint.proofs.MergedLemmas.{one_least, same_pair}
 use Rattle.si_lint.proofs.WithdrawalLemmas.{same_loss}
 use Rattle.si_walks.specs.declared.arcs.Arcs.TheVariants.{All, OfInputs}
@@ -38,7 +39,7 @@ use Rattle.si_walks.proofs.FirstPaths.{some_way_to, way_is_first_walk}
 use Rattle.si_walks.specs.Paths.{IsWayTo}
 use Rattle.si_walks.specs.Twins.{IsTwinConflict, max_twin_states}
 use Rattle.si_walks.proofs.TwinsDecided.{twins_or_not}
-use Rattle.si_lint.specs.Loops.Lines.{AreWays}
+use Rattle.si_told.specs.Loops.Lines.{AreWays}
 use Rattle.si_walks.proofs.SourceLemmas.{some_source_or_none}
 use Rattle.si_walks.proofs.WalkEvents.{taken}
 

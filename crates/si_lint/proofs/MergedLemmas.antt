@@ -8,8 +8,8 @@ use Rattle.si_base.specs.Order.{Before}
 use Rattle.si_fold.specs.Alike.{IsLeastAlike}
 use Rattle.si_fold.specs.Folded.{AreClasses}
 use Rattle.si_lint.specs.Findings.{IsMerged, merged_place}
-use Rattle.si_lint.specs.Loops.Search.{Adds}
-use Rattle.si_lint.proofs.Alls.{adds_none, adds_one}
+use Rattle.si_told.specs.Loops.Search.{Adds}
+use Rattle.si_told.proofs.Alls.{adds_none, adds_one}
 
 pub later_order : (c : CodedGraph) (x y : ℕ × ℕ) → IsMerged c x → IsMerged c y → x.1 < y.1
     → Before (merged_place x) (merged_place y)

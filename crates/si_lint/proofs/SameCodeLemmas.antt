@@ -13,8 +13,8 @@ use Rattle.si_conflicts.specs.Conflicts.{pairs_of}
 use Rattle.si_conflicts.specs.Loops.Chains.{IsNextInRing}
 use Rattle.si_conflicts.specs.Loops.Keys.{IsKey}
 use Rattle.si_conflicts.proofs.KeyLemmas.{apart_conflict, same_no_conflict}
-use Rattle.si_lint.specs.Loops.Search.{Adds}
-use Rattle.si_lint.proofs.Alls.{adds_none, adds_one}
+use Rattle.si_told.specs.Loops.Search.{Adds}
+use Rattle.si_told.proofs.Alls.{adds_none, adds_one}
 
 pub first_order : (c : CodedGraph) (x y : ℕ × ℕ) → IsSameCode c x → IsSameCode c y → x.0 < y.0
     → Before (pair_place x) (pair_place y)

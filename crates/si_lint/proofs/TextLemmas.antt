@@ -1,7 +1,7 @@
 -- The text, kind by kind.
-use Rattle.std.proofs.Common.{◌≡◌, ℕ, ◌∙◌, List, [], ◌∷◌, ◌++◌, All, get_or, sym, ap, arith}
+use Rattle.std.proofs.Common.{◌≡◌, ℕ, ◌∙◌, List, [], ◌∷◌, ◌++◌, sym, ap, arith}
 use Rattle.std.proofs.Common.{codes, refl, inl, inr}
-use Rattle.std.proofs.lemmas.List.{append-nil, get_or_default}
+use Rattle.std.proofs.lemmas.List.{append-nil}
 use Rattle.std.proofs.lemmas.Option.{slice_get_within}
 use Rattle.si_base.specs.declared.ids.Event.{Event}
 use Rattle.si_base.specs.declared.graph.Edge.{Edge}
@@ -12,19 +12,14 @@ use Rattle.si_base.specs.Proper.{Loss, IsConflict}
 use Rattle.si_base.specs.Words.{line, text_of}
 use Rattle.si_base.proofs.StepCodes.{step_within}
 use Rattle.si_carried.specs.Lint.{IsOneWay, Withdraws, IsSameCode}
-use Rattle.si_lint.specs.All.{AreAll}
 use Rattle.si_lint.specs.Findings.{IsMerged, IsUnresolvable, Findings, AreFindings}
-use Rattle.si_lint.specs.LintText.{unused_line, dead_line, one_way_line, loss_line, pair_line, kind_lines, told_count}
-use Rattle.si_lint.specs.LintText.{lint_text, dropped_line, told_line, IsLintText}
-use Rattle.si_lint.specs.Loops.Lines.{AddsLines, ArcIsWithin, LossIsWithin, PairIsWithin}
+use Rattle.si_lint.specs.LintText.{unused_line, dead_line, one_way_line, loss_line, pair_line, told_count}
+use Rattle.si_told.specs.ToldLines.{kind_lines}
+use Rattle.si_lint.specs.LintText.{lint_text, IsLintText}
+use Rattle.si_told.specs.ToldLines.{dropped_line, told_line}
+use Rattle.si_told.specs.Loops.Lines.{AddsLines, ArcIsWithin, LossIsWithin}
+use Rattle.si_lint.specs.Loops.Lines.{PairIsWithin}
 use Rattle.si_lint.proofs.LintTexts.{some_ways, ways_are_walks}
-
--- what holds of all that have a property holds of the items of their list
-pub all_hold : {A : Type 0} (place : A → List ℕ) (P Q : A → Type 0) (xs : List A) → AreAll place P xs
-    → ((x : A) → P x → Q x) → All Q xs
-all_hold {A} place P Q xs are to k d within =
-    let x : A = get_or xs k d in
-    to x ((are.exactly x).0 (k, within, get_or_default xs k x d within))
 
 pub arc_is_within : (g : StateGraph) → IsGraph g → (a : Edge) → IsOneWay g a → ArcIsWithin g a
 arc_is_within g is a way = step_within g a.from a.event a.to is way.step

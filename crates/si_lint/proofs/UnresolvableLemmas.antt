@@ -10,10 +10,11 @@ use Rattle.si_conflicts.specs.declared.conflicts.Pair.{Pair}
 use Rattle.si_conflicts.specs.Conflicts.{AreFirstConflicts, pairs_of}
 use Rattle.si_conflicts.proofs.OneConflictList.{first_unique}
 use Rattle.si_graph.proofs.ListMembers.{Contains-map, Contains-from_map}
-use Rattle.si_lint.specs.All.{AreAll}
+use Rattle.si_told.specs.All.{AreAll}
 use Rattle.si_lint.specs.Findings.{IsJoinedOfFirst, IsUnresolvable, max_looked_at}
-use Rattle.si_lint.specs.Loops.Search.{Adds, IsTwinConflictOf}
-use Rattle.si_lint.proofs.Alls.{adds_none, adds_one, same_are}
+use Rattle.si_told.specs.Loops.Search.{Adds}
+use Rattle.si_lint.specs.Loops.Search.{IsTwinConflictOf}
+use Rattle.si_told.proofs.Alls.{adds_none, adds_one, same_are}
 use Rattle.si_walks.specs.declared.witness.Witness.{Witness}
 use Rattle.si_walks.specs.Joined.{IsSourceOrNone, IsJoinedConflict, source_of}
 use Rattle.si_walks.specs.Twins.{AreTwinPairsOrNone, IsTwinConflict, max_twin_states}

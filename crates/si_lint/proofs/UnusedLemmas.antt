@@ -12,9 +12,10 @@ use Rattle.si_base.specs.Order.{Before}
 use Rattle.si_base.proofs.StepCodes.{no_bit, step_within}
 use Rattle.si_graph.proofs.ListMembers.{Contains-nil}
 use Rattle.si_carried.specs.Lint.{IsUnused}
-use Rattle.si_lint.specs.All.{number_place}
-use Rattle.si_lint.specs.Loops.Search.{Adds, IsSwitched}
-use Rattle.si_lint.proofs.Alls.{adds_none, adds_one}
+use Rattle.si_told.specs.All.{number_place}
+use Rattle.si_told.specs.Loops.Search.{Adds}
+use Rattle.si_lint.specs.Loops.Search.{IsSwitched}
+use Rattle.si_told.proofs.Alls.{adds_none, adds_one}
 
 -- the bits of the number are the signals that the first n arcs switch
 abbrev pub SwitchedTo : List Edge → ℕ → ℕ → Type 0

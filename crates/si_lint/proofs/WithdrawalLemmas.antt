@@ -18,15 +18,13 @@ use Rattle.si_checks.proofs.ForkOrder.{out_place, out_from, out_item}
 use Rattle.si_graph.proofs.OrderLemmas.{event_from_place}
 use Rattle.si_graph.specs.Loops.Arcs.{AreOut}
 use Rattle.si_carried.specs.Lint.{Withdraws, IsChoice, IsDisabling}
-use Rattle.si_lint.specs.All.{AreAll}
-use Rattle.si_lint.specs.Breaches.{IsLossOf}
-use Rattle.si_lint.specs.Loops.Search.{Adds}
+use Rattle.si_told.specs.All.{AreAll}
+use Rattle.si_told.specs.Loops.Search.{Adds}
 use Rattle.si_lint.specs.Loops.Withdrawals.{IsLostOf, IsBy, WithdrawsBy, WithdrawsAt, WithdrawsOf, Disables}
 use Rattle.si_lint.specs.declared.withdrawals.Kind.{Kind}
 use Rattle.si_lint.specs.declared.withdrawals.Kind.TheVariants.{Choice, Disabling}
-use Rattle.si_lint.specs.declared.withdrawals.Kind.TheVariants.{Loss as AsLoss}
-use Rattle.si_lint.proofs.Alls.{adds_none, adds_one, adds_same, none_are, same_are}
-use Rattle.si_lint.proofs.OneWayLemmas.{arc_before}
+use Rattle.si_told.proofs.Alls.{adds_none, adds_one, adds_same, same_are}
+use Rattle.si_told.proofs.ArcOrder.{arc_before}
 use Rattle.si_insert.specs.Accepted.{IsInput}
 use Rattle.si_walks.proofs.WalkEvents.{input_if_not_driven, input_not_driven}
 
@@ -226,32 +224,3 @@ all_disablings g xs are = same_are loss_place (WithdrawsBy g Disabling) (IsDisab
           after = w.after;
           is_by = is.by_driven;
         })
-
-pub all_losses : (g : StateGraph) (xs : List Loss) → IsDeterministic g
-    → AreAll loss_place (WithdrawsBy g AsLoss) xs → AreAll loss_place (IsLossOf g) xs
-all_losses g xs one are = same_are loss_place (WithdrawsBy g AsLoss) (IsLossOf g) xs there back are
-  where
-    there : (b : Loss) → WithdrawsBy g AsLoss b → IsLossOf g b
-    there b w = record {
-      deterministic = one;
-      loses = record {
-        non_input = w.lost;
-        enabled = w.enabled;
-        by_another = w.by_another;
-        after = w.after;
-      };
-    }
-
-    back : (b : Loss) → IsLossOf g b → WithdrawsBy g AsLoss b
-    back b is = (
-        let w = is.loses in
-        record {
-          lost = w.non_input;
-          enabled = w.enabled;
-          by_another = w.by_another;
-          after = w.after;
-          is_by = tt;
-        })
-
-pub no_losses : (g : StateGraph) → (IsDeterministic g → ⊥) → AreAll loss_place (IsLossOf g) []
-no_losses g not_so = none_are loss_place (IsLossOf g) (λ b is. not_so is.deterministic)

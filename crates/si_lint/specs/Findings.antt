@@ -7,7 +7,7 @@ use Rattle.si_carried.specs.Lint.{IsUnused, IsDeadState, IsOneWay, IsChoice, IsD
 use Rattle.si_carried.specs.Lint.{IsSameCode}
 use Rattle.si_conflicts.specs.Conflicts.{AreFirstConflicts}
 use Rattle.si_fold.specs.Alike.{IsLeastAlike}
-use Rattle.si_lint.specs.All.{AreAll, number_place, arc_place}
+use Rattle.si_told.specs.All.{AreAll, number_place, arc_place}
 use Rattle.si_walks.specs.Joined.{IsJoinedConflict}
 use Rattle.si_walks.specs.Twins.{IsTwinConflict, max_twin_states}
 

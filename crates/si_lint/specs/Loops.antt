@@ -1,6 +1,4 @@
 -- What the parts of a computation keep: for the proofs of the code, and in no promise of a run.
 pub mod Search
 pub mod Withdrawals
-pub mod Breaches
-pub mod Jumps
 pub mod Lines

@@ -2,7 +2,7 @@
 
 ghost use Rattle.std.specs.Prelude.{IfOk};
 ghost use Rattle.si_carried.specs.Lint.{IsDeadState};
-ghost use Rattle.si_lint.specs.All.{AreAll, number_place};
+ghost use Rattle.si_told.specs.All.{AreAll, number_place};
 
 use si_base::ids::{NoMemory, StateId};
 use si_graph::graph::Graph;

@@ -3,9 +3,12 @@
 ghost use Rattle.std.specs.Prelude.{◌≡◌, ◌<◌, ◌++◌, OnOk, All, length, take};
 ghost use Rattle.si_base.specs.Words.{line, text_of};
 ghost use Rattle.si_conflicts.specs.Conflicts.{pairs_of};
-ghost use Rattle.si_lint.specs.LintText.{max_told, kind_lines, dropped_line, unused_line};
-ghost use Rattle.si_lint.specs.LintText.{dead_line, one_way_line, loss_line, pair_line, told_line};
-ghost use Rattle.si_lint.specs.Loops.Lines.{AddsLines, ArcIsWithin, LossIsWithin, PairIsWithin};
+ghost use Rattle.si_told.specs.ToldLines.{max_told, kind_lines, dropped_line};
+ghost use Rattle.si_lint.specs.LintText.{unused_line};
+ghost use Rattle.si_lint.specs.LintText.{dead_line, one_way_line, loss_line, pair_line};
+ghost use Rattle.si_told.specs.ToldLines.{told_line};
+ghost use Rattle.si_told.specs.Loops.Lines.{AddsLines, ArcIsWithin, LossIsWithin};
+ghost use Rattle.si_lint.specs.Loops.Lines.{PairIsWithin};
 ghost use Rattle.si_walks.specs.Tree.{IsTree};
 
 use crate::withdrawals::Withdrawal;
@@ -18,44 +21,10 @@ use si_explain::events::{add_events, add_events_line};
 use si_graph::coded::Coded;
 use si_graph::graph::Graph;
 use si_sg::write::name_at;
+use si_told::lines::printed;
 use si_walks::tree::way_to;
 use si_words::writing::{add_line, add_word};
 use std::alloc::Global;
-
-/// How many lines of a kind are printed at most.
-const MAX_TOLD: usize = 1000;
-
-/// Those of a kind that are printed.
-pub(crate) fn printed<T>(found: &[T]) -> &[T]
-    ensures { result.now ≡ take max_told found.now }
-{
-    if found.len() <= MAX_TOLD {
-        return found;
-    }
-    let first = &found[..MAX_TOLD];
-    first
-}
-
-/// Adds the line of how many lines there would be.
-pub(crate) fn add_told(alloc: Global, text: &mut Text, count: u128) -> Result<(), NoMemory>
-    ensures { OnOk result (text.new ≡ text.old ++ line (told_line count)) }
-{
-    let Ok(count) = count.to_string(alloc) else {
-        return Err(NoMemory);
-    };
-    add_line(text, b"told", &[count.as_bytes()])
-}
-
-/// Adds the lines of states that were dropped.
-pub(crate) fn add_dropped(text: &mut Text, dropped: &Names) -> Result<(), NoMemory>
-    ensures { OnOk result (text.new ≡ text.old
-        ++ text_of (kind_lines dropped_line dropped.now)) }
-{
-    for k in 0..dropped.len().min(MAX_TOLD as u32) {
-        add_line(text, b"dropped", &[dropped.get(k)])?;
-    }
-    Ok(())
-}
 
 /// Adds the lines of signals that never switch.
 pub(crate) fn add_unused(text: &mut Text, signals: &[Signal], found: &[Sig]) -> Result<(), NoMemory>

@@ -6,14 +6,13 @@ ghost use Rattle.si_lint.specs.LintText.{IsLintText, told_count};
 ghost use Rattle.si_lint.specs.Loops.Lines.{findings_of};
 
 use crate::findings::{Found, findings};
-use crate::lines::{
-    add_dead, add_dropped, add_one_ways, add_pairs, add_told, add_unused, add_withdrawals,
-};
+use crate::lines::{add_dead, add_one_ways, add_pairs, add_unused, add_withdrawals};
 use si_base::ids::NoMemory;
 use si_base::names::Names;
 use si_base::text::Text;
 use si_checks::proper::Proper;
 use si_graph::coded::Coded;
+use si_told::lines::{add_dropped, add_told};
 use si_walks::tree::last_arcs;
 use std::alloc::Global;
 

@@ -4,7 +4,7 @@ ghost use Rattle.std.specs.Prelude.{◌≡◌, ◌<◌, IfOk, length, slice_inde
 ghost use Rattle.si_conflicts.specs.Conflicts.{pairs_of};
 ghost use Rattle.si_fold.specs.Alike.{IsLeastAlike};
 ghost use Rattle.si_fold.specs.Folded.{AreClasses};
-ghost use Rattle.si_lint.specs.All.{AreAll};
+ghost use Rattle.si_told.specs.All.{AreAll};
 ghost use Rattle.si_lint.specs.Findings.{IsMerged, merged_place};
 
 use si_base::ids::{NoMemory, StateId};

@@ -3,7 +3,7 @@
 ghost use Rattle.std.specs.Prelude.{◌≡◌, ◌↔◌, ◌<◌, IfOk, IsTrue, length};
 ghost use Rattle.si_carried.specs.Always.{Leads};
 ghost use Rattle.si_carried.specs.Lint.{IsOneWay};
-ghost use Rattle.si_lint.specs.All.{AreAll, arc_place};
+ghost use Rattle.si_told.specs.All.{AreAll, arc_place};
 ghost use Rattle.si_lint.specs.Loops.Search.{IsLost};
 ghost use Rattle.si_walks.specs.Distances.{AreDistances, at};
 ghost use Rattle.si_walks.specs.declared.arcs.Arcs.TheVariants.{All};

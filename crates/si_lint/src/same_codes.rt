@@ -6,7 +6,7 @@ ghost use Rattle.si_carried.specs.Lint.{IsSameCode};
 ghost use Rattle.si_conflicts.specs.Loops.Chains.{AreChains};
 ghost use Rattle.si_conflicts.specs.Conflicts.{pairs_of};
 ghost use Rattle.si_conflicts.specs.Loops.Keys.{AreKeys, key_at};
-ghost use Rattle.si_lint.specs.All.{AreAll};
+ghost use Rattle.si_told.specs.All.{AreAll};
 
 use si_base::ids::{NoMemory, StateId};
 use si_checks::proper::Proper;

@@ -3,9 +3,10 @@
 ghost use Rattle.std.specs.Prelude.{◌<◌, ◌≤◌, ◌↔◌, IfOk, OnOk, IsTrue};
 ghost use Rattle.si_base.specs.Proper.{pair_place};
 ghost use Rattle.si_conflicts.specs.Conflicts.{AreFirstConflicts, pairs_of};
-ghost use Rattle.si_lint.specs.All.{AreAll};
+ghost use Rattle.si_told.specs.All.{AreAll};
 ghost use Rattle.si_lint.specs.Findings.{IsJoinedOfFirst, IsUnresolvable, max_looked_at};
-ghost use Rattle.si_lint.specs.Loops.Search.{Adds, IsTwinConflictOf};
+ghost use Rattle.si_told.specs.Loops.Search.{Adds};
+ghost use Rattle.si_lint.specs.Loops.Search.{IsTwinConflictOf};
 ghost use Rattle.si_walks.specs.Twins.{AreTwinPairsOrNone, IsTwinConflict, max_twin_states};
 
 use si_base::ids::{NoMemory, StateId};

@@ -4,7 +4,7 @@ ghost use Rattle.std.specs.Prelude.{◌≡◌, ℕ, ◌<◌, ◌↔◌, IfOk, Al
 ghost use Rattle.si_base.specs.Bits.{bit};
 ghost use Rattle.si_base.specs.Limits.{code_width};
 ghost use Rattle.si_carried.specs.Lint.{IsUnused};
-ghost use Rattle.si_lint.specs.All.{AreAll, number_place};
+ghost use Rattle.si_told.specs.All.{AreAll, number_place};
 ghost use Rattle.si_lint.specs.Loops.Search.{IsSwitched};
 
 use si_base::graph::Edge;

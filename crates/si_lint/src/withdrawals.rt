@@ -4,8 +4,8 @@ ghost use Rattle.std.specs.Prelude.{◌≡◌, ◌↔◌, ◌<◌, IfOk, OnOk, I
 ghost use Rattle.si_base.specs.Codes.{IsDeterministic};
 ghost use Rattle.si_base.specs.Graph.{enables};
 ghost use Rattle.si_base.specs.Proper.{loss_place};
-ghost use Rattle.si_lint.specs.All.{AreAll};
-ghost use Rattle.si_lint.specs.Loops.Search.{Adds};
+ghost use Rattle.si_told.specs.All.{AreAll};
+ghost use Rattle.si_told.specs.Loops.Search.{Adds};
 ghost use Rattle.si_lint.specs.Loops.Withdrawals.{Disables, IsBy, IsLostOf, WithdrawsAt};
 ghost use Rattle.si_lint.specs.Loops.Withdrawals.{WithdrawsBy, WithdrawsOf, loss_of};
 
@@ -22,8 +22,6 @@ pub(crate) enum Kind {
     Choice,
     /// Those of signals that the circuit drives disable those of inputs.
     Disabling,
-    /// Any disable those of signals that the circuit drives.
-    Loss,
 }
 
 /// A state `s` at which the event `by` disables the enabled event `lost`.
@@ -145,7 +143,6 @@ fn is_lost(graph: &Graph, kind: &Kind, e: Event) -> bool
     match kind {
         Kind::Choice => !graph.is_driven(e.sig),
         Kind::Disabling => !graph.is_driven(e.sig),
-        Kind::Loss => graph.is_driven(e.sig),
     }
 }
 
@@ -157,6 +154,5 @@ fn is_by(graph: &Graph, kind: &Kind, e: Event) -> bool
     match kind {
         Kind::Choice => !graph.is_driven(e.sig),
         Kind::Disabling => graph.is_driven(e.sig),
-        Kind::Loss => true,
     }
 }

@@ -2,7 +2,7 @@
 use Rattle.std.proofs.Common.{◌≡◌, ℕ, List, Ok, Err, Option, None, Some, ap, ap₂, refl, sym, subst, ◌∙◌}
 use Rattle.si_base.specs.declared.fault.TextKind.{TextKind}
 use Rattle.si_base.specs.GivenGraph.{Sg}
-use Rattle.si_lint.proofs.BreachTexts.{one_breach_text, some_breach_text}
+use Rattle.si_breaches.proofs.BreachTexts.{one_breach_text, some_breach_text}
 use Rattle.si_lint.proofs.LintTexts.{one_lint_text, some_lint_text}
 use Rattle.si_pictures.specs.Seen.{graph_of}
 use Rattle.si_pictures.specs.declared.seen.Seen.{Seen}

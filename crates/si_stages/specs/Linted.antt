@@ -2,7 +2,7 @@
 use Rattle.std.specs.Prelude.{ℕ, List, Ok, Err}
 use Rattle.si_base.specs.GivenGraph.{Sg}
 use Rattle.si_base.specs.Graph.{StateGraph}
-use Rattle.si_lint.specs.BreachText.{IsBreachText}
+use Rattle.si_breaches.specs.BreachText.{IsBreachText}
 use Rattle.si_lint.specs.LintText.{IsLintText}
 use Rattle.si_pictures.specs.declared.seen.Seen.{Seen}
 use Rattle.si_pictures.specs.declared.seen.Seen.TheVariants.{Proper, Coded, Uncoded}

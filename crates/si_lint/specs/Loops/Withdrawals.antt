@@ -7,19 +7,16 @@ use Rattle.si_base.specs.Proper.{Loss}
 use Rattle.si_insert.specs.Accepted.{IsInput}
 use Rattle.si_lint.specs.declared.withdrawals.Kind.{Kind}
 use Rattle.si_lint.specs.declared.withdrawals.Kind.TheVariants.{Choice, Disabling}
-use Rattle.si_lint.specs.declared.withdrawals.Kind.TheVariants.{Loss as AsLoss}
 
 -- the event is one of those that are lost
 abbrev pub IsLostOf : StateGraph → Kind → Event → Type 0
 IsLostOf g Choice e = IsInput g.signals e.sig
 IsLostOf g Disabling e = IsInput g.signals e.sig
-IsLostOf g AsLoss e = IsNonInput g.signals e.sig
 
 -- or of those by which they are
 abbrev pub IsBy : StateGraph → Kind → Event → Type 0
 IsBy g Choice e = IsNonInput g.signals e.sig → ⊥
 IsBy g Disabling e = IsNonInput g.signals e.sig
-IsBy g AsLoss e = Unit {0}
 
 -- such an event is lost by such another
 pub record WithdrawsBy (g : StateGraph) (kind : Kind) (b : Loss) : Type 0 where

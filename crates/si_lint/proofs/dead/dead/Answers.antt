@@ -1,7 +1,7 @@
 use Rattle.std.proofs.Common.{◌∙◌, [], ap, arith}
 use Rattle.si_carried.specs.Lint.{IsDeadState}
-use Rattle.si_lint.specs.All.{number_place}
-use Rattle.si_lint.proofs.Alls.{below_none, below_more, below_all}
+use Rattle.si_told.specs.All.{number_place}
+use Rattle.si_told.proofs.Alls.{below_none, below_more, below_all}
 use Rattle.si_lint.proofs.DeadLemmas.{dead_order, dead_here, dead_pass}
 use Rattle.si_lint.proofs.dead.dead.Goals as goal
 use Rattle.si_lint.proofs.dead.dead.Goals.{then-is_empty+in_ok-push, else-is_empty}

@@ -3,7 +3,7 @@ use Rattle.si_base.specs.Codes.{CodedGraph, IsDeterministic}
 use Rattle.si_base.specs.Graph.{StateGraph}
 use Rattle.si_base.specs.Proper.{loss_place}
 use Rattle.si_carried.specs.Lint.{IsUnused, IsDeadState, IsOneWay, IsChoice, IsDisabling}
-use Rattle.si_lint.specs.All.{AreAll, number_place, arc_place}
+use Rattle.si_told.specs.All.{AreAll, number_place, arc_place}
 use Rattle.si_lint.proofs.WithdrawalLemmas.{all_choices, all_disablings}
 use Rattle.si_lint.proofs.findings.findings.Goals as goal
 

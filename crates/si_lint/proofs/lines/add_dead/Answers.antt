@@ -1,8 +1,9 @@
+use Rattle.si_lint.proofs.LineLemmas.{way_signals}
 use Rattle.std.proofs.Common.{◌≡◌, ◌<◌, ◌∙◌, ℕ, List, arith, codes}
 use Rattle.si_base.specs.declared.ids.Event.{Event}
 use Rattle.si_explain.proofs.EventLemmas.{events_line_as}
 use Rattle.si_lint.specs.LintText.{dead_line}
-use Rattle.si_lint.proofs.LineLemmas.{walks_none, walks_more, walks_all, way_signals, printed_at}
+use Rattle.si_told.proofs.LineLemmas.{walks_none, walks_more, walks_all, printed_at}
 use Rattle.si_lint.proofs.lines.add_dead.Goals as goal
 
 pub loop-s-init : goal.loop-s-init

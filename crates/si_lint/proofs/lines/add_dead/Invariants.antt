@@ -1,6 +1,6 @@
 use Rattle.std.proofs.Common.{map, take}
 use Rattle.si_lint.specs.LintText.{dead_line}
-use Rattle.si_lint.specs.Loops.Lines.{AddsLines}
+use Rattle.si_told.specs.Loops.Lines.{AddsLines}
 use Rattle.si_lint.proofs.lines.add_dead.Given as goal
 
 abbrev pub invariant-loop-s : goal.invariant-loop-s

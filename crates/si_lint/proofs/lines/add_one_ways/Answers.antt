@@ -1,8 +1,9 @@
 use Rattle.std.proofs.Common.{◌≡◌, ◌∙◌, ℕ, List, arith}
 use Rattle.si_base.specs.declared.ids.Event.{Event}
 use Rattle.si_lint.specs.LintText.{one_way_line}
-use Rattle.si_lint.specs.Loops.Lines.{ArcIsWithin}
-use Rattle.si_lint.proofs.LineLemmas.{walks_none, walks_more, walks_all, way_signals, printed_at, one_way_as}
+use Rattle.si_told.specs.Loops.Lines.{ArcIsWithin}
+use Rattle.si_told.proofs.LineLemmas.{walks_none, walks_more, walks_all, printed_at}
+use Rattle.si_lint.proofs.LineLemmas.{one_way_as, way_signals}
 use Rattle.si_lint.proofs.lines.add_one_ways.Goals as goal
 
 pub loop-arc-init : goal.loop-arc-init

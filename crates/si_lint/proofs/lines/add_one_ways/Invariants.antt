@@ -1,6 +1,6 @@
 use Rattle.std.proofs.Common.{map, take}
 use Rattle.si_lint.specs.LintText.{one_way_line}
-use Rattle.si_lint.specs.Loops.Lines.{AddsLines}
+use Rattle.si_told.specs.Loops.Lines.{AddsLines}
 use Rattle.si_lint.proofs.lines.add_one_ways.Given as goal
 
 abbrev pub invariant-loop-arc : goal.invariant-loop-arc

@@ -2,7 +2,8 @@ use Rattle.std.proofs.Common.{ℕ, ◌∙◌, ◌++◌, ◌∷◌, [], List, len
 use Rattle.si_base.specs.Words.{line}
 use Rattle.si_conflicts.specs.declared.conflicts.Pair.{Pair}
 use Rattle.si_lint.specs.LintText.{pair_line}
-use Rattle.si_lint.proofs.LineLemmas.{lines_none, lines_more, lines_all, lines_of_named, pair_at}
+use Rattle.si_told.proofs.LineLemmas.{lines_none, lines_more, lines_all}
+use Rattle.si_lint.proofs.LineLemmas.{lines_of_named, pair_at}
 use Rattle.si_lint.proofs.lines.add_pairs.Goals as goal
 
 abbrev line_of : List ℕ → List (List ℕ) → Pair → List (List ℕ)

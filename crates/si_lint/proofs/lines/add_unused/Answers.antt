@@ -1,7 +1,7 @@
 use Rattle.std.proofs.Common.{◌∙◌, ◌++◌, ◌∷◌, [], List, ℕ, ap, codes}
 use Rattle.si_base.specs.Words.{line}
 use Rattle.si_lint.specs.LintText.{unused_line}
-use Rattle.si_lint.proofs.LineLemmas.{lines_none, lines_more, lines_all}
+use Rattle.si_told.proofs.LineLemmas.{lines_none, lines_more, lines_all}
 use Rattle.si_lint.proofs.lines.add_unused.Goals as goal
 
 pub loop-a-init : goal.loop-a-init

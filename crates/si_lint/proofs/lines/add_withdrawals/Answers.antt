@@ -2,8 +2,9 @@ use Rattle.std.proofs.Common.{◌≡◌, ◌∙◌, ap, sym, subst, arith}
 use Rattle.si_base.specs.Graph.{StateGraph}
 use Rattle.si_base.specs.Proper.{Loss}
 use Rattle.si_lint.specs.LintText.{loss_line}
-use Rattle.si_lint.specs.Loops.Lines.{LossIsWithin}
-use Rattle.si_lint.proofs.LineLemmas.{lines_none, lines_more, lines_all, printed_at, two_small, loss_as}
+use Rattle.si_told.specs.Loops.Lines.{LossIsWithin}
+use Rattle.si_told.proofs.LineLemmas.{lines_none, lines_more, lines_all, printed_at, two_small}
+use Rattle.si_lint.proofs.LineLemmas.{loss_as}
 use Rattle.si_lint.proofs.lines.add_withdrawals.Goals as goal
 
 pub loop-b-init : goal.loop-b-init

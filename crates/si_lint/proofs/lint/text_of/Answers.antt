@@ -2,10 +2,12 @@ use Rattle.std.proofs.Common.{◌<◌, ◌∙◌, ap, arith}
 use Rattle.si_base.specs.Graph.{StateGraph}
 use Rattle.si_base.specs.Proper.{loss_place, pair_place}
 use Rattle.si_carried.specs.Lint.{IsDeadState, IsOneWay, IsChoice, IsDisabling, IsSameCode}
-use Rattle.si_lint.specs.All.{number_place, arc_place}
+use Rattle.si_told.specs.All.{number_place, arc_place}
 use Rattle.si_lint.specs.Findings.{IsMerged, merged_place, IsUnresolvable}
-use Rattle.si_lint.specs.Loops.Lines.{findings_of, ArcIsWithin, LossIsWithin}
-use Rattle.si_lint.proofs.TextLemmas.{all_hold, arc_is_within, loss_is_within, same_is_within, merged_is_within}
+use Rattle.si_lint.specs.Loops.Lines.{findings_of}
+use Rattle.si_told.specs.Loops.Lines.{ArcIsWithin, LossIsWithin}
+use Rattle.si_told.proofs.Alls.{all_hold}
+use Rattle.si_lint.proofs.TextLemmas.{arc_is_within, loss_is_within, same_is_within, merged_is_within}
 use Rattle.si_lint.proofs.TextLemmas.{unresolvable_is_within, text_by_calls}
 use Rattle.si_lint.proofs.lint.text_of.Goals as goal
 

@@ -2,7 +2,7 @@ use Rattle.std.proofs.Common.{◌∙◌, [], ap, arith}
 use Rattle.si_base.specs.Graph.{StateGraph}
 use Rattle.si_conflicts.specs.Conflicts.{pairs_of}
 use Rattle.si_lint.specs.Findings.{IsMerged, merged_place}
-use Rattle.si_lint.proofs.Alls.{below_none, below_more, below_all}
+use Rattle.si_told.proofs.Alls.{below_none, below_more, below_all}
 use Rattle.si_lint.proofs.MergedLemmas.{later_order, merged_here, merged_pass, merged_within}
 use Rattle.si_lint.proofs.SameCodeLemmas.{pushed_pair}
 use Rattle.si_lint.proofs.merged.merged_by.Goals as goal

@@ -1,8 +1,8 @@
 use Rattle.std.proofs.Common.{◌∙◌, [], ap, sym}
 use Rattle.std.proofs.lemmas.Bool.{true≢false}
 use Rattle.si_carried.specs.Lint.{IsOneWay}
-use Rattle.si_lint.specs.All.{arc_place}
-use Rattle.si_lint.proofs.Alls.{all_added, first_none, first_more, first_all}
+use Rattle.si_told.specs.All.{arc_place}
+use Rattle.si_told.proofs.Alls.{all_added, first_none, first_more, first_all}
 use Rattle.si_lint.proofs.OneWayLemmas.{IsThat, one_way_order, arc_within, one_way_here, one_way_pass, one_way_each}
 use Rattle.si_lint.proofs.one_way.one_way.Goals as goal
 use Rattle.si_lint.proofs.one_way.one_way.Goals.{then-is_lost+in_ok-push, else-is_lost}

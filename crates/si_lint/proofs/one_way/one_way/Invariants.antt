@@ -1,7 +1,7 @@
 use Rattle.std.proofs.Common.{[]}
 use Rattle.si_carried.specs.Lint.{IsOneWay}
-use Rattle.si_lint.specs.All.{arc_place}
-use Rattle.si_lint.specs.Loops.Search.{Adds, IsOfFirst}
+use Rattle.si_told.specs.All.{arc_place}
+use Rattle.si_told.specs.Loops.Search.{Adds, IsOfFirst}
 use Rattle.si_lint.proofs.OneWayLemmas.{IsThat}
 use Rattle.si_lint.proofs.one_way.one_way.Given as goal
 

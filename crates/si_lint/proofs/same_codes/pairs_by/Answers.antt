@@ -6,7 +6,7 @@ use Rattle.si_carried.specs.Lint.{IsSameCode}
 use Rattle.si_conflicts.specs.Loops.Chains.{IsNextInRing}
 use Rattle.si_conflicts.specs.Conflicts.{pairs_of}
 use Rattle.si_conflicts.specs.Loops.Keys.{key_at}
-use Rattle.si_lint.proofs.Alls.{below_none, below_more, below_all}
+use Rattle.si_told.proofs.Alls.{below_none, below_more, below_all}
 use Rattle.si_lint.proofs.SameCodeLemmas.{first_order, ring_within, pushed_pair, same_here, same_pass}
 use Rattle.si_lint.proofs.same_codes.pairs_by.Goals as goal
 use Rattle.si_lint.proofs.same_codes.pairs_by.Goals.{then-is_same+in_ok-push, else-is_same}

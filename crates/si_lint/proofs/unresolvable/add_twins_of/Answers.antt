@@ -4,7 +4,7 @@ use Rattle.si_base.specs.Graph.{StateGraph}
 use Rattle.si_base.specs.Proper.{pair_place}
 use Rattle.si_conflicts.specs.Conflicts.{pairs_of}
 use Rattle.si_lint.specs.Loops.Search.{IsTwinConflictOf}
-use Rattle.si_lint.proofs.Alls.{below_none, below_more, adds_same}
+use Rattle.si_told.proofs.Alls.{below_none, below_more, adds_same}
 use Rattle.si_lint.proofs.UnresolvableLemmas.{pushed_pair, twins_by_second, twin_here, twin_pass, twins_below}
 use Rattle.si_lint.proofs.unresolvable.add_twins_of.Goals as goal
 use Rattle.si_lint.proofs.unresolvable.add_twins_of.Goals.{then-is_twin_conflict+in_ok-push, else-is_twin_conflict}

@@ -2,7 +2,7 @@ use Rattle.std.proofs.Common.{◌∙◌, [], ap}
 use Rattle.si_base.specs.Proper.{pair_place}
 use Rattle.si_conflicts.specs.Conflicts.{pairs_of}
 use Rattle.si_lint.specs.Findings.{IsJoinedOfFirst}
-use Rattle.si_lint.proofs.Alls.{all_added, first_none, first_more, first_all}
+use Rattle.si_told.proofs.Alls.{all_added, first_none, first_more, first_all}
 use Rattle.si_lint.proofs.UnresolvableLemmas.{IsOf, pairs_order, pair_states, unresolvable_here, unresolvable_pass}
 use Rattle.si_lint.proofs.UnresolvableLemmas.{unresolvable_each, pushed_pair}
 use Rattle.si_lint.proofs.unresolvable.joined_of.Goals as goal

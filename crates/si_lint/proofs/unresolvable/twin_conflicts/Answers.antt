@@ -2,7 +2,7 @@ use Rattle.std.proofs.Common.{◌∙◌, [], ap, arith}
 use Rattle.si_base.specs.Graph.{StateGraph}
 use Rattle.si_base.specs.Proper.{pair_place}
 use Rattle.si_conflicts.specs.Conflicts.{pairs_of}
-use Rattle.si_lint.proofs.Alls.{below_none, below_more, below_all}
+use Rattle.si_told.proofs.Alls.{below_none, below_more, below_all}
 use Rattle.si_lint.proofs.UnresolvableLemmas.{twins_by_first, twins_below}
 use Rattle.si_walks.specs.Twins.{IsTwinConflict}
 use Rattle.si_lint.proofs.unresolvable.twin_conflicts.Goals as goal

@@ -1,8 +1,8 @@
 use Rattle.std.proofs.Common.{◌∙◌, List, [], length, ap, sym, arith}
 use Rattle.si_base.specs.declared.graph.Signal.{Signal}
 use Rattle.si_carried.specs.Lint.{IsUnused}
-use Rattle.si_lint.specs.All.{number_place}
-use Rattle.si_lint.proofs.Alls.{below_none, below_more, below_all}
+use Rattle.si_told.specs.All.{number_place}
+use Rattle.si_told.proofs.Alls.{below_none, below_more, below_all}
 use Rattle.si_lint.proofs.UnusedLemmas.{small_signals, unused_order, unused_here, unused_pass}
 use Rattle.si_lint.proofs.unused.unused.Goals as goal
 use Rattle.si_lint.proofs.unused.unused.Goals.{then-not-get+in_ok-push, else-not-get}

@@ -4,7 +4,7 @@ use Rattle.si_base.specs.Proper.{loss_place}
 use Rattle.si_base.proofs.GraphSteps.{enables-step}
 use Rattle.si_checks.proofs.ForkOrder.{out_signal, out_item}
 use Rattle.si_lint.specs.Loops.Withdrawals.{WithdrawsAt, IsOfLost}
-use Rattle.si_lint.proofs.Alls.{first_none, first_more, first_all}
+use Rattle.si_told.proofs.Alls.{first_none, first_more, first_all}
 use Rattle.si_lint.proofs.WithdrawalLemmas.{at_order, at_here, at_pass, at_each}
 use Rattle.si_lint.proofs.withdrawals.add_at.Goals as goal
 

@@ -1,5 +1,5 @@
 use Rattle.si_base.specs.Proper.{loss_place}
-use Rattle.si_lint.specs.Loops.Search.{Adds, IsOfFirst}
+use Rattle.si_told.specs.Loops.Search.{Adds, IsOfFirst}
 use Rattle.si_lint.specs.Loops.Withdrawals.{WithdrawsAt, IsOfLost}
 use Rattle.si_lint.proofs.withdrawals.add_at.Given as goal
 

@@ -2,7 +2,7 @@ use Rattle.std.proofs.Common.{◌≡◌, ◌∙◌, ◌++◌, ◌∷◌, [], ap,
 use Rattle.si_base.specs.Proper.{Loss, loss_place}
 use Rattle.si_checks.proofs.ForkOrder.{out_signal, out_item}
 use Rattle.si_lint.specs.Loops.Withdrawals.{WithdrawsOf, IsOfCause}
-use Rattle.si_lint.proofs.Alls.{first_none, first_more, first_all}
+use Rattle.si_told.proofs.Alls.{first_none, first_more, first_all}
 use Rattle.si_lint.proofs.WithdrawalLemmas.{of_order, of_here, of_pass, of_each}
 use Rattle.si_lint.proofs.withdrawals.add_of.Goals as goal
 use Rattle.si_lint.proofs.withdrawals.add_of.Goals.{in-Some+in_ok-push, in_default}

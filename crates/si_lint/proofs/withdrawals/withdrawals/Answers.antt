@@ -1,7 +1,7 @@
 use Rattle.std.proofs.Common.{[], arith}
 use Rattle.si_base.specs.Proper.{loss_place}
 use Rattle.si_lint.specs.Loops.Withdrawals.{WithdrawsBy}
-use Rattle.si_lint.proofs.Alls.{below_none, below_more, below_all}
+use Rattle.si_told.proofs.Alls.{below_none, below_more, below_all}
 use Rattle.si_lint.proofs.WithdrawalLemmas.{state_order, state_within}
 use Rattle.si_lint.proofs.withdrawals.withdrawals.Goals as goal
 

@@ -1,6 +1,6 @@
 use Rattle.std.proofs.Common.{[]}
 use Rattle.si_base.specs.Proper.{loss_place}
-use Rattle.si_lint.specs.Loops.Search.{Adds, IsBelow}
+use Rattle.si_told.specs.Loops.Search.{Adds, IsBelow}
 use Rattle.si_lint.specs.Loops.Withdrawals.{WithdrawsBy}
 use Rattle.si_lint.proofs.withdrawals.withdrawals.Given as goal
 

@@ -1,0 +1,4 @@
+pub mod Breaches
+pub mod BreachText
+pub mod Laws
+pub mod Loops

@@ -1,0 +1,4 @@
+pub mod Alls
+pub mod AllsExist
+pub mod ArcOrder
+pub mod LineLemmas
