@@ -3,3 +3,4 @@ pub mod Stages
 pub mod Ending
 pub mod ExitStatus
 pub mod Rejection
+pub mod Uncomposed

@@ -5,3 +5,4 @@ pub mod breach;
 pub mod refusals;
 pub mod rejection;
 pub mod status;
+pub mod uncomposed;

@@ -51,4 +51,4 @@ pub record IsNotFound (given : CodedGraph) (l : History) (pair : ℕ × ℕ) : T
 abbrev pub ShowsUnsuggested : CodedGraph → Unsuggested → Type 0
 ShowsUnsuggested given NoMemory = Unit {0}
 ShowsUnsuggested given (Never p q) = IsFirst pair_place (IsNeverResolved given) (p, q)
-ShowsUnsuggested given (NotFound lineage p q) = IsNotFound given lineage (p, q)
+ShowsUnsuggested given (NotFound lineage p q tried) = IsNotFound given lineage (p, q)

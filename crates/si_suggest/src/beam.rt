@@ -3,6 +3,7 @@
 use crate::chain::{Chain, grown};
 use crate::pairs::best_pairs;
 use crate::ranked::{Candidate, Ranked};
+use crate::targets::best_targets;
 use crate::work::Work;
 use si_base::ids::{NoMemory, StateId};
 use si_checks::proper::Proper;
@@ -11,6 +12,15 @@ use std::alloc::Global;
 
 /// The most signals that a search inserts.
 const MAX_ROUNDS: u32 = 24;
+
+/// Which insertions a search looks at.
+#[derive(Clone, Copy)]
+pub(crate) enum Reach {
+    /// Those of pairs of blocks.
+    Pairs,
+    /// Those, and those of targets that grow from blocks.
+    Targets,
+}
 
 /// A graph with the insertions that made it.
 #[derive(Drop)]
@@ -23,6 +33,7 @@ struct Item {
 /// were looked at, how many graphs are kept, and what is left of the work.
 #[derive(Drop)]
 struct Beam {
+    reach: Reach,
     items: Vec<Item>,
     found: Vec<Chain>,
     seen: Vec<u64>,
@@ -30,15 +41,33 @@ struct Beam {
     work: Work,
 }
 
+/// The chains that a search found, and how many candidates it tried.
+#[derive(Drop)]
+pub(crate) struct Found {
+    pub(crate) chains: Vec<Chain>,
+    pub(crate) tried: u64,
+}
+
+impl Found {
+    /// No chain, and nothing tried.
+    pub(crate) fn nothing(alloc: Global) -> Found {
+        Found {
+            chains: Vec::new(alloc),
+            tried: 0,
+        }
+    }
+}
+
 /// Insertions that leave no conflict in the graph, each chain as short as the shortest that was
 /// found, or longer by one. It fails only where memory runs out.
 pub(crate) fn find_chains(
     alloc: Global,
     given: &Proper,
+    reach: Reach,
     width: usize,
     work: u64,
-) -> Result<Vec<Chain>, NoMemory> {
-    let mut beam = Beam::new(alloc, given, width, work)?;
+) -> Result<Found, NoMemory> {
+    let mut beam = Beam::new(alloc, given, reach, width, work)?;
     for _ in 0..MAX_ROUNDS {
         let is_last = beam.found.len() > 0;
         beam.round(alloc)?;
@@ -46,19 +75,29 @@ pub(crate) fn find_chains(
             break;
         }
     }
-    let Beam { found, .. } = beam;
-    Ok(found)
+    let Beam { found, work, .. } = beam;
+    Ok(Found {
+        chains: found,
+        tried: work.tried(),
+    })
 }
 
 impl Beam {
     /// The graph alone.
-    fn new(alloc: Global, given: &Proper, width: usize, work: u64) -> Result<Beam, NoMemory> {
+    fn new(
+        alloc: Global,
+        given: &Proper,
+        reach: Reach,
+        width: usize,
+        work: u64,
+    ) -> Result<Beam, NoMemory> {
         let mut items = Vec::new(alloc);
         items.push(Item {
             graph: given.copy(alloc)?,
             chain: Chain::none(alloc),
         })?;
         Ok(Beam {
+            reach,
             items,
             found: Vec::new(alloc),
             seen: Vec::new(alloc),
@@ -82,7 +121,15 @@ impl Beam {
         let Some(item) = self.items.get(k) else {
             return Ok(());
         };
-        for candidate in best_pairs(alloc, &item.graph, k, self.width, &mut self.work)? {
+        let list = candidates(
+            alloc,
+            self.reach,
+            &item.graph,
+            k,
+            self.width,
+            &mut self.work,
+        )?;
+        for candidate in list {
             if candidate.left == 0 {
                 self.found.push(item.chain.and(alloc, &candidate.classes)?)?;
             } else {
@@ -125,6 +172,23 @@ impl Beam {
         next.push(Item { graph, chain })?;
         Ok(())
     }
+}
+
+/// So many of the best insertions of each kind into the graph, which has this place in a list.
+fn candidates(
+    alloc: Global,
+    reach: Reach,
+    graph: &Proper,
+    place: usize,
+    limit: usize,
+    work: &mut Work,
+) -> Result<Vec<Candidate>, NoMemory> {
+    let mut list = best_pairs(alloc, graph, place, limit, work)?;
+    if matches!(reach, Reach::Targets) {
+        let mut grown = best_targets(alloc, graph, place, limit, work)?;
+        list.append(&mut grown)?;
+    }
+    Ok(list)
 }
 
 /// A number by which graphs are told apart: of graphs with one number the later ones are left out.

@@ -46,7 +46,7 @@ fn wants(class: Class, value: bool) -> bool {
 }
 
 /// The states at which the new signal is to have the value.
-fn wanted(
+pub(crate) fn wanted(
     alloc: Global,
     states: u32,
     classes: &[Class],
@@ -131,7 +131,7 @@ fn put_past(graph: &Graph, set: &mut StateSet, arc: &Edge, beside: &Edge) -> boo
 }
 
 /// Adds a state, and tells whether it is new.
-fn put(set: &mut StateSet, s: StateId) -> bool {
+pub(crate) fn put(set: &mut StateSet, s: StateId) -> bool {
     if set.size() <= s.0 || set.has(s) {
         return false;
     }

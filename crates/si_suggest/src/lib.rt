@@ -14,5 +14,6 @@ mod pairs;
 mod ranked;
 mod sided;
 pub mod suggest;
+mod targets;
 mod trials;
 mod work;

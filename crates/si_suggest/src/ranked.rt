@@ -66,6 +66,11 @@ impl Ranked {
         self.list.len()
     }
 
+    /// The insertions so far, in their order.
+    pub(crate) fn list(&self) -> &[Candidate] {
+        self.list.as_slice()
+    }
+
     /// The insertions, in their order.
     pub(crate) fn into_list(self) -> Vec<Candidate> {
         let Ranked { list, .. } = self;

@@ -41,7 +41,7 @@ pub(crate) fn sided_blocks(alloc: Global, graph: &Proper) -> Result<Vec<Sided>, 
 }
 
 /// The blocks of the graph.
-fn all_blocks(alloc: Global, graph: &Proper) -> Result<Vec<Block>, NoMemory>
+pub(crate) fn all_blocks(alloc: Global, graph: &Proper) -> Result<Vec<Block>, NoMemory>
     ensures { IfOk result (λ list. AreBlocks graph.now list.items) }
 {
     let components = components(alloc, graph.coded())?;
@@ -78,7 +78,6 @@ fn add_sided(
 }
 
 impl Sided {
-    /// Whether no state is in both blocks.
     /// How many states the graph has.
     pub(crate) fn size(&self) -> u64 {
         self.sides.size() as u64

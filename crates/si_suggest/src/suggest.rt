@@ -9,7 +9,7 @@ ghost use Rattle.si_insert.specs.Lineage.{AllGiven};
 ghost use Rattle.si_suggest.specs.Suggested.{IsSuggested, ShowsUnsuggested};
 ghost use Rattle.si_suggest.specs.Loops.ByRule.{ShowsByRule};
 
-use crate::beam::find_chains;
+use crate::beam::{Found, Reach, find_chains};
 use crate::chain::Chain;
 use crate::greedy::least_by_rule;
 use crate::never::first_never;
@@ -35,11 +35,13 @@ pub enum Unsuggested {
         p: StateId,
         q: StateId,
     },
-    /// The rule ends at this conflict of the lineage's current graph, and nothing else was found.
+    /// The rule ends at this conflict of the lineage's current graph, and nothing else was found
+    /// among so many candidates.
     NotFound {
         lineage: Lineage,
         p: StateId,
         q: StateId,
+        tried: u64,
     },
 }
 
@@ -83,7 +85,7 @@ pub fn suggest(
     if let Some((p, q)) = first_never(alloc, given.coded())? {
         return Err(Unsuggested::Never { p, q });
     }
-    let chains = chains_for(alloc, given)?;
+    let Found { chains, tried } = chains_for(alloc, given)?;
     match by_rule(alloc, given, model, states, style)? {
         ByRule::Done(first) => {
             let circuit = lighter_than(alloc, given, first, &chains, model, states, style)?;
@@ -92,7 +94,12 @@ pub fn suggest(
         ByRule::Stuck { lineage, p, q } => {
             match lightest(alloc, given, None, &chains, model, states, style)? {
                 Some(found) => Ok(found),
-                None => Err(Unsuggested::NotFound { lineage, p, q }),
+                None => Err(Unsuggested::NotFound {
+                    lineage,
+                    p,
+                    q,
+                    tried,
+                }),
             }
         }
     }
@@ -172,6 +179,12 @@ fn stuck(lineage: Lineage, cause: Stuck) -> Result<ByRule, NoMemory>
 /// A graph with more states is searched by the rule alone.
 const MAX_SEARCHED: u32 = 10_000;
 
+/// In a graph with more states no targets are grown.
+const MAX_GROWN: u32 = 300;
+
+/// How many graphs a search by targets keeps.
+const WIDTH_OF_TARGETS: usize = 12;
+
 /// How many graphs a search keeps, by the number of states.
 fn width_for(states: u32) -> usize {
     if states <= 1000 { 20 } else { 5 }
@@ -182,20 +195,39 @@ fn work_for(states: u32) -> u64 {
     50_000_000 + states as u64 * 1_000_000
 }
 
-/// Insertions that may leave no conflict in the graph.
-fn chains_for(alloc: Global, given: &Proper) -> Result<Vec<Chain>, NoMemory> {
+/// Insertions that may leave no conflict in the graph: those of the rule, each with the least
+/// partition, and those of the search.
+fn chains_for(alloc: Global, given: &Proper) -> Result<Found, NoMemory> {
     if count(alloc, given.coded())? == 0 {
-        return Ok(Vec::new(alloc));
+        return Ok(Found::nothing(alloc));
     }
-    let states = given.coded().graph().states();
     let mut chains = Vec::new(alloc);
     if let Some(chain) = least_by_rule(alloc, given)? {
         chains.push(chain)?;
     }
-    if states <= MAX_SEARCHED {
-        for chain in find_chains(alloc, given, width_for(states), work_for(states))? {
-            chains.push(chain)?;
-        }
+    let mut found = searched(alloc, given, chains.len() > 0)?;
+    chains.append(&mut found.chains)?;
+    Ok(Found {
+        chains,
+        tried: found.tried,
+    })
+}
+
+/// What a search by pairs of blocks finds; or where that is nothing, and nothing else is known,
+/// one by targets too.
+fn searched(alloc: Global, given: &Proper, is_resolved: bool) -> Result<Found, NoMemory> {
+    let states = given.coded().graph().states();
+    if states > MAX_SEARCHED {
+        return Ok(Found::nothing(alloc));
     }
-    Ok(chains)
+    let (width, work) = (width_for(states), work_for(states));
+    let pairs = find_chains(alloc, given, Reach::Pairs, width, work)?;
+    if is_resolved || pairs.chains.len() > 0 || states > MAX_GROWN {
+        return Ok(pairs);
+    }
+    let targets = find_chains(alloc, given, Reach::Targets, WIDTH_OF_TARGETS, work)?;
+    Ok(Found {
+        chains: targets.chains,
+        tried: pairs.tried.saturating_add(targets.tried),
+    })
 }
