@@ -1,0 +1,4 @@
+pub mod Names
+pub mod Compose
+pub mod Laws
+pub mod Loops

@@ -1,0 +1,185 @@
+//! From the texts of graphs to the text of the graph of all of them side by side.
+
+ghost use Rattle.std.specs.Prelude.{◌≡◌, ◌≢◌, ◌≤◌, [], flat_map, map, AllPairs, IfOk, IfErr, Ok};
+ghost use Rattle.std.specs.Prelude.{length, vec_items, Some};
+ghost use Rattle.si_composing.specs.JoinedSignals.{max_parts};
+ghost use Rattle.si_composing.specs.declared.compose.Uncomposed.TheVariants.{Signal};
+ghost use Rattle.si_refusals.specs.Ending.{MayStop, ending_of};
+ghost use Rattle.si_sg.specs.CanonicalText.{sg_text};
+ghost use Rattle.si_systems.specs.Compose as stage;
+ghost use Rattle.si_systems.specs.Compose.{cause_name};
+ghost use Rattle.si_systems.specs.Laws.{AreSound};
+ghost use Rattle.si_systems.specs.Loops.Parts.{AreGiven, AreTuplesOf, ShowsTupleOf, sgs_now};
+ghost use Rattle.si_systems.specs.Names.{composed_sg};
+ghost use Rattle.si_words.specs.Loops.Reads.{words_now};
+
+use crate::names::{joined_model, names_at, tuple_names};
+use si_base::ids::NoMemory;
+use si_base::text::{Name, Text};
+use si_base::text_key::TextKey;
+use si_composing::clash::Clash;
+use si_composing::compose::{Composed, Uncomposed, compose};
+use si_graph::coded::Coded;
+use si_readings::checks::proper_of;
+use si_readings::readings::graph_in;
+use si_refusals::refusals::Refusal;
+use si_refusals::uncomposed::NamedCause;
+use si_sg::read::Sg;
+use si_sg::write::{sign, write_sg};
+use std::alloc::Global;
+
+/// The text of the graph of all the graphs that texts give, side by side. A refusal shows the names
+/// of the texts' files.
+///
+/// # Errors
+///
+/// `BadText` with the first fault of the texts in their order, else `Improper` with the first
+/// breach of the first graph that isn't proper, else `Uncomposed` with the first cause against
+/// composing. `NoMemory` only where memory runs out.
+pub fn compose_texts<'w>(
+    alloc: Global,
+    files: &[&'w str],
+    texts: &[Vec<u8>],
+) -> Result<Text, Refusal<'w>>
+    requires few { length files.now ≤ max_parts }
+    requires texts { length texts.now ≡ length files.now }
+    ensures ok { IfOk result (λ output.
+        stage.compose (words_now files.now) (map vec_items texts.now) (Ok output)) }
+    ensures err { IfErr result (λ r. MayStop
+        (stage.compose (words_now files.now) (map vec_items texts.now)) (ending_of r)) }
+{
+    let all = joined_texts(alloc, texts)?;
+    let key = TextKey::of(all.bytes());
+    let given = graphs_in(alloc, files, texts)?;
+    let parts = parts_of(alloc, &given)?;
+    composition(alloc, key, &given, &parts)
+}
+
+/// All texts in one.
+fn joined_texts(alloc: Global, texts: &[Vec<u8>]) -> Result<Text, NoMemory>
+    ensures { IfOk result (λ text. text ≡ flat_map vec_items texts.now) }
+{
+    let mut all = Text::copy_of(alloc, b"")?;
+    for text in texts {
+        all.add(text)?;
+    }
+    Ok(all)
+}
+
+/// The graphs that texts give, each of its file.
+fn graphs_in<'w>(
+    alloc: Global,
+    files: &[&'w str],
+    texts: &[Vec<u8>],
+) -> Result<Vec<Sg>, Refusal<'w>>
+    requires { length texts.now ≡ length files.now }
+    ensures ok { IfOk result (λ given. stage.graphs_in (words_now files.now)
+        (map vec_items texts.now) (Ok (sgs_now given.items))) }
+    ensures err { IfErr result (λ r. MayStop
+        (stage.graphs_in (words_now files.now) (map vec_items texts.now)) (ending_of r)) }
+{
+    let mut given = Vec::new(alloc);
+    for k in 0..files.len() {
+        let file = files[k];
+        let sg = graph_in(alloc, file, &texts[k])?;
+        let Ok(()) = given.push(sg) else {
+            return Err(Refusal::NoMemory);
+        };
+    }
+    Ok(given)
+}
+
+/// The graphs with their codes, where each is proper.
+fn parts_of(alloc: Global, given: &[Sg]) -> Result<Vec<Coded>, Refusal<'static>>
+    requires { AreGiven (sgs_now given.now) }
+    ensures ok { IfOk result (λ parts. stage.parts_of (sgs_now given.now) (Ok parts.items)) }
+    ensures err { IfErr result
+        (λ r. MayStop (stage.parts_of (sgs_now given.now)) (ending_of r)) }
+{
+    let mut parts = Vec::new(alloc);
+    for sg in given {
+        let graph = sg.graph.copy(alloc)?;
+        let part = proper_of(alloc, graph, &sg.states)?;
+        let Ok(()) = parts.push(part.into_coded()) else {
+            return Err(Refusal::NoMemory);
+        };
+    }
+    Ok(parts)
+}
+
+/// The text of the graph of all the graphs side by side, of which these are the parts with their
+/// codes, or the refusal that is due.
+fn composition(
+    alloc: Global,
+    key: TextKey,
+    given: &[Sg],
+    parts: &[Coded],
+) -> Result<Text, Refusal<'static>>
+    requires few { length parts.now ≤ max_parts }
+    requires given { AreGiven (sgs_now given.now) }
+    requires sound { AreSound (sgs_now given.now) parts.now }
+    ensures ok { IfOk result
+        (λ output. stage.composition (sgs_now given.now) parts.now (Ok output)) }
+    ensures err { IfErr result
+        (λ r. MayStop (stage.composition (sgs_now given.now) parts.now) (ending_of r)) }
+{
+    match compose(alloc, key, parts) {
+        Ok(composed) => Ok(text_of(alloc, key, given, composed)?),
+        Err(cause) => {
+            let cause = named(alloc, given, cause)?;
+            Err(Refusal::Uncomposed { cause })
+        }
+    }
+}
+
+/// The text of the composed graph.
+fn text_of(alloc: Global, key: TextKey, given: &[Sg], composed: Composed) -> Result<Text, NoMemory>
+    requires given { AreGiven (sgs_now given.now) }
+    requires tuples { AreTuplesOf (sgs_now given.now) composed.tuples.items }
+    requires distinct { AllPairs (λ xs ys. xs ≢ ys) composed.tuples.items }
+    requires count { composed.graph.states ≡ length composed.tuples.items }
+    ensures { IfOk result (λ text. text
+        ≡ sg_text (composed_sg (sgs_now given.now) composed.tuples.items composed.graph)) }
+{
+    let Composed { graph, tuples } = composed;
+    let model = joined_model(alloc, given)?;
+    let states = tuple_names(alloc, key, given, &tuples)?;
+    let sg = Sg {
+        model,
+        graph,
+        states,
+    };
+    write_sg(alloc, &sg)
+}
+
+/// The cause by the names of signals and states.
+fn named(alloc: Global, given: &[Sg], cause: Uncomposed) -> Result<NamedCause, NoMemory>
+    requires { ShowsTupleOf (sgs_now given.now) cause }
+    ensures { IfOk result (λ shown. cause_name (sgs_now given.now) cause ≡ Some shown) }
+{
+    match cause {
+        Uncomposed::NoMemory => Err(NoMemory),
+        Uncomposed::Signal { clash, name } => Ok(named_clash(clash, name)),
+        Uncomposed::TooMany(count) => Ok(NamedCause::Signals { count }),
+        Uncomposed::States => Ok(NamedCause::States),
+        Uncomposed::Interferes { at, name, up } => {
+            let states = names_at(alloc, given, &at)?;
+            let mut event = Text::copy_of(alloc, name.bytes())?;
+            event.add(sign(up))?;
+            Ok(NamedCause::Interferes { states, event })
+        }
+        Uncomposed::Arcs => Ok(NamedCause::Arcs),
+        Uncomposed::Constant(signal) => Ok(NamedCause::Constant { signal }),
+    }
+}
+
+/// What stands against joining the signal.
+fn named_clash(clash: Clash, signal: Name) -> NamedCause
+    ensures { cause_name [] (Signal clash signal) ≡ Some result }
+{
+    match clash {
+        Clash::Driven => NamedCause::Driven { signal },
+        Clash::Private => NamedCause::Private { signal },
+        Clash::Starts => NamedCause::Starts { signal },
+    }
+}
