@@ -3,7 +3,7 @@ _sisyn() {
   local word=${COMP_WORDS[COMP_CWORD]}
   local words= files=
   case "$COMP_CWORD ${COMP_WORDS[1]}" in
-    1\ *) words='check states regions conflicts explain lint covers fold dot synth suggest map resolve insert genlib verilog loops reset replay wave audit same exercise help --version --help -h' ;;
+    1\ *) words='check states regions conflicts explain lint covers fold dot synth suggest map resolve insert genlib verilog loops reset replay wave audit same compose exercise help --version --help -h' ;;
     '2 check') files=yes ;;
     '2 states') files=yes ;;
     '2 regions') files=yes ;;
@@ -19,9 +19,11 @@ _sisyn() {
     '3 suggest') words='complex gc' ;;
     '2 map') files=yes ;;
     '3 map') words='genlib'; files=yes ;;
-    '4 map') words='plain'; files=yes ;;
-    '5 map') words='plain' ;;
+    '4 map') words='suggest plain'; files=yes ;;
+    '5 map') words='plain suggest' ;;
+    '6 map') words='plain' ;;
     '2 resolve') files=yes ;;
+    '3 resolve') words='suggest' ;;
     '2 insert') files=yes ;;
     '3 insert') files=yes ;;
     '2 genlib') files=yes ;;
@@ -38,8 +40,13 @@ _sisyn() {
     '3 audit') files=yes ;;
     '2 same') files=yes ;;
     '3 same') files=yes ;;
+    '2 compose') files=yes ;;
+    '3 compose') files=yes ;;
+    '4 compose') files=yes ;;
+    '5 compose') files=yes ;;
+    '6 compose') files=yes ;;
     '2 exercise') words='1 2 3 4 5 6 7 8' ;;
-    '2 help') words='check states regions conflicts explain lint covers fold dot synth suggest map resolve insert genlib verilog loops reset replay wave audit same exercise help --version' ;;
+    '2 help') words='check states regions conflicts explain lint covers fold dot synth suggest map resolve insert genlib verilog loops reset replay wave audit same compose exercise help --version' ;;
   esac
   mapfile -t COMPREPLY < <(compgen -W "$words" -- "$word"; [ -z "$files" ] || compgen -f -- "$word")
 }

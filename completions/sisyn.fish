@@ -28,10 +28,12 @@ complete -c sisyn -n 'test (count (commandline -opc)) -eq 3; and test (commandli
 complete -c sisyn -n 'test (count (commandline -opc)) -eq 1' -a 'map' -d 'a netlist of cells of a library'
 complete -c sisyn -n 'test (count (commandline -opc)) -eq 2; and test (commandline -opc)[2] = map' -F
 complete -c sisyn -n 'test (count (commandline -opc)) -eq 3; and test (commandline -opc)[2] = map' -a 'genlib' -F
-complete -c sisyn -n 'test (count (commandline -opc)) -eq 4; and test (commandline -opc)[2] = map' -a 'plain' -F
-complete -c sisyn -n 'test (count (commandline -opc)) -eq 5; and test (commandline -opc)[2] = map' -a 'plain'
+complete -c sisyn -n 'test (count (commandline -opc)) -eq 4; and test (commandline -opc)[2] = map' -a 'suggest plain' -F
+complete -c sisyn -n 'test (count (commandline -opc)) -eq 5; and test (commandline -opc)[2] = map' -a 'plain suggest'
+complete -c sisyn -n 'test (count (commandline -opc)) -eq 6; and test (commandline -opc)[2] = map' -a 'plain'
 complete -c sisyn -n 'test (count (commandline -opc)) -eq 1' -a 'resolve' -d 'the graph with its conflicts resolved'
 complete -c sisyn -n 'test (count (commandline -opc)) -eq 2; and test (commandline -opc)[2] = resolve' -F
+complete -c sisyn -n 'test (count (commandline -opc)) -eq 3; and test (commandline -opc)[2] = resolve' -a 'suggest'
 complete -c sisyn -n 'test (count (commandline -opc)) -eq 1' -a 'insert' -d 'the graph after insertions of a netlist'
 complete -c sisyn -n 'test (count (commandline -opc)) -eq 2; and test (commandline -opc)[2] = insert' -F
 complete -c sisyn -n 'test (count (commandline -opc)) -eq 3; and test (commandline -opc)[2] = insert' -F
@@ -57,8 +59,14 @@ complete -c sisyn -n 'test (count (commandline -opc)) -eq 3; and test (commandli
 complete -c sisyn -n 'test (count (commandline -opc)) -eq 1' -a 'same' -d 'whether two graphs behave alike'
 complete -c sisyn -n 'test (count (commandline -opc)) -eq 2; and test (commandline -opc)[2] = same' -F
 complete -c sisyn -n 'test (count (commandline -opc)) -eq 3; and test (commandline -opc)[2] = same' -F
+complete -c sisyn -n 'test (count (commandline -opc)) -eq 1' -a 'compose' -d 'the graph of graphs side by side'
+complete -c sisyn -n 'test (count (commandline -opc)) -eq 2; and test (commandline -opc)[2] = compose' -F
+complete -c sisyn -n 'test (count (commandline -opc)) -eq 3; and test (commandline -opc)[2] = compose' -F
+complete -c sisyn -n 'test (count (commandline -opc)) -eq 4; and test (commandline -opc)[2] = compose' -F
+complete -c sisyn -n 'test (count (commandline -opc)) -eq 5; and test (commandline -opc)[2] = compose' -F
+complete -c sisyn -n 'test (count (commandline -opc)) -eq 6; and test (commandline -opc)[2] = compose' -F
 complete -c sisyn -n 'test (count (commandline -opc)) -eq 1' -a 'exercise' -d 'the sizes of N handshakes, from 1 to 8'
 complete -c sisyn -n 'test (count (commandline -opc)) -eq 2; and test (commandline -opc)[2] = exercise' -a '1 2 3 4 5 6 7 8'
 complete -c sisyn -n 'test (count (commandline -opc)) -eq 1' -a 'help' -d 'what a command writes, and how it may end'
-complete -c sisyn -n 'test (count (commandline -opc)) -eq 2; and test (commandline -opc)[2] = help' -a 'check states regions conflicts explain lint covers fold dot synth suggest map resolve insert genlib verilog loops reset replay wave audit same exercise help --version'
+complete -c sisyn -n 'test (count (commandline -opc)) -eq 2; and test (commandline -opc)[2] = help' -a 'check states regions conflicts explain lint covers fold dot synth suggest map resolve insert genlib verilog loops reset replay wave audit same compose exercise help --version'
 complete -c sisyn -n 'test (count (commandline -opc)) -eq 1' -a '--version' -d 'the version, and what proved it'

@@ -21,6 +21,7 @@ use Rattle.si_base.specs.Netlist.{Insertion, Netlist}
 use Rattle.si_base.specs.declared.graph.Signal.{Signal}
 use Rattle.si_base.specs.declared.graph.SigKind.TheVariants.{Inserted}
 use Rattle.si_base.specs.NetlistText.{netlist_text, same_kind}
+use Rattle.si_base.specs.Proper.{HasNoConflict}
 use Rattle.si_base.specs.WellFormed.{IsNetlist}
 use Rattle.si_base.specs.Words.{is_signal_name}
 use Rattle.si_circuit.specs.Circuits.{AreStateNames, circuit_of}
@@ -215,15 +216,13 @@ pub resolved_are_synthesised : ResolvedAreSynthesised
 resolved_are_synthesised style file text refusal =
     (refused_alike style file text refusal, refused_back style file text refusal)
 
--- ---- the text of a lineage of a given graph
-module _ (text : List ℕ) (sg : Sg) (l : History) (given : IsGivenBy text sg) (is : IsResolution sg.graph l) where
-  own : IsGivenLineage sg l
-  own = given_lineage text sg l given is
-
+-- ---- the text of a lineage of a given graph that leaves no conflict
+module _ (text : List ℕ) (sg : Sg) (l : History) (given : IsGivenBy text sg) (own : IsGivenLineage sg l)
+    (free : HasNoConflict l.current.coded) where
   abbrev again : Sg
   again = current_sg sg.model sg.states l
 
-  read_again : HasFewArcs l → IsGivenBy (sg_text again) again
+  pub read_again : HasFewArcs l → IsGivenBy (sg_text again) again
   read_again few = texts_read_back sg.model sg.states l (record {
     line = own.line;
     spelled = own.spelled;
@@ -246,8 +245,7 @@ module _ (text : List ℕ) (sg : Sg) (l : History) (given : IsGivenBy text sg) (
       }
 
   resolves_itself : IsResolution again.graph (given_history coded)
-  resolves_itself =
-      own_resolution again coded is_sound (internal_is_distinct l.current.coded is.resolves.done)
+  resolves_itself = own_resolution again coded is_sound (internal_is_distinct l.current.coded free)
 
   -- with nothing inserted its netlist is that of the chosen gates
   none_spelled : (style : Style)
@@ -255,12 +253,27 @@ module _ (text : List ℕ) (sg : Sg) (l : History) (given : IsGivenBy text sg) (
   unfolding insertions_of
   none_spelled style = refl
 
+  same_gates : (style : Style) → circuit_of style again.model again.states (given_history coded)
+      ≡ internal_netlist (circuit_of style sg.model sg.states l)
+  same_gates style = none_spelled style ∙ same_netlist style sg.model (insertions_of sg.states l) l.current.coded
+
+  pub gates_again : HasFewArcs l → (style : Style) (file : List ℕ) → synth style file (sg_text again)
+      (Ok (netlist_text (internal_netlist (circuit_of style sg.model sg.states l))))
+  gates_again few style file =
+      let back = read_again few in
+      let written = ap (λ (n : Netlist). netlist_text n) (sym (same_gates style)) in
+      Passes again back (Passes (given_history coded)
+      (resolution_of again.graph again.states (given_history coded) resolves_itself)
+      (is_synthesis style (sg_text again) again (given_history coded) _ back resolves_itself written))
+
+-- where its insertions are those that resolve the graph
+module _ (text : List ℕ) (sg : Sg) (l : History) (given : IsGivenBy text sg) (is : IsResolution sg.graph l) where
+  own : IsGivenLineage sg l
+  own = given_lineage text sg l given is
+
   module _ (style : Style) where
     abbrev first : Netlist
     first = circuit_of style sg.model sg.states l
-
-    same_gates : circuit_of style again.model again.states (given_history coded) ≡ internal_netlist first
-    same_gates = none_spelled style ∙ same_netlist style sg.model (insertions_of sg.states l) l.current.coded
 
     same_output : (file output : List ℕ) → synth style file text (Ok (netlist_text first))
         → synth style file text (Ok output) → output ≡ netlist_text first
@@ -276,14 +289,13 @@ module _ (text : List ℕ) (sg : Sg) (l : History) (given : IsGivenBy text sg) (
         ∙ (reads_back first (subst IsNetlist own_text.gates_are own_text.written.is_netlist)).1
 
     made_again : HasFewArcs l → (file output resolved_file : List ℕ) → synth style file text (Ok output)
-        → synth style resolved_file (sg_text again) (Ok (netlist_text (internal_netlist (netlist_of output))))
+        → synth style resolved_file (sg_text (current_sg sg.model sg.states l))
+        (Ok (netlist_text (internal_netlist (netlist_of output))))
     made_again few file output resolved_file made =
-        let back = read_again few in
-        let written = ap (λ (n : Netlist). netlist_text (internal_netlist n)) (made_first file output made)
-        ∙ ap (λ (n : Netlist). netlist_text n) (sym same_gates) in
-        Passes again back (Passes (given_history coded)
-        (resolution_of again.graph again.states (given_history coded) resolves_itself)
-        (is_synthesis style (sg_text again) again (given_history coded) _ back resolves_itself written))
+        let Made : Netlist → Type 0 = λ n. synth style resolved_file (sg_text (current_sg sg.model sg.states l))
+        (Ok (netlist_text (internal_netlist n))) in
+        subst Made (sym (made_first file output made))
+        (gates_again text sg l given own is.resolves.done few style resolved_file)
 
 pub resolved_texts_serve : ResolvedTextsServe
 resolved_texts_serve file text resolved comes =
@@ -301,7 +313,7 @@ resolved_texts_serve file text resolved comes =
       resolves = ends.1;
       text_is = same;
       back = subst (λ (t : List ℕ). HasFewArcs l → IsGivenBy t (current_sg sg.model sg.states l)) (sym same)
-          (read_again text sg l given.1 is);
+          (read_again text sg l given.1 (given_lineage text sg l given.1 is) is.resolves.done);
       synthesised = subst (λ (t : List ℕ). HasFewArcs l → (style : Style) (file again_file output : List ℕ)
           → synth style file text (Ok output)
           → synth style again_file t (Ok (netlist_text (internal_netlist (netlist_of output))))) (sym same)

@@ -79,7 +79,7 @@ fn mapped_text(alloc: Global, given: Sg, cells: &Library) -> Result<Text, Refusa
 }
 
 /// The text of the netlist of cells for the lineage, or the first signal that fits none.
-fn cells_text(
+pub fn cells_text(
     alloc: Global,
     resolved: Resolved,
     cells: &Library,

@@ -27,7 +27,7 @@ use Rattle.si_sg.specs.GraphText.{section_of}
 use Rattle.si_sg.proofs.GivenNames.{given_named}
 use Rattle.si_sg.proofs.GivenStates.{given_states}
 use Rattle.si_suggest.specs.Suggested.{IsOffered, IsSuggested}
-use Rattle.si_suggestion.specs.Suggestion.{IsSuggestion}
+use Rattle.si_suggestion.specs.Suggestion.{IsItsCircuit, IsSuggestion}
 
 -- ---- the signals that aren't inserted
 none_kept : (trace : List TraceStep) → filter (λ x. not (is_inserted x.kind)) (new_signals trace) ≡ []
@@ -127,3 +127,14 @@ told style model states given x output line circuit suggested output_is =
       implements = offer.implements;
       light = suggested.light;
     }
+
+-- so the circuit is that of a suggestion
+pub its_circuit : (style : Style) (model : List ℕ) (states : List (List ℕ)) (given : CodedGraph) (x : LineageNetlist)
+    → IsLineage x.lineage.given x.lineage.trace x.lineage.current → IsCircuit x.lineage x.netlist
+    → IsSuggested given style model states x → IsItsCircuit style model states given x
+unfolding told
+its_circuit style model states given x line circuit suggested = record {
+  suggestion = told style model states given x (netlist_text x.netlist) line circuit suggested refl;
+  lineage_is = refl;
+  netlist_is = refl;
+}

@@ -1,13 +1,8 @@
 -- Where something is suggested, and where nothing is.
-use Rattle.std.proofs.Common.{◌≡◌, ℕ, List, Ok, Err, sym, subst, inl, inr}
-use Rattle.si_base.specs.Codes.{CodedGraph, IsCoded}
-use Rattle.si_circuit.specs.declared.style.Style.{Style}
-use Rattle.si_insert.specs.declared.lineage.TraceStep.{TraceStep}
-use Rattle.si_insert.specs.Lineage.{Current, IsLineage, given_current}
-use Rattle.si_refusals.specs.Refusal.{TextRefusal}
-use Rattle.si_resolve.specs.Trace.{EndsResolved}
+use Rattle.std.proofs.Common.{subst, inl, inr}
+use Rattle.si_base.specs.Codes.{CodedGraph}
+use Rattle.si_insert.specs.Lineage.{IsLineage, given_current}
 use Rattle.si_resolve.proofs.TraceLemmas.{ends_exclude}
-use Rattle.si_suggest.specs.Never.{IsNeverResolved}
 use Rattle.si_suggest.proofs.NeverLemmas.{never_resolved}
 use Rattle.si_suggestion.specs.Suggestion.{NeverIsNotSuggested, ResolvedIsSuggested}
 

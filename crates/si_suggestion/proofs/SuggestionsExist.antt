@@ -38,7 +38,7 @@ use Rattle.si_readings.specs.Checks.{IsSound}
 use Rattle.si_readings.specs.Laws.{HasResult}
 use Rattle.si_readings.proofs.ReadingsExist.{graph_some, proper_some}
 use Rattle.si_readings.proofs.StageLemmas.{then_some}
-use Rattle.si_refusals.specs.Refusal.{Unresolved, Unresolvable}
+use Rattle.si_refusals.specs.Refusal.{NotFound, Unresolvable}
 use Rattle.si_resolve.specs.Trace.{EndsResolved, EndsUnresolved, IsResolvingTrace}
 use Rattle.si_resolve.proofs.EndsExist.{resolving_ends}
 use Rattle.si_resolve.proofs.TraceLemmas.{resolved_is_unique, traces_are_lineages}
@@ -258,12 +258,13 @@ module _ (style : Style) (text : List ℕ) (sg : Sg) (given : IsGivenBy text sg)
           end (trace, w, inl ends) = by_rule trace w ends
           end (trace, w, inr (pair, ends)) =
               let l : History = record { given = c; trace = trace; current = w } in (
-                Err (Unresolved (current_word sg.states l pair.0) (current_word sg.states l pair.1)
-                    (insertions_of sg.states l)),
+                Err (NotFound (current_word sg.states l pair.0) (current_word sg.states l pair.1)
+                    (insertions_of sg.states l) 0),
                 inr (record {
                   lineage = l;
                   pair = pair;
                   not_found = record { may_be = none; given_is = refl; ends = ends };
+                  tried = 0;
                   refusal_is = refl;
                 }),
               )

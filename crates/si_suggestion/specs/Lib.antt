@@ -1,1 +1,3 @@
 pub mod Suggestion
+pub mod Suggested
+pub mod SuggestedLaws

@@ -8,7 +8,7 @@ use Rattle.si_base.specs.Order.{IsFirst}
 use Rattle.si_base.specs.Proper.{HasNoConflict, pair_place}
 use Rattle.si_base.specs.System.{IsFor}
 use Rattle.si_base.specs.WellFormed.{IsNetlist}
-use Rattle.si_circuit.specs.Circuits.{IsCircuit, circuit_of}
+use Rattle.si_circuit.specs.Circuits.{IsCircuit, LineageNetlist, circuit_of}
 use Rattle.si_circuit.specs.Covered.{HasPrimeGates}
 use Rattle.si_circuit.specs.Spelling.{current_word, insertions_of}
 use Rattle.si_circuit.specs.declared.style.Style.{Style}
@@ -16,7 +16,7 @@ use Rattle.si_insert.specs.declared.lineage.TraceStep.{TraceStep}
 use Rattle.si_insert.specs.Lineage.{Current, History, IsLineage, given_current}
 use Rattle.si_readings.specs.Checks.{proper}
 use Rattle.si_readings.specs.Readings.{graph_in}
-use Rattle.si_refusals.specs.Refusal.{TextRefusal, Unresolved, Unresolvable}
+use Rattle.si_refusals.specs.Refusal.{TextRefusal, NotFound, Unresolvable}
 use Rattle.si_refusals.specs.Stages.{Stage, ◌>>=◌}
 use Rattle.si_resolve.specs.Trace.{EndsResolved}
 use Rattle.si_sg.specs.CanonicalText.{state_at}
@@ -44,6 +44,13 @@ pub record IsSuggestion (style : Style) (model : List ℕ) (states : List (List 
   pub implements : Implements netlist coded.graph
   pub light : IsNoHeavier coded style model states netlist
 
+-- the circuit is that of a suggestion
+pub record IsItsCircuit (style : Style) (model : List ℕ) (states : List (List ℕ))
+    (coded : CodedGraph) (x : LineageNetlist) : Type 0 where
+  pub suggestion : IsSuggestion style model states coded (netlist_text x.netlist)
+  pub lineage_is : suggestion.lineage ≡ x.lineage
+  pub netlist_is : suggestion.netlist ≡ x.netlist
+
 -- the refusal shows the first conflict that is known to be never resolved, by the names of its
 -- states
 pub record TellsNever (states : List (List ℕ)) (coded : CodedGraph) (refusal : TextRefusal)
@@ -52,22 +59,27 @@ pub record TellsNever (states : List (List ℕ)) (coded : CodedGraph) (refusal :
   pub first : IsFirst pair_place (IsNeverResolved coded) pair
   pub refusal_is : refusal ≡ Unresolvable (state_at states pair.0) (state_at states pair.1)
 
--- the refusal shows the conflict at which the insertions of `synth` end, and these; no conflict is
--- known to be never resolved
+-- the refusal shows the conflict at which the insertions of `synth` end, and these, and how many
+-- candidates were tried, of which nothing is said; no conflict is known to be never resolved
 pub record TellsNotFound (states : List (List ℕ)) (coded : CodedGraph) (refusal : TextRefusal)
     : Type 0 where
   pub lineage : History
   pub pair : ℕ × ℕ
   pub not_found : IsNotFound coded lineage pair
-  pub refusal_is : refusal ≡ Unresolved (current_word states lineage pair.0)
-      (current_word states lineage pair.1) (insertions_of states lineage)
+  pub tried : ℕ
+  pub refusal_is : refusal ≡ NotFound (current_word states lineage pair.0)
+      (current_word states lineage pair.1) (insertions_of states lineage) tried
+
+-- why nothing is suggested
+abbrev pub TellsWhyNot : (states : List (List ℕ)) → CodedGraph → TextRefusal → Type 0
+TellsWhyNot states coded refusal =
+    TellsNever states coded refusal ⊎ TellsNotFound states coded refusal
 
 -- what is suggested for a graph of this model and with these names of its states
 abbrev pub suggestion : Style → (model : List ℕ) (states : List (List ℕ)) → CodedGraph
     → Stage TextRefusal (List ℕ)
 suggestion style model states coded (Ok output) = IsSuggestion style model states coded output
-suggestion style model states coded (Err refusal) =
-    TellsNever states coded refusal ⊎ TellsNotFound states coded refusal
+suggestion style model states coded (Err refusal) = TellsWhyNot states coded refusal
 
 abbrev pub suggest : Style → (file text : List ℕ) → Stage TextRefusal (List ℕ)
 suggest style file text = do

@@ -20,6 +20,7 @@ use si_base::ids::{NoMemory, StateId};
 use si_base::names::Names;
 use si_base::text::{Name, Text};
 use si_checks::proper::Proper;
+use si_circuit::circuit::Circuit;
 use si_circuit::spelling::{current_state_word, insertions};
 use si_circuit::style::Style;
 use si_insert::lineage::Lineage;
@@ -41,9 +42,8 @@ use std::alloc::Global;
 ///
 /// `BadText` exactly where the text has a fault, with the first, else `Improper` exactly where the
 /// graph isn't proper, with its first breach, else `Unresolvable` exactly where some conflict is
-/// known to be never resolved, with the first, else `Unresolved` only where `synth` leaves a
-/// conflict and the search found nothing, with what `synth` tells. `NoMemory` only where memory
-/// runs out.
+/// known to be never resolved, with the first, else `NotFound` only where `synth` leaves a conflict
+/// and the search found nothing, with what `synth` tells. `NoMemory` only where memory runs out.
 pub fn suggest_text<'w>(
     alloc: Global,
     style: Style,
@@ -80,11 +80,31 @@ fn suggested_for(
     ensures err { IfErr result (λ r. MayStop
         (stage.suggestion style model.now states.now given.now) (ending_of r)) }
 {
+    let circuit = suggested_circuit(alloc, style, given, model, states)?;
+    text_of(alloc, circuit.netlist())
+}
+
+/// The circuit of that netlist, or the refusal that is due.
+pub fn suggested_circuit(
+    alloc: Global,
+    style: Style,
+    given: &Proper,
+    model: &Name,
+    states: &Names,
+) -> Result<Circuit, Refusal<'static>>
+    requires given { AllGiven given.now.graph.signals }
+    requires spelled { AreSpelled model.now given.now.graph.signals }
+    requires states { AreStateNames given.now.graph states.now }
+    ensures ok { IfOk result (stage.IsItsCircuit style model.now states.now given.now) }
+    ensures err { IfErr result (λ r. MayStop
+        (stage.suggestion style model.now states.now given.now) (ending_of r)) }
+{
     match suggest(alloc, given, model, states, style) {
         Ok(circuit) => {
-            // What holds of each lineage comes with its trace.
+            // What holds of each lineage comes with its trace, and of a circuit with its netlist.
             let _trace = circuit.resolved().lineage().trace();
-            text_of(alloc, circuit.netlist())
+            let _netlist = circuit.netlist();
+            Ok(circuit)
         }
         Err(cause) => Err(refusal_for(alloc, given, states, cause)),
     }
@@ -116,7 +136,12 @@ fn refusal_for(
     let refusal = match cause {
         Unsuggested::NoMemory => return Refusal::NoMemory,
         Unsuggested::Never { p, q } => unresolvable(alloc, states, p, q),
-        Unsuggested::NotFound { lineage, p, q } => unresolved(alloc, &lineage, states, p, q),
+        Unsuggested::NotFound {
+            lineage,
+            p,
+            q,
+            tried,
+        } => not_found(alloc, &lineage, states, p, q, tried),
     };
     match refusal {
         Ok(refusal) => refusal,
@@ -142,25 +167,28 @@ fn unresolvable(
     })
 }
 
-/// The refusal that shows a conflict of the lineage's current graph, and the insertions.
-fn unresolved(
+/// The refusal that shows a conflict of the lineage's current graph, the insertions, and how many
+/// candidates were tried.
+fn not_found(
     alloc: Global,
     lineage: &Lineage,
     states: &Names,
     p: StateId,
     q: StateId,
+    tried: u64,
 ) -> Result<Refusal<'static>, NoMemory>
     requires names { length states.now ≡ lineage.now.given.graph.states }
     requires p { p < lineage.now.current.coded.graph.states }
     requires q { q < lineage.now.current.coded.graph.states }
-    ensures { IfOk result (λ r. ending_of r ≡ Answered (TextRefused (answer.Unresolved
+    ensures { IfOk result (λ r. ending_of r ≡ Answered (TextRefused (answer.NotFound
         (current_word states.now lineage.now p) (current_word states.now lineage.now q)
-        (insertions_of states.now lineage.now)))) }
+        (insertions_of states.now lineage.now) tried))) }
 {
-    Ok(Refusal::Unresolved {
+    Ok(Refusal::NotFound {
         p: current_state_word(alloc, lineage, states, p)?,
         q: current_state_word(alloc, lineage, states, q)?,
         inserts: insertions(alloc, lineage, states)?,
+        tried,
     })
 }
 

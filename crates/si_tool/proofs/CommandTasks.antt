@@ -1,49 +1,33 @@
 -- The table has a row for each task, with the form of the task.
 use Rattle.std.proofs.Common.{◌≡◌, ℕ, zero, suc, ◌+◌, ◌-◌, ◌<◌, ◌≤◌, List, [], ◌∷◌, length, map, get_or, refl, sym}
-use Rattle.std.proofs.Common.{ap, subst, codes, not}
+use Rattle.std.proofs.Common.{ap, subst}
 use Rattle.std.proofs.Common.{◌∙◌, arith, inl, inr, lit≤, Bool, true, false, bytes_eq, String, Global}
 use Rattle.std.proofs.Math.ListN.{get_or-map}
 use Rattle.std.proofs.lemmas.Bool.{cases_lt}
 use Rattle.std.proofs.lemmas.Slice.Eq.{bytes_eq-Decides}
 use Rattle.std.proofs.lemmas.List.{length-map}
-use Rattle.std.specs.List.{list_any}
 use Rattle.si_circuit.specs.declared.style.Style.TheVariants.{Complex, GeneralisedC}
-use Rattle.si_cell.specs.declared.pins.Pins.TheVariants.{Any, Plain}
-use Rattle.si_readings.specs.declared.library_format.LibraryFormat.TheVariants.{Own, Genlib}
-use Rattle.si_readings.specs.declared.library_format.LibraryFormat.{LibraryFormat}
 use Rattle.si_stages.specs.declared.netlist_report.NetlistReport.TheVariants.{Loops, Reset}
 use Rattle.si_stages.specs.declared.replay_kind.ReplayReport.TheVariants.{End, Wave}
 use Rattle.si_stages.specs.declared.report_kind.Report.TheVariants.{Summary, Regions, Conflicts, Covers, Fold}
 use Rattle.si_stages.specs.declared.report_kind.Report.TheVariants.{States, Explain, Dot, Lint}
 use Rattle.si_words.specs.Names.{stands_in}
-use Rattle.si_tool.specs.Command.{Slot, Word, LoneFile, LibraryFile, OneOf, Asks, AsksNothing, HasForm, form_of}
-use Rattle.si_tool.specs.Command.{words_of}
-use Rattle.si_tool.specs.Command.{Row, digits, file_count, number_of, row_of, rows, tasks}
+use Rattle.si_tool.specs.Command.{Asks, AsksNothing, Row, digits, form_of, number_of, row_of, rows, tasks}
+use Rattle.si_tool.specs.Form.{Form, HasForm, choice_count, file_count, more_choices, more_files, words_of}
 use Rattle.si_handshakes.specs.Handshakes.{max_handshakes}
-use Rattle.si_tool.specs.Loops.Reads.{row_now, slots_now}
+use Rattle.si_tool.specs.Loops.Reads.{row_now}
+use Rattle.si_tool.specs.declared.form.Tail.TheVariants as held
+use Rattle.si_tool.specs.declared.task.LibraryKind.{LibraryKind}
+use Rattle.si_tool.specs.declared.task.LibraryKind.TheVariants.{Cells, Gates}
+use Rattle.si_tool.specs.declared.task.Topic.{Topic}
+use Rattle.si_tool.proofs.FormLemmas.{IsCount}
+use Rattle.si_tool.proofs.FormMeets.{overlaps}
 use Rattle.si_tool.specs.declared.table.Row.{Row as HeldRow}
 use Rattle.si_tool.specs.declared.task.Task.{Task}
 use Rattle.si_tool.specs.declared.task.Task.TheVariants.{About, Tell, Synth, Map, FromGenlib, Verilog, Replay, Audit}
-use Rattle.si_tool.specs.declared.task.Task.TheVariants.{TellNetlist, Resolve, Insert, Same, Exercise, Suggest}
+use Rattle.si_tool.specs.declared.task.Task.TheVariants.{TellNetlist, Resolve, Insert, Same, Compose, Exercise, Suggest}
 use Rattle.si_tool.specs.declared.task.Topic.TheVariants.{Help, Page, Version}
 use Rattle.si_tool.specs.declared.task.HelpPlace.TheVariants.{Before, Behind}
-
--- ---- the test whether some words may have both of two forms
-abbrev pub meets : Slot → Slot → Bool
-meets (Word x) (Word y) = bytes_eq x y
-meets (Word x) (LoneFile name) = not (bytes_eq x (codes "--help"))
-meets (LoneFile name) (Word y) = not (bytes_eq y (codes "--help"))
-meets (Word x) (LibraryFile name) = not (bytes_eq x (codes "genlib"))
-meets (LibraryFile name) (Word y) = not (bytes_eq y (codes "genlib"))
-meets (Word x) (OneOf name words) = stands_in words x
-meets (OneOf name words) (Word y) = stands_in words y
-meets (OneOf name words) (OneOf other others) = list_any (λ w. stands_in others w) words
-meets slot other = true
-
-abbrev pub overlaps : List Slot → List Slot → Bool
-overlaps [] [] = true
-overlaps (slot ∷ form) (other ∷ others) = elim (meets slot other) [ true ↦ overlaps form others | false ↦ false ]
-overlaps form others = false
 
 -- ---- the table has each task
 
@@ -55,7 +39,7 @@ abbrev pub IsListed : Task → Type 0
 IsListed task = (place : ℕ) × (place < length tasks) × (get_or tasks place first_task ≡ task)
 
 -- the place of the first with a form that the words of this one may have
-abbrev place_among : List Task → List Slot → ℕ
+abbrev place_among : List Task → Form → ℕ
 place_among [] form = 0
 place_among (task ∷ later) form =
     elim (overlaps (form_of task) form) [ true ↦ 0 | false ↦ suc (place_among later form) ]
@@ -81,10 +65,8 @@ each_listed (Synth Complex) = (place (Synth Complex), lit≤ tt, refl)
 each_listed (Synth GeneralisedC) = (place (Synth GeneralisedC), lit≤ tt, refl)
 each_listed (Suggest Complex) = (place (Suggest Complex), lit≤ tt, refl)
 each_listed (Suggest GeneralisedC) = (place (Suggest GeneralisedC), lit≤ tt, refl)
-each_listed (Map (Own Any)) = (place (Map (Own Any)), lit≤ tt, refl)
-each_listed (Map (Own Plain)) = (place (Map (Own Plain)), lit≤ tt, refl)
-each_listed (Map (Genlib Any)) = (place (Map (Genlib Any)), lit≤ tt, refl)
-each_listed (Map (Genlib Plain)) = (place (Map (Genlib Plain)), lit≤ tt, refl)
+each_listed (Map Cells) = (place (Map Cells), lit≤ tt, refl)
+each_listed (Map Gates) = (place (Map Gates), lit≤ tt, refl)
 each_listed Resolve = (place Resolve, lit≤ tt, refl)
 each_listed Insert = (place Insert, lit≤ tt, refl)
 each_listed FromGenlib = (place FromGenlib, lit≤ tt, refl)
@@ -95,6 +77,7 @@ each_listed (Replay End) = (place (Replay End), lit≤ tt, refl)
 each_listed (Replay Wave) = (place (Replay Wave), lit≤ tt, refl)
 each_listed Audit = (place Audit, lit≤ tt, refl)
 each_listed Same = (place Same, lit≤ tt, refl)
+each_listed Compose = (place Compose, lit≤ tt, refl)
 each_listed Exercise = (place Exercise, lit≤ tt, refl)
 
 -- ---- the rows that the code holds
@@ -123,7 +106,8 @@ task_at place = get_or tasks place first_task
 abbrev pub no_row : HeldRow
 no_row = record {
   task = About Help;
-  form = record { ref_ptr = (0, 0); now = [] };
+  places = record { ref_ptr = (0, 0); now = [] };
+  tail = held.Nothing;
   says = record { ref_ptr = (0, 0); now = [] };
 }
 
@@ -135,7 +119,7 @@ module _ (held : List HeldRow) (have_tasks : map (λ row. row.task) held ≡ tas
   task_is : (row_at held place).task ≡ task_at place
   task_is = item_is (λ (r : HeldRow). r.task) held tasks place no_row first_task have_tasks below
 
-  form_is : slots_now (row_at held place).form.now ≡ form_of (task_at place)
+  form_is : (row_now (row_at held place)).form ≡ form_of (task_at place)
   form_is =
       let same : row_now (row_at held place) ≡ get_or rows place (row_of first_task) =
       item_is row_now held rows place no_row (row_of first_task) are_rows below in
@@ -143,10 +127,10 @@ module _ (held : List HeldRow) (have_tasks : map (λ row. row.task) held ≡ tas
 
   -- words with the form of a row ask for its task
   pub asks_for_row : (words : List (String Global)) (files choices : List (List ℕ))
-      → HasForm (slots_now (row_at held place).form.now) (words_of words) files choices
+      → HasForm (row_now (row_at held place)).form (words_of words) files choices
       → Asks words (record { task = (row_at held place).task; files = files; choices = choices })
   asks_for_row words files choices has =
-      subst (λ (form : List Slot). HasForm form (words_of words) files choices) (form_is ∙ ap form_of (sym task_is)) has
+      subst (λ (form : Form). HasForm form (words_of words) files choices) (form_is ∙ ap form_of (sym task_is)) has
 
 -- ---- words ask for none of the tasks up to a place
 abbrev pub AsksNoneBefore : List (String Global) → (place : ℕ) → Type 0
@@ -156,16 +140,16 @@ AsksNoneBefore words place = (k : ℕ) → k < place → (files choices : List (
 pub asks_one_less : (words : List (String Global)) (held : List HeldRow) (place : ℕ)
     → map (λ r. r.task) held ≡ tasks → map row_now held ≡ rows → place < length held → AsksNoneBefore words place
     → ((files choices : List (List ℕ))
-    → HasForm (slots_now (row_at held place).form.now) (words_of words) files choices → ⊥)
+    → HasForm (row_now (row_at held place)).form (words_of words) files choices → ⊥)
     → AsksNoneBefore words (place + 1)
 asks_one_less words held place have_tasks are_rows below before here k within files choices has =
     elim (cases_lt k place) [
       | inl earlier ↦ before k earlier files choices has
       | inr later ↦ (
           let same : k ≡ place = omega arith in
-          let form : form_of (task_at k) ≡ slots_now (row_at held place).form.now =
+          let form : form_of (task_at k) ≡ (row_now (row_at held place)).form =
           ap (λ (n : ℕ). form_of (task_at n)) same ∙ sym (form_is held have_tasks are_rows place below) in
-          here files choices (subst (λ (f : List Slot). HasForm f (words_of words) files choices) form has)
+          here files choices (subst (λ (f : Form). HasForm f (words_of words) files choices) form has)
           )
     ]
 
@@ -179,12 +163,20 @@ asks_nothing words held place have_tasks end none request asks =
     none listed.0 (omega (arith, listed.1, many, as_many, end)) request.files request.choices
     (subst HasIt (sym listed.2) asks)
 
--- a graph and a library, in whichever format and with whichever pins, are two files
-pub two_files : (format : LibraryFormat) → file_count (form_of (Map format)) ≡ 2
-two_files (Own Any) = refl
-two_files (Own Plain) = refl
-two_files (Genlib Any) = refl
-two_files (Genlib Plain) = refl
+-- a graph and a library, however it is read, are two files
+pub two_files : (kind : LibraryKind) (count : ℕ)
+    → IsCount (file_count (form_of (Map kind)).places) (more_files (form_of (Map kind)).tail) count → IsCount 2 0 count
+two_files Cells count many = many
+two_files Gates count many = many
+
+-- the words that are chosen of what the program tells of itself are those of the places
+pub no_options : (topic : Topic) (count : ℕ)
+    → IsCount (choice_count (form_of (About topic)).places) (more_choices (form_of (About topic)).tail) count
+    → count ≡ choice_count (form_of (About topic)).places
+no_options Help count many = omega (arith, many.low, many.high)
+no_options (Page Before) count many = omega (arith, many.low, many.high)
+no_options (Page Behind) count many = omega (arith, many.low, many.high)
+no_options Version count many = omega (arith, many.low, many.high)
 
 -- ---- digits
 

@@ -1,17 +1,13 @@
 -- No two forms overlap: words ask for one command at most.
-use Rattle.std.proofs.Common.{◌≡◌, ℕ, zero, suc, ◌<◌, List, [], ◌∷◌, length, get_or, refl, sym, ap, ap₂, subst, codes}
-use Rattle.std.proofs.Common.{◌≢◌}
-use Rattle.std.proofs.Common.{◌∙◌, arith, inl, inr, Bool, true, false, ◌&&◌, ◌||◌, not, bytes_eq, String, Global}
+use Rattle.std.proofs.Common.{◌≡◌, ℕ, zero, suc, ◌<◌, List, [], ◌∷◌, length, get_or, refl, sym, ap, ap₂, subst}
+use Rattle.std.proofs.Common.{◌∙◌, arith, inl, inr, Bool, true, false, ◌&&◌, not, String, Global}
 use Rattle.std.proofs.lemmas.Bool.{cases_lt, not-true, and_parts}
-use Rattle.std.proofs.lemmas.Slice.Eq.{bytes_eq-Decides}
-use Rattle.std.specs.List.{list_all, list_any}
-use Rattle.si_words.specs.Names.{stands_in}
-use Rattle.si_tool.specs.Command.{Slot, Word, File, LoneFile, LibraryFile, OneOf, form_of, HasForm, Request, Asks}
-use Rattle.si_tool.specs.Command.{tasks}
-use Rattle.si_tool.specs.Command.{words_of}
+use Rattle.std.specs.List.{list_all}
+use Rattle.si_tool.specs.Command.{Request, Asks, form_of, tasks}
+use Rattle.si_tool.specs.Form.{HasForm, words_of}
 use Rattle.si_tool.specs.declared.task.Task.{Task}
-use Rattle.si_tool.proofs.CommandTasks.{each_listed, first_task, meets, overlaps, task_at}
-use Rattle.si_tool.proofs.FormLemmas.{Stands, with_file, with_choice, begins, not_without_words}
+use Rattle.si_tool.proofs.CommandTasks.{each_listed, first_task, task_at}
+use Rattle.si_tool.proofs.FormMeets.{both_overlap, overlaps, same_given}
 
 -- ---- the test
 abbrev none_overlaps : List Task → Bool
@@ -21,102 +17,6 @@ none_overlaps (task ∷ later) =
 
 tasks_apart : none_overlaps tasks ≡ true
 tasks_apart = refl
-
--- ---- words with both of two forms
-or_left : (a b : Bool) → a ≡ true → (a || b) ≡ true
-or_left true b holds = refl
-or_left false b holds = cc
-
-or_right : (a b : Bool) → b ≡ true → (a || b) ≡ true
-or_right true b holds = refl
-or_right false b holds = holds
-
-both_true : (a b : Bool) → a ≡ true → b ≡ true → elim a [ true ↦ b | false ↦ false ] ≡ true
-both_true true b one two = two
-both_true false b one two = one
-
-one_of_both : (words others : List (List ℕ)) (word : List ℕ) → stands_in words word ≡ true
-    → stands_in others word ≡ true → list_any (λ w. stands_in others w) words ≡ true
-one_of_both [] others word one two = cc
-one_of_both (own ∷ words) others word one two = first (bytes_eq word own) refl (one_of_both words others word)
-  where
-    first : (b : Bool) → bytes_eq word own ≡ b
-        → (stands_in words word ≡ true → stands_in others word ≡ true → list_any (λ w. stands_in others w) words ≡ true)
-        → (stands_in others own || list_any (λ w. stands_in others w) words) ≡ true
-    first true is later =
-        let same : word ≡ own = (bytes_eq-Decides word own).0 is in
-        or_left (stands_in others own) _ (subst (λ (w : List ℕ). stands_in others w ≡ true) same two)
-    first false is later = or_right (stands_in others own) _ (later (rw is at one) two)
-
-not_equal : (word other : List ℕ) → word ≢ other → not (bytes_eq word other) ≡ true
-not_equal word other differ = by (bytes_eq word other) refl
-  where
-    by : (b : Bool) → bytes_eq word other ≡ b → not b ≡ true
-    by true is = absurd (differ ((bytes_eq-Decides word other).0 is))
-    by false is = refl
-
-both_meet : (slot other : Slot) (word : List ℕ) → Stands slot word → Stands other word → meets slot other ≡ true
-both_meet (Word a) (Word b) word one two = (bytes_eq-Decides a b).1 (sym one ∙ two)
-both_meet (Word a) (File name) word one two = refl
-both_meet (Word a) (LoneFile name) word one two = not_equal a (codes "--help") (λ same. two (one ∙ same))
-both_meet (Word a) (LibraryFile name) word one two = not_equal a (codes "genlib") (λ same. two (one ∙ same))
-both_meet (Word a) (OneOf name words) word one two = rw (sym one) two
-both_meet (File name) other word one two = refl
-both_meet (LoneFile name) (Word b) word one two = not_equal b (codes "--help") (λ same. one (two ∙ same))
-both_meet (LoneFile name) (File other) word one two = refl
-both_meet (LoneFile name) (LoneFile other) word one two = refl
-both_meet (LoneFile name) (LibraryFile other) word one two = refl
-both_meet (LoneFile name) (OneOf other words) word one two = refl
-both_meet (LibraryFile name) (Word b) word one two = not_equal b (codes "genlib") (λ same. one (two ∙ same))
-both_meet (LibraryFile name) (File other) word one two = refl
-both_meet (LibraryFile name) (LoneFile other) word one two = refl
-both_meet (LibraryFile name) (LibraryFile other) word one two = refl
-both_meet (LibraryFile name) (OneOf other words) word one two = refl
-both_meet (OneOf name words) (Word b) word one two = rw (sym two) one
-both_meet (OneOf name words) (File other) word one two = refl
-both_meet (OneOf name words) (LoneFile other) word one two = refl
-both_meet (OneOf name words) (LibraryFile other) word one two = refl
-both_meet (OneOf name words) (OneOf other others) word one two = one_of_both words others word one two
-
-both_overlap : (form other : List Slot) (words files choices others later : List (List ℕ))
-    → HasForm form words files choices → HasForm other words others later → overlaps form other ≡ true
-both_overlap [] [] words files choices others later one two = refl
-both_overlap [] (slot ∷ other) words files choices others later one two =
-    absurd (not_without_words slot other others later (subst (λ (ws : List (List ℕ)). HasForm (slot ∷ other) ws others later) one.0 two))
-both_overlap (slot ∷ form) [] words files choices others later one two =
-    absurd (not_without_words slot form files choices (subst (λ (ws : List (List ℕ)). HasForm (slot ∷ form) ws files choices) two.0 one))
-both_overlap (slot ∷ form) (place ∷ other) [] files choices others later one two =
-    absurd (not_without_words slot form files choices one)
-both_overlap (slot ∷ form) (place ∷ other) (word ∷ words) files choices others later one two =
-    let first = begins slot form word words files choices one in
-    let second = begins place other word words others later two in
-    let rest = both_overlap form other words first.later_files first.later_choices second.later_files
-    second.later_choices first.has second.has in
-    both_true (meets slot place) (overlaps form other) (both_meet slot place word first.stands second.stands) rest
-
--- words name the files of one form in one way, and choose in one way
-nothing_given : (words files choices : List (List ℕ)) → HasForm [] words files choices → (files ≡ []) × (choices ≡ [])
-nothing_given words [] [] has = (refl, refl)
-nothing_given words [] (choice ∷ choices) has = absurd has.1
-nothing_given words (file ∷ files) choices has = absurd has.1
-
-same_given : (form : List Slot) (words files choices others later : List (List ℕ)) → HasForm form words files choices
-    → HasForm form words others later → (files ≡ others) × (choices ≡ later)
-same_given [] words files choices others later one two =
-    let none = nothing_given words files choices one in
-    let also = nothing_given words others later two in
-    (none.0 ∙ sym also.0, none.1 ∙ sym also.1)
-same_given (slot ∷ form) [] files choices others later one two = absurd (not_without_words slot form files choices one)
-same_given (slot ∷ form) (word ∷ words) files choices others later one two =
-    let first = begins slot form word words files choices one in
-    let second = begins slot form word words others later two in
-    let rest = same_given form words first.later_files first.later_choices second.later_files second.later_choices
-    first.has second.has in
-    let file_of : List (List ℕ) → List (List ℕ) = λ names. with_file slot word names in
-    let choice_of : List (List ℕ) → List (List ℕ) = λ names. with_choice slot word names in (
-      first.files_are ∙ ap file_of rest.0 ∙ sym second.files_are,
-      first.choices_are ∙ ap choice_of rest.1 ∙ sym second.choices_are,
-    )
 
 -- ---- what the test shows
 pub one_of_all : (p : Task → Bool) (later : List Task) (place : ℕ) → list_all p later ≡ true → place < length later

@@ -1,10 +1,11 @@
 -- The help shows each command; and the texts that are put together of lines.
 use Rattle.std.proofs.Common.{◌≡◌, ◌+◌, ◌-◌, ◌++◌, ◌<◌, ◌≤◌, ℕ, suc, List, [], ◌∷◌, length, map, take, drop, get_or}
-use Rattle.std.proofs.Common.{◌∙◌, refl, sym, ap, ap₂, subst, arith, append_assoc, codes, Bool, true, false, bytes_eq}
+use Rattle.std.proofs.Common.{◌∙◌, refl, sym, ap, ap₂, subst, arith, append_assoc, codes, Bool, true, false, Bor, add-one, Result, Ok, Err, OnOk}
 use Rattle.std.specs.Prelude.{if◌then◌else◌}
-use Rattle.std.proofs.Math.Seq.{drop-cons, take_all}
+use Rattle.std.proofs.Math.ListN.{get_or-map}
+use Rattle.std.proofs.Math.Seq.{drop-cons, take-suc, take_all}
 use Rattle.std.proofs.lemmas.Grind.{flat_map-append}
-use Rattle.std.proofs.lemmas.List.{take-append-drop, length-append}
+use Rattle.std.proofs.lemmas.List.{take-append-drop, length-append, length-map}
 use Rattle.std.proofs.lemmas.List.Folds.{flat_map-map}
 use Rattle.std.proofs.lemmas.Slice.Eq.{bytes_eq-Decides}
 use Rattle.std.specs.List.{flat_map, list_all}
@@ -12,27 +13,63 @@ use Rattle.si_base.specs.Bytes.{space}
 use Rattle.si_words.specs.Names.{stands_in}
 use Rattle.si_tool.specs.About.{Shows, shown_form, shown_part, shown_slot, row_line, help_text}
 use Rattle.si_tool.specs.About.{begins, line_of, note_of, notes, page_text}
-use Rattle.si_tool.specs.Command.{Row, Slot, Word, File, LoneFile, LibraryFile, OneOf, command_words, form_of, row_of}
-use Rattle.si_tool.specs.Command.{rows, tasks}
-use Rattle.si_tool.specs.Loops.Reads.{row_now, slot_now, slots_now}
+use Rattle.si_tool.specs.About.{begins_at, shown_option, shown_tail}
+use Rattle.si_tool.specs.Command.{Row, command_words, form_of, row_of, rows, tasks}
+use Rattle.si_tool.specs.Form.{Form, Slot, Word, File, LoneFile, LibraryFile, OneOf}
+use Rattle.si_tool.specs.Loops.Reads.{form_now, row_now, slot_now, slots_now, tail_now}
+use Rattle.si_words.specs.Loops.Reads.{words_now}
 use Rattle.si_tool.specs.declared.about.TheConstants.{HELP_HEAD, HELP_TAIL, BLANKS}
 use Rattle.si_tool.specs.declared.form.Slot.{Slot as HeldSlot}
+use Rattle.si_tool.specs.declared.form.Tail.{Tail as HeldTail}
 use Rattle.si_tool.specs.declared.table.Row.{Row as HeldRow}
 use Rattle.si_tool.specs.declared.task.Task.{Task}
 use Rattle.si_tool.proofs.CommandTasks.{each_listed, first_task}
 use Rattle.si_tool.proofs.FormOverlap.{one_of_all}
 
 -- ---- forms and lines, as the code adds them
-pub form_added : (form : List HeldSlot) (k : ℕ) (old start text : List ℕ) → length form ≤ k
+pub form_added : (places : List HeldSlot) (tail : HeldTail) (k : ℕ) (old start text all : List ℕ) → length places ≤ k
     → start ≡ old ++ codes "sisyn"
-    → text ≡ start ++ flat_map (λ slot. space ∷ shown_slot (slot_now slot)) (take k form)
-    → text ≡ old ++ shown_form (slots_now form)
-form_added form k old start text end begins is =
+    → text ≡ start ++ flat_map (λ slot. space ∷ shown_slot (slot_now slot)) (take k places)
+    → all ≡ text ++ shown_tail (tail_now tail) → all ≡ old ++ shown_form (form_now places tail)
+form_added places tail k old start text all end begins is more =
     let word : Slot → List ℕ = λ slot. space ∷ shown_slot slot in
-    let all : take k form ≡ form = take_all k form end in
-    let words : flat_map (λ slot. word (slot_now slot)) (take k form) ≡ flat_map word (slots_now form) =
-    ap (λ f. flat_map (λ slot. word (slot_now slot)) f) all ∙ sym (flat_map-map word slot_now form) in
-    is ∙ ap₂ (λ (l m : List ℕ). l ++ m) begins words ∙ append_assoc old (codes "sisyn") (flat_map word (slots_now form))
+    let first : take k places ≡ places = take_all k places end in
+    let words : flat_map (λ slot. word (slot_now slot)) (take k places) ≡ flat_map word (slots_now places) =
+    ap (λ f. flat_map (λ slot. word (slot_now slot)) f) first ∙ sym (flat_map-map word slot_now places) in
+    more ∙ ap (λ (l : List ℕ). l ++ shown_tail (tail_now tail)) (is ∙ ap₂ (λ (l m : List ℕ). l ++ m) begins words)
+    ∙ joined_words old (codes "sisyn") (flat_map word (slots_now places)) (shown_tail (tail_now tail))
+  where
+    joined_words : (old name words more : List ℕ)
+        → ((old ++ name) ++ words) ++ more ≡ old ++ ((name ++ words) ++ more)
+    joined_words old name words more = simp append_assoc refl
+
+pub ok_weaker : {A E : Type 0} (r : Result A E) (P Q : Type 0) → (P → Q) → OnOk r P → OnOk r Q
+ok_weaker (Ok a) P Q more is = more is
+ok_weaker (Err e) P Q more is = tt
+
+-- an option is added in three pieces
+pub option_added : (options : List (Bor (List ℕ))) (place : ℕ) (past : Bor (List ℕ))
+    (old text first second third : List ℕ) → place < length options
+    → text ≡ old ++ flat_map (λ option. shown_option option) (take place (words_now options))
+    → first ≡ text ++ codes " [" → second ≡ first ++ (get_or options place past).now → third ≡ second ++ codes "]"
+    → third ≡ old ++ flat_map (λ option. shown_option option) (take (place + 1) (words_now options))
+option_added options place past old text first second third below is one two three =
+    let own = (get_or options place past).now in
+    let many = length-map options (λ option. option.now) in
+    let within : place < length (words_now options) = omega (arith, many, below) in
+    let before = take place (words_now options) in
+    let shown : List (List ℕ) → List ℕ = λ words. flat_map (λ option. shown_option option) words in
+    let next : take (place + 1) (words_now options) ≡ before ++ own ∷ [] =
+    rw (add-one place, sym (get_or-map (λ option. option.now) options place past))
+    (take-suc (words_now options) place past.now within) in
+    let pieces : third ≡ (((old ++ shown before) ++ codes " [") ++ own) ++ codes "]" =
+    rw (three, two, one, is) refl in
+    pieces ∙ joined_option old (shown before) own
+    ∙ ap (λ (l : List ℕ). old ++ l) (sym (ap shown next ∙ flat_map-append (λ option. shown_option option) before (own ∷ [])))
+  where
+    joined_option : (old shown own : List ℕ) → (((old ++ shown) ++ codes " [") ++ own) ++ codes "]"
+        ≡ old ++ (shown ++ (((codes " [" ++ own) ++ codes "]") ++ []))
+    joined_option old shown own = simp append_assoc refl
 
 blanks_behind : (first second shown : List ℕ) → second ≡ first ++ shown → length second - length first ≡ length shown
 blanks_behind first second shown is =
@@ -139,26 +176,29 @@ page_shows task word is =
     (subst (λ (t : Task). Shows (head ++ flat_map (line_of word) rows ++ tail) t) listed.2 shown)
 
 -- the word with which a form begins is one of those of the commands
-abbrev has_page : List Slot → Bool
-has_page (Word own ∷ form) = stands_in command_words own
-has_page form = true
+abbrev page_at : List Slot → Bool
+page_at (Word own ∷ places) = stands_in command_words own
+page_at places = true
+
+abbrev has_page : Form → Bool
+has_page form = page_at form.places
 
 all_have_pages : list_all (λ task. has_page (form_of task)) tasks ≡ true
 all_have_pages = refl
 
-page_of_first : (form : List Slot) (word : List ℕ) → has_page form ≡ true → begins word form ≡ true
+page_of_first : (places : List Slot) (word : List ℕ) → page_at places ≡ true → begins_at word places ≡ true
     → stands_in command_words word ≡ true
 page_of_first [] word page is = cc
-page_of_first (Word own ∷ form) word page is =
+page_of_first (Word own ∷ places) word page is =
     subst (λ (w : List ℕ). stands_in command_words w ≡ true) ((bytes_eq-Decides own word).0 is) page
-page_of_first (File name ∷ form) word page is = cc
-page_of_first (LoneFile name ∷ form) word page is = cc
-page_of_first (LibraryFile name ∷ form) word page is = cc
-page_of_first (OneOf name words ∷ form) word page is = cc
+page_of_first (File name ∷ places) word page is = cc
+page_of_first (LoneFile name ∷ places) word page is = cc
+page_of_first (LibraryFile name ∷ places) word page is = cc
+page_of_first (OneOf name words ∷ places) word page is = cc
 
 pub has_its_page : (task : Task) (word : List ℕ) → begins word (form_of task) ≡ true
     → stands_in command_words word ≡ true
 has_its_page task word is =
     let listed = each_listed task in
     let page = one_of_all (λ t. has_page (form_of t)) tasks listed.0 all_have_pages listed.1 in
-    page_of_first (form_of task) word (subst (λ (t : Task). has_page (form_of t) ≡ true) listed.2 page) is
+    page_of_first (form_of task).places word (subst (λ (t : Task). has_page (form_of t) ≡ true) listed.2 page) is

@@ -1,21 +1,21 @@
 -- A command comes to one answer: by its texts, and by its files where they are told.
 use Rattle.std.proofs.Common.{◌≡◌, ℕ, List, [], ◌∷◌, length, Result, Ok, Err, Contains, ap, subst, arith}
-use Rattle.std.proofs.Common.{◌⊎◌, inl, inr}
+use Rattle.std.proofs.Common.{◌⊎◌, Bool, true, false, inl, inr}
 use Rattle.si_io.specs.Outside.{Rose}
 use Rattle.si_tool.specs.About.{about_text}
-use Rattle.si_tool.specs.Command.{Request, Fit, form_of, number_of}
+use Rattle.si_tool.specs.Command.{Request, form_of, format_of, is_suggested, number_of}
+use Rattle.si_tool.specs.Form.{Fit}
 use Rattle.si_tool.specs.Loads.{Contents, Counts, loads, load_well, loads_well, AreTold}
-use Rattle.si_tool.specs.Meaning.{meaning, ComesTo, IsDetermined}
+use Rattle.si_tool.specs.Meaning.{meaning, ComesTo, IsDetermined, mapped_by, resolved_by}
 use Rattle.si_refusals.specs.Refusal.{TextRefusal, ReadFault, Answer, Output, FileRefused, TextRefused}
 use Rattle.si_tool.specs.declared.task.Task.{Task}
 use Rattle.si_tool.specs.declared.task.Topic.TheVariants.{Help, Page, Version}
 use Rattle.si_tool.specs.declared.task.HelpPlace.TheVariants.{Before, Behind}
 use Rattle.si_tool.specs.declared.task.Task.TheVariants.{About, Tell, Synth, Map, FromGenlib, Verilog, Replay, Audit}
 use Rattle.si_tool.specs.declared.task.Task.TheVariants.{Exercise}
-use Rattle.si_tool.specs.declared.task.Task.TheVariants.{TellNetlist, Resolve, Insert, Same, Suggest}
+use Rattle.si_tool.specs.declared.task.Task.TheVariants.{TellNetlist, Resolve, Insert, Same, Compose, Suggest}
 use Rattle.si_readings.specs.Laws.{AtMostOne, HasResult}
-use Rattle.si_cell.specs.declared.pins.Pins.TheVariants.{Any, Plain}
-use Rattle.si_readings.specs.declared.library_format.LibraryFormat.TheVariants.{Own, Genlib}
+use Rattle.si_tool.specs.declared.task.LibraryKind.TheVariants.{Cells, Gates}
 use Rattle.si_stages.proofs.AuditLemmas.{audit_one, audit_some}
 use Rattle.si_exercise.proofs.ExerciseLemmas.{exercise_one, exercise_some}
 use Rattle.si_stages.proofs.GenlibLemmas.{genlib_one, genlib_some}
@@ -24,29 +24,53 @@ use Rattle.si_stages.proofs.MeaningLemmas.{report_one, synth_one, mapping_one, r
 use Rattle.si_stages.proofs.MeaningLemmas.{report_some, synth_some, mapping_some, replay_some}
 use Rattle.si_readings.proofs.StageLemmas.{gives_one, gives_some}
 use Rattle.si_likeness.proofs.SameLemmas.{same_one, same_some}
+use Rattle.si_systems.proofs.ComposeLemmas.{compose_one, compose_some}
 use Rattle.si_stages.proofs.NetlistReportLemmas.{netlist_report_one, netlist_report_some}
 use Rattle.si_stages.proofs.VerilogLemmas.{verilog_one, verilog_some}
+use Rattle.si_suggestion.proofs.SuggestedTexts.{map_suggested_some, resolve_suggested_some}
 use Rattle.si_suggestion.proofs.SuggestionsExist.{suggest_some}
+use Rattle.si_readings.specs.declared.library_format.LibraryFormat.{LibraryFormat}
 use Rattle.si_tool.proofs.LoadLemmas.{all_one, all_some, all_or_fault, as_many}
 use Rattle.si_tool.proofs.CommandTasks.{few_handshakes}
 use Rattle.si_tool.proofs.FormLemmas.{count_of_files}
 
+-- ---- the insertions that are asked for
+resolved_one : (suggested : Bool) (file text : List ℕ) → suggested ≡ false → AtMostOne (resolved_by suggested file text)
+resolved_one true file text rule = cc
+resolved_one false file text rule = resolve_one file text
+
+resolved_some : (suggested : Bool) (file text : List ℕ) → HasResult (resolved_by suggested file text)
+resolved_some true file text = resolve_suggested_some file text
+resolved_some false file text = resolve_some file text
+
+mapped_one : (suggested : Bool) (format : LibraryFormat) (g a l b : List ℕ) → suggested ≡ false
+    → AtMostOne (mapped_by suggested format g a l b)
+mapped_one true format g a l b rule = cc
+mapped_one false format g a l b rule = mapping_one format g a l b
+
+mapped_some : (suggested : Bool) (format : LibraryFormat) (g a l b : List ℕ)
+    → HasResult (mapped_by suggested format g a l b)
+mapped_some true format g a l b = map_suggested_some format g a l b
+mapped_some false format g a l b = mapping_some format g a l b
+
 -- ---- by their texts: to one answer at most
-pub meaning_one : (task : Task) (files choices texts : List (List ℕ)) → IsDetermined task
+pub meaning_one : (task : Task) (files choices texts : List (List ℕ)) → IsDetermined task choices
     → AtMostOne (meaning task files choices texts)
 meaning_one (Suggest style) files choices texts one = absurd one
 meaning_one (About topic) [] choices [] one = gives_one (about_text topic choices)
 meaning_one (Tell what) (file ∷ []) choices (text ∷ []) one = report_one what file text
 meaning_one (Synth style) (file ∷ []) choices (text ∷ []) one = synth_one style file text
-meaning_one (Map format) (g ∷ l ∷ []) choices (a ∷ b ∷ []) one = mapping_one format g a l b
+meaning_one (Map kind) (g ∷ l ∷ []) options (a ∷ b ∷ []) one =
+    mapped_one (is_suggested options) (format_of kind options) g a l b one
 meaning_one FromGenlib (file ∷ []) choices (text ∷ []) one = genlib_one file text
 meaning_one Verilog (file ∷ []) choices (text ∷ []) one = verilog_one file text
 meaning_one (TellNetlist what) (file ∷ []) choices (text ∷ []) one = netlist_report_one what file text
 meaning_one (Replay what) (g ∷ n ∷ s ∷ []) choices (a ∷ b ∷ c ∷ []) one = replay_one what g a n b s c
 meaning_one Audit (g ∷ n ∷ []) choices (a ∷ b ∷ []) one = audit_one g a n b
-meaning_one Resolve (file ∷ []) choices (text ∷ []) one = resolve_one file text
+meaning_one Resolve (file ∷ []) options (text ∷ []) one = resolved_one (is_suggested options) file text one
 meaning_one Insert (g ∷ n ∷ []) choices (a ∷ b ∷ []) one = insert_one g a n b
 meaning_one Same (f ∷ g ∷ []) choices (a ∷ b ∷ []) one = same_one f a g b
+meaning_one Compose files choices texts one = compose_one files texts
 meaning_one Exercise [] (digit ∷ []) [] one = exercise_one (number_of digit)
 meaning_one task files choices texts one = λ a b first second. absurd first
 
@@ -60,26 +84,27 @@ meaning_some (About Version) [] choices [] fit each = gives_some (about_text Ver
 meaning_some (Tell what) (file ∷ []) choices (text ∷ []) fit each = report_some what file text
 meaning_some (Synth style) (file ∷ []) choices (text ∷ []) fit each = synth_some style file text
 meaning_some (Suggest style) (file ∷ []) choices (text ∷ []) fit each = suggest_some style file text
-meaning_some (Map (Own Any)) (g ∷ l ∷ []) choices (a ∷ b ∷ []) fit each = mapping_some (Own Any) g a l b
-meaning_some (Map (Own Plain)) (g ∷ l ∷ []) choices (a ∷ b ∷ []) fit each = mapping_some (Own Plain) g a l b
-meaning_some (Map (Genlib Any)) (g ∷ l ∷ []) choices (a ∷ b ∷ []) fit each = mapping_some (Genlib Any) g a l b
-meaning_some (Map (Genlib Plain)) (g ∷ l ∷ []) choices (a ∷ b ∷ []) fit each = mapping_some (Genlib Plain) g a l b
+meaning_some (Map Cells) (g ∷ l ∷ []) options (a ∷ b ∷ []) fit each =
+    mapped_some (is_suggested options) (format_of Cells options) g a l b
+meaning_some (Map Gates) (g ∷ l ∷ []) options (a ∷ b ∷ []) fit each =
+    mapped_some (is_suggested options) (format_of Gates options) g a l b
 meaning_some FromGenlib (file ∷ []) choices (text ∷ []) fit each = genlib_some file text
 meaning_some Verilog (file ∷ []) choices (text ∷ []) fit each = verilog_some file text
 meaning_some (TellNetlist what) (file ∷ []) choices (text ∷ []) fit each = netlist_report_some what file text
 meaning_some (Replay what) (g ∷ n ∷ s ∷ []) choices (a ∷ b ∷ c ∷ []) fit each = replay_some what g a n b s c
 meaning_some Audit (g ∷ n ∷ []) choices (a ∷ b ∷ []) fit each = audit_some g a n b
-meaning_some Resolve (file ∷ []) choices (text ∷ []) fit each = resolve_some file text
+meaning_some Resolve (file ∷ []) options (text ∷ []) fit each = resolved_some (is_suggested options) file text
 meaning_some Insert (g ∷ n ∷ []) choices (a ∷ b ∷ []) fit each = insert_some g a n b
 meaning_some Same (f ∷ g ∷ []) choices (a ∷ b ∷ []) fit each = same_some f a g b
+meaning_some Compose files choices texts fit each = compose_some files texts
 meaning_some Exercise [] (digit ∷ []) [] fit each =
     exercise_some (number_of digit) (few_handshakes digit fit.0)
 meaning_some task files choices texts fit each =
-    let many = count_of_files (form_of task) files choices fit in
-    absurd (omega (arith, many, each))
+    let many = count_of_files (form_of task).places (form_of task).tail files choices fit in
+    absurd (omega (arith, many.low, many.high, each))
 
 -- ---- by their files: to one answer at most
-pub command_one : (content : Contents) (asked : Request) (a b : Answer) → IsDetermined asked.task
+pub command_one : (content : Contents) (asked : Request) (a b : Answer) → IsDetermined asked.task asked.choices
     → AreTold content asked.files → ComesTo (loads_well content) asked a → ComesTo (loads_well content) asked b → a ≡ b
 command_one content asked a b determined told = by a b
   where

@@ -5,7 +5,7 @@ use Rattle.std.proofs.Math.ListN.{get_or-map}
 use Rattle.std.proofs.Math.Seq.{take-suc}
 use Rattle.std.proofs.lemmas.List.{take-append-drop, length-map}
 use Rattle.si_words.specs.Loops.Reads.{words_now}
-use Rattle.si_tool.proofs.FormLemmas.{at_place}
+use Rattle.si_tool.proofs.FormLemmas.{IsCount, at_place}
 use Rattle.si_tool.specs.Loops.Reads.{texts_now}
 
 -- what a read past the end of a list of names gives
@@ -58,26 +58,30 @@ three_texts (t ∷ u ∷ v ∷ w ∷ texts) a b c x y z many is at third same al
 
 -- names and texts, where there are as many of these as of those
 pub read_one : (files : List (Bor (List ℕ))) (texts : List (Vec ℕ Global)) (a : Vec ℕ Global) (x : List ℕ)
-    → length files ≡ 1 → length texts ≡ length files → a ≡ get_or texts 0 a → x ≡ a.items
+    → IsCount 1 0 (length files) → length texts ≡ length files → a ≡ get_or texts 0 a → x ≡ a.items
     → (words_now files ≡ (get_or files 0 no_name).now ∷ []) × (texts_now texts ≡ x ∷ [])
-read_one files texts a x many each is same = (one_name files many, one_text texts a x (each ∙ many) is same)
+read_one files texts a x count each is same =
+    let many : length files ≡ 1 = omega (arith, count.low, count.high) in
+    (one_name files many, one_text texts a x (each ∙ many) is same)
 
 pub read_two : (files : List (Bor (List ℕ))) (texts : List (Vec ℕ Global)) (a b : Vec ℕ Global) (x y : List ℕ)
-    → length files ≡ 2 → length texts ≡ length files → a ≡ get_or texts 0 a → b ≡ get_or texts 1 b
+    → IsCount 2 0 (length files) → length texts ≡ length files → a ≡ get_or texts 0 a → b ≡ get_or texts 1 b
     → x ≡ a.items → y ≡ b.items
     → (words_now files ≡ (get_or files 0 no_name).now ∷ (get_or files 1 no_name).now ∷ [])
     × (texts_now texts ≡ x ∷ y ∷ [])
-read_two files texts a b x y many each is at same also =
+read_two files texts a b x y count each is at same also =
+    let many : length files ≡ 2 = omega (arith, count.low, count.high) in
     (two_names files many, two_texts texts a b x y (each ∙ many) is at same also)
 
 pub read_three : (files : List (Bor (List ℕ))) (texts : List (Vec ℕ Global)) (a b c : Vec ℕ Global)
-    (x y z : List ℕ) → length files ≡ 3 → length texts ≡ length files
+    (x y z : List ℕ) → IsCount 3 0 (length files) → length texts ≡ length files
     → a ≡ get_or texts 0 a → b ≡ get_or texts 1 b → c ≡ get_or texts 2 c → x ≡ a.items → y ≡ b.items
     → z ≡ c.items
     → (words_now files
     ≡ (get_or files 0 no_name).now ∷ (get_or files 1 no_name).now ∷ (get_or files 2 no_name).now ∷ [])
     × (texts_now texts ≡ x ∷ y ∷ z ∷ [])
-read_three files texts a b c x y z many each is at third same also last =
+read_three files texts a b c x y z count each is at third same also last =
+    let many : length files ≡ 3 = omega (arith, count.low, count.high) in
     (three_names files many, three_texts texts a b c x y z (each ∙ many) is at third same also last)
 
 -- ---- names up to a place, at it and after it

@@ -31,7 +31,7 @@ comes_as : (words : List (String Global)) (content : Contents) (before now : Cou
 comes_as words content before now a b come deserve =
     let same = one_request words deserve.asked come.asked deserve.asks come.asks in
     let told = subst (λ (k : Request). AreTold content k.files) same deserve.told in
-    let determined = subst (λ (k : Request). IsDetermined k.task) same deserve.determined in
+    let determined = subst (λ (k : Request). IsDetermined k.task k.choices) same deserve.determined in
     let there = subst (λ (k : Request). ComesTo (loads_well content) k b) same deserve.comes in
     elim (command_or_fault content before now come.asked a come.comes) [
       | inl here ↦ inl (command_one content come.asked a b determined told here there)

@@ -1,5 +1,5 @@
 -- What a run of `synth`, `suggest` or `map` that is done puts on `out`: a netlist that implements the graph of its file.
-use Rattle.std.proofs.Common.{◌≡◌, ℕ, List, [], ◌∷◌, Ok, String, Global, subst, ◌∙◌, inl, inr}
+use Rattle.std.proofs.Common.{◌≡◌, ℕ, List, [], ◌∷◌, Ok, String, Global, refl, sym, ap, subst, ◌∙◌, inl, inr, Bool, true, false}
 use Rattle.si_base.specs.Behaviour.{Implements}
 use Rattle.si_base.specs.Codes.{CodedGraph}
 use Rattle.si_base.specs.Graph.{StateGraph}
@@ -11,9 +11,7 @@ use Rattle.si_insert.specs.Lineage.{History}
 use Rattle.si_io.specs.Outside.{Appends, IsContent}
 use Rattle.si_readings.specs.Checks.{IsSound, proper}
 use Rattle.si_readings.specs.Readings.{graph_in, mapping_readings}
-use Rattle.si_cell.specs.declared.pins.Pins.TheVariants.{Any, Plain}
 use Rattle.si_readings.specs.declared.library_format.LibraryFormat.{LibraryFormat}
-use Rattle.si_readings.specs.declared.library_format.LibraryFormat.TheVariants.{Own, Genlib}
 use Rattle.si_readings.proofs.ReadingLemmas.{mapping_readings_are}
 use Rattle.si_readings.proofs.StageLemmas.{passed}
 use Rattle.si_refusals.specs.Stages.{gives}
@@ -25,12 +23,16 @@ use Rattle.si_stages.specs.Meaning.{mapping, synth}
 use Rattle.si_stages.specs.Resolving.{lineage_of, resolution}
 use Rattle.si_stages.specs.Synthesis.{synthesis}
 use Rattle.si_stages.specs.Written.{IsWritten}
+use Rattle.si_suggestion.specs.Suggested.{map_suggested, suggested_cells, suggested_lineage}
 use Rattle.si_suggestion.specs.Suggestion.{suggest, suggestion}
-use Rattle.si_tool.specs.Command.{Asks, Request, words_of}
+use Rattle.si_tool.specs.Command.{Asks, Request, format_of, is_suggested, map_options}
+use Rattle.si_tool.specs.Form.{are_some, words_of}
 use Rattle.si_tool.specs.Loads.{Contents, Counts, load, loads}
-use Rattle.si_tool.specs.Meaning.{meaning}
+use Rattle.si_tool.specs.Meaning.{mapped_by, meaning}
 use Rattle.si_tool.specs.Run.{SinkChange, Ends}
-use Rattle.si_tool.specs.Theorem.{AskForNetlist, ImplementsText, PutsNetlist}
+use Rattle.si_tool.specs.Theorem.{AreOptions, AskForNetlist, ImplementsText, PutsNetlist}
+use Rattle.si_tool.specs.declared.task.LibraryKind.{LibraryKind}
+use Rattle.si_tool.specs.declared.task.LibraryKind.TheVariants.{Cells, Gates}
 use Rattle.si_tool.specs.declared.task.Task.TheVariants.{Map, Suggest, Synth}
 use Rattle.si_tool.proofs.RunOutputs.{puts_output}
 
@@ -90,7 +92,32 @@ suggest_implements style file text output comes =
       implements = subst (λ (g : StateGraph). Implements told.netlist g) sound.same_graph told.implements;
     }
 
+map_suggested_implements : (format : LibraryFormat) (g text n library output : List ℕ)
+    → map_suggested format g text n library (Ok output) → ImplementsText text output
+map_suggested_implements format g text n library output comes =
+    let (readings, read, later) = passed (mapping_readings format g text n library) _ output comes in
+    let given = readings.given in
+    let is = (mapping_readings_are format g text n library readings read).given in
+    let (coded, sound, mapped) = passed (proper given.graph given.states) _ output later in
+    let (l, suggests, told) = passed (suggested_lineage given.model given.states coded)
+    (suggested_cells readings.library given) output mapped in
+    let begins : l.given ≡ coded =
+    ap (λ (m : History). m.given) (sym suggests.lineage_is) ∙ suggests.suggestion.given_is in
+    written given told.lineage coded text output is sound (told.maps.goes.given_stays ∙ begins) told.written
+
+mapped_implements : (suggested : Bool) (format : LibraryFormat) (g text n library output : List ℕ)
+    → mapped_by suggested format g text n library (Ok output) → ImplementsText text output
+mapped_implements true format g text n library output comes =
+    map_suggested_implements format g text n library output comes
+mapped_implements false format g text n library output comes = map_implements format g text n library output comes
+
 -- ---- over a run
+given_options : (options : List (List ℕ)) → AreOptions options → are_some map_options options ≡ true
+given_options options (inl none) = rw none refl
+given_options options (inr (inl suggest)) = rw suggest refl
+given_options options (inr (inr (inl plain))) = rw plain refl
+given_options options (inr (inr (inr both))) = rw both refl
+
 module _ (content : Contents) (before now : Counts) (file : List ℕ) (out : SinkChange) (output : List ℕ)
     (done : Appends out.old output out.new) where
   -- what stands on `out` for the text of the first file
@@ -121,25 +148,26 @@ module _ (content : Contents) (before now : Counts) (file : List ℕ) (out : Sin
       first_put [] text [] loaded (suggest_implements style file text output means)
   of_suggest style (text ∷ other ∷ texts) loaded means = absurd means
 
-  of_map : (format : LibraryFormat) (library : List ℕ) (texts : List (List ℕ))
+  of_map : (kind : LibraryKind) (library : List ℕ) (options texts : List (List ℕ))
       → loads content before now (file ∷ library ∷ []) (Ok texts)
-      → meaning (Map format) (file ∷ library ∷ []) [] texts (Ok output) → PutsNetlist (content file) out.old out.new
-  of_map format library [] loaded means = absurd means
-  of_map format library (text ∷ []) loaded means = absurd means
-  of_map format library (text ∷ cells ∷ []) loaded means =
-      first_put (library ∷ []) text (cells ∷ []) loaded (map_implements format file text library cells output means)
-  of_map format library (text ∷ cells ∷ other ∷ texts) loaded means = absurd means
+      → meaning (Map kind) (file ∷ library ∷ []) options texts (Ok output) → PutsNetlist (content file) out.old out.new
+  of_map kind library options [] loaded means = absurd means
+  of_map kind library options (text ∷ []) loaded means = absurd means
+  of_map kind library options (text ∷ cells ∷ []) loaded means =
+      first_put (library ∷ []) text (cells ∷ []) loaded
+      (mapped_implements (is_suggested options) (format_of kind options) file text library cells output means)
+  of_map kind library options (text ∷ cells ∷ other ∷ texts) loaded means = absurd means
 
 module _ (words : List (String Global)) (content : Contents) (before now : Counts) (out err : SinkChange)
     (result : Status) where
-  map_put : (format : LibraryFormat) (file library : List ℕ)
+  map_put : (kind : LibraryKind) (file library : List ℕ) (options : List (List ℕ))
       → Ends words (loads content before now) out err result → result ≡ status.Done
-      → Asks words (record { task = Map format; files = file ∷ library ∷ []; choices = [] })
+      → Asks words (record { task = Map kind; files = file ∷ library ∷ []; choices = options })
       → PutsNetlist (content file) out.old out.new
-  map_put format file library ends is asks =
-      let asked : Request = record { task = Map format; files = file ∷ library ∷ []; choices = [] } in
+  map_put kind file library options ends is asks =
+      let asked : Request = record { task = Map kind; files = file ∷ library ∷ []; choices = options } in
       let puts = puts_output words content before now out err result asked asks ends is in
-      of_map content before now file out puts.output puts.written format library puts.texts puts.loaded puts.means
+      of_map content before now file out puts.output puts.written kind library options puts.texts puts.loaded puts.means
 
   pub netlist_put : (file : List ℕ) → Ends words (loads content before now) out err result → result ≡ status.Done
       → AskForNetlist file (words_of words) → PutsNetlist (content file) out.old out.new
@@ -159,10 +187,7 @@ module _ (words : List (String Global)) (content : Contents) (before now : Count
       let asked : Request = record { task = Suggest GeneralisedC; files = file ∷ []; choices = [] } in
       let puts = puts_output words content before now out err result asked (asks, tt) ends is in
       of_suggest content before now file out puts.output puts.written GeneralisedC puts.texts puts.loaded puts.means
-  netlist_put file ends is (inr (inr (inl (library, asks)))) = map_put (Own Any) file library ends is (asks, tt)
-  netlist_put file ends is (inr (inr (inr (inl (library, asks))))) =
-      map_put (Genlib Any) file library ends is (asks, tt)
-  netlist_put file ends is (inr (inr (inr (inr (inl (library, other, asks)))))) =
-      map_put (Own Plain) file library ends is (asks, (other, tt))
-  netlist_put file ends is (inr (inr (inr (inr (inr (library, asks)))))) =
-      map_put (Genlib Plain) file library ends is (asks, tt)
+  netlist_put file ends is (inr (inr (library, options, are, inl (asks, other)))) =
+      map_put Cells file library options ends is (asks, (other, given_options options are))
+  netlist_put file ends is (inr (inr (library, options, are, inr asks))) =
+      map_put Gates file library options ends is (asks, given_options options are)

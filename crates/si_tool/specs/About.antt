@@ -3,8 +3,9 @@ use Rattle.std.specs.Prelude.{◌≡◌, ℕ, Bool, false, if◌then◌else◌, 
 use Rattle.std.specs.Prelude.{bytes_eq, length, map, drop, codes}
 use Rattle.std.specs.List.{flat_map}
 use Rattle.si_base.specs.Bytes.{space}
-use Rattle.si_tool.specs.Command.{Slot, Word, File, LoneFile, LibraryFile, OneOf, Row, form_of}
-use Rattle.si_tool.specs.Command.{Request, rows}
+use Rattle.si_tool.specs.Command.{Row, Request, form_of, rows}
+use Rattle.si_tool.specs.Form.{Form, Slot, Word, File, LoneFile, LibraryFile, OneOf, Tail, Nothing}
+use Rattle.si_tool.specs.Form.{MoreFiles, Options}
 use Rattle.si_tool.specs.declared.about.TheConstants.{HELP_HEAD, HELP_TAIL, BLANKS, VERSION}
 use Rattle.si_tool.specs.declared.notes.TheConstants.{NOTES}
 use Rattle.si_tool.specs.declared.task.HelpPlace.{HelpPlace}
@@ -21,12 +22,22 @@ shown_slot (LoneFile name) = name
 shown_slot (LibraryFile name) = name
 shown_slot (OneOf name words) = name
 
+-- and for what may stand behind them: two dots for files, each option in brackets
+abbrev pub shown_option : (option : List ℕ) → List ℕ
+shown_option option = codes " [" ++ option ++ codes "]"
+
+abbrev pub shown_tail : Tail → List ℕ
+shown_tail Nothing = []
+shown_tail (MoreFiles most) = codes " .."
+shown_tail (Options options) = flat_map (λ option. shown_option option) options
+
 -- the words of a form, behind that of the program
-abbrev pub shown_form : List Slot → List ℕ
-shown_form form = codes "sisyn" ++ flat_map (λ slot. space ∷ shown_slot slot) form
+abbrev pub shown_form : Form → List ℕ
+shown_form form = codes "sisyn" ++ flat_map (λ slot. space ∷ shown_slot slot) form.places
+    ++ shown_tail form.tail
 
 -- its line of the help, up to what is said of it
-abbrev pub shown_part : List Slot → List ℕ
+abbrev pub shown_part : Form → List ℕ
 shown_part form = codes "\n  " ++ shown_form form ++ codes "  "
 
 -- and all of it
@@ -38,9 +49,12 @@ unfoldable pub help_text : List ℕ
 help_text = HELP_HEAD.now ++ flat_map row_line rows ++ HELP_TAIL.now
 
 -- a form begins with a word
-abbrev pub begins : (word : List ℕ) → List Slot → Bool
-begins word (Word own ∷ form) = bytes_eq own word
-begins word form = false
+abbrev pub begins_at : (word : List ℕ) → List Slot → Bool
+begins_at word (Word own ∷ places) = bytes_eq own word
+begins_at word places = false
+
+abbrev pub begins : (word : List ℕ) → Form → Bool
+begins word form = begins_at word form.places
 
 -- the line of a row on the page of a word
 abbrev pub line_of : (word : List ℕ) → Row → List ℕ

@@ -1,4 +1,5 @@
 pub mod About
+pub mod Form
 pub mod Command
 pub mod Loads
 pub mod Meaning

@@ -1,50 +1,67 @@
 -- (command) What a command that is asked for means over its texts, and what it comes to over its
 -- files.
-use Rattle.std.specs.Prelude.{ℕ, List, [], ◌∷◌, String, Ok, Err}
+use Rattle.std.specs.Prelude.{◌≡◌, ℕ, Bool, true, false, List, [], ◌∷◌, String, Ok, Err}
 use Rattle.std.specs.declared.alloc.Global.{Global}
 use Rattle.si_tool.specs.About.{about_text}
-use Rattle.si_tool.specs.Command.{Request, Asks, number_of}
+use Rattle.si_tool.specs.Command.{Request, Asks, format_of, is_suggested, number_of}
 use Rattle.si_tool.specs.declared.task.Task.{Task}
 use Rattle.si_tool.specs.declared.task.Task.TheVariants.{About, Tell, Synth, Map, FromGenlib}
 use Rattle.si_tool.specs.declared.task.Task.TheVariants.{Verilog, Replay, Audit, Exercise}
-use Rattle.si_tool.specs.declared.task.Task.TheVariants.{TellNetlist, Resolve, Insert, Same, Suggest}
+use Rattle.si_tool.specs.declared.task.Task.TheVariants.{TellNetlist, Resolve, Insert, Same, Compose, Suggest}
 use Rattle.si_refusals.specs.Ending.{Ending, NoMemory, Answered}
 use Rattle.si_refusals.specs.Refusal.{FileRefusal, TextRefusal, Answer, Output}
 use Rattle.si_refusals.specs.Refusal.{FileRefused, TextRefused}
 use Rattle.si_refusals.specs.Stages.{Stage, gives}
+use Rattle.si_readings.specs.declared.library_format.LibraryFormat.{LibraryFormat}
 use Rattle.si_exercise.specs.Exercise.{exercise}
 use Rattle.si_stages.specs.Genlib.{genlib}
 use Rattle.si_stages.specs.Inserted.{insert, resolve}
 use Rattle.si_stages.specs.Meaning.{report, synth, mapping, replay, audit}
 use Rattle.si_likeness.specs.Same.{same}
+use Rattle.si_systems.specs.Compose.{compose}
 use Rattle.si_stages.specs.NetlistReports.{netlist_report}
 use Rattle.si_stages.specs.Verilog.{verilog}
+use Rattle.si_suggestion.specs.Suggested.{map_suggested, resolve_suggested}
 use Rattle.si_suggestion.specs.Suggestion.{suggest}
 
--- a task over its files, each with its text, and the words that are chosen
+-- the graph after insertions that resolve its conflicts, and a netlist of cells over them: those of
+-- `suggest`, where they are asked for, and else those of `synth`
+abbrev pub resolved_by : (suggested : Bool) → (file text : List ℕ) → Stage TextRefusal (List ℕ)
+resolved_by true file text = resolve_suggested file text
+resolved_by false file text = resolve file text
+
+abbrev pub mapped_by : (suggested : Bool) → LibraryFormat
+    → (graph graph_text library library_text : List ℕ) → Stage TextRefusal (List ℕ)
+mapped_by true format g graph l library = map_suggested format g graph l library
+mapped_by false format g graph l library = mapping format g graph l library
+
+-- a task over its files, each with its text, and the words that are chosen: options too
 abbrev pub meaning : Task → (files choices texts : List (List ℕ)) → Stage TextRefusal (List ℕ)
 meaning (About topic) [] choices [] = gives (about_text topic choices)
 meaning (Tell what) (file ∷ []) choices (text ∷ []) = report what file text
 meaning (Synth style) (file ∷ []) choices (text ∷ []) = synth style file text
 meaning (Suggest style) (file ∷ []) choices (text ∷ []) = suggest style file text
-meaning (Map format) (g ∷ l ∷ []) choices (graph ∷ library ∷ []) =
-    mapping format g graph l library
+meaning (Map kind) (g ∷ l ∷ []) options (graph ∷ library ∷ []) =
+    mapped_by (is_suggested options) (format_of kind options) g graph l library
 meaning FromGenlib (file ∷ []) choices (text ∷ []) = genlib file text
 meaning Verilog (file ∷ []) choices (text ∷ []) = verilog file text
 meaning (TellNetlist what) (file ∷ []) choices (text ∷ []) = netlist_report what file text
 meaning (Replay what) (g ∷ n ∷ s ∷ []) choices (graph ∷ netlist ∷ schedule ∷ []) =
     replay what g graph n netlist s schedule
 meaning Audit (g ∷ n ∷ []) choices (graph ∷ netlist ∷ []) = audit g graph n netlist
-meaning Resolve (file ∷ []) choices (text ∷ []) = resolve file text
+meaning Resolve (file ∷ []) options (text ∷ []) = resolved_by (is_suggested options) file text
 meaning Insert (g ∷ n ∷ []) choices (graph ∷ netlist ∷ []) = insert g graph n netlist
 meaning Same (f ∷ g ∷ []) choices (one ∷ other ∷ []) = same f one g other
+meaning Compose files choices texts = compose files texts
 meaning Exercise [] (digit ∷ []) [] = exercise (number_of digit)
 meaning task files choices texts = λ answer. ⊥
 
--- whether what a task means is one answer alone: what is suggested may be one of several netlists
-abbrev pub IsDetermined : Task → Type 0
-IsDetermined (Suggest style) = ⊥
-IsDetermined task = Unit {0}
+-- whether what a task means is one answer alone: what is suggested may be one of several
+abbrev pub IsDetermined : Task → (choices : List (List ℕ)) → Type 0
+IsDetermined (Suggest style) choices = ⊥
+IsDetermined Resolve options = is_suggested options ≡ false
+IsDetermined (Map kind) options = is_suggested options ≡ false
+IsDetermined task choices = Unit {0}
 
 -- ---- the same over files
 

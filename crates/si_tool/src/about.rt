@@ -1,14 +1,16 @@
 //! What the program tells of itself.
 
+ghost use Rattle.std.specs.List.{flat_map};
 ghost use Rattle.std.specs.Prelude.{◌≡◌, ◌++◌, IfOk, OnOk, drop, length};
 ghost use Rattle.si_tool.specs.About.{about_text, begins, help_text, line_of, page_text, row_line};
-ghost use Rattle.si_tool.specs.About.{note_of, shown_form};
-ghost use Rattle.si_tool.specs.Command.{choice_count, form_of};
+ghost use Rattle.si_tool.specs.About.{begins_at, note_of, shown_form, shown_option, shown_tail};
+ghost use Rattle.si_tool.specs.Command.{form_of};
+ghost use Rattle.si_tool.specs.Form.{choice_count};
 ghost use Rattle.si_tool.specs.declared.task.Task.TheVariants.{About};
 ghost use Rattle.si_words.specs.Loops.Reads.{words_now};
-ghost use Rattle.si_tool.specs.Loops.Reads.{row_now, slots_now};
+ghost use Rattle.si_tool.specs.Loops.Reads.{form_now, row_now, slots_now, tail_now};
 
-use crate::form::Slot;
+use crate::form::{Slot, Tail};
 use crate::notes::notes;
 use crate::table::{Row, rows};
 use crate::task::Topic;
@@ -64,7 +66,7 @@ const BLANKS: &[u8] = b"                                 ";
 
 /// The text on a topic, for the words that are chosen. It fails only where memory runs out.
 pub fn about(alloc: Global, topic: Topic, choices: &[&str]) -> Result<Text, NoMemory>
-    requires { length choices.now ≡ choice_count (form_of (About topic)) }
+    requires { length choices.now ≡ choice_count (form_of (About topic)).places }
     ensures { IfOk result (λ text. text ≡ about_text topic (words_now choices.now)) }
 {
     match topic {
@@ -116,17 +118,17 @@ fn add_note_of(text: &mut Text, word: &str, own: &str, note: &[u8]) -> Result<()
 fn add_row_of(text: &mut Text, word: &str, row: &Row) -> Result<(), NoMemory>
     ensures { OnOk result (text.new ≡ text.old ++ line_of word.now (row_now row.now)) }
 {
-    if begins_with(row.form, word) {
+    if begins_with(row.places, word) {
         add_row(text, row)?;
     }
     Ok(())
 }
 
-/// Whether the form begins with the word.
-fn begins_with(form: &[Slot<'_>], word: &str) -> bool
-    ensures { result ≡ begins word.now (slots_now form.now) }
+/// Whether the places begin with the word.
+fn begins_with(places: &[Slot<'_>], word: &str) -> bool
+    ensures { result ≡ begins_at word.now (slots_now places.now) }
 {
-    match form.first() {
+    match places.first() {
         Some(Slot::Word(own)) => *own == word,
         _ => false,
     }
@@ -138,7 +140,7 @@ fn add_row(text: &mut Text, row: &Row) -> Result<(), NoMemory>
 {
     text.add(b"\n  ")?;
     let before = text.bytes().len();
-    add_form(text, row.form)?;
+    add_form(text, row.places, row.tail)?;
     let width = text.bytes().len() - before;
     text.add(b"  ")?;
     text.add(blanks(width))?;
@@ -158,12 +160,36 @@ fn blanks(width: usize) -> &'static [u8]
 }
 
 /// Adds the program's name and the words of a form, as the help shows them.
-fn add_form(text: &mut Text, form: &[Slot<'_>]) -> Result<(), NoMemory>
-    ensures { OnOk result (text.new ≡ text.old ++ shown_form (slots_now form.now)) }
+fn add_form(text: &mut Text, places: &[Slot<'_>], tail: Tail<'_>) -> Result<(), NoMemory>
+    ensures { OnOk result (text.new ≡ text.old ++ shown_form (form_now places.now tail.entry)) }
 {
     text.add(b"sisyn")?;
-    for slot in form {
+    for slot in places {
         add_word(text, slot.shown().as_bytes())?;
+    }
+    add_tail(text, tail)
+}
+
+/// Adds what may stand behind the places.
+fn add_tail(text: &mut Text, tail: Tail<'_>) -> Result<(), NoMemory>
+    ensures { OnOk result (text.new ≡ text.old ++ shown_tail (tail_now tail.entry)) }
+{
+    match tail {
+        Tail::Nothing => Ok(()),
+        Tail::MoreFiles(_) => text.add(b" .."),
+        Tail::Options(options) => add_options(text, options),
+    }
+}
+
+/// Adds the options, each in brackets.
+fn add_options(text: &mut Text, options: &[&str]) -> Result<(), NoMemory>
+    ensures { OnOk result (text.new
+        ≡ text.old ++ flat_map (λ option. shown_option option) (words_now options.now)) }
+{
+    for option in options {
+        text.add(b" [")?;
+        text.add(option.as_bytes())?;
+        text.add(b"]")?;
     }
     Ok(())
 }

@@ -25,7 +25,7 @@ pub fn command_of<'w>(alloc: Global, words: &'w [String]) -> Result<Command<'w>,
 {
     for row in rows() {
         let task = row.task;
-        match given_in(alloc, words, row.form) {
+        match given_in(alloc, words, row.places, row.tail) {
             Ok(Some(given)) => return Ok(Command { task, given }),
             Ok(None) => {}
             Err(_) => return Err(Refusal::NoMemory),

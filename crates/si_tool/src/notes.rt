@@ -153,28 +153,31 @@ a graph that isn't proper, 8 unresolvable or unresolved.
     (
         "map",
         b"It writes a netlist as `synth` does, with a cell of the library for each
-signal; where none fits, further signals take a gate apart. With `plain` no pin
-has a complement, so that the netlist is cells and wires. A library in a file
-genlib is named ./genlib there.
+signal; where none fits, further signals take a gate apart. With `suggest` the
+first signals are those of `suggest F complex`. With `plain` no pin has a
+complement, so that the netlist is cells and wires. A library in a file genlib
+is named ./genlib before such a word.
 
 Example:
 
   sisyn map examples/c-element-three.sg genlib examples/everyday.genlib
 
 Statuses: 0, 1 nomemory, 3 readfault, 4 writefault, 5 toolong, 6 badtext, 7 of
-a graph that isn't proper, 8 unresolved, 9 unmapped.
+a graph that isn't proper, 8 unresolved or with `suggest` unresolvable, 9
+unmapped.
 ",
     ),
     (
         "resolve",
-        b"It writes the graph after the insertions that `synth` makes.
+        b"It writes the graph after the insertions that `synth` makes, or with `suggest`
+after those of `suggest F complex`.
 
 Example:
 
   sisyn resolve examples/vme-read.sg | sisyn synth /dev/stdin gc
 
 Statuses: 0, 1 nomemory, 3 readfault, 4 writefault, 5 toolong, 6 badtext, 7 of
-a graph that isn't proper, 8 unresolved.
+a graph that isn't proper, 8 unresolved or with `suggest` unresolvable.
 ",
     ),
     (
@@ -284,6 +287,21 @@ Example:
 
 Statuses: 0, 1 nomemory, 3 readfault, 4 writefault, 5 toolong, 6 badtext or
 lists, 7 of a graph that isn't proper, 14 unlike.
+",
+    ),
+    (
+        "compose",
+        b"It writes the graph of all the graphs side by side, up to 64: a signal of one
+name is one signal, and an event of it is an event of all that have it. Netlists
+that are right for the graphs are right together for this one.
+
+Example:
+
+  sisyn compose examples/stage-first.sg examples/stage-second.sg
+
+Statuses: 0, 1 nomemory, 3 readfault, 4 writefault, 5 toolong, 6 badtext, 7 of a
+graph that isn't proper, 12 driven, private, signals, starts, states,
+interferes, arcs or constant.
 ",
     ),
     (

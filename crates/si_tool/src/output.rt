@@ -4,22 +4,26 @@ ghost use Rattle.std.specs.Prelude.{◌≡◌, ℕ, ◌≤◌, List, IfOk, IfErr
 ghost use Rattle.si_words.specs.Loops.Reads.{words_now};
 ghost use Rattle.si_refusals.specs.Ending.{MayStop, MayStopLoading, ending_of};
 ghost use Rattle.si_refusals.specs.Refusal.{Output};
-ghost use Rattle.si_tool.specs.Command.{Fit, digits, form_of, number_of};
+ghost use Rattle.si_tool.specs.Command.{digits, form_of, format_of, is_suggested, number_of};
+ghost use Rattle.si_tool.specs.Form.{Fit};
 ghost use Rattle.si_handshakes.specs.Handshakes.{max_handshakes};
 ghost use Rattle.si_words.specs.Names.{stands_in};
 ghost use Rattle.si_tool.specs.Loads as stage;
 ghost use Rattle.si_tool.specs.Loads.{CountsStay, IsUnread, LoadsFirst, loads};
-ghost use Rattle.si_tool.specs.Meaning.{ComesTo, MayStopCommand, meaning};
+ghost use Rattle.si_tool.specs.Meaning.{ComesTo, MayStopCommand, mapped_by, meaning, resolved_by};
 ghost use Rattle.si_tool.specs.Loops.Reads.{request_of, texts_now};
 
 use crate::about::about;
 use crate::command::Command;
-use crate::task::Task;
+use crate::form::is_listed;
+use crate::task::{LibraryKind, Task};
 use si_base::limits::MAX_TEXT;
 use si_base::text::Text;
+use si_cell::pins::Pins;
 use si_exercise::exercise::exercise;
 use si_io::shelf::{LoadFault, Shelf};
 use si_likeness::same::same;
+use si_readings::library_format::LibraryFormat;
 use si_refusals::refusals::Refusal;
 use si_stages::audited::audit_texts;
 use si_stages::genlib::genlib;
@@ -30,7 +34,10 @@ use si_stages::replayed::replay_texts;
 use si_stages::report::report;
 use si_stages::synth::synth;
 use si_stages::verilog::verilog;
+use si_suggestion::mapped::map_suggested;
+use si_suggestion::resolved::resolve_suggested;
 use si_suggestion::suggested::suggest_text;
+use si_systems::compose::compose_texts;
 use std::alloc::Global;
 
 /// The output of a command over the files of the shelf, or the refusal that is due.
@@ -84,7 +91,12 @@ fn output_of_texts<'w>(
         Task::Verilog => verilog(alloc, files[0], &texts[0]),
         Task::TellNetlist(what) => netlist_report(alloc, what, files[0], &texts[0]),
         Task::FromGenlib => genlib(alloc, files[0], &texts[0]),
-        Task::Map(format) => map_texts(alloc, format, files[0], &texts[0], files[1], &texts[1]),
+        Task::Map(kind) => {
+            let format = library_format(kind, choices);
+            mapped(
+                alloc, choices, format, files[0], &texts[0], files[1], &texts[1],
+            )
+        }
         Task::Replay(what) => {
             let (graph, netlist, schedule) = (files[0], files[1], files[2]);
             replay_texts(
@@ -92,10 +104,68 @@ fn output_of_texts<'w>(
             )
         }
         Task::Audit => audit_texts(alloc, files[0], &texts[0], files[1], &texts[1]),
-        Task::Resolve => resolve(alloc, files[0], &texts[0]),
+        Task::Resolve => resolved(alloc, choices, files[0], &texts[0]),
         Task::Insert => insert(alloc, files[0], &texts[0], files[1], &texts[1]),
         Task::Same => same(alloc, files[0], &texts[0], files[1], &texts[1]),
+        Task::Compose => compose_texts(alloc, files, texts),
         Task::Exercise => Ok(exercise(alloc, number(choices[0]))?),
+    }
+}
+
+/// The graph after the insertions that the options ask for.
+fn resolved<'w>(
+    alloc: Global,
+    options: &[&str],
+    file: &'w str,
+    text: &[u8],
+) -> Result<Text, Refusal<'w>>
+    ensures ok { IfOk result (λ output.
+        resolved_by (is_suggested (words_now options.now)) file.now text.now (Ok output)) }
+    ensures err { IfErr result (λ r. MayStop
+        (resolved_by (is_suggested (words_now options.now)) file.now text.now) (ending_of r)) }
+{
+    if is_listed(options, "suggest") {
+        resolve_suggested(alloc, file, text)
+    } else {
+        resolve(alloc, file, text)
+    }
+}
+
+/// The netlist of cells over them.
+fn mapped<'w, 't>(
+    alloc: Global,
+    options: &[&str],
+    format: LibraryFormat,
+    graph_file: &'w str,
+    graph: &'t [u8],
+    library_file: &'w str,
+    library: &'t [u8],
+) -> Result<Text, Refusal<'w>>
+    ensures ok { IfOk result (λ output. mapped_by (is_suggested (words_now options.now)) format
+        graph_file.now graph.now library_file.now library.now (Ok output)) }
+    ensures err { IfErr result (λ r. MayStop
+        (mapped_by (is_suggested (words_now options.now)) format
+        graph_file.now graph.now library_file.now library.now) (ending_of r)) }
+{
+    if is_listed(options, "suggest") {
+        map_suggested(alloc, format, graph_file, graph, library_file, library)
+    } else {
+        map_texts(alloc, format, graph_file, graph, library_file, library)
+    }
+}
+
+/// The format of a library that is read so, with pins as the options ask for.
+fn library_format(kind: LibraryKind, options: &[&str]) -> LibraryFormat
+    ensures { result ≡ format_of kind (words_now options.now) }
+{
+    let pins = if is_listed(options, "plain") {
+        Pins::Plain
+    } else {
+        Pins::Any
+    };
+    match kind {
+        LibraryKind::Cells => LibraryFormat::Own(pins),
+        LibraryKind::Gates => LibraryFormat::Genlib(pins),
     }
 }
 

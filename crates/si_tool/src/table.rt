@@ -4,22 +4,22 @@ ghost use Rattle.std.specs.Prelude.{◌≡◌, map};
 ghost use Rattle.si_tool.specs.Command as command;
 ghost use Rattle.si_tool.specs.Loops.Reads.{row_now};
 
-use crate::form::Slot;
 use crate::form::Slot::{File, LibraryFile, LoneFile, OneOf, Word};
-use crate::task::{HelpPlace, Task, Topic};
-use si_cell::pins::Pins;
+use crate::form::Tail::{MoreFiles, Nothing, Options};
+use crate::form::{Slot, Tail};
+use crate::task::{HelpPlace, LibraryKind, Task, Topic};
 use si_circuit::style::Style;
-use si_readings::library_format::LibraryFormat;
 use si_stages::netlist_report::NetlistReport;
 use si_stages::replay_kind::ReplayReport;
 use si_stages::report_kind::Report;
 
-/// A command: what it does, the form in which it is written, with the names of its files, and what
-/// the help says of it.
+/// A command: what it does, the form in which it is written, with the names of its files and with
+/// its options, and what the help says of it.
 #[derive(Clone, Copy)]
 pub struct Row {
     pub task: Task,
-    pub form: &'static [Slot<'static>],
+    pub places: &'static [Slot<'static>],
+    pub tail: Tail<'static>,
     pub says: &'static str,
 }
 
@@ -50,6 +50,7 @@ const COMMANDS: &[&str] = &[
     "wave",
     "audit",
     "same",
+    "compose",
     "exercise",
     "help",
     "--version",
@@ -58,172 +59,198 @@ const COMMANDS: &[&str] = &[
 /// The digits from 1 to 8.
 const DIGITS: &[&str] = &["1", "2", "3", "4", "5", "6", "7", "8"];
 
+/// The options of `resolve`: insertions that a wider search finds.
+const RESOLVE_OPTIONS: &[&str] = &["suggest"];
+
+/// The options of `map`: the same, and pins without complements.
+const MAP_OPTIONS: &[&str] = &["suggest", "plain"];
+
 /// The rows.
 const ROWS: &[Row] = &[
     Row {
         task: Task::Tell(Report::Summary),
-        form: &[Word("check"), LoneFile("F")],
+        places: &[Word("check"), LoneFile("F")],
+        tail: Nothing,
         says: "the size of a graph, where it is proper",
     },
     Row {
         task: Task::Tell(Report::States),
-        form: &[Word("states"), LoneFile("F")],
+        places: &[Word("states"), LoneFile("F")],
+        tail: Nothing,
         says: "its states: their codes, what they enable",
     },
     Row {
         task: Task::Tell(Report::Regions),
-        form: &[Word("regions"), LoneFile("F")],
+        places: &[Word("regions"), LoneFile("F")],
+        tail: Nothing,
         says: "where events are excited, and what follows",
     },
     Row {
         task: Task::Tell(Report::Conflicts),
-        form: &[Word("conflicts"), LoneFile("F")],
+        places: &[Word("conflicts"), LoneFile("F")],
+        tail: Nothing,
         says: "states that no gates can tell apart",
     },
     Row {
         task: Task::Tell(Report::Explain),
-        form: &[Word("explain"), LoneFile("F")],
+        places: &[Word("explain"), LoneFile("F")],
+        tail: Nothing,
         says: "walks to them, and which no signal resolves",
     },
     Row {
         task: Task::Tell(Report::Lint),
-        form: &[Word("lint"), LoneFile("F")],
+        places: &[Word("lint"), LoneFile("F")],
+        tail: Nothing,
         says: "dead ends, and more worth a second look",
     },
     Row {
         task: Task::Tell(Report::Covers),
-        form: &[Word("covers"), LoneFile("F")],
+        places: &[Word("covers"), LoneFile("F")],
+        tail: Nothing,
         says: "sums for each signal, and monotonous cubes",
     },
     Row {
         task: Task::Tell(Report::Fold),
-        form: &[Word("fold"), LoneFile("F")],
+        places: &[Word("fold"), LoneFile("F")],
+        tail: Nothing,
         says: "the graph with alike states merged",
     },
     Row {
         task: Task::Tell(Report::Dot),
-        form: &[Word("dot"), LoneFile("F")],
+        places: &[Word("dot"), LoneFile("F")],
+        tail: Nothing,
         says: "the graph as a picture for Graphviz",
     },
     Row {
         task: Task::Synth(Style::Complex),
-        form: &[Word("synth"), File("F"), Word("complex")],
+        places: &[Word("synth"), File("F"), Word("complex")],
+        tail: Nothing,
         says: "a netlist of complex gates",
     },
     Row {
         task: Task::Synth(Style::GeneralisedC),
-        form: &[Word("synth"), File("F"), Word("gc")],
+        places: &[Word("synth"), File("F"), Word("gc")],
+        tail: Nothing,
         says: "a netlist of generalised C-elements",
     },
     Row {
         task: Task::Suggest(Style::Complex),
-        form: &[Word("suggest"), File("F"), Word("complex")],
+        places: &[Word("suggest"), File("F"), Word("complex")],
+        tail: Nothing,
         says: "the same by a wider search",
     },
     Row {
         task: Task::Suggest(Style::GeneralisedC),
-        form: &[Word("suggest"), File("F"), Word("gc")],
+        places: &[Word("suggest"), File("F"), Word("gc")],
+        tail: Nothing,
         says: "the same by a wider search",
     },
     Row {
-        task: Task::Map(LibraryFormat::Own(Pins::Any)),
-        form: &[Word("map"), File("F"), File("LIB")],
+        task: Task::Map(LibraryKind::Cells),
+        places: &[Word("map"), File("F"), LibraryFile("LIB")],
+        tail: Options(MAP_OPTIONS),
         says: "a netlist of cells of a library",
     },
     Row {
-        task: Task::Map(LibraryFormat::Own(Pins::Plain)),
-        form: &[Word("map"), File("F"), LibraryFile("LIB"), Word("plain")],
-        says: "the same of cells and wires alone",
-    },
-    Row {
-        task: Task::Map(LibraryFormat::Genlib(Pins::Any)),
-        form: &[Word("map"), File("F"), Word("genlib"), File("FILE")],
-        says: "a netlist of gates of a library of genlib",
-    },
-    Row {
-        task: Task::Map(LibraryFormat::Genlib(Pins::Plain)),
-        form: &[
-            Word("map"),
-            File("F"),
-            Word("genlib"),
-            File("FILE"),
-            Word("plain"),
-        ],
-        says: "the same of gates and wires alone",
+        task: Task::Map(LibraryKind::Gates),
+        places: &[Word("map"), File("F"), Word("genlib"), File("FILE")],
+        tail: Options(MAP_OPTIONS),
+        says: "the same of gates of genlib",
     },
     Row {
         task: Task::Resolve,
-        form: &[Word("resolve"), LoneFile("F")],
+        places: &[Word("resolve"), LoneFile("F")],
+        tail: Options(RESOLVE_OPTIONS),
         says: "the graph with its conflicts resolved",
     },
     Row {
         task: Task::Insert,
-        form: &[Word("insert"), File("F"), File("NETLIST")],
+        places: &[Word("insert"), File("F"), File("NETLIST")],
+        tail: Nothing,
         says: "the graph after insertions of a netlist",
     },
     Row {
         task: Task::FromGenlib,
-        form: &[Word("genlib"), LoneFile("FILE")],
+        places: &[Word("genlib"), LoneFile("FILE")],
+        tail: Nothing,
         says: "a library of genlib as a library of cells",
     },
     Row {
         task: Task::Verilog,
-        form: &[Word("verilog"), LoneFile("NETLIST")],
+        places: &[Word("verilog"), LoneFile("NETLIST")],
+        tail: Nothing,
         says: "a netlist as a module of Verilog",
     },
     Row {
         task: Task::TellNetlist(NetlistReport::Loops),
-        form: &[Word("loops"), LoneFile("NETLIST")],
+        places: &[Word("loops"), LoneFile("NETLIST")],
+        tail: Nothing,
         says: "which pins to cut, so that it has no loop",
     },
     Row {
         task: Task::TellNetlist(NetlistReport::Reset),
-        form: &[Word("reset"), LoneFile("NETLIST")],
+        places: &[Word("reset"), LoneFile("NETLIST")],
+        tail: Nothing,
         says: "which outputs to force, so that it starts",
     },
     Row {
         task: Task::Replay(ReplayReport::End),
-        form: &[Word("replay"), File("F"), File("NETLIST"), File("SCHEDULE")],
+        places: &[Word("replay"), File("F"), File("NETLIST"), File("SCHEDULE")],
+        tail: Nothing,
         says: "where a schedule over a netlist ends",
     },
     Row {
         task: Task::Replay(ReplayReport::Wave),
-        form: &[Word("wave"), File("F"), File("NETLIST"), File("SCHEDULE")],
+        places: &[Word("wave"), File("F"), File("NETLIST"), File("SCHEDULE")],
+        tail: Nothing,
         says: "the same as a Value Change Dump",
     },
     Row {
         task: Task::Audit,
-        form: &[Word("audit"), File("F"), File("NETLIST")],
+        places: &[Word("audit"), File("F"), File("NETLIST")],
+        tail: Nothing,
         says: "whether a netlist is certified for a graph",
     },
     Row {
         task: Task::Same,
-        form: &[Word("same"), File("F"), File("G")],
+        places: &[Word("same"), File("F"), File("G")],
+        tail: Nothing,
         says: "whether two graphs behave alike",
     },
     Row {
+        task: Task::Compose,
+        places: &[Word("compose"), File("F"), File("G")],
+        tail: MoreFiles(62),
+        says: "the graph of graphs side by side",
+    },
+    Row {
         task: Task::Exercise,
-        form: &[Word("exercise"), OneOf("N", DIGITS)],
+        places: &[Word("exercise"), OneOf("N", DIGITS)],
+        tail: Nothing,
         says: "the sizes of N handshakes, from 1 to 8",
     },
     Row {
         task: Task::About(Topic::Help),
-        form: &[OneOf("--help, -h or help", HELP_WORDS)],
+        places: &[OneOf("--help, -h or help", HELP_WORDS)],
+        tail: Nothing,
         says: "this text",
     },
     Row {
         task: Task::About(Topic::Page(HelpPlace::Before)),
-        form: &[Word("help"), OneOf("COMMAND", COMMANDS)],
+        places: &[Word("help"), OneOf("COMMAND", COMMANDS)],
+        tail: Nothing,
         says: "what a command writes, and how it may end",
     },
     Row {
         task: Task::About(Topic::Page(HelpPlace::Behind)),
-        form: &[OneOf("COMMAND", COMMANDS), Word("--help")],
+        places: &[OneOf("COMMAND", COMMANDS), Word("--help")],
+        tail: Nothing,
         says: "the same",
     },
     Row {
         task: Task::About(Topic::Version),
-        form: &[Word("--version")],
+        places: &[Word("--version")],
+        tail: Nothing,
         says: "the version, and what proved it",
     },
 ];

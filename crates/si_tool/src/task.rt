@@ -1,7 +1,6 @@
 //! What a command does.
 
 use si_circuit::style::Style;
-use si_readings::library_format::LibraryFormat;
 use si_stages::netlist_report::NetlistReport;
 use si_stages::replay_kind::ReplayReport;
 use si_stages::report_kind::Report;
@@ -26,6 +25,15 @@ pub enum HelpPlace {
     Behind,
 }
 
+/// How the text of a library is read.
+#[derive(Clone, Copy, PartialEq, Eq, Debug)]
+pub enum LibraryKind {
+    /// As cells, in the tool's own format.
+    Cells,
+    /// As gates, in genlib.
+    Gates,
+}
+
 /// What a command does, whatever its files.
 #[derive(Clone, Copy, PartialEq, Eq, Debug)]
 pub enum Task {
@@ -37,9 +45,8 @@ pub enum Task {
     Synth(Style),
     /// A netlist of a graph, with gates of the style, that a wider search may have found.
     Suggest(Style),
-    /// The netlist of a graph, of the cells of a library that is read in the format, with pins of
-    /// its kind.
-    Map(LibraryFormat),
+    /// The netlist of a graph, of the cells of a library that is read so.
+    Map(LibraryKind),
     /// A library of genlib in the tool's own format.
     FromGenlib,
     /// A netlist as a module of Verilog.
@@ -56,6 +63,8 @@ pub enum Task {
     Insert,
     /// Whether two graphs behave alike.
     Same,
+    /// The graph of the graphs of all files, side by side.
+    Compose,
     /// The sizes of as many handshakes as the words choose.
     Exercise,
 }

@@ -2,17 +2,21 @@
 use Rattle.std.specs.Prelude.{ℕ, List, map, Vec}
 use Rattle.std.specs.declared.alloc.Global.{Global}
 use Rattle.si_words.specs.Loops.Reads.{words_now}
-use Rattle.si_tool.specs.Command.{Request, Row, Slot, Word, File, LoneFile, LibraryFile, OneOf}
+use Rattle.si_tool.specs.Command.{Request, Row}
+use Rattle.si_tool.specs.Form.{Form, Slot, Word, File, LoneFile, LibraryFile, OneOf, Tail, Nothing}
+use Rattle.si_tool.specs.Form.{MoreFiles, Options}
 use Rattle.si_tool.specs.declared.command.Command.{Command}
 use Rattle.si_tool.specs.declared.form.Slot.{Slot as HeldSlot}
 use Rattle.si_tool.specs.declared.form.Slot.TheVariants as held
+use Rattle.si_tool.specs.declared.form.Tail.{Tail as HeldTail}
+use Rattle.si_tool.specs.declared.form.Tail.TheVariants as tail
 use Rattle.si_tool.specs.declared.table.Row.{Row as HeldRow}
 
 -- texts, by their bytes
 abbrev pub texts_now : List (Vec ℕ Global) → List (List ℕ)
 texts_now texts = map (λ text. text.items) texts
 
--- a form, with its words by their bytes
+-- the places of a form, and what stands behind them, with their words by their bytes
 abbrev pub slot_now : HeldSlot → Slot
 slot_now (held.Word word) = Word word.now
 slot_now (held.File name) = File name.now
@@ -21,11 +25,19 @@ slot_now (held.LibraryFile name) = LibraryFile name.now
 slot_now (held.OneOf name words) = OneOf name.now (words_now words.now)
 
 abbrev pub slots_now : List HeldSlot → List Slot
-slots_now form = map slot_now form
+slots_now places = map slot_now places
+
+abbrev pub tail_now : HeldTail → Tail
+tail_now tail.Nothing = Nothing
+tail_now (tail.MoreFiles most) = MoreFiles most
+tail_now (tail.Options options) = Options (words_now options.now)
+
+abbrev pub form_now : List HeldSlot → HeldTail → Form
+form_now places tail = record { places = slots_now places; tail = tail_now tail }
 
 -- a row of the table
 abbrev pub row_now : HeldRow → Row
-row_now row = record { form = slots_now row.form.now; says = row.says.now }
+row_now row = record { form = form_now row.places.now row.tail; says = row.says.now }
 
 -- a command: its task, with what its words give it
 abbrev pub request_of : Command → Request

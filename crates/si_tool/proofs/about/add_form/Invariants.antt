@@ -8,4 +8,4 @@ use Rattle.si_tool.proofs.about.add_form.Given as goal
 -- the words of the places so far are there
 abbrev pub invariant-loop-slot : goal.invariant-loop-slot
 invariant-loop-slot l =
-    l.text ≡ l.initial.text ++ flat_map (λ slot. space ∷ shown_slot (slot_now slot)) (take l.slot-index l.form)
+    l.text ≡ l.initial.text ++ flat_map (λ slot. space ∷ shown_slot (slot_now slot)) (take l.slot-index l.places)

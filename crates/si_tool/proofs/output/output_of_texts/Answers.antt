@@ -1,122 +1,121 @@
-use Rattle.std.proofs.Common.{◌≡◌, ◌∙◌, length, subst}
+use Rattle.std.proofs.Common.{length, arith}
 use Rattle.si_words.specs.Loops.Reads.{words_now}
-use Rattle.si_tool.specs.Command.{choice_count, form_of}
-use Rattle.si_tool.specs.declared.task.Task.{Task}
+use Rattle.si_tool.specs.Command.{form_of}
 use Rattle.si_tool.proofs.ReadsLemmas.{read_one, read_two, read_three}
-use Rattle.si_tool.proofs.CommandTasks.{two_files}
-use Rattle.si_tool.proofs.FormLemmas.{count_of_names, count_of_chosen}
+use Rattle.si_tool.proofs.CommandTasks.{no_options, two_files}
+use Rattle.si_tool.proofs.FormLemmas.{counted_choices, counted_files}
 use Rattle.si_tool.proofs.output.output_of_texts.Goals as goal
 
 pub about-requires : goal.about-requires
 about-requires c =
-    let many = count_of_chosen (form_of c.args.task) (words_now c.args.files.now) c.args.choices.now c.requires.given in
-    subst (λ (task : Task). length c.args.choices.now ≡ choice_count (form_of task)) c.in-About.is many
+    let many = counted_choices (form_of c.args.task) (words_now c.args.files.now) c.args.choices.now c.requires.given in
+    no_options c.in-About.topic (length c.args.choices.now) (rw c.in-About.is at many)
 
 pub returns-in-Tell-clause-ok : goal.returns-in-Tell-clause-ok
 returns-in-Tell-clause-ok c =
-    let many = count_of_names (form_of c.args.task) c.args.files.now (words_now c.args.choices.now) c.requires.given in
+    let many = counted_files (form_of c.args.task) c.args.files.now (words_now c.args.choices.now) c.requires.given in
     let are = read_one c.args.files.now c.args.texts.now _ _ (rw c.in-Tell.is at many) c.requires.texts
     c.index-texts-0.is c.deref.ensures.value in
     rw (c.in-Tell.is, are.0, are.1) c.report.ensures.ok
 
 pub returns-in-Tell-clause-err : goal.returns-in-Tell-clause-err
 returns-in-Tell-clause-err c =
-    let many = count_of_names (form_of c.args.task) c.args.files.now (words_now c.args.choices.now) c.requires.given in
+    let many = counted_files (form_of c.args.task) c.args.files.now (words_now c.args.choices.now) c.requires.given in
     let are = read_one c.args.files.now c.args.texts.now _ _ (rw c.in-Tell.is at many) c.requires.texts
     c.index-texts-0.is c.deref.ensures.value in
     rw (c.in-Tell.is, are.0, are.1) c.report.ensures.err
 
 pub returns-in-Synth-clause-ok : goal.returns-in-Synth-clause-ok
 returns-in-Synth-clause-ok c =
-    let many = count_of_names (form_of c.args.task) c.args.files.now (words_now c.args.choices.now) c.requires.given in
+    let many = counted_files (form_of c.args.task) c.args.files.now (words_now c.args.choices.now) c.requires.given in
     let are = read_one c.args.files.now c.args.texts.now _ _ (rw c.in-Synth.is at many) c.requires.texts
     c.index-texts-0-in-Synth.is c.deref-in-Synth.ensures.value in
     rw (c.in-Synth.is, are.0, are.1) c.synth.ensures.ok
 
 pub returns-in-Synth-clause-err : goal.returns-in-Synth-clause-err
 returns-in-Synth-clause-err c =
-    let many = count_of_names (form_of c.args.task) c.args.files.now (words_now c.args.choices.now) c.requires.given in
+    let many = counted_files (form_of c.args.task) c.args.files.now (words_now c.args.choices.now) c.requires.given in
     let are = read_one c.args.files.now c.args.texts.now _ _ (rw c.in-Synth.is at many) c.requires.texts
     c.index-texts-0-in-Synth.is c.deref-in-Synth.ensures.value in
     rw (c.in-Synth.is, are.0, are.1) c.synth.ensures.err
 
 pub returns-in-Suggest-clause-ok : goal.returns-in-Suggest-clause-ok
 returns-in-Suggest-clause-ok c =
-    let many = count_of_names (form_of c.args.task) c.args.files.now (words_now c.args.choices.now) c.requires.given in
+    let many = counted_files (form_of c.args.task) c.args.files.now (words_now c.args.choices.now) c.requires.given in
     let are = read_one c.args.files.now c.args.texts.now _ _ (rw c.in-Suggest.is at many) c.requires.texts
     c.index-texts-0-in-Suggest.is c.deref-in-Suggest.ensures.value in
     rw (c.in-Suggest.is, are.0, are.1) c.suggest_text.ensures.ok
 
 pub returns-in-Suggest-clause-err : goal.returns-in-Suggest-clause-err
 returns-in-Suggest-clause-err c =
-    let many = count_of_names (form_of c.args.task) c.args.files.now (words_now c.args.choices.now) c.requires.given in
+    let many = counted_files (form_of c.args.task) c.args.files.now (words_now c.args.choices.now) c.requires.given in
     let are = read_one c.args.files.now c.args.texts.now _ _ (rw c.in-Suggest.is at many) c.requires.texts
     c.index-texts-0-in-Suggest.is c.deref-in-Suggest.ensures.value in
     rw (c.in-Suggest.is, are.0, are.1) c.suggest_text.ensures.err
 
 pub returns-in-Verilog-clause-ok : goal.returns-in-Verilog-clause-ok
 returns-in-Verilog-clause-ok c =
-    let many = count_of_names (form_of c.args.task) c.args.files.now (words_now c.args.choices.now) c.requires.given in
+    let many = counted_files (form_of c.args.task) c.args.files.now (words_now c.args.choices.now) c.requires.given in
     let are = read_one c.args.files.now c.args.texts.now _ _ (rw c.in-Verilog.is at many) c.requires.texts
     c.index-texts-0-in-Verilog.is c.deref-in-Verilog.ensures.value in
     rw (c.in-Verilog.is, are.0, are.1) c.verilog.ensures.ok
 
 pub returns-in-Verilog-clause-err : goal.returns-in-Verilog-clause-err
 returns-in-Verilog-clause-err c =
-    let many = count_of_names (form_of c.args.task) c.args.files.now (words_now c.args.choices.now) c.requires.given in
+    let many = counted_files (form_of c.args.task) c.args.files.now (words_now c.args.choices.now) c.requires.given in
     let are = read_one c.args.files.now c.args.texts.now _ _ (rw c.in-Verilog.is at many) c.requires.texts
     c.index-texts-0-in-Verilog.is c.deref-in-Verilog.ensures.value in
     rw (c.in-Verilog.is, are.0, are.1) c.verilog.ensures.err
 
 pub returns-in-TellNetlist-clause-ok : goal.returns-in-TellNetlist-clause-ok
 returns-in-TellNetlist-clause-ok c =
-    let many = count_of_names (form_of c.args.task) c.args.files.now (words_now c.args.choices.now) c.requires.given in
+    let many = counted_files (form_of c.args.task) c.args.files.now (words_now c.args.choices.now) c.requires.given in
     let are = read_one c.args.files.now c.args.texts.now _ _ (rw c.in-TellNetlist.is at many) c.requires.texts
     c.index-texts-0-in-TellNetlist.is c.deref-in-TellNetlist.ensures.value in
     rw (c.in-TellNetlist.is, are.0, are.1) c.netlist_report.ensures.ok
 
 pub returns-in-TellNetlist-clause-err : goal.returns-in-TellNetlist-clause-err
 returns-in-TellNetlist-clause-err c =
-    let many = count_of_names (form_of c.args.task) c.args.files.now (words_now c.args.choices.now) c.requires.given in
+    let many = counted_files (form_of c.args.task) c.args.files.now (words_now c.args.choices.now) c.requires.given in
     let are = read_one c.args.files.now c.args.texts.now _ _ (rw c.in-TellNetlist.is at many) c.requires.texts
     c.index-texts-0-in-TellNetlist.is c.deref-in-TellNetlist.ensures.value in
     rw (c.in-TellNetlist.is, are.0, are.1) c.netlist_report.ensures.err
 
 pub returns-in-FromGenlib-clause-ok : goal.returns-in-FromGenlib-clause-ok
 returns-in-FromGenlib-clause-ok c =
-    let many = count_of_names (form_of c.args.task) c.args.files.now (words_now c.args.choices.now) c.requires.given in
+    let many = counted_files (form_of c.args.task) c.args.files.now (words_now c.args.choices.now) c.requires.given in
     let are = read_one c.args.files.now c.args.texts.now _ _ (rw c.in-FromGenlib.is at many)
     c.requires.texts c.index-texts-0-in-FromGenlib.is c.deref-in-FromGenlib.ensures.value in
     rw (c.in-FromGenlib.is, are.0, are.1) c.genlib.ensures.ok
 
 pub returns-in-FromGenlib-clause-err : goal.returns-in-FromGenlib-clause-err
 returns-in-FromGenlib-clause-err c =
-    let many = count_of_names (form_of c.args.task) c.args.files.now (words_now c.args.choices.now) c.requires.given in
+    let many = counted_files (form_of c.args.task) c.args.files.now (words_now c.args.choices.now) c.requires.given in
     let are = read_one c.args.files.now c.args.texts.now _ _ (rw c.in-FromGenlib.is at many)
     c.requires.texts c.index-texts-0-in-FromGenlib.is c.deref-in-FromGenlib.ensures.value in
     rw (c.in-FromGenlib.is, are.0, are.1) c.genlib.ensures.err
 
 pub returns-in-Map-clause-ok : goal.returns-in-Map-clause-ok
 returns-in-Map-clause-ok c =
-    let many = count_of_names (form_of c.args.task) c.args.files.now (words_now c.args.choices.now) c.requires.given in
+    let many = counted_files (form_of c.args.task) c.args.files.now (words_now c.args.choices.now) c.requires.given in
     let counted = rw c.in-Map.is at many in
-    let are = read_two c.args.files.now c.args.texts.now _ _ _ _ (counted ∙ two_files c.in-Map.format)
+    let are = read_two c.args.files.now c.args.texts.now _ _ _ _ (two_files c.in-Map.kind _ counted)
     c.requires.texts c.index-texts-0-in-Map.is c.index-texts-1.is c.deref-in-Map.ensures.value
     c.deref-in-Map-2.ensures.value in
-    rw (c.in-Map.is, are.0, are.1) c.map_texts.ensures.ok
+    rw (c.in-Map.is, are.0, are.1) (rw c.library_format-format.ensures at c.mapped.ensures.ok)
 
 pub returns-in-Map-clause-err : goal.returns-in-Map-clause-err
 returns-in-Map-clause-err c =
-    let many = count_of_names (form_of c.args.task) c.args.files.now (words_now c.args.choices.now) c.requires.given in
+    let many = counted_files (form_of c.args.task) c.args.files.now (words_now c.args.choices.now) c.requires.given in
     let counted = rw c.in-Map.is at many in
-    let are = read_two c.args.files.now c.args.texts.now _ _ _ _ (counted ∙ two_files c.in-Map.format)
+    let are = read_two c.args.files.now c.args.texts.now _ _ _ _ (two_files c.in-Map.kind _ counted)
     c.requires.texts c.index-texts-0-in-Map.is c.index-texts-1.is c.deref-in-Map.ensures.value
     c.deref-in-Map-2.ensures.value in
-    rw (c.in-Map.is, are.0, are.1) c.map_texts.ensures.err
+    rw (c.in-Map.is, are.0, are.1) (rw c.library_format-format.ensures at c.mapped.ensures.err)
 
 pub returns-in-Replay-clause-ok : goal.returns-in-Replay-clause-ok
 returns-in-Replay-clause-ok c =
-    let many = count_of_names (form_of c.args.task) c.args.files.now (words_now c.args.choices.now) c.requires.given in
+    let many = counted_files (form_of c.args.task) c.args.files.now (words_now c.args.choices.now) c.requires.given in
     let are = read_three c.args.files.now c.args.texts.now _ _ _ _ _ _ (rw c.in-Replay.is at many)
     c.requires.texts c.index-texts-0-in-Replay.is c.index-texts-1-in-Replay.is c.index-texts-2.is
     c.deref-in-Replay.ensures.value c.deref-in-Replay-2.ensures.value c.deref-in-Replay-3.ensures.value in
@@ -124,7 +123,7 @@ returns-in-Replay-clause-ok c =
 
 pub returns-in-Replay-clause-err : goal.returns-in-Replay-clause-err
 returns-in-Replay-clause-err c =
-    let many = count_of_names (form_of c.args.task) c.args.files.now (words_now c.args.choices.now) c.requires.given in
+    let many = counted_files (form_of c.args.task) c.args.files.now (words_now c.args.choices.now) c.requires.given in
     let are = read_three c.args.files.now c.args.texts.now _ _ _ _ _ _ (rw c.in-Replay.is at many)
     c.requires.texts c.index-texts-0-in-Replay.is c.index-texts-1-in-Replay.is c.index-texts-2.is
     c.deref-in-Replay.ensures.value c.deref-in-Replay-2.ensures.value c.deref-in-Replay-3.ensures.value in
@@ -132,7 +131,7 @@ returns-in-Replay-clause-err c =
 
 pub returns-in-Audit-clause-ok : goal.returns-in-Audit-clause-ok
 returns-in-Audit-clause-ok c =
-    let many = count_of_names (form_of c.args.task) c.args.files.now (words_now c.args.choices.now) c.requires.given in
+    let many = counted_files (form_of c.args.task) c.args.files.now (words_now c.args.choices.now) c.requires.given in
     let are = read_two c.args.files.now c.args.texts.now _ _ _ _ (rw c.in-Audit.is at many)
     c.requires.texts c.index-texts-0-in-Audit.is c.index-texts-1-in-Audit.is c.deref-in-Audit.ensures.value
     c.deref-in-Audit-2.ensures.value in
@@ -140,7 +139,7 @@ returns-in-Audit-clause-ok c =
 
 pub returns-in-Audit-clause-err : goal.returns-in-Audit-clause-err
 returns-in-Audit-clause-err c =
-    let many = count_of_names (form_of c.args.task) c.args.files.now (words_now c.args.choices.now) c.requires.given in
+    let many = counted_files (form_of c.args.task) c.args.files.now (words_now c.args.choices.now) c.requires.given in
     let are = read_two c.args.files.now c.args.texts.now _ _ _ _ (rw c.in-Audit.is at many)
     c.requires.texts c.index-texts-0-in-Audit.is c.index-texts-1-in-Audit.is c.deref-in-Audit.ensures.value
     c.deref-in-Audit-2.ensures.value in
@@ -148,21 +147,21 @@ returns-in-Audit-clause-err c =
 
 pub returns-in-Resolve-clause-ok : goal.returns-in-Resolve-clause-ok
 returns-in-Resolve-clause-ok c =
-    let many = count_of_names (form_of c.args.task) c.args.files.now (words_now c.args.choices.now) c.requires.given in
+    let many = counted_files (form_of c.args.task) c.args.files.now (words_now c.args.choices.now) c.requires.given in
     let are = read_one c.args.files.now c.args.texts.now _ _ (rw c.in-Resolve.is at many) c.requires.texts
     c.index-texts-0-in-Resolve.is c.deref-in-Resolve.ensures.value in
-    rw (c.in-Resolve.is, are.0, are.1) c.resolve.ensures.ok
+    rw (c.in-Resolve.is, are.0, are.1) c.resolved.ensures.ok
 
 pub returns-in-Resolve-clause-err : goal.returns-in-Resolve-clause-err
 returns-in-Resolve-clause-err c =
-    let many = count_of_names (form_of c.args.task) c.args.files.now (words_now c.args.choices.now) c.requires.given in
+    let many = counted_files (form_of c.args.task) c.args.files.now (words_now c.args.choices.now) c.requires.given in
     let are = read_one c.args.files.now c.args.texts.now _ _ (rw c.in-Resolve.is at many) c.requires.texts
     c.index-texts-0-in-Resolve.is c.deref-in-Resolve.ensures.value in
-    rw (c.in-Resolve.is, are.0, are.1) c.resolve.ensures.err
+    rw (c.in-Resolve.is, are.0, are.1) c.resolved.ensures.err
 
 pub returns-in-Insert-clause-ok : goal.returns-in-Insert-clause-ok
 returns-in-Insert-clause-ok c =
-    let many = count_of_names (form_of c.args.task) c.args.files.now (words_now c.args.choices.now) c.requires.given in
+    let many = counted_files (form_of c.args.task) c.args.files.now (words_now c.args.choices.now) c.requires.given in
     let are = read_two c.args.files.now c.args.texts.now _ _ _ _ (rw c.in-Insert.is at many)
     c.requires.texts c.index-texts-0-in-Insert.is c.index-texts-1-in-Insert.is c.deref-in-Insert.ensures.value
     c.deref-in-Insert-2.ensures.value in
@@ -170,7 +169,7 @@ returns-in-Insert-clause-ok c =
 
 pub returns-in-Insert-clause-err : goal.returns-in-Insert-clause-err
 returns-in-Insert-clause-err c =
-    let many = count_of_names (form_of c.args.task) c.args.files.now (words_now c.args.choices.now) c.requires.given in
+    let many = counted_files (form_of c.args.task) c.args.files.now (words_now c.args.choices.now) c.requires.given in
     let are = read_two c.args.files.now c.args.texts.now _ _ _ _ (rw c.in-Insert.is at many)
     c.requires.texts c.index-texts-0-in-Insert.is c.index-texts-1-in-Insert.is c.deref-in-Insert.ensures.value
     c.deref-in-Insert-2.ensures.value in
@@ -178,7 +177,7 @@ returns-in-Insert-clause-err c =
 
 pub returns-in-Same-clause-ok : goal.returns-in-Same-clause-ok
 returns-in-Same-clause-ok c =
-    let many = count_of_names (form_of c.args.task) c.args.files.now (words_now c.args.choices.now) c.requires.given in
+    let many = counted_files (form_of c.args.task) c.args.files.now (words_now c.args.choices.now) c.requires.given in
     let are = read_two c.args.files.now c.args.texts.now _ _ _ _ (rw c.in-Same.is at many)
     c.requires.texts c.index-texts-0-in-Same.is c.index-texts-1-in-Same.is c.deref-in-Same.ensures.value
     c.deref-in-Same-2.ensures.value in
@@ -186,8 +185,20 @@ returns-in-Same-clause-ok c =
 
 pub returns-in-Same-clause-err : goal.returns-in-Same-clause-err
 returns-in-Same-clause-err c =
-    let many = count_of_names (form_of c.args.task) c.args.files.now (words_now c.args.choices.now) c.requires.given in
+    let many = counted_files (form_of c.args.task) c.args.files.now (words_now c.args.choices.now) c.requires.given in
     let are = read_two c.args.files.now c.args.texts.now _ _ _ _ (rw c.in-Same.is at many)
     c.requires.texts c.index-texts-0-in-Same.is c.index-texts-1-in-Same.is c.deref-in-Same.ensures.value
     c.deref-in-Same-2.ensures.value in
     rw (c.in-Same.is, are.0, are.1) c.same.ensures.err
+
+pub compose_texts-requires-clause-few : goal.compose_texts-requires-clause-few
+compose_texts-requires-clause-few c =
+    let many = counted_files (form_of c.args.task) c.args.files.now (words_now c.args.choices.now) c.requires.given in
+    let count = rw c.in-Compose.is at many in
+    omega (arith, count.high)
+
+pub returns-in-Compose-clause-ok : goal.returns-in-Compose-clause-ok
+returns-in-Compose-clause-ok c = rw c.in-Compose.is c.compose_texts.ensures.ok
+
+pub returns-in-Compose-clause-err : goal.returns-in-Compose-clause-err
+returns-in-Compose-clause-err c = rw c.in-Compose.is c.compose_texts.ensures.err
