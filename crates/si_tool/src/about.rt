@@ -59,7 +59,7 @@ text, line and status, docs/THEOREM.md what is proved.
 ";
 
 /// The program and its version, and the toolchain with which it was proved.
-const VERSION: &[u8] = b"sisyn 0.1, proved by Rattle kit 13b\n";
+const VERSION: &[u8] = b"sisyn 0.1, proved by Rattle kit 13f\n";
 
 /// Blanks behind a form, so that what is said of each begins in one column.
 const BLANKS: &[u8] = b"                                 ";
