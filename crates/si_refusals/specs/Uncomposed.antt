@@ -11,6 +11,6 @@ cause_words (Private signal) = codes "private" ∷ signal ∷ []
 cause_words (Signals count) = codes "signals" ∷ decimal count ∷ []
 cause_words (Starts signal) = codes "starts" ∷ signal ∷ []
 cause_words States = codes "states" ∷ []
-cause_words (Interferes states event) = codes "interferes" ∷ (states ++ event ∷ [])
+cause_words (Interferes states event walk) = codes "interferes" ∷ (states ++ event ∷ walk)
 cause_words Arcs = codes "arcs" ∷ []
 cause_words (Constant signal) = codes "constant" ∷ signal ∷ []

@@ -1,13 +1,15 @@
 //! Why a netlist isn't certified for a graph, by the words of states and events and the names of
 //! signals.
 
-ghost use Rattle.std.specs.Prelude.{◌≡◌, [], ◌∷◌, IfOk, codes, decimal};
+ghost use Rattle.std.specs.Prelude.{◌≡◌, [], ◌∷◌, ◌++◌, IfOk, OnOk, codes, decimal};
 ghost use Rattle.si_base.specs.Words.{line};
-ghost use Rattle.si_refusals.specs.Rejection.{rejection_words};
+ghost use Rattle.si_refusals.specs.Rejection.{insert_words, reason_words};
+ghost use Rattle.si_words.specs.Loops.Reads.{words_now};
 
-use crate::refusals::line_of;
 use si_base::ids::NoMemory;
 use si_base::text::{Name, Text};
+use si_netlist::name_list::NameList;
+use si_netlist::write::add_words;
 use std::alloc::Global;
 
 /// Why a netlist isn't certified for a graph: the first reason. Insertions are counted from 1.
@@ -50,119 +52,92 @@ pub enum NamedRejection {
     },
 }
 
-/// The line of the reason.
+/// The line of the reason why a netlist is rejected.
 pub(crate) fn rejection_line(alloc: Global, reason: &NamedRejection) -> Result<Text, NoMemory>
-    ensures { IfOk result (λ text. text ≡ line (rejection_words reason.now)) }
+    ensures { IfOk result (λ text. text ≡ line (codes "rejected" ∷ reason_words reason.now)) }
+{
+    let mut words = NameList::new(alloc);
+    add_reason(alloc, &mut words, reason)?;
+    line_of_names(alloc, b"rejected", &words)
+}
+
+/// The line of the reason why the netlist of a file isn't certified for its graph.
+pub(crate) fn uncertified_line(
+    alloc: Global,
+    file: &[u8],
+    reason: &NamedRejection,
+) -> Result<Text, NoMemory>
+    ensures { IfOk result (λ text.
+        text ≡ line (codes "uncertified" ∷ file.now ∷ reason_words reason.now)) }
+{
+    let mut words = NameList::new(alloc);
+    words.push(file)?;
+    add_reason(alloc, &mut words, reason)?;
+    line_of_names(alloc, b"uncertified", &words)
+}
+
+/// The line of a word and names.
+fn line_of_names(alloc: Global, first: &[u8], names: &NameList) -> Result<Text, NoMemory>
+    ensures { IfOk result (λ text. text ≡ line (first.now ∷ names.now)) }
+{
+    let mut text = Text::copy_of(alloc, first)?;
+    add_words(&mut text, names)?;
+    text.add(b"\n")?;
+    Ok(text)
+}
+
+/// Puts the words of the reason last.
+fn add_reason(alloc: Global, words: &mut NameList, reason: &NamedRejection) -> Result<(), NoMemory>
+    ensures { OnOk result (words.new ≡ words.old ++ reason_words reason.now) }
 {
     match reason {
-        NamedRejection::States { k } => insert_line(alloc, *k, b"states"),
-        NamedRejection::Classes { k } => insert_line(alloc, *k, b"classes"),
+        NamedRejection::States { k } => add_insert(alloc, words, *k, &[b"states"]),
+        NamedRejection::Classes { k } => add_insert(alloc, words, *k, &[b"classes"]),
         NamedRejection::Delays { k, state, event } => {
-            delays_line(alloc, *k, state.bytes(), event.bytes())
+            add_insert(alloc, words, *k, &[b"delays", state.bytes(), event.bytes()])
         }
-        NamedRejection::Breaks { k, state, lost, by } => {
-            breaks_line(alloc, *k, state.bytes(), lost.bytes(), by.bytes())
-        }
-        NamedRejection::TooLarge { k, states } => too_large_line(alloc, *k, *states),
-        NamedRejection::Start { signal } => {
-            line_of(alloc, b"rejected", &[b"start", signal.bytes()])
-        }
+        NamedRejection::Breaks { k, state, lost, by } => add_insert(
+            alloc,
+            words,
+            *k,
+            &[b"breaks", state.bytes(), lost.bytes(), by.bytes()],
+        ),
+        NamedRejection::TooLarge { k, states } => add_too_large(alloc, words, *k, *states),
+        NamedRejection::Start { signal } => add_all(words, &[b"start", signal.bytes()]),
         NamedRejection::Gate { signal, state } => {
-            line_of(
-                alloc,
-                b"rejected",
-                &[b"gate", signal.bytes(), state.bytes()],
-            )
+            add_all(words, &[b"gate", signal.bytes(), state.bytes()])
         }
     }
 }
 
-/// The line of a reason against insertion number `k` that shows nothing else.
-fn insert_line(alloc: Global, k: u32, what: &[u8]) -> Result<Text, NoMemory>
-    ensures { IfOk result (λ text. text
-        ≡ line (codes "rejected" ∷ codes "insert" ∷ decimal k ∷ what.now ∷ [])) }
+/// Puts last the words of a reason against insertion number `k`.
+fn add_insert(alloc: Global, words: &mut NameList, k: u32, shown: &[&[u8]]) -> Result<(), NoMemory>
+    ensures { OnOk result (words.new ≡ words.old ++ insert_words k (words_now shown.now)) }
 {
     let Ok(k) = k.to_string(alloc) else {
         return Err(NoMemory);
     };
-    line_of(alloc, b"rejected", &[b"insert", k.as_bytes(), what])
+    add_all(words, &[b"insert", k.as_bytes()])?;
+    add_all(words, shown)
 }
 
-/// The line of an input that would wait.
-fn delays_line(alloc: Global, k: u32, state: &[u8], event: &[u8]) -> Result<Text, NoMemory>
-    ensures { IfOk result (λ text. text ≡ line (codes "rejected" ∷ codes "insert" ∷ decimal k
-        ∷ codes "delays" ∷ state.now ∷ event.now ∷ [])) }
+/// Puts last the words of too many states with insertion number `k`.
+fn add_too_large(alloc: Global, words: &mut NameList, k: u32, states: u64) -> Result<(), NoMemory>
+    ensures { OnOk result
+        (words.new ≡ words.old ++ insert_words k (codes "toolarge" ∷ decimal states ∷ [])) }
 {
-    let Ok(k) = k.to_string(alloc) else {
-        return Err(NoMemory);
-    };
-    line_of_two_shown(alloc, k.as_bytes(), b"delays", state, event)
-}
-
-/// The line of an event that would be lost.
-fn breaks_line(
-    alloc: Global,
-    k: u32,
-    state: &[u8],
-    lost: &[u8],
-    by: &[u8],
-) -> Result<Text, NoMemory>
-    ensures { IfOk result (λ text. text ≡ line (codes "rejected" ∷ codes "insert" ∷ decimal k
-        ∷ codes "breaks" ∷ state.now ∷ lost.now ∷ by.now ∷ [])) }
-{
-    let Ok(k) = k.to_string(alloc) else {
-        return Err(NoMemory);
-    };
-    line_of_three_shown(alloc, k.as_bytes(), b"breaks", state, lost, by)
-}
-
-/// The line of too many states.
-fn too_large_line(alloc: Global, k: u32, states: u64) -> Result<Text, NoMemory>
-    ensures { IfOk result (λ text. text ≡ line (codes "rejected" ∷ codes "insert" ∷ decimal k
-        ∷ codes "toolarge" ∷ decimal states ∷ [])) }
-{
-    let Ok(k) = k.to_string(alloc) else {
-        return Err(NoMemory);
-    };
     let Ok(states) = states.to_string(alloc) else {
         return Err(NoMemory);
     };
-    line_of(
-        alloc,
-        b"rejected",
-        &[b"insert", k.as_bytes(), b"toolarge", states.as_bytes()],
-    )
+    add_insert(alloc, words, k, &[b"toolarge", states.as_bytes()])
 }
 
-/// The line of a reason against an insertion that shows two words.
-fn line_of_two_shown<'a>(
-    alloc: Global,
-    k: &'a [u8],
-    what: &'a [u8],
-    one: &'a [u8],
-    other: &'a [u8],
-) -> Result<Text, NoMemory>
-    ensures { IfOk result (λ text. text ≡ line (codes "rejected" ∷ codes "insert" ∷ k.now
-        ∷ what.now ∷ one.now ∷ other.now ∷ [])) }
+/// Puts the words last.
+fn add_all(words: &mut NameList, more: &[&[u8]]) -> Result<(), NoMemory>
+    ensures { OnOk result (words.new ≡ words.old ++ words_now more.now) }
 {
-    line_of(alloc, b"rejected", &[b"insert", k, what, one, other])
-}
-
-/// The line of one that shows three.
-fn line_of_three_shown<'a>(
-    alloc: Global,
-    k: &'a [u8],
-    what: &'a [u8],
-    one: &'a [u8],
-    second: &'a [u8],
-    third: &'a [u8],
-) -> Result<Text, NoMemory>
-    ensures { IfOk result (λ text. text ≡ line (codes "rejected" ∷ codes "insert" ∷ k.now
-        ∷ what.now ∷ one.now ∷ second.now ∷ third.now ∷ [])) }
-{
-    line_of(
-        alloc,
-        b"rejected",
-        &[b"insert", k, what, one, second, third],
-    )
+    for word in more {
+        words.push(*word)?;
+    }
+    Ok(())
 }

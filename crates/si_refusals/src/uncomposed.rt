@@ -16,21 +16,36 @@ use std::alloc::Global;
 #[derive(Drop)]
 pub enum NamedCause {
     /// Two graphs drive the signal.
-    Driven { signal: Name },
+    Driven {
+        signal: Name,
+    },
     /// Two graphs have the signal, and for the one that drives it it is internal.
-    Private { signal: Name },
+    Private {
+        signal: Name,
+    },
     /// There would be so many signals.
-    Signals { count: u32 },
+    Signals {
+        count: u32,
+    },
     /// The signal starts with the value 0 in one graph, and with 1 in another.
-    Starts { signal: Name },
+    Starts {
+        signal: Name,
+    },
     /// There would be more states than a graph may have.
     States,
-    /// At these states, one of each graph, one graph drives the event, and another refuses it.
-    Interferes { states: NameList, event: Text },
+    /// At these states, one of each graph, one graph drives the event, and another refuses it; the
+    /// walk leads there.
+    Interferes {
+        states: NameList,
+        event: Text,
+        walk: NameList,
+    },
     /// There would be more arcs than a text may have.
     Arcs,
     /// The signal starts with the value 1, and nothing switches it.
-    Constant { signal: Name },
+    Constant {
+        signal: Name,
+    },
 }
 
 /// The line of the cause.
@@ -43,7 +58,11 @@ pub(crate) fn cause_line(alloc: Global, cause: &NamedCause) -> Result<Text, NoMe
         NamedCause::Signals { count } => signals_line(alloc, *count),
         NamedCause::Starts { signal } => line_of(alloc, b"starts", &[signal.bytes()]),
         NamedCause::States => line_of(alloc, b"states", &[]),
-        NamedCause::Interferes { states, event } => interferes_line(alloc, states, event),
+        NamedCause::Interferes {
+            states,
+            event,
+            walk,
+        } => interferes_line(alloc, states, event, walk),
         NamedCause::Arcs => line_of(alloc, b"arcs", &[]),
         NamedCause::Constant { signal } => line_of(alloc, b"constant", &[signal.bytes()]),
     }
@@ -60,13 +79,19 @@ fn signals_line(alloc: Global, count: u32) -> Result<Text, NoMemory>
 }
 
 /// The line of an event that a graph refuses.
-fn interferes_line(alloc: Global, states: &NameList, event: &Text) -> Result<Text, NoMemory>
+fn interferes_line(
+    alloc: Global,
+    states: &NameList,
+    event: &Text,
+    walk: &NameList,
+) -> Result<Text, NoMemory>
     ensures { IfOk result (λ text. text
-        ≡ line (codes "interferes" ∷ (states.now ++ event.now ∷ []))) }
+        ≡ line (codes "interferes" ∷ (states.now ++ event.now ∷ walk.now))) }
 {
     let mut text = Text::copy_of(alloc, b"interferes")?;
     add_words(&mut text, states)?;
     add_word(&mut text, event.bytes())?;
+    add_words(&mut text, walk)?;
     text.add(b"\n")?;
     Ok(text)
 }
