@@ -1,9 +1,12 @@
 -- Texts come to one answer.
-use Rattle.std.proofs.Common.{◌≡◌, ℕ, List, [], ◌∷◌, zip, Some, None, Ok, Err, All, inl, inr, refl, sym, ap, ap₂, subst, ◌∙◌}
+use Rattle.std.proofs.Common.{◌≡◌, ℕ, List, [], ◌∷◌, ◌++◌, map, zip, Ok, Err, All, inl, inr, refl, sym, ap, ap₂, subst, ◌∙◌}
 use Rattle.std.specs.List.{AllByRecursion}
+use Rattle.si_base.specs.Bytes.{sign}
 use Rattle.si_base.specs.Codes.{CodedGraph, IsCoded}
 use Rattle.si_base.specs.GivenGraph.{Sg}
 use Rattle.si_base.specs.Graph.{StateGraph}
+use Rattle.si_composing.specs.Causes.{ShowsUncomposed}
+use Rattle.si_composing.specs.JoinedSignals.{joined_signals}
 use Rattle.si_composing.specs.declared.clash.Clash.TheVariants as clash
 use Rattle.si_composing.specs.declared.compose.Uncomposed.{Uncomposed}
 use Rattle.si_composing.specs.declared.compose.Uncomposed.TheVariants as cause
@@ -19,10 +22,13 @@ use Rattle.si_readings.proofs.StageLemmas.{each_one, each_some, then_one, then_s
 use Rattle.si_refusals.specs.Refusal.{TextRefusal}
 use Rattle.si_refusals.specs.Refusal as answer
 use Rattle.si_refusals.specs.declared.uncomposed.NamedCause.{NamedCause}
-use Rattle.si_sg.specs.CanonicalText.{sg_text}
-use Rattle.si_systems.specs.Compose.{TellsComposed, TellsUncomposed, cause_name, compose, composition}
+use Rattle.si_refusals.specs.declared.uncomposed.NamedCause.TheVariants as named
+use Rattle.si_sg.specs.CanonicalText.{event_word, sg_text}
+use Rattle.si_systems.specs.Compose.{IsNamed, TellsComposed, TellsUncomposed, compose, composition}
 use Rattle.si_systems.specs.Loops.Parts.{AreGiven}
-use Rattle.si_systems.specs.Names.{composed_sg}
+use Rattle.si_systems.specs.Names.{composed_sg, names_at}
+use Rattle.si_trails.proofs.OneWalk.{one_walk}
+use Rattle.si_trails.proofs.SomeWalk.{some_walk}
 use Rattle.si_systems.proofs.PartLemmas.{all_coded, are_given, are_sound}
 
 all_hold : {A : Type 0} (P : A → Type 0) → ((x : A) → P x) → (xs : List A) → AllByRecursion P xs
@@ -31,26 +37,37 @@ all_hold P each (x ∷ xs) = (each x, all_hold P each xs)
 
 -- ---- one result at most
 -- a cause with a name is no want of memory
-is_cause : (given : List Sg) (e : Uncomposed) (shown : NamedCause) → cause_name given e ≡ Some shown
-    → e ≡ cause.NoMemory → ⊥
-is_cause given e shown named none =
-    let is : None ≡ Some shown = subst (λ (f : Uncomposed). cause_name given f ≡ Some shown) none named in
-    cc
+is_cause : (given : List Sg) (parts : List CodedGraph) (e : Uncomposed) (shown : NamedCause)
+    → IsNamed given parts e shown → e ≡ cause.NoMemory → ⊥
+is_cause given parts e shown named none = subst (λ (f : Uncomposed). IsNamed given parts f shown) none named
 
 module _ (given : List Sg) (parts : List CodedGraph) where
+  one_name : (e : Uncomposed) (one other : NamedCause) → IsNamed given parts e one → IsNamed given parts e other
+      → one ≡ other
+  one_name cause.NoMemory one other x y = absurd x
+  one_name (cause.Signal clash.Driven name) one other x y = x ∙ sym y
+  one_name (cause.Signal clash.Private name) one other x y = x ∙ sym y
+  one_name (cause.Signal clash.Starts name) one other x y = x ∙ sym y
+  one_name (cause.TooMany count) one other x y = x ∙ sym y
+  one_name cause.States one other x y = x ∙ sym y
+  one_name (cause.Interferes at name up) one other (words, walk, x) (others, also, y) =
+      let same : words ≡ others = walk.2
+      ∙ ap (map (event_word (joined_signals parts))) (one_walk parts at walk.0 also.0 walk.1 also.1) ∙ sym also.2 in
+      x ∙ ap (named.Interferes (names_at given at) (name ++ sign up ∷ [])) same ∙ sym y
+  one_name cause.Arcs one other x y = x ∙ sym y
+  one_name (cause.Constant name) one other x y = x ∙ sym y
+
   one_shown : (one other : TextRefusal) → TellsUncomposed given parts one → TellsUncomposed given parts other
       → one ≡ other
   one_shown one other x y =
-      let same : x.cause ≡ y.cause = one_cause parts x.cause y.cause (is_cause given x.cause x.shown x.shown_is)
-      (is_cause given y.cause y.shown y.shown_is) x.first y.first in
-      let names : Some x.shown ≡ Some y.shown = sym x.shown_is
-      ∙ ap (λ (e : Uncomposed). cause_name given e) same ∙ y.shown_is in
-      let shown : x.shown ≡ y.shown = cc in
-      x.refusal_is ∙ ap answer.Uncomposed shown ∙ sym y.refusal_is
+      let same : x.cause ≡ y.cause = one_cause parts x.cause y.cause (is_cause given parts x.cause x.shown x.named)
+      (is_cause given parts y.cause y.shown y.named) x.first y.first in
+      let also = subst (λ (e : Uncomposed). IsNamed given parts e x.shown) same x.named in
+      x.refusal_is ∙ ap answer.Uncomposed (one_name y.cause x.shown y.shown also y.named) ∙ sym y.refusal_is
 
   not_both : (output : List ℕ) (refusal : TextRefusal) → TellsComposed given parts output
       → TellsUncomposed given parts refusal → ⊥
-  not_both output refusal x y = is_cause given y.cause y.shown y.shown_is
+  not_both output refusal x y = is_cause given parts y.cause y.shown y.named
       (no_cause parts x.tuples x.whole y.cause x.side_by_side y.first)
 
   one_text : (one other : List ℕ) → TellsComposed given parts one → TellsComposed given parts other → one ≡ other
@@ -74,17 +91,18 @@ compose_one files texts = then_one _ _
     (λ parts sound. composition_one given parts))
 
 -- ---- and one there is
-some_name : (given : List Sg) (e : Uncomposed) → (e ≡ cause.NoMemory → ⊥)
-    → (shown : NamedCause) × (cause_name given e ≡ Some shown)
-some_name given cause.NoMemory is = absurd (is refl)
-some_name given (cause.Signal clash.Driven name) is = (_, refl)
-some_name given (cause.Signal clash.Private name) is = (_, refl)
-some_name given (cause.Signal clash.Starts name) is = (_, refl)
-some_name given (cause.TooMany count) is = (_, refl)
-some_name given cause.States is = (_, refl)
-some_name given (cause.Interferes at name up) is = (_, refl)
-some_name given cause.Arcs is = (_, refl)
-some_name given (cause.Constant name) is = (_, refl)
+some_name : (given : List Sg) (parts : List CodedGraph) → All IsCoded parts → (e : Uncomposed)
+    → (e ≡ cause.NoMemory → ⊥) → ShowsUncomposed parts e → (shown : NamedCause) × IsNamed given parts e shown
+some_name given parts coded cause.NoMemory is first = absurd (is refl)
+some_name given parts coded (cause.Signal clash.Driven name) is first = (_, refl)
+some_name given parts coded (cause.Signal clash.Private name) is first = (_, refl)
+some_name given parts coded (cause.Signal clash.Starts name) is first = (_, refl)
+some_name given parts coded (cause.TooMany count) is first = (_, refl)
+some_name given parts coded cause.States is first = (_, refl)
+some_name given parts coded (cause.Interferes at name up) is first =
+    let walk = some_walk parts coded at first.1.1.reached in (_, (_, (walk.0, walk.1, refl), refl))
+some_name given parts coded cause.Arcs is first = (_, refl)
+some_name given parts coded (cause.Constant name) is first = (_, refl)
 
 composition_some : (given : List Sg) (parts : List CodedGraph) → All IsCoded parts → HasResult (composition given parts)
 composition_some given parts coded = elim (some_answer parts coded) [
@@ -92,9 +110,9 @@ composition_some given parts coded = elim (some_answer parts coded) [
     Ok (sg_text (composed_sg given tuples whole)),
     record { tuples = tuples; whole = whole; side_by_side = is; output_is = refl },
   )
-  | inr (e, is, first) ↦ (let shown = some_name given e is in (
+  | inr (e, is, first) ↦ (let shown = some_name given parts coded e is first in (
     Err (answer.Uncomposed shown.0),
-    record { cause = e; first = first; shown = shown.0; shown_is = shown.1; refusal_is = refl },
+    record { cause = e; first = first; shown = shown.0; named = shown.1; refusal_is = refl },
   ))
 ]
 

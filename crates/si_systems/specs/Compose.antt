@@ -1,10 +1,12 @@
 -- (command) The graph of graphs side by side.
-use Rattle.std.specs.Prelude.{◌≡◌, ℕ, List, [], ◌∷◌, ◌++◌, zip, Option, Some, None, Ok, Err}
+use Rattle.std.specs.Prelude.{◌≡◌, ℕ, List, [], ◌∷◌, ◌++◌, map, zip, Ok, Err}
+use Rattle.si_base.specs.declared.ids.Event.{Event}
 use Rattle.si_base.specs.Bytes.{sign}
 use Rattle.si_base.specs.Codes.{CodedGraph}
 use Rattle.si_base.specs.GivenGraph.{Sg}
 use Rattle.si_base.specs.Graph.{StateGraph}
 use Rattle.si_composing.specs.Causes.{ShowsUncomposed}
+use Rattle.si_composing.specs.JoinedSignals.{joined_signals}
 use Rattle.si_composing.specs.SideBySide.{IsSideBySide}
 use Rattle.si_composing.specs.declared.clash.Clash.TheVariants as clash
 use Rattle.si_composing.specs.declared.compose.Uncomposed.{Uncomposed}
@@ -16,21 +18,29 @@ use Rattle.si_refusals.specs.Refusal as answer
 use Rattle.si_refusals.specs.Stages.{Stage, ◌>>=◌, each}
 use Rattle.si_refusals.specs.declared.uncomposed.NamedCause.{NamedCause}
 use Rattle.si_refusals.specs.declared.uncomposed.NamedCause.TheVariants as named
-use Rattle.si_sg.specs.CanonicalText.{sg_text}
+use Rattle.si_sg.specs.CanonicalText.{event_word, sg_text}
 use Rattle.si_systems.specs.Names.{composed_sg, names_at}
+use Rattle.si_trails.specs.Trails.{IsFirstWalkTo}
 
--- a cause against composing by the names of signals and states; want of memory is none
-abbrev pub cause_name : List Sg → Uncomposed → Option NamedCause
-cause_name given cause.NoMemory = None
-cause_name given (cause.Signal clash.Driven name) = Some (named.Driven name)
-cause_name given (cause.Signal clash.Private name) = Some (named.Private name)
-cause_name given (cause.Signal clash.Starts name) = Some (named.Starts name)
-cause_name given (cause.TooMany count) = Some (named.Signals count)
-cause_name given cause.States = Some named.States
-cause_name given (cause.Interferes at name up) =
-    Some (named.Interferes (names_at given at) (name ++ sign up ∷ []))
-cause_name given cause.Arcs = Some named.Arcs
-cause_name given (cause.Constant name) = Some (named.Constant name)
+-- the words of the events of the first walk to the tuple
+abbrev pub AreWalkWords : List CodedGraph → List ℕ → List (List ℕ) → Type 0
+AreWalkWords parts at words = (walk : List Event) × IsFirstWalkTo parts at walk
+    × (words ≡ map (event_word (joined_signals parts)) walk)
+
+-- a cause against composing by the names of signals and states, an interference with the first walk
+-- to it; want of memory has no name
+abbrev pub IsNamed : List Sg → List CodedGraph → Uncomposed → NamedCause → Type 0
+IsNamed given parts cause.NoMemory shown = ⊥
+IsNamed given parts (cause.Signal clash.Driven name) shown = shown ≡ named.Driven name
+IsNamed given parts (cause.Signal clash.Private name) shown = shown ≡ named.Private name
+IsNamed given parts (cause.Signal clash.Starts name) shown = shown ≡ named.Starts name
+IsNamed given parts (cause.TooMany count) shown = shown ≡ named.Signals count
+IsNamed given parts cause.States shown = shown ≡ named.States
+IsNamed given parts (cause.Interferes at name up) shown = (words : List (List ℕ))
+    × AreWalkWords parts at words
+    × (shown ≡ named.Interferes (names_at given at) (name ++ sign up ∷ []) words)
+IsNamed given parts cause.Arcs shown = shown ≡ named.Arcs
+IsNamed given parts (cause.Constant name) shown = shown ≡ named.Constant name
 
 -- the parts have a composed graph, and the output is its text
 pub record TellsComposed (given : List Sg) (parts : List CodedGraph) (output : List ℕ) : Type 0 where
@@ -45,7 +55,7 @@ pub record TellsUncomposed (given : List Sg) (parts : List CodedGraph) (refusal 
   pub cause : Uncomposed
   pub first : ShowsUncomposed parts cause
   pub shown : NamedCause
-  pub shown_is : cause_name given cause ≡ Some shown
+  pub named : IsNamed given parts cause shown
   pub refusal_is : refusal ≡ answer.Uncomposed shown
 
 -- the given graphs side by side, of which these are the parts with their codes

@@ -1,31 +1,38 @@
 //! From the texts of graphs to the text of the graph of all of them side by side.
 
 ghost use Rattle.std.specs.Prelude.{◌≡◌, ◌≢◌, ◌≤◌, [], flat_map, map, AllPairs, IfOk, IfErr, Ok};
-ghost use Rattle.std.specs.Prelude.{length, vec_items, Some};
-ghost use Rattle.si_composing.specs.JoinedSignals.{max_parts};
+ghost use Rattle.std.specs.Prelude.{length, vec_items};
+ghost use Rattle.si_composing.specs.Causes.{ShowsUncomposed, StatesFit};
+ghost use Rattle.si_composing.specs.JoinedSignals.{joined_signals, max_parts};
+ghost use Rattle.si_composing.specs.Tuples.{IsReached};
 ghost use Rattle.si_composing.specs.declared.compose.Uncomposed.TheVariants.{Signal};
 ghost use Rattle.si_refusals.specs.Ending.{MayStop, ending_of};
 ghost use Rattle.si_sg.specs.CanonicalText.{sg_text};
 ghost use Rattle.si_systems.specs.Compose as stage;
-ghost use Rattle.si_systems.specs.Compose.{cause_name};
+ghost use Rattle.si_systems.specs.Compose.{AreWalkWords, IsNamed};
 ghost use Rattle.si_systems.specs.Laws.{AreSound};
 ghost use Rattle.si_systems.specs.Loops.Parts.{AreGiven, AreTuplesOf, ShowsTupleOf, sgs_now};
 ghost use Rattle.si_systems.specs.Names.{composed_sg};
 ghost use Rattle.si_words.specs.Loops.Reads.{words_now};
 
-use crate::names::{joined_model, names_at, tuple_names};
+use crate::names::{event_words, joined_model, names_at, tuple_names};
 use si_base::ids::NoMemory;
 use si_base::text::{Name, Text};
 use si_base::text_key::TextKey;
 use si_composing::clash::Clash;
 use si_composing::compose::{Composed, Uncomposed, compose};
+use si_composing::system::System;
+use si_composing::tuples::Tuple;
 use si_graph::coded::Coded;
+use si_netlist::name_list::NameList;
 use si_readings::checks::proper_of;
 use si_readings::readings::graph_in;
 use si_refusals::refusals::Refusal;
 use si_refusals::uncomposed::NamedCause;
 use si_sg::read::Sg;
 use si_sg::write::{sign, write_sg};
+use si_trails::signals::signals_beside;
+use si_trails::walk::walk_to;
 use std::alloc::Global;
 
 /// The text of the graph of all the graphs that texts give, side by side. A refusal shows the names
@@ -126,7 +133,7 @@ fn composition(
     match compose(alloc, key, parts) {
         Ok(composed) => Ok(text_of(alloc, key, given, composed)?),
         Err(cause) => {
-            let cause = named(alloc, given, cause)?;
+            let cause = named(alloc, key, given, parts, cause)?;
             Err(Refusal::Uncomposed { cause })
         }
     }
@@ -152,10 +159,19 @@ fn text_of(alloc: Global, key: TextKey, given: &[Sg], composed: Composed) -> Res
     write_sg(alloc, &sg)
 }
 
-/// The cause by the names of signals and states.
-fn named(alloc: Global, given: &[Sg], cause: Uncomposed) -> Result<NamedCause, NoMemory>
-    requires { ShowsTupleOf (sgs_now given.now) cause }
-    ensures { IfOk result (λ shown. cause_name (sgs_now given.now) cause ≡ Some shown) }
+/// The cause by the names of signals and states, with the words of the first walk to an
+/// interference.
+fn named(
+    alloc: Global,
+    key: TextKey,
+    given: &[Sg],
+    parts: &[Coded],
+    cause: Uncomposed,
+) -> Result<NamedCause, NoMemory>
+    requires few { length parts.now ≤ max_parts }
+    requires tuple { ShowsTupleOf (sgs_now given.now) cause }
+    requires first { ShowsUncomposed parts.now cause }
+    ensures { IfOk result (IsNamed (sgs_now given.now) parts.now cause) }
 {
     match cause {
         Uncomposed::NoMemory => Err(NoMemory),
@@ -166,16 +182,39 @@ fn named(alloc: Global, given: &[Sg], cause: Uncomposed) -> Result<NamedCause, N
             let states = names_at(alloc, given, &at)?;
             let mut event = Text::copy_of(alloc, name.bytes())?;
             event.add(sign(up))?;
-            Ok(NamedCause::Interferes { states, event })
+            let walk = walk_words(alloc, key, parts, &at)?;
+            Ok(NamedCause::Interferes {
+                states,
+                event,
+                walk,
+            })
         }
         Uncomposed::Arcs => Ok(NamedCause::Arcs),
         Uncomposed::Constant(signal) => Ok(NamedCause::Constant { signal }),
     }
 }
 
+/// The words of the events of the first walk to a tuple.
+fn walk_words(
+    alloc: Global,
+    key: TextKey,
+    parts: &[Coded],
+    at: &Tuple,
+) -> Result<NameList, NoMemory>
+    requires few { length parts.now ≤ max_parts }
+    requires fit { StatesFit parts.now }
+    requires reached { IsReached parts.now (joined_signals parts.now) at.now }
+    ensures { IfOk result (AreWalkWords parts.now at.now) }
+{
+    let signals = signals_beside(alloc, key, parts)?;
+    let system = System::of(alloc, parts, &signals)?;
+    let walk = walk_to(alloc, key, &system, at.states())?;
+    event_words(alloc, &signals, &walk)
+}
+
 /// What stands against joining the signal.
 fn named_clash(clash: Clash, signal: Name) -> NamedCause
-    ensures { cause_name [] (Signal clash signal) ≡ Some result }
+    ensures { IsNamed [] [] (Signal clash signal) result }
 {
     match clash {
         Clash::Driven => NamedCause::Driven { signal },

@@ -1,18 +1,22 @@
 //! Names of tuples of states, and of the model of graphs side by side.
 
 ghost use Rattle.std.specs.List.{join_with_byte};
-ghost use Rattle.std.specs.Prelude.{◌≡◌, ◌≢◌, ◌<◌, [], ◌∷◌, ◌++◌, AllPairs, IfOk, OnOk, map};
+ghost use Rattle.std.specs.Prelude.{◌≡◌, ◌≢◌, ◌<◌, [], ◌∷◌, ◌++◌, All, AllPairs, IfOk, OnOk, length};
+ghost use Rattle.std.specs.Prelude.{map};
+ghost use Rattle.si_sg.specs.CanonicalText.{event_word as word_of_event};
 ghost use Rattle.si_systems.specs.Loops.Parts.{AreGiven, AreTuplesOf, sgs_now};
 ghost use Rattle.si_systems.specs.Names as meaning;
 ghost use Rattle.si_systems.specs.Names.{IsTupleOf, bar, escaped};
 
-use si_base::ids::{NoMemory, StateId};
+use si_base::graph::Signal;
+use si_base::ids::{Event, NoMemory, StateId};
 use si_base::limits::MAX_STATES;
 use si_base::names::Names;
 use si_base::text::{Name, Text};
 use si_base::text_key::TextKey;
 use si_composing::tuples::Tuple;
 use si_netlist::name_list::NameList;
+use si_refusals::breach::event_word;
 use si_sg::read::Sg;
 use si_sg::write::name_at;
 use std::alloc::Global;
@@ -29,6 +33,23 @@ pub(crate) fn names_at(alloc: Global, given: &[Sg], tuple: &Tuple) -> Result<Nam
         names.push(name_at(&sg.states, StateId(states[k])))?;
     }
     Ok(names)
+}
+
+/// The words of events.
+pub(crate) fn event_words(
+    alloc: Global,
+    signals: &[Signal],
+    events: &[Event],
+) -> Result<NameList, NoMemory>
+    requires { All (λ e. e.sig < length signals.now) events.now }
+    ensures { IfOk result (λ words. words ≡ map (word_of_event signals.now) events.now) }
+{
+    let mut words = NameList::new(alloc);
+    for event in events {
+        let word = event_word(alloc, signals, *event)?;
+        words.push(word.bytes())?;
+    }
+    Ok(words)
 }
 
 /// Adds the name, with a `\` before each `|` and `\`.

@@ -12,7 +12,7 @@ pub text_of-requires-clause-distinct : goal.text_of-requires-clause-distinct
 text_of-requires-clause-distinct c =
     ordered_distinct c.in-Ok.composed.tuples.items c.in-Ok.ensures.composed.in_order
 
-pub named-requires : goal.named-requires
-named-requires c =
+pub named-requires-clause-tuple : goal.named-requires-clause-tuple
+named-requires-clause-tuple c =
     shown_tuple (sgs_now c.args.given.now) c.args.parts.now c.requires.given c.requires.sound c.in-Err.cause
     c.in-Err.ensures.fault
