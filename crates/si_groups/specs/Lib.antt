@@ -1,0 +1,4 @@
+pub mod Groups
+pub mod Together
+pub mod Laws
+pub mod Loops
