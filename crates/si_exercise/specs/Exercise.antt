@@ -13,7 +13,7 @@ use Rattle.si_insert.specs.Lineage.{given_history}
 use Rattle.si_refusals.specs.Refusal.{TextRefusal}
 use Rattle.si_refusals.specs.Stages.{Stage, shows}
 use Rattle.si_readings.specs.Checks.{IsSound}
-use Rattle.si_stages.specs.Reports.{count_line}
+use Rattle.si_reports.specs.Reports.{count_line}
 
 -- the number of literals of the cubes of a gate's sums
 abbrev pub gate_literals : Gate → ℕ

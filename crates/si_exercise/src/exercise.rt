@@ -27,8 +27,8 @@ use si_insert::lineage::Lineage;
 use si_insert::resolved::Resolved;
 use si_netlist::netlist::Netlist;
 use si_refusals::refusals::Refusal;
+use si_reports::report::add_count;
 use si_sg::read::Sg;
-use si_stages::report::add_count;
 use std::alloc::Global;
 
 /// The sizes of the graph of `n` independent handshakes, from 1 to 8, and of its netlist of complex

@@ -10,12 +10,12 @@ use Rattle.si_insert.specs.Lineage.{History}
 use Rattle.si_sg.proofs.UniqueLemmas.{given_unique}
 use Rattle.si_sg.specs.GivenGraph.{IsGivenBy}
 use Rattle.si_readings.specs.Checks.{IsSound}
-use Rattle.si_stages.specs.Fold.{IsFoldText}
+use Rattle.si_reports.specs.Fold.{IsFoldText}
 use Rattle.si_stages.specs.FoldLaws.{GivesFolded, ImplementsGiven, FoldTextsReadBack}
 use Rattle.si_stages.specs.FoldLaws.{FoldTextsAreMapped, FoldTextsAreSynthesised}
 use Rattle.si_readings.proofs.CheckLemmas.{coded_unique}
 use Rattle.si_stages.specs.Written.{IsWritten}
-use Rattle.si_stages.proofs.FoldTexts.{reads_back}
+use Rattle.si_reports.proofs.FoldTexts.{reads_back}
 use Rattle.si_readings.proofs.ReadingLemmas.{mapping_readings_are}
 use Rattle.si_readings.proofs.StageLemmas.{passed}
 

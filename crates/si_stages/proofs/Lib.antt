@@ -1,10 +1,3 @@
-pub mod FoldLemmas
-pub mod FoldTexts
-pub mod ReportLemmas
-pub mod PicturedLemmas
-pub mod LintedLemmas
-pub mod ReplayLemmas
-pub mod ReplayEnds
 pub mod ResolvingLemmas
 pub mod ResolutionLemmas
 pub mod GivenLineages
@@ -15,12 +8,7 @@ pub mod AuditLemmas
 pub mod MeaningLemmas
 pub mod FoldLaws
 pub mod AuditLaws
-pub mod WaveLaws
-pub mod SpelledOutputs
-pub mod VerilogLemmas
-pub mod NetlistReportLemmas
 pub mod GenlibLemmas
-pub mod VerilogExamples
 pub mod Examples
 pub mod InsertedTexts
 pub mod UnresolvedEnds

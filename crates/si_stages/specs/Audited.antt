@@ -26,7 +26,7 @@ use Rattle.si_refusals.specs.declared.rejection.NamedRejection.TheVariants.{TooL
 use Rattle.si_sg.specs.CanonicalText.{event_word}
 use Rattle.si_sg.specs.GivenGraph.{IsGivenBy}
 use Rattle.si_readings.specs.Checks.{IsSound}
-use Rattle.si_stages.specs.Reports.{count_line}
+use Rattle.si_reports.specs.Reports.{count_line}
 
 -- how many signals are inserted, how many states the last graph has, and how many gates there are
 abbrev pub audit_text : History → Netlist → List ℕ

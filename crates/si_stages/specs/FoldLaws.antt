@@ -10,10 +10,11 @@ use Rattle.si_base.specs.WellFormed.{IsNetlist}
 use Rattle.si_circuit.specs.declared.style.Style.{Style}
 use Rattle.si_sg.specs.GivenGraph.{IsGivenBy}
 use Rattle.si_readings.specs.Checks.{IsSound}
-use Rattle.si_stages.specs.Fold.{IsFoldedGraph}
-use Rattle.si_stages.specs.Meaning.{report, synth, mapping}
+use Rattle.si_reports.specs.Fold.{IsFoldedGraph}
+use Rattle.si_reports.specs.Meaning.{report}
+use Rattle.si_stages.specs.Meaning.{synth, mapping}
 use Rattle.si_readings.specs.declared.library_format.LibraryFormat.{LibraryFormat}
-use Rattle.si_stages.specs.declared.report_kind.Report.TheVariants.{Fold}
+use Rattle.si_reports.specs.declared.report_kind.Report.TheVariants.{Fold}
 
 -- the output gives the folded graph of the proper graph that the text gives
 pub record GivesFolded (text output : List ℕ) : Type 0 where

@@ -1,24 +1,15 @@
 -- (law) What laws say of the commands over texts.
-use Rattle.std.specs.Prelude.{◌≡◌, ℕ, ◌⊎◌, List, Ok, Err, None}
+use Rattle.std.specs.Prelude.{◌≡◌, ℕ, List, Ok, None}
 use Rattle.si_base.specs.Codes.{CodedGraph}
 use Rattle.si_base.specs.GivenGraph.{Sg}
 use Rattle.si_base.specs.Proper.{HasNoConflict}
 use Rattle.si_circuit.specs.Cells.{AllFit}
 use Rattle.si_circuit.specs.declared.style.Style.{Style}
 use Rattle.si_sg.specs.GivenGraph.{IsGivenBy}
-use Rattle.si_system.specs.declared.verdict.Verdict.{Verdict}
-use Rattle.si_refusals.specs.Refusal.{TextRefusal, Differs}
-use Rattle.si_refusals.specs.Stages.{Stage}
 use Rattle.si_readings.specs.Checks.{IsSound}
 use Rattle.si_stages.specs.Meaning.{synth, mapping}
 use Rattle.si_readings.specs.Readings.{fault_in, library_from}
 use Rattle.si_readings.specs.declared.library_format.LibraryFormat.{LibraryFormat}
-
--- the stage gives an output, or shows the first event of a replay whose verdict isn't `Done`
-abbrev pub EndsOrDiffers : Stage TextRefusal (List ℕ) → Type 0
-EndsOrDiffers stage = ((output : List ℕ) × stage (Ok output))
-    ⊎ ((step : ℕ) × (signal : List ℕ) × (verdict : Verdict)
-    × stage (Err (Differs step signal verdict)))
 
 -- a proper graph without conflicts is synthesised
 abbrev pub FreeGraphsAreSynthesised : Type 0

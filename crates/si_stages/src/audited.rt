@@ -10,7 +10,6 @@ ghost use Rattle.si_stages.specs.Audited as stage;
 ghost use Rattle.si_stages.specs.Audited.{IsAudit, IsCertified, IsNamedSo, TellsRejection};
 ghost use Rattle.si_stages.specs.Meaning as meaning;
 
-use crate::report::add_count;
 use si_audit::audit::audit;
 use si_audit::fault::AuditFault;
 use si_base::graph::Signal;
@@ -27,6 +26,7 @@ use si_readings::readings::{AuditReadings, audit_readings};
 use si_refusals::breach::{event_word, name_of_signal};
 use si_refusals::refusals::Refusal;
 use si_refusals::rejection::NamedRejection;
+use si_reports::report::add_count;
 use si_sg::read::Sg;
 use si_words::writing::add_line;
 use std::alloc::Global;

@@ -1,0 +1,14 @@
+pub mod FoldLemmas
+pub mod FoldTexts
+pub mod ReportLemmas
+pub mod PicturedLemmas
+pub mod LintedLemmas
+pub mod ReplayLemmas
+pub mod ReplayEnds
+pub mod MeaningLemmas
+pub mod WaveLaws
+pub mod SpelledOutputs
+pub mod VerilogLemmas
+pub mod NetlistReportLemmas
+pub mod VerilogExamples
+pub mod Examples

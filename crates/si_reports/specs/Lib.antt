@@ -1,0 +1,11 @@
+pub mod Replayed
+pub mod Fold
+pub mod Reports
+pub mod Pictured
+pub mod Linted
+pub mod Meaning
+pub mod Laws
+pub mod Verilog
+pub mod NetlistReports
+pub mod WaveLaws
+pub mod Loops

@@ -1,5 +1,0 @@
-use Rattle.si_stages.proofs.WaveLaws.{shows_replay}
-use Rattle.si_stages.proofs.wave_laws.waves_show_replays.Goals as goal
-
-pub returns : goal.returns
-returns c = shows_replay
