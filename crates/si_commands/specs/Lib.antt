@@ -1,0 +1,4 @@
+pub mod Form
+pub mod Command
+pub mod About
+pub mod Loops
