@@ -1,0 +1,6 @@
+pub mod Audited
+pub mod AuditedLaws
+pub mod Works
+pub mod System
+pub mod Laws
+pub mod Loops
