@@ -2,37 +2,44 @@
 use Rattle.std.proofs.Common.{◌≡◌, ℕ, List, [], ◌∷◌, length, Result, Ok, Err, Contains, ap, subst, arith}
 use Rattle.std.proofs.Common.{◌⊎◌, Bool, true, false, inl, inr}
 use Rattle.si_io.specs.Outside.{Rose}
-use Rattle.si_tool.specs.About.{about_text}
-use Rattle.si_tool.specs.Command.{Request, form_of, format_of, is_suggested, number_of}
-use Rattle.si_tool.specs.Form.{Fit}
+use Rattle.si_commands.specs.About.{about_text}
+use Rattle.si_commands.specs.Command.{Request, form_of, format_of, is_suggested, number_of}
+use Rattle.si_commands.specs.Form.{Fit}
 use Rattle.si_tool.specs.Loads.{Contents, Counts, loads, load_well, loads_well, AreTold}
-use Rattle.si_tool.specs.Meaning.{meaning, ComesTo, IsDetermined, mapped_by, resolved_by}
+use Rattle.si_tool.specs.Meaning.{meaning, ComesTo, IsDetermined, mapped_by, resolved_by, together}
 use Rattle.si_refusals.specs.Refusal.{TextRefusal, ReadFault, Answer, Output, FileRefused, TextRefused}
-use Rattle.si_tool.specs.declared.task.Task.{Task}
-use Rattle.si_tool.specs.declared.task.Topic.TheVariants.{Help, Page, Version}
-use Rattle.si_tool.specs.declared.task.HelpPlace.TheVariants.{Before, Behind}
-use Rattle.si_tool.specs.declared.task.Task.TheVariants.{About, Tell, Synth, Map, FromGenlib, Verilog, Replay, Audit}
-use Rattle.si_tool.specs.declared.task.Task.TheVariants.{Exercise}
-use Rattle.si_tool.specs.declared.task.Task.TheVariants.{TellNetlist, Resolve, Insert, Same, Compose, Suggest}
+use Rattle.si_commands.specs.declared.task.Task.{Task}
+use Rattle.si_commands.specs.declared.task.Topic.TheVariants.{Help, Page, Version}
+use Rattle.si_commands.specs.declared.task.HelpPlace.TheVariants.{Before, Behind}
+use Rattle.si_commands.specs.declared.task.Task.TheVariants.{About, Tell, Synth, Map, FromGenlib, Verilog, Replay}
+use Rattle.si_commands.specs.declared.task.Task.TheVariants.{Audit}
+use Rattle.si_commands.specs.declared.task.Task.TheVariants.{Exercise}
+use Rattle.si_commands.specs.declared.task.Task.TheVariants.{TellNetlist, Resolve, Insert, Same, Suggest}
+use Rattle.si_commands.specs.declared.task.Task.TheVariants as task
+use Rattle.si_commands.specs.declared.task.Together.{Together}
+use Rattle.si_commands.specs.declared.task.Together.TheVariants as kind
 use Rattle.si_readings.specs.Laws.{AtMostOne, HasResult}
-use Rattle.si_tool.specs.declared.task.LibraryKind.TheVariants.{Cells, Gates}
+use Rattle.si_commands.specs.declared.task.LibraryKind.TheVariants.{Cells, Gates}
 use Rattle.si_stages.proofs.AuditLemmas.{audit_one, audit_some}
 use Rattle.si_exercise.proofs.ExerciseLemmas.{exercise_one, exercise_some}
 use Rattle.si_stages.proofs.GenlibLemmas.{genlib_one, genlib_some}
 use Rattle.si_stages.proofs.InsertedTexts.{insert_one, insert_some, resolve_one, resolve_some}
-use Rattle.si_stages.proofs.MeaningLemmas.{report_one, synth_one, mapping_one, replay_one}
-use Rattle.si_stages.proofs.MeaningLemmas.{report_some, synth_some, mapping_some, replay_some}
+use Rattle.si_reports.proofs.MeaningLemmas.{report_one, replay_one}
+use Rattle.si_stages.proofs.MeaningLemmas.{synth_one, mapping_one}
+use Rattle.si_reports.proofs.MeaningLemmas.{report_some, replay_some}
+use Rattle.si_stages.proofs.MeaningLemmas.{synth_some, mapping_some}
 use Rattle.si_readings.proofs.StageLemmas.{gives_one, gives_some}
 use Rattle.si_likeness.proofs.SameLemmas.{same_one, same_some}
 use Rattle.si_systems.proofs.ComposeLemmas.{compose_one, compose_some}
-use Rattle.si_stages.proofs.NetlistReportLemmas.{netlist_report_one, netlist_report_some}
-use Rattle.si_stages.proofs.VerilogLemmas.{verilog_one, verilog_some}
+use Rattle.si_works.proofs.WorksLemmas.{works_one, works_some}
+use Rattle.si_reports.proofs.NetlistReportLemmas.{netlist_report_one, netlist_report_some}
+use Rattle.si_reports.proofs.VerilogLemmas.{verilog_one, verilog_some}
 use Rattle.si_suggestion.proofs.SuggestedTexts.{map_suggested_some, resolve_suggested_some}
 use Rattle.si_suggestion.proofs.SuggestionsExist.{suggest_some}
 use Rattle.si_readings.specs.declared.library_format.LibraryFormat.{LibraryFormat}
 use Rattle.si_tool.proofs.LoadLemmas.{all_one, all_some, all_or_fault, as_many}
-use Rattle.si_tool.proofs.CommandTasks.{few_handshakes}
-use Rattle.si_tool.proofs.FormLemmas.{count_of_files}
+use Rattle.si_commands.proofs.CommandTasks.{few_handshakes}
+use Rattle.si_commands.proofs.FormLemmas.{count_of_files}
 
 -- ---- the insertions that are asked for
 resolved_one : (suggested : Bool) (file text : List ℕ) → suggested ≡ false → AtMostOne (resolved_by suggested file text)
@@ -53,6 +60,15 @@ mapped_some : (suggested : Bool) (format : LibraryFormat) (g a l b : List ℕ)
 mapped_some true format g a l b = map_suggested_some format g a l b
 mapped_some false format g a l b = mapping_some format g a l b
 
+-- ---- of controllers together
+together_one : (what : Together) (files texts : List (List ℕ)) → AtMostOne (together what files texts)
+together_one kind.Compose files texts = compose_one files texts
+together_one kind.Works files texts = works_one files texts
+
+together_some : (what : Together) (files texts : List (List ℕ)) → HasResult (together what files texts)
+together_some kind.Compose files texts = compose_some files texts
+together_some kind.Works files texts = works_some files texts
+
 -- ---- by their texts: to one answer at most
 pub meaning_one : (task : Task) (files choices texts : List (List ℕ)) → IsDetermined task choices
     → AtMostOne (meaning task files choices texts)
@@ -70,7 +86,7 @@ meaning_one Audit (g ∷ n ∷ []) choices (a ∷ b ∷ []) one = audit_one g a 
 meaning_one Resolve (file ∷ []) options (text ∷ []) one = resolved_one (is_suggested options) file text one
 meaning_one Insert (g ∷ n ∷ []) choices (a ∷ b ∷ []) one = insert_one g a n b
 meaning_one Same (f ∷ g ∷ []) choices (a ∷ b ∷ []) one = same_one f a g b
-meaning_one Compose files choices texts one = compose_one files texts
+meaning_one (task.Together what) files choices texts one = together_one what files texts
 meaning_one Exercise [] (digit ∷ []) [] one = exercise_one (number_of digit)
 meaning_one task files choices texts one = λ a b first second. absurd first
 
@@ -96,7 +112,7 @@ meaning_some Audit (g ∷ n ∷ []) choices (a ∷ b ∷ []) fit each = audit_so
 meaning_some Resolve (file ∷ []) options (text ∷ []) fit each = resolved_some (is_suggested options) file text
 meaning_some Insert (g ∷ n ∷ []) choices (a ∷ b ∷ []) fit each = insert_some g a n b
 meaning_some Same (f ∷ g ∷ []) choices (a ∷ b ∷ []) fit each = same_some f a g b
-meaning_some Compose files choices texts fit each = compose_some files texts
+meaning_some (task.Together what) files choices texts fit each = together_some what files texts
 meaning_some Exercise [] (digit ∷ []) [] fit each =
     exercise_some (number_of digit) (few_handshakes digit fit.0)
 meaning_some task files choices texts fit each =

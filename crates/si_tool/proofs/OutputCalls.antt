@@ -1,7 +1,7 @@
 -- What a call hands on.
 use Rattle.std.proofs.Common.{◌≡◌, ℕ, ◌+◌, List, [], ◌∷◌, ◌++◌, take, Result, Ok, Err, IfOk, IfErr, IsErrAnd, refl, sym}
 use Rattle.std.proofs.Common.{subst, ◌∙◌, append_assoc, inl, inr}
-use Rattle.si_tool.specs.Command.{Request}
+use Rattle.si_commands.specs.Command.{Request}
 use Rattle.si_refusals.specs.Ending.{Ending, NoMemory, Answered, MayStopLoading, MayStop, ending_of}
 use Rattle.si_tool.specs.Loads.{Contents, Counts, CountsStay, AreLoaded, IsUnread, LoadsFirst, LoadsOf, StopsLoading}
 use Rattle.si_tool.specs.Loads.{load_well, load, loads, loads_well}

@@ -4,12 +4,12 @@ use Rattle.si_io.specs.Outside.{Appends}
 use Rattle.si_refusals.specs.declared.status.Status.{Status}
 use Rattle.si_refusals.specs.declared.status.Status.TheVariants as status
 use Rattle.si_stages.proofs.AuditLemmas.{output_certified}
-use Rattle.si_tool.specs.Command.{Request, Asks}
+use Rattle.si_commands.specs.Command.{Request, Asks}
 use Rattle.si_tool.specs.Laws.{PutsAudit}
 use Rattle.si_tool.specs.Loads.{Contents, Counts, loads}
 use Rattle.si_tool.specs.Meaning.{meaning}
 use Rattle.si_tool.specs.Run.{SinkChange, Ends}
-use Rattle.si_tool.specs.declared.task.Task.TheVariants.{Audit}
+use Rattle.si_commands.specs.declared.task.Task.TheVariants.{Audit}
 use Rattle.si_tool.proofs.RunOutputs.{puts_output}
 
 abbrev audit_of : (graph netlist : List ℕ) → Request

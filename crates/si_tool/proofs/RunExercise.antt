@@ -3,13 +3,13 @@ use Rattle.std.proofs.Common.{◌≡◌, ℕ, List, [], ◌∷◌, Err, String, 
 use Rattle.si_refusals.specs.Ending.{Ending, NoMemory, Usage, WriteFault, Answered, status_of}
 use Rattle.si_refusals.specs.Refusal.{TextRefusal, Output, FileRefused, TextRefused}
 use Rattle.si_refusals.specs.declared.status.Status.{Status}
-use Rattle.si_tool.specs.Command.{Request, Asks}
-use Rattle.si_tool.specs.declared.task.Task.TheVariants.{Exercise}
+use Rattle.si_commands.specs.Command.{Request, Asks}
+use Rattle.si_commands.specs.declared.task.Task.TheVariants.{Exercise}
 use Rattle.si_tool.specs.Laws.{IsUnrefused}
 use Rattle.si_tool.specs.Loads.{Contents, Counts, loads}
 use Rattle.si_tool.specs.Meaning.{meaning}
 use Rattle.si_tool.specs.Run.{SinkChange, MayEnd, Ends}
-use Rattle.si_tool.proofs.FormOverlap.{one_request}
+use Rattle.si_commands.proofs.FormOverlap.{one_request}
 
 abbrev exercise_of : (digit : List ℕ) → Request
 exercise_of digit = record { task = Exercise; files = []; choices = digit ∷ [] }

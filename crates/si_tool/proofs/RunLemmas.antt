@@ -3,11 +3,12 @@ use Rattle.std.proofs.Common.{◌≡◌, ◌≢◌, ℕ, List, [], ◌∷◌, �
 use Rattle.std.proofs.Common.{◌∙◌, arith, ◌⊎◌, inl, inr, String, Global}
 use Rattle.si_io.specs.Outside.{Rose, Appends}
 use Rattle.si_io.specs.declared.sink.PutFault.TheVariants.{NoMemory as NoRoom}
-use Rattle.si_tool.specs.Command.{Request, Asks, AsksNothing, NamesNoFile}
+use Rattle.si_commands.specs.Command.{Request, Asks, AsksNothing, NamesNoFile}
 use Rattle.si_refusals.specs.Ending.{Ending, NoMemory, Usage, WriteFault, Answered, IsRefusal, status_of}
 use Rattle.si_refusals.specs.Ending.{ending_of}
 use Rattle.si_tool.specs.Laws.{ShowsCause}
-use Rattle.si_tool.specs.Loads.{Contents, Counts, AreTold, AreLoaded, LoadsOf, StopsLoading, loads, loads_well, no_faults}
+use Rattle.si_tool.specs.Loads.{Contents, Counts, AreTold, AreLoaded, LoadsOf, StopsLoading, loads, loads_well}
+use Rattle.si_tool.specs.Loads.{no_faults}
 use Rattle.si_tool.specs.Meaning.{LoadStage, ComesTo, IsDetermined, MayStopCommand, WordsComeTo}
 use Rattle.si_refusals.specs.Refusal.{TextRefusal, Answer, Output, FileRefused, TextRefused}
 use Rattle.si_refusals.specs.Refusal.{ReadFault, TooLong}
@@ -21,7 +22,7 @@ use Rattle.si_refusals.specs.declared.status.Status.{Status}
 use Rattle.si_refusals.specs.declared.status.Status.TheVariants as status
 use Rattle.si_tool.proofs.MeaningAnswers.{command_one, command_or_fault, IsReadFault}
 use Rattle.si_tool.proofs.LoadLemmas.{read_rose, long_without_fault}
-use Rattle.si_tool.proofs.FormOverlap.{one_request}
+use Rattle.si_commands.proofs.FormOverlap.{one_request}
 use Rattle.si_tool.proofs.RunSinks.{nothing_put}
 
 -- ---- what a run was told comes to one answer, faults of loads aside

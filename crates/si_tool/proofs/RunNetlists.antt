@@ -1,5 +1,6 @@
 -- What a run of `synth`, `suggest` or `map` that is done puts on `out`: a netlist that implements the graph of its file.
-use Rattle.std.proofs.Common.{◌≡◌, ℕ, List, [], ◌∷◌, Ok, String, Global, refl, sym, ap, subst, ◌∙◌, inl, inr, Bool, true, false}
+use Rattle.std.proofs.Common.{◌≡◌, ℕ, List, [], ◌∷◌, Ok, String, Global, refl, sym, ap, subst, ◌∙◌, inl, inr, Bool}
+use Rattle.std.proofs.Common.{true, false}
 use Rattle.si_base.specs.Behaviour.{Implements}
 use Rattle.si_base.specs.Codes.{CodedGraph}
 use Rattle.si_base.specs.Graph.{StateGraph}
@@ -25,15 +26,15 @@ use Rattle.si_stages.specs.Synthesis.{synthesis}
 use Rattle.si_stages.specs.Written.{IsWritten}
 use Rattle.si_suggestion.specs.Suggested.{map_suggested, suggested_cells, suggested_lineage}
 use Rattle.si_suggestion.specs.Suggestion.{suggest, suggestion}
-use Rattle.si_tool.specs.Command.{Asks, Request, format_of, is_suggested, map_options}
-use Rattle.si_tool.specs.Form.{are_some, words_of}
+use Rattle.si_commands.specs.Command.{Asks, Request, format_of, is_suggested, map_options}
+use Rattle.si_commands.specs.Form.{are_some, words_of}
 use Rattle.si_tool.specs.Loads.{Contents, Counts, load, loads}
 use Rattle.si_tool.specs.Meaning.{mapped_by, meaning}
 use Rattle.si_tool.specs.Run.{SinkChange, Ends}
 use Rattle.si_tool.specs.Theorem.{AreOptions, AskForNetlist, ImplementsText, PutsNetlist}
-use Rattle.si_tool.specs.declared.task.LibraryKind.{LibraryKind}
-use Rattle.si_tool.specs.declared.task.LibraryKind.TheVariants.{Cells, Gates}
-use Rattle.si_tool.specs.declared.task.Task.TheVariants.{Map, Suggest, Synth}
+use Rattle.si_commands.specs.declared.task.LibraryKind.{LibraryKind}
+use Rattle.si_commands.specs.declared.task.LibraryKind.TheVariants.{Cells, Gates}
+use Rattle.si_commands.specs.declared.task.Task.TheVariants.{Map, Suggest, Synth}
 use Rattle.si_tool.proofs.RunOutputs.{puts_output}
 
 -- ---- over texts

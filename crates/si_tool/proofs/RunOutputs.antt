@@ -4,12 +4,12 @@ use Rattle.si_io.specs.Outside.{Appends}
 use Rattle.si_refusals.specs.Refusal.{Output}
 use Rattle.si_refusals.specs.declared.status.Status.{Status}
 use Rattle.si_refusals.specs.declared.status.Status.TheVariants as status
-use Rattle.si_tool.specs.Command.{Request, Asks}
+use Rattle.si_commands.specs.Command.{Request, Asks}
 use Rattle.si_tool.specs.Loads.{Contents, Counts, loads}
 use Rattle.si_tool.specs.Meaning.{ComesTo, meaning}
 use Rattle.si_tool.specs.Run.{SinkChange, Ends}
-use Rattle.si_tool.specs.declared.task.Task.{Task}
-use Rattle.si_tool.proofs.FormOverlap.{one_request}
+use Rattle.si_commands.specs.declared.task.Task.{Task}
+use Rattle.si_commands.proofs.FormOverlap.{one_request}
 use Rattle.si_tool.proofs.LoadLemmas.{loads_as_many}
 use Rattle.si_tool.proofs.RunLemmas.{ends_done}
 

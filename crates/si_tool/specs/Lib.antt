@@ -1,9 +1,6 @@
-pub mod About
-pub mod Form
-pub mod Command
 pub mod Loads
 pub mod Meaning
 pub mod Run
 pub mod Laws
 pub mod Theorem
-pub mod Loops
+pub mod Together

@@ -2,12 +2,16 @@
 -- files.
 use Rattle.std.specs.Prelude.{◌≡◌, ℕ, Bool, true, false, List, [], ◌∷◌, String, Ok, Err}
 use Rattle.std.specs.declared.alloc.Global.{Global}
-use Rattle.si_tool.specs.About.{about_text}
-use Rattle.si_tool.specs.Command.{Request, Asks, format_of, is_suggested, number_of}
-use Rattle.si_tool.specs.declared.task.Task.{Task}
-use Rattle.si_tool.specs.declared.task.Task.TheVariants.{About, Tell, Synth, Map, FromGenlib}
-use Rattle.si_tool.specs.declared.task.Task.TheVariants.{Verilog, Replay, Audit, Exercise}
-use Rattle.si_tool.specs.declared.task.Task.TheVariants.{TellNetlist, Resolve, Insert, Same, Compose, Suggest}
+use Rattle.si_commands.specs.About.{about_text}
+use Rattle.si_commands.specs.Command.{Request, Asks, format_of, is_suggested, number_of}
+use Rattle.si_commands.specs.declared.task.Task.{Task}
+use Rattle.si_commands.specs.declared.task.Task.TheVariants.{About, Tell, Synth, Map, FromGenlib}
+use Rattle.si_commands.specs.declared.task.Task.TheVariants.{Verilog, Replay, Audit, Exercise}
+use Rattle.si_commands.specs.declared.task.Task.TheVariants.{TellNetlist, Resolve, Insert, Same}
+use Rattle.si_commands.specs.declared.task.Task.TheVariants.{Suggest}
+use Rattle.si_commands.specs.declared.task.Task.TheVariants as task
+use Rattle.si_commands.specs.declared.task.Together.{Together}
+use Rattle.si_commands.specs.declared.task.Together.TheVariants as kind
 use Rattle.si_refusals.specs.Ending.{Ending, NoMemory, Answered}
 use Rattle.si_refusals.specs.Refusal.{FileRefusal, TextRefusal, Answer, Output}
 use Rattle.si_refusals.specs.Refusal.{FileRefused, TextRefused}
@@ -16,11 +20,13 @@ use Rattle.si_readings.specs.declared.library_format.LibraryFormat.{LibraryForma
 use Rattle.si_exercise.specs.Exercise.{exercise}
 use Rattle.si_stages.specs.Genlib.{genlib}
 use Rattle.si_stages.specs.Inserted.{insert, resolve}
-use Rattle.si_stages.specs.Meaning.{report, synth, mapping, replay, audit}
+use Rattle.si_reports.specs.Meaning.{report, replay}
+use Rattle.si_stages.specs.Meaning.{synth, mapping, audit}
 use Rattle.si_likeness.specs.Same.{same}
 use Rattle.si_systems.specs.Compose.{compose}
-use Rattle.si_stages.specs.NetlistReports.{netlist_report}
-use Rattle.si_stages.specs.Verilog.{verilog}
+use Rattle.si_works.specs.Works.{works}
+use Rattle.si_reports.specs.NetlistReports.{netlist_report}
+use Rattle.si_reports.specs.Verilog.{verilog}
 use Rattle.si_suggestion.specs.Suggested.{map_suggested, resolve_suggested}
 use Rattle.si_suggestion.specs.Suggestion.{suggest}
 
@@ -34,6 +40,11 @@ abbrev pub mapped_by : (suggested : Bool) → LibraryFormat
     → (graph graph_text library library_text : List ℕ) → Stage TextRefusal (List ℕ)
 mapped_by true format g graph l library = map_suggested format g graph l library
 mapped_by false format g graph l library = mapping format g graph l library
+
+-- what is made of controllers together, each file with its text
+abbrev pub together : Together → (files texts : List (List ℕ)) → Stage TextRefusal (List ℕ)
+together kind.Compose files texts = compose files texts
+together kind.Works files texts = works files texts
 
 -- a task over its files, each with its text, and the words that are chosen: options too
 abbrev pub meaning : Task → (files choices texts : List (List ℕ)) → Stage TextRefusal (List ℕ)
@@ -52,7 +63,7 @@ meaning Audit (g ∷ n ∷ []) choices (graph ∷ netlist ∷ []) = audit g grap
 meaning Resolve (file ∷ []) options (text ∷ []) = resolved_by (is_suggested options) file text
 meaning Insert (g ∷ n ∷ []) choices (graph ∷ netlist ∷ []) = insert g graph n netlist
 meaning Same (f ∷ g ∷ []) choices (one ∷ other ∷ []) = same f one g other
-meaning Compose files choices texts = compose files texts
+meaning (task.Together what) files choices texts = together what files texts
 meaning Exercise [] (digit ∷ []) [] = exercise (number_of digit)
 meaning task files choices texts = λ answer. ⊥
 

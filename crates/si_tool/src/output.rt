@@ -4,40 +4,43 @@ ghost use Rattle.std.specs.Prelude.{◌≡◌, ℕ, ◌≤◌, List, IfOk, IfErr
 ghost use Rattle.si_words.specs.Loops.Reads.{words_now};
 ghost use Rattle.si_refusals.specs.Ending.{MayStop, MayStopLoading, ending_of};
 ghost use Rattle.si_refusals.specs.Refusal.{Output};
-ghost use Rattle.si_tool.specs.Command.{digits, form_of, format_of, is_suggested, number_of};
-ghost use Rattle.si_tool.specs.Form.{Fit};
+ghost use Rattle.si_commands.specs.Command.{digits, form_of, format_of, is_suggested, most_files};
+ghost use Rattle.si_commands.specs.Command.{number_of};
+ghost use Rattle.si_commands.specs.Form.{Fit};
 ghost use Rattle.si_handshakes.specs.Handshakes.{max_handshakes};
 ghost use Rattle.si_words.specs.Names.{stands_in};
 ghost use Rattle.si_tool.specs.Loads as stage;
 ghost use Rattle.si_tool.specs.Loads.{CountsStay, IsUnread, LoadsFirst, loads};
+ghost use Rattle.si_tool.specs.Meaning as meanings;
 ghost use Rattle.si_tool.specs.Meaning.{ComesTo, MayStopCommand, mapped_by, meaning, resolved_by};
-ghost use Rattle.si_tool.specs.Loops.Reads.{request_of, texts_now};
+ghost use Rattle.si_commands.specs.Loops.Reads.{request_of, texts_now};
 
-use crate::about::about;
-use crate::command::Command;
-use crate::form::is_listed;
-use crate::task::{LibraryKind, Task};
 use si_base::limits::MAX_TEXT;
 use si_base::text::Text;
 use si_cell::pins::Pins;
+use si_commands::about::about;
+use si_commands::command::Command;
+use si_commands::form::is_listed;
+use si_commands::task::{LibraryKind, Task, Together};
 use si_exercise::exercise::exercise;
 use si_io::shelf::{LoadFault, Shelf};
 use si_likeness::same::same;
 use si_readings::library_format::LibraryFormat;
 use si_refusals::refusals::Refusal;
+use si_reports::netlist_report::netlist_report;
+use si_reports::replayed::replay_texts;
+use si_reports::report::report;
+use si_reports::verilog::verilog;
 use si_stages::audited::audit_texts;
 use si_stages::genlib::genlib;
 use si_stages::inserted::{insert, resolve};
 use si_stages::mapping::map_texts;
-use si_stages::netlist_report::netlist_report;
-use si_stages::replayed::replay_texts;
-use si_stages::report::report;
 use si_stages::synth::synth;
-use si_stages::verilog::verilog;
 use si_suggestion::mapped::map_suggested;
 use si_suggestion::resolved::resolve_suggested;
 use si_suggestion::suggested::suggest_text;
 use si_systems::compose::compose_texts;
+use si_works::works::works_texts;
 use std::alloc::Global;
 
 /// The output of a command over the files of the shelf, or the refusal that is due.
@@ -54,7 +57,8 @@ pub fn output<'w, H: Shelf>(
     ensures err { IfErr result (λ r. MayStopCommand
         (loads (H.content shelf.old) (H.faults shelf.old) (H.faults shelf.new))
         (request_of command.now) (ending_of r)) }
-    ensures loaded { LoadsFirst H.loads (words_now command.now.given.files.items) shelf.old shelf.new }
+    ensures loaded { LoadsFirst H.loads (words_now command.now.given.files.items)
+        shelf.old shelf.new }
     ensures later { (n : List ℕ) → H.faults shelf.old n ≤ H.faults shelf.new n }
     ensures same { (n : List ℕ) → H.content shelf.new n ≡ H.content shelf.old n }
 {
@@ -78,10 +82,11 @@ fn output_of_texts<'w>(
 ) -> Result<Text, Refusal<'w>>
     requires given { Fit (form_of task) (words_now files.now) (words_now choices.now) }
     requires texts { length texts.now ≡ length files.now }
-    ensures ok { IfOk result (λ text.
-        meaning task (words_now files.now) (words_now choices.now) (texts_now texts.now) (Ok text)) }
+    ensures ok { IfOk result (λ text. meaning task (words_now files.now) (words_now choices.now)
+        (texts_now texts.now) (Ok text)) }
     ensures err { IfErr result (λ r. MayStop
-        (meaning task (words_now files.now) (words_now choices.now) (texts_now texts.now)) (ending_of r)) }
+        (meaning task (words_now files.now) (words_now choices.now) (texts_now texts.now))
+        (ending_of r)) }
 {
     match task {
         Task::About(topic) => Ok(about(alloc, topic, choices)?),
@@ -107,8 +112,28 @@ fn output_of_texts<'w>(
         Task::Resolve => resolved(alloc, choices, files[0], &texts[0]),
         Task::Insert => insert(alloc, files[0], &texts[0], files[1], &texts[1]),
         Task::Same => same(alloc, files[0], &texts[0], files[1], &texts[1]),
-        Task::Compose => compose_texts(alloc, files, texts),
+        Task::Together(what) => together(alloc, what, files, texts),
         Task::Exercise => Ok(exercise(alloc, number(choices[0]))?),
+    }
+}
+
+/// What is made of the controllers of the files together.
+fn together<'w>(
+    alloc: Global,
+    what: Together,
+    files: &[&'w str],
+    texts: &[Vec<u8>],
+) -> Result<Text, Refusal<'w>>
+    requires few { length files.now ≤ most_files what }
+    requires texts { length texts.now ≡ length files.now }
+    ensures ok { IfOk result (λ output.
+        meanings.together what (words_now files.now) (texts_now texts.now) (Ok output)) }
+    ensures err { IfErr result (λ r. MayStop
+        (meanings.together what (words_now files.now) (texts_now texts.now)) (ending_of r)) }
+{
+    match what {
+        Together::Compose => compose_texts(alloc, files, texts),
+        Together::Works => works_texts(alloc, files, texts),
     }
 }
 

@@ -1,5 +1,5 @@
 use Rattle.si_stages.proofs.GenlibLemmas.{output_is_library}
-use Rattle.si_tool.specs.declared.task.Task.TheVariants.{FromGenlib}
+use Rattle.si_commands.specs.declared.task.Task.TheVariants.{FromGenlib}
 use Rattle.si_tool.proofs.RunOutputs.{puts_of_file}
 use Rattle.si_tool.proofs.laws.genlib_runs_put_their_libraries.Goals as goal
 

@@ -1,5 +1,5 @@
-use Rattle.si_stages.proofs.VerilogLemmas.{output_is_module}
-use Rattle.si_tool.specs.declared.task.Task.TheVariants.{Verilog}
+use Rattle.si_reports.proofs.VerilogLemmas.{output_is_module}
+use Rattle.si_commands.specs.declared.task.Task.TheVariants.{Verilog}
 use Rattle.si_tool.proofs.RunOutputs.{puts_of_file}
 use Rattle.si_tool.proofs.laws.verilog_runs_put_their_netlists.Goals as goal
 

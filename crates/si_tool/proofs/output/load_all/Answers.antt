@@ -3,9 +3,9 @@ use Rattle.std.proofs.lemmas.List.{length-map, map-append}
 use Rattle.std.proofs.Math.Seq.{take-length}
 use Rattle.si_words.specs.Loops.Reads.{words_now}
 use Rattle.si_tool.specs.Loads.{loads}
-use Rattle.si_tool.specs.Loops.Reads.{texts_now}
+use Rattle.si_commands.specs.Loops.Reads.{texts_now}
 use Rattle.si_tool.proofs.OutputCalls.{next_loaded, stops_there, first_loaded, first_unread, all_are, stops_loading}
-use Rattle.si_tool.proofs.ReadsLemmas.{cut_at, one_more_name}
+use Rattle.si_commands.proofs.ReadsLemmas.{cut_at, one_more_name}
 use Rattle.si_tool.proofs.output.load_all.Goals as goal
 
 pub returns-in_err-text-clause-err : goal.returns-in_err-text-clause-err

@@ -1,5 +1,5 @@
 use Rattle.si_words.specs.Loops.Reads.{words_now}
-use Rattle.si_tool.specs.Loops.Reads.{texts_now}
+use Rattle.si_commands.specs.Loops.Reads.{texts_now}
 use Rattle.si_tool.proofs.OutputCalls.{IsLoadedTo}
 use Rattle.si_tool.proofs.output.load_all.Given as goal
 

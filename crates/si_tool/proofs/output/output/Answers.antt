@@ -2,7 +2,7 @@ use Rattle.std.proofs.Common.{◌≡◌, ◌∙◌, length, sym}
 use Rattle.std.proofs.lemmas.List.{length-map}
 use Rattle.si_words.specs.Loops.Reads.{words_now}
 use Rattle.si_tool.specs.Loads.{loads}
-use Rattle.si_tool.specs.Loops.Reads.{request_of, texts_now}
+use Rattle.si_commands.specs.Loops.Reads.{request_of, texts_now}
 use Rattle.si_tool.proofs.LoadLemmas.{loads_as_many}
 use Rattle.si_tool.proofs.OutputCalls.{not_loaded, stops_command, came_ok, came_err}
 use Rattle.si_tool.proofs.output.output.Goals as goal

@@ -1,9 +1,9 @@
 use Rattle.std.proofs.Common.{length, arith}
 use Rattle.si_words.specs.Loops.Reads.{words_now}
-use Rattle.si_tool.specs.Command.{form_of}
-use Rattle.si_tool.proofs.ReadsLemmas.{read_one, read_two, read_three}
-use Rattle.si_tool.proofs.CommandTasks.{no_options, two_files}
-use Rattle.si_tool.proofs.FormLemmas.{counted_choices, counted_files}
+use Rattle.si_commands.specs.Command.{form_of}
+use Rattle.si_commands.proofs.ReadsLemmas.{read_one, read_two, read_three}
+use Rattle.si_commands.proofs.CommandTasks.{few_together, no_options, two_files}
+use Rattle.si_commands.proofs.FormLemmas.{counted_choices, counted_files}
 use Rattle.si_tool.proofs.output.output_of_texts.Goals as goal
 
 pub about-requires : goal.about-requires
@@ -191,14 +191,13 @@ returns-in-Same-clause-err c =
     c.deref-in-Same-2.ensures.value in
     rw (c.in-Same.is, are.0, are.1) c.same.ensures.err
 
-pub compose_texts-requires-clause-few : goal.compose_texts-requires-clause-few
-compose_texts-requires-clause-few c =
+pub together-requires-clause-few : goal.together-requires-clause-few
+together-requires-clause-few c =
     let many = counted_files (form_of c.args.task) c.args.files.now (words_now c.args.choices.now) c.requires.given in
-    let count = rw c.in-Compose.is at many in
-    omega (arith, count.high)
+    few_together c.in-Together.what (length c.args.files.now) (rw c.in-Together.is at many)
 
-pub returns-in-Compose-clause-ok : goal.returns-in-Compose-clause-ok
-returns-in-Compose-clause-ok c = rw c.in-Compose.is c.compose_texts.ensures.ok
+pub returns-in-Together-clause-ok : goal.returns-in-Together-clause-ok
+returns-in-Together-clause-ok c = rw c.in-Together.is c.together.ensures.ok
 
-pub returns-in-Compose-clause-err : goal.returns-in-Compose-clause-err
-returns-in-Compose-clause-err c = rw c.in-Compose.is c.compose_texts.ensures.err
+pub returns-in-Together-clause-err : goal.returns-in-Together-clause-err
+returns-in-Together-clause-err c = rw c.in-Together.is c.together.ensures.err

@@ -2,7 +2,7 @@ use Rattle.std.proofs.Common.{◌≡◌, refl, inl, inr}
 use Rattle.si_io.specs.declared.sink.PutFault.TheVariants.{Failed, NoMemory as NoRoom}
 use Rattle.si_readings.proofs.ReadingRefusals.{handed_on}
 use Rattle.si_tool.specs.Loads.{loads}
-use Rattle.si_tool.specs.Loops.Reads.{request_of}
+use Rattle.si_commands.specs.Loops.Reads.{request_of}
 use Rattle.si_tool.specs.Run.{change, MayEnd, NoneLoaded, FirstLoaded}
 use Rattle.si_tool.proofs.RunLemmas.{stops_run}
 use Rattle.si_tool.proofs.run.put_output.Goals as goal

@@ -1,9 +1,0 @@
-use Rattle.si_tool.proofs.HelpLines.{page_shows, has_its_page}
-use Rattle.si_tool.proofs.laws.pages_show_their_commands.Goals as goal
-
-pub returns : goal.returns
-returns c = record {
-  shown = page_shows;
-  before = λ words task word is stands. (stands, (has_its_page task word is, tt));
-  behind = λ words task word is stands. (stands, (has_its_page task word is, tt));
-}

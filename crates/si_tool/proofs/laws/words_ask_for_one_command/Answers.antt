@@ -1,5 +1,0 @@
-use Rattle.si_tool.proofs.FormOverlap.{one_request}
-use Rattle.si_tool.proofs.laws.words_ask_for_one_command.Goals as goal
-
-pub returns : goal.returns
-returns c = one_request

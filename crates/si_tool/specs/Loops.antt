@@ -1,3 +1,0 @@
--- What the parts of a computation keep: for the proofs of the code, and in no promise of a run.
-pub mod Filled
-pub mod Reads
