@@ -3,7 +3,7 @@ _sisyn() {
   local word=${COMP_WORDS[COMP_CWORD]}
   local words= files=
   case "$COMP_CWORD ${COMP_WORDS[1]}" in
-    1\ *) words='check states regions conflicts explain lint covers fold dot synth suggest map resolve insert genlib verilog loops reset replay wave audit same compose exercise help --version --help -h' ;;
+    1\ *) words='check states regions conflicts explain lint covers fold dot synth suggest map resolve insert genlib verilog loops reset replay wave audit same compose works exercise help --version --help -h' ;;
     '2 check') files=yes ;;
     '2 states') files=yes ;;
     '2 regions') files=yes ;;
@@ -45,8 +45,12 @@ _sisyn() {
     '4 compose') files=yes ;;
     '5 compose') files=yes ;;
     '6 compose') files=yes ;;
+    '2 works') files=yes ;;
+    '3 works') files=yes ;;
+    '4 works') files=yes ;;
+    '5 works') files=yes ;;
     '2 exercise') words='1 2 3 4 5 6 7 8' ;;
-    '2 help') words='check states regions conflicts explain lint covers fold dot synth suggest map resolve insert genlib verilog loops reset replay wave audit same compose exercise help --version' ;;
+    '2 help') words='check states regions conflicts explain lint covers fold dot synth suggest map resolve insert genlib verilog loops reset replay wave audit same compose works exercise help --version' ;;
   esac
   mapfile -t COMPREPLY < <(compgen -W "$words" -- "$word"; [ -z "$files" ] || compgen -f -- "$word")
 }
