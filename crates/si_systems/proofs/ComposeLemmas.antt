@@ -1,5 +1,6 @@
 -- Texts come to one answer.
-use Rattle.std.proofs.Common.{◌≡◌, ℕ, List, [], ◌∷◌, ◌++◌, map, zip, Ok, Err, All, inl, inr, refl, sym, ap, ap₂, subst, ◌∙◌}
+use Rattle.std.proofs.Common.{◌≡◌, ℕ, List, [], ◌∷◌, ◌++◌, map, zip, Ok, Err, All, inl, inr, refl, sym, ap, ap₂, subst}
+use Rattle.std.proofs.Common.{◌∙◌}
 use Rattle.std.specs.List.{AllByRecursion}
 use Rattle.si_base.specs.Bytes.{sign}
 use Rattle.si_base.specs.Codes.{CodedGraph, IsCoded}
@@ -23,15 +24,17 @@ use Rattle.si_refusals.specs.Refusal.{TextRefusal}
 use Rattle.si_refusals.specs.Refusal as answer
 use Rattle.si_refusals.specs.declared.uncomposed.NamedCause.{NamedCause}
 use Rattle.si_refusals.specs.declared.uncomposed.NamedCause.TheVariants as named
-use Rattle.si_sg.specs.CanonicalText.{event_word, sg_text}
-use Rattle.si_systems.specs.Compose.{IsNamed, TellsComposed, TellsUncomposed, compose, composition}
+use Rattle.si_sg.specs.CanonicalText.{event_word}
+use Rattle.si_systems.specs.Compose.{ComposedSg, IsComposedSg, IsNamed, TellsComposed, TellsUncomposed, compose}
+use Rattle.si_systems.specs.Compose.{composed, composition}
+use Rattle.si_systems.specs.Halts.{text_with_halts}
 use Rattle.si_systems.specs.Loops.Parts.{AreGiven}
 use Rattle.si_systems.specs.Names.{composed_sg, names_at}
 use Rattle.si_trails.proofs.OneWalk.{one_walk}
 use Rattle.si_trails.proofs.SomeWalk.{some_walk}
 use Rattle.si_systems.proofs.PartLemmas.{all_coded, are_given, are_sound}
 
-all_hold : {A : Type 0} (P : A → Type 0) → ((x : A) → P x) → (xs : List A) → AllByRecursion P xs
+pub all_hold : {A : Type 0} (P : A → Type 0) → ((x : A) → P x) → (xs : List A) → AllByRecursion P xs
 all_hold P each [] = tt
 all_hold P each (x ∷ xs) = (each x, all_hold P each xs)
 
@@ -74,7 +77,7 @@ module _ (given : List Sg) (parts : List CodedGraph) where
   one_text one other x y =
       let same = side_by_side_one parts x.tuples y.tuples x.whole y.whole x.side_by_side y.side_by_side in
       x.output_is
-      ∙ ap₂ (λ (ts : List (List ℕ)) (h : StateGraph). sg_text (composed_sg given ts h)) same.0 same.1
+      ∙ ap₂ (λ (ts : List (List ℕ)) (h : StateGraph). text_with_halts (composed_sg given ts h)) same.0 same.1
       ∙ sym y.output_is
 
   pub composition_one : AtMostOne (composition given parts)
@@ -82,6 +85,29 @@ module _ (given : List Sg) (parts : List CodedGraph) where
   composition_one (Ok x) (Err r) one other = absurd (not_both x r one other)
   composition_one (Err r) (Ok x) one other = absurd (not_both x r other one)
   composition_one (Err r) (Err q) one other = ap Err (one_shown r q one other)
+
+  -- ---- the graph as a value
+  no_composed : (c : ComposedSg) (refusal : TextRefusal) → IsComposedSg given parts c
+      → TellsUncomposed given parts refusal → ⊥
+  no_composed c refusal x y = is_cause given parts y.cause y.shown y.named
+      (no_cause parts c.tuples c.sg.graph y.cause x.0 y.first)
+
+  with_tuples : List (List ℕ) → Sg → ComposedSg
+  with_tuples tuples sg = record { sg = sg; tuples = tuples }
+
+  one_graph : (c d : ComposedSg) → IsComposedSg given parts c → IsComposedSg given parts d → c ≡ d
+  unfolding with_tuples
+  one_graph c d one other =
+      let same = side_by_side_one parts c.tuples d.tuples c.sg.graph d.sg.graph one.0 other.0 in
+      ap (with_tuples c.tuples) one.1
+      ∙ ap₂ (λ (ts : List (List ℕ)) (h : StateGraph). with_tuples ts (composed_sg given ts h)) same.0 same.1
+      ∙ sym (ap (with_tuples d.tuples) other.1)
+
+  pub composed_one : AtMostOne (composed given parts)
+  composed_one (Ok c) (Ok d) one other = ap Ok (one_graph c d one other)
+  composed_one (Ok c) (Err r) one other = absurd (no_composed c r one other)
+  composed_one (Err r) (Ok c) one other = absurd (no_composed c r other one)
+  composed_one (Err r) (Err q) one other = ap Err (one_shown r q one other)
 
 pub compose_one : (files texts : List (List ℕ)) → AtMostOne (compose files texts)
 compose_one files texts = then_one _ _
@@ -107,8 +133,20 @@ some_name given parts coded (cause.Constant name) is first = (_, refl)
 composition_some : (given : List Sg) (parts : List CodedGraph) → All IsCoded parts → HasResult (composition given parts)
 composition_some given parts coded = elim (some_answer parts coded) [
   | inl (tuples, whole, is) ↦ (
-    Ok (sg_text (composed_sg given tuples whole)),
+    Ok (text_with_halts (composed_sg given tuples whole)),
     record { tuples = tuples; whole = whole; side_by_side = is; output_is = refl },
+  )
+  | inr (e, is, first) ↦ (let shown = some_name given parts coded e is first in (
+    Err (answer.Uncomposed shown.0),
+    record { cause = e; first = first; shown = shown.0; named = shown.1; refusal_is = refl },
+  ))
+]
+
+pub composed_some : (given : List Sg) (parts : List CodedGraph) → All IsCoded parts → HasResult (composed given parts)
+composed_some given parts coded = elim (some_answer parts coded) [
+  | inl (tuples, whole, is) ↦ (
+    Ok (record { sg = composed_sg given tuples whole; tuples = tuples }),
+    (is, refl),
   )
   | inr (e, is, first) ↦ (let shown = some_name given parts coded e is first in (
     Err (answer.Uncomposed shown.0),

@@ -1,5 +1,6 @@
 -- A stage for each of a list, one after another.
-use Rattle.std.proofs.Common.{◌≡◌, ℕ, suc, ◌<◌, ◌+◌, List, [], ◌∷◌, ◌++◌, take, length, get_or, Ok, Err, refl, sym, ap, subst, ◌∙◌}
+use Rattle.std.proofs.Common.{◌≡◌, ℕ, suc, ◌<◌, ◌+◌, List, [], ◌∷◌, ◌++◌, take, length, get_or, Ok, Err, refl, sym, ap}
+use Rattle.std.proofs.Common.{subst, ◌∙◌}
 use Rattle.si_readings.proofs.StageLemmas.{one_value, passed}
 use Rattle.si_refusals.specs.Ending.{Ending, NoMemory, Answered, MayStop}
 use Rattle.si_refusals.specs.Refusal.{TextRefusal, TextRefused}

@@ -1,7 +1,12 @@
 pub mod ListSteps
+pub mod BehindEnd
+pub mod HaltLemmas
 pub mod EachLemmas
 pub mod TupleNames
 pub mod PartLemmas
 pub mod ComposeLemmas
 pub mod WritableLemmas
 pub mod OutputLemmas
+pub mod ProductParts
+pub mod ProductLemmas
+pub mod ProductOutputs

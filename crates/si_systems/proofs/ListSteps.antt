@@ -1,6 +1,8 @@
 -- One more of a list.
-use Rattle.std.proofs.Common.{◌≡◌, ◌≢◌, ℕ, zero, suc, ◌<◌, ◌+◌, List, [], ◌∷◌, ◌++◌, map, take, length, get_or, slice_get, Some}
-use Rattle.std.proofs.Common.{zip, AllPairs, Contains, refl, sym, ap, ap₂, subst, ◌∙◌, arith, append_assoc, Vec, vec_items}
+use Rattle.std.proofs.Common.{◌≡◌, ◌≢◌, ℕ, zero, suc, ◌<◌, ◌+◌, List, [], ◌∷◌, ◌++◌, map, take, length, get_or}
+use Rattle.std.proofs.Common.{slice_get, Some}
+use Rattle.std.proofs.Common.{zip, AllPairs, Contains, refl, sym, ap, ap₂, subst, ◌∙◌, arith, append_assoc, Vec}
+use Rattle.std.proofs.Common.{vec_items}
 use Rattle.std.specs.Borrow.{Bor}
 use Rattle.std.specs.List.{join_with_byte}
 use Rattle.std.specs.declared.alloc.Global.{Global}

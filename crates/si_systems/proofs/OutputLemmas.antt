@@ -19,7 +19,9 @@ use Rattle.si_sg.specs.GivenGraph.{IsGivenBy}
 use Rattle.si_systems.specs.Compose.{TellsComposed, compose, graphs_in, parts_of}
 use Rattle.si_systems.specs.Laws.{AreGivenBy, AreSound, IsComposedText, given_graph}
 use Rattle.si_systems.specs.Loops.Parts.{AreGiven}
+use Rattle.si_systems.specs.Halts.{dead_count, dead_line}
 use Rattle.si_systems.specs.Names.{composed_sg}
+use Rattle.si_systems.proofs.BehindEnd.{gives_with_more}
 use Rattle.si_systems.proofs.PartLemmas.{are_sound, as_many}
 use Rattle.si_systems.proofs.WritableLemmas.{composed_reads_back}
 
@@ -30,7 +32,7 @@ as_given [] (g ∷ gs) are = absurd are
 as_given (t ∷ texts) [] are = absurd are
 as_given (t ∷ texts) (g ∷ gs) are = ((t, are.0), as_given texts gs are.1)
 
-given_by : (files texts : List (List ℕ)) (given : List Sg) → length texts ≡ length files
+pub given_by : (files texts : List (List ℕ)) (given : List Sg) → length texts ≡ length files
     → graphs_in files texts (Ok given) → AreGivenBy texts given
 given_by [] [] given many all = subst (AreGivenBy []) (sym (one_value (Ok given) given [] refl all)) tt
 given_by [] (t ∷ texts) given many all = absurd (omega (arith, many))
@@ -41,7 +43,7 @@ given_by (f ∷ files) (t ∷ texts) given many all =
     subst (AreGivenBy (t ∷ texts)) (sym (one_value (Ok given) given (first.0 ∷ rest.0) refl rest.2))
     (first.1, given_by files texts rest.0 (omega (arith, many)) rest.1)
 
-many_given : (texts : List (List ℕ)) (given : List Sg) → AreGivenBy texts given → length given ≡ length texts
+pub many_given : (texts : List (List ℕ)) (given : List Sg) → AreGivenBy texts given → length given ≡ length texts
 many_given [] [] are = refl
 many_given [] (g ∷ gs) are = absurd are
 many_given (t ∷ texts) [] are = absurd are
@@ -81,6 +83,7 @@ module _ (texts : List (List ℕ)) (given : List Sg) (are : AreGivenBy texts giv
   composed_text : IsComposedText texts output
   composed_text =
       let is = told.side_by_side in
+      let graph : Sg = composed_sg given told.tuples told.whole in
       record {
         given = given;
         given_are = are;
@@ -91,7 +94,8 @@ module _ (texts : List (List ℕ)) (given : List Sg) (are : AreGivenBy texts giv
         side_by_side = is;
         reads_back = subst (λ (text : List ℕ). IsGivenBy text (composed_sg given told.tuples told.whole))
             (sym told.output_is)
-            (composed_reads_back given parts (as_given texts given are) sound told.tuples told.whole is some);
+            (gives_with_more graph graph (dead_line (dead_count told.whole))
+            (composed_reads_back given parts (as_given texts given are) sound told.tuples told.whole is some));
         proper = is_proper (length parts) (graph_of parts) (state_in told.tuples) told.whole
             (proper_at given parts sound) is.composed is.free is.graph is.connected;
         serves = serves;

@@ -1,6 +1,7 @@
 -- No two tuples of states have one name.
 use Rattle.std.proofs.Common.{◌≡◌, ◌≢◌, ℕ, ◌<◌, ◌⊎◌, ◌==◌, ◌||◌, false, List, [], ◌∷◌, ◌++◌, map, length}
-use Rattle.std.proofs.Common.{AllPairs, get_or, take, suc, zero, refl, sym, ap, ap₂, subst, ◌∙◌, inl, inr, arith, true≢false, append-nil, append_assoc}
+use Rattle.std.proofs.Common.{AllPairs, get_or, take, suc, zero, refl, sym, ap, ap₂, subst, ◌∙◌, inl, inr, arith}
+use Rattle.std.proofs.Common.{true≢false, append-nil, append_assoc}
 use Rattle.std.specs.List.{join_with_byte}
 use Rattle.std.proofs.lemmas.Bool.{cases_Bool, cases_order}
 use Rattle.std.proofs.lemmas.List.{get_or-map, length-map}

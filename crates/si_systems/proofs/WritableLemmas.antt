@@ -69,7 +69,7 @@ module _ (p : ℕ → Bool) (bar_good : p 124 ≡ true) where
 
 -- ---- the model
 -- each is a model name
-abbrev AreModels : List Sg → Type 0
+abbrev pub AreModels : List Sg → Type 0
 AreModels [] = Unit {0}
 AreModels (g ∷ gs) = (is_model_name g.model ≡ true) × AreModels gs
 
@@ -94,14 +94,14 @@ joined_some w [] some = some
 joined_some [] (v ∷ ws) some = absurd (omega (arith, some))
 joined_some (b ∷ bs) (v ∷ ws) some = omega arith
 
-model_named : (given : List Sg) → AreModels given → 0 < length given → is_model_name (joined_model given) ≡ true
+pub model_named : (given : List Sg) → AreModels given → 0 < length given → is_model_name (joined_model given) ≡ true
 model_named [] all some = absurd (omega (arith, some))
 model_named (g ∷ gs) all some =
     name_of_bytes (joined_model (g ∷ gs))
     (joined_good is_word_byte refl (map (λ (h : Sg). h.model) (g ∷ gs)) (models_good (g ∷ gs) all))
     (joined_some g.model (map (λ (h : Sg). h.model) gs) (model_some g.model all.0))
 
-are_models : (given : List Sg) → AreGiven given → AreModels given
+pub are_models : (given : List Sg) → AreGiven given → AreModels given
 are_models [] are = tt
 are_models (g ∷ gs) are = ((given_named are.0.0 g are.0.1).model, are_models gs are.1)
 

@@ -18,7 +18,8 @@ use Rattle.si_refusals.specs.Refusal as answer
 use Rattle.si_refusals.specs.Stages.{Stage, ◌>>=◌, each}
 use Rattle.si_refusals.specs.declared.uncomposed.NamedCause.{NamedCause}
 use Rattle.si_refusals.specs.declared.uncomposed.NamedCause.TheVariants as named
-use Rattle.si_sg.specs.CanonicalText.{event_word, sg_text}
+use Rattle.si_sg.specs.CanonicalText.{event_word}
+use Rattle.si_systems.specs.Halts.{text_with_halts}
 use Rattle.si_systems.specs.Names.{composed_sg, names_at}
 use Rattle.si_trails.specs.Trails.{IsFirstWalkTo}
 
@@ -42,12 +43,24 @@ IsNamed given parts (cause.Interferes at name up) shown = (words : List (List �
 IsNamed given parts cause.Arcs shown = shown ≡ named.Arcs
 IsNamed given parts (cause.Constant name) shown = shown ≡ named.Constant name
 
--- the parts have a composed graph, and the output is its text
-pub record TellsComposed (given : List Sg) (parts : List CodedGraph) (output : List ℕ) : Type 0 where
+-- the graph of graphs side by side, and the tuples that are its states
+pub record ComposedSg : Type 0 where
+  pub sg : Sg
+  pub tuples : List (List ℕ)
+
+-- the parts have a composed graph, and this is it
+abbrev pub IsComposedSg : List Sg → List CodedGraph → ComposedSg → Type 0
+IsComposedSg given parts c = IsSideBySide parts c.tuples c.sg.graph
+    × (c.sg ≡ composed_sg given c.tuples c.sg.graph)
+
+-- the parts have a composed graph, and the output is its text, with the line that tells how many of
+-- its states enable nothing
+pub record TellsComposed (given : List Sg) (parts : List CodedGraph) (output : List ℕ)
+    : Type 0 where
   pub tuples : List (List ℕ)
   pub whole : StateGraph
   pub side_by_side : IsSideBySide parts tuples whole
-  pub output_is : output ≡ sg_text (composed_sg given tuples whole)
+  pub output_is : output ≡ text_with_halts (composed_sg given tuples whole)
 
 -- the refusal shows the first cause against it
 pub record TellsUncomposed (given : List Sg) (parts : List CodedGraph) (refusal : TextRefusal)
@@ -58,7 +71,12 @@ pub record TellsUncomposed (given : List Sg) (parts : List CodedGraph) (refusal 
   pub named : IsNamed given parts cause shown
   pub refusal_is : refusal ≡ answer.Uncomposed shown
 
--- the given graphs side by side, of which these are the parts with their codes
+-- the graph of the given graphs side by side, of which these are the parts with their codes
+abbrev pub composed : List Sg → List CodedGraph → Stage TextRefusal ComposedSg
+composed given parts (Ok c) = IsComposedSg given parts c
+composed given parts (Err refusal) = TellsUncomposed given parts refusal
+
+-- the same as a text
 abbrev pub composition : List Sg → List CodedGraph → Stage TextRefusal (List ℕ)
 composition given parts (Ok output) = TellsComposed given parts output
 composition given parts (Err refusal) = TellsUncomposed given parts refusal

@@ -1,2 +1,4 @@
 -- What the parts of a computation keep: for the proofs of the code, and in no promise of a run.
 pub mod Parts
+pub mod Composed
+pub mod Deterministic

@@ -1,6 +1,7 @@
 -- (text) The name of a tuple of states: the names of its states with `|` between them. No two
 -- tuples have one name.
-use Rattle.std.specs.Prelude.{ℕ, ◌<◌, ◌==◌, ◌||◌, if◌then◌else◌, List, [], ◌∷◌, length, map, flat_map}
+use Rattle.std.specs.Prelude.{ℕ, ◌<◌, ◌==◌, ◌||◌, if◌then◌else◌, List, [], ◌∷◌, length, map}
+use Rattle.std.specs.Prelude.{flat_map}
 use Rattle.std.specs.List.{join_with_byte}
 use Rattle.si_base.specs.Bytes.{backslash}
 use Rattle.si_base.specs.GivenGraph.{Sg}

@@ -7,14 +7,15 @@ ghost use Rattle.si_composing.specs.JoinedSignals.{joined_signals, max_parts};
 ghost use Rattle.si_composing.specs.Tuples.{IsReached};
 ghost use Rattle.si_composing.specs.declared.compose.Uncomposed.TheVariants.{Signal};
 ghost use Rattle.si_refusals.specs.Ending.{MayStop, ending_of};
-ghost use Rattle.si_sg.specs.CanonicalText.{sg_text};
 ghost use Rattle.si_systems.specs.Compose as stage;
 ghost use Rattle.si_systems.specs.Compose.{AreWalkWords, IsNamed};
 ghost use Rattle.si_systems.specs.Laws.{AreSound};
+ghost use Rattle.si_systems.specs.Loops.Composed.{composed_now};
 ghost use Rattle.si_systems.specs.Loops.Parts.{AreGiven, AreTuplesOf, ShowsTupleOf, sgs_now};
 ghost use Rattle.si_systems.specs.Names.{composed_sg};
 ghost use Rattle.si_words.specs.Loops.Reads.{words_now};
 
+use crate::halts::{add_dead_line, dead_count};
 use crate::names::{event_words, joined_model, names_at, tuple_names};
 use si_base::ids::NoMemory;
 use si_base::text::{Name, Text};
@@ -35,8 +36,8 @@ use si_trails::signals::signals_beside;
 use si_trails::walk::walk_to;
 use std::alloc::Global;
 
-/// The text of the graph of all the graphs that texts give, side by side. A refusal shows the names
-/// of the texts' files.
+/// The text of the graph of all the graphs that texts give, side by side, and behind its end how
+/// many of its states enable nothing. A refusal shows the names of the texts' files.
 ///
 /// # Errors
 ///
@@ -63,7 +64,7 @@ pub fn compose_texts<'w>(
 }
 
 /// All texts in one.
-fn joined_texts(alloc: Global, texts: &[Vec<u8>]) -> Result<Text, NoMemory>
+pub(crate) fn joined_texts(alloc: Global, texts: &[Vec<u8>]) -> Result<Text, NoMemory>
     ensures { IfOk result (λ text. text ≡ flat_map vec_items texts.now) }
 {
     let mut all = Text::copy_of(alloc, b"")?;
@@ -74,7 +75,7 @@ fn joined_texts(alloc: Global, texts: &[Vec<u8>]) -> Result<Text, NoMemory>
 }
 
 /// The graphs that texts give, each of its file.
-fn graphs_in<'w>(
+pub(crate) fn graphs_in<'w>(
     alloc: Global,
     files: &[&'w str],
     texts: &[Vec<u8>],
@@ -130,8 +131,43 @@ fn composition(
     ensures err { IfErr result
         (λ r. MayStop (stage.composition (sgs_now given.now) parts.now) (ending_of r)) }
 {
+    let composed = composed(alloc, key, given, parts)?;
+    let mut text = write_sg(alloc, &composed.sg)?;
+    add_dead_line(alloc, &mut text, dead_count(&composed.sg.graph))?;
+    Ok(text)
+}
+
+/// The graph of graphs side by side, and the tuples that are its states, in order.
+#[derive(Drop)]
+pub struct ComposedSg {
+    pub sg: Sg,
+    pub tuples: Vec<Tuple>,
+}
+
+/// The graph of all the graphs side by side, of which these are the parts with their codes.
+///
+/// The key hinders that texts are written whose names fill one place of a table; it changes no
+/// answer.
+///
+/// # Errors
+///
+/// `Uncomposed` with the first cause against composing. `NoMemory` only where memory runs out.
+pub fn composed(
+    alloc: Global,
+    key: TextKey,
+    given: &[Sg],
+    parts: &[Coded],
+) -> Result<ComposedSg, Refusal<'static>>
+    requires few { length parts.now ≤ max_parts }
+    requires given { AreGiven (sgs_now given.now) }
+    requires sound { AreSound (sgs_now given.now) parts.now }
+    ensures ok { IfOk result
+        (λ c. stage.composed (sgs_now given.now) parts.now (Ok (composed_now c))) }
+    ensures err { IfErr result
+        (λ r. MayStop (stage.composed (sgs_now given.now) parts.now) (ending_of r)) }
+{
     match compose(alloc, key, parts) {
-        Ok(composed) => Ok(text_of(alloc, key, given, composed)?),
+        Ok(composed) => Ok(with_names(alloc, key, given, composed)?),
         Err(cause) => {
             let cause = named(alloc, key, given, parts, cause)?;
             Err(Refusal::Uncomposed { cause })
@@ -139,14 +175,20 @@ fn composition(
     }
 }
 
-/// The text of the composed graph.
-fn text_of(alloc: Global, key: TextKey, given: &[Sg], composed: Composed) -> Result<Text, NoMemory>
+/// The composed graph with its model and the names of its states.
+pub(crate) fn with_names(
+    alloc: Global,
+    key: TextKey,
+    given: &[Sg],
+    composed: Composed,
+) -> Result<ComposedSg, NoMemory>
     requires given { AreGiven (sgs_now given.now) }
     requires tuples { AreTuplesOf (sgs_now given.now) composed.tuples.items }
     requires distinct { AllPairs (λ xs ys. xs ≢ ys) composed.tuples.items }
-    requires count { composed.graph.states ≡ length composed.tuples.items }
-    ensures { IfOk result (λ text. text
-        ≡ sg_text (composed_sg (sgs_now given.now) composed.tuples.items composed.graph)) }
+    ensures { IfOk result (λ c. composed_now c ≡ record {
+      sg = composed_sg (sgs_now given.now) composed.tuples.items composed.graph;
+      tuples = composed.tuples.items;
+    }) }
 {
     let Composed { graph, tuples } = composed;
     let model = joined_model(alloc, given)?;
@@ -156,7 +198,7 @@ fn text_of(alloc: Global, key: TextKey, given: &[Sg], composed: Composed) -> Res
         graph,
         states,
     };
-    write_sg(alloc, &sg)
+    Ok(ComposedSg { sg, tuples })
 }
 
 /// The cause by the names of signals and states, with the words of the first walk to an

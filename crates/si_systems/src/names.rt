@@ -1,7 +1,8 @@
 //! Names of tuples of states, and of the model of graphs side by side.
 
 ghost use Rattle.std.specs.List.{join_with_byte};
-ghost use Rattle.std.specs.Prelude.{◌≡◌, ◌≢◌, ◌<◌, [], ◌∷◌, ◌++◌, All, AllPairs, IfOk, OnOk, length};
+ghost use Rattle.std.specs.Prelude.{◌≡◌, ◌≢◌, ◌<◌, [], ◌∷◌, ◌++◌, All, AllPairs, IfOk, OnOk};
+ghost use Rattle.std.specs.Prelude.{length};
 ghost use Rattle.std.specs.Prelude.{map};
 ghost use Rattle.si_sg.specs.CanonicalText.{event_word as word_of_event};
 ghost use Rattle.si_systems.specs.Loops.Parts.{AreGiven, AreTuplesOf, sgs_now};
