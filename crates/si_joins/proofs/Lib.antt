@@ -1,0 +1,15 @@
+pub mod NameLemmas
+pub mod PlaceLemmas
+pub mod CubeLemmas
+pub mod AlongLemmas
+pub mod NetlistFacts
+pub mod ReasonLemmas
+pub mod GateForms
+pub mod NetlistMade
+pub mod LineLemmas
+pub mod SetLemmas
+pub mod TableLemmas
+pub mod ViewLemmas
+pub mod StepAnswers
+pub mod PartFacts
+pub mod JoinLemmas
