@@ -3,7 +3,7 @@ _sisyn() {
   local word=${COMP_WORDS[COMP_CWORD]}
   local words= files=
   case "$COMP_CWORD ${COMP_WORDS[1]}" in
-    1\ *) words='check states regions conflicts explain lint covers fold dot synth suggest map resolve insert genlib verilog loops reset replay wave audit same compose works exercise help --version --help -h' ;;
+    1\ *) words='check states regions conflicts explain lint covers fold dot synth suggest map resolve insert genlib verilog loops reset replay wave audit same product compose join works exercise help --version --help -h' ;;
     '2 check') files=yes ;;
     '2 states') files=yes ;;
     '2 regions') files=yes ;;
@@ -40,17 +40,26 @@ _sisyn() {
     '3 audit') files=yes ;;
     '2 same') files=yes ;;
     '3 same') files=yes ;;
+    '2 product') files=yes ;;
+    '3 product') files=yes ;;
+    '4 product') files=yes ;;
+    '5 product') files=yes ;;
+    '6 product') files=yes ;;
     '2 compose') files=yes ;;
     '3 compose') files=yes ;;
     '4 compose') files=yes ;;
     '5 compose') files=yes ;;
     '6 compose') files=yes ;;
+    '2 join') files=yes ;;
+    '3 join') files=yes ;;
+    '4 join') files=yes ;;
+    '5 join') files=yes ;;
     '2 works') files=yes ;;
     '3 works') files=yes ;;
     '4 works') files=yes ;;
     '5 works') files=yes ;;
     '2 exercise') words='1 2 3 4 5 6 7 8' ;;
-    '2 help') words='check states regions conflicts explain lint covers fold dot synth suggest map resolve insert genlib verilog loops reset replay wave audit same compose works exercise help --version' ;;
+    '2 help') words='check states regions conflicts explain lint covers fold dot synth suggest map resolve insert genlib verilog loops reset replay wave audit same product compose join works exercise help --version' ;;
   esac
   mapfile -t COMPREPLY < <(compgen -W "$words" -- "$word"; [ -z "$files" ] || compgen -f -- "$word")
 }

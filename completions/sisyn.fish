@@ -59,12 +59,23 @@ complete -c sisyn -n 'test (count (commandline -opc)) -eq 3; and test (commandli
 complete -c sisyn -n 'test (count (commandline -opc)) -eq 1' -a 'same' -d 'whether two graphs behave alike'
 complete -c sisyn -n 'test (count (commandline -opc)) -eq 2; and test (commandline -opc)[2] = same' -F
 complete -c sisyn -n 'test (count (commandline -opc)) -eq 3; and test (commandline -opc)[2] = same' -F
+complete -c sisyn -n 'test (count (commandline -opc)) -eq 1' -a 'product' -d 'the graph of cycles that share events'
+complete -c sisyn -n 'test (count (commandline -opc)) -eq 2; and test (commandline -opc)[2] = product' -F
+complete -c sisyn -n 'test (count (commandline -opc)) -eq 3; and test (commandline -opc)[2] = product' -F
+complete -c sisyn -n 'test (count (commandline -opc)) -eq 4; and test (commandline -opc)[2] = product' -F
+complete -c sisyn -n 'test (count (commandline -opc)) -eq 5; and test (commandline -opc)[2] = product' -F
+complete -c sisyn -n 'test (count (commandline -opc)) -eq 6; and test (commandline -opc)[2] = product' -F
 complete -c sisyn -n 'test (count (commandline -opc)) -eq 1' -a 'compose' -d 'the graph of graphs side by side'
 complete -c sisyn -n 'test (count (commandline -opc)) -eq 2; and test (commandline -opc)[2] = compose' -F
 complete -c sisyn -n 'test (count (commandline -opc)) -eq 3; and test (commandline -opc)[2] = compose' -F
 complete -c sisyn -n 'test (count (commandline -opc)) -eq 4; and test (commandline -opc)[2] = compose' -F
 complete -c sisyn -n 'test (count (commandline -opc)) -eq 5; and test (commandline -opc)[2] = compose' -F
 complete -c sisyn -n 'test (count (commandline -opc)) -eq 6; and test (commandline -opc)[2] = compose' -F
+complete -c sisyn -n 'test (count (commandline -opc)) -eq 1' -a 'join' -d 'the netlist of netlists side by side'
+complete -c sisyn -n 'test (count (commandline -opc)) -eq 2; and test (commandline -opc)[2] = join' -F
+complete -c sisyn -n 'test (count (commandline -opc)) -eq 3; and test (commandline -opc)[2] = join' -F
+complete -c sisyn -n 'test (count (commandline -opc)) -eq 4; and test (commandline -opc)[2] = join' -F
+complete -c sisyn -n 'test (count (commandline -opc)) -eq 5; and test (commandline -opc)[2] = join' -F
 complete -c sisyn -n 'test (count (commandline -opc)) -eq 1' -a 'works' -d 'whether netlists are right together'
 complete -c sisyn -n 'test (count (commandline -opc)) -eq 2; and test (commandline -opc)[2] = works' -F
 complete -c sisyn -n 'test (count (commandline -opc)) -eq 3; and test (commandline -opc)[2] = works' -F
@@ -73,5 +84,5 @@ complete -c sisyn -n 'test (count (commandline -opc)) -eq 5; and test (commandli
 complete -c sisyn -n 'test (count (commandline -opc)) -eq 1' -a 'exercise' -d 'the sizes of N handshakes, from 1 to 8'
 complete -c sisyn -n 'test (count (commandline -opc)) -eq 2; and test (commandline -opc)[2] = exercise' -a '1 2 3 4 5 6 7 8'
 complete -c sisyn -n 'test (count (commandline -opc)) -eq 1' -a 'help' -d 'what a command writes, and how it may end'
-complete -c sisyn -n 'test (count (commandline -opc)) -eq 2; and test (commandline -opc)[2] = help' -a 'check states regions conflicts explain lint covers fold dot synth suggest map resolve insert genlib verilog loops reset replay wave audit same compose works exercise help --version'
+complete -c sisyn -n 'test (count (commandline -opc)) -eq 2; and test (commandline -opc)[2] = help' -a 'check states regions conflicts explain lint covers fold dot synth suggest map resolve insert genlib verilog loops reset replay wave audit same product compose join works exercise help --version'
 complete -c sisyn -n 'test (count (commandline -opc)) -eq 1' -a '--version' -d 'the version, and what proved it'

@@ -82,7 +82,9 @@ each_listed (Replay End) = (place (Replay End), lit≤ tt, refl)
 each_listed (Replay Wave) = (place (Replay Wave), lit≤ tt, refl)
 each_listed Audit = (place Audit, lit≤ tt, refl)
 each_listed Same = (place Same, lit≤ tt, refl)
+each_listed (task.Together together.Product) = (place (task.Together together.Product), lit≤ tt, refl)
 each_listed (task.Together together.Compose) = (place (task.Together together.Compose), lit≤ tt, refl)
+each_listed (task.Together together.Join) = (place (task.Together together.Join), lit≤ tt, refl)
 each_listed (task.Together together.Works) = (place (task.Together together.Works), lit≤ tt, refl)
 each_listed Exercise = (place Exercise, lit≤ tt, refl)
 
@@ -204,7 +206,9 @@ of_all P (own ∷ words) word stands all = first (bytes_eq word own) refl (of_al
 pub few_together : (what : Together) (count : ℕ)
     → IsCount (file_count (form_of (task.Together what)).places) (more_files (form_of (task.Together what)).tail) count
     → count ≤ most_files what
+few_together together.Product count is = omega (arith, is.high)
 few_together together.Compose count is = omega (arith, is.high)
+few_together together.Join count is = omega (arith, is.high)
 few_together together.Works count is = omega (arith, is.high)
 
 pub record IsDigit (word : List ℕ) : Type 0 where

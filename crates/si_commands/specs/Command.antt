@@ -78,7 +78,11 @@ style_named GeneralisedC = named (codes "gc") (codes "a netlist of generalised C
 
 -- what is made of controllers together
 abbrev pub together_named : Together → Named
+together_named together.Product =
+    named (codes "product") (codes "the graph of cycles that share events")
 together_named together.Compose = named (codes "compose") (codes "the graph of graphs side by side")
+together_named together.Join =
+    named (codes "join") (codes "the netlist of netlists side by side")
 together_named together.Works =
     named (codes "works") (codes "whether netlists are right together")
 
@@ -130,7 +134,7 @@ command_words = codes "check" ∷ codes "states" ∷ codes "regions" ∷ codes "
     ∷ codes "suggest" ∷ codes "map" ∷ codes "resolve" ∷ codes "insert" ∷ codes "genlib"
     ∷ codes "verilog"
     ∷ codes "loops" ∷ codes "reset" ∷ codes "replay" ∷ codes "wave" ∷ codes "audit" ∷ codes "same"
-    ∷ codes "compose" ∷ codes "works" ∷ codes "exercise"
+    ∷ codes "product" ∷ codes "compose" ∷ codes "join" ∷ codes "works" ∷ codes "exercise"
     ∷ codes "help" ∷ codes "--version" ∷ []
 
 abbrev pub command_slot : Slot
@@ -147,19 +151,30 @@ row_with places tail says = record { form = record { places = places; tail = tai
 abbrev pub row : (places : List Slot) → (says : List ℕ) → Row
 row places says = row_with places Nothing says
 
-abbrev pub row_together : Together → Row
-row_together together.Compose =
-    row_with (Word (codes "compose") ∷ File graph_name ∷ File (codes "G") ∷ []) (MoreFiles 62)
-    (together_named together.Compose).says
-row_together together.Works =
+-- of graphs, and of graphs with their netlists
+abbrev pub row_of_graphs : Named → Row
+row_of_graphs command =
+    row_with (Word command.word ∷ File graph_name ∷ File (codes "G") ∷ []) (MoreFiles 62)
+    command.says
+
+abbrev pub row_of_pairs : Named → Row
+row_of_pairs command =
     row_with
-    (Word (codes "works") ∷ File graph_name ∷ File (codes "N") ∷ File (codes "G")
+    (Word command.word ∷ File graph_name ∷ File (codes "N") ∷ File (codes "G")
     ∷ File (codes "M") ∷ [])
-    (MorePairs 124) (together_named together.Works).says
+    (MorePairs 124) command.says
+
+abbrev pub row_together : Together → Row
+row_together together.Product = row_of_graphs (together_named together.Product)
+row_together together.Compose = row_of_graphs (together_named together.Compose)
+row_together together.Join = row_of_pairs (together_named together.Join)
+row_together together.Works = row_of_pairs (together_named together.Works)
 
 -- how many files they name at most: of 64 graphs, or of as many with their netlists
 abbrev pub most_files : Together → ℕ
+most_files together.Product = 64
 most_files together.Compose = 64
+most_files together.Join = 128
 most_files together.Works = 128
 
 abbrev pub row_of : Task → Row
@@ -222,8 +237,8 @@ tasks = Tell Summary ∷ Tell States ∷ Tell Regions ∷ Tell Conflicts ∷ Tel
     ∷ Suggest Complex ∷ Suggest GeneralisedC ∷ Map Cells
     ∷ Map Gates ∷ Resolve ∷ Insert ∷ FromGenlib
     ∷ Verilog ∷ TellNetlist Loops ∷ TellNetlist Reset ∷ Replay End ∷ Replay Wave ∷ Audit ∷ Same
-    ∷ task.Together together.Compose
-    ∷ task.Together together.Works ∷ Exercise ∷ About Help
+    ∷ task.Together together.Product ∷ task.Together together.Compose
+    ∷ task.Together together.Join ∷ task.Together together.Works ∷ Exercise ∷ About Help
     ∷ About (Page Before) ∷ About (Page Behind) ∷ About Version ∷ []
 
 abbrev pub rows : List Row

@@ -290,6 +290,21 @@ lists, 7 of a graph that isn't proper, 14 unlike.
 ",
     ),
     (
+        "product",
+        b"It writes the graph of all the graphs, up to 64, which go together by the events
+that they share: an event is one event of all that have it on an arc, and the
+others stay. So a controller is written as a few small cycles.
+
+Example:
+
+  sisyn product examples/latch-left.sg examples/latch-right.sg \\
+                examples/latch-order.sg
+
+Statuses: 0, 1 nomemory, 3 readfault, 4 writefault, 5 toolong, 6 badtext, 7
+nondeterministic, 12 driven, signals, states or arcs.
+",
+    ),
+    (
         "compose",
         b"It writes the graph of all the graphs side by side, up to 64: a signal of one
 name is one signal, and an event of it is an event of all that have it. Netlists
@@ -302,6 +317,22 @@ Example:
 Statuses: 0, 1 nomemory, 3 readfault, 4 writefault, 5 toolong, 6 badtext, 7 of a
 graph that isn't proper, 12 driven, private, signals, starts, states,
 interferes, arcs or constant.
+",
+    ),
+    (
+        "join",
+        b"It writes the netlist of all gates of netlists, each right for the graph before
+it, for the graph that `compose` writes of these graphs.
+
+Example:
+
+  sisyn join examples/stage-first.sg examples/stage-first.net \\
+             examples/stage-second.sg examples/stage-second.net
+
+Statuses: 0, 1 nomemory, 3 readfault, 4 writefault, 5 toolong, 6 badtext or
+lists, 7 of a graph that isn't proper, 11 rejected, 12 driven, private, signals,
+starts, states, interferes, arcs or constant, 13 uncertified, unused or
+toolarge.
 ",
     ),
     (

@@ -50,7 +50,9 @@ const COMMANDS: &[&str] = &[
     "wave",
     "audit",
     "same",
+    "product",
     "compose",
+    "join",
     "works",
     "exercise",
     "help",
@@ -219,10 +221,22 @@ const ROWS: &[Row] = &[
         says: "whether two graphs behave alike",
     },
     Row {
+        task: Task::Together(Together::Product),
+        places: &[Word("product"), File("F"), File("G")],
+        tail: MoreFiles(62),
+        says: "the graph of cycles that share events",
+    },
+    Row {
         task: Task::Together(Together::Compose),
         places: &[Word("compose"), File("F"), File("G")],
         tail: MoreFiles(62),
         says: "the graph of graphs side by side",
+    },
+    Row {
+        task: Task::Together(Together::Join),
+        places: &[Word("join"), File("F"), File("N"), File("G"), File("M")],
+        tail: MorePairs(124),
+        says: "the netlist of netlists side by side",
     },
     Row {
         task: Task::Together(Together::Works),

@@ -37,8 +37,12 @@ pub enum LibraryKind {
 /// What is made of controllers together.
 #[derive(Clone, Copy, PartialEq, Eq, Debug)]
 pub enum Together {
+    /// The graph of graphs that go together by the events that they share.
+    Product,
     /// The graph of all of them, side by side.
     Compose,
+    /// The netlist of all their gates.
+    Join,
     /// Whether their netlists are right together.
     Works,
 }

@@ -30,7 +30,9 @@ use Rattle.si_reports.proofs.MeaningLemmas.{report_some, replay_some}
 use Rattle.si_stages.proofs.MeaningLemmas.{synth_some, mapping_some}
 use Rattle.si_readings.proofs.StageLemmas.{gives_one, gives_some}
 use Rattle.si_likeness.proofs.SameLemmas.{same_one, same_some}
+use Rattle.si_joins.proofs.JoinLemmas.{join_one, join_some}
 use Rattle.si_systems.proofs.ComposeLemmas.{compose_one, compose_some}
+use Rattle.si_systems.proofs.ProductLemmas.{product_one, product_some}
 use Rattle.si_works.proofs.WorksLemmas.{works_one, works_some}
 use Rattle.si_reports.proofs.NetlistReportLemmas.{netlist_report_one, netlist_report_some}
 use Rattle.si_reports.proofs.VerilogLemmas.{verilog_one, verilog_some}
@@ -62,11 +64,15 @@ mapped_some false format g a l b = mapping_some format g a l b
 
 -- ---- of controllers together
 together_one : (what : Together) (files texts : List (List ℕ)) → AtMostOne (together what files texts)
+together_one kind.Product files texts = product_one files texts
 together_one kind.Compose files texts = compose_one files texts
+together_one kind.Join files texts = join_one files texts
 together_one kind.Works files texts = works_one files texts
 
 together_some : (what : Together) (files texts : List (List ℕ)) → HasResult (together what files texts)
+together_some kind.Product files texts = product_some files texts
 together_some kind.Compose files texts = compose_some files texts
+together_some kind.Join files texts = join_some files texts
 together_some kind.Works files texts = works_some files texts
 
 -- ---- by their texts: to one answer at most

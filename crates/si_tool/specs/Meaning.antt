@@ -23,7 +23,9 @@ use Rattle.si_stages.specs.Inserted.{insert, resolve}
 use Rattle.si_reports.specs.Meaning.{report, replay}
 use Rattle.si_stages.specs.Meaning.{synth, mapping, audit}
 use Rattle.si_likeness.specs.Same.{same}
+use Rattle.si_joins.specs.Join.{join}
 use Rattle.si_systems.specs.Compose.{compose}
+use Rattle.si_systems.specs.Product.{product}
 use Rattle.si_works.specs.Works.{works}
 use Rattle.si_reports.specs.NetlistReports.{netlist_report}
 use Rattle.si_reports.specs.Verilog.{verilog}
@@ -43,7 +45,9 @@ mapped_by false format g graph l library = mapping format g graph l library
 
 -- what is made of controllers together, each file with its text
 abbrev pub together : Together → (files texts : List (List ℕ)) → Stage TextRefusal (List ℕ)
+together kind.Product files texts = product files texts
 together kind.Compose files texts = compose files texts
+together kind.Join files texts = join files texts
 together kind.Works files texts = works files texts
 
 -- a task over its files, each with its text, and the words that are chosen: options too

@@ -24,6 +24,7 @@ use si_commands::form::is_listed;
 use si_commands::task::{LibraryKind, Task, Together};
 use si_exercise::exercise::exercise;
 use si_io::shelf::{LoadFault, Shelf};
+use si_joins::join::join_texts;
 use si_likeness::same::same;
 use si_readings::library_format::LibraryFormat;
 use si_refusals::refusals::Refusal;
@@ -40,6 +41,7 @@ use si_suggestion::mapped::map_suggested;
 use si_suggestion::resolved::resolve_suggested;
 use si_suggestion::suggested::suggest_text;
 use si_systems::compose::compose_texts;
+use si_systems::product::product_texts;
 use si_works::works::works_texts;
 use std::alloc::Global;
 
@@ -132,7 +134,9 @@ fn together<'w>(
         (meanings.together what (words_now files.now) (texts_now texts.now)) (ending_of r)) }
 {
     match what {
+        Together::Product => product_texts(alloc, files, texts),
         Together::Compose => compose_texts(alloc, files, texts),
+        Together::Join => join_texts(alloc, files, texts),
         Together::Works => works_texts(alloc, files, texts),
     }
 }
