@@ -1,0 +1,15 @@
+pub mod RenamedGraphs
+pub mod LiftedTests
+pub mod Standing
+pub mod WordLemmas
+pub mod Told
+pub mod LiftedLine
+pub mod LiftedParts
+pub mod NamedParts
+pub mod RenamedForms
+pub mod DriverGates
+pub mod PlacedGates
+pub mod PlacedSignals
+pub mod AuditedParts
+pub mod JoinedParts
+pub mod JoinsEnd
