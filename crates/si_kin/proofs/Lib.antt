@@ -1,0 +1,2 @@
+pub mod KinLemmas
+mod Examples
