@@ -1,0 +1,5 @@
+pub mod Parts
+pub mod StructureText
+pub mod Meaning
+pub mod Refusals
+pub mod Laws
