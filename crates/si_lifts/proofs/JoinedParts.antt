@@ -7,7 +7,7 @@ use Rattle.si_base.specs.Bits.{bit}
 use Rattle.si_base.specs.declared.graph.Signal.{Signal}
 use Rattle.si_base.specs.declared.graph.SigKind.TheVariants.{Inserted, Output}
 use Rattle.si_base.specs.Codes.{CodedGraph, code, next_value}
-use Rattle.si_base.specs.Graph.{IsNonInput}
+use Rattle.si_base.specs.Graph.{IsNonInput, name_of}
 use Rattle.si_base.specs.Netlist.{Netlist, gate_value, value_if_there}
 use Rattle.si_base.specs.RightGates.{GivesNextValues}
 use Rattle.si_base.specs.System.{is_inserted}
@@ -34,7 +34,8 @@ use Rattle.si_lifts.proofs.Told.{IsTold, behind}
 use Rattle.si_lifts.proofs.LiftedParts.{IsAfterPart}
 use Rattle.si_lifts.proofs.NamedParts.{same_gate_place}
 use Rattle.si_lifts.proofs.PlacedGates.{has_gates, netlists_joined}
-use Rattle.si_lifts.proofs.PlacedSignals.{HasName, alike_rest, begins_as, named_are, places_of_part, places_within}
+use Rattle.si_lifts.proofs.PlacedSignals.{HasName, alike_rest, begins_as, given_named, named_are, places_of_part}
+use Rattle.si_lifts.proofs.PlacedSignals.{places_within}
 use Rattle.si_lifts.proofs.RenamedGraphs.{AreAlike, same_non_input}
 use Rattle.si_lifts.proofs.Standing.{Stands, as_named, named_within}
 
@@ -185,6 +186,13 @@ module _ (parts : List AuditedPart) (are : AreAudited parts) (tuples : List (Lis
         given
         found z (subst (λ (xs : List Signal). z < length xs) (netlist_signals ∙ own_is) below))
 
+    own_name : (z : ℕ) (x : Signal) → slice_get (part_at (netlists parts) i).signals z ≡ Some x
+        → is_inserted x.kind ≡ false → name_of whole (to_at places i z) ≡ x.name
+    own_name z x at old = subst (λ (to : List ℕ). name_of whole (slice_index to z) ≡ x.name) (sym places_are)
+        (given_named whole (next + inserts_before (netlists parts) i) inserted told.mine alike all_inserted stand given
+        found
+        z x (subst (λ (xs : List Signal). slice_get xs z ≡ Some x) (netlist_signals ∙ own_is) at) old)
+
     placed : length (slice_index_or places i []) ≡ length (part_at (netlists parts) i).signals
     placed = ap (λ (to : List ℕ). length to) places_are
         ∙ as_many_places whole (next + inserts_before (netlists parts) i) (given ++ inserted)
@@ -234,6 +242,11 @@ module _ (parts : List AuditedPart) (are : AreAudited parts) (tuples : List (Lis
   within : (i z : ℕ) → i < length (netlists parts) → z < length (part_at (netlists parts) i).signals
       → to_at places i z < length whole
   within i z inside below = place_within i (omega (arith, inside, netlists_many)) z below
+
+  pub own_names : (i z : ℕ) (x : Signal) → i < length (netlists parts)
+      → slice_get (part_at (netlists parts) i).signals z ≡ Some x → is_inserted x.kind ≡ false
+      → name_of whole (to_at places i z) ≡ x.name
+  own_names i z x inside = own_name i (omega (arith, inside, netlists_many)) z x
 
   pub gates_are : HasGatesOf (length (netlists parts)) named (to_at places) m
   gates_are = has_gates model states (netlists parts) l (are_netlists parts are) after.before.named within

@@ -1,14 +1,15 @@
 -- Joining ends as the laws say.
 use Rattle.std.proofs.Common.{◌≡◌, ℕ, suc, ◌<◌, List, [], ◌∷◌, length, zip, All, IsTrue, Ok, Err, refl}
+use Rattle.std.proofs.Common.{Some, false, slice_get}
 use Rattle.std.proofs.Common.{sym, ap, subst, subst₂, ◌∙◌, arith, inl, inr, ◌⊎◌}
 use Rattle.std.proofs.lemmas.List.{length-map}
 use Rattle.si_base.specs.declared.graph.Signal.{Signal}
 use Rattle.si_base.specs.Behaviour.{Implements}
 use Rattle.si_base.specs.Codes.{CodedGraph}
-use Rattle.si_base.specs.Graph.{StateGraph}
+use Rattle.si_base.specs.Graph.{StateGraph, name_of}
 use Rattle.si_base.specs.Netlist.{Netlist}
 use Rattle.si_base.specs.NetlistText.{netlist_text}
-use Rattle.si_base.specs.System.{IsFor}
+use Rattle.si_base.specs.System.{IsFor, is_inserted}
 use Rattle.si_base.specs.WellFormed.{IsNetlist}
 use Rattle.si_base.specs.Words.{is_signal_name}
 use Rattle.si_audit.specs.Audit.{Certifies}
@@ -49,10 +50,10 @@ use Rattle.si_works.specs.System.{two_by_two}
 use Rattle.si_works.specs.Works.{graphs}
 use Rattle.si_works.proofs.AuditedLemmas.{parts_are_audited}
 use Rattle.si_lifts.specs.Laws.{IsOfParts, JoinedAreOfParts, JoinsAreRefusedSo, MayRefuse}
-use Rattle.si_lifts.specs.Parts.{named_part, to_at}
+use Rattle.si_lifts.specs.Parts.{named_part, part_at, to_at}
 use Rattle.si_lifts.specs.Reasons.{IsOfInsertion}
 use Rattle.si_lifts.proofs.AuditedParts.{all_audited, begins, coded_at, count, final_at, netlists}
-use Rattle.si_lifts.proofs.JoinedParts.{gates_are, is_built, joined_are}
+use Rattle.si_lifts.proofs.JoinedParts.{gates_are, is_built, joined_are, own_names}
 use Rattle.si_lifts.proofs.Told.{refused_then}
 use Rattle.si_lifts.proofs.LiftedParts.{IsAfterPart, parts_refused, parts_taken}
 
@@ -188,9 +189,15 @@ module _ (parts : List AuditedPart) (are : AreAudited parts) (some : 0 < length 
     abbrev nets : List Netlist
     nets = netlists parts
 
+    -- the netlist n, over these signals, is k parts at their places, joined
+    abbrev AreJoinedOver : Netlist → List (List ℕ) → (k : ℕ) → List Signal → Type 0
+    AreJoinedOver n places k signals = HasGatesOf k (named_part signals places nets) (to_at places) n
+        × IsJoined k (named_part signals places nets) n
+        × ((i z : ℕ) (x : Signal) → i < k → slice_get (part_at nets i).signals z ≡ Some x → is_inserted x.kind ≡ false
+        → name_of signals (to_at places i z) ≡ x.name)
+
     abbrev AreJoinedAt : Netlist → List (List ℕ) → Type 0
-    AreJoinedAt n places = HasGatesOf (length parts) (named_part n.signals places nets) (to_at places) n
-        × IsJoined (length parts) (named_part n.signals places nets) n
+    AreJoinedAt n places = AreJoinedOver n places (length parts) n.signals
 
     module _ (whole : ComposedSg) (is : IsComposedSg (givens parts) (graphs parts) whole) (start : CodedGraph)
         (sound : IsSound whole.sg.graph start) (l : History)
@@ -211,12 +218,10 @@ module _ (parts : List AuditedPart) (are : AreAudited parts) (some : 0 < length 
       made_joined : AreJoinedAt n places
       made_joined =
           let behind = after parts are some whole is start sound l taken in
-          subst₂ (λ (k : ℕ) (xs : List Signal). HasGatesOf k (named_part xs places nets) (to_at places) n
-          × IsJoined k (named_part xs places nets) n) as_many_nets (sym made_signals) (
-            gates_are parts are whole.tuples start l behind whole.sg.model
-                whole.sg.states,
-            joined_are parts are whole.tuples start l behind whole.sg.model
-                whole.sg.states,
+          subst₂ (AreJoinedOver n places) as_many_nets (sym made_signals) (
+            gates_are parts are whole.tuples start l behind whole.sg.model whole.sg.states,
+            joined_are parts are whole.tuples start l behind whole.sg.model whole.sg.states,
+            own_names parts are whole.tuples start l behind whole.sg.model whole.sg.states,
           )
 
       output_joined : netlist ≡ netlist_text n → (tos : List (List ℕ)) × AreJoinedAt (netlist_of netlist) tos
@@ -285,6 +290,7 @@ module _ (graph_file netlist_file graph_text netlist_text : List ℕ) (more_file
         parts = first.0;
         are = parts_are_audited files texts first.0 (ap (λ (k : ℕ). suc (suc k)) many) first.1;
         places = joined_at.0;
+        given = joined_at.1.2;
         gates = joined_at.1.0;
         joined = joined_at.1.1;
       }

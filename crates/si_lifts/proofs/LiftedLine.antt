@@ -54,7 +54,8 @@ use Rattle.si_lifts.proofs.RenamedGraphs.{alike_many}
 use Rattle.si_lifts.proofs.Standing.{Stands, as_named, exchanged, exchanged_other, exchanged_there, named_accepted}
 use Rattle.si_lifts.proofs.Standing.{after, copied_origin, named_coded, named_proper, named_within, stands_after}
 use Rattle.si_lifts.proofs.WordLemmas.{named_just_so}
-use Rattle.si_lifts.proofs.Told.{IsAtPart, IsNextAt, IsTold, behind, named_among, refused_then, signal_at}
+use Rattle.si_lifts.proofs.NamedParts.{signal_there}
+use Rattle.si_lifts.proofs.Told.{IsAtPart, IsNextAt, IsTold, behind, named_among, refused_then}
 
 module _ (count : ℕ) (tuples : List (List ℕ)) (l : History) (signals : ℕ → List Signal) (parts : ℕ → Current)
     (at : ℕ → ℕ → ℕ) (i before : ℕ) (own : History) (now : IsAtPart count tuples l signals parts at i before own)
@@ -108,7 +109,7 @@ module _ (count : ℕ) (tuples : List (List ℕ)) (l : History) (signals : ℕ �
       ≡ bit (code own.current.coded (at i s)) (length own.given.graph.signals + k)
   same_bit s k within = elim (cases_lt k (length own.trace)) [
     | inl below ↦ (
-        let x = signal_at now.told.mine k (let many = now.told.many in omega (arith, below, many)) in
+        let x = signal_there now.told.mine k (let many = now.told.many in omega (arith, below, many)) in
         stands.glued i (length l.given.graph.signals + (before + k)) (length own.given.graph.signals + k) s inside
         within
         (record {

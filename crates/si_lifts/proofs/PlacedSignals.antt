@@ -2,7 +2,7 @@
 use Rattle.std.proofs.Common.{◌≡◌, ℕ, zero, suc, ◌<◌, ◌+◌, true, false, List, [], ◌∷◌, ◌++◌, drop, length}
 use Rattle.std.proofs.Common.{slice_get, slice_index, slice_index_or, Some, refl, sym, ap, ap₂, subst, ◌∙◌, arith, inl}
 use Rattle.std.proofs.Common.{inr, bytes_eq}
-use Rattle.std.proofs.lemmas.Bool.{cases_Bool}
+use Rattle.std.proofs.lemmas.Bool.{cases_Bool, true≢false}
 use Rattle.std.proofs.lemmas.Option.{slice_get_within}
 use Rattle.std.proofs.lemmas.Slice.Eq.{bytes_eq-Decides}
 use Rattle.si_base.specs.declared.graph.Signal.{Signal}
@@ -11,6 +11,7 @@ use Rattle.si_base.specs.declared.graph.SigKind.TheVariants.{Inserted}
 use Rattle.si_base.specs.Graph.{name_of}
 use Rattle.si_base.specs.Netlist.{Netlist}
 use Rattle.si_base.specs.System.{is_inserted}
+use Rattle.si_compose.proofs.SameSignals.{some_same}
 use Rattle.si_joins.specs.Gates.{all_places, place_of, places}
 use Rattle.si_lifts.specs.Parts.{inserts_before, named_signals, part_at}
 use Rattle.si_lifts.proofs.NamedParts.{name_there}
@@ -19,9 +20,6 @@ use Rattle.si_lifts.proofs.RenamedGraphs.{AreAlike}
 same_signal : (x y : Signal) → x.name ≡ y.name → x.kind ≡ y.kind → x ≡ y
 same_signal x y names kinds =
     let make : List ℕ → SigKind → Signal = λ n k. record { name = n; kind = k } in ap₂ make names kinds
-
-is_some : {X : Type 0} (x y : X) → Some x ≡ Some y → x ≡ y
-is_some x y same = cc
 
 -- ---- the place of a name
 -- the whole has a signal of the name
@@ -33,7 +31,7 @@ found_at : (whole : List Signal) (name : List ℕ) → HasName whole name
 found_at [] name (k, w, at, same) = cc
 found_at (x ∷ xs) name (zero, w, at, same) =
     let here : bytes_eq x.name name ≡ true =
-    (bytes_eq-Decides x.name name).1 (ap (λ (y : Signal). y.name) (is_some x w at) ∙ same) in
+    (bytes_eq-Decides x.name name).1 (ap (λ (y : Signal). y.name) (some_same x w at) ∙ same) in
     rw here ((bytes_eq-Decides x.name name).0 here, omega arith)
 found_at (x ∷ xs) name (suc k, w, at, same) =
     let later = found_at xs name (k, w, at, same) in
@@ -108,6 +106,20 @@ module _ (whole : List Signal) where
         let old : is_inserted x.kind ≡ false = (found 0 x refl).0 in
         rw old (places_within xs (λ k w is. found (suc k) w is) z (omega (arith, below)))
 
+    -- a signal that isn't inserted has its own name there
+    pub given_named : (given : List Signal) → AreFound given → (z : ℕ) (x : Signal)
+        → slice_get (given ++ ins) z ≡ Some x
+        → is_inserted x.kind ≡ false → name_of whole (slice_index (places whole next (given ++ ins)) z) ≡ x.name
+    given_named [] found z x at old =
+        absurd (true≢false (sym (ap is_inserted (inserted z x at)) ∙ old))
+    given_named (g ∷ gs) found zero x at old =
+        let first = found 0 g refl in
+        let kind : is_inserted g.kind ≡ false = first.0 in
+        rw kind ((found_at whole g.name first.1).0 ∙ ap (λ (y : Signal). y.name) (some_same g x at))
+    given_named (g ∷ gs) found (suc z) x at old =
+        let kind : is_inserted g.kind ≡ false = (found 0 g refl).0 in
+        rw kind (given_named gs (λ k w is. found (suc k) w is) z x at old)
+
 -- ---- a list that begins as another
 pub begins_as : (given all : List Signal)
     → ((a : ℕ) → a < length given → slice_get all a ≡ slice_get given a) → all ≡ given ++ drop (length given) all
@@ -117,7 +129,7 @@ begins_as (g ∷ given) [] same = absurd (none (same 0 (omega arith)))
     none : slice_get [] 0 ≡ Some g → ⊥
     none is = cc
 begins_as (g ∷ given) (x ∷ all) same =
-    ap₂ (λ (s : Signal) (ss : List Signal). s ∷ ss) (is_some x g (same 0 (omega arith)))
+    ap₂ (λ (s : Signal) (ss : List Signal). s ∷ ss) (some_same x g (same 0 (omega arith)))
     (begins_as given all (λ a below. same (suc a) (omega (arith, below))))
 
 pub alike_rest : (given xs ys : List Signal) → AreAlike (given ++ xs) (given ++ ys) → AreAlike xs ys

@@ -1,5 +1,5 @@
 -- What the whole has been told of its parts: the signals that they have there, and the insertions so far.
-use Rattle.std.proofs.Common.{◌≡◌, ℕ, zero, suc, ◌<◌, ◌≤◌, ◌+◌, List, [], ◌∷◌, ◌++◌}
+use Rattle.std.proofs.Common.{◌≡◌, ℕ, suc, ◌<◌, ◌≤◌, ◌+◌, List, [], ◌∷◌, ◌++◌}
 use Rattle.std.proofs.Common.{length}
 use Rattle.std.proofs.Common.{slice_get, Some, Ok, Err, refl, sym, subst, arith, inl, inr}
 use Rattle.std.proofs.lemmas.Bool.{cases_lt}
@@ -33,11 +33,6 @@ pub record IsTold (l : History) (signals : List Signal) (before : ℕ) (own : Hi
   pub many : length mine ≡ length own.trace
   pub inserted : (z : ℕ) (x : Signal) → slice_get mine z ≡ Some x
       → slice_get l.current.coded.graph.signals (length l.given.graph.signals + (before + z)) ≡ Some x
-
-pub signal_at : (xs : List Signal) (k : ℕ) → k < length xs → (x : Signal) × (slice_get xs k ≡ Some x)
-signal_at [] k below = absurd (omega (arith, below))
-signal_at (x ∷ xs) zero below = (x, refl)
-signal_at (x ∷ xs) (suc k) below = signal_at xs k (omega (arith, below))
 
 pub behind : (xs ys : List Signal) (k : ℕ) (y : Signal) → slice_get ys k ≡ Some y
     → slice_get (xs ++ ys) (length xs + k) ≡ Some y

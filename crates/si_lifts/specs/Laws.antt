@@ -1,6 +1,10 @@
 -- (law) What joining can be refused for, and what the netlist is that it comes to.
-use Rattle.std.specs.Prelude.{◌≡◌, ℕ, ◌⊎◌, List, ◌∷◌, Ok, Err, length, map}
+use Rattle.std.specs.Prelude.{◌≡◌, ℕ, ◌<◌, ◌⊎◌, false, List, ◌∷◌, Some, Ok, Err, length, map}
+use Rattle.std.specs.Prelude.{slice_get}
+use Rattle.si_base.specs.declared.graph.Signal.{Signal}
+use Rattle.si_base.specs.Graph.{name_of}
 use Rattle.si_base.specs.Netlist.{Netlist}
+use Rattle.si_base.specs.System.{is_inserted}
 use Rattle.si_compose.specs.JoinedNetlist.{IsJoined}
 use Rattle.si_compose.specs.Renamed.{HasGatesOf}
 use Rattle.si_joins.specs.Join.{join}
@@ -11,7 +15,7 @@ use Rattle.si_systems.specs.Compose.{compose}
 use Rattle.si_works.specs.Audited.{AuditedPart, audited_parts}
 use Rattle.si_works.specs.AuditedLaws.{AreAuditedParts}
 use Rattle.si_works.specs.System.{two_by_two}
-use Rattle.si_lifts.specs.Parts.{named_part, to_at}
+use Rattle.si_lifts.specs.Parts.{named_part, part_at, to_at}
 use Rattle.si_lifts.specs.Reasons.{IsOfInsertion}
 
 -- some netlist isn't certified for its graph, or the graphs can't be composed, or an inserted
@@ -35,6 +39,10 @@ pub record IsOfParts (texts : List (List ℕ)) (netlist : Netlist) : Type 0 wher
   pub parts : List AuditedPart
   pub are : AreAuditedParts (two_by_two texts) parts
   pub places : List (List ℕ)
+  -- a signal that isn't inserted has its own name there
+  pub given : (i z : ℕ) (x : Signal) → i < length parts
+      → slice_get (part_at (map (λ p. p.netlist) parts) i).signals z ≡ Some x
+      → is_inserted x.kind ≡ false → name_of netlist.signals (to_at places i z) ≡ x.name
   pub gates : HasGatesOf (length parts)
       (named_part netlist.signals places (map (λ p. p.netlist) parts)) (to_at places) netlist
   pub joined : IsJoined (length parts)
