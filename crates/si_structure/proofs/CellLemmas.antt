@@ -38,7 +38,7 @@ pub names_back : (names : List (List ℕ)) → map (λ (x : Signal). x.name) (wi
 names_back [] = refl
 names_back (n ∷ names) = ap (λ (ns : List (List ℕ)). n ∷ ns) (names_back names)
 
-driven_is_last : (names : List (List ℕ))
+pub driven_is_last : (names : List (List ℕ))
     → filter (λ (x : Signal). is_driven x.kind) (with_output names) ≡ output ∷ []
 driven_is_last [] = refl
 driven_is_last (n ∷ names) = driven_is_last names

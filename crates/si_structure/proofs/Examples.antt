@@ -1,11 +1,13 @@
 -- Worked examples: a C-element as a module, a controller of one, and the values of its ports.
-use Rattle.std.proofs.Common.{◌≡◌, ℕ, true, false, List, [], ◌∷◌, ◌++◌, refl, codes}
+use Rattle.std.proofs.Common.{◌≡◌, ℕ, ◌<◌, true, false, List, [], ◌∷◌, ◌++◌, refl, codes, arith}
+use Rattle.std.proofs.lemmas.List.Elements.{All-from_recursion}
 use Rattle.si_base.specs.Bytes.{opening_parenthesis, closing_parenthesis, dot}
 use Rattle.si_base.specs.declared.graph.Signal.{Signal}
 use Rattle.si_base.specs.declared.graph.SigKind.{SigKind}
 use Rattle.si_base.specs.declared.graph.SigKind.TheVariants.{Input, Output}
 use Rattle.si_base.specs.declared.ids.Literal.{Literal}
-use Rattle.si_base.specs.Netlist.{Cell as CellGate, Netlist}
+use Rattle.si_base.specs.Limits.{code_width}
+use Rattle.si_base.specs.Netlist.{Cell as CellGate, Netlist, SumGate}
 use Rattle.si_cell.specs.Library.{Cell, Library}
 use Rattle.si_cell.specs.declared.pins.Pins.TheVariants.{Plain}
 use Rattle.si_verilog.specs.Keywords.{keywords, is_keyword}
@@ -15,6 +17,8 @@ use Rattle.si_verilog.specs.ModuleText.{verilog_name, verilog_text}
 use Rattle.si_structure.specs.Parts.{Connection}
 use Rattle.si_structure.specs.Meaning.{port_value}
 use Rattle.si_structure.specs.Refusals.{model_is_cell}
+use Rattle.si_structure.specs.Loops.Deciding.{AreSmall}
+use Rattle.si_structure.specs.Loops.Writing.{gate_lines, pin_texts, placement_lines}
 use Rattle.si_structure.specs.StructureText.{cell_netlist, own_connections}
 use Rattle.si_structure.specs.StructureText.{reads_own, structure_text, used_cells}
 
@@ -94,6 +98,27 @@ join_text : structure_text cells join ≡
     ++ codes "endmodule\n"
 unfolding structure_text verilog_text verilog_name
 join_text = refl
+
+-- ---- parts of that text
+
+pins_of_join : pin_texts join.signals c2.pins (plain 0 ∷ plain 1 ∷ []) ≡ codes ".a(R), .b(S), "
+unfolding verilog_name
+pins_of_join = refl
+
+line_of_join : placement_lines cells.cells join.signals join.signals join.gates
+    ≡ codes "  C2 \\Z$gate (.a(R), .b(S), .\\q$in (Z), .q(Z));\n"
+unfolding verilog_name
+line_of_join = refl
+
+no_line_of_a_sum : gate_lines cells.cells join.signals (codes "Z") (SumGate []) ≡ []
+no_line_of_a_sum = refl
+
+two_literals : AreSmall (plain 0 ∷ plain 1 ∷ [])
+two_literals = record {
+  few = omega arith;
+  signals = All-from_recursion (λ (l : Literal). l.sig < code_width) (plain 0 ∷ plain 1 ∷ [])
+      (omega arith, (omega arith, tt));
+}
 
 -- ---- ports have the values of their nets: R is signal 0, and Z signal 2
 

@@ -7,4 +7,10 @@ pub mod StructureLemmas
 pub mod OneMeaning
 pub mod TextLemmas
 pub mod OutcomeLemmas
+pub mod GateDecisions
+pub mod NetlistDecisions
+mod SameLemmas
+mod SumWriting
+mod HeadWriting
+mod PlacementWriting
 mod Examples

@@ -1,25 +1,21 @@
 -- A netlist has one outcome over a library.
-use Rattle.std.proofs.Common.{◌≡◌, ◌≢◌, ℕ, ◌<◌, true, List, slice_get, Some}
+use Rattle.std.proofs.Common.{◌≡◌, ◌≢◌, ℕ, true, List, slice_get, Some}
 use Rattle.std.proofs.Common.{All, refl, sym, ap, subst, ◌∙◌, arith, inl, inr}
 use Rattle.std.specs.Prelude.{IsTrue}
 use Rattle.std.proofs.lemmas.Bool.{true≢false, cases_lt}
 use Rattle.std.proofs.lemmas.Option.{get_or_from_slice_get, slice_get_within}
 use Rattle.si_base.specs.declared.ids.Literal.{Literal}
 use Rattle.si_base.specs.Netlist.{Gate, Netlist}
-use Rattle.si_cell.specs.Library.{Library, Instance, IsLibrary, cell_at, no_cell}
+use Rattle.si_cell.specs.Library.{Library, Instance, IsLibrary, cell_at}
 use Rattle.si_structure.specs.Refusals.{AllPlain, HasGate, IsComplemented, IsFirstComplemented, IsFirstRefused}
 use Rattle.si_structure.specs.Refusals.{IsInstanceGate, IsPlainGate, IsStructured, Shows}
 use Rattle.si_structure.specs.declared.refusal.Unstructured.{Unstructured}
 use Rattle.si_structure.specs.declared.refusal.Unstructured.TheVariants.{NoMemory, NoInstance, Complemented}
 use Rattle.si_structure.specs.declared.refusal.Unstructured.TheVariants.{ModelIsCell}
+use Rattle.si_structure.proofs.GateDecisions.{same_place}
+use Rattle.si_structure.proofs.NetlistDecisions.{AreBefore, same_gate}
 
 -- ---- one gate
-
-same_gate : (n : Netlist) (z : ℕ) (g h : Gate) → HasGate n z g → HasGate n z h → g ≡ h
-same_gate n z g h one other =
-    let first = one.there in
-    let second = other.there in
-    cc
 
 same_literals : (library : Library) (z : ℕ) (g : Gate) (i j : Instance) → IsInstanceGate library z g i
     → IsInstanceGate library z g j → i.literals ≡ j.literals
@@ -37,15 +33,8 @@ same_name library z g i j one other =
 
 same_cell : (library : Library) → IsLibrary library → (z : ℕ) (g : Gate) (i j : Instance)
     → IsInstanceGate library z g i → IsInstanceGate library z g j → i.cell ≡ j.cell
-same_cell library good z g i j one other = elim (cases_lt i.cell j.cell) [
-  | inl before ↦ absurd (good.cells.distinct i.cell j.cell no_cell before other.instance.cell
-      (same_name library z g i j one other))
-  | inr after ↦ elim (cases_lt j.cell i.cell) [
-    | inl before ↦ absurd (good.cells.distinct j.cell i.cell no_cell before one.instance.cell
-        (same_name library z g j i other one))
-    | inr back ↦ omega arith
-  ]
-]
+same_cell library good z g i j one other = same_place library good i.cell j.cell one.instance.cell other.instance.cell
+    (same_name library z g i j one other)
 
 is_plain_there : (literals : List Literal) → All (λ (l : Literal). IsTrue l.plain) literals → (pin : ℕ) (l : Literal)
     → slice_get literals pin ≡ Some l → l.plain ≡ true
@@ -75,9 +64,6 @@ same_pin literals p q one other = elim (cases_lt p q) [
 -- a gate that has no instance by plain literals
 abbrev IsRefused : Library → Netlist → ℕ → Type 0
 IsRefused library n z = (g : Gate) × HasGate n z g × (IsPlainGate library z g → ⊥)
-
-abbrev AreBefore : Library → Netlist → ℕ → Type 0
-AreBefore library n z = (y : ℕ) (g : Gate) → y < z → HasGate n y g → IsPlainGate library y g
 
 same_first : (library : Library) (n : Netlist) (a b : ℕ) → IsRefused library n a → AreBefore library n a
     → IsRefused library n b → AreBefore library n b → a ≡ b

@@ -1,5 +1,5 @@
 -- (law) What a structural text means, and that a netlist has one or one reason to have none.
-use Rattle.std.specs.Prelude.{◌≡◌, ◌≢◌, List}
+use Rattle.std.specs.Prelude.{◌≡◌, ◌≢◌, ◌⊎◌, List}
 use Rattle.si_base.specs.Netlist.{Netlist}
 use Rattle.si_base.specs.WellFormed.{IsNetlist}
 use Rattle.si_cell.specs.Library.{Library, IsLibrary}
@@ -36,3 +36,8 @@ RefusedForOneReason = (library : Library) (n : Netlist) (e f : Unstructured) →
 abbrev pub NotBoth : Type 0
 NotBoth = (library : Library) (n : Netlist) (e : Unstructured) → IsStructured library n
     → Shows library n e → e ≡ NoMemory
+
+-- each netlist has a text or a reason to have none
+abbrev pub HaveOutcome : Type 0
+HaveOutcome = (library : Library) (n : Netlist) → IsLibrary library → IsNetlist n
+    → IsStructured library n ⊎ ((e : Unstructured) × (e ≢ NoMemory) × Shows library n e)

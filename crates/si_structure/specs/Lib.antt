@@ -3,3 +3,4 @@ pub mod StructureText
 pub mod Meaning
 pub mod Refusals
 pub mod Laws
+pub mod Loops

@@ -1,0 +1,7 @@
+use Rattle.std.proofs.Common.{◌≡◌, ◌++◌}
+use Rattle.si_structure.proofs.PlacementWriting.{pins_left}
+use Rattle.si_structure.proofs.placements.add_pins.Given as goal
+
+abbrev pub invariant-loop-pin : goal.invariant-loop-pin
+invariant-loop-pin l = l.text ++ pins_left l.signals l.pins l.pin-index l.literals
+    ≡ l.initial.text ++ pins_left l.signals l.pins 0 l.initial.literals

@@ -1,0 +1,105 @@
+//! Cells as modules.
+
+ghost use Rattle.std.specs.Prelude.{◌≡◌, ◌<◌, ◌≤◌, ◌==◌, ◌++◌, IfOk, OnOk, length, map};
+ghost use Rattle.std.specs.List.{list_any};
+ghost use Rattle.si_base.specs.Limits.{code_width};
+ghost use Rattle.si_cell.specs.Limits.{max_pins};
+ghost use Rattle.si_verilog.specs.ModuleText.{verilog_text};
+ghost use Rattle.si_structure.specs.StructureText as structure;
+ghost use Rattle.si_structure.specs.StructureText.{cell_netlist, input};
+
+use crate::heads::add_head;
+use crate::write_sums::add_sum;
+use si_base::graph::{SigKind, Signal};
+use si_base::ids::{NoMemory, Sig};
+use si_base::text::{Name, Text};
+use si_cell::cell::Cell;
+use si_cell::pin_sum::PinCube;
+use si_cube::cube::Cube;
+use std::alloc::Global;
+
+/// The port by which a cell reads its own output.
+pub(crate) const FEEDBACK: &[u8] = b"q$in";
+
+/// The port of a cell's own output.
+pub(crate) const OWN: &[u8] = b"q";
+
+/// Adds the module of a cell: its pins are ports, and so are the own output and, where the sum
+/// reads that, the port by which it does. An assign has the sum.
+///
+/// It fails only where memory runs out. The text may then end in a part of it, and isn't to be
+/// used.
+pub(crate) fn add_cell(alloc: Global, text: &mut Text, cell: &Cell) -> Result<(), NoMemory>
+    requires { length cell.now.pins ≤ max_pins }
+    ensures { OnOk result (text.new ≡ text.old ++ verilog_text (cell_netlist cell.now)) }
+{
+    let made = cell_signals(alloc, cell)?;
+    let signals = made.as_slice();
+    let sum = cell.sum.widened(alloc)?;
+    add_head(text, cell.name.bytes(), signals)?;
+    text.add(b"  assign q = ")?;
+    add_sum(alloc, text, signals, &sum)?;
+    text.add(b";\nendmodule\n")
+}
+
+/// The signals of a cell as a module.
+fn cell_signals(alloc: Global, cell: &Cell) -> Result<Vec<Signal>, NoMemory>
+    requires { length cell.now.pins ≤ max_pins }
+    ensures { IfOk result (λ v. v.items ≡ structure.cell_signals cell.now) }
+{
+    let mut signals = inputs_of(alloc, cell.pins.as_slice())?;
+    if reads_own(cell) {
+        signals.push(signal_of(alloc, FEEDBACK, SigKind::Input)?)?;
+    }
+    signals.push(signal_of(alloc, OWN, SigKind::Output)?)?;
+    Ok(signals)
+}
+
+/// Inputs of these names.
+fn inputs_of(alloc: Global, names: &[Name]) -> Result<Vec<Signal>, NoMemory>
+    ensures { IfOk result (λ v. v.items ≡ map input names.now) }
+{
+    let mut inputs = Vec::new(alloc);
+    for name in names {
+        inputs.push(signal_of(alloc, name.bytes(), SigKind::Input)?)?;
+    }
+    Ok(inputs)
+}
+
+/// A signal of the name and the kind.
+fn signal_of(alloc: Global, name: &[u8], kind: SigKind) -> Result<Signal, NoMemory>
+    ensures { IfOk result (λ s. s ≡ record { name = name.now; kind = kind }) }
+{
+    Ok(Signal {
+        name: Name::copy_of(alloc, name)?,
+        kind,
+    })
+}
+
+/// Whether the sum of the cell reads its own output.
+pub(crate) fn reads_own(cell: &Cell) -> bool
+    requires { length cell.now.pins ≤ max_pins }
+    ensures { result ≡ structure.reads_own cell.now }
+{
+    let own = Sig(cell.pins.len() as u8);
+    cell.sum
+        .cubes()
+        .iter()
+        .any(|cube| has_literal_of(cube, own))
+}
+
+/// Whether the cube of a cell's sum has a literal of the signal.
+fn has_literal_of(cube: &PinCube, x: Sig) -> bool
+    requires { x < code_width }
+    ensures { result ≡ list_any (λ l. l.sig == x) cube.now }
+{
+    cares_for(&cube.widened(), x)
+}
+
+/// Whether the cube has a literal of the signal.
+fn cares_for(cube: &Cube, x: Sig) -> bool
+    requires { x < code_width }
+    ensures { result ≡ list_any (λ l. l.sig == x) cube.now }
+{
+    cube.care.0 >> x.0 & 1 == 1
+}
