@@ -1,0 +1,15 @@
+//! The reader of texts of equations, in the form that petrify and SIS use, and the values of the
+//! expressions that it has read.
+#![tactic(auto)]
+
+pub mod equations;
+mod expression;
+mod lists;
+mod machine;
+mod marks;
+mod meaning;
+mod names;
+mod progress;
+pub mod reader;
+mod statements;
+pub mod values;

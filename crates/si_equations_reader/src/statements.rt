@@ -1,0 +1,73 @@
+//! Statements of a text of equations.
+
+ghost use Rattle.std.specs.Prelude.{◌≡◌, OnOk, IfOk};
+ghost use Rattle.si_equations.specs.Equations.{signals, lists_at, statements_at};
+ghost use Rattle.si_tokens.specs.Loops.Parts.{left, piece, Reads};
+ghost use Rattle.si_equations_reader.specs.Held.{progress_now};
+ghost use Rattle.si_equations_reader.specs.Loops.Statements.{equation_behind};
+
+use crate::expression::read_expression;
+use crate::lists::read_list;
+use crate::marks::{fault_at, read_mark};
+use crate::meaning::Meaning;
+use crate::names::bare;
+use crate::progress::Progress;
+use si_base::names::Names;
+use si_tokens::fault::ReadFault;
+use si_tokens::source::{Part, Source};
+use std::alloc::Global;
+
+/// The two lists.
+#[tactic(auto, unfolding(si_equations::specs::Equations::lists_at))]
+fn read_lists<'a>(alloc: Global, source: &mut Source<'a>) -> Result<Progress<'a>, ReadFault>
+    ensures lists { Reads (λ p. (progress_now p, left source.new)) result
+        (lists_at (left source.old)) }
+    ensures signals { IfOk result (λ p. p.signals ≡ signals (progress_now p)) }
+{
+    let mut signals = Names::new(alloc)?;
+    let inputs = read_list(source, b"INORDER", &mut signals)?;
+    let outputs = read_list(source, b"OUTORDER", &mut signals)?;
+    Ok(Progress {
+        inputs,
+        outputs,
+        signals,
+        equations: Vec::new(alloc),
+    })
+}
+
+/// The equation that begins with this token.
+fn read_equation<'a>(
+    alloc: Global,
+    source: &mut Source<'a>,
+    progress: &mut Progress<'a>,
+    first: Part<'a>,
+) -> Result<(), ReadFault>
+    requires { progress.old.signals ≡ signals (progress_now progress.old) }
+    ensures equation { Reads (λ _. (progress_now progress.new, left source.new)) result
+        (equation_behind (progress_now progress.old) (piece first.entry (left source.old))) }
+    ensures signals { OnOk result (progress.new.signals ≡ signals (progress_now progress.new)) }
+{
+    let name = bare(first.bytes);
+    if let Some(kind) = progress.equation_kind(name) {
+        return Err(fault_at(first.line, kind));
+    }
+    read_mark(source, b"=")?;
+    let sentence = read_expression(alloc, source, &Meaning::Known(&progress.signals))?;
+    progress.add(first.line, name, sentence)?;
+    Ok(())
+}
+
+/// The statements of all of the text.
+pub(crate) fn read_statements<'a>(
+    alloc: Global,
+    source: &mut Source<'a>,
+) -> Result<Progress<'a>, ReadFault>
+    ensures statements { Reads (λ p. progress_now p) result (statements_at (left source.old)) }
+    ensures signals { IfOk result (λ p. p.signals ≡ signals (progress_now p)) }
+{
+    let mut progress = read_lists(alloc, source)?;
+    while let Some(first) = source.next_token() {
+        read_equation(alloc, source, &mut progress, first)?;
+    }
+    Ok(progress)
+}
