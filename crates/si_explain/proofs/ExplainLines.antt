@@ -1,6 +1,7 @@
 -- The lines of conflicts, one call after another.
 use Rattle.std.proofs.Common.{◌≡◌, ℕ, ◌+◌, ◌<◌, ◌≤◌, ◌∙◌, ◌++◌, List, [], ◌∷◌, take, flat_map, length, get_or, Contains}
-use Rattle.std.proofs.Common.{Bool, true, false, true≢false, Option, Some, None, if◌then◌else◌, refl, sym, ap, subst, arith, append_assoc, codes, decimal, inl, inr}
+use Rattle.std.proofs.Common.{Bool, true, false, true≢false, Option, Some, None, if◌then◌else◌, refl, sym, ap, subst}
+use Rattle.std.proofs.Common.{arith, append_assoc, codes, decimal, inl, inr}
 use Rattle.std.proofs.lemmas.Grind.{flat_map-append}
 use Rattle.std.proofs.lemmas.List.{append-nil, map-append, take_more, take_all, get_or-map, length-map}
 use Rattle.std.proofs.lemmas.List.Elements.{Contains-append_cases, Contains-push_cases}
@@ -14,13 +15,16 @@ use Rattle.si_conflicts.specs.Conflicts.{HasConflicts, AreFirstConflicts, pairs_
 use Rattle.si_base.specs.Proper.{IsConflict}
 use Rattle.si_graph.proofs.ListMembers.{Contains-cons_cases, Contains-nil}
 use Rattle.si_walks.specs.Twins.{IsFirstTwinOrNone}
+use Rattle.si_kin.specs.Kin.{IsFirstKinOrNone}
+use Rattle.std.proofs.lemmas.Option.{same_Some}
 use Rattle.si_sg.specs.CanonicalText.{state_at}
 use Rattle.si_words.proofs.SumWordLemmas.{list_any-map}
 use Rattle.si_walks.specs.Joined.{Source}
 use Rattle.si_explain.specs.ExplainText.{max_explained, enabled_events, Explained, IsExplained, events_line}
 use Rattle.si_explain.specs.ExplainText.{inputs_line}
 use Rattle.si_explain.specs.ExplainText.{meaning, source_lines, explained_lines, count_line, explain_text}
-use Rattle.si_explain.specs.ExplainText.{further, same_pair, tells_twins, twin_lines, twin_meaning}
+use Rattle.si_explain.specs.ExplainText.{further, kin_meaning, same_pair, tells_kin, tells_twins, twin_meaning}
+use Rattle.si_explain.specs.ExplainText.{unresolvable_lines, with_further}
 use Rattle.si_explain.specs.ExplainText.{IsExplainText, Explains, ExplainsAll}
 
 -- ---- the lines of a source
@@ -38,23 +42,23 @@ source_by_calls text signals states p q x one other first second third d0 d1 e1 
     (line (inputs_line signals states x.state q x.second))
     (line (codes "unresolvable" ∷ state_at states p ∷ state_at states q ∷ meaning ∷ [])))
 
--- ---- the line of twins
-pub twins_by_call : (text : List ℕ) (states : List (List ℕ)) (p q : ℕ) (told : Bool) (one other new : List ℕ)
-    → told ≡ true → one ≡ state_at states p → other ≡ state_at states q
-    → new ≡ text ++ line (codes "unresolvable" ∷ one ∷ other ∷ twin_meaning ∷ [])
-    → new ≡ text ++ text_of (twin_lines states (p, q) told)
-twins_by_call text states p q false one other new is d0 d1 e1 = absurd (true≢false (sym is))
-twins_by_call text states p q true one other new is d0 d1 e1 =
-    let told = line (codes "unresolvable" ∷ state_at states p ∷ state_at states q ∷ twin_meaning ∷ []) in
+-- ---- the line that tells why no insertions resolve it
+pub unresolvable_by_call : (text : List ℕ) (states : List (List ℕ)) (p q : ℕ) (why : List ℕ) (told : Bool)
+    (one other new : List ℕ) → told ≡ true → one ≡ state_at states p → other ≡ state_at states q
+    → new ≡ text ++ line (codes "unresolvable" ∷ one ∷ other ∷ why ∷ [])
+    → new ≡ text ++ text_of (unresolvable_lines states (p, q) why told)
+unresolvable_by_call text states p q why false one other new is d0 d1 e1 = absurd (true≢false (sym is))
+unresolvable_by_call text states p q why true one other new is d0 d1 e1 =
+    let told = line (codes "unresolvable" ∷ state_at states p ∷ state_at states q ∷ why ∷ []) in
     rw (e1, d0, d1) (ap (λ (t : List ℕ). text ++ t) (sym (append-nil told)))
 
 -- ---- the lines of a conflict
-eight : (text a b c d e f g rest : List ℕ) → (((((((text ++ a) ++ b) ++ c) ++ d) ++ e) ++ f) ++ g) ++ rest
-    ≡ text ++ (a ++ (b ++ (c ++ (d ++ (e ++ (f ++ (g ++ rest)))))))
-eight text a b c d e f g rest = simp append_assoc
+nine : (text a b c d e f g h rest : List ℕ) → ((((((((text ++ a) ++ b) ++ c) ++ d) ++ e) ++ f) ++ g) ++ h) ++ rest
+    ≡ text ++ (a ++ (b ++ (c ++ (d ++ (e ++ (f ++ (g ++ (h ++ rest))))))))
+nine text a b c d e f g h rest = simp append_assoc
 
 pub conflict_by_calls : (c : CodedGraph) (states : List (List ℕ)) (x : Explained)
-    (text one other first second third fourth fifth sixth seventh last : List ℕ) → one ≡ state_at states x.pair.0
+    (text one other first second third fourth fifth sixth seventh eighth last : List ℕ) → one ≡ state_at states x.pair.0
     → other ≡ state_at states x.pair.1 → first ≡ text ++ line (codes "conflict" ∷ one ∷ other ∷ [])
     → second ≡ first ++ line (codes "code" ∷ word_if_any (bits_from 0 c.graph.signals (code c x.pair.0)))
     → third ≡ second ++ line (events_line (codes "enables") c.graph.signals states x.pair.0
@@ -64,24 +68,29 @@ pub conflict_by_calls : (c : CodedGraph) (states : List (List ℕ)) (x : Explain
     → fifth ≡ fourth ++ line (events_line (codes "walk") c.graph.signals states x.pair.0 x.to_first)
     → sixth ≡ fifth ++ line (events_line (codes "walk") c.graph.signals states x.pair.1 x.to_second)
     → seventh ≡ sixth ++ text_of (source_lines c.graph.signals states x.pair x.source)
-    → last ≡ seventh ++ text_of (twin_lines states x.pair (tells_twins x.source x.twins))
+    → eighth ≡ seventh ++ text_of (unresolvable_lines states x.pair twin_meaning (tells_twins x.source x.twins))
+    → last ≡ eighth ++ text_of (unresolvable_lines states x.pair kin_meaning (tells_kin x.source x.twins x.kin))
     → last ≡ text ++ text_of (explained_lines c states x)
-conflict_by_calls c states x text one other first second third fourth fifth sixth seventh last
-    d0 d1 e1 e2 e3 e4 e5 e6 e7 e8 =
+conflict_by_calls c states x text one other first second third fourth fifth sixth seventh eighth last
+    d0 d1 e1 e2 e3 e4 e5 e6 e7 e8 e9 =
     let signals = c.graph.signals in
     let sources = source_lines signals states x.pair x.source in
-    let twins = twin_lines states x.pair (tells_twins x.source x.twins) in
+    let twins = unresolvable_lines states x.pair twin_meaning (tells_twins x.source x.twins) in
+    let kin = unresolvable_lines states x.pair kin_meaning (tells_kin x.source x.twins x.kin) in
     let conflict = line (codes "conflict" ∷ state_at states x.pair.0 ∷ state_at states x.pair.1 ∷ []) in
     let code_line = line (codes "code" ∷ word_if_any (bits_from 0 signals (code c x.pair.0))) in
-    let enables_first = line (events_line (codes "enables") signals states x.pair.0 (enabled_events c.graph x.pair.0)) in
-    let enables_second = line (events_line (codes "enables") signals states x.pair.1 (enabled_events c.graph x.pair.1)) in
+    let enables_first =
+    line (events_line (codes "enables") signals states x.pair.0 (enabled_events c.graph x.pair.0)) in
+    let enables_second =
+    line (events_line (codes "enables") signals states x.pair.1 (enabled_events c.graph x.pair.1)) in
     let walk_first = line (events_line (codes "walk") signals states x.pair.0 x.to_first) in
     let walk_second = line (events_line (codes "walk") signals states x.pair.1 x.to_second) in
-    rw (e8, e7, e6, e5, e4, e3, e2, e1, d0, d1) (eight text conflict code_line enables_first enables_second walk_first
-    walk_second (text_of sources) (text_of twins))
-    ∙ ap (λ (t : List ℕ). text ++ (conflict ++ (code_line ++ (enables_first ++ (enables_second ++ (walk_first
-    ++ (walk_second ++ t)))))))
-    (sym (flat_map-append line sources twins))
+    let in_front : List ℕ → List ℕ = λ t. text ++ (conflict ++ (code_line ++ (enables_first ++ (enables_second
+    ++ (walk_first ++ (walk_second ++ t)))))) in
+    rw (e9, e8, e7, e6, e5, e4, e3, e2, e1, d0, d1) (nine text conflict code_line enables_first enables_second
+    walk_first walk_second (text_of sources) (text_of twins) (text_of kin))
+    ∙ ap (λ (t : List ℕ). in_front (text_of sources ++ t)) (sym (flat_map-append line twins kin))
+    ∙ ap in_front (sym (flat_map-append line sources (twins ++ kin)))
 
 -- ---- one conflict after another
 abbrev pub pair_of : Explained → ℕ × ℕ
@@ -145,25 +154,44 @@ pub all_explained : (c : CodedGraph) (states : List (List ℕ)) (pairs : List Pa
 all_explained c states pairs n old new all is =
     subst (λ (l : List Pair). ExplainsAll c states (pairs_of l) old new) (take_all n pairs all) is
 
--- the first conflicts, and the first of twins
-pub each_conflict : (c : CodedGraph) (pairs : List (ℕ × ℕ)) (twin : Option (ℕ × ℕ))
-    → AreFirstConflicts c max_explained pairs → IsFirstTwinOrNone c twin → (x : ℕ × ℕ)
-    → Contains (pairs ++ further pairs twin) x → IsConflict c x
-each_conflict c pairs twin are first x there = elim (Contains-append_cases pairs (further pairs twin) x there) [
-  | inl early ↦ are.each x early
-  | inr late ↦ of_twin twin first late
+-- the first conflicts, and what is put behind them
+further_conflict : (c : CodedGraph) (pairs : List (ℕ × ℕ)) (found : Option (ℕ × ℕ))
+    → ((x : ℕ × ℕ) → Contains pairs x → IsConflict c x) → ((x : ℕ × ℕ) → found ≡ Some x → IsConflict c x)
+    → (x : ℕ × ℕ) → Contains (with_further pairs found) x → IsConflict c x
+further_conflict c pairs found are is x there = elim (Contains-append_cases pairs (further pairs found) x there) [
+  | inl early ↦ are x early
+  | inr late ↦ of_found found is late
 ]
   where
-    of_twin : (twin : Option (ℕ × ℕ)) → IsFirstTwinOrNone c twin → Contains (further pairs twin) x → IsConflict c x
-    of_twin None none late = absurd (Contains-nil x late)
-    of_twin (Some y) is late = told (list_any (same_pair y) pairs) late
+    of_found : (found : Option (ℕ × ℕ)) → ((y : ℕ × ℕ) → found ≡ Some y → IsConflict c y)
+        → Contains (further pairs found) x → IsConflict c x
+    of_found None is late = absurd (Contains-nil x late)
+    of_found (Some y) is late = told (list_any (same_pair y) pairs) late
       where
         told : (b : Bool) → Contains (if b then [] else y ∷ []) x → IsConflict c x
         told true none = absurd (Contains-nil x none)
         told false here = elim (Contains-cons_cases y [] x here) [
-          | inl same ↦ subst (IsConflict c) same is.1.holds.conflict
+          | inl same ↦ subst (IsConflict c) same (is y refl)
           | inr none ↦ absurd (Contains-nil x none)
         ]
+
+twin_conflict : (c : CodedGraph) (twin : Option (ℕ × ℕ)) → IsFirstTwinOrNone c twin → (x : ℕ × ℕ)
+    → twin ≡ Some x → IsConflict c x
+twin_conflict c None is x same = cc
+twin_conflict c (Some y) is x same = subst (IsConflict c) (same_Some y x same) is.1.holds.conflict
+
+kin_conflict : (c : CodedGraph) (kin : Option (ℕ × ℕ)) → IsFirstKinOrNone c kin → (x : ℕ × ℕ)
+    → kin ≡ Some x → IsConflict c x
+kin_conflict c None is x same = cc
+kin_conflict c (Some y) is x same = subst (IsConflict c) (same_Some y x same) is.holds.conflict
+
+-- the first conflicts, the first of twins and the first of kin
+pub each_conflict : (c : CodedGraph) (pairs : List (ℕ × ℕ)) (twin kin : Option (ℕ × ℕ))
+    → AreFirstConflicts c max_explained pairs → IsFirstTwinOrNone c twin → IsFirstKinOrNone c kin → (x : ℕ × ℕ)
+    → Contains (with_further (with_further pairs twin) kin) x → IsConflict c x
+each_conflict c pairs twin kin are is_twin is_kin =
+    further_conflict c (with_further pairs twin) kin
+    (further_conflict c pairs twin are.each (twin_conflict c twin is_twin)) (kin_conflict c kin is_kin)
 
 -- what is put last
 abbrev As : Pair → ℕ × ℕ
@@ -173,30 +201,31 @@ among_pairs : (pairs : List Pair) (x : ℕ × ℕ) → list_any (λ y. same_pair
     ≡ list_any (same_pair x) (pairs_of pairs)
 among_pairs pairs x = list_any-map As (same_pair x) pairs
 
-pub twin_there : (pairs : List Pair) (p q : ℕ) → list_any (λ x. same_pair (p, q) (x.p, x.q)) pairs ≡ true
-    → pairs_of pairs ≡ pairs_of pairs ++ further (pairs_of pairs) (Some (p, q))
-twin_there pairs p q there =
+pub pair_there : (pairs : List Pair) (p q : ℕ) → list_any (λ x. same_pair (p, q) (x.p, x.q)) pairs ≡ true
+    → pairs_of pairs ≡ with_further (pairs_of pairs) (Some (p, q))
+pair_there pairs p q there =
     let told = sym (among_pairs pairs (p, q)) ∙ there in
     sym (append-nil (pairs_of pairs))
     ∙ ap (λ (b : Bool). pairs_of pairs ++ (if b then [] else (p, q) ∷ [])) (sym told)
 
-pub twin_added : (pairs new : List Pair) (p q : ℕ) → list_any (λ x. same_pair (p, q) (x.p, x.q)) pairs ≡ false
+pub pair_added : (pairs new : List Pair) (p q : ℕ) → list_any (λ x. same_pair (p, q) (x.p, x.q)) pairs ≡ false
     → new ≡ pairs ++ (record { p = p; q = q }) ∷ []
-    → pairs_of new ≡ pairs_of pairs ++ further (pairs_of pairs) (Some (p, q))
-twin_added pairs new p q not_there is =
+    → pairs_of new ≡ with_further (pairs_of pairs) (Some (p, q))
+pair_added pairs new p q not_there is =
     let told = sym (among_pairs pairs (p, q)) ∙ not_there in
     let last : Pair = record { p = p; q = q } in
     ap pairs_of is ∙ map-append As pairs (last ∷ [])
     ∙ ap (λ (b : Bool). pairs_of pairs ++ (if b then [] else (p, q) ∷ [])) (sym told)
 
 pub text_by_calls : (c : CodedGraph) (states : List (List ℕ)) (count : ℕ) (firsts : List (ℕ × ℕ))
-    (twin : Option (ℕ × ℕ)) (pairs : List (ℕ × ℕ))
+    (twin kin : Option (ℕ × ℕ)) (pairs : List (ℕ × ℕ))
     (number empty first all : List ℕ) → HasConflicts c count → AreFirstConflicts c max_explained firsts
-    → IsFirstTwinOrNone c twin → pairs ≡ firsts ++ further firsts twin
+    → IsFirstTwinOrNone c twin → IsFirstKinOrNone c kin → pairs ≡ with_further (with_further firsts twin) kin
     → number ≡ decimal count → empty ≡ codes "" → first ≡ empty ++ line (codes "conflicts" ∷ number ∷ [])
     → ExplainsAll c states pairs first all → IsExplainText c states all
 unfolding explain_text
-text_by_calls c states count firsts twin pairs number empty first all counted are is_twin pairs_are e1 e2 e3 explains =
+text_by_calls c states count firsts twin kin pairs number empty first all counted are is_twin is_kin pairs_are
+    e1 e2 e3 explains =
     let head : first ≡ text_of (count_line count ∷ []) =
     e3 ∙ rw (e2, e1) (sym (append-nil (line (count_line count)))) in
     record {
@@ -206,6 +235,8 @@ text_by_calls c states count firsts twin pairs number empty first all counted ar
       first = are;
       twin = twin;
       first_twin = is_twin;
+      kin = kin;
+      first_kin = is_kin;
       explained = explains.explained;
       pairs_are = explains.pairs_are ∙ pairs_are;
       each = explains.each;

@@ -1,6 +1,6 @@
 -- A graph with names for its states has one text that explains its conflicts.
-use Rattle.std.proofs.Common.{◌≡◌, ℕ, ◌<◌, ◌≤◌, ◌∙◌, ◌++◌, List, [], ◌∷◌, map, Contains, Option, Some, None, refl, sym, ap₂, subst}
-use Rattle.std.proofs.Common.{arith, inl, inr}
+use Rattle.std.proofs.Common.{◌≡◌, ℕ, ◌<◌, ◌≤◌, ◌∙◌, List, [], ◌∷◌, map, Contains, Option, Some, None, refl, sym}
+use Rattle.std.proofs.Common.{ap₂, subst, arith, inl, inr}
 use Rattle.si_base.specs.Codes.{CodedGraph, IsCoded}
 use Rattle.std.proofs.lemmas.Bool.{cases_lt}
 use Rattle.si_base.specs.Proper.{IsConflict, pair_place}
@@ -17,8 +17,10 @@ use Rattle.si_walks.proofs.FirstWalks.{along_all, one_first_walk, some_first_wal
 use Rattle.si_walks.proofs.SourceLemmas.{one_source_or_none, some_source_or_none}
 use Rattle.si_walks.specs.Twins.{AreTwins, IsFirstTwinOrNone, IsTwinConflict, max_twin_states}
 use Rattle.si_walks.proofs.TwinsDecided.{some_told, told_once, twins_or_not, twins_within}
+use Rattle.si_kin.specs.Kin.{AreKin, IsFirstKinOrNone, IsKinConflict}
+use Rattle.si_kin.proofs.KinDecided.{kin_or_not, kin_told_once, some_kin_told}
 use Rattle.si_explain.specs.ExplainText.{max_explained, Explained, IsExplained, explain_text, IsExplainText}
-use Rattle.si_explain.specs.ExplainText.{further}
+use Rattle.si_explain.specs.ExplainText.{with_further}
 use Rattle.si_explain.specs.Laws.{SourcesShowJoined, NoSourceShowsNone}
 use Rattle.si_explain.proofs.ExplainLines.{each_conflict, pair_of}
 
@@ -31,12 +33,14 @@ one_explained c x y is also pair =
       to_second = x.to_second;
       source = x.source;
       twins = x.twins;
+      kin = x.kin;
     }) = subst (λ (p : ℕ × ℕ). IsExplained c (record {
       pair = p;
       to_first = x.to_first;
       to_second = x.to_second;
       source = x.source;
       twins = x.twins;
+      kin = x.kin;
     })) pair is in
     let first : x.to_first ≡ y.to_first =
     one_first_walk G All G.start y.pair.0 x.to_first y.to_first moved.to_first also.to_first in
@@ -44,7 +48,15 @@ one_explained c x y is also pair =
     one_first_walk G All G.start y.pair.1 x.to_second y.to_second moved.to_second also.to_second in
     let source : x.source ≡ y.source = one_source_or_none c y.pair x.source y.source moved.source also.source in
     let twins : x.twins ≡ y.twins = told_once c y.pair.0 y.pair.1 x.twins y.twins moved.twins also.twins in
-    λ i. record { pair = pair i; to_first = first i; to_second = second i; source = source i; twins = twins i }
+    let kin : x.kin ≡ y.kin = kin_told_once c y.pair.0 y.pair.1 x.kin y.kin moved.kin also.kin in
+    λ i. record {
+      pair = pair i;
+      to_first = first i;
+      to_second = second i;
+      source = source i;
+      twins = twins i;
+      kin = kin i;
+    }
 
 abbrev AllExplained : CodedGraph → List Explained → Type 0
 AllExplained c xs = (x : Explained) → Contains xs x → IsExplained c x
@@ -93,7 +105,8 @@ some_first_twin c coded = elim (cases_lt max_twin_states c.graph.states) [
     ]
 
     first_of_all : (found : Option (ℕ × ℕ)) × IsFirstOrNone pair_place (IsTwinConflict c) found
-    first_of_all = first_candidate pair_place (IsTwinConflict c) (λ pair. pair) (λ pair. AreTwins c pair.0 pair.1) twins_of all.0
+    first_of_all = first_candidate pair_place (IsTwinConflict c) (λ pair. pair) (λ pair. AreTwins c pair.0 pair.1)
+        twins_of all.0
         (λ pair there twins. record { conflict = (all.1.exactly pair).0 there; twins = twins })
         (λ pair twin. (pair, (all.1.exactly pair).1 twin.conflict, twin.twins, refl))
 
@@ -102,13 +115,43 @@ some_first_twin c coded = elim (cases_lt max_twin_states c.graph.states) [
     as_far few None none = (None, λ _. none)
     as_far few (Some x) first = (Some x, (few, first))
 
+-- ---- the first conflict of kin
+one_first_kin : (c : CodedGraph) (x y : Option (ℕ × ℕ)) → IsFirstKinOrNone c x → IsFirstKinOrNone c y → x ≡ y
+one_first_kin c None None is also = refl
+one_first_kin c None (Some y) is also = absurd (is y also.holds)
+one_first_kin c (Some x) None is also = absurd (also x is.holds)
+one_first_kin c (Some x) (Some y) is also =
+    let place : pair_place x ≡ pair_place y =
+    firsts_at_one_place pair_place (IsKinConflict c) x y refl is also in
+    let first : x.0 ≡ y.0 = cc in
+    let second : x.1 ≡ y.1 = cc in
+    λ i. Some (first i, second i)
+
+some_first_kin : (c : CodedGraph) → (found : Option (ℕ × ℕ)) × IsFirstKinOrNone c found
+some_first_kin c = as_first first_of_all.0 first_of_all.1
+  where
+    all : (pairs : List (ℕ × ℕ)) × AreConflicts c pairs
+    all = some_conflicts c
+
+    first_of_all : (found : Option (ℕ × ℕ)) × IsFirstOrNone pair_place (IsKinConflict c) found
+    first_of_all = first_candidate pair_place (IsKinConflict c) (λ pair. pair) (λ pair. AreKin c pair.0 pair.1)
+        (λ pair. kin_or_not c pair.0 pair.1) all.0
+        (λ pair there kin. record { conflict = (all.1.exactly pair).0 there; kin = kin })
+        (λ pair is. (pair, (all.1.exactly pair).1 is.conflict, is.kin, refl))
+
+    as_first : (found : Option (ℕ × ℕ)) → IsFirstOrNone pair_place (IsKinConflict c) found
+        → (kin : Option (ℕ × ℕ)) × IsFirstKinOrNone c kin
+    as_first None none = (None, none)
+    as_first (Some x) first = (Some x, first)
+
 pub one_explain_text : (c : CodedGraph) (states : List (List ℕ)) (x y : List ℕ) → IsExplainText c states x
     → IsExplainText c states y → x ≡ y
 one_explain_text c states x y a b =
     let firsts : a.pairs ≡ b.pairs = first_unique c max_explained a.pairs b.pairs a.first b.first in
     let twin : a.twin ≡ b.twin = one_first_twin c a.twin b.twin a.first_twin b.first_twin in
+    let kin : a.kin ≡ b.kin = one_first_kin c a.kin b.kin a.first_kin b.first_kin in
     let pairs : map pair_of a.explained ≡ map pair_of b.explained =
-    a.pairs_are ∙ ap₂ (λ (xs : List (ℕ × ℕ)) (x : Option (ℕ × ℕ)). xs ++ further xs x) firsts twin ∙ sym b.pairs_are in
+    a.pairs_are ∙ ap₂ with_further (ap₂ with_further firsts twin) kin ∙ sym b.pairs_are in
     a.text_is ∙ ap₂ (explain_text c states) (one_count c a.count b.count a.counted b.counted)
     (same_explained c a.explained b.explained a.each b.each pairs) ∙ sym b.text_is
 
@@ -125,10 +168,18 @@ some_explained c pair coded conflict =
     let first = some_first_walk G All p coded.deterministic G.start (to_p.0, along_all G G.start to_p.0 p to_p.1) in
     let second = some_first_walk G All q coded.deterministic G.start (to_q.0, along_all G G.start to_q.0 q to_q.1) in
     let source = some_source_or_none c p q coded p_within conflict.within in
-    let twins = some_told c coded p q p_within conflict.within in (
-      record { pair = pair; to_first = first.0; to_second = second.0; source = source.0; twins = twins.0 },
+    let twins = some_told c coded p q p_within conflict.within in
+    let kin = some_kin_told c p q in (
+      record {
+        pair = pair;
+        to_first = first.0;
+        to_second = second.0;
+        source = source.0;
+        twins = twins.0;
+        kin = kin.0;
+      },
       refl,
-      record { to_first = first.1; to_second = second.1; source = source.1; twins = twins.1 },
+      record { to_first = first.1; to_second = second.1; source = source.1; twins = twins.1; kin = kin.1 },
     )
 
 abbrev With : CodedGraph → List (ℕ × ℕ) → Type 0
@@ -154,8 +205,9 @@ some_explain_text c states coded =
     let count = some_count c in
     let pairs = some_first c max_explained in
     let twin = some_first_twin c coded in
-    let all = explain_each c (pairs.0 ++ further pairs.0 twin.0) coded
-    (each_conflict c pairs.0 twin.0 pairs.1 twin.1) in (
+    let kin = some_first_kin c in
+    let all = explain_each c (with_further (with_further pairs.0 twin.0) kin.0) coded
+    (each_conflict c pairs.0 twin.0 kin.0 pairs.1 twin.1 kin.1) in (
       explain_text c states count.0 all.0,
       record {
         count = count.0;
@@ -164,6 +216,8 @@ some_explain_text c states coded =
         first = pairs.1;
         twin = twin.0;
         first_twin = twin.1;
+        kin = kin.0;
+        first_kin = kin.1;
         explained = all.0;
         pairs_are = all.1;
         each = all.2;

@@ -15,6 +15,7 @@ use Rattle.si_walks.specs.declared.arcs.Arcs.TheVariants.{All}
 use Rattle.si_walks.specs.Walks.{IsFirstWalk}
 use Rattle.si_walks.specs.Joined.{Source, IsSourceOrNone}
 use Rattle.si_walks.specs.Twins.{IsFirstTwinOrNone, TellsTwins}
+use Rattle.si_kin.specs.Kin.{IsFirstKinOrNone, TellsKin}
 
 -- the most conflicts that are explained
 abbrev pub max_explained : ℕ
@@ -25,13 +26,14 @@ abbrev pub enabled_events : StateGraph → ℕ → List Event
 enabled_events g s = map (λ a. a.event) (filter (λ a. a.from == s) g.edges)
 
 -- a conflict, walks from the start to its two states, a state from which inputs alone lead to both,
--- if there is one, and whether its states are twins
+-- if there is one, whether its states are twins, and whether they are kin
 pub record Explained : Type 0 where
   pub pair : ℕ × ℕ
   pub to_first : List Event
   pub to_second : List Event
   pub source : Option Source
   pub twins : Bool
+  pub kin : Bool
 
 -- the walks are the first, and so is the source
 pub record IsExplained (c : CodedGraph) (x : Explained) : Type 0 where
@@ -39,6 +41,7 @@ pub record IsExplained (c : CodedGraph) (x : Explained) : Type 0 where
   pub to_second : IsFirstWalk c.graph All c.graph.start x.pair.1 x.to_second
   pub source : IsSourceOrNone c x.pair x.source
   pub twins : TellsTwins c x.pair.0 x.pair.1 x.twins
+  pub kin : TellsKin c x.pair.0 x.pair.1 x.kin
 
 -- ---- the lines
 abbrev pub events_words : List Signal → List Event → List (List ℕ)
@@ -68,20 +71,33 @@ source_lines signals states pair (Some x) =
 
 -- what twins mean, in plain words
 abbrev pub twin_meaning : List ℕ
-twin_meaning = codes "# at states of one code the circuit does the same, so nothing tells them apart"
+twin_meaning =
+    codes "# at states of one code the circuit does the same, so nothing tells them apart"
 
 -- twins are told where no source is
 abbrev pub tells_twins : Option Source → Bool → Bool
 tells_twins None twins = twins
 tells_twins (Some x) twins = false
 
-abbrev pub twin_lines : List (List ℕ) → ℕ × ℕ → Bool → List (List (List ℕ))
-twin_lines states pair false = []
-twin_lines states pair true =
-    (codes "unresolvable" ∷ state_at states pair.0 ∷ state_at states pair.1 ∷ twin_meaning ∷ []) ∷ []
+-- what kin mean, in plain words
+abbrev pub kin_meaning : List ℕ
+kin_meaning =
+    codes "# inputs join them, some backwards, so no signals that delay no input tell them apart"
 
--- the two states, their code, what each enables, a walk to each, and the source, if there is one, or
--- else that the states are twins, if they are
+-- kin are told where neither a source is nor twins are
+abbrev pub tells_kin : Option Source → (twins kin : Bool) → Bool
+tells_kin None false kin = kin
+tells_kin None true kin = false
+tells_kin (Some x) twins kin = false
+
+-- that no insertions resolve the conflict, and why, where that is told
+abbrev pub unresolvable_lines : List (List ℕ) → ℕ × ℕ → List ℕ → Bool → List (List (List ℕ))
+unresolvable_lines states pair why false = []
+unresolvable_lines states pair why true =
+    (codes "unresolvable" ∷ state_at states pair.0 ∷ state_at states pair.1 ∷ why ∷ []) ∷ []
+
+-- the two states, their code, what each enables, a walk to each, and the source, if there is one,
+-- or else that the states are twins, if they are, or else that they are kin, if they are
 abbrev pub explained_lines : CodedGraph → List (List ℕ) → Explained → List (List (List ℕ))
 explained_lines c states x =
     let signals = c.graph.signals in
@@ -94,7 +110,8 @@ explained_lines c states x =
     ∷ events_line (codes "walk") signals states p x.to_first
     ∷ events_line (codes "walk") signals states q x.to_second
     ∷ (source_lines signals states x.pair x.source
-    ++ twin_lines states x.pair (tells_twins x.source x.twins))
+    ++ (unresolvable_lines states x.pair twin_meaning (tells_twins x.source x.twins)
+    ++ unresolvable_lines states x.pair kin_meaning (tells_kin x.source x.twins x.kin)))
 
 abbrev pub count_line : ℕ → List (List ℕ)
 count_line count = codes "conflicts" ∷ decimal count ∷ []
@@ -115,8 +132,12 @@ further pairs None = []
 further pairs (Some x) =
     if list_any (same_pair x) pairs then [] else x ∷ []
 
--- the text of the number of all conflicts of c, and of the first of them and the first of twins,
--- explained, with these names of its states
+-- the pairs, and last this one, if there is one that isn't among them
+abbrev pub with_further : List (ℕ × ℕ) → Option (ℕ × ℕ) → List (ℕ × ℕ)
+with_further pairs found = pairs ++ further pairs found
+
+-- the text of the number of all conflicts of c, and of the first of them, the first of twins and
+-- the first of kin, explained, with these names of its states
 pub record IsExplainText (c : CodedGraph) (states : List (List ℕ)) (text : List ℕ) : Type 0 where
   pub count : ℕ
   pub counted : HasConflicts c count
@@ -124,8 +145,10 @@ pub record IsExplainText (c : CodedGraph) (states : List (List ℕ)) (text : Lis
   pub first : AreFirstConflicts c max_explained pairs
   pub twin : Option (ℕ × ℕ)
   pub first_twin : IsFirstTwinOrNone c twin
+  pub kin : Option (ℕ × ℕ)
+  pub first_kin : IsFirstKinOrNone c kin
   pub explained : List Explained
-  pub pairs_are : map (λ x. x.pair) explained ≡ pairs ++ further pairs twin
+  pub pairs_are : map (λ x. x.pair) explained ≡ with_further (with_further pairs twin) kin
   pub each : (x : Explained) → Contains explained x → IsExplained c x
   pub text_is : text ≡ explain_text c states count explained
 

@@ -7,6 +7,7 @@ use Rattle.si_insert.specs.Lineage.{Current, IsLineage}
 use Rattle.si_resolve.specs.Trace.{EndsResolved, EndsUnresolved}
 use Rattle.si_walks.specs.Joined.{Source, IsJoinedConflict}
 use Rattle.si_walks.specs.Twins.{IsTwinConflict, max_twin_states}
+use Rattle.si_kin.specs.Kin.{IsKinConflict}
 use Rattle.si_explain.specs.ExplainText.{Explained, IsExplained, IsExplainText}
 
 -- a graph with names for its states has one such text at most
@@ -56,4 +57,21 @@ TwinsNeverResolve = (given : CodedGraph) (before trace : List TraceStep) (v w : 
 abbrev pub TwinsEndUnresolved : Type 0
 TwinsEndUnresolved = (given : CodedGraph) (before : List TraceStep) (v : Current) (pair : ℕ × ℕ)
     → IsLineage given before v → IsTwinConflict given pair
+    → (trace : List TraceStep) × (w : Current) × (last : ℕ × ℕ) × EndsUnresolved v trace w last
+
+-- a conflict is told to be one of kin just where it is
+abbrev pub KinAreTold : Type 0
+KinAreTold = (c : CodedGraph) (x : Explained)
+    → IsConflict c x.pair → IsExplained c x → IsTrue x.kin ↔ IsKinConflict c x.pair
+
+-- no resolving trace of a lineage of a graph with such a conflict ends resolved
+abbrev pub KinNeverResolve : Type 0
+KinNeverResolve = (given : CodedGraph) (before trace : List TraceStep) (v w : Current)
+    (pair : ℕ × ℕ)
+    → IsLineage given before v → IsKinConflict given pair → EndsResolved v trace w → ⊥
+
+-- one ends unresolved
+abbrev pub KinEndUnresolved : Type 0
+KinEndUnresolved = (given : CodedGraph) (before : List TraceStep) (v : Current) (pair : ℕ × ℕ)
+    → IsLineage given before v → IsKinConflict given pair
     → (trace : List TraceStep) × (w : Current) × (last : ℕ × ℕ) × EndsUnresolved v trace w last

@@ -1,17 +1,18 @@
 //! The text that explains the first conflicts of a graph.
 
 ghost use Rattle.std.specs.Prelude.{◌≡◌, ◌<◌, ◌++◌, IfOk, OnOk, length};
-ghost use Rattle.std.specs.Prelude.{ℕ, Contains, Option, option_map, codes};
+ghost use Rattle.std.specs.Prelude.{ℕ, Contains, option_map, codes};
 ghost use Rattle.std.specs.List.{list_any};
 ghost use Rattle.si_base.specs.Proper.{IsConflict};
 ghost use Rattle.si_base.specs.Words.{line, text_of};
 ghost use Rattle.si_conflicts.specs.Conflicts.{pairs_of};
-ghost use Rattle.si_explain.specs.ExplainText.{Explains, ExplainsAll, IsExplainText, further};
+ghost use Rattle.si_explain.specs.ExplainText.{Explains, ExplainsAll, IsExplainText};
 ghost use Rattle.si_explain.specs.ExplainText.{source_lines, events_line, enabled_events};
-ghost use Rattle.si_explain.specs.ExplainText.{same_pair, twin_lines};
+ghost use Rattle.si_explain.specs.ExplainText.{same_pair, unresolvable_lines, with_further};
 ghost use Rattle.si_explain.specs.ExplainText as explained;
+ghost use Rattle.si_kin.specs.Kin.{AreKinClasses};
 ghost use Rattle.si_walks.specs.Joined.{IsSourceOrNone, source_of};
-ghost use Rattle.si_walks.specs.Twins.{AreTwinPairsOrNone, IsFirstTwinOrNone};
+ghost use Rattle.si_walks.specs.Twins.{AreTwinPairsOrNone};
 
 use crate::events::{add_events_line, add_inputs_line, enabled_events};
 use si_base::ids::{NoMemory, StateId};
@@ -20,6 +21,7 @@ use si_base::sets::StateSet;
 use si_base::text::Text;
 use si_conflicts::conflicts::{Pair, conflicts, count};
 use si_graph::coded::Coded;
+use si_kin::kin::{are_kin, first_kin_conflict, kin_classes};
 use si_netlist::write::add_values_line;
 use si_sg::write::name_at;
 use si_walks::arcs::Arcs;
@@ -40,11 +42,26 @@ const MEANING: &[u8] =
 const TWIN_MEANING: &[u8] =
     b"# at states of one code the circuit does the same, so nothing tells them apart";
 
+/// What it means that the states of a conflict are kin.
+const KIN_MEANING: &[u8] =
+    b"# inputs join them, some backwards, so no signals that delay no input tell them apart";
+
+/// The states that inserted signals never tell apart.
+#[derive(Drop)]
+struct Indistinct {
+    /// The pairs of twins, if the graph has few enough states.
+    twins: Option<StateSet>,
+    /// For each state the class of its kin.
+    kin: Vec<StateId>,
+}
+
 /// The text of the number of conflicts of a graph with a name for each state, and of the first of
 /// them: their code, what their states enable, the first walks to these from the start, and, where
 /// inputs alone lead to both from some state, the first such state with the first walks, or else,
-/// where they are twins, that they are (in graphs of up to 2,048 states). Of these graphs the first
-/// conflict of twins is there too. It fails only where memory runs out.
+/// where they are twins, that they are (in graphs of up to 2,048 states), or else, where they are
+/// kin, that they are: inputs lead from one to the other, each forwards or backwards. The first
+/// conflict of twins (of these graphs) and the first of kin are there too. It fails only where
+/// memory runs out.
 pub fn explain(alloc: Global, graph: &Coded, states: &Names) -> Result<Text, NoMemory>
     requires { length states.now ≡ graph.now.graph.states }
     ensures { IfOk result (IsExplainText graph.now states.now) }
@@ -52,31 +69,30 @@ pub fn explain(alloc: Global, graph: &Coded, states: &Names) -> Result<Text, NoM
     let count = count(alloc, graph)?;
     let mut pairs = conflicts(alloc, graph, MAX_EXPLAINED)?;
     let twins = twin_pairs(alloc, graph)?;
-    add_first_twin(graph, &twins, &mut pairs)?;
+    let kin = kin_classes(alloc, graph)?;
+    let first_twin = first_twin_conflict(graph, &twins);
+    let first_kin = first_kin_conflict(alloc, graph, kin.as_slice())?;
+    add_if_new(&mut pairs, first_twin)?;
+    add_if_new(&mut pairs, first_kin)?;
     let Ok(number) = count.to_string(alloc) else {
         return Err(NoMemory);
     };
     let mut text = Text::copy_of(alloc, b"")?;
     add_line(&mut text, b"conflicts", &[number.as_bytes()])?;
-    add_conflicts(alloc, &mut text, graph, states, pairs.as_slice(), &twins)?;
+    let known = Indistinct { twins, kin };
+    add_conflicts(alloc, &mut text, graph, states, pairs.as_slice(), &known)?;
     Ok(text)
 }
 
-/// Puts the first conflict of twins last, if there is one that isn't among the pairs.
-fn add_first_twin(
-    graph: &Coded,
-    twins: &Option<StateSet>,
-    pairs: &mut Vec<Pair>,
-) -> Result<(), NoMemory>
-    requires { AreTwinPairsOrNone graph.now twins.now }
-    ensures { OnOk result ((twin : Option (ℕ × ℕ)) × IsFirstTwinOrNone graph.now twin
-        × (pairs_of pairs.new.items
-        ≡ pairs_of pairs.old.items ++ further (pairs_of pairs.old.items) twin)) }
+/// Puts a conflict last, if there is one that isn't among the pairs.
+fn add_if_new(pairs: &mut Vec<Pair>, conflict: Option<(StateId, StateId)>) -> Result<(), NoMemory>
+    ensures { OnOk result
+        (pairs_of pairs.new.items ≡ with_further (pairs_of pairs.old.items) conflict) }
 {
-    let Some(twin) = first_twin_conflict(graph, twins) else {
+    let Some(found) = conflict else {
         return Ok(());
     };
-    let (p, q) = twin;
+    let (p, q) = found;
     if is_among(pairs, p, q) {
         return Ok(());
     }
@@ -103,17 +119,18 @@ fn add_conflicts(
     graph: &Coded,
     states: &Names,
     pairs: &[Pair],
-    twins: &Option<StateSet>,
+    known: &Indistinct,
 ) -> Result<(), NoMemory>
     requires states { length states.now ≡ graph.now.graph.states }
     requires pairs { (pair : ℕ × ℕ) → Contains (pairs_of pairs.now) pair
         → IsConflict graph.now pair }
-    requires twins { AreTwinPairsOrNone graph.now twins.now }
+    requires twins { AreTwinPairsOrNone graph.now known.now.twins }
+    requires kin { AreKinClasses graph.now known.now.kin.items }
     ensures { OnOk result
         (ExplainsAll graph.now states.now (pairs_of pairs.now) text.old text.new) }
 {
     for pair in pairs {
-        add_conflict(alloc, text, graph, states, pair.p, pair.q, twins)?;
+        add_conflict(alloc, text, graph, states, pair.p, pair.q, known)?;
     }
     Ok(())
 }
@@ -126,12 +143,13 @@ fn add_conflict(
     states: &Names,
     p: StateId,
     q: StateId,
-    twins: &Option<StateSet>,
+    known: &Indistinct,
 ) -> Result<(), NoMemory>
     requires states { length states.now ≡ coded.now.graph.states }
     requires p { p < coded.now.graph.states }
     requires q { q < coded.now.graph.states }
-    requires twins { AreTwinPairsOrNone coded.now twins.now }
+    requires twins { AreTwinPairsOrNone coded.now known.now.twins }
+    requires kin { AreKinClasses coded.now known.now.kin.items }
     ensures { OnOk result (Explains coded.now states.now (p, q) text.old text.new) }
 {
     let graph = coded.graph();
@@ -139,7 +157,8 @@ fn add_conflict(
     let to_p = shortest_walk(alloc, coded, &Arcs::All, graph.start(), p)?;
     let to_q = shortest_walk(alloc, coded, &Arcs::All, graph.start(), q)?;
     let source = find_witness(alloc, coded, p, q)?;
-    let twins = are_twins(twins, coded, p, q);
+    let twins = are_twins(&known.twins, coded, p, q);
+    let kin = are_kin(known.kin.as_slice(), p, q);
     add_line(text, b"conflict", &[name_at(states, p), name_at(states, q)])?;
     add_values_line(text, b"code", signals, coded.code(p))?;
     add_enabled(alloc, text, coded, states, p)?;
@@ -147,7 +166,10 @@ fn add_conflict(
     add_events_line(text, b"walk", signals, states, p, to_p.as_slice())?;
     add_events_line(text, b"walk", signals, states, q, to_q.as_slice())?;
     add_source(text, coded, states, p, q, &source)?;
-    add_twins(text, states, p, q, tells_twins(&source, twins))?;
+    let told_twins = tells_twins(&source, twins);
+    let told_kin = tells_kin(&source, twins, kin);
+    add_unresolvable(text, states, p, q, TWIN_MEANING, told_twins)?;
+    add_unresolvable(text, states, p, q, KIN_MEANING, told_kin)?;
     Ok(())
 }
 
@@ -161,18 +183,29 @@ fn tells_twins(source: &Option<Witness>, twins: bool) -> bool
     }
 }
 
-/// Adds the line of a conflict whose states are twins, where that is told.
-fn add_twins(
+/// Whether kin are told: where neither a source is nor twins are.
+fn tells_kin(source: &Option<Witness>, twins: bool, kin: bool) -> bool
+    ensures { result ≡ explained.tells_kin (option_map source_of source.now) twins kin }
+{
+    match source {
+        None => kin && !twins,
+        Some(_) => false,
+    }
+}
+
+/// Adds the line of a conflict that no insertions resolve, with the reason, where that is told.
+fn add_unresolvable(
     text: &mut Text,
     states: &Names,
     p: StateId,
     q: StateId,
+    why: &[u8],
     told: bool,
 ) -> Result<(), NoMemory>
     requires p { p < length states.now }
     requires q { q < length states.now }
     ensures { OnOk result
-        (text.new ≡ text.old ++ text_of (twin_lines states.now (p, q) told)) }
+        (text.new ≡ text.old ++ text_of (unresolvable_lines states.now (p, q) why.now told)) }
 {
     if !told {
         return Ok(());
@@ -180,7 +213,7 @@ fn add_twins(
     add_line(
         text,
         b"unresolvable",
-        &[name_at(states, p), name_at(states, q), TWIN_MEANING],
+        &[name_at(states, p), name_at(states, q), why],
     )?;
     Ok(())
 }

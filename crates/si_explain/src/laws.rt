@@ -3,6 +3,7 @@
 ghost use Rattle.si_explain.specs.Laws.{ExplainTextsAreUnique, ExplainTextsExist};
 ghost use Rattle.si_explain.specs.Laws.{SourcesShowJoined, NoSourceShowsNone};
 ghost use Rattle.si_explain.specs.Laws.{JoinedNeverResolve, JoinedEndUnresolved};
+ghost use Rattle.si_explain.specs.Laws.{KinAreTold, KinNeverResolve, KinEndUnresolved};
 ghost use Rattle.si_explain.specs.Laws.{TwinsAreTold, TwinsNeverResolve, TwinsEndUnresolved};
 
 /// A coded graph with names for its states has one text.
@@ -29,4 +30,12 @@ pub fn twins_stay_unresolved()
     ensures told { TwinsAreTold }
     ensures never { TwinsNeverResolve }
     ensures ends { TwinsEndUnresolved }
+{}
+
+/// That the states of a conflict are kin is told exactly where they are, and resolving a graph with
+/// such a conflict ends unresolved.
+pub fn kin_stay_unresolved()
+    ensures told { KinAreTold }
+    ensures never { KinNeverResolve }
+    ensures ends { KinEndUnresolved }
 {}

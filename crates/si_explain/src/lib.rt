@@ -1,6 +1,6 @@
 //! Why a graph has conflicts: the codes of the first ones, what their states enable, walks to them,
-//! and whether inputs alone lead to both states of one, or the circuit can't tell these apart, so that
-//! no insertion resolves it.
+//! and whether no insertion resolves one: inputs alone lead to both of its states, or from one to
+//! the other, some backwards, or the circuit can't tell these apart.
 #![tactic(auto)]
 
 pub mod events;

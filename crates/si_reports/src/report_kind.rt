@@ -17,7 +17,7 @@ pub enum Report {
     /// Its states, with their codes and the events that they enable, whether it is proper or not.
     States,
     /// How many conflicts it has, and the first of them explained: codes, enabled events, walks,
-    /// and whether inputs alone lead to both states.
+    /// and why no insertion resolves one, where that is known.
     Explain,
     /// Its picture, for Graphviz, whether it is proper or not.
     Dot,

@@ -1,7 +1,0 @@
-use Rattle.si_explain.proofs.ExplainLines.{twins_by_call}
-use Rattle.si_explain.proofs.explain.add_twins.Goals as goal
-
-pub returns : goal.returns
-returns c =
-    twins_by_call c.args.text.now c.args.states.now c.args.p c.args.q c.args.told _ _ _ c.if-not-told.false
-    c.name_at.ensures c.name_at-2.ensures c.in_ok-add_line.ensures

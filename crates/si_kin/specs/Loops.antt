@@ -1,0 +1,3 @@
+-- What the parts of a computation keep: for the proofs of the code, and in no promise of a run.
+pub mod Forest
+pub mod Alike
