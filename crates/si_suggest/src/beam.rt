@@ -13,6 +13,9 @@ use std::alloc::Global;
 /// The most signals that a search inserts.
 const MAX_ROUNDS: u32 = 24;
 
+/// After so many rounds in which no graph has fewer conflicts than one before a search ends.
+const MAX_IDLE: u32 = 4;
+
 /// Which insertions a search looks at.
 #[derive(Clone, Copy)]
 pub(crate) enum Reach {
@@ -30,7 +33,8 @@ struct Item {
 }
 
 /// The graphs of a round, the insertions found that leave no conflict, the marks of all graphs that
-/// were looked at, how many graphs are kept, and what is left of the work.
+/// were looked at, how many graphs are kept, what is left of the work, the fewest conflicts of a
+/// graph so far, and for how many rounds no graph had fewer.
 #[derive(Drop)]
 struct Beam {
     reach: Reach,
@@ -39,6 +43,8 @@ struct Beam {
     seen: Vec<u64>,
     width: usize,
     work: Work,
+    fewest: u64,
+    idle: u32,
 }
 
 /// The chains that a search found, and how many candidates it tried.
@@ -71,7 +77,7 @@ pub(crate) fn find_chains(
     for _ in 0..MAX_ROUNDS {
         let is_last = beam.found.len() > 0;
         beam.round(alloc)?;
-        if is_last || beam.items.len() == 0 || beam.work.is_done() {
+        if is_last || beam.items.len() == 0 || beam.work.is_done() || beam.idle > MAX_IDLE {
             break;
         }
     }
@@ -103,6 +109,8 @@ impl Beam {
             seen: Vec::new(alloc),
             width,
             work: Work::of(work),
+            fewest: u64::MAX,
+            idle: 0,
         })
     }
 
@@ -112,8 +120,19 @@ impl Beam {
         for k in 0..self.items.len() {
             self.expand(alloc, k, &mut best)?;
         }
+        self.note(best.fewest());
         self.items = self.next_items(alloc, best)?;
         Ok(())
+    }
+
+    /// Notes how many conflicts the best insertion of a round leaves.
+    fn note(&mut self, left: u64) {
+        if left < self.fewest {
+            self.fewest = left;
+            self.idle = 0;
+        } else {
+            self.idle = self.idle.saturating_add(1);
+        }
     }
 
     /// Finds the best insertions into the graph at that place.

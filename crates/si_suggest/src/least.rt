@@ -12,8 +12,9 @@ use si_insert::partition::Class;
 use std::alloc::Global;
 
 /// The classes with the fewest states where the new signal switches to the value to which it goes
-/// by these classes; whether they are lawful and accepted is left open. It fails only where memory
-/// runs out.
+/// by these classes; whether they are lawful and accepted is left open. `None` where acceptance
+/// asks it to switch to a value at a state that wants the other: then no partition has this target.
+/// It fails only where memory runs out.
 ///
 /// The states where the signal switches to a value begin where that value is first wanted. They
 /// grow by what acceptance asks for: back along arcs within the states that want the value, along
@@ -22,17 +23,21 @@ pub(crate) fn least_classes(
     alloc: Global,
     graph: &Graph,
     classes: &[Class],
-) -> Result<Vec<Class>, NoMemory> {
+) -> Result<Option<Vec<Class>>, NoMemory> {
     let high = wanted(alloc, graph.states(), classes, true)?;
+    let Some(plus) = switching(alloc, graph, &high)? else {
+        return Ok(None);
+    };
     let low = wanted(alloc, graph.states(), classes, false)?;
-    let plus = switching(alloc, graph, &high)?;
-    let minus = switching(alloc, graph, &low)?;
+    let Some(minus) = switching(alloc, graph, &low)? else {
+        return Ok(None);
+    };
     let mut list = Vec::new(alloc);
     for k in 0..graph.states() {
         let s = StateId(k);
         list.push(class_by(has(&plus, s), has(&minus, s), has(&high, s)))?;
     }
-    Ok(list)
+    Ok(Some(list))
 }
 
 /// Whether the state is in the set.
@@ -65,8 +70,12 @@ pub(crate) fn wanted(
 }
 
 /// The states where the signal switches to the value that these states want: those where the value
-/// is first wanted, and what follows from them.
-fn switching(alloc: Global, graph: &Graph, wanted: &StateSet) -> Result<StateSet, NoMemory> {
+/// is first wanted, and what follows from them. `None` where other states follow.
+fn switching(
+    alloc: Global,
+    graph: &Graph,
+    wanted: &StateSet,
+) -> Result<Option<StateSet>, NoMemory> {
     let mut set = StateSet::new(alloc, graph.states())?;
     for arc in graph.arcs() {
         if has(wanted, arc.to) && !has(wanted, arc.from) {
@@ -74,11 +83,15 @@ fn switching(alloc: Global, graph: &Graph, wanted: &StateSet) -> Result<StateSet
         }
     }
     for _ in 0..graph.states() {
-        if !spread(graph, wanted, &mut set) {
-            return Ok(set);
+        let grows = spread(graph, wanted, &mut set);
+        if set.size() != wanted.size() || !set.is_subset(wanted) {
+            return Ok(None);
+        }
+        if !grows {
+            return Ok(Some(set));
         }
     }
-    Ok(set)
+    Ok(Some(set))
 }
 
 /// Adds what follows from the set by one pass over the arcs, and tells whether there was any.

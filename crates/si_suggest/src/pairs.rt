@@ -109,7 +109,9 @@ pub(crate) fn lessened(
     trials: &mut Trials<'_>,
     candidate: Candidate,
 ) -> Result<Candidate, NoMemory> {
-    let least = least_classes(alloc, graph.coded().graph(), &candidate.classes)?;
+    let Some(least) = least_classes(alloc, graph.coded().graph(), &candidate.classes)? else {
+        return Ok(candidate);
+    };
     let bar = candidate.left.saturating_add(1);
     match trials.left_below(alloc, &least, bar)? {
         None => Ok(candidate),

@@ -44,6 +44,14 @@ impl Ranked {
         }
     }
 
+    /// The number of conflicts that the best insertion leaves.
+    pub(crate) fn fewest(&self) -> u64 {
+        match self.list.first() {
+            Some(best) => best.left,
+            None => u64::MAX,
+        }
+    }
+
     /// Adds an insertion, and drops the last one where there are too many.
     pub(crate) fn add(&mut self, candidate: Candidate) -> Result<(), NoMemory> {
         let place = self.place_for(candidate.left);

@@ -183,7 +183,7 @@ const MAX_SEARCHED: u32 = 10_000;
 const MAX_GROWN: u32 = 300;
 
 /// How many graphs a search by targets keeps.
-const WIDTH_OF_TARGETS: usize = 12;
+const WIDTH_OF_TARGETS: usize = 8;
 
 /// How many graphs a search keeps, by the number of states.
 fn width_for(states: u32) -> usize {

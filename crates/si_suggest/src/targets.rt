@@ -13,6 +13,7 @@ use si_base::ids::{NoMemory, Sig, StateId};
 use si_base::sets::StateSet;
 use si_candidates::sides::class_by;
 use si_checks::proper::Proper;
+use si_conflicts::conflicts::{Pair, conflicts};
 use si_insert::partition::Class;
 use std::alloc::Global;
 use std::collections::BTreeSet;
@@ -21,7 +22,10 @@ use std::collections::BTreeSet;
 const MAX_ROUNDS: u32 = 3;
 
 /// Of more sets than these no two are joined before the best targets grow.
-const MAX_JOINED: usize = 120;
+const MAX_JOINED: usize = 80;
+
+/// Of so many conflicts it is looked at whether a target parts them, before its partition is known.
+const MAX_PARTED: u32 = 1000;
 
 /// How many times as much work a target takes as a pair of blocks, whose classes are known.
 const WORK_OF_TARGET: u64 = 8;
@@ -58,6 +62,7 @@ pub(crate) fn best_targets(
     let mut targets = Targets {
         graph,
         trials: Trials::new(alloc, graph)?,
+        conflicts: conflicts(alloc, graph.coded(), MAX_PARTED)?,
         seen: BTreeSet::new(alloc),
         best: Ranked::none(alloc, limit),
         place,
@@ -122,11 +127,13 @@ fn joined(
     Ok(set)
 }
 
-/// The best targets so far, and the marks of all that were looked at.
+/// The best targets so far, the first conflicts of the graph, and the marks of all targets that
+/// were looked at.
 #[derive(Drop)]
 struct Targets<'a> {
     graph: &'a Proper,
     trials: Trials<'a>,
+    conflicts: Vec<Pair>,
     seen: BTreeSet<u64>,
     best: Ranked,
     place: usize,
@@ -200,12 +207,18 @@ impl<'a> Targets<'a> {
         work: &mut Work,
     ) -> Result<(), NoMemory> {
         let amount = WORK_OF_TARGET * set.size() as u64;
-        let flat = self.flat_classes(alloc, set)?;
-        if !self.seen.insert(mark_of(&flat))? || !work.take(amount) {
+        let turn = has(set, self.graph.coded().graph().start());
+        let bar = self.best.bar();
+        if !self.seen.insert(mark_of(set, turn))?
+            || self.unparted(set) >= bar
+            || !work.take(amount)
+        {
             return Ok(());
         }
-        let classes = least_classes(alloc, self.graph.coded().graph(), &flat)?;
-        let bar = self.best.bar();
+        let flat = self.flat_classes(alloc, set, turn)?;
+        let Some(classes) = least_classes(alloc, self.graph.coded().graph(), &flat)? else {
+            return Ok(());
+        };
         if let Some(left) = self.trials.left_below(alloc, &classes, bar)? {
             let parent = self.place;
             self.best.add(Candidate {
@@ -217,24 +230,40 @@ impl<'a> Targets<'a> {
         Ok(())
     }
 
+    /// How many of the first conflicts are between states at which the signal is to have one value:
+    /// each of them stays.
+    fn unparted(&self, set: &StateSet) -> u64 {
+        let mut count: u64 = 0;
+        for pair in &self.conflicts {
+            if has(set, pair.p) == has(set, pair.q) {
+                count = count.saturating_add(1);
+            }
+        }
+        count
+    }
+
     /// The classes without a switching: the signal is 1 at the states of the set, or at all others
-    /// where the set has the start.
-    fn flat_classes(&self, alloc: Global, set: &StateSet) -> Result<Vec<Class>, NoMemory> {
-        let graph = self.graph.coded().graph();
-        let turn = has(set, graph.start());
+    /// where they are turned round.
+    fn flat_classes(
+        &self,
+        alloc: Global,
+        set: &StateSet,
+        turn: bool,
+    ) -> Result<Vec<Class>, NoMemory> {
         let mut classes = Vec::new(alloc);
-        for k in 0..graph.states() {
+        for k in 0..self.graph.coded().graph().states() {
             classes.push(class_by(false, false, has(set, StateId(k)) != turn))?;
         }
         Ok(classes)
     }
 }
 
-/// A number by which targets are told apart: of targets with one number the later ones are left out.
-fn mark_of(classes: &[Class]) -> u64 {
+/// A number by which targets are told apart: of targets with one number the later ones are left
+/// out. A set and all other states, turned round, are one target.
+fn mark_of(set: &StateSet, turn: bool) -> u64 {
     let mut mark: u64 = 1;
-    for class in classes {
-        let bit = matches!(class, Class::High) as u64;
+    for k in 0..set.size() {
+        let bit = (has(set, StateId(k)) != turn) as u64;
         mark = (mark.wrapping_mul(0x9E37_79B9_7F4A_7C15) ^ (mark >> 29)).wrapping_add(bit);
     }
     mark
