@@ -3,7 +3,7 @@ _sisyn() {
   local word=${COMP_WORDS[COMP_CWORD]}
   local words= files=
   case "$COMP_CWORD ${COMP_WORDS[1]}" in
-    1\ *) words='check states regions conflicts explain lint covers fold dot synth suggest map resolve insert genlib verilog loops reset replay wave audit same product compose join works exercise help --version --help -h' ;;
+    1\ *) words='check states regions conflicts explain lint covers fold dot synth suggest map resolve insert genlib verilog eqn loops reset replay wave audit same product compose join works exercise help --version --help -h' ;;
     '2 check') files=yes ;;
     '2 states') files=yes ;;
     '2 regions') files=yes ;;
@@ -28,6 +28,9 @@ _sisyn() {
     '3 insert') files=yes ;;
     '2 genlib') files=yes ;;
     '2 verilog') files=yes ;;
+    '3 verilog') words='genlib'; files=yes ;;
+    '4 verilog') files=yes ;;
+    '2 eqn') files=yes ;;
     '2 loops') files=yes ;;
     '2 reset') files=yes ;;
     '2 replay') files=yes ;;
@@ -59,7 +62,7 @@ _sisyn() {
     '4 works') files=yes ;;
     '5 works') files=yes ;;
     '2 exercise') words='1 2 3 4 5 6 7 8' ;;
-    '2 help') words='check states regions conflicts explain lint covers fold dot synth suggest map resolve insert genlib verilog loops reset replay wave audit same product compose join works exercise help --version' ;;
+    '2 help') words='check states regions conflicts explain lint covers fold dot synth suggest map resolve insert genlib verilog eqn loops reset replay wave audit same product compose join works exercise help --version' ;;
   esac
   mapfile -t COMPREPLY < <(compgen -W "$words" -- "$word"; [ -z "$files" ] || compgen -f -- "$word")
 }

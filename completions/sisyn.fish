@@ -41,6 +41,10 @@ complete -c sisyn -n 'test (count (commandline -opc)) -eq 1' -a 'genlib' -d 'a l
 complete -c sisyn -n 'test (count (commandline -opc)) -eq 2; and test (commandline -opc)[2] = genlib' -F
 complete -c sisyn -n 'test (count (commandline -opc)) -eq 1' -a 'verilog' -d 'a netlist as a module of Verilog'
 complete -c sisyn -n 'test (count (commandline -opc)) -eq 2; and test (commandline -opc)[2] = verilog' -F
+complete -c sisyn -n 'test (count (commandline -opc)) -eq 3; and test (commandline -opc)[2] = verilog' -a 'genlib' -F
+complete -c sisyn -n 'test (count (commandline -opc)) -eq 4; and test (commandline -opc)[2] = verilog' -F
+complete -c sisyn -n 'test (count (commandline -opc)) -eq 1' -a 'eqn' -d 'a netlist as equations'
+complete -c sisyn -n 'test (count (commandline -opc)) -eq 2; and test (commandline -opc)[2] = eqn' -F
 complete -c sisyn -n 'test (count (commandline -opc)) -eq 1' -a 'loops' -d 'which pins to cut, so that it has no loop'
 complete -c sisyn -n 'test (count (commandline -opc)) -eq 2; and test (commandline -opc)[2] = loops' -F
 complete -c sisyn -n 'test (count (commandline -opc)) -eq 1' -a 'reset' -d 'which outputs to force, so that it starts'
@@ -84,5 +88,5 @@ complete -c sisyn -n 'test (count (commandline -opc)) -eq 5; and test (commandli
 complete -c sisyn -n 'test (count (commandline -opc)) -eq 1' -a 'exercise' -d 'the sizes of N handshakes, from 1 to 8'
 complete -c sisyn -n 'test (count (commandline -opc)) -eq 2; and test (commandline -opc)[2] = exercise' -a '1 2 3 4 5 6 7 8'
 complete -c sisyn -n 'test (count (commandline -opc)) -eq 1' -a 'help' -d 'what a command writes, and how it may end'
-complete -c sisyn -n 'test (count (commandline -opc)) -eq 2; and test (commandline -opc)[2] = help' -a 'check states regions conflicts explain lint covers fold dot synth suggest map resolve insert genlib verilog loops reset replay wave audit same product compose join works exercise help --version'
+complete -c sisyn -n 'test (count (commandline -opc)) -eq 2; and test (commandline -opc)[2] = help' -a 'check states regions conflicts explain lint covers fold dot synth suggest map resolve insert genlib verilog eqn loops reset replay wave audit same product compose join works exercise help --version'
 complete -c sisyn -n 'test (count (commandline -opc)) -eq 1' -a '--version' -d 'the version, and what proved it'

@@ -28,6 +28,7 @@ use Rattle.si_commands.specs.declared.task.Task.{Task}
 use Rattle.si_commands.specs.declared.task.Task.TheVariants.{About, Tell, Synth, Map, FromGenlib, Verilog, Replay}
 use Rattle.si_commands.specs.declared.task.Task.TheVariants.{Audit}
 use Rattle.si_commands.specs.declared.task.Task.TheVariants.{TellNetlist, Resolve, Insert, Same, Exercise, Suggest}
+use Rattle.si_commands.specs.declared.task.Task.TheVariants.{Structure, Equations}
 use Rattle.si_commands.specs.declared.task.Task.TheVariants as task
 use Rattle.si_commands.specs.declared.task.Together.{Together}
 use Rattle.si_commands.specs.declared.task.Together.TheVariants as together
@@ -76,6 +77,9 @@ each_listed Resolve = (place Resolve, lit≤ tt, refl)
 each_listed Insert = (place Insert, lit≤ tt, refl)
 each_listed FromGenlib = (place FromGenlib, lit≤ tt, refl)
 each_listed Verilog = (place Verilog, lit≤ tt, refl)
+each_listed (Structure Cells) = (place (Structure Cells), lit≤ tt, refl)
+each_listed (Structure Gates) = (place (Structure Gates), lit≤ tt, refl)
+each_listed Equations = (place Equations, lit≤ tt, refl)
 each_listed (TellNetlist Loops) = (place (TellNetlist Loops), lit≤ tt, refl)
 each_listed (TellNetlist Reset) = (place (TellNetlist Reset), lit≤ tt, refl)
 each_listed (Replay End) = (place (Replay End), lit≤ tt, refl)
@@ -176,6 +180,13 @@ pub two_files : (kind : LibraryKind) (count : ℕ)
     → IsCount (file_count (form_of (Map kind)).places) (more_files (form_of (Map kind)).tail) count → IsCount 2 0 count
 two_files Cells count many = many
 two_files Gates count many = many
+
+-- and so are a netlist and a library
+pub two_files_placed : (kind : LibraryKind) (count : ℕ)
+    → IsCount (file_count (form_of (Structure kind)).places) (more_files (form_of (Structure kind)).tail) count
+    → IsCount 2 0 count
+two_files_placed Cells count many = many
+two_files_placed Gates count many = many
 
 -- the words that are chosen of what the program tells of itself are those of the places
 pub no_options : (topic : Topic) (count : ℕ)

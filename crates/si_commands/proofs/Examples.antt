@@ -8,7 +8,7 @@ use Rattle.si_commands.specs.declared.task.Topic.TheVariants.{Help}
 use Rattle.si_commands.specs.declared.task.Task.TheVariants.{About, Tell, Synth, Map, FromGenlib, Verilog, Replay}
 use Rattle.si_commands.specs.declared.task.Task.TheVariants.{Audit}
 use Rattle.si_commands.specs.declared.task.Task.TheVariants.{Exercise}
-use Rattle.si_commands.specs.declared.task.Task.TheVariants.{Resolve, Insert}
+use Rattle.si_commands.specs.declared.task.Task.TheVariants.{Resolve, Insert, Structure, Equations}
 use Rattle.si_commands.specs.declared.task.LibraryKind.TheVariants.{Cells, Gates}
 use Rattle.si_reports.specs.declared.replay_kind.ReplayReport.TheVariants.{End, Wave}
 use Rattle.si_reports.specs.declared.report_kind.Report.TheVariants.{Summary, Regions, Fold}
@@ -68,6 +68,18 @@ fold_words = refl
 
 verilog_words : fill (form_of Verilog) (codes "c.net" ∷ []) [] ≡ codes "verilog" ∷ codes "c.net" ∷ []
 verilog_words = refl
+
+-- with a library, in either format
+structure_words : fill (form_of (Structure Cells)) (codes "c.net" ∷ codes "c.lib" ∷ []) []
+    ≡ codes "verilog" ∷ codes "c.net" ∷ codes "c.lib" ∷ []
+structure_words = refl
+
+genlib_structure_words : fill (form_of (Structure Gates)) (codes "c.net" ∷ codes "g" ∷ []) []
+    ≡ codes "verilog" ∷ codes "c.net" ∷ codes "genlib" ∷ codes "g" ∷ []
+genlib_structure_words = refl
+
+equations_words : fill (form_of Equations) (codes "c.net" ∷ []) [] ≡ codes "eqn" ∷ codes "c.net" ∷ []
+equations_words = refl
 
 replay_words : fill (form_of (Replay End)) (codes "c.sg" ∷ codes "c.net" ∷ codes "steps" ∷ []) []
     ≡ codes "replay" ∷ codes "c.sg" ∷ codes "c.net" ∷ codes "steps" ∷ []

@@ -17,7 +17,7 @@ use Rattle.si_commands.specs.declared.task.Task.TheVariants.{About, Tell, Synth,
 use Rattle.si_commands.specs.declared.task.Task.TheVariants.{Verilog, Replay, Audit, Exercise}
 use Rattle.si_commands.specs.declared.task.Task.TheVariants as task
 use Rattle.si_commands.specs.declared.task.Task.TheVariants.{TellNetlist, Resolve, Insert, Same}
-use Rattle.si_commands.specs.declared.task.Task.TheVariants.{Suggest}
+use Rattle.si_commands.specs.declared.task.Task.TheVariants.{Suggest, Structure, Equations}
 use Rattle.si_readings.specs.declared.library_format.LibraryFormat.{LibraryFormat}
 use Rattle.si_readings.specs.declared.library_format.LibraryFormat.TheVariants.{Own, Genlib}
 use Rattle.si_reports.specs.declared.netlist_report.NetlistReport.{NetlistReport}
@@ -132,7 +132,7 @@ abbrev pub command_words : List (List ℕ)
 command_words = codes "check" ∷ codes "states" ∷ codes "regions" ∷ codes "conflicts"
     ∷ codes "explain" ∷ codes "lint" ∷ codes "covers" ∷ codes "fold" ∷ codes "dot" ∷ codes "synth"
     ∷ codes "suggest" ∷ codes "map" ∷ codes "resolve" ∷ codes "insert" ∷ codes "genlib"
-    ∷ codes "verilog"
+    ∷ codes "verilog" ∷ codes "eqn"
     ∷ codes "loops" ∷ codes "reset" ∷ codes "replay" ∷ codes "wave" ∷ codes "audit" ∷ codes "same"
     ∷ codes "product" ∷ codes "compose" ∷ codes "join" ∷ codes "works" ∷ codes "exercise"
     ∷ codes "help" ∷ codes "--version" ∷ []
@@ -204,6 +204,15 @@ row_of FromGenlib =
 row_of Verilog =
     row (Word (codes "verilog") ∷ LoneFile netlist_name ∷ [])
     (codes "a netlist as a module of Verilog")
+row_of (Structure Cells) =
+    row (Word (codes "verilog") ∷ File netlist_name ∷ LibraryFile (codes "LIB") ∷ [])
+    (codes "the same of instances of cells")
+row_of (Structure Gates) =
+    row
+    (Word (codes "verilog") ∷ File netlist_name ∷ Word (codes "genlib") ∷ File genlib_name ∷ [])
+    (codes "the same of gates of genlib")
+row_of Equations =
+    row (Word (codes "eqn") ∷ LoneFile netlist_name ∷ []) (codes "a netlist as equations")
 row_of (TellNetlist report) =
     row (Word (netlist_named report).word ∷ LoneFile netlist_name ∷ []) (netlist_named report).says
 row_of (Replay report) =
@@ -236,7 +245,7 @@ tasks = Tell Summary ∷ Tell States ∷ Tell Regions ∷ Tell Conflicts ∷ Tel
     ∷ Tell Covers ∷ Tell Fold ∷ Tell Dot ∷ Synth Complex ∷ Synth GeneralisedC
     ∷ Suggest Complex ∷ Suggest GeneralisedC ∷ Map Cells
     ∷ Map Gates ∷ Resolve ∷ Insert ∷ FromGenlib
-    ∷ Verilog ∷ TellNetlist Loops ∷ TellNetlist Reset ∷ Replay End ∷ Replay Wave ∷ Audit ∷ Same
+    ∷ Verilog ∷ Structure Cells ∷ Structure Gates ∷ Equations ∷ TellNetlist Loops ∷ TellNetlist Reset ∷ Replay End ∷ Replay Wave ∷ Audit ∷ Same
     ∷ task.Together together.Product ∷ task.Together together.Compose
     ∷ task.Together together.Join ∷ task.Together together.Works ∷ Exercise ∷ About Help
     ∷ About (Page Before) ∷ About (Page Behind) ∷ About Version ∷ []

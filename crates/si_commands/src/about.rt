@@ -34,7 +34,7 @@ N and M are netlists as synth and map write them, and SCHEDULE is events, such
 as 'a+ b+ c+'. Each is the name of a file; /dev/stdin and <(..) serve too.
 
 A run that succeeds writes to standard output. A refused run writes one line to
-standard error, and ends with a status from 1 to 14.
+standard error, and ends with a status from 1 to 15.
 
 Examples, beside the sources:
 
@@ -47,6 +47,7 @@ Examples, beside the sources:
   sisyn map examples/c-element-three.sg genlib examples/everyday.genlib
   sisyn resolve examples/vme-read.sg | sisyn synth /dev/stdin gc
   sisyn verilog examples/vme-read.net > vme-read.v
+  sisyn eqn examples/vme-read.net > vme-read.eqn
   sisyn replay examples/c-element.sg examples/c-element.net <(echo 'a+ b+ c+')
   sisyn audit examples/vme-read.sg examples/vme-read.net
   sisyn fold examples/vme-read.sg | sisyn same examples/vme-read.sg /dev/stdin

@@ -62,7 +62,8 @@ a graph that isn't proper.
         "explain",
         b"It writes of the first 10 conflicts the code, what both states enable, a
 shortest walk to each, and whether no inserted signal can resolve it, as inputs
-alone lead to both states, or the circuit can't tell the two apart (twins).
+alone lead to both states, or the circuit can't tell the two apart (twins), or
+inputs lead from one to the other, some of them backwards (kin).
 
 Example:
 
@@ -205,11 +206,27 @@ Statuses: 0, 1 nomemory, 3 readfault, 4 writefault, 5 toolong, 6 badtext.
     ),
     (
         "verilog",
-        b"It writes the netlist as a module of Verilog.
+        b"It writes the netlist as a module of Verilog; with a library as a module for
+each cell that is used, and one with an instance of a cell for each gate. Each
+pin reads a signal as it is: `map` with plain behind it makes such netlists.
 
 Example:
 
   sisyn verilog examples/vme-read.net > vme-read.v
+
+Statuses: 0, 1 nomemory, 3 readfault, 4 writefault, 5 toolong, 6 badtext, 15 of
+a gate that is no instance of a cell, or has a complemented pin, and of a model
+that has the name of a cell.
+",
+    ),
+    (
+        "eqn",
+        b"It writes the netlist as equations, in the form that petrify and SIS read: an
+expression for each signal that isn't an input.
+
+Example:
+
+  sisyn eqn examples/vme-read.net > vme-read.eqn
 
 Statuses: 0, 1 nomemory, 3 readfault, 4 writefault, 5 toolong, 6 badtext.
 ",

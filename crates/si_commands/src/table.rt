@@ -44,6 +44,7 @@ const COMMANDS: &[&str] = &[
     "insert",
     "genlib",
     "verilog",
+    "eqn",
     "loops",
     "reset",
     "replay",
@@ -183,6 +184,29 @@ const ROWS: &[Row] = &[
         places: &[Word("verilog"), LoneFile("NETLIST")],
         tail: Nothing,
         says: "a netlist as a module of Verilog",
+    },
+    Row {
+        task: Task::Structure(LibraryKind::Cells),
+        places: &[Word("verilog"), File("NETLIST"), LibraryFile("LIB")],
+        tail: Nothing,
+        says: "the same of instances of cells",
+    },
+    Row {
+        task: Task::Structure(LibraryKind::Gates),
+        places: &[
+            Word("verilog"),
+            File("NETLIST"),
+            Word("genlib"),
+            File("FILE"),
+        ],
+        tail: Nothing,
+        says: "the same of gates of genlib",
+    },
+    Row {
+        task: Task::Equations,
+        places: &[Word("eqn"), LoneFile("NETLIST")],
+        tail: Nothing,
+        says: "a netlist as equations",
     },
     Row {
         task: Task::TellNetlist(NetlistReport::Loops),

@@ -64,6 +64,11 @@ pub enum Task {
     FromGenlib,
     /// A netlist as a module of Verilog.
     Verilog,
+    /// A netlist of the cells of a library that is read so, as modules of Verilog with an instance
+    /// for each gate.
+    Structure(LibraryKind),
+    /// A netlist as equations.
+    Equations,
     /// A report on a netlist.
     TellNetlist(NetlistReport),
     /// What is told of a schedule over a netlist beside a graph.

@@ -6,4 +6,6 @@ pub mod CheckNames
 pub mod SeenGraphLemmas
 pub mod ReadingsExist
 pub mod ReadingLemmas
+pub mod SpelledOutputs
+pub mod LibraryReadings
 pub mod Examples

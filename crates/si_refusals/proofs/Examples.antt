@@ -7,7 +7,7 @@ use Rattle.si_system.specs.declared.verdict.Verdict.TheVariants.{Lost}
 use Rattle.si_refusals.specs.Ending.{Usage, Answered, line_of, status_of}
 use Rattle.si_refusals.specs.Refusal.{FileRefused, TextRefused, TooLong}
 use Rattle.si_refusals.specs.Refusal.{BadText, ListsDiffer, Improper, Unresolved, Differs, Rejected}
-use Rattle.si_refusals.specs.Refusal.{Uncomposed, Interfering, Uncertified, JoinedTooLarge}
+use Rattle.si_refusals.specs.Refusal.{Uncomposed, Interfering, Uncertified, JoinedTooLarge, Complemented}
 use Rattle.si_refusals.specs.declared.breach.NamedBreach.TheVariants.{Inconsistent}
 use Rattle.si_refusals.specs.declared.rejection.NamedRejection.TheVariants.{Delays, Start, Gate}
 use Rattle.si_refusals.specs.declared.uncomposed.NamedCause.TheVariants.{Interferes}
@@ -88,3 +88,11 @@ uncertified_status = refl
 too_large_line : line_of (Answered (TextRefused (JoinedTooLarge (codes "csc0") 300000)))
     ≡ codes "toolarge csc0 " ++ decimal 300000 ++ codes "\n"
 too_large_line = simp append_assoc
+
+complemented_line : line_of (Answered (TextRefused (Complemented (codes "c") (codes "AND2") (codes "b"))))
+    ≡ codes "complemented c AND2 b\n"
+complemented_line = refl
+
+complemented_status : status_of (Answered (TextRefused (Complemented (codes "c") (codes "AND2") (codes "b"))))
+    ≡ status.Unplaced
+complemented_status = refl

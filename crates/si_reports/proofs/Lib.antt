@@ -7,7 +7,6 @@ pub mod ReplayLemmas
 pub mod ReplayEnds
 pub mod MeaningLemmas
 pub mod WaveLaws
-pub mod SpelledOutputs
 pub mod VerilogLemmas
 pub mod NetlistReportLemmas
 pub mod VerilogExamples

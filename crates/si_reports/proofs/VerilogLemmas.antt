@@ -8,7 +8,7 @@ use Rattle.si_reports.specs.Verilog.{IsItsModule, verilog}
 use Rattle.si_verilog.specs.Meaning.{MeansNetlist}
 use Rattle.si_verilog.specs.ModuleText.{verilog_text}
 use Rattle.si_verilog.proofs.ModuleLemmas.{text_means}
-use Rattle.si_reports.proofs.SpelledOutputs.{one_answer, some_answer, output_is_written, written_is_output}
+use Rattle.si_readings.proofs.SpelledOutputs.{one_answer, some_answer, output_is_written, written_is_output}
 
 pub verilog_one : (file text : List ℕ) → AtMostOne (verilog file text)
 verilog_one file text = one_answer file (netlist_fault text) (netlist_of text) verilog_text

@@ -17,7 +17,7 @@ use Rattle.si_stages.specs.Meaning.{mapping}
 use Rattle.si_readings.specs.Readings.{MappingReadings, library_from, mapping_readings}
 use Rattle.si_readings.specs.declared.library_format.LibraryFormat.TheVariants.{Own, Genlib}
 use Rattle.si_readings.proofs.ReadingLemmas.{mapping_readings_are}
-use Rattle.si_reports.proofs.SpelledOutputs.{one_answer, some_answer, output_is_written, written_is_output}
+use Rattle.si_readings.proofs.SpelledOutputs.{one_answer, some_answer, output_is_written, written_is_output}
 
 pub genlib_one : (file text : List ℕ) → AtMostOne (genlib file text)
 genlib_one file text = one_answer file (genlib_fault text) (library_from (Genlib Any) text) library_text

@@ -7,10 +7,7 @@ use Rattle.si_base.specs.Limits.{max_signals}
 use Rattle.si_base.specs.Netlist.{Netlist}
 use Rattle.si_base.specs.NetlistText.{netlist_text}
 use Rattle.si_base.specs.Proper.{HasNoConflict}
-use Rattle.si_cell.specs.Library.{Library, IsLibrary, with_pins}
-use Rattle.si_cell.specs.declared.pins.Pins.{Pins}
-use Rattle.si_cell.proofs.LawLemmas.{text_is_library}
-use Rattle.si_genlib.proofs.LibraryLemmas.{is_library as gates_are_library}
+use Rattle.si_cell.specs.Library.{Library, IsLibrary}
 use Rattle.si_circuit.proofs.CellLemmas.{cells_give, cells_are_netlist}
 use Rattle.si_circuit.proofs.WireLemmas.{cells_are_wired}
 use Rattle.si_circuit.specs.Cells.{AllFit, cell_gate, mapped_netlist}
@@ -39,9 +36,6 @@ use Rattle.si_audit.proofs.OneAudit.{same_history}
 use Rattle.si_readings.specs.Laws.{AtMostOne, HasResult}
 use Rattle.si_stages.specs.Mapping.{EndsInCells, EndsUnfit, IsMapping, TellsStuck}
 use Rattle.si_stages.specs.Mapping.{cells_text, shows_unfit, unfit_refusal}
-use Rattle.si_readings.specs.Readings.{fault_in, library_from}
-use Rattle.si_readings.specs.declared.library_format.LibraryFormat.{LibraryFormat}
-use Rattle.si_readings.specs.declared.library_format.LibraryFormat.TheVariants.{Own, Genlib}
 use Rattle.si_stages.proofs.GivenLineages.{IsGivenLineage, given_lineage}
 use Rattle.si_stages.proofs.ResolutionLemmas.{IsResolution}
 use Rattle.si_stages.proofs.ResolvingLemmas.{fresh_named, none_needed}
@@ -109,16 +103,6 @@ is_mapping library text sg l m output good given is ends output_is =
           no_insertion gate sg m
           (nothing_inserted library l m ends.trace is.resolves ends.goes ends.maps.goes free all);
     }
-
--- whatever literals its pins may have, the cells are those of a library
-still_library : (pins : Pins) (library : Library) → IsLibrary library → IsLibrary (with_pins pins library)
-still_library pins library is = record { name = is.name; cells = is.cells }
-
--- the library that a text without fault spells
-pub is_library : (format : LibraryFormat) (text : List ℕ) (library : Library) → fault_in format text ≡ None
-    → library ≡ library_from format text → IsLibrary library
-is_library (Own pins) text library none is = subst IsLibrary (sym is) (still_library pins _ (text_is_library text none))
-is_library (Genlib pins) text library none is = subst IsLibrary (sym is) (still_library pins _ (gates_are_library text))
 
 -- ---- one result
 one_lineage : (l m n : History) (xs ys : List TraceStep) → ExtendsBy l xs m → ExtendsBy l ys n → xs ≡ ys

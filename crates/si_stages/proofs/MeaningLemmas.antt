@@ -20,7 +20,8 @@ use Rattle.si_stages.specs.Resolving.{resolution}
 use Rattle.si_readings.specs.declared.library_format.LibraryFormat.{LibraryFormat}
 use Rattle.si_readings.proofs.CheckLemmas.{graph_one}
 use Rattle.si_stages.proofs.GivenLineages.{given_lineage}
-use Rattle.si_stages.proofs.MappingLemmas.{cells_text_one, cells_text_some, is_library, is_mapping}
+use Rattle.si_stages.proofs.MappingLemmas.{cells_text_one, cells_text_some, is_mapping}
+use Rattle.si_readings.proofs.LibraryReadings.{is_library}
 use Rattle.si_readings.proofs.ReadingLemmas.{mapping_readings_are, mapping_readings_one, mapping_readings_some}
 use Rattle.si_stages.proofs.ResolutionLemmas.{IsResolution, resolution_is, resolution_of}
 use Rattle.si_stages.proofs.ResolutionLemmas.{resolution_one, resolution_some}

@@ -28,7 +28,7 @@ use Rattle.si_sg.specs.GivenGraph.{IsGivenBy}
 use Rattle.si_stages.proofs.AuditLaws.{reads_back}
 use Rattle.si_stages.proofs.GivenLineages.{IsGivenLineage}
 use Rattle.si_stages.proofs.InsertedTexts.{gates_again, read_again}
-use Rattle.si_stages.proofs.MappingLemmas.{is_library}
+use Rattle.si_readings.proofs.LibraryReadings.{is_library}
 use Rattle.si_stages.specs.Inserted.{insert}
 use Rattle.si_stages.specs.InsertedLaws.{HasFewArcs}
 use Rattle.si_stages.specs.Meaning.{synth}

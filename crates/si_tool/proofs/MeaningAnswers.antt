@@ -36,6 +36,9 @@ use Rattle.si_systems.proofs.ProductLemmas.{product_one, product_some}
 use Rattle.si_works.proofs.WorksLemmas.{works_one, works_some}
 use Rattle.si_reports.proofs.NetlistReportLemmas.{netlist_report_one, netlist_report_some}
 use Rattle.si_reports.proofs.VerilogLemmas.{verilog_one, verilog_some}
+use Rattle.si_exports.proofs.EquationsLemmas.{equations_one, equations_some}
+use Rattle.si_exports.proofs.StructureLemmas.{structure_one, structure_some}
+use Rattle.si_commands.specs.declared.task.Task.TheVariants.{Structure, Equations}
 use Rattle.si_suggestion.proofs.SuggestedTexts.{map_suggested_some, resolve_suggested_some}
 use Rattle.si_suggestion.proofs.SuggestionsExist.{suggest_some}
 use Rattle.si_readings.specs.declared.library_format.LibraryFormat.{LibraryFormat}
@@ -86,6 +89,9 @@ meaning_one (Map kind) (g ∷ l ∷ []) options (a ∷ b ∷ []) one =
     mapped_one (is_suggested options) (format_of kind options) g a l b one
 meaning_one FromGenlib (file ∷ []) choices (text ∷ []) one = genlib_one file text
 meaning_one Verilog (file ∷ []) choices (text ∷ []) one = verilog_one file text
+meaning_one (Structure kind) (n ∷ l ∷ []) options (a ∷ b ∷ []) one =
+    structure_one (format_of kind options) n a l b
+meaning_one Equations (file ∷ []) choices (text ∷ []) one = equations_one file text
 meaning_one (TellNetlist what) (file ∷ []) choices (text ∷ []) one = netlist_report_one what file text
 meaning_one (Replay what) (g ∷ n ∷ s ∷ []) choices (a ∷ b ∷ c ∷ []) one = replay_one what g a n b s c
 meaning_one Audit (g ∷ n ∷ []) choices (a ∷ b ∷ []) one = audit_one g a n b
@@ -112,6 +118,11 @@ meaning_some (Map Gates) (g ∷ l ∷ []) options (a ∷ b ∷ []) fit each =
     mapped_some (is_suggested options) (format_of Gates options) g a l b
 meaning_some FromGenlib (file ∷ []) choices (text ∷ []) fit each = genlib_some file text
 meaning_some Verilog (file ∷ []) choices (text ∷ []) fit each = verilog_some file text
+meaning_some (Structure Cells) (n ∷ l ∷ []) options (a ∷ b ∷ []) fit each =
+    structure_some (format_of Cells options) n a l b
+meaning_some (Structure Gates) (n ∷ l ∷ []) options (a ∷ b ∷ []) fit each =
+    structure_some (format_of Gates options) n a l b
+meaning_some Equations (file ∷ []) choices (text ∷ []) fit each = equations_some file text
 meaning_some (TellNetlist what) (file ∷ []) choices (text ∷ []) fit each = netlist_report_some what file text
 meaning_some (Replay what) (g ∷ n ∷ s ∷ []) choices (a ∷ b ∷ c ∷ []) fit each = replay_some what g a n b s c
 meaning_some Audit (g ∷ n ∷ []) choices (a ∷ b ∷ []) fit each = audit_some g a n b

@@ -8,7 +8,7 @@ use Rattle.si_commands.specs.declared.task.Task.{Task}
 use Rattle.si_commands.specs.declared.task.Task.TheVariants.{About, Tell, Synth, Map, FromGenlib}
 use Rattle.si_commands.specs.declared.task.Task.TheVariants.{Verilog, Replay, Audit, Exercise}
 use Rattle.si_commands.specs.declared.task.Task.TheVariants.{TellNetlist, Resolve, Insert, Same}
-use Rattle.si_commands.specs.declared.task.Task.TheVariants.{Suggest}
+use Rattle.si_commands.specs.declared.task.Task.TheVariants.{Suggest, Structure, Equations}
 use Rattle.si_commands.specs.declared.task.Task.TheVariants as task
 use Rattle.si_commands.specs.declared.task.Together.{Together}
 use Rattle.si_commands.specs.declared.task.Together.TheVariants as kind
@@ -18,6 +18,8 @@ use Rattle.si_refusals.specs.Refusal.{FileRefused, TextRefused}
 use Rattle.si_refusals.specs.Stages.{Stage, gives}
 use Rattle.si_readings.specs.declared.library_format.LibraryFormat.{LibraryFormat}
 use Rattle.si_exercise.specs.Exercise.{exercise}
+use Rattle.si_exports.specs.Equations.{equations}
+use Rattle.si_exports.specs.Structure.{structure}
 use Rattle.si_stages.specs.Genlib.{genlib}
 use Rattle.si_stages.specs.Inserted.{insert, resolve}
 use Rattle.si_reports.specs.Meaning.{report, replay}
@@ -60,6 +62,9 @@ meaning (Map kind) (g ∷ l ∷ []) options (graph ∷ library ∷ []) =
     mapped_by (is_suggested options) (format_of kind options) g graph l library
 meaning FromGenlib (file ∷ []) choices (text ∷ []) = genlib file text
 meaning Verilog (file ∷ []) choices (text ∷ []) = verilog file text
+meaning (Structure kind) (n ∷ l ∷ []) options (netlist ∷ library ∷ []) =
+    structure (format_of kind options) n netlist l library
+meaning Equations (file ∷ []) choices (text ∷ []) = equations file text
 meaning (TellNetlist what) (file ∷ []) choices (text ∷ []) = netlist_report what file text
 meaning (Replay what) (g ∷ n ∷ s ∷ []) choices (graph ∷ netlist ∷ schedule ∷ []) =
     replay what g graph n netlist s schedule

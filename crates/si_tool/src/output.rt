@@ -23,6 +23,8 @@ use si_commands::command::Command;
 use si_commands::form::is_listed;
 use si_commands::task::{LibraryKind, Task, Together};
 use si_exercise::exercise::exercise;
+use si_exports::equations::equations;
+use si_exports::structure::structure;
 use si_io::shelf::{LoadFault, Shelf};
 use si_joins::join::join_texts;
 use si_likeness::same::same;
@@ -96,6 +98,7 @@ fn output_of_texts<'w>(
         Task::Synth(style) => synth(alloc, style, files[0], &texts[0]),
         Task::Suggest(style) => suggest_text(alloc, style, files[0], &texts[0]),
         Task::Verilog => verilog(alloc, files[0], &texts[0]),
+        Task::Equations => equations(alloc, files[0], &texts[0]),
         Task::TellNetlist(what) => netlist_report(alloc, what, files[0], &texts[0]),
         Task::FromGenlib => genlib(alloc, files[0], &texts[0]),
         Task::Map(kind) => {
@@ -103,6 +106,10 @@ fn output_of_texts<'w>(
             mapped(
                 alloc, choices, format, files[0], &texts[0], files[1], &texts[1],
             )
+        }
+        Task::Structure(kind) => {
+            let format = library_format(kind, choices);
+            structure(alloc, format, files[0], &texts[0], files[1], &texts[1])
         }
         Task::Replay(what) => {
             let (graph, netlist, schedule) = (files[0], files[1], files[2]);

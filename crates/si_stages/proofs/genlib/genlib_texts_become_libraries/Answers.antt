@@ -4,7 +4,7 @@ use Rattle.si_genlib.specs.Written.{library_text}
 use Rattle.si_readings.specs.Readings.{library_from}
 use Rattle.si_readings.specs.declared.library_format.LibraryFormat.TheVariants.{Genlib}
 use Rattle.si_stages.proofs.GenlibLemmas.{output_is_library, library_is_output}
-use Rattle.si_reports.proofs.SpelledOutputs.{refusal_is_fault, fault_is_refusal}
+use Rattle.si_readings.proofs.SpelledOutputs.{refusal_is_fault, fault_is_refusal}
 use Rattle.si_stages.proofs.genlib.genlib_texts_become_libraries.Goals as goal
 
 pub returns : goal.returns

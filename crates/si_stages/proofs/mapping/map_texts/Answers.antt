@@ -6,7 +6,7 @@ use Rattle.si_readings.proofs.StageLemmas.{stop_first, stop_next}
 use Rattle.si_readings.specs.Readings.{mapping_readings_now}
 use Rattle.si_refusals.specs.Ending.{MayStop}
 use Rattle.si_refusals.specs.Stages.{Passes}
-use Rattle.si_stages.proofs.MappingLemmas.{is_library}
+use Rattle.si_readings.proofs.LibraryReadings.{is_library}
 use Rattle.si_stages.specs.Meaning.{mapped_text, mapping}
 use Rattle.si_stages.proofs.mapping.map_texts.Goals as goal
 

@@ -2,7 +2,7 @@ use Rattle.std.proofs.Common.{length, arith}
 use Rattle.si_words.specs.Loops.Reads.{words_now}
 use Rattle.si_commands.specs.Command.{form_of}
 use Rattle.si_commands.proofs.ReadsLemmas.{read_one, read_two, read_three}
-use Rattle.si_commands.proofs.CommandTasks.{few_together, no_options, two_files}
+use Rattle.si_commands.proofs.CommandTasks.{few_together, no_options, two_files, two_files_placed}
 use Rattle.si_commands.proofs.FormLemmas.{counted_choices, counted_files}
 use Rattle.si_tool.proofs.output.output_of_texts.Goals as goal
 
@@ -67,6 +67,20 @@ returns-in-Verilog-clause-err c =
     c.index-texts-0-in-Verilog.is c.deref-in-Verilog.ensures.value in
     rw (c.in-Verilog.is, are.0, are.1) c.verilog.ensures.err
 
+pub returns-in-Equations-clause-ok : goal.returns-in-Equations-clause-ok
+returns-in-Equations-clause-ok c =
+    let many = counted_files (form_of c.args.task) c.args.files.now (words_now c.args.choices.now) c.requires.given in
+    let are = read_one c.args.files.now c.args.texts.now _ _ (rw c.in-Equations.is at many) c.requires.texts
+    c.index-texts-0-in-Equations.is c.deref-in-Equations.ensures.value in
+    rw (c.in-Equations.is, are.0, are.1) c.equations.ensures.ok
+
+pub returns-in-Equations-clause-err : goal.returns-in-Equations-clause-err
+returns-in-Equations-clause-err c =
+    let many = counted_files (form_of c.args.task) c.args.files.now (words_now c.args.choices.now) c.requires.given in
+    let are = read_one c.args.files.now c.args.texts.now _ _ (rw c.in-Equations.is at many) c.requires.texts
+    c.index-texts-0-in-Equations.is c.deref-in-Equations.ensures.value in
+    rw (c.in-Equations.is, are.0, are.1) c.equations.ensures.err
+
 pub returns-in-TellNetlist-clause-ok : goal.returns-in-TellNetlist-clause-ok
 returns-in-TellNetlist-clause-ok c =
     let many = counted_files (form_of c.args.task) c.args.files.now (words_now c.args.choices.now) c.requires.given in
@@ -112,6 +126,24 @@ returns-in-Map-clause-err c =
     c.requires.texts c.index-texts-0-in-Map.is c.index-texts-1.is c.deref-in-Map.ensures.value
     c.deref-in-Map-2.ensures.value in
     rw (c.in-Map.is, are.0, are.1) (rw c.library_format-format.ensures at c.mapped.ensures.err)
+
+pub returns-in-Structure-clause-ok : goal.returns-in-Structure-clause-ok
+returns-in-Structure-clause-ok c =
+    let many = counted_files (form_of c.args.task) c.args.files.now (words_now c.args.choices.now) c.requires.given in
+    let counted = rw c.in-Structure.is at many in
+    let are = read_two c.args.files.now c.args.texts.now _ _ _ _ (two_files_placed c.in-Structure.kind _ counted)
+    c.requires.texts c.index-texts-0-in-Structure.is c.index-texts-1-in-Structure.is c.deref-in-Structure.ensures.value
+    c.deref-in-Structure-2.ensures.value in
+    rw (c.in-Structure.is, are.0, are.1) (rw c.library_format-format-in-Structure.ensures at c.structure.ensures.ok)
+
+pub returns-in-Structure-clause-err : goal.returns-in-Structure-clause-err
+returns-in-Structure-clause-err c =
+    let many = counted_files (form_of c.args.task) c.args.files.now (words_now c.args.choices.now) c.requires.given in
+    let counted = rw c.in-Structure.is at many in
+    let are = read_two c.args.files.now c.args.texts.now _ _ _ _ (two_files_placed c.in-Structure.kind _ counted)
+    c.requires.texts c.index-texts-0-in-Structure.is c.index-texts-1-in-Structure.is c.deref-in-Structure.ensures.value
+    c.deref-in-Structure-2.ensures.value in
+    rw (c.in-Structure.is, are.0, are.1) (rw c.library_format-format-in-Structure.ensures at c.structure.ensures.err)
 
 pub returns-in-Replay-clause-ok : goal.returns-in-Replay-clause-ok
 returns-in-Replay-clause-ok c =

@@ -1,0 +1,3 @@
+pub mod EquationsLemmas
+pub mod StructureLemmas
+mod Examples
