@@ -41,17 +41,13 @@ Examples, beside the sources:
   sisyn check examples/vme-read.sg
   sisyn explain examples/pulse-train.sg
   sisyn lint examples/vme-read.sg
-  sisyn dot examples/vme-read.sg | dot -Tsvg > vme-read.svg
   sisyn synth examples/vme-read.sg complex > vme-read.net
   sisyn suggest examples/duplicator.sg complex > duplicator.net
   sisyn map examples/c-element-three.sg genlib examples/everyday.genlib
   sisyn resolve examples/vme-read.sg | sisyn synth /dev/stdin gc
   sisyn verilog examples/vme-read.net > vme-read.v
-  sisyn eqn examples/vme-read.net > vme-read.eqn
   sisyn replay examples/c-element.sg examples/c-element.net <(echo 'a+ b+ c+')
   sisyn audit examples/vme-read.sg examples/vme-read.net
-  sisyn fold examples/vme-read.sg | sisyn same examples/vme-read.sg /dev/stdin
-  sisyn compose examples/stage-first.sg examples/stage-second.sg
 
 The documents stand beside the sources: README.md has a walk through the
 commands, docs/GUIDE.md what to do where a run is refused, docs/FORMATS.md each
