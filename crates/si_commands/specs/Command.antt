@@ -245,7 +245,8 @@ tasks = Tell Summary ∷ Tell States ∷ Tell Regions ∷ Tell Conflicts ∷ Tel
     ∷ Tell Covers ∷ Tell Fold ∷ Tell Dot ∷ Synth Complex ∷ Synth GeneralisedC
     ∷ Suggest Complex ∷ Suggest GeneralisedC ∷ Map Cells
     ∷ Map Gates ∷ Resolve ∷ Insert ∷ FromGenlib
-    ∷ Verilog ∷ Structure Cells ∷ Structure Gates ∷ Equations ∷ TellNetlist Loops ∷ TellNetlist Reset ∷ Replay End ∷ Replay Wave ∷ Audit ∷ Same
+    ∷ Verilog ∷ Structure Cells ∷ Structure Gates ∷ Equations
+    ∷ TellNetlist Loops ∷ TellNetlist Reset ∷ Replay End ∷ Replay Wave ∷ Audit ∷ Same
     ∷ task.Together together.Product ∷ task.Together together.Compose
     ∷ task.Together together.Join ∷ task.Together together.Works ∷ Exercise ∷ About Help
     ∷ About (Page Before) ∷ About (Page Behind) ∷ About Version ∷ []
