@@ -3,17 +3,7 @@
 //! fewest literals is kept.
 #![tactic(auto)]
 
-mod beam;
-mod chain;
-mod greedy;
-mod least;
 pub mod literals;
 pub mod never;
 mod offers;
-mod pairs;
-mod ranked;
-mod sided;
 pub mod suggest;
-mod targets;
-mod trials;
-mod work;

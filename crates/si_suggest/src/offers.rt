@@ -8,7 +8,6 @@ ghost use Rattle.si_insert.specs.Lineage.{AllGiven, given_history};
 ghost use Rattle.si_suggest.specs.Loops.Offers.{AreNamed, IsNamedLineage, IsNoHeavierThan};
 ghost use Rattle.si_suggest.specs.Suggested.{IsOffered};
 
-use crate::chain::{Chain, STEM, accepted_of};
 use crate::literals::literals_of;
 use si_base::ids::NoMemory;
 use si_base::names::Names;
@@ -21,6 +20,7 @@ use si_insert::fresh::fresh_name;
 use si_insert::lineage::Lineage;
 use si_insert::partition::Class;
 use si_insert::resolved::Resolved;
+use si_search::chain::{Chain, STEM, accepted_of};
 use std::alloc::Global;
 
 /// The lightest of a circuit and of those of the chains, the earlier one among equals.

@@ -12,13 +12,14 @@ use si_insert::partition::{Class, Partition};
 use std::alloc::Global;
 
 /// With what the names of signals that resolve conflicts begin.
-pub(crate) const STEM: &[u8] = b"csc";
+pub const STEM: &[u8] = b"csc";
 
 /// The classes by which signals are inserted, each for the graph that the ones before it make.
 /// Nothing is known of them.
 #[derive(Drop)]
-pub(crate) struct Chain {
-    pub(crate) steps: Vec<Vec<Class>>,
+pub struct Chain {
+    /// The classes of each insertion.
+    pub steps: Vec<Vec<Class>>,
 }
 
 impl Chain {
@@ -41,7 +42,7 @@ impl Chain {
 }
 
 /// The accepted partition of these classes, if they are one.
-pub(crate) fn accepted_of(graph: &Proper, classes: Vec<Class>) -> Option<Accepted>
+pub fn accepted_of(graph: &Proper, classes: Vec<Class>) -> Option<Accepted>
     ensures { IfSome result (IsAccepted graph.now.graph) }
 {
     if classes.len() != graph.coded().graph().states() as usize {

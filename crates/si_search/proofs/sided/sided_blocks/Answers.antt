@@ -1,6 +1,6 @@
 use Rattle.std.proofs.Common.{All, subst, sym}
 use Rattle.si_resolve.proofs.BlockSizes.{HasSize, block_sizes}
-use Rattle.si_suggest.proofs.sided.sided_blocks.Goals as goal
+use Rattle.si_search.proofs.sided.sided_blocks.Goals as goal
 
 pub which_may_switch-requires : goal.which_may_switch-requires
 which_may_switch-requires c =

@@ -46,12 +46,12 @@ pub(crate) fn has(set: &StateSet, s: StateId) -> bool {
 }
 
 /// Whether the new signal is to have the value at states of the class.
-fn wants(class: Class, value: bool) -> bool {
+pub(crate) fn is_wanted(class: Class, value: bool) -> bool {
     matches!(class, Class::Rising | Class::High) == value
 }
 
 /// The states at which the new signal is to have the value.
-pub(crate) fn wanted(
+fn wanted(
     alloc: Global,
     states: u32,
     classes: &[Class],
@@ -62,7 +62,7 @@ pub(crate) fn wanted(
         let Some(class) = classes.get(k as usize) else {
             return Ok(set);
         };
-        if wants(*class, value) {
+        if is_wanted(*class, value) {
             put(&mut set, StateId(k));
         }
     }
@@ -144,7 +144,7 @@ fn put_past(graph: &Graph, set: &mut StateSet, arc: &Edge, beside: &Edge) -> boo
 }
 
 /// Adds a state, and tells whether it is new.
-pub(crate) fn put(set: &mut StateSet, s: StateId) -> bool {
+fn put(set: &mut StateSet, s: StateId) -> bool {
     if set.size() <= s.0 || set.has(s) {
         return false;
     }

@@ -3,6 +3,7 @@
 use crate::chain::{Chain, grown};
 use crate::pairs::best_pairs;
 use crate::ranked::{Candidate, Ranked};
+use crate::search::Found;
 use crate::targets::best_targets;
 use crate::work::Work;
 use si_base::ids::{NoMemory, StateId};
@@ -45,23 +46,6 @@ struct Beam {
     work: Work,
     fewest: u64,
     idle: u32,
-}
-
-/// The chains that a search found, and how many candidates it tried.
-#[derive(Drop)]
-pub(crate) struct Found {
-    pub(crate) chains: Vec<Chain>,
-    pub(crate) tried: u64,
-}
-
-impl Found {
-    /// No chain, and nothing tried.
-    pub(crate) fn nothing(alloc: Global) -> Found {
-        Found {
-            chains: Vec::new(alloc),
-            tried: 0,
-        }
-    }
 }
 
 /// Insertions that leave no conflict in the graph, each chain as short as the shortest that was
