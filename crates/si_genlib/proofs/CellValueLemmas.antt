@@ -184,6 +184,7 @@ body_depends line name out u = by_result (read trees start (tokens u)) refl
           record {
             line = line;
             name = name;
+            out = out;
             pins = pins_from out no_pins (tokens u);
             tree = x.0;
           },

@@ -20,8 +20,12 @@ use Rattle.si_cell.proofs.CellLemmas.{more_cells}
 use Rattle.si_tokens.specs.declared.fault.Stop.{Stop}
 use Rattle.si_tokens.specs.declared.fault.Stop.TheVariants.{Fault}
 use Rattle.si_genlib.specs.Gate.{Gate, pin_count, width, gate_value, falls, sum_of, pin_names, cell_of, with_gate}
+use Rattle.si_genlib.specs.Gate.{ports_of, with_ports}
+use Rattle.si_genlib.specs.Ports.{Ports, ArePortsOf, ArePorts}
 use Rattle.si_genlib.proofs.DemandLemmas.{sum_well_formed, plain_own}
 use Rattle.si_genlib.proofs.CellNameLemmas.{cell_name_is_name, cell_name_is_free}
+use Rattle.si_genlib.proofs.PortLemmas.{more_ports}
+use Rattle.si_genlib.proofs.PortNameLemmas.{AreNamed}
 
 -- ---- the names of the pins
 is_pin_name : (name : List ℕ) → IsTrue (is_signal_name name) → bytes_eq name own ≡ false → IsPinName name
@@ -115,6 +119,7 @@ at_most_one n false = omega arith
 pub record IsReadGate (g : Gate) : Type 0 where
   pub named : 0 < length g.name
   pub few : pin_count g ≤ 4
+  pub ports : AreNamed (ports_of g)
 
 is_cell : (names : List (List ℕ)) (g : Gate) → IsReadGate g → falls (pin_count g) (gate_value g) ≡ false
     → IsCell (cell_of names g)
@@ -131,25 +136,51 @@ is_cell names g is rises =
       own_plain = rw count (own_plain_at (pin_count g) (gate_value g) g.pins.own rises);
     }
 
+-- the gate's names are those of the cell's ports
+ports_are_of : (names : List (List ℕ)) (g : Gate) → IsReadGate g → ArePortsOf (cell_of names g) (ports_of g)
+unfolding cell_of
+ports_are_of names g is = record {
+  count = sym (pins_length (pin_count g) is.few);
+  names = is.ports.names;
+  distinct = is.ports.distinct;
+}
+
 -- ---- one more gate
 -- what holds of what is read, if it is read
 abbrev pub Holds : {A : Type 0} → (A → Type 0) → Result A Stop → Type 0
 Holds P (Ok x) = P x
 Holds P (Err stop) = Unit {0}
 
-by_tests : (cells : List Cell) (g : Gate) (more falling full : Bool) → AreCells cells → IsReadGate g
-    → falls (pin_count g) (gate_value g) ≡ falling → nat_le max_cells (length cells) ≡ full
-    → Holds AreCells (if more then Ok cells else if falling then Err (Fault g.line OwnFalling)
-    else if full then Err (Fault g.line TooManyCells) else Ok (cells ++ cell_of (names_of cells) g ∷ []))
+still_cells : (cells : List Cell) (g : Gate) → AreCells cells → IsReadGate g
+    → falls (pin_count g) (gate_value g) ≡ false → nat_le max_cells (length cells) ≡ false
+    → AreCells (cells ++ cell_of (names_of cells) g ∷ [])
 unfolding cell_of
-by_tests cells g true falling full are is rises room = are
-by_tests cells g false true full are is rises room = tt
-by_tests cells g false false true are is rises room = tt
-by_tests cells g false false false are is rises room = more_cells cells (cell_of (names_of cells) g) are
+still_cells cells g are is rises room = more_cells cells (cell_of (names_of cells) g) are
     (is_cell (names_of cells) g is rises) (cell_name_is_free (names_of cells) g.name)
     (leb-false max_cells (length cells) room)
 
-pub still_cells : (cells : List Cell) (g : Gate) → AreCells cells → IsReadGate g → Holds AreCells (with_gate cells g)
+-- what holds of the cells, and of the names of their ports
+pub record AreKept (kept : List Cell) (named : List Ports) : Type 0 where
+  pub cells : AreCells kept
+  pub ports : ArePorts kept named
+
+by_tests : (cells : List Cell) (ports : List Ports) (g : Gate) (more falling full : Bool) → AreKept cells ports
+    → IsReadGate g
+    → falls (pin_count g) (gate_value g) ≡ falling → nat_le max_cells (length cells) ≡ full
+    → Holds (λ new. AreKept new (if more then ports else ports ++ ports_of g ∷ []))
+    (if more then Ok cells else if falling then Err (Fault g.line OwnFalling)
+    else if full then Err (Fault g.line TooManyCells) else Ok (cells ++ cell_of (names_of cells) g ∷ []))
+by_tests cells ports g true falling full are is rises room = are
+by_tests cells ports g false true full are is rises room = tt
+by_tests cells ports g false false true are is rises room = tt
+by_tests cells ports g false false false are is rises room =
+    let cell : Cell = cell_of (names_of cells) g in record {
+      cells = still_cells cells g are.cells is rises room;
+      ports = more_ports cells ports cell (ports_of g) are.ports (ports_are_of (names_of cells) g is);
+    }
+
+pub still_kept : (cells : List Cell) (ports : List Ports) (g : Gate) → AreKept cells ports → IsReadGate g
+    → Holds (λ new. AreKept new (with_ports ports g)) (with_gate cells g)
 unfolding with_gate
-still_cells cells g are is =
-    by_tests cells g g.pins.more (falls (pin_count g) (gate_value g)) (nat_le max_cells (length cells)) are is refl refl
+still_kept cells ports g are is = by_tests cells ports g g.pins.more (falls (pin_count g) (gate_value g))
+    (nat_le max_cells (length cells)) are is refl refl

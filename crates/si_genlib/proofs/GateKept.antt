@@ -8,7 +8,8 @@ use Rattle.si_cell.specs.LibraryText.{names_of}
 use Rattle.si_base.specs.declared.fault.TextKind.TheVariants.{OwnFalling, TooManyCells}
 use Rattle.si_tokens.specs.declared.fault.Stop.TheVariants.{Fault}
 use Rattle.si_genlib.specs.Gate.{Gate, bits_of, pin_count, width, gate_value, falls, sum_of, cell_name, pin_names}
-use Rattle.si_genlib.specs.Gate.{cell_of, with_gate}
+use Rattle.si_genlib.specs.Gate.{cell_of, with_gate, ports_of, with_ports}
+use Rattle.si_genlib.specs.Ports.{Ports}
 use Rattle.si_genlib.specs.Loops.Tables.{TabledGate, tabled, table_value}
 use Rattle.si_genlib.proofs.ValueLemmas.{value_is, filter_same, falls_same}
 
@@ -136,3 +137,19 @@ kept cells items cell g t n e more count few so room cell_is items_are =
         (Err (Fault g.line OwnFalling)) (Err (Fault g.line TooManyCells))
         (Ok (cells ++ cell_of (names_of cells) g ∷ [])) m there room
         ∙ ap (λ (xs : List Cell). Ok xs) (sym all)
+
+-- ---- ports
+pub ports_passed : (ports : List Ports) (g : Gate) (t : TabledGate) → tabled g ≡ t → t.pins.more ≡ true
+    → ports ≡ with_ports ports g
+ports_passed ports g t e more =
+    let m : g.pins.more ≡ true = subst (λ (u : TabledGate). u.pins.more ≡ true) (sym e) more in rw m refl
+
+pub ports_kept : (ports items : List Ports) (last : Ports) (g : Gate) (t : TabledGate) → tabled g ≡ t → t.pins.more
+    ≡ false
+    → last ≡ record { pins = t.pins.names; output = t.out } → items ≡ ports ++ last ∷ [] → items ≡ with_ports ports g
+ports_kept ports items last g t e more last_is items_are =
+    subst (λ (u : TabledGate). u.pins.more ≡ false → last ≡ record { pins = u.pins.names; output = u.out }
+    → items ≡ with_ports ports g) e at_gate more last_is
+  where
+    at_gate : g.pins.more ≡ false → last ≡ ports_of g → items ≡ with_ports ports g
+    at_gate m is = rw m (items_are ∙ ap (λ (x : Ports). ports ++ x ∷ []) is)

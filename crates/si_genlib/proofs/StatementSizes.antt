@@ -14,11 +14,12 @@ use Rattle.si_tokens.specs.Unread.{word_len, word_here, word, if_there, word_at,
 use Rattle.si_tokens.specs.Decimal.{is_decimal}
 use Rattle.si_genlib.specs.Expression.{Tree, trees, State, Outcome, Goes, Ends, Stops, start, read, led, step, symbol}
 use Rattle.si_genlib.specs.Expression.{is_name}
-use Rattle.si_genlib.specs.Gate.{Gate, with_gate}
+use Rattle.si_genlib.specs.Gate.{Gate, with_gate, with_ports}
+use Rattle.si_genlib.specs.Ports.{Ports}
 use Rattle.si_genlib.specs.Statements.{if_passes, quoted_len, quoted, name_here, name_at, decimal_at, out_at, equals_at}
 use Rattle.si_genlib.specs.Statements.{body_at, gate_at, is_phase, phase_at, decimals_at, pin_at, Progress}
-use Rattle.si_genlib.specs.Statements.{gate_statement_at, pin_statement_at, statement_at, cells_from}
-use Rattle.si_genlib.specs.GenlibText.{all_cells}
+use Rattle.si_genlib.specs.Statements.{gate_statement_at, pin_statement_at, statement_at, kept_from}
+use Rattle.si_genlib.specs.GenlibText.{all_kept}
 use Rattle.si_tokens.proofs.SourceLemmas.{AllSmaller, all_smaller}
 
 -- no more is left behind what is read
@@ -185,10 +186,11 @@ pin_shrinks u = then_shrinks (λ (q : Piece). q.rest) (λ (v : Unread). v) (word
     (λ rest. decimals_shrink 6 rest))
 
 -- ---- statements
-cells_shrink : (r : Result (List Cell) Stop) (u : Unread) → Shrinks (λ (x : Progress × Unread). x.1)
-    (r >>= λ cells. Ok (record { cells = cells; begun = true }, u)) u
-cells_shrink (Ok cells) u = omega arith
-cells_shrink (Err stop) u = tt
+cells_shrink : (ports : List Ports) (r : Result (List Cell) Stop) (u : Unread)
+    → Shrinks (λ (x : Progress × Unread). x.1)
+    (r >>= λ cells. Ok (record { cells = cells; ports = ports; begun = true }, u)) u
+cells_shrink ports (Ok cells) u = omega arith
+cells_shrink ports (Err stop) u = tt
 
 pub statement_shrinks : (old : Progress) (p : Piece) → Shrinks (λ (x : Progress × Unread). x.1)
     (statement_at old p) p.rest
@@ -196,7 +198,7 @@ unfolding statement_at gate_statement_at pin_statement_at
 statement_shrinks old p = elim (cases_Bool (bytes_eq (codes "GATE") p.bytes)) [
   | inl gate ↦ rw gate (then_shrinks (λ (x : Gate × Unread). x.1) (λ (x : Progress × Unread). x.1)
       (gate_at p.line p.rest) _ p.rest
-      (gate_shrinks p.line p.rest) (λ g. cells_shrink (with_gate old.cells g.0) g.1))
+      (gate_shrinks p.line p.rest) (λ g. cells_shrink (with_ports old.ports g.0) (with_gate old.cells g.0) g.1))
   | inr other ↦ elim (cases_Bool (bytes_eq (codes "PIN") p.bytes && old.begun)) [
     | inl pin ↦ rw (other, pin) (then_shrinks (λ (v : Unread). v) (λ (x : Progress × Unread). x.1)
         (pin_at p.rest) _ p.rest
@@ -206,7 +208,7 @@ statement_shrinks old p = elim (cases_Bool (bytes_eq (codes "GATE") p.bytes)) [
 ]
 
 -- more statements than there are bytes left change nothing
-enough : (n m : ℕ) (old : Progress) (u : Unread) → size u < n → size u < m → cells_from n old u ≡ cells_from m old u
+enough : (n m : ℕ) (old : Progress) (u : Unread) → size u < n → size u < m → kept_from n old u ≡ kept_from m old u
 enough zero m old u one other = absurd (omega arith)
 enough (suc n) zero old u one other = absurd (omega arith)
 enough (suc n) (suc m) old u one other = elim (cases_Bool (is_empty (word u).bytes)) [
@@ -216,21 +218,21 @@ enough (suc n) (suc m) old u one other = elim (cases_Bool (is_empty (word u).byt
       (statement_at old (word u)) (statement_shrinks old (word u)))
 ]
   where
-    by_result : ((new : Progress) (rest : Unread) → size rest ≤ size (word u).rest → cells_from n new rest
-        ≡ cells_from m new rest)
+    by_result : ((new : Progress) (rest : Unread) → size rest ≤ size (word u).rest → kept_from n new rest
+        ≡ kept_from m new rest)
         → (r : Result (Progress × Unread) Stop) → Shrinks (λ (x : Progress × Unread). x.1) r (word u).rest
-        → (r >>= λ new. cells_from n new.0 new.1) ≡ (r >>= λ new. cells_from m new.0 new.1)
+        → (r >>= λ new. kept_from n new.0 new.1) ≡ (r >>= λ new. kept_from m new.0 new.1)
     by_result later (Ok x) less = later x.0 x.1 less
     by_result later (Err stop) less = refl
 
 -- ---- one statement after another
-pub no_statement : (old : Progress) (u : Unread) → is_empty (word u).bytes ≡ true → all_cells old u ≡ Ok old.cells
-unfolding all_cells
+pub no_statement : (old : Progress) (u : Unread) → is_empty (word u).bytes ≡ true → all_kept old u ≡ Ok old
+unfolding all_kept
 no_statement old u none = rw none refl
 
 pub one_statement : (old new : Progress) (u rest : Unread) → is_empty (word u).bytes ≡ false
-    → statement_at old (word u) ≡ Ok (new, rest) → (all_cells old u ≡ all_cells new rest) × (size rest < size u)
-unfolding all_cells
+    → statement_at old (word u) ≡ Ok (new, rest) → (all_kept old u ≡ all_kept new rest) × (size rest < size u)
+unfolding all_kept
 one_statement old new u rest some is =
     let less = word_takes u some in
     let shrinks = statement_shrinks old (word u) in
@@ -240,6 +242,6 @@ one_statement old new u rest some is =
     )
 
 pub bad_statement : (old : Progress) (u : Unread) (stop : Stop) → is_empty (word u).bytes ≡ false
-    → statement_at old (word u) ≡ Err stop → all_cells old u ≡ Err stop
-unfolding all_cells
+    → statement_at old (word u) ≡ Err stop → all_kept old u ≡ Err stop
+unfolding all_kept
 bad_statement old u stop some is = rw (some, is) refl

@@ -18,6 +18,7 @@ use Rattle.si_tokens.specs.declared.fault.Stop.{Stop}
 use Rattle.si_tokens.specs.declared.fault.Stop.TheVariants.{Fault}
 use Rattle.si_tokens.specs.Unread.{Piece}
 use Rattle.si_genlib.specs.Expression.{Tree, truth, value_of, is_name, is_constant}
+use Rattle.si_genlib.specs.Ports.{Ports}
 
 -- ---- pins
 
@@ -60,10 +61,12 @@ pins_from out pins (token ∷ more) =
 
 -- ---- gates
 
--- a gate: the line where it begins, its name, its pins, and the tree of its expression
+-- a gate: the line where it begins, its name, that of its own output, its pins, and the tree of its
+-- expression
 pub record Gate : Type 0 where
   pub line : ℕ
   pub name : List ℕ
+  pub out : List ℕ
   pub pins : Pins
   pub tree : Tree
 
@@ -157,3 +160,13 @@ with_gate cells gate =
     else if falls (pin_count gate) (gate_value gate) then Err (Fault gate.line OwnFalling)
     else if nat_le max_cells (length cells) then Err (Fault gate.line TooManyCells)
     else Ok (cells ++ cell_of (names_of cells) gate ∷ [])
+
+-- ---- ports
+
+-- the names that the gate gives to the ports of its cell: each pin stands for the name at its place
+abbrev pub ports_of : Gate → Ports
+ports_of gate = record { pins = gate.pins.names; output = gate.out }
+
+-- the ports of the cells, with those of the gate, if it isn't passed over
+abbrev pub with_ports : List Ports → Gate → List Ports
+with_ports ports gate = if gate.pins.more then ports else ports ++ ports_of gate ∷ []

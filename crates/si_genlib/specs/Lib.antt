@@ -1,4 +1,5 @@
 pub mod Limits
+pub mod Ports
 pub mod Expression
 pub mod Gate
 pub mod Statements

@@ -16,7 +16,8 @@ use Rattle.si_tokens.specs.Unread.{◌>>=◌, Unread, Piece, to_next, word_here,
 use Rattle.si_tokens.specs.Unread.{word_at, token_at, tokens}
 use Rattle.si_tokens.specs.Decimal.{is_decimal}
 use Rattle.si_genlib.specs.Expression.{trees, start, read, is_name}
-use Rattle.si_genlib.specs.Gate.{Gate, no_pins, pins_from, with_gate}
+use Rattle.si_genlib.specs.Gate.{Gate, no_pins, pins_from, with_gate, with_ports}
+use Rattle.si_genlib.specs.Ports.{Ports}
 
 -- what is behind the piece, if it passes
 abbrev pub if_passes : Bool → TextKind → Piece → Result Unread Stop
@@ -80,6 +81,7 @@ body_at line name out u = do
     record {
       line = line;
       name = name;
+      out = out;
       pins = pins_from out no_pins (tokens u);
       tree = expression.0;
     },
@@ -120,13 +122,14 @@ pin_at u = do
 
 -- ---- statements
 
--- the cells so far, and whether a gate stands before
+-- the cells so far, the names of their ports, and whether a gate stands before
 pub record Progress : Type 0 where
   pub cells : List Cell
+  pub ports : List Ports
   pub begun : Bool
 
 abbrev pub nothing_yet : Progress
-nothing_yet = record { cells = []; begun = false }
+nothing_yet = record { cells = []; ports = []; begun = false }
 
 abbrev pub word_kind : List ℕ → TextKind
 word_kind bytes = if bytes_eq (codes "LATCH") bytes then Latch else BadWord
@@ -136,7 +139,7 @@ unfoldable pub gate_statement_at : Progress → ℕ → Unread → Result (Progr
 gate_statement_at old line u = do
   gate ← gate_at line u
   cells ← with_gate old.cells gate.0
-  Ok (record { cells = cells; begun = true }, gate.1)
+  Ok (record { cells = cells; ports = with_ports old.ports gate.0; begun = true }, gate.1)
 
 -- behind the word `PIN`
 unfoldable pub pin_statement_at : Progress → Unread → Result (Progress × Unread) Stop
@@ -151,9 +154,9 @@ statement_at old first =
     else if bytes_eq (codes "PIN") first.bytes && old.begun then pin_statement_at old first.rest
     else Err (Fault first.line (word_kind first.bytes))
 
--- the cells of the statements of what is left, of which there are fewer than `most`
-abbrev pub cells_from : ℕ → Progress → Unread → Result (List Cell) Stop
-cells_from zero old u = Err Cut
-cells_from (suc most) old u =
-    if is_empty (word u).bytes then Ok old.cells
-    else statement_at old (word u) >>= λ new. cells_from most new.0 new.1
+-- what is kept of the statements of what is left, of which there are fewer than `most`
+abbrev pub kept_from : ℕ → Progress → Unread → Result Progress Stop
+kept_from zero old u = Err Cut
+kept_from (suc most) old u =
+    if is_empty (word u).bytes then Ok old
+    else statement_at old (word u) >>= λ new. kept_from most new.0 new.1

@@ -6,7 +6,8 @@ ghost use Rattle.si_cell.specs.Library.{IsLibrary};
 ghost use Rattle.si_cube.specs.Covers.{IsPrimeCover};
 ghost use Rattle.si_genlib.specs.Gate.{Gate as GateValue, gate_value, pin_count, width};
 ghost use Rattle.si_genlib.specs.Gate.{demand, cell_of};
-ghost use Rattle.si_genlib.specs.GenlibText.{library_of};
+ghost use Rattle.si_genlib.specs.GenlibText.{library_of, ported_of};
+ghost use Rattle.si_genlib.specs.Ports.{ArePorts};
 ghost use Rattle.si_genlib.specs.Statements.{gate_at};
 ghost use Rattle.si_tokens.specs.Unread.{Unread};
 
@@ -28,4 +29,10 @@ pub fn sums_of_cells_are_prime_covers()
 /// What a text spells is a library.
 pub fn genlib_texts_spell_libraries()
     ensures { (text : List ℕ) → IsLibrary (library_of text) }
+{}
+
+/// That library is the one with names of ports, and these name the ports of its cells.
+pub fn genlib_texts_name_ports()
+    ensures library { (text : List ℕ) → (ported_of text).library ≡ library_of text }
+    ensures ports { (text : List ℕ) → ArePorts (library_of text).cells (ported_of text).ports }
 {}

@@ -68,6 +68,8 @@ pub(crate) struct Gate<'a> {
     /// The line where its statement begins.
     pub(crate) line: u64,
     pub(crate) name: &'a [u8],
+    /// The name of its own output.
+    pub(crate) out: &'a [u8],
     pub(crate) pins: PinList<'a>,
     pub(crate) table: u32,
 }
@@ -182,7 +184,7 @@ fn read_body<'a>(
     source: &mut Source<'a>,
     line: u64,
     name: &'a [u8],
-    out: &[u8],
+    out: &'a [u8],
 ) -> Result<Gate<'a>, ReadFault>
     ensures gate { Reads (λ g. (gate_now g, left source.new)) result
         (with_table (text.body_at line name.now out.now (left source.old))) }
@@ -192,6 +194,7 @@ fn read_body<'a>(
     Ok(Gate {
         line,
         name,
+        out,
         pins: expression.pins,
         table: expression.table,
     })

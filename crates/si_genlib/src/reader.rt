@@ -6,14 +6,16 @@ ghost use Rattle.si_cell.specs.Library.{AreCells};
 ghost use Rattle.si_words.specs.Ends.{after_last as line_after_last};
 ghost use Rattle.si_tokens.specs.declared.fault.Stop.TheVariants as stops;
 ghost use Rattle.si_genlib.specs.GenlibText as spec;
+ghost use Rattle.si_genlib.specs.Loops.Held.{progress_now};
+ghost use Rattle.si_genlib.specs.Ports.{ArePorts};
 ghost use Rattle.si_base.specs.TextFaults.{Shows as TextShows, Gives};
 ghost use Rattle.si_tokens.specs.Unread as unread;
 
-use crate::statements::read_cells;
+use crate::ports::PortedLibrary;
+use crate::statements::{Progress, read_statements};
 use si_base::fault::{TextFault, TextKind};
 use si_base::lines::{Lines, has_bad_byte};
 use si_base::text::Name;
-use si_cell::cell::Cell;
 use si_cell::library::Library;
 use si_tokens::fault::{ReadFault, Stop};
 use si_tokens::source::Source;
@@ -60,25 +62,45 @@ fn stop_fault(text: &[u8], stop: Stop) -> TextFault
     }
 }
 
-/// The cells that the kept gates of the text become, in their order.
-#[tactic(auto, unfolding(crate::specs::GenlibText::genlib_fault, crate::specs::GenlibText::library_of))]
-fn read_kept(alloc: Global, text: &[u8]) -> Result<Vec<Cell>, TextFault>
-    ensures gives { Gives (λ cells. cells.items) result (spec.genlib_fault text.now)
-        (spec.library_of text.now).cells }
-    ensures cells { IfOk result (λ cells. AreCells cells.items) }
+/// What is kept of the gates of the text: the cells that they become, in their order, and the names
+/// of the cells' ports.
+#[tactic(auto, unfolding(crate::specs::GenlibText::genlib_fault))]
+fn read_kept(alloc: Global, text: &[u8]) -> Result<Progress, TextFault>
+    ensures gives { Gives progress_now result (spec.genlib_fault text.now) (spec.kept_of text.now) }
+    ensures cells { IfOk result (λ kept. AreCells kept.cells.items) }
+    ensures ports { IfOk result (λ kept. ArePorts kept.cells.items kept.ports.items) }
 {
     let mut source = Source::new(text);
-    match read_cells(alloc, &mut source) {
-        Ok(cells) => match bad_line(text) {
+    match read_statements(alloc, &mut source) {
+        Ok(kept) => match bad_line(text) {
             Some(line) => Err(TextFault::At {
                 line,
                 kind: TextKind::BadByte,
             }),
-            None => Ok(cells),
+            None => Ok(kept),
         },
         Err(ReadFault::NoMemory) => Err(TextFault::NoMemory),
         Err(ReadFault::Stop(stop)) => Err(stop_fault(text, stop)),
     }
+}
+
+/// The library that the text spells, as [`read_genlib`] reads it, with the names that the text
+/// gives to the ports of its cells: to the output the name before `=`, and to the pins those in the
+/// expression, in order of first appearance.
+///
+/// # Errors
+///
+/// `At` the line of the first fault, exactly where the text has one; the faults are those of
+/// [`read_genlib`]. `NoMemory` only where memory runs out.
+#[tactic(auto, unfolding(crate::specs::GenlibText::library_of, crate::specs::GenlibText::ported_of))]
+pub fn read_ported(alloc: Global, text: &[u8]) -> Result<PortedLibrary, TextFault>
+    ensures { Gives (λ ported. ported) result (spec.genlib_fault text.now)
+        (spec.ported_of text.now) }
+{
+    let Progress { cells, ports, .. } = read_kept(alloc, text)?;
+    let name = Name::copy_of(alloc, b"genlib")?;
+    let library = Library::make(name, cells);
+    Ok(PortedLibrary::make(library, ports))
 }
 
 /// The library that the text spells: a cell for each gate that is kept, in their order.
@@ -102,12 +124,11 @@ fn read_kept(alloc: Global, text: &[u8]) -> Result<Vec<Cell>, TextFault>
 /// `OwnFalling`, and one that is kept beyond [`MAX_CELLS`](si_cell::limits::MAX_CELLS) is
 /// `TooManyCells`. A text that ends within a statement is `NoEnd` at the line after the last.
 /// `NoMemory` only where memory runs out.
-#[tactic(auto, unfolding(crate::specs::GenlibText::library_of))]
+#[tactic(auto, unfolding(crate::specs::GenlibText::ported_of))]
 pub fn read_genlib(alloc: Global, text: &[u8]) -> Result<Library, TextFault>
     ensures { Gives (λ library. library) result (spec.genlib_fault text.now)
         (spec.library_of text.now) }
 {
-    let cells = read_kept(alloc, text)?;
-    let name = Name::copy_of(alloc, b"genlib")?;
-    Ok(Library::make(name, cells))
+    let ported = read_ported(alloc, text)?;
+    Ok(ported.into_library())
 }

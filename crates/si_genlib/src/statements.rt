@@ -1,23 +1,26 @@
 //! Statements of a genlib text.
 
 ghost use Rattle.std.specs.Prelude.{◌≡◌};
-ghost use Rattle.si_genlib.specs.GenlibText.{all_cells};
+ghost use Rattle.si_genlib.specs.GenlibText.{all_kept};
 ghost use Rattle.si_tokens.specs.Loops.Parts.{left, piece, Reads};
 ghost use Rattle.si_genlib.specs.Loops.Held.{progress_now};
 ghost use Rattle.si_genlib.specs.Statements as text;
 
 use crate::cell::keep;
 use crate::gate::{read_decimal, read_gate};
+use crate::gate_ports::keep_ports;
+use crate::ports::Ports;
 use si_base::fault::TextKind;
 use si_cell::cell::Cell;
 use si_tokens::fault::{ReadFault, Stop};
 use si_tokens::source::{Part, Source};
 use std::alloc::Global;
 
-/// The cells so far, and whether a gate stands before.
+/// The cells so far, the names of their ports, and whether a gate stands before.
 #[derive(Drop)]
 pub(crate) struct Progress {
     pub(crate) cells: Vec<Cell>,
+    pub(crate) ports: Vec<Ports>,
     pub(crate) begun: bool,
 }
 
@@ -72,6 +75,7 @@ fn read_gate_statement(
 {
     let gate = read_gate(alloc, source, line)?;
     keep(alloc, &mut progress.cells, &gate)?;
+    keep_ports(alloc, &mut progress.ports, &gate)?;
     progress.begun = true;
     Ok(())
 }
@@ -119,18 +123,18 @@ fn read_statement(
     }))
 }
 
-/// The cells of all statements that are left.
+/// What is kept of all statements that are left.
 #[tactic(auto, using(crate::proofs::StatementSizes::no_statement))]
-pub(crate) fn read_cells(alloc: Global, source: &mut Source<'_>) -> Result<Vec<Cell>, ReadFault>
-    ensures { Reads (λ cells. cells.items) result
-        (all_cells text.nothing_yet (left source.old)) }
+pub(crate) fn read_statements(alloc: Global, source: &mut Source<'_>) -> Result<Progress, ReadFault>
+    ensures { Reads progress_now result (all_kept text.nothing_yet (left source.old)) }
 {
     let mut progress = Progress {
         cells: Vec::new(alloc),
+        ports: Vec::new(alloc),
         begun: false,
     };
     while let Some(first) = source.next_word() {
         read_statement(alloc, source, &mut progress, first)?;
     }
-    Ok(progress.cells)
+    Ok(progress)
 }

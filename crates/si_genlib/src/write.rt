@@ -17,7 +17,7 @@ use si_words::writing::{add_line, add_word};
 use std::alloc::Global;
 
 /// The name that stands for a cell's own output.
-const OWN: &[u8] = b"q";
+pub(crate) const OWN: &[u8] = b"q";
 
 /// The text of a library: its name, a line for each cell in order, and `.end`. Literals stand in
 /// the order of the pins, with `q` last. It fails only where memory runs out.

@@ -30,10 +30,16 @@ abbrev pub pins_now : PinList → Pins
 pins_now p = record { names = words_now p.names.items; more = p.more; own = p.own }
 
 abbrev pub gate_now : GateHeld → TabledGate
-gate_now g = record { line = g.line; name = g.name.now; pins = pins_now g.pins; table = g.table }
+gate_now g = record {
+  line = g.line;
+  name = g.name.now;
+  out = g.out.now;
+  pins = pins_now g.pins;
+  table = g.table;
+}
 
 abbrev pub progress_now : ProgressHeld → Progress
-progress_now p = record { cells = p.cells.items; begun = p.begun }
+progress_now p = record { cells = p.cells.items; ports = p.ports.items; begun = p.begun }
 
 -- ---- answers
 

@@ -38,6 +38,7 @@ tables names = record {
 pub record TabledGate : Type 0 where
   pub line : ℕ
   pub name : List ℕ
+  pub out : List ℕ
   pub pins : Pins
   pub table : ℕ
 
@@ -45,6 +46,7 @@ abbrev pub tabled : Gate → TabledGate
 tabled gate = record {
   line = gate.line;
   name = gate.name;
+  out = gate.out;
   pins = gate.pins;
   table = value_of (tables gate.pins.names) gate.tree;
 }
