@@ -1,21 +1,21 @@
--- A cell as a netlist of one gate can be read, and its module drives the own output with the cell's sum.
+-- A cell as a netlist of one gate can be read, and its module drives the output with the cell's sum.
 use Rattle.std.proofs.Common.{◌≡◌, ◌≢◌, ℕ, zero, suc, ◌+◌, ◌<◌, ◌≤◌, Bool, true, false, List, [], ◌∷◌, ◌++◌, length}
 use Rattle.std.proofs.Common.{map, filter, slice_get, Some, All, AllPairs, bytes_eq, if◌then◌else◌, refl, sym, ap, ◌∙◌}
 use Rattle.std.proofs.Common.{subst, arith, length-append, codes}
 use Rattle.std.specs.List.{AllByRecursion}
-use Rattle.std.proofs.lemmas.Bool.{true≢false, false_from_ne_true}
+use Rattle.std.proofs.lemmas.Bool.{false_from_ne_true}
+use Rattle.std.proofs.lemmas.List.{append-nil}
 use Rattle.std.proofs.lemmas.List.Elements.{recursion_from_All}
 use Rattle.std.proofs.lemmas.Slice.Eq.{bytes_eq-Decides}
 use Rattle.si_base.specs.declared.ids.Literal.{Literal}
 use Rattle.si_base.specs.declared.graph.Signal.{Signal}
-use Rattle.si_base.specs.declared.graph.SigKind.TheVariants.{Output}
 use Rattle.si_base.specs.Bits.{bit}
 use Rattle.si_base.specs.Graph.{is_driven, IsNonInput}
 use Rattle.si_base.specs.Netlist.{Sum, SumGate, gate_place, sum_value, value_if_there}
 use Rattle.si_base.specs.NetlistText.{name_of}
 use Rattle.si_base.specs.WellFormed.{IsCube}
-use Rattle.si_base.specs.Words.{is_signal_name}
-use Rattle.si_cell.specs.Library.{Cell, IsCell, IsPinName, own}
+use Rattle.si_cell.specs.Library.{IsCell}
+use Rattle.si_genlib.specs.Ports.{Ports, IsPortName, ArePortsOf}
 use Rattle.si_verilog.specs.Declared.{port_name}
 use Rattle.si_verilog.specs.Grammar.{Tree, Assign, Module, tree_value}
 use Rattle.si_verilog.specs.Meaning.{IsOfNetlist, named_from, named_value}
@@ -23,64 +23,65 @@ use Rattle.si_verilog.specs.ModuleText.{ports_of}
 use Rattle.si_verilog.proofs.NameLemmas.{IsWritable, signal_is_writable}
 use Rattle.si_verilog.proofs.MeaningLemmas.{AreNamed, AreThere}
 use Rattle.si_verilog.proofs.NetlistLemmas.{Writable, all_append}
-use Rattle.si_structure.specs.StructureText.{input, feedback, reads_own, cell_inputs, cell_signals, cell_netlist}
+use Rattle.si_structure.specs.StructureText.{PortedCell, cell_inputs, cell_netlist, cell_signals, feedback, input}
+use Rattle.si_structure.specs.StructureText.{output, reads_own}
 use Rattle.si_structure.proofs.ModuleLemmas.{IsReadable}
+use Rattle.si_structure.proofs.NameLemmas.{feedback_writable, no_dollar, port_bytes, port_writable}
 
 -- ---- signals that are inputs, and one output behind them
 
-abbrev pub output : Signal
-output = record { name = own; kind = Output }
+abbrev pub with_output : List (List ℕ) → List ℕ → List Signal
+with_output names last = map input names ++ output last ∷ []
 
-abbrev pub with_output : List (List ℕ) → List Signal
-with_output names = map input names ++ output ∷ []
+pub names_back : (names : List (List ℕ)) (last : List ℕ)
+    → map (λ (x : Signal). x.name) (with_output names last) ≡ names ++ last ∷ []
+names_back [] last = refl
+names_back (n ∷ names) last = ap (λ (ns : List (List ℕ)). n ∷ ns) (names_back names last)
 
-pub names_back : (names : List (List ℕ)) → map (λ (x : Signal). x.name) (with_output names) ≡ names ++ own ∷ []
-names_back [] = refl
-names_back (n ∷ names) = ap (λ (ns : List (List ℕ)). n ∷ ns) (names_back names)
+pub driven_is_last : (names : List (List ℕ)) (last : List ℕ)
+    → filter (λ (x : Signal). is_driven x.kind) (with_output names last) ≡ output last ∷ []
+driven_is_last [] last = refl
+driven_is_last (n ∷ names) last = driven_is_last names last
 
-pub driven_is_last : (names : List (List ℕ))
-    → filter (λ (x : Signal). is_driven x.kind) (with_output names) ≡ output ∷ []
-driven_is_last [] = refl
-driven_is_last (n ∷ names) = driven_is_last names
+last_drives : (names : List (List ℕ)) (last : List ℕ) → IsNonInput (with_output names last) (length names)
+last_drives [] last = (output last, refl, refl)
+last_drives (n ∷ names) last = last_drives names last
 
-last_drives : (names : List (List ℕ)) → IsNonInput (with_output names) (length names)
-last_drives [] = (output, refl, refl)
-last_drives (n ∷ names) = last_drives names
+last_place : (names : List (List ℕ)) (last : List ℕ) → gate_place (with_output names last) (length names) ≡ 0
+last_place [] last = refl
+last_place (n ∷ names) last = let later = last_place names last in omega arith
 
-last_place : (names : List (List ℕ)) → gate_place (with_output names) (length names) ≡ 0
-last_place [] = refl
-last_place (n ∷ names) = let later = last_place names in omega arith
+last_name : (names : List (List ℕ)) (last : List ℕ) → name_of (with_output names last) (length names) ≡ last
+last_name [] last = refl
+last_name (n ∷ names) last = last_name names last
 
-last_name : (names : List (List ℕ)) → name_of (with_output names) (length names) ≡ own
-last_name [] = refl
-last_name (n ∷ names) = last_name names
+signal_count : (names : List (List ℕ)) (last : List ℕ) → length (with_output names last) ≡ suc (length names)
+signal_count [] last = refl
+signal_count (n ∷ names) last = ap suc (signal_count names last)
 
-signal_count : (names : List (List ℕ)) → length (with_output names) ≡ suc (length names)
-signal_count [] = refl
-signal_count (n ∷ names) = ap suc (signal_count names)
+port_names : (names : List (List ℕ)) (last : List ℕ)
+    → map port_name (ports_of (with_output names last)) ≡ names ++ last ∷ []
+port_names [] last = refl
+port_names (n ∷ names) last = ap (λ (ns : List (List ℕ)). n ∷ ns) (port_names names last)
 
-port_names : (names : List (List ℕ)) → map port_name (ports_of (with_output names)) ≡ names ++ own ∷ []
-port_names [] = refl
-port_names (n ∷ names) = ap (λ (ns : List (List ℕ)). n ∷ ns) (port_names names)
-
-writable_ports : (names : List (List ℕ)) → AllByRecursion IsWritable names
-    → AllByRecursion Writable (with_output names)
-writable_ports [] all = (signal_is_writable own refl, tt)
-writable_ports (n ∷ names) all = (all.0, writable_ports names all.1)
+writable_ports : (names : List (List ℕ)) (last : List ℕ) → AllByRecursion IsWritable names → IsWritable last
+    → AllByRecursion Writable (with_output names last)
+writable_ports [] last all writable = (writable, tt)
+writable_ports (n ∷ names) last all writable = (all.0, writable_ports names last all.1 writable)
 
 -- ---- names that are told apart
 
-abbrev Apart : List (List ℕ) → Type 0
+abbrev pub Apart : List (List ℕ) → Type 0
 Apart [] = Unit {0}
 Apart (n ∷ ns) = AllByRecursion (λ m. n ≢ m) ns × Apart ns
 
-apart_append : (xs ys : List (List ℕ)) → Apart xs → Apart ys
+pub apart_append : (xs ys : List (List ℕ)) → Apart xs → Apart ys
     → AllByRecursion (λ x. AllByRecursion (λ y. x ≢ y) ys) xs → Apart (xs ++ ys)
 apart_append [] ys one other cross = other
 apart_append (x ∷ xs) ys one other cross =
     (all_append (λ y. x ≢ y) xs ys one.0 cross.0, apart_append xs ys one.1 other cross.1)
 
-apart_from : (xs : List (List ℕ)) → AllPairs (λ x y. x ≢ y) xs → Apart xs
+pub apart_from : (xs : List (List ℕ)) → AllPairs (λ x y. x ≢ y) xs → Apart xs
 apart_from [] pairs = tt
 apart_from (x ∷ xs) pairs = (
   recursion_from_All (λ (y : List ℕ). x ≢ y) xs (λ k d within. pairs 0 (suc k) d (omega arith) (omega arith)),
@@ -123,61 +124,67 @@ named_apart xs writable apart = record {
 
 -- ---- the names of a cell's ports
 
-no_signal : (name : List ℕ) → is_signal_name name ≡ true → name ≢ feedback
-no_signal name is same =
-    let none : is_signal_name feedback ≡ false = refl in
-    true≢false (sym is ∙ ap is_signal_name same ∙ none)
+no_feedback : (ports : Ports) (name : List ℕ) → IsPortName name → name ≢ feedback ports
+no_feedback ports name is = no_dollar name ports.output (codes "in") (port_bytes name is)
 
-feedback_other : feedback ≢ own
-feedback_other same = let tails : codes "$in" ≡ [] = ap (λ (s : List ℕ). tail_of s) same in cc
-  where
-    tail_of : List ℕ → List ℕ
-    tail_of [] = []
-    tail_of (b ∷ bs) = bs
+abbrev inputs_by : Bool → Ports → List (List ℕ)
+inputs_by reads ports = ports.pins ++ (if reads then feedback ports ∷ [] else [])
 
-before_feedback : (pins : List (List ℕ)) → AllByRecursion IsPinName pins
-    → AllByRecursion (λ x. AllByRecursion (λ y. x ≢ y) (feedback ∷ [])) pins
-before_feedback [] are = tt
-before_feedback (p ∷ pins) are = ((no_signal p are.0.signal_name, tt), before_feedback pins are.1)
+all_inserted : (P : List ℕ → Type 0) (xs : List (List ℕ)) (middle last : List ℕ)
+    → AllByRecursion P (xs ++ last ∷ []) → P middle → AllByRecursion P ((xs ++ middle ∷ []) ++ last ∷ [])
+all_inserted P [] middle last all also = (also, all)
+all_inserted P (x ∷ xs) middle last all also = (all.0, all_inserted P xs middle last all.1 also)
 
-before_own : (pins : List (List ℕ)) → AllByRecursion IsPinName pins
-    → AllByRecursion (λ x. AllByRecursion (λ y. x ≢ y) (own ∷ [])) pins
-before_own [] are = tt
-before_own (p ∷ pins) are = ((are.0.other, tt), before_own pins are.1)
+apart_inserted : (xs : List (List ℕ)) (middle last : List ℕ) → Apart (xs ++ last ∷ [])
+    → AllByRecursion (λ x. x ≢ middle) xs → middle ≢ last → Apart ((xs ++ middle ∷ []) ++ last ∷ [])
+apart_inserted [] middle last apart others other = ((other, tt), (tt, tt))
+apart_inserted (x ∷ xs) middle last apart others other = (
+  all_inserted (λ y. x ≢ y) xs middle last apart.0 others.0,
+  apart_inserted xs middle last apart.1 others.1 other,
+)
 
-abbrev inputs_by : Bool → List (List ℕ) → List (List ℕ)
-inputs_by reads pins = pins ++ (if reads then feedback ∷ [] else [])
+before_feedback : (ports : Ports) (pins : List (List ℕ)) → AllByRecursion IsPortName (pins ++ ports.output ∷ [])
+    → AllByRecursion (λ x. x ≢ feedback ports) pins
+before_feedback ports [] are = tt
+before_feedback ports (p ∷ pins) are = (no_feedback ports p are.0, before_feedback ports pins are.1)
 
-apart_ports : (pins : List (List ℕ)) → AllByRecursion IsPinName pins → Apart pins → (reads : Bool)
-    → Apart (inputs_by reads pins ++ own ∷ [])
-apart_ports pins are apart true = apart_append (pins ++ feedback ∷ []) (own ∷ [])
-    (apart_append pins (feedback ∷ []) apart (tt, tt) (before_feedback pins are)) (tt, tt)
-    (all_append (λ x. AllByRecursion (λ y. x ≢ y) (own ∷ [])) pins (feedback ∷ []) (before_own pins are)
-    ((feedback_other, tt), tt))
-apart_ports pins are apart false = apart_append (pins ++ []) (own ∷ [])
-    (apart_append pins [] apart tt (before_none pins)) (tt, tt)
-    (all_append (λ x. AllByRecursion (λ y. x ≢ y) (own ∷ [])) pins [] (before_own pins are) tt)
-  where
-    before_none : (ps : List (List ℕ)) → AllByRecursion (λ x. AllByRecursion (λ y. x ≢ y) []) ps
-    before_none [] = tt
-    before_none (p ∷ ps) = (tt, before_none ps)
+last_is : (P : List ℕ → Type 0) (xs : List (List ℕ)) (last : List ℕ) → AllByRecursion P (xs ++ last ∷ []) → P last
+last_is P [] last all = all.0
+last_is P (x ∷ xs) last all = last_is P xs last all.1
 
-pins_writable : (pins : List (List ℕ)) → AllByRecursion IsPinName pins → AllByRecursion IsWritable pins
-pins_writable [] are = tt
-pins_writable (p ∷ pins) are = (signal_is_writable p are.0.signal_name, pins_writable pins are.1)
+pub fronts_are : (P : List ℕ → Type 0) (xs : List (List ℕ)) (last : List ℕ) → AllByRecursion P (xs ++ last ∷ [])
+    → AllByRecursion P xs
+fronts_are P [] last all = tt
+fronts_are P (x ∷ xs) last all = (all.0, fronts_are P xs last all.1)
 
-pub feedback_writable : IsWritable feedback
-feedback_writable = record { some = λ none. cc; dark = refl }
+apart_ports : (ports : Ports) → AllByRecursion IsPortName (ports.pins ++ ports.output ∷ [])
+    → Apart (ports.pins ++ ports.output ∷ []) → (reads : Bool) → Apart (inputs_by reads ports ++ ports.output ∷ [])
+apart_ports ports are apart true = apart_inserted ports.pins (feedback ports) ports.output apart
+    (before_feedback ports ports.pins are)
+    (λ same. no_feedback ports ports.output (last_is IsPortName ports.pins ports.output are) (sym same))
+apart_ports ports are apart false =
+    subst (λ (xs : List (List ℕ)). Apart (xs ++ ports.output ∷ [])) (sym (append-nil ports.pins)) apart
 
-inputs_writable : (pins : List (List ℕ)) → AllByRecursion IsPinName pins → (reads : Bool)
-    → AllByRecursion IsWritable (inputs_by reads pins)
-inputs_writable pins are true =
-    all_append IsWritable pins (feedback ∷ []) (pins_writable pins are) (feedback_writable, tt)
-inputs_writable pins are false = all_append IsWritable pins [] (pins_writable pins are) tt
+pub ports_writable : (names : List (List ℕ)) → AllByRecursion IsPortName names → AllByRecursion IsWritable names
+ports_writable [] are = tt
+ports_writable (n ∷ names) are = (port_writable n are.0, ports_writable names are.1)
 
-inputs_count : (pins : List (List ℕ)) (reads : Bool) → length pins ≤ length (inputs_by reads pins)
-inputs_count pins true = let both = length-append pins (feedback ∷ []) in omega arith
-inputs_count pins false = let both = length-append {A = List ℕ} pins [] in omega arith
+inputs_writable : (ports : Ports) → AllByRecursion IsPortName (ports.pins ++ ports.output ∷ []) → (reads : Bool)
+    → AllByRecursion IsWritable (inputs_by reads ports)
+inputs_writable ports are true = all_append IsWritable ports.pins (feedback ports ∷ [])
+    (ports_writable ports.pins (fronts_are IsPortName ports.pins ports.output are))
+    (feedback_writable ports (last_is IsPortName ports.pins ports.output are), tt)
+inputs_writable ports are false = all_append IsWritable ports.pins []
+    (ports_writable ports.pins (fronts_are IsPortName ports.pins ports.output are)) tt
+
+inputs_count : (ports : Ports) (reads : Bool) → length ports.pins ≤ length (inputs_by reads ports)
+inputs_count ports true = let both = length-append ports.pins (feedback ports ∷ []) in omega arith
+inputs_count ports false = let both = length-append {A = List ℕ} ports.pins [] in omega arith
+
+-- names before the last are told apart
+pub apart_front : (xs : List (List ℕ)) (last : List ℕ) → Apart (xs ++ last ∷ []) → Apart xs
+apart_front [] last apart = tt
+apart_front (x ∷ xs) last apart = (fronts_are (λ y. x ≢ y) xs last apart.0, apart_front xs last apart.1)
 
 -- ---- signals of its sum
 
@@ -191,33 +198,52 @@ sum_there n m fits (c ∷ cs) cubes = (cube_there n m fits c cubes.0.there, sum_
 
 -- ---- the cell
 
-pub cell_readable : (cell : Cell) → IsCell cell → IsReadable (cell_netlist cell)
-cell_readable cell is =
-    let pins = recursion_from_All IsPinName cell.pins is.pins in
-    let inputs = cell_inputs cell in
-    let names = writable_ports inputs (inputs_writable cell.pins pins (reads_own cell)) in
-    let apart = apart_ports cell.pins pins (apart_from cell.pins is.distinct) (reads_own cell) in
-    let few = inputs_count cell.pins (reads_own cell) in
-    let count = signal_count inputs in
-    let fits : length cell.pins + 1 ≤ length (cell_signals cell) = omega arith in
+-- a cell of a library, with names of its ports
+pub record IsPortedCell (c : PortedCell) : Type 0 where
+  pub cell : IsCell c.cell
+  pub ports : ArePortsOf c.cell c.ports
+
+pub names_are : (c : PortedCell) → IsPortedCell c → AllByRecursion IsPortName (c.ports.pins ++ c.ports.output ∷ [])
+names_are c is = recursion_from_All IsPortName (c.ports.pins ++ c.ports.output ∷ []) is.ports.names
+
+pub pins_are : (c : PortedCell) → IsPortedCell c → AllByRecursion IsPortName c.ports.pins
+pins_are c is = fronts_are IsPortName c.ports.pins c.ports.output (names_are c is)
+
+pub output_is : (c : PortedCell) → IsPortedCell c → IsPortName c.ports.output
+output_is c is = last_is IsPortName c.ports.pins c.ports.output (names_are c is)
+
+pub cell_readable : (c : PortedCell) → IsPortedCell c → IsReadable (cell_netlist c)
+cell_readable c is =
+    let ports = c.ports in
+    let last = ports.output in
+    let names = names_are c is in
+    let inputs = cell_inputs c in
+    let reads = reads_own c.cell in
+    let writable = writable_ports inputs last (inputs_writable ports names reads)
+    (port_writable last (last_is IsPortName ports.pins last names)) in
+    let apart = apart_ports ports names (apart_from (ports.pins ++ last ∷ []) is.ports.distinct) reads in
+    let few = inputs_count ports reads in
+    let count = signal_count inputs last in
+    let pins = is.ports.count in
+    let fits : length c.cell.pins + 1 ≤ length (cell_signals c) = omega arith in
     record {
-      model = signal_is_writable cell.name is.name;
-      writable = names;
-      named = named_apart (cell_signals cell) names (subst Apart (sym (names_back inputs)) apart);
-      count = ap length (sym (driven_is_last inputs));
+      model = signal_is_writable c.cell.name is.cell.name;
+      writable = writable;
+      named = named_apart (cell_signals c) writable (subst Apart (sym (names_back inputs last)) apart);
+      count = ap length (sym (driven_is_last inputs last));
       there = (
-        sum_there (length cell.pins + 1) (length (cell_signals cell)) fits cell.sum
-            (recursion_from_All (IsCube (length cell.pins + 1)) cell.sum is.sum),
+        sum_there (length c.cell.pins + 1) (length (cell_signals c)) fits c.cell.sum
+            (recursion_from_All (IsCube (length c.cell.pins + 1)) c.cell.sum is.cell.sum),
         tt,
       );
     }
 
 -- its module has one assign, which has the value of its sum, whatever the values of its ports
-pub record DrivesOwn (cell : Cell) (m : Module) : Type 0 where
+pub record DrivesOwn (c : PortedCell) (m : Module) : Type 0 where
   pub tree : Tree
-  pub assigned : m.assigns ≡ record { name = own; tree = tree } ∷ []
-  pub value : (v : ℕ) → tree_value (named_value (cell_signals cell) v) tree ≡ sum_value v cell.sum
-  pub ports : map port_name m.ports ≡ cell_inputs cell ++ own ∷ []
+  pub assigned : m.assigns ≡ record { name = c.ports.output; tree = tree } ∷ []
+  pub value : (v : ℕ) → tree_value (named_value (cell_signals c) v) tree ≡ sum_value v c.cell.sum
+  pub ports : map port_name m.ports ≡ cell_inputs c ++ c.ports.output ∷ []
 
 one_only : (assigns : List Assign) (a : Assign) (name : List ℕ) → slice_get assigns 0 ≡ Some a
     → map (λ (b : Assign). b.name) assigns ≡ name ∷ [] → assigns ≡ a ∷ []
@@ -225,20 +251,21 @@ one_only [] a name there names = cc
 one_only (b ∷ []) a name there names = cc
 one_only (b ∷ d ∷ assigns) a name there names = cc
 
-pub drives_own : (cell : Cell) (m : Module) → IsOfNetlist (cell_netlist cell) m → DrivesOwn cell m
-drives_own cell m of =
-    let inputs = cell_inputs cell in
-    let gate = of.gates (length inputs) (last_drives inputs) in
-    let place = last_place inputs in
-    let named = last_name inputs in
-    let first : slice_get m.assigns 0 ≡ Some (record { name = own; tree = gate.tree }) =
+pub drives_own : (c : PortedCell) (m : Module) → IsOfNetlist (cell_netlist c) m → DrivesOwn c m
+drives_own c m of =
+    let last = c.ports.output in
+    let inputs = cell_inputs c in
+    let gate = of.gates (length inputs) (last_drives inputs last) in
+    let place = last_place inputs last in
+    let named = last_name inputs last in
+    let first : slice_get m.assigns 0 ≡ Some (record { name = last; tree = gate.tree }) =
     ap (slice_get m.assigns) (sym place) ∙ gate.there
     ∙ ap (λ (n : List ℕ). Some (record { name = n; tree = gate.tree })) named in
     record {
       tree = gate.tree;
-      assigned = one_only m.assigns (record { name = own; tree = gate.tree }) own first
-          (of.assigned ∙ ap (map (λ (x : Signal). x.name)) (driven_is_last inputs));
+      assigned = one_only m.assigns (record { name = last; tree = gate.tree }) last first
+          (of.assigned ∙ ap (map (λ (x : Signal). x.name)) (driven_is_last inputs last));
       value = λ v. gate.value v
-          ∙ ap (λ (p : ℕ). value_if_there (slice_get (SumGate cell.sum ∷ []) p) (length inputs) v) place;
-      ports = ap (map port_name) of.ports ∙ port_names inputs;
+          ∙ ap (λ (p : ℕ). value_if_there (slice_get (SumGate c.cell.sum ∷ []) p) (length inputs) v) place;
+      ports = ap (map port_name) of.ports ∙ port_names inputs last;
     }

@@ -1,4 +1,4 @@
--- Each gate is an instance by plain literals over a library, or shows a reason why it isn't.
+-- Each gate is an instance by literals that are plain or get inverters, or shows a reason why it isn't.
 use Rattle.std.proofs.Common.{◌≡◌, ◌≢◌, ◌⊎◌, ℕ, zero, suc, ◌<◌, Bool, true, false, List, [], ◌∷◌, length, slice_get}
 use Rattle.std.proofs.Common.{Some, All, refl, sym, ap, subst, ◌∙◌, arith, inl, inr}
 use Rattle.std.specs.Prelude.{IsTrue, slice_index_or}
@@ -11,8 +11,10 @@ use Rattle.si_base.specs.Limits.{code_width}
 use Rattle.si_base.specs.Netlist.{Sum, Gate, SumGate, Gc, Cell as CellGate}
 use Rattle.si_cell.specs.Expanded.{expanded}
 use Rattle.si_cell.specs.Library.{Cell, Library, Instance, IsLibrary, cell_at, no_cell}
-use Rattle.si_structure.specs.Refusals.{IsComplemented, IsFirstComplemented, IsInstanceGate, IsPlainGate, ShowsOfGate}
+use Rattle.si_structure.specs.Refusals.{IsComplemented, IsFirstComplemented, IsInstanceGate, IsPlacedGate, ShowsOfGate}
+use Rattle.si_structure.specs.Refusals.{inverts}
 use Rattle.si_structure.specs.Loops.Deciding.{AreSmall, FitsCells}
+use Rattle.si_structure.specs.declared.complements.Complements.{Complements}
 use Rattle.si_structure.specs.declared.refusal.Unstructured.{Unstructured}
 use Rattle.si_structure.specs.declared.refusal.Unstructured.TheVariants.{NoMemory, NoInstance, Complemented}
 
@@ -143,24 +145,23 @@ module _ (library : Library) (z : ℕ) (name : List ℕ) (literals : List Litera
         same = λ i. CellGate (named i) literals (same i);
       }
 
-  pub is_plain : (k : ℕ) → IsInstanceGate library z (CellGate name literals sum) (record {
+  module _ (complements : Complements) (k : ℕ) (is : IsInstanceGate library z (CellGate name literals sum) (record {
     cell = k;
     literals = literals;
-  })
-      → All (λ (l : Literal). IsTrue l.plain) literals → IsPlainGate library z (CellGate name literals sum)
-  is_plain k is plain = record { instance = record { cell = k; literals = literals }; is = is; plain = plain }
+  })) where
+    pub is_placed : IsTrue (inverts complements library.cells) ⊎ All (λ (l : Literal). IsTrue l.plain) literals
+        → IsPlacedGate library complements z (CellGate name literals sum)
+    is_placed plain = record { instance = record { cell = k; literals = literals }; is = is; plain = plain }
 
-  pub is_complemented : (k pin : ℕ) → IsInstanceGate library z (CellGate name literals sum) (record {
-    cell = k;
-    literals = literals;
-  })
-      → IsFirstComplemented literals pin → IsComplemented library z (CellGate name literals sum) k pin
-  is_complemented k pin is first = record {
-    instance = record { cell = k; literals = literals };
-    is = is;
-    cell_is = refl;
-    pin_is = first;
-  }
+    pub is_complemented : (pin : ℕ) → IsFirstComplemented literals pin → inverts complements library.cells ≡ false
+        → IsComplemented library complements z (CellGate name literals sum) k pin
+    is_complemented pin first kept = record {
+      instance = record { cell = k; literals = literals };
+      is = is;
+      cell_is = refl;
+      pin_is = first;
+      kept = kept;
+    }
 
 -- ---- the first complemented literal
 
@@ -201,48 +202,53 @@ decided_plain (l ∷ ls) = elim (cases_Bool l.plain) [
 -- ---- what is decided of a gate
 
 -- what a refusal shows of it, beside want of memory
-abbrev pub IsRefusedGate : Library → ℕ → Gate → Type 0
-IsRefusedGate library z g = (e : Unstructured) × (e ≢ NoMemory) × ShowsOfGate library z g e
+abbrev pub IsRefusedGate : Library → Complements → ℕ → Gate → Type 0
+IsRefusedGate library complements z g =
+    (e : Unstructured) × (e ≢ NoMemory) × ShowsOfGate library complements z g e
 
-none_refused : (library : Library) (z : ℕ) (g : Gate) → IsNoInstance library z g → IsRefusedGate library z g
-none_refused library z g none = (NoInstance z, λ same. cc, (refl, none))
+module _ (library : Library) (complements : Complements) where
+  none_refused : (z : ℕ) (g : Gate) → IsNoInstance library z g → IsRefusedGate library complements z g
+  none_refused z g none = (NoInstance z, λ same. cc, (refl, none))
 
-decided_literals_of : (library : Library) (z : ℕ) (name : List ℕ) (literals : List Literal) (sum : Sum) (k : ℕ)
-    → IsInstanceGate library z (CellGate name literals sum) (record { cell = k; literals = literals })
-    → IsPlainGate library z (CellGate name literals sum) ⊎ IsRefusedGate library z (CellGate name literals sum)
-decided_literals_of library z name literals sum k is = elim (decided_plain literals) [
-  | inl first ↦ inr (
-    Complemented z k first.0,
-    λ same. cc,
-    (refl, is_complemented library z name literals sum k first.0 is first.1),
-  )
-  | inr plain ↦ inl (is_plain library z name literals sum k is
-      (All-from_recursion (λ (l : Literal). IsTrue l.plain) literals plain))
-]
-
-decided_cell : (library : Library) → IsLibrary library → (z : ℕ) (name : List ℕ) (literals : List Literal) (sum : Sum)
-    → AreSmall literals → (k : ℕ) → IsNamed library name k
-    → IsPlainGate library z (CellGate name literals sum) ⊎ IsRefusedGate library z (CellGate name literals sum)
-decided_cell library good z name literals sum small k is_named =
-    elim (eqb_tells (length literals) (length (cell_at library k).pins)) [
-      | inl count ↦ elim (decided_sums sum (expanded library (record { cell = k; literals = literals }) z)) [
-        | inl same ↦ decided_literals_of library z name literals sum k
-            (is_instance library z name literals sum k is_named count.1 same small.signals)
-        | inr other ↦ inr (none_refused library z (CellGate name literals sum)
-            (other_sum_is_none library z name literals sum good k is_named other))
-      ]
-      | inr other ↦ inr (none_refused library z (CellGate name literals sum)
-          (other_count_is_none library z name literals sum good k is_named other.1))
+  decided_literals_of : (z : ℕ) (name : List ℕ) (literals : List Literal) (sum : Sum) (k : ℕ)
+      → IsInstanceGate library z (CellGate name literals sum) (record { cell = k; literals = literals })
+      → IsPlacedGate library complements z (CellGate name literals sum)
+      ⊎ IsRefusedGate library complements z (CellGate name literals sum)
+  decided_literals_of z name literals sum k is = elim (cases_Bool (inverts complements library.cells)) [
+    | inl inverted ↦ inl (is_placed library z name literals sum complements k is (inl inverted))
+    | inr kept ↦ elim (decided_plain literals) [
+      | inl first ↦ inr (
+        Complemented z k first.0,
+        λ same. cc,
+        (refl, is_complemented library z name literals sum complements k is first.0 first.1 kept),
+      )
+      | inr plain ↦ inl (is_placed library z name literals sum complements k is
+          (inr (All-from_recursion (λ (l : Literal). IsTrue l.plain) literals plain)))
     ]
+  ]
 
-pub decided_gate : (library : Library) → IsLibrary library → (z : ℕ) (g : Gate) → FitsCells g
-    → IsPlainGate library z g ⊎ IsRefusedGate library z g
-decided_gate library good z (SumGate sum) small =
-    inr (none_refused library z (SumGate sum) (sum_is_none library z sum))
-decided_gate library good z (Gc set reset) small =
-    inr (none_refused library z (Gc set reset) (latch_is_none library z set reset))
-decided_gate library good z (CellGate name literals sum) small = elim (decided_name library.cells name) [
-  | inl one ↦ decided_cell library good z name literals sum small one.0 (record { within = one.1; named = one.2 })
-  | inr none ↦ inr (none_refused library z (CellGate name literals sum)
-      (unnamed_is_none library z name literals sum none))
-]
+  decided_cell : IsLibrary library → (z : ℕ) (name : List ℕ) (literals : List Literal) (sum : Sum)
+      → AreSmall literals → (k : ℕ) → IsNamed library name k
+      → IsPlacedGate library complements z (CellGate name literals sum)
+      ⊎ IsRefusedGate library complements z (CellGate name literals sum)
+  decided_cell good z name literals sum small k is_named =
+      elim (eqb_tells (length literals) (length (cell_at library k).pins)) [
+        | inl count ↦ elim (decided_sums sum (expanded library (record { cell = k; literals = literals }) z)) [
+          | inl same ↦ decided_literals_of z name literals sum k
+              (is_instance library z name literals sum k is_named count.1 same small.signals)
+          | inr other ↦ inr (none_refused z (CellGate name literals sum)
+              (other_sum_is_none library z name literals sum good k is_named other))
+        ]
+        | inr other ↦ inr (none_refused z (CellGate name literals sum)
+            (other_count_is_none library z name literals sum good k is_named other.1))
+      ]
+
+  pub decided_gate : IsLibrary library → (z : ℕ) (g : Gate) → FitsCells g
+      → IsPlacedGate library complements z g ⊎ IsRefusedGate library complements z g
+  decided_gate good z (SumGate sum) small = inr (none_refused z (SumGate sum) (sum_is_none library z sum))
+  decided_gate good z (Gc set reset) small = inr (none_refused z (Gc set reset) (latch_is_none library z set reset))
+  decided_gate good z (CellGate name literals sum) small = elim (decided_name library.cells name) [
+    | inl one ↦ decided_cell good z name literals sum small one.0 (record { within = one.1; named = one.2 })
+    | inr none ↦ inr (none_refused z (CellGate name literals sum)
+        (unnamed_is_none library z name literals sum none))
+  ]

@@ -1,8 +1,12 @@
+pub mod NameLemmas
 pub mod ReadingLemmas
 pub mod ModuleLemmas
 pub mod CellLemmas
+pub mod LookupLemmas
 pub mod ValueLemmas
 pub mod PlacementLemmas
+pub mod InverterLemmas
+pub mod DistinctLemmas
 pub mod StructureLemmas
 pub mod OneMeaning
 pub mod TextLemmas

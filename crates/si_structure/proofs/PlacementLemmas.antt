@@ -1,22 +1,19 @@
--- Instances, one for each gate, at its place.
-use Rattle.std.proofs.Common.{◌≡◌, ◌≢◌, ℕ, zero, suc, ◌+◌, ◌<◌, true, false, List, [], ◌∷◌, ◌++◌, length, map}
-use Rattle.std.proofs.Common.{filter, flat_map, slice_get, Some, AllPairs, bytes_eq, refl, ap, subst, ◌∙◌, arith}
-use Rattle.std.proofs.Common.{inl, inr}
-use Rattle.std.specs.Prelude.{slice_index_or}
+-- Instances, those for each gate at its place.
+use Rattle.std.proofs.Common.{◌≡◌, ℕ, zero, suc, ◌+◌, true, false, List, [], ◌∷◌, ◌++◌, length, map, filter, flat_map}
+use Rattle.std.proofs.Common.{slice_get, Some, bytes_eq, refl, ap, subst, ◌∙◌, arith, inl, inr}
 use Rattle.std.specs.List.{AllByRecursion, zip}
-use Rattle.std.proofs.lemmas.Bool.{cases_Bool, false_from_ne_true}
-use Rattle.std.proofs.lemmas.Slice.Eq.{bytes_eq-Decides}
+use Rattle.std.proofs.lemmas.Bool.{cases_Bool}
 use Rattle.si_base.specs.declared.ids.Literal.{Literal}
 use Rattle.si_base.specs.declared.graph.Signal.{Signal}
 use Rattle.si_base.specs.Graph.{is_driven, IsNonInput}
-use Rattle.si_base.specs.Netlist.{Sum, Gate, Cell as CellGate, Netlist, gate_place}
-use Rattle.si_cell.specs.Library.{Cell, no_cell}
+use Rattle.si_base.specs.Netlist.{Sum, Gate, Cell as CellGate, gate_place}
 use Rattle.si_verilog.specs.Grammar.{Module}
 use Rattle.si_verilog.specs.Meaning.{IsOfNetlist}
 use Rattle.si_verilog.proofs.NetlistLemmas.{all_append}
 use Rattle.si_structure.specs.Parts.{Part}
 use Rattle.si_structure.specs.Meaning.{AreOfCells, alone, part_named}
-use Rattle.si_structure.specs.StructureText.{cell_named, cell_netlist, is_used, placed, placed_if_any, placements_of}
+use Rattle.si_structure.specs.StructureText.{PortedCell, cell_instances, cell_named, cell_netlist, complemented}
+use Rattle.si_structure.specs.StructureText.{gate_instances, instances_if_any, inverted_pins, pins_if_any}
 
 -- ---- lists of one item each, one after another
 
@@ -31,12 +28,12 @@ one_at f (q ∷ qs) all (suc k) p b there is =
     let first = all.0.1 in
     rw first (one_at f qs all.1 k p b there is)
 
-pub ones_mapped : {A B C : Type 0} (f : A → List B) (h : B → C) (e : A → C) (ps : List A)
-    → AllByRecursion (λ p. (b : B) × (f p ≡ b ∷ []) × (h b ≡ e p)) ps → map h (flat_map f ps) ≡ map e ps
-ones_mapped f h e [] all = refl
-ones_mapped f h e (p ∷ ps) all =
+pub ones_counted : {A B : Type 0} (f : A → List B) (ps : List A)
+    → AllByRecursion (λ p. (b : B) × (f p ≡ b ∷ [])) ps → length (flat_map f ps) ≡ length ps
+ones_counted f [] all = refl
+ones_counted f (p ∷ ps) all =
     let first = all.0.1 in
-    rw first (ap (λ c. c ∷ map h (flat_map f ps)) all.0.2 ∙ ap (λ cs. e p ∷ cs) (ones_mapped f h e ps all.1))
+    rw first (ap suc (ones_counted f ps all.1))
 
 pub all_flat : {A B : Type 0} (P : B → Type 0) (f : A → List B) (ps : List A)
     → AllByRecursion (λ p. AllByRecursion P (f p)) ps → AllByRecursion P (flat_map f ps)
@@ -56,13 +53,12 @@ pub weaker : {A : Type 0} (P Q : A → Type 0) → ((x : A) → P x → Q x) →
 weaker P Q next [] all = tt
 weaker P Q next (x ∷ xs) all = (next x all.0, weaker P Q next xs all.1)
 
-pub zip_firsts : {A B C : Type 0} (e : A → C) (xs : List A) (ys : List B) → length ys ≡ length xs
-    → map (λ (p : A × B). e p.0) (zip xs ys) ≡ map e xs
-zip_firsts e [] ys same = refl
-zip_firsts e (a ∷ xs) [] same = absurd (omega arith)
-zip_firsts e (a ∷ xs) (b ∷ ys) same =
+pub zip_count : {A B : Type 0} (xs : List A) (ys : List B) → length ys ≡ length xs → length (zip xs ys) ≡ length xs
+zip_count [] ys same = refl
+zip_count (a ∷ xs) [] same = absurd (omega arith)
+zip_count (a ∷ xs) (b ∷ ys) same =
     let rest : length ys ≡ length xs = omega arith in
-    ap (λ cs. e a ∷ cs) (zip_firsts e xs ys rest)
+    ap suc (zip_count xs ys rest)
 
 pub zip_at : {A B : Type 0} (xs : List A) (ys : List B) (k : ℕ) (a : A) (b : B) → slice_get xs k ≡ Some a
     → slice_get ys k ≡ Some b → slice_get (zip xs ys) k ≡ Some (a, b)
@@ -131,53 +127,21 @@ all_gates P (x ∷ xs) (g ∷ gs) count each = elim (cases_Bool (is_driven x.kin
       (λ z h non_input there. each (suc z) h non_input (ap (slice_get (g ∷ gs)) (input_place x xs z input) ∙ there))
 ]
 
--- ---- cells by their names
-
-pub cell_found : (cells : List Cell) → AllPairs (λ x y. x.name ≢ y.name) cells → (k : ℕ) → k < length cells
-    → cell_named cells (slice_index_or cells k no_cell).name ≡ Some (slice_index_or cells k no_cell)
-cell_found [] pairs k within = absurd (omega arith)
-cell_found (c ∷ cs) pairs zero within =
-    let same : bytes_eq c.name c.name ≡ true = (bytes_eq-Decides c.name c.name).1 refl in
-    rw same refl
-cell_found (c ∷ cs) pairs (suc k) within =
-    let apart : c.name ≢ (slice_index_or cs k no_cell).name = pairs 0 (suc k) no_cell (omega arith) (omega arith) in
-    let other : bytes_eq c.name (slice_index_or cs k no_cell).name ≡ false =
-    false_from_ne_true (bytes_eq c.name (slice_index_or cs k no_cell).name)
-    (λ same. apart ((bytes_eq-Decides c.name (slice_index_or cs k no_cell).name).0 same)) in
-    rw other (cell_found cs (λ i j d before inside. pairs (suc i) (suc j) d (omega arith) (omega arith)) k
-    (omega arith))
-
--- the first of the name among those that are used
-pub used_found : (n : Netlist) (cells : List Cell) (name : List ℕ) (cell : Cell) → cell_named cells name ≡ Some cell
-    → is_used n cell ≡ true → cell_named (filter (is_used n) cells) name ≡ Some cell
-used_found n [] name cell found used = cc
-used_found n (c ∷ cs) name cell found used = elim (cases_Bool (bytes_eq c.name name)) [
-  | inl is ↦ (
-      let here = rw is at found in
-      let same : c ≡ cell = cc in
-      let first : is_used n c ≡ true = ap (is_used n) same ∙ used in
-      rw (first, is) here)
-  | inr other ↦ (
-      let later = used_found n cs name cell (rw other at found) used in
-      elim (cases_Bool (is_used n c)) [
-        | inl first ↦ rw (first, other) later
-        | inr unused ↦ rw unused later
-      ])
-]
+-- ---- modules by their names
 
 -- a module of the cell of the name, and it is the first of the name in the text
-pub record IsThere (parts : List Part) (name : List ℕ) (cell : Cell) : Type 0 where
+pub record IsThere (parts : List Part) (name : List ℕ) (cell : PortedCell) : Type 0 where
   pub of : Module
   pub found : part_named parts name ≡ Some (alone of)
   pub is : IsOfNetlist (cell_netlist cell) of
 
-pub module_found : (cells : List Cell) (modules : List Module) (parts : List Part) → AreOfCells cells modules
-    → (name : List ℕ) (cell : Cell) → cell_named cells name ≡ Some cell
+pub module_found : (cells : List PortedCell) (modules : List Module) (parts : List Part) → AreOfCells cells modules
+    → (name : List ℕ) (cell : PortedCell) → cell_named cells name ≡ Some cell
     → IsThere (map alone modules ++ parts) name cell
 module_found [] [] parts are name cell found = cc
 module_found [] (m ∷ ms) parts are name cell found = absurd are
 module_found (c ∷ cs) [] parts are name cell found = absurd are
-module_found (c ∷ cs) (m ∷ ms) parts are name cell found = elim (cases_Bool (bytes_eq c.name name)) [
+module_found (c ∷ cs) (m ∷ ms) parts are name cell found = elim (cases_Bool (bytes_eq c.cell.name name)) [
   | inl is ↦ (
       let here = rw is at found in
       let same : c ≡ cell = cc in
@@ -185,7 +149,7 @@ module_found (c ∷ cs) (m ∷ ms) parts are name cell found = elim (cases_Bool 
       record {
         of = m;
         found = rw named refl;
-        is = subst (λ (d : Cell). IsOfNetlist (cell_netlist d) m) same are.0;
+        is = subst (λ (d : PortedCell). IsOfNetlist (cell_netlist d) m) same are.0;
       })
   | inr other ↦ (
       let later = module_found cs ms parts are.1 name cell (rw other at found) in
@@ -197,11 +161,17 @@ module_found (c ∷ cs) (m ∷ ms) parts are name cell found = elim (cases_Bool 
       })
 ]
 
--- ---- the instance of a gate
+-- ---- the instances of a gate
 
-pub placed_one : (cells : List Cell) (all : List Signal) (name : List ℕ) (g : Gate) (cell : Cell)
-    (literals : List Literal) (sum : Sum) → g ≡ CellGate cell.name literals sum
-    → cell_named cells cell.name ≡ Some cell
-    → placements_of cells all name g ≡ placed all name cell literals ∷ []
-placed_one cells all name g cell literals sum same found =
-    ap (placements_of cells all name) same ∙ ap (λ o. placed_if_any all name o literals) found
+pub instances_one : (cells : List PortedCell) (all : List Signal) (name : List ℕ) (g : Gate) (c : PortedCell)
+    (literals : List Literal) (sum : Sum) → g ≡ CellGate c.cell.name literals sum
+    → cell_named cells c.cell.name ≡ Some c
+    → gate_instances cells all name g ≡ cell_instances cells all name c literals ∷ []
+instances_one cells all name g c literals sum same found =
+    ap (gate_instances cells all name) same ∙ ap (λ o. instances_if_any cells all name o literals) found
+
+pub pins_one : (cells : List PortedCell) (g : Gate) (c : PortedCell) (literals : List Literal) (sum : Sum)
+    → g ≡ CellGate c.cell.name literals sum → cell_named cells c.cell.name ≡ Some c
+    → inverted_pins cells g ≡ map (λ p. p.0) (complemented c.ports.pins literals)
+pins_one cells g c literals sum same found =
+    ap (inverted_pins cells) same ∙ ap (λ o. pins_if_any o literals) found

@@ -1,74 +1,124 @@
 -- What the writers of cells and instances have still to add, a step at a time.
-use Rattle.std.proofs.Common.{◌≡◌, ℕ, suc, ◌+◌, ◌<◌, Bool, true, false, List, [], ◌∷◌, ◌++◌, length, drop, filter}
-use Rattle.std.proofs.Common.{flat_map, get_or, codes, if◌then◌else◌, append_assoc, add-one, drop-cons, refl, sym, ap}
-use Rattle.std.proofs.Common.{◌∙◌}
-use Rattle.std.specs.List.{join_by, zip}
+use Rattle.std.proofs.Common.{◌≡◌, ℕ, suc, ◌+◌, ◌-◌, ◌<◌, ◌≤◌, Bool, true, false, List, [], ◌∷◌, ◌++◌, length, drop}
+use Rattle.std.proofs.Common.{filter, map, flat_map, get_or, codes, if◌then◌else◌, append_assoc, add-one, drop-cons}
+use Rattle.std.proofs.Common.{refl, sym, ap, ap₂, ◌∙◌, Some, arith, take}
+use Rattle.std.specs.List.{join_by}
 use Rattle.std.proofs.lemmas.Grind.{flat_map-append}
-use Rattle.std.proofs.lemmas.List.{append-nil}
+use Rattle.std.proofs.lemmas.List.{append-nil, take_all}
 use Rattle.si_base.specs.declared.graph.Signal.{Signal}
 use Rattle.si_base.specs.declared.ids.Literal.{Literal}
-use Rattle.si_base.specs.Graph.{is_driven}
-use Rattle.si_base.specs.Netlist.{Gate, Netlist, Sum}
-use Rattle.si_cell.specs.Library.{Cell, Library, own}
-use Rattle.si_verilog.specs.ModuleText.{sum_text, verilog_name, verilog_text}
-use Rattle.si_structure.specs.StructureText.{cell_inputs, cell_netlist, cell_signals, connection_text, feedback}
-use Rattle.si_structure.specs.StructureText.{head_text, instance_name, is_used, own_connections}
-use Rattle.si_structure.specs.StructureText.{pin_connections, placed, placement_line, placements_of, reads_own}
-use Rattle.si_structure.specs.StructureText.{structure_text, used_cells}
-use Rattle.si_structure.specs.Loops.Writing.{pin_texts, placement_lines}
+use Rattle.si_base.specs.Netlist.{Gate, Cell as CellGate, Netlist, Sum}
+use Rattle.si_base.specs.NetlistText.{name_of}
+use Rattle.si_cell.specs.Library.{Cell}
+use Rattle.si_genlib.specs.Ports.{Ports, PortedLibrary}
+use Rattle.si_verilog.specs.ModuleText.{sum_text, verilog_name, verilog_text, wire_line}
+use Rattle.si_structure.specs.Parts.{Placement}
+use Rattle.si_structure.specs.StructureText.{GateInstances, PortedCell, cell_inputs, cell_instances, cell_named}
+use Rattle.si_structure.specs.StructureText.{cell_netlist}
+use Rattle.si_structure.specs.StructureText.{cell_signals, complemented, connected, connection_text, driven_gates}
+use Rattle.si_structure.specs.StructureText.{feedback, gate_instances, head_text, in_order, instance_name}
+use Rattle.si_structure.specs.StructureText.{instances_from, inverted_net, inverted_nets, inverted_pins}
+use Rattle.si_structure.specs.StructureText.{inverter_if_any}
+use Rattle.si_structure.specs.StructureText.{inverter_of, is_used, own_connections, pin_nets, placed}
+use Rattle.si_structure.specs.StructureText.{placement_line, ported_cells, reads_own, structure_text, used_cells}
+use Rattle.si_structure.specs.StructureText.{with_ports}
+use Rattle.si_structure.specs.Loops.Writing.{cell_lines, connection_texts, gate_wires}
+use Rattle.si_structure.specs.Loops.Writing.{inverter_lines, lines_of, pin_wires, placement_lines, wire_lines}
 use Rattle.si_structure.proofs.CellLemmas.{driven_is_last}
 
 -- the lines of the gates, the next of which is that of a signal from the i-th on
-abbrev pub placements_left : List Cell → List Signal → ℕ → List Gate → List ℕ
+abbrev pub placements_left : List PortedCell → List Signal → ℕ → List Gate → List ℕ
 placements_left cells signals i gates = placement_lines cells signals (drop i signals) gates
 
--- the connections of the pins from the i-th on
-abbrev pub pins_left : List Signal → List (List ℕ) → ℕ → List Literal → List ℕ
-pins_left signals pins i literals = pin_texts signals (drop i pins) literals
+abbrev pub wires_left : List PortedCell → List Signal → ℕ → List Gate → List ℕ
+wires_left cells signals i gates = wire_lines cells (drop i signals) gates
 
--- the modules of the cells from the i-th on that are used
-abbrev pub cells_left : Netlist → List Cell → ℕ → List ℕ
-cells_left n cells i = flat_map (λ c. verilog_text (cell_netlist c)) (filter (is_used n) (drop i cells))
+-- those of the pins from the i-th on
+abbrev pub inverters_left : List PortedCell → List Signal → List ℕ → List (List ℕ) → ℕ → List Literal → List ℕ
+inverters_left cells signals name pins i literals = inverter_lines cells signals name (drop i pins) literals
+
+abbrev pub pin_wires_left : List ℕ → List (List ℕ) → ℕ → List Literal → List ℕ
+pin_wires_left name pins i literals = pin_wires name (drop i pins) literals
+
+abbrev pub nets_left : List Signal → List ℕ → List (List ℕ) → ℕ → List Literal → List (List ℕ)
+nets_left signals name pins i literals = pin_nets signals name (drop i pins) literals
+
+-- the connections of the pins from the i-th on
+abbrev pub pins_left : List (List ℕ) → ℕ → List (List ℕ) → List ℕ
+pins_left pins i nets = connection_texts (drop i pins) nets
+
+-- the modules of the cells from the i-th on that are used, with these names of their ports
+abbrev pub cells_left : PortedLibrary → Netlist → List Cell → ℕ → List Ports → List ℕ
+cells_left ported n cells i ports = flat_map (λ c. verilog_text (cell_netlist c))
+    (filter (λ c. is_used (ported_cells ported) n c.cell) (with_ports (drop i cells) ports))
 
 cell_here : (cells : List Cell) (i : ℕ) (cell : Cell) → i < length cells → cell ≡ get_or cells i cell
     → drop i cells ≡ cell ∷ drop (i + 1) cells
 cell_here cells i cell within is =
     rw add-one (drop-cons cells i cell within ∙ ap (λ (c : Cell). c ∷ drop (suc i) cells) (sym is))
 
-pub cell_added : (n : Netlist) (cells : List Cell) (i : ℕ) (cell : Cell) (text : List ℕ) → i < length cells
-    → cell ≡ get_or cells i cell → is_used n cell ≡ true
-    → (text ++ verilog_text (cell_netlist cell)) ++ cells_left n cells (i + 1) ≡ text ++ cells_left n cells i
-cell_added n cells i cell text within is used =
-    rw (cell_here cells i cell within is, used)
-    (append_assoc text (verilog_text (cell_netlist cell)) (cells_left n cells (i + 1)))
+-- the names of the ports of the first cell that is left, and of the others
+first_and_rest : (left : List Ports) (p : Ports) → 1 ≤ length left → p ≡ get_or left 0 p
+    → left ≡ p ∷ take (length left - 1) (drop 1 left)
+first_and_rest [] p some at = absurd (omega arith)
+first_and_rest (q ∷ qs) p some at =
+    let all : take (length (q ∷ qs) - 1) qs ≡ qs = take_all (length (q ∷ qs) - 1) qs (omega arith) in
+    ap₂ (λ (r : Ports) (l : List Ports). r ∷ l) (sym at) (sym all)
 
-pub cell_skipped : (n : Netlist) (cells : List Cell) (i : ℕ) (cell : Cell) → i < length cells
-    → cell ≡ get_or cells i cell → is_used n cell ≡ false → cells_left n cells (i + 1) ≡ cells_left n cells i
-cell_skipped n cells i cell within is unused = rw (cell_here cells i cell within is, unused) refl
+module _ (ported : PortedLibrary) (n : Netlist) (cells : List Cell) (i : ℕ) (cell : Cell) (p : Ports)
+    (left : List Ports) (within : i < length cells) (is : cell ≡ get_or cells i cell) (some : 1 ≤ length left)
+    (at : p ≡ get_or left 0 p) where
+  abbrev rest : List Ports
+  rest = take (length left - 1) (drop 1 left)
+
+  pub cell_added : (text : List ℕ) → is_used (ported_cells ported) n cell ≡ true
+      → (text ++ verilog_text (cell_netlist (record { cell = cell; ports = p })))
+      ++ cells_left ported n cells (i + 1) rest ≡ text ++ cells_left ported n cells i left
+  cell_added text used = one rest (first_and_rest left p some at)
+    where
+      one : (ports : List Ports) → left ≡ p ∷ ports
+          → (text ++ verilog_text (cell_netlist (record { cell = cell; ports = p })))
+          ++ cells_left ported n cells (i + 1) ports ≡ text ++ cells_left ported n cells i left
+      one ports all = rw (all, cell_here cells i cell within is, used)
+          (append_assoc text (verilog_text (cell_netlist (record { cell = cell; ports = p })))
+          (cells_left ported n cells (i + 1) ports))
+
+  pub cell_skipped : is_used (ported_cells ported) n cell ≡ false
+      → cells_left ported n cells (i + 1) rest ≡ cells_left ported n cells i left
+  cell_skipped unused = one rest (first_and_rest left p some at)
+    where
+      one : (ports : List Ports) → left ≡ p ∷ ports
+          → cells_left ported n cells (i + 1) ports ≡ cells_left ported n cells i left
+      one ports all = rw (all, cell_here cells i cell within is, unused) refl
 
 -- ---- a cell as a module
 
-regrouped : (text h a s e f : List ℕ) → (((text ++ h) ++ a) ++ s) ++ (e ++ f) ≡ text ++ ((h ++ ((a ++ s) ++ e)) ++ f)
-regrouped text h a s e f = simp append_assoc
+regrouped : (text h a o q s e f : List ℕ) → (((((text ++ h) ++ a) ++ o) ++ q) ++ s) ++ (e ++ f)
+    ≡ text ++ ((h ++ ((((a ++ o) ++ q) ++ s) ++ e)) ++ f)
+regrouped text h a o q s e f = simp append_assoc
 
-cell_text : (cell : Cell) → verilog_text (cell_netlist cell)
-    ≡ (head_text cell.name (cell_signals cell)
-    ++ ((codes "  assign q = " ++ sum_text (cell_signals cell) cell.sum) ++ codes ";\n")) ++ codes "endmodule\n"
-unfolding verilog_text verilog_name
-cell_text cell = rw (driven_is_last (cell_inputs cell))
-    (ap (λ (t : List ℕ). (head_text cell.name (cell_signals cell) ++ t) ++ codes "endmodule\n")
-    (append-nil ((codes "  assign q = " ++ sum_text (cell_signals cell) cell.sum) ++ codes ";\n")))
+cell_text : (c : PortedCell) → verilog_text (cell_netlist c)
+    ≡ (head_text c.cell.name (cell_signals c) ++ ((((codes "  assign " ++ verilog_name c.ports.output) ++ codes " = ")
+    ++ sum_text (cell_signals c) c.cell.sum) ++ codes ";\n")) ++ codes "endmodule\n"
+unfolding verilog_text
+cell_text c = rw (driven_is_last (cell_inputs c) c.ports.output)
+    (ap (λ (t : List ℕ). (head_text c.cell.name (cell_signals c) ++ t) ++ codes "endmodule\n")
+    (append-nil ((((codes "  assign " ++ verilog_name c.ports.output) ++ codes " = ")
+    ++ sum_text (cell_signals c) c.cell.sum) ++ codes ";\n")))
 
 -- the texts that the calls leave one after another
-pub cell_by_calls : (cell : Cell) (name : List ℕ) (signals : List Signal) (sum : Sum) (text head begun summed : List ℕ)
-    → name ≡ cell.name → signals ≡ cell_signals cell → sum ≡ cell.sum → head ≡ text ++ head_text name signals
-    → begun ≡ head ++ codes "  assign q = " → summed ≡ begun ++ sum_text signals sum
-    → summed ++ codes ";\nendmodule\n" ≡ text ++ verilog_text (cell_netlist cell)
-cell_by_calls cell name signals sum text head begun summed is_name are_signals is_sum is_head is_begun is_summed =
-    rw (is_summed, is_begun, is_head, is_name, are_signals, is_sum) (
-    regrouped text (head_text cell.name (cell_signals cell)) (codes "  assign q = ")
-    (sum_text (cell_signals cell) cell.sum) (codes ";\n") (codes "endmodule\n")
-    ∙ ap (λ (t : List ℕ). text ++ t) (sym (cell_text cell)))
+pub cell_by_calls : (c : PortedCell) (name output : List ℕ) (signals : List Signal) (sum : Sum)
+    (text head begun named given summed : List ℕ) → name ≡ c.cell.name → output ≡ c.ports.output
+    → signals ≡ cell_signals c → sum ≡ c.cell.sum → head ≡ text ++ head_text name signals
+    → begun ≡ head ++ codes "  assign " → named ≡ begun ++ verilog_name output → given ≡ named ++ codes " = "
+    → summed ≡ given ++ sum_text signals sum
+    → summed ++ codes ";\nendmodule\n" ≡ text ++ verilog_text (cell_netlist c)
+cell_by_calls c name output signals sum text head begun named given summed
+    is_name is_output are_signals is_sum is_head is_begun is_named is_given is_summed =
+    rw (is_summed, is_given, is_named, is_begun, is_head, is_name, is_output, are_signals, is_sum) (
+    regrouped text (head_text c.cell.name (cell_signals c)) (codes "  assign ") (verilog_name c.ports.output)
+    (codes " = ") (sum_text (cell_signals c) c.cell.sum) (codes ";\n") (codes "endmodule\n")
+    ∙ ap (λ (t : List ℕ). text ++ t) (sym (cell_text c)))
 
 -- ---- an instance
 
@@ -92,66 +142,122 @@ module _ {A : Type 0} (f : A → List ℕ) (between : List ℕ) where
       four : (a b c d : List ℕ) → ((a ++ b) ++ c) ++ d ≡ a ++ (b ++ (c ++ d))
       four a b c d = simp append_assoc
 
-pub connections_joined : (signals : List Signal) (cell : Cell) (literals : List Literal) (name : List ℕ)
-    → join_by connection_text (codes ", ") (pin_connections signals cell.pins literals ++ own_connections cell name)
-    ≡ pin_texts signals cell.pins literals ++ join_by connection_text (codes ", ") (own_connections cell name)
-connections_joined signals cell literals name = by (reads_own cell)
+pub connections_joined : (c : PortedCell) (nets : List (List ℕ)) (read driven : List ℕ)
+    → join_by connection_text (codes ", ") (connected c.ports.pins nets ++ own_connections c read driven)
+    ≡ connection_texts c.ports.pins nets ++ join_by connection_text (codes ", ") (own_connections c read driven)
+connections_joined c nets read driven = by (reads_own c.cell)
   where
-    by : (reads : Bool) → join_by connection_text (codes ", ") (pin_connections signals cell.pins literals
-        ++ ((if reads then record { port = feedback; net = name } ∷ [] else [])
-        ++ record { port = own; net = name } ∷ []))
-        ≡ pin_texts signals cell.pins literals ++ join_by connection_text (codes ", ")
-        ((if reads then record { port = feedback; net = name } ∷ [] else []) ++ record { port = own; net = name } ∷ [])
-    by true = joined_before connection_text (codes ", ") (pin_connections signals cell.pins literals)
-        (record { port = feedback; net = name }) (record { port = own; net = name } ∷ [])
-    by false = joined_before connection_text (codes ", ") (pin_connections signals cell.pins literals)
-        (record { port = own; net = name }) []
+    by : (reads : Bool) → join_by connection_text (codes ", ") (connected c.ports.pins nets
+        ++ ((if reads then record { port = feedback c.ports; net = read } ∷ [] else [])
+        ++ record { port = c.ports.output; net = driven } ∷ []))
+        ≡ connection_texts c.ports.pins nets ++ join_by connection_text (codes ", ")
+        ((if reads then record { port = feedback c.ports; net = read } ∷ [] else [])
+        ++ record { port = c.ports.output; net = driven } ∷ [])
+    by true = joined_before connection_text (codes ", ") (connected c.ports.pins nets)
+        (record { port = feedback c.ports; net = read }) (record { port = c.ports.output; net = driven } ∷ [])
+    by false = joined_before connection_text (codes ", ") (connected c.ports.pins nets)
+        (record { port = c.ports.output; net = driven }) []
 
 eight_parts : (text b c d i p j o e : List ℕ)
     → (((((((text ++ b) ++ c) ++ d) ++ i) ++ p) ++ j) ++ o) ++ e
     ≡ text ++ ((((((b ++ c) ++ d) ++ i) ++ p) ++ (j ++ o)) ++ e)
 eight_parts text b c d i p j o e = simp append_assoc
 
-pub placement_by_calls : (signals : List Signal) (name : List ℕ) (cell : Cell) (literals : List Literal)
-    (cell_name : List ℕ) (cell_pins : List (List ℕ)) (text indented called spaced named opened pins whole : List ℕ)
-    → cell_name ≡ cell.name → cell_pins ≡ cell.pins
+pub placement_by_calls : (instance : List ℕ) (c : PortedCell) (nets : List (List ℕ)) (read driven : List ℕ)
+    (cell_name : List ℕ) (cell_pins given : List (List ℕ))
+    (text indented called spaced named opened pins whole : List ℕ)
+    → cell_name ≡ c.cell.name → cell_pins ≡ c.ports.pins → given ≡ nets
     → indented ≡ text ++ codes "  " → called ≡ indented ++ verilog_name cell_name → spaced ≡ called ++ codes " "
-    → named ≡ spaced ++ verilog_name (instance_name name) → opened ≡ named ++ codes "("
-    → pins ≡ opened ++ pin_texts signals cell_pins literals
-    → whole ≡ pins ++ join_by connection_text (codes ", ") (own_connections cell name)
-    → whole ++ codes ");\n" ≡ text ++ placement_line (placed signals name cell literals)
-placement_by_calls signals name cell literals cell_name cell_pins text indented called spaced named opened pins whole
-    is_name are_pins is_indented is_called is_spaced is_named is_opened is_pins is_whole =
-    let own_text = join_by connection_text (codes ", ") (own_connections cell name) in
-    rw (is_whole, is_pins, is_opened, is_named, is_spaced, is_called, is_indented, is_name, are_pins) (
-    eight_parts text (codes "  ") (verilog_name cell.name) (codes " ") (verilog_name (instance_name name)) (codes "(")
-    (pin_texts signals cell.pins literals) own_text (codes ");\n")
-    ∙ ap (λ (t : List ℕ). text ++ ((((((codes "  " ++ verilog_name cell.name) ++ codes " ")
-    ++ verilog_name (instance_name name)) ++ codes "(") ++ t) ++ codes ");\n"))
-    (sym (connections_joined signals cell literals name)))
+    → named ≡ spaced ++ verilog_name instance → opened ≡ named ++ codes "("
+    → pins ≡ opened ++ connection_texts cell_pins given
+    → whole ≡ pins ++ join_by connection_text (codes ", ") (own_connections c read driven)
+    → whole ++ codes ");\n" ≡ text ++ placement_line (placed instance c nets read driven)
+placement_by_calls instance c nets read driven cell_name cell_pins given text indented called spaced named opened pins
+    whole is_name are_pins are_given is_indented is_called is_spaced is_named is_opened is_pins is_whole =
+    let own_text = join_by connection_text (codes ", ") (own_connections c read driven) in
+    rw (is_whole, is_pins, is_opened, is_named, is_spaced, is_called, is_indented, is_name, are_pins, are_given) (
+    eight_parts text (codes "  ") (verilog_name c.cell.name) (codes " ") (verilog_name instance) (codes "(")
+    (connection_texts c.ports.pins nets) own_text (codes ");\n")
+    ∙ ap (λ (t : List ℕ). text ++ ((((((codes "  " ++ verilog_name c.cell.name) ++ codes " ")
+    ++ verilog_name instance) ++ codes "(") ++ t) ++ codes ");\n"))
+    (sym (connections_joined c nets read driven)))
+
+-- ---- lists of lists
+
+nested : {A B : Type 0} (f : B → List ℕ) (g : A → List B) (xs : List A)
+    → flat_map (λ x. flat_map f (g x)) xs ≡ flat_map f (flat_map g xs)
+nested f g [] = refl
+nested f g (x ∷ xs) = ap (λ (t : List ℕ). flat_map f (g x) ++ t) (nested f g xs)
+    ∙ sym (flat_map-append f (g x) (flat_map g xs))
+
+mapped : {A B : Type 0} (f : B → List ℕ) (g : A → B) (xs : List A)
+    → flat_map (λ x. f (g x)) xs ≡ flat_map f (map g xs)
+mapped f g [] = refl
+mapped f g (x ∷ xs) = ap (λ (t : List ℕ). f (g x) ++ t) (mapped f g xs)
+
+-- ---- the instances of a gate
+
+-- the lines of inverters, and behind them that of the gate's own instance
+pub instances_by_calls : (cells : List PortedCell) (signals : List Signal) (name : List ℕ) (c : PortedCell)
+    (literals : List Literal) (pins : List (List ℕ)) (cell : Cell) (ports : Ports) (instance : List ℕ)
+    (nets : List (List ℕ)) (read driven text inverted : List ℕ) → pins ≡ c.ports.pins → cell ≡ c.cell
+    → ports ≡ c.ports → instance ≡ instance_name name → nets ≡ pin_nets signals name pins literals → read ≡ name
+    → driven ≡ name → inverted ≡ text ++ inverter_lines cells signals name pins literals
+    → inverted ++ placement_line (placed instance (record { cell = cell; ports = ports }) nets read driven)
+    ≡ text ++ cell_lines cells signals name c literals
+instances_by_calls cells signals name c literals pins cell ports instance nets read driven text inverted are_pins
+    is_cell are_ports is_instance are_nets is_read is_driven is_inverted =
+    let i = cell_instances cells signals name c literals in
+    let lines = nested placement_line (λ (p : List ℕ × Literal). inverter_if_any (inverter_of cells) name p.0
+    (name_of signals p.1.sig)) (complemented c.ports.pins literals) in
+    rw (is_inverted, are_nets, is_instance, is_read, is_driven, is_cell, are_ports, are_pins) (
+    append_assoc text (inverter_lines cells signals name c.ports.pins literals) (placement_line i.gate)
+    ∙ ap (λ (t : List ℕ). text ++ t)
+    (ap (λ (t : List ℕ). t ++ placement_line i.gate) lines
+    ∙ ap (λ (t : List ℕ). lines_of i.inverters ++ t) (sym (append-nil (placement_line i.gate)))
+    ∙ sym (flat_map-append placement_line i.inverters (i.gate ∷ []))))
+
+-- the wires of a gate with a cell
+pub gate_wires_some : (cells : List PortedCell) (name cell : List ℕ) (literals : List Literal) (sum : Sum)
+    (c : PortedCell) → cell_named cells cell ≡ Some c
+    → pin_wires name c.ports.pins literals ≡ gate_wires cells name (CellGate cell literals sum)
+gate_wires_some cells name cell literals sum c found =
+    let xs = complemented c.ports.pins literals in
+    rw found (mapped (λ (pin : List ℕ). wire_line (inverted_net name pin)) (λ (p : List ℕ × Literal). p.0) xs
+    ∙ mapped wire_line (inverted_net name) (map (λ (p : List ℕ × Literal). p.0) xs))
 
 -- ---- the whole text
 
-apart : {A B : Type 0} (f : B → List ℕ) (g : A → List B) (xs : List A)
-    → flat_map (λ x. flat_map f (g x)) xs ≡ flat_map f (flat_map g xs)
-apart f g [] = refl
-apart f g (x ∷ xs) = ap (λ (t : List ℕ). flat_map f (g x) ++ t) (apart f g xs)
-    ∙ sym (flat_map-append f (g x) (flat_map g xs))
+five_parts : (c h w p e : List ℕ) → ((([] ++ c ++ h) ++ w) ++ p) ++ e ≡ c ++ (((h ++ w) ++ p) ++ e)
+five_parts c h w p e = simp append_assoc
 
-four_parts : (c h p e : List ℕ) → (([] ++ c ++ h) ++ p) ++ e ≡ c ++ ((h ++ p) ++ e)
-four_parts c h p e = simp append_assoc
-
-pub text_by_calls : (library : Library) (n : Netlist) (none cells head lines all : List ℕ) → none ≡ []
-    → cells ≡ none ++ flat_map (λ c. verilog_text (cell_netlist c)) (used_cells library n)
+pub text_by_calls : (ported : PortedLibrary) (n : Netlist) (none cells head wires lines all : List ℕ) → none ≡ []
+    → cells ≡ none ++ flat_map (λ c. verilog_text (cell_netlist c)) (used_cells ported n)
     → head ≡ cells ++ head_text n.model n.signals
-    → lines ≡ head ++ placement_lines library.cells n.signals n.signals n.gates → all ≡ lines ++ codes "endmodule\n"
-    → all ≡ structure_text library n
+    → wires ≡ head ++ wire_lines (ported_cells ported) n.signals n.gates
+    → lines ≡ wires ++ placement_lines (ported_cells ported) n.signals n.signals n.gates
+    → all ≡ lines ++ codes "endmodule\n" → all ≡ structure_text ported n
 unfolding structure_text
-text_by_calls library n none cells head lines all is_none are_cells is_head are_lines is_all =
-    let front = flat_map (λ c. verilog_text (cell_netlist c)) (used_cells library n) in
-    rw (is_all, are_lines, is_head, are_cells, is_none) (
-    four_parts front (head_text n.model n.signals) (placement_lines library.cells n.signals n.signals n.gates)
-    (codes "endmodule\n")
-    ∙ ap (λ (t : List ℕ). front ++ ((head_text n.model n.signals ++ t) ++ codes "endmodule\n"))
-    (apart placement_line (λ (p : Signal × Gate). placements_of library.cells n.signals p.0.name p.1)
-    (zip (filter (λ (x : Signal). is_driven x.kind) n.signals) n.gates)))
+text_by_calls ported n none cells head wires lines all is_none are_cells is_head are_wires are_lines is_all =
+    let front = flat_map (λ c. verilog_text (cell_netlist c)) (used_cells ported n) in
+    let library = ported_cells ported in
+    let pairs = driven_gates n.signals n.gates in
+    let first = head_text n.model n.signals in
+    let end = codes "endmodule\n" in
+    let instances = instances_from library n.signals n.signals n.gates in
+    let gate_of = λ (p : Signal × Gate). gate_instances library n.signals p.0.name p.1 in
+    rw (is_all, are_lines, are_wires, is_head, are_cells, is_none) (
+    five_parts front first (wire_lines library n.signals n.gates)
+    (placement_lines library n.signals n.signals n.gates) end
+    ∙ ap (λ (t : List ℕ). front ++ (((first ++ t) ++ placement_lines library n.signals n.signals n.gates) ++ end))
+    (nested wire_line (λ (p : Signal × Gate). map (inverted_net p.0.name) (inverted_pins library p.1)) pairs)
+    ∙ ap (λ (t : List ℕ). front ++ (((first ++ flat_map wire_line (inverted_nets library n.signals n.gates)) ++ t)
+    ++ end))
+    (nested placement_line (λ (p : Signal × Gate). flat_map in_order (gate_of p)) pairs
+    ∙ ap lines_of (nested_instances gate_of pairs)))
+  where
+    nested_instances : (g : Signal × Gate → List GateInstances) (ps : List (Signal × Gate))
+        → flat_map (λ p. flat_map in_order (g p)) ps ≡ flat_map in_order (flat_map g ps)
+    nested_instances g [] = refl
+    nested_instances g (p ∷ ps) = ap (λ (t : List Placement). flat_map in_order (g p) ++ t) (nested_instances g ps)
+        ∙ sym (flat_map-append in_order (g p) (flat_map g ps))

@@ -1,14 +1,13 @@
 -- What the parts of a structural text are read as.
-use Rattle.std.proofs.Common.{◌≡◌, ℕ, not, List, [], ◌∷◌, ◌++◌, flat_map, map, refl, sym, ap, ◌∙◌, append_assoc, codes}
+use Rattle.std.proofs.Common.{◌≡◌, ℕ, List, [], ◌∷◌, ◌++◌, flat_map, map, refl, sym, ap, ◌∙◌, append_assoc, codes}
 use Rattle.std.specs.List.{AllByRecursion, join_by}
-use Rattle.std.proofs.lemmas.Bool.{and_from}
+use Rattle.std.proofs.lemmas.Grind.{flat_map-append}
 use Rattle.std.proofs.lemmas.List.{append-nil}
-use Rattle.std.proofs.lemmas.List.Folds.{list_all-append}
 use Rattle.si_base.specs.declared.graph.Signal.{Signal}
 use Rattle.si_base.specs.declared.graph.SigKind.TheVariants.{Input, Output, Internal, Inserted}
 use Rattle.si_base.specs.NetlistText.{names_of}
 use Rattle.si_verilog.specs.Keywords.{keywords, is_keyword}
-use Rattle.si_verilog.specs.Symbols.{Symbol, Name, Word, Mark, is_blank, symbols_of}
+use Rattle.si_verilog.specs.Symbols.{Symbol, Name, Word, Mark, symbols_of}
 use Rattle.si_verilog.specs.Grammar.{Port, InputPort, OutputPort, Assign, Module, port_symbols, wire_symbols}
 use Rattle.si_verilog.specs.Grammar.{module_symbols}
 use Rattle.si_verilog.specs.ModuleText.{verilog_name, port_text, ports_text, wire_line, ports_of, wires_of}
@@ -19,7 +18,7 @@ use Rattle.si_verilog.proofs.SymbolLemmas.{output_read, wire_read, comma_read, l
 use Rattle.si_verilog.proofs.SymbolLemmas.{written_read}
 use Rattle.si_verilog.proofs.NetlistLemmas.{Writable, kind_writable, all_append}
 use Rattle.si_structure.specs.Parts.{Connection, Placement, connection_symbols, placement_symbols}
-use Rattle.si_structure.specs.StructureText.{connection_text, head_text, instance_name, placement_line}
+use Rattle.si_structure.specs.StructureText.{connection_text, head_text, placement_line}
 
 -- ---- ports
 
@@ -173,6 +172,45 @@ module _ (name : List ℕ) (signals : List Signal) (named : IsWritable name) (al
       ∙ ap (λ (s : List Symbol). s ++ symbols_of rest)
       (grouped module_word model opens port_list closes wire_list symbols (Word (codes "endmodule") ∷ []))
 
+-- ---- more wires behind those of the signals
+
+-- the same module with these wires too
+abbrev pub framed_with : List ℕ → List Signal → List (List ℕ) → List Assign → Module
+framed_with name signals wires assigns = record {
+  name = name;
+  ports = ports_of signals;
+  wires = wires_of signals ++ wires;
+  assigns = assigns;
+}
+
+wires_apart : (w v s e : List Symbol) → w ++ ((v ++ s) ++ e) ≡ (w ++ v) ++ (s ++ e)
+wires_apart w v s e = simp append_assoc
+
+texts_apart : (h w b e : List ℕ) → (h ++ (w ++ b)) ++ e ≡ ((h ++ w) ++ b) ++ e
+texts_apart h w b e = simp append_assoc
+
+pub wider_part_read : (name : List ℕ) (signals : List Signal) (wires : List (List ℕ)) → IsWritable name
+    → AllByRecursion Writable signals → AllByRecursion IsWritable wires → (body : List ℕ) (symbols : List Symbol)
+    (assigns : List Assign) → Reads body symbols
+    → Reads (head_text name signals ++ flat_map wire_line wires ++ body ++ codes "endmodule\n")
+    (module_symbols (framed_with name signals wires assigns) symbols)
+wider_part_read name signals wires named all writable body symbols assigns reads = λ rest.
+    let lines = flat_map wire_line wires in
+    let marks = flat_map wire_symbols wires in
+    let first : List Symbol = Word (codes "module") ∷ Name name ∷ Mark 40 ∷ [] in
+    let ports : List Symbol = join_by port_symbols (Mark 44 ∷ []) (ports_of signals) in
+    let closes : List Symbol = Mark 41 ∷ Mark 59 ∷ [] in
+    let end : List Symbol = Word (codes "endmodule") ∷ [] in
+    let own = flat_map wire_symbols (wires_of signals) in
+    ap (λ (t : List ℕ). symbols_of (t ++ rest))
+    (sym (texts_apart (head_text name signals) lines body (codes "endmodule\n")))
+    ∙ part_read name signals named all (lines ++ body) (marks ++ symbols) assigns
+    (both_read lines body marks symbols (wires_read wires writable) reads) rest
+    ∙ ap (λ (t : List Symbol). (first ++ (ports ++ (closes ++ t))) ++ symbols_of rest)
+    (wires_apart own marks symbols end
+    ∙ ap (λ (w : List Symbol). w ++ (symbols ++ end))
+    (sym (flat_map-append wire_symbols (wires_of signals) wires)))
+
 -- ---- instances
 
 pub record CanConnect (c : Connection) : Type 0 where
@@ -268,15 +306,3 @@ pub placements_read : (ps : List Placement) → AllByRecursion CanPlace ps
 placements_read [] all = λ rest. refl
 placements_read (p ∷ ps) all = both_read (placement_line p) (flat_map placement_line ps) (placement_symbols p)
     (flat_map placement_symbols ps) (placement_read p all.0) (placements_read ps all.1)
-
--- ---- names of instances
-
-pub instance_writable : (name : List ℕ) → IsWritable name → IsWritable (instance_name name)
-instance_writable name writable = record {
-  some = λ none. writable.some (front name none);
-  dark = list_all-append (λ b. not (is_blank b)) name (codes "$gate") ∙ and_from _ _ writable.dark refl;
-}
-  where
-    front : (n : List ℕ) → n ++ codes "$gate" ≡ [] → n ≡ []
-    front [] none = refl
-    front (b ∷ bs) none = cc

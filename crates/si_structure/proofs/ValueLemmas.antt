@@ -1,25 +1,29 @@
 -- The value of an instance's output: that of the cell's sum at the values of its nets.
-use Rattle.std.proofs.Common.{◌≡◌, ℕ, zero, suc, ◌+◌, ◌<◌, ◌&&◌, ◌||◌, not, Bool, true, false, List, [], ◌∷◌, ◌++◌}
-use Rattle.std.proofs.Common.{length, map, bytes_eq, get_or, if◌then◌else◌, refl, sym, ap, ◌∙◌, arith}
-use Rattle.std.specs.Prelude.{IsTrue}
-use Rattle.std.specs.List.{AllByRecursion, list_all}
-use Rattle.std.proofs.Common.{append_assoc}
+use Rattle.std.proofs.Common.{◌≡◌, ℕ, zero, suc, ◌+◌, ◌<◌, ◌==◌, ◌&&◌, ◌||◌, not, Bool, true, false, List, [], ◌∷◌}
+use Rattle.std.proofs.Common.{◌++◌, length, map, bytes_eq, get_or, if◌then◌else◌, refl, sym, ap, ◌∙◌, arith, subst}
+use Rattle.std.proofs.Common.{append_assoc, inl, inr}
+use Rattle.std.specs.List.{AllByRecursion, list_all, list_any}
+use Rattle.std.proofs.lemmas.Bool.{and_parts, cases_Bool, not-true, or_parts, true≢false}
+use Rattle.std.proofs.lemmas.Bool.Decides.{eqb_tells, Decides-eqb}
 use Rattle.std.proofs.lemmas.List.{length-map, map-append}
+use Rattle.std.proofs.lemmas.List.Elements.{recursion_from_All}
 use mathlib.Core.Bool.{beq}
 use Rattle.si_base.specs.declared.ids.Literal.{Literal}
 use Rattle.si_base.specs.declared.graph.Signal.{Signal}
 use Rattle.si_base.specs.Bits.{bit}
 use Rattle.si_base.specs.Netlist.{Sum, literal_value, sum_value}
-use Rattle.si_base.specs.NetlistText.{name_of}
-use Rattle.si_cell.specs.Library.{Cell, code_of, own}
+use Rattle.si_base.specs.WellFormed.{IsCube}
+use Rattle.si_cell.specs.Library.{Cell, IsCell, code_of}
 use Rattle.si_cell.proofs.ExpandedLemmas.{bit_of}
-use Rattle.si_verilog.specs.Grammar.{Tree, Constant, Named, Not, And, Or, tree_value}
+use Rattle.si_verilog.specs.Grammar.{Module, Tree, Constant, Named, Not, And, Or, tree_value}
 use Rattle.si_verilog.specs.Meaning.{named_from, named_value}
 use Rattle.si_verilog.proofs.MeaningLemmas.{AreThere}
 use Rattle.si_structure.specs.Parts.{Connection}
 use Rattle.si_structure.specs.Meaning.{port_value}
-use Rattle.si_structure.specs.StructureText.{feedback, reads_own, cell_inputs, pin_connections}
-use Rattle.si_structure.specs.StructureText.{own_connections}
+use Rattle.si_structure.specs.StructureText.{PortedCell, cell_inputs, cell_signals, connected, feedback, is_inverter}
+use Rattle.si_structure.specs.StructureText.{own_connections, reads_own}
+use Rattle.si_structure.proofs.CellLemmas.{DrivesOwn, IsPortedCell, names_back, sum_there}
+use Rattle.si_netlist.specs.Reads.{sum_reads}
 
 -- ---- trees and sums at values that agree
 
@@ -85,96 +89,167 @@ at_the_nets nets xs cs t names =
     let place : 0 + k ≡ k = omega arith in
     ap (bit (code_of (net_values nets cs))) place ∙ bit_of (net_values nets cs) k)) t
 
+-- ---- sums that don't read a signal
+
+cube_unread : (n : ℕ) (cube : List Literal) → AreThere (n + 1) cube → list_any (λ l. l.sig == n) cube ≡ false
+    → AreThere n cube
+cube_unread n [] there none = tt
+cube_unread n (l ∷ ls) there none =
+    let parts = or_parts (l.sig == n) (list_any (λ m. m.sig == n) ls) none in
+    let below = there.0 in
+    (other l below parts.0, cube_unread n ls there.1 parts.1)
+  where
+    other : (m : Literal) → m.sig < n + 1 → (m.sig == n) ≡ false → m.sig < n
+    other m below is = elim (eqb_tells m.sig n) [
+      | inl same ↦ absurd (true≢false (sym ((Decides-eqb m.sig n).1 same.1) ∙ is))
+      | inr apart ↦ (let differs = apart.1 in omega arith)
+    ]
+
+sum_unread : (n : ℕ) (sum : Sum) → AllByRecursion (AreThere (n + 1)) sum → sum_reads sum n ≡ false
+    → AllByRecursion (AreThere n) sum
+sum_unread n [] there none = tt
+sum_unread n (c ∷ cs) there none =
+    let parts = or_parts (list_any (λ (l : Literal). l.sig == n) c) (sum_reads cs n) none in
+    (cube_unread n c there.0 parts.0, sum_unread n cs there.1 parts.1)
+
+pub cell_sum_there : (cell : Cell) → IsCell cell → AllByRecursion (AreThere (length cell.pins + 1)) cell.sum
+cell_sum_there cell is = sum_there (length cell.pins + 1) (length cell.pins + 1) (omega arith) cell.sum
+    (recursion_from_All (IsCube (length cell.pins + 1)) cell.sum is.sum)
+
 -- ---- the values of the nets of an instance
 
--- each literal is plain, and its signal has the value of its name
-abbrev pub AreWired : List Signal → (List ℕ → Bool) → ℕ → List Literal → Type 0
-AreWired signals nets values literals =
-    AllByRecursion (λ l. IsTrue l.plain × (nets (name_of signals l.sig) ≡ bit values l.sig)) literals
+connected_values : (nets : List ℕ → Bool) (pins ns : List (List ℕ)) → length ns ≡ length pins
+    → net_values nets (connected pins ns) ≡ map nets ns
+connected_values nets [] [] same = refl
+connected_values nets [] (n ∷ ns) same = absurd (omega arith)
+connected_values nets (p ∷ ps) [] same = absurd (omega arith)
+connected_values nets (p ∷ ps) (n ∷ ns) same =
+    let rest : length ns ≡ length ps = omega arith in
+    ap (λ (bs : List Bool). nets n ∷ bs) (connected_values nets ps ns rest)
 
-plain_value : (b p : Bool) → p ≡ true → b ≡ beq b p
-plain_value true true is = refl
-plain_value false true is = refl
-plain_value b false is = cc
-
-pin_values_are : (signals : List Signal) (nets : List ℕ → Bool) (values : ℕ) (pins : List (List ℕ))
-    (literals : List Literal) → length literals ≡ length pins → AreWired signals nets values literals
-    → net_values nets (pin_connections signals pins literals) ≡ map (literal_value values) literals
-pin_values_are signals nets values [] [] same wired = refl
-pin_values_are signals nets values [] (l ∷ ls) same wired = absurd (omega arith)
-pin_values_are signals nets values (p ∷ ps) [] same wired = absurd (omega arith)
-pin_values_are signals nets values (p ∷ ps) (l ∷ ls) same wired =
-    let rest : length ls ≡ length ps = omega arith in
-    ap (λ (b : Bool). b ∷ net_values nets (pin_connections signals ps ls))
-    (wired.0.1 ∙ plain_value (bit values l.sig) l.plain wired.0.0)
-    ∙ ap (λ (bs : List Bool). literal_value values l ∷ bs) (pin_values_are signals nets values ps ls rest wired.1)
-
-agree_below : (bs : List Bool) (q reads : Bool) (k : ℕ) → k < length bs + 1
-    → get_or (bs ++ (if reads then q ∷ q ∷ [] else q ∷ [])) k false ≡ get_or (bs ++ q ∷ []) k false
-agree_below [] q true zero below = refl
-agree_below [] q true (suc k) below = absurd (omega arith)
-agree_below [] q false k below = refl
-agree_below (b ∷ bs) q reads zero below = refl
-agree_below (b ∷ bs) q reads (suc k) below = agree_below bs q reads k (omega arith)
-
-own_values : (nets : List ℕ → Bool) (cell : Cell) (name : List ℕ)
-    → net_values nets (own_connections cell name)
-    ≡ (if reads_own cell then nets name ∷ nets name ∷ [] else nets name ∷ [])
-own_values nets cell name = by (reads_own cell)
+own_values : (nets : List ℕ → Bool) (c : PortedCell) (read driven : List ℕ)
+    → net_values nets (own_connections c read driven)
+    ≡ (if reads_own c.cell then nets read ∷ nets driven ∷ [] else nets driven ∷ [])
+own_values nets c read driven = by (reads_own c.cell)
   where
-    by : (reads : Bool) → net_values nets ((if reads then record { port = feedback; net = name } ∷ [] else [])
-        ++ record { port = own; net = name } ∷ []) ≡ (if reads then nets name ∷ nets name ∷ [] else nets name ∷ [])
+    by : (reads : Bool) → net_values nets ((if reads then record { port = feedback c.ports; net = read } ∷ [] else [])
+        ++ record { port = c.ports.output; net = driven } ∷ [])
+        ≡ (if reads then nets read ∷ nets driven ∷ [] else nets driven ∷ [])
     by true = refl
     by false = refl
 
-module _ (signals : List Signal) (nets : List ℕ → Bool) (values : ℕ) (cell : Cell) (literals : List Literal)
-    (name : List ℕ) (same : length literals ≡ length cell.pins) (wired : AreWired signals nets values literals)
-    (there : AllByRecursion (AreThere (length cell.pins + 1)) cell.sum) where
-  all_values : net_values nets (pin_connections signals cell.pins literals ++ own_connections cell name)
-      ≡ map (literal_value values) literals
-      ++ (if reads_own cell then nets name ∷ nets name ∷ [] else nets name ∷ [])
-  all_values = map-append (λ (c : Connection). nets c.net) (pin_connections signals cell.pins literals)
-      (own_connections cell name)
-      ∙ ap (λ (bs : List Bool). bs ++ net_values nets (own_connections cell name))
-      (pin_values_are signals nets values cell.pins literals same wired)
-      ∙ ap (λ (bs : List Bool). map (literal_value values) literals ++ bs) (own_values nets cell name)
+agree_reading : (bs : List Bool) (q d : Bool) (k : ℕ) → k < length bs + 1
+    → get_or (bs ++ q ∷ d ∷ []) k false ≡ get_or (bs ++ q ∷ []) k false
+agree_reading [] q d zero below = refl
+agree_reading [] q d (suc k) below = absurd (omega arith)
+agree_reading (b ∷ bs) q d zero below = refl
+agree_reading (b ∷ bs) q d (suc k) below = agree_reading bs q d k (omega arith)
 
-  -- the sum has there the value that it has where the own output has the value of the signal
-  pub sum_at_the_nets : sum_value (code_of (net_values nets (pin_connections signals cell.pins literals
-      ++ own_connections cell name))) cell.sum
-      ≡ sum_value (code_of (map (literal_value values) literals ++ nets name ∷ [])) cell.sum
-  sum_at_the_nets =
-      let bs = map (literal_value values) literals in
-      let some = bs ++ (if reads_own cell then nets name ∷ nets name ∷ [] else nets name ∷ []) in
-      let count : length bs ≡ length cell.pins = length-map literals (literal_value values) ∙ same in
-      ap (λ (vs : List Bool). sum_value (code_of vs) cell.sum) all_values
-      ∙ sum_same (code_of some) (code_of (bs ++ nets name ∷ [])) (length cell.pins + 1) (λ k below.
+agree_before : (bs : List Bool) (q d : Bool) (k : ℕ) → k < length bs
+    → get_or (bs ++ d ∷ []) k false ≡ get_or (bs ++ q ∷ []) k false
+agree_before [] q d k below = absurd (omega arith)
+agree_before (b ∷ bs) q d zero below = refl
+agree_before (b ∷ bs) q d (suc k) below = agree_before bs q d k (omega arith)
+
+-- the sum of a cell sees the net that is read as the own output, and not the one that is driven
+sum_reading : (cell : Cell) → IsCell cell → (bs : List Bool) → length bs ≡ length cell.pins → (q d : Bool)
+    → sum_value (code_of (bs ++ (if reads_own cell then q ∷ d ∷ [] else d ∷ []))) cell.sum
+    ≡ sum_value (code_of (bs ++ q ∷ [])) cell.sum
+sum_reading cell is bs count q d = elim (cases_Bool (reads_own cell)) [
+  | inl reads ↦ rw reads (sum_same (code_of (bs ++ q ∷ d ∷ [])) (code_of (bs ++ q ∷ [])) (length cell.pins + 1)
+      (λ k below.
       let within : k < length bs + 1 = omega arith in
-      bit_of some k ∙ agree_below bs (nets name) (reads_own cell) k within
-      ∙ sym (bit_of (bs ++ nets name ∷ []) k)) cell.sum there
+      bit_of (bs ++ q ∷ d ∷ []) k ∙ agree_reading bs q d k within ∙ sym (bit_of (bs ++ q ∷ []) k))
+      cell.sum (cell_sum_there cell is))
+  | inr other ↦ rw other (sum_same (code_of (bs ++ d ∷ [])) (code_of (bs ++ q ∷ [])) (length cell.pins)
+      (λ k below.
+      let within : k < length bs = omega arith in
+      bit_of (bs ++ d ∷ []) k ∙ agree_before bs q d k within ∙ sym (bit_of (bs ++ q ∷ []) k))
+      cell.sum (sum_unread (length cell.pins) cell.sum (cell_sum_there cell is) other))
+]
 
 -- ---- the names of the ports of an instance
 
-pin_names : (signals : List Signal) (pins : List (List ℕ)) (literals : List Literal) → length literals ≡ length pins
-    → port_names (pin_connections signals pins literals) ≡ pins
-pin_names signals [] [] same = refl
-pin_names signals [] (l ∷ ls) same = absurd (omega arith)
-pin_names signals (p ∷ ps) [] same = absurd (omega arith)
-pin_names signals (p ∷ ps) (l ∷ ls) same =
-    let rest : length ls ≡ length ps = omega arith in
-    ap (λ (ns : List (List ℕ)). p ∷ ns) (pin_names signals ps ls rest)
+connected_ports : (pins ns : List (List ℕ)) → length ns ≡ length pins → port_names (connected pins ns) ≡ pins
+connected_ports [] [] same = refl
+connected_ports [] (n ∷ ns) same = absurd (omega arith)
+connected_ports (p ∷ ps) [] same = absurd (omega arith)
+connected_ports (p ∷ ps) (n ∷ ns) same =
+    let rest : length ns ≡ length ps = omega arith in
+    ap (λ (names : List (List ℕ)). p ∷ names) (connected_ports ps ns rest)
 
-pub ports_are : (signals : List Signal) (cell : Cell) (literals : List Literal) (name : List ℕ)
-    → length literals ≡ length cell.pins
-    → port_names (pin_connections signals cell.pins literals ++ own_connections cell name)
-    ≡ cell_inputs cell ++ own ∷ []
-ports_are signals cell literals name same =
-    map-append (λ (c : Connection). c.port) (pin_connections signals cell.pins literals) (own_connections cell name)
-    ∙ ap (λ (ns : List (List ℕ)). ns ++ port_names (own_connections cell name))
-    (pin_names signals cell.pins literals same) ∙ by (reads_own cell)
+pub ports_are : (c : PortedCell) (ns : List (List ℕ)) (read driven : List ℕ) → length ns ≡ length c.ports.pins
+    → port_names (connected c.ports.pins ns ++ own_connections c read driven)
+    ≡ cell_inputs c ++ c.ports.output ∷ []
+ports_are c ns read driven same =
+    map-append (λ (d : Connection). d.port) (connected c.ports.pins ns) (own_connections c read driven)
+    ∙ ap (λ (names : List (List ℕ)). names ++ port_names (own_connections c read driven))
+    (connected_ports c.ports.pins ns same) ∙ by (reads_own c.cell)
   where
-    by : (reads : Bool) → cell.pins ++ port_names ((if reads then record { port = feedback; net = name } ∷ [] else [])
-        ++ record { port = own; net = name } ∷ [])
-        ≡ (cell.pins ++ (if reads then feedback ∷ [] else [])) ++ own ∷ []
-    by true = sym (append_assoc cell.pins (feedback ∷ []) (own ∷ []))
-    by false = sym (append_assoc cell.pins [] (own ∷ []))
+    by : (reads : Bool) → c.ports.pins
+        ++ port_names ((if reads then record { port = feedback c.ports; net = read } ∷ [] else [])
+        ++ record { port = c.ports.output; net = driven } ∷ [])
+        ≡ (c.ports.pins ++ (if reads then feedback c.ports ∷ [] else [])) ++ c.ports.output ∷ []
+    by true = sym (append_assoc c.ports.pins (feedback c.ports ∷ []) (c.ports.output ∷ []))
+    by false = sym (append_assoc c.ports.pins [] (c.ports.output ∷ []))
+
+-- ---- the value of an instance
+
+-- it is that of the cell's sum at the values of the pins' nets, and of the net that is read
+pub instance_value : (c : PortedCell) → IsPortedCell c → (m : Module) (drives : DrivesOwn c m)
+    (nets : List ℕ → Bool) (ns : List (List ℕ)) (read driven : List ℕ) → length ns ≡ length c.ports.pins
+    → tree_value (port_value nets (connected c.ports.pins ns ++ own_connections c read driven)) drives.tree
+    ≡ sum_value (code_of (map nets ns ++ nets read ∷ [])) c.cell.sum
+instance_value c is m drives nets ns read driven same =
+    let cs = connected c.ports.pins ns ++ own_connections c read driven in
+    let bs = map nets ns in
+    let some = bs ++ (if reads_own c.cell then nets read ∷ nets driven ∷ [] else nets driven ∷ []) in
+    let count : length bs ≡ length c.cell.pins = length-map ns nets ∙ same ∙ is.ports.count in
+    let all : net_values nets cs ≡ some =
+    map-append (λ (d : Connection). nets d.net) (connected c.ports.pins ns) (own_connections c read driven)
+    ∙ ap (λ (vs : List Bool). vs ++ net_values nets (own_connections c read driven))
+    (connected_values nets c.ports.pins ns same)
+    ∙ ap (λ (vs : List Bool). bs ++ vs) (own_values nets c read driven) in
+    at_the_nets nets (cell_signals c) cs drives.tree
+    (names_back (cell_inputs c) c.ports.output ∙ sym (ports_are c ns read driven same))
+    ∙ drives.value (code_of (net_values nets cs))
+    ∙ ap (λ (vs : List Bool). sum_value (code_of vs) c.cell.sum) all
+    ∙ sum_reading c.cell is.cell bs count (nets read) (nets driven)
+
+-- ---- inverters
+
+-- what is_inverter tells of a cell
+pub record Inverts (cell : Cell) : Type 0 where
+  pub one : length cell.pins ≡ 1
+  pub alone : reads_own cell ≡ false
+  pub rises : sum_value 0 cell.sum ≡ true
+  pub falls : sum_value 1 cell.sum ≡ false
+
+pub inverts_from : (cell : Cell) → is_inverter cell ≡ true → Inverts cell
+inverts_from cell is =
+    let last = and_parts ((length cell.pins == 1) && not (reads_own cell) && sum_value 0 cell.sum)
+    (not (sum_value 1 cell.sum)) is in
+    let third = and_parts ((length cell.pins == 1) && not (reads_own cell)) (sum_value 0 cell.sum) last.0 in
+    let second = and_parts (length cell.pins == 1) (not (reads_own cell)) third.0 in
+    record {
+      one = (Decides-eqb (length cell.pins) 1).0 second.0;
+      alone = not-true (reads_own cell) second.1;
+      rises = third.1;
+      falls = not-true (sum_value 1 cell.sum) last.1;
+    }
+
+pub inverter_value : (cell : Cell) → IsCell cell → Inverts cell → (a q : Bool)
+    → sum_value (code_of (a ∷ q ∷ [])) cell.sum ≡ not a
+inverter_value cell is inverts a q = by a
+  where
+    there : AllByRecursion (AreThere 1) cell.sum
+    there = subst (λ (n : ℕ). AllByRecursion (AreThere n) cell.sum) inverts.one
+        (sum_unread (length cell.pins) cell.sum (cell_sum_there cell is) inverts.alone)
+
+    first : (b : Bool) (v : ℕ) → b ≡ bit v 0 → (k : ℕ) → k < 1 → bit (code_of (b ∷ q ∷ [])) k ≡ bit v k
+    first b v same zero below = bit_of (b ∷ q ∷ []) 0 ∙ same
+    first b v same (suc k) below = absurd (omega arith)
+
+    by : (b : Bool) → sum_value (code_of (b ∷ q ∷ [])) cell.sum ≡ not b
+    by true = sum_same (code_of (true ∷ q ∷ [])) 1 1 (first true 1 refl) cell.sum there ∙ inverts.falls
+    by false = sum_same (code_of (false ∷ q ∷ [])) 0 1 (first false 0 refl) cell.sum there ∙ inverts.rises

@@ -1,49 +1,85 @@
 -- (text) The text of a netlist as modules: the cells that it uses, and the controller, with an
 -- instance of a cell for each gate.
-use Rattle.std.specs.Prelude.{ℕ, Bool, false, List, [], ◌∷◌, ◌++◌, map, filter, flat_map, length}
-use Rattle.std.specs.Prelude.{bytes_eq, codes, if◌then◌else◌, Option, Some, None}
+use Rattle.std.specs.Prelude.{ℕ, ◌==◌, ◌&&◌, ◌||◌, not, Bool, false, List, [], ◌∷◌, ◌++◌, map}
+use Rattle.std.specs.Prelude.{filter, flat_map, length, bytes_eq, codes, if◌then◌else◌}
+use Rattle.std.specs.Prelude.{Option, Some, None}
 use Rattle.std.specs.List.{join_by, list_any, zip}
 use Rattle.si_base.specs.declared.ids.Literal.{Literal}
 use Rattle.si_base.specs.declared.graph.Signal.{Signal}
 use Rattle.si_base.specs.declared.graph.SigKind.TheVariants.{Input, Output}
 use Rattle.si_base.specs.Graph.{is_driven}
-use Rattle.si_base.specs.Netlist.{Gate, SumGate, Gc, Cell as CellGate, Netlist}
+use Rattle.si_base.specs.Netlist.{Gate, SumGate, Gc, Cell as CellGate, Netlist, sum_value}
 use Rattle.si_base.specs.NetlistText.{name_of}
 use Rattle.si_netlist.specs.Reads.{sum_reads}
-use Rattle.si_cell.specs.Library.{Cell, Library, own}
+use Rattle.si_cell.specs.Library.{Cell}
+use Rattle.si_genlib.specs.Ports.{Ports, PortedLibrary}
 use Rattle.si_verilog.specs.ModuleText.{verilog_name, ports_text, wire_line, ports_of, wires_of}
 use Rattle.si_verilog.specs.ModuleText.{verilog_text}
 use Rattle.si_structure.specs.Parts.{Connection, Placement}
 
+-- ---- cells with the names of their ports
+
+pub record PortedCell : Type 0 where
+  pub cell : Cell
+  pub ports : Ports
+
+abbrev pub with_ports : List Cell → List Ports → List PortedCell
+with_ports [] ports = []
+with_ports (c ∷ cs) [] = []
+with_ports (c ∷ cs) (p ∷ ps) = record { cell = c; ports = p } ∷ with_ports cs ps
+
+abbrev pub ported_cells : PortedLibrary → List PortedCell
+ported_cells ported = with_ports ported.library.cells ported.ports
+
+-- the first cell of the name
+abbrev pub cell_named : List PortedCell → List ℕ → Option PortedCell
+cell_named [] name = None
+cell_named (c ∷ cs) name = if bytes_eq c.cell.name name then Some c else cell_named cs name
+
 -- ---- a cell as a module
 
--- the port by which a cell reads its own output: no pin has a `$` in its name
-abbrev pub feedback : List ℕ
-feedback = codes "q$in"
+-- the port by which a cell reads its own output: no other port has a `$` in its name
+abbrev pub feedback : Ports → List ℕ
+feedback ports = ports.output ++ codes "$in"
 
 abbrev pub reads_own : Cell → Bool
 reads_own cell = sum_reads cell.sum (length cell.pins)
 
 -- its pins, and that port where its sum reads its own output
-abbrev pub cell_inputs : Cell → List (List ℕ)
-cell_inputs cell = cell.pins ++ (if reads_own cell then feedback ∷ [] else [])
+abbrev pub cell_inputs : PortedCell → List (List ℕ)
+cell_inputs c = c.ports.pins ++ (if reads_own c.cell then feedback c.ports ∷ [] else [])
 
 abbrev pub input : List ℕ → Signal
 input name = record { name = name; kind = Input }
 
-abbrev pub cell_signals : Cell → List Signal
-cell_signals cell = map input (cell_inputs cell) ++ record { name = own; kind = Output } ∷ []
+abbrev pub output : List ℕ → Signal
+output name = record { name = name; kind = Output }
+
+abbrev pub cell_signals : PortedCell → List Signal
+cell_signals c = map input (cell_inputs c) ++ output c.ports.output ∷ []
 
 -- a netlist of one gate, which has the cell's sum over its inputs: so its own output is an input
 -- like others, and nothing in it holds a value
-abbrev pub cell_netlist : Cell → Netlist
-cell_netlist cell = record {
-  model = cell.name;
-  signals = cell_signals cell;
+abbrev pub cell_netlist : PortedCell → Netlist
+cell_netlist c = record {
+  model = c.cell.name;
+  signals = cell_signals c;
   start = 0;
   inserts = [];
-  gates = SumGate cell.sum ∷ [];
+  gates = SumGate c.cell.sum ∷ [];
 }
+
+-- ---- inverters
+
+-- the cell has one pin, and its sum is the complement of that and reads nothing else
+abbrev pub is_inverter : Cell → Bool
+is_inverter cell = (length cell.pins == 1) && not (reads_own cell) && sum_value 0 cell.sum
+    && not (sum_value 1 cell.sum)
+
+-- the first of the cells that is one
+abbrev pub inverter_of : List PortedCell → Option PortedCell
+inverter_of [] = None
+inverter_of (c ∷ cs) = if is_inverter c.cell then Some c else inverter_of cs
 
 -- ---- the cells that are used
 
@@ -53,17 +89,27 @@ is_of cell (SumGate sum) = false
 is_of cell (Gc set reset) = false
 is_of cell (CellGate name literals sum) = bytes_eq cell.name name
 
-abbrev pub is_used : Netlist → Cell → Bool
-is_used n cell = list_any (is_of cell) n.gates
+abbrev pub is_complemented : Literal → Bool
+is_complemented l = not l.plain
 
--- those of the library that gates have the names of, in the order of the library
-abbrev pub used_cells : Library → Netlist → List Cell
-used_cells library n = filter (is_used n) library.cells
+-- a pin of the gate's cell has a complemented literal
+abbrev pub has_complemented : Gate → Bool
+has_complemented (SumGate sum) = false
+has_complemented (Gc set reset) = false
+has_complemented (CellGate name literals sum) = list_any is_complemented literals
 
--- the first cell of the name
-abbrev pub cell_named : List Cell → List ℕ → Option Cell
-cell_named [] name = None
-cell_named (c ∷ cs) name = if bytes_eq c.name name then Some c else cell_named cs name
+abbrev pub has_name_of : Cell → Option PortedCell → Bool
+has_name_of cell None = false
+has_name_of cell (Some c) = bytes_eq cell.name c.cell.name
+
+-- gates have the name of the cell, or it is the inverter of complemented literals
+abbrev pub is_used : List PortedCell → Netlist → Cell → Bool
+is_used cells n cell = list_any (is_of cell) n.gates
+    || (has_name_of cell (inverter_of cells) && list_any has_complemented n.gates)
+
+-- those of the library that are used, in its order
+abbrev pub used_cells : PortedLibrary → Netlist → List PortedCell
+used_cells ported n = filter (λ c. is_used (ported_cells ported) n c.cell) (ported_cells ported)
 
 -- ---- instances
 
@@ -71,42 +117,119 @@ cell_named (c ∷ cs) name = if bytes_eq c.name name then Some c else cell_named
 abbrev pub instance_name : List ℕ → List ℕ
 instance_name name = name ++ codes "$gate"
 
--- each pin is connected to the signal of its literal
-abbrev pub pin_connections : List Signal → List (List ℕ) → List Literal → List Connection
-pin_connections signals pins literals =
-    map (λ p. record { port = p.0; net = name_of signals p.1.sig }) (zip pins literals)
+-- the inverter at a pin of the gate of a signal, and the net that it drives
+abbrev pub inverter_name : (name pin : List ℕ) → List ℕ
+inverter_name name pin = name ++ codes "$" ++ pin ++ codes "$inverter"
 
--- the signal that the gate drives is connected to the own output, and where the cell reads that,
--- to the port by which it does
-abbrev pub own_connections : Cell → List ℕ → List Connection
-own_connections cell name =
-    (if reads_own cell then record { port = feedback; net = name } ∷ [] else [])
-    ++ record { port = own; net = name } ∷ []
+abbrev pub inverted_net : (name pin : List ℕ) → List ℕ
+inverted_net name pin = name ++ codes "$" ++ pin ++ codes "$inverted"
 
--- a cell with these literals, as the gate of a signal of this name
-abbrev pub placed : List Signal → List ℕ → Cell → List Literal → Placement
-placed signals name cell literals = record {
-  cell = cell.name;
-  name = instance_name name;
-  connections = pin_connections signals cell.pins literals ++ own_connections cell name;
+-- each port is connected to the net in its place
+abbrev pub connected : (ports nets : List (List ℕ)) → List Connection
+connected ports nets = map (λ p. record { port = p.0; net = p.1 }) (zip ports nets)
+
+-- the output is connected to the net that it drives, and where the cell reads its own output, the
+-- port by which it does to the net that it reads
+abbrev pub own_connections : PortedCell → (read driven : List ℕ) → List Connection
+own_connections c read driven =
+    (if reads_own c.cell then record { port = feedback c.ports; net = read } ∷ [] else [])
+    ++ record { port = c.ports.output; net = driven } ∷ []
+
+-- an instance of the cell with these nets at its pins
+abbrev pub placed : (instance : List ℕ) → PortedCell → (nets : List (List ℕ))
+    → (read driven : List ℕ) → Placement
+placed instance c nets read driven = record {
+  cell = c.cell.name;
+  name = instance;
+  connections = connected c.ports.pins nets ++ own_connections c read driven;
 }
 
-abbrev pub placed_if_any : List Signal → List ℕ → Option Cell → List Literal → List Placement
-placed_if_any signals name None literals = []
-placed_if_any signals name (Some cell) literals = placed signals name cell literals ∷ []
+-- a pin reads the signal of its literal, or the net of an inverter where that is complemented
+abbrev pub pin_net : List Signal → (name pin : List ℕ) → Literal → List ℕ
+pin_net signals name pin l =
+    if l.plain then name_of signals l.sig else inverted_net name pin
 
--- the instance for the gate of a signal of this name: none where it has no cell
-abbrev pub placements_of : List Cell → List Signal → List ℕ → Gate → List Placement
-placements_of cells signals name (SumGate sum) = []
-placements_of cells signals name (Gc set reset) = []
-placements_of cells signals name (CellGate cell literals sum) =
-    placed_if_any signals name (cell_named cells cell) literals
+abbrev pub pin_nets : List Signal → List ℕ → List (List ℕ) → List Literal → List (List ℕ)
+pin_nets signals name pins literals = map (λ p. pin_net signals name p.0 p.1) (zip pins literals)
+
+-- the complemented literals, each with its pin
+abbrev pub complemented : List (List ℕ) → List Literal → List (List ℕ × Literal)
+complemented pins literals = filter (λ p. is_complemented p.1) (zip pins literals)
+
+-- an inverter from a net, at a pin of the gate of a signal of this name
+abbrev pub inverter_placed : PortedCell → (name pin source : List ℕ) → Placement
+inverter_placed inverter name pin source =
+    placed (inverter_name name pin) inverter (source ∷ []) (inverted_net name pin)
+    (inverted_net name pin)
+
+-- none where there is no cell for it
+abbrev pub inverter_if_any : Option PortedCell → (name pin source : List ℕ) → List Placement
+inverter_if_any None name pin source = []
+inverter_if_any (Some inverter) name pin source = inverter_placed inverter name pin source ∷ []
+
+-- one for each complemented literal, from its signal
+abbrev pub inverters_placed : Option PortedCell → List Signal → List ℕ → List (List ℕ)
+    → List Literal → List Placement
+inverters_placed inverter signals name pins literals =
+    flat_map (λ p. inverter_if_any inverter name p.0 (name_of signals p.1.sig))
+    (complemented pins literals)
+
+-- the instances for a gate: inverters at its pins, and behind them its own
+pub record GateInstances : Type 0 where
+  pub inverters : List Placement
+  pub gate : Placement
+
+abbrev pub in_order : GateInstances → List Placement
+in_order i = i.inverters ++ i.gate ∷ []
+
+-- those for a cell with these literals, as the gate of a signal of this name
+abbrev pub cell_instances : List PortedCell → List Signal → List ℕ → PortedCell → List Literal
+    → GateInstances
+cell_instances cells signals name c literals = record {
+  inverters = inverters_placed (inverter_of cells) signals name c.ports.pins literals;
+  gate = placed (instance_name name) c (pin_nets signals name c.ports.pins literals) name name;
+}
+
+abbrev pub instances_if_any : List PortedCell → List Signal → List ℕ → Option PortedCell
+    → List Literal → List GateInstances
+instances_if_any cells signals name None literals = []
+instances_if_any cells signals name (Some c) literals =
+    cell_instances cells signals name c literals ∷ []
+
+-- those for the gate of a signal of this name: none where it has no cell
+abbrev pub gate_instances : List PortedCell → List Signal → List ℕ → Gate → List GateInstances
+gate_instances cells signals name (SumGate sum) = []
+gate_instances cells signals name (Gc set reset) = []
+gate_instances cells signals name (CellGate cell literals sum) =
+    instances_if_any cells signals name (cell_named cells cell) literals
+
+-- the non-inputs among the signals, each with its gate
+abbrev pub driven_gates : List Signal → List Gate → List (Signal × Gate)
+driven_gates signals gates = zip (filter (λ x. is_driven x.kind) signals) gates
 
 -- those for the gates, with the next of the non-inputs among these signals
-abbrev pub placements_from : List Cell → List Signal → List Signal → List Gate → List Placement
-placements_from cells all signals gates =
-    flat_map (λ p. placements_of cells all p.0.name p.1)
-    (zip (filter (λ x. is_driven x.kind) signals) gates)
+abbrev pub instances_from : List PortedCell → List Signal → List Signal → List Gate
+    → List GateInstances
+instances_from cells all signals gates =
+    flat_map (λ p. gate_instances cells all p.0.name p.1) (driven_gates signals gates)
+
+-- ---- the nets of inverters
+
+abbrev pub pins_if_any : Option PortedCell → List Literal → List (List ℕ)
+pins_if_any None literals = []
+pins_if_any (Some c) literals = map (λ p. p.0) (complemented c.ports.pins literals)
+
+-- the pins of the gate's cell that have complemented literals
+abbrev pub inverted_pins : List PortedCell → Gate → List (List ℕ)
+inverted_pins cells (SumGate sum) = []
+inverted_pins cells (Gc set reset) = []
+inverted_pins cells (CellGate cell literals sum) = pins_if_any (cell_named cells cell) literals
+
+-- a net for each, gate by gate
+abbrev pub inverted_nets : List PortedCell → List Signal → List Gate → List (List ℕ)
+inverted_nets cells signals gates =
+    flat_map (λ p. map (inverted_net p.0.name) (inverted_pins cells p.1))
+    (driven_gates signals gates)
 
 -- ---- the text
 
@@ -125,15 +248,18 @@ head_text name signals =
     codes "module " ++ verilog_name name ++ codes "(" ++ ports_text (ports_of signals)
     ++ codes ");\n" ++ flat_map wire_line (wires_of signals)
 
--- the controller: its ports and wires, and an instance for each gate
-abbrev pub controller_text : Library → Netlist → List ℕ
-controller_text library n =
+-- the controller: its ports and wires, and the instances for each gate
+abbrev pub controller_text : PortedLibrary → Netlist → List ℕ
+controller_text ported n =
+    let cells = ported_cells ported in
     head_text n.model n.signals
-    ++ flat_map placement_line (placements_from library.cells n.signals n.signals n.gates)
+    ++ flat_map wire_line (inverted_nets cells n.signals n.gates)
+    ++ flat_map placement_line
+    (flat_map in_order (instances_from cells n.signals n.signals n.gates))
     ++ codes "endmodule\n"
 
 -- the cells, and behind them the controller
-unfoldable pub structure_text : Library → Netlist → List ℕ
-structure_text library n =
-    flat_map (λ cell. verilog_text (cell_netlist cell)) (used_cells library n)
-    ++ controller_text library n
+unfoldable pub structure_text : PortedLibrary → Netlist → List ℕ
+structure_text ported n =
+    flat_map (λ c. verilog_text (cell_netlist c)) (used_cells ported n)
+    ++ controller_text ported n

@@ -9,50 +9,68 @@ ghost use Rattle.si_structure.specs.StructureText as structure;
 ghost use Rattle.si_structure.specs.StructureText.{cell_netlist, input};
 
 use crate::heads::add_head;
+use crate::names::add_name;
 use crate::write_sums::add_sum;
 use si_base::graph::{SigKind, Signal};
-use si_base::ids::{NoMemory, Sig};
+use si_base::ids::{Code, NoMemory, Sig};
 use si_base::text::{Name, Text};
 use si_cell::cell::Cell;
 use si_cell::pin_sum::PinCube;
 use si_cube::cube::Cube;
+use si_genlib::ports::Ports;
 use std::alloc::Global;
 
-/// The port by which a cell reads its own output.
-pub(crate) const FEEDBACK: &[u8] = b"q$in";
-
-/// The port of a cell's own output.
-pub(crate) const OWN: &[u8] = b"q";
+/// What stands behind the output's name in that of the port by which a cell reads its own output.
+const FEEDBACK: &[u8] = b"$in";
 
 /// Adds the module of a cell: its pins are ports, and so are the own output and, where the sum
 /// reads that, the port by which it does. An assign has the sum.
 ///
 /// It fails only where memory runs out. The text may then end in a part of it, and isn't to be
 /// used.
-pub(crate) fn add_cell(alloc: Global, text: &mut Text, cell: &Cell) -> Result<(), NoMemory>
+pub(crate) fn add_cell(
+    alloc: Global,
+    text: &mut Text,
+    cell: &Cell,
+    ports: &Ports,
+) -> Result<(), NoMemory>
     requires { length cell.now.pins ≤ max_pins }
-    ensures { OnOk result (text.new ≡ text.old ++ verilog_text (cell_netlist cell.now)) }
+    ensures { OnOk result (text.new ≡ text.old
+        ++ verilog_text (cell_netlist (record { cell = cell.now; ports = ports.now }))) }
 {
-    let made = cell_signals(alloc, cell)?;
+    let made = cell_signals(alloc, cell, ports)?;
     let signals = made.as_slice();
     let sum = cell.sum.widened(alloc)?;
     add_head(text, cell.name.bytes(), signals)?;
-    text.add(b"  assign q = ")?;
+    text.add(b"  assign ")?;
+    add_name(text, ports.output.bytes())?;
+    text.add(b" = ")?;
     add_sum(alloc, text, signals, &sum)?;
     text.add(b";\nendmodule\n")
 }
 
 /// The signals of a cell as a module.
-fn cell_signals(alloc: Global, cell: &Cell) -> Result<Vec<Signal>, NoMemory>
+fn cell_signals(alloc: Global, cell: &Cell, ports: &Ports) -> Result<Vec<Signal>, NoMemory>
     requires { length cell.now.pins ≤ max_pins }
-    ensures { IfOk result (λ v. v.items ≡ structure.cell_signals cell.now) }
+    ensures { IfOk result (λ v. v.items
+        ≡ structure.cell_signals (record { cell = cell.now; ports = ports.now })) }
 {
-    let mut signals = inputs_of(alloc, cell.pins.as_slice())?;
+    let mut signals = inputs_of(alloc, ports.pins.as_slice())?;
     if reads_own(cell) {
-        signals.push(signal_of(alloc, FEEDBACK, SigKind::Input)?)?;
+        let name = feedback(alloc, ports)?;
+        signals.push(signal_of(alloc, name.bytes(), SigKind::Input)?)?;
     }
-    signals.push(signal_of(alloc, OWN, SigKind::Output)?)?;
+    signals.push(signal_of(alloc, ports.output.bytes(), SigKind::Output)?)?;
     Ok(signals)
+}
+
+/// The port by which a cell reads its own output. It fails only where memory runs out.
+pub(crate) fn feedback(alloc: Global, ports: &Ports) -> Result<Text, NoMemory>
+    ensures { IfOk result (λ name. name ≡ structure.feedback ports.now) }
+{
+    let mut name = Text::copy_of(alloc, ports.output.bytes())?;
+    name.add(FEEDBACK)?;
+    Ok(name)
 }
 
 /// Inputs of these names.
@@ -74,6 +92,14 @@ fn signal_of(alloc: Global, name: &[u8], kind: SigKind) -> Result<Signal, NoMemo
         name: Name::copy_of(alloc, name)?,
         kind,
     })
+}
+
+/// Whether the cell has one pin, and its sum is the complement of that and reads nothing else.
+pub(crate) fn is_inverter(cell: &Cell) -> bool
+    requires { length cell.now.pins ≤ max_pins }
+    ensures { result ≡ structure.is_inverter cell.now }
+{
+    cell.pins.len() == 1 && !reads_own(cell) && cell.value(Code(0)) && !cell.value(Code(1))
 }
 
 /// Whether the sum of the cell reads its own output.

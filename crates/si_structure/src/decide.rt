@@ -1,4 +1,5 @@
-//! Whether a gate is an instance of a cell of the library by plain literals, or why not.
+//! Whether a gate is an instance of a cell of the library, by literals that are plain or get
+//! inverters, or why not.
 
 ghost use Rattle.std.specs.Prelude.{◌≡◌, ◌≢◌, ◌<◌, ◌≤◌, All, IfErr, IfOk, IsTrue, MatchOption};
 ghost use Rattle.std.specs.Prelude.{OnOk, length, slice_index_or};
@@ -9,9 +10,13 @@ ghost use Rattle.si_netlist.specs.Loops.Parts.{gate_seen};
 ghost use Rattle.si_cell.specs.Expanded.{expanded};
 ghost use Rattle.si_cell.specs.Library.{cell_at, no_cell};
 ghost use Rattle.si_cell.specs.Limits.{max_cells, max_pins};
-ghost use Rattle.si_structure.specs.Refusals.{IsFirstComplemented, IsPlainGate, ShowsOfGate};
-ghost use Rattle.si_structure.specs.Loops.Deciding.{AreSmall, FitsCells};
+ghost use Rattle.si_structure.specs.Refusals as refusals;
+ghost use Rattle.si_structure.specs.Refusals.{IsFirstComplemented, IsPlacedGate, ShowsOfGate};
+ghost use Rattle.si_structure.specs.Loops.Deciding.{AreSmall, FitsCells, HasNoInverter};
+ghost use Rattle.si_structure.specs.Loops.Deciding.{IsFirstInverter};
 
+use crate::cells::is_inverter;
+use crate::complements::Complements;
 use crate::refusal::Unstructured;
 use arrayvec::ArrayVec;
 use si_base::ids::{Literal, NoMemory, Sig};
@@ -23,35 +28,47 @@ use si_cube::sum::Sum;
 use si_netlist::gate::Gate;
 use std::alloc::Global;
 
-/// Whether the gate of signal `z` is an instance of a cell of the library by plain literals.
+/// Whether the gate of signal `z` is an instance of a cell of the library, by literals that are
+/// plain or get inverters.
 ///
 /// Fails with what it is instead, and where memory runs out.
 pub(crate) fn check_gate(
     alloc: Global,
     library: &Library,
+    complements: Complements,
     z: Sig,
     gate: &Gate,
 ) -> Result<(), Unstructured>
     requires signal { z < code_width }
     requires fits { FitsCells (gate_seen gate.now) }
-    ensures ok { OnOk result (IsPlainGate library.now z (gate_seen gate.now)) }
-    ensures err { IfErr result (ShowsOfGate library.now z (gate_seen gate.now)) }
+    ensures ok { OnOk result
+        (IsPlacedGate library.now complements z (gate_seen gate.now)) }
+    ensures err { IfErr result (ShowsOfGate library.now complements z (gate_seen gate.now)) }
 {
     match gate {
         Gate::Cell {
             name,
             literals,
             sum,
-        } => check_cell(alloc, library, z, name.bytes(), literals.as_slice(), sum),
+        } => check_cell(
+            alloc,
+            library,
+            complements,
+            z,
+            name.bytes(),
+            literals.as_slice(),
+            sum,
+        ),
         Gate::Sum(_) | Gate::Gc { .. } => Err(Unstructured::NoInstance { sig: z }),
     }
 }
 
-/// Whether the gate of signal `z`, which has the name of a cell, is an instance of it by plain
-/// literals.
+/// Whether the gate of signal `z`, which has the name of a cell, is an instance of it by literals
+/// that are plain or get inverters.
 fn check_cell(
     alloc: Global,
     library: &Library,
+    complements: Complements,
     z: Sig,
     name: &[u8],
     literals: &[Literal],
@@ -59,9 +76,10 @@ fn check_cell(
 ) -> Result<(), Unstructured>
     requires signal { z < code_width }
     requires small { AreSmall literals.now }
-    ensures ok { OnOk result (IsPlainGate library.now z (CellGate name.now literals.now sum.now)) }
+    ensures ok { OnOk result
+        (IsPlacedGate library.now complements z (CellGate name.now literals.now sum.now)) }
     ensures err { IfErr result
-        (ShowsOfGate library.now z (CellGate name.now literals.now sum.now)) }
+        (ShowsOfGate library.now complements z (CellGate name.now literals.now sum.now)) }
 {
     let Some(cell) = place_of(library.cells(), name) else {
         return Err(Unstructured::NoInstance { sig: z });
@@ -69,14 +87,43 @@ fn check_cell(
     if !is_instance(alloc, library, z, cell, literals, sum)? {
         return Err(Unstructured::NoInstance { sig: z });
     }
+    if inverts(complements, library.cells()) {
+        return Ok(());
+    }
     match first_complemented(literals) {
         Some(pin) => Err(Unstructured::Complemented { sig: z, cell, pin }),
         None => Ok(()),
     }
 }
 
+/// Whether complemented literals get inverters: that is asked for, and one of the cells is one.
+fn inverts(complements: Complements, cells: &[Cell]) -> bool
+    requires few { length cells.now ≤ max_cells }
+    requires pins { All (λ c. length c.pins ≤ max_pins) cells.now }
+    ensures { result ≡ refusals.inverts complements cells.now }
+{
+    match complements {
+        Complements::Refused => false,
+        Complements::Inverted => place_of_inverter(cells).is_some(),
+    }
+}
+
+/// The place of the first inverter, from 0.
+pub(crate) fn place_of_inverter(cells: &[Cell]) -> Option<u8>
+    requires few { length cells.now ≤ max_cells }
+    requires pins { All (λ c. length c.pins ≤ max_pins) cells.now }
+    ensures { MatchOption result (HasNoInverter cells.now) (IsFirstInverter cells.now) }
+{
+    for (k, cell) in cells.iter().enumerate() {
+        if is_inverter(cell) {
+            return Some(k as u8);
+        }
+    }
+    None
+}
+
 /// The place of the cell of the name, from 0.
-fn place_of(cells: &[Cell], name: &[u8]) -> Option<u8>
+pub(crate) fn place_of(cells: &[Cell], name: &[u8]) -> Option<u8>
     requires { length cells.now ≤ max_cells }
     ensures { MatchOption result (All (λ c. c.name ≢ name.now) cells.now)
         (λ k. (k < length cells.now)

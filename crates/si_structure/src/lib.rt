@@ -3,9 +3,13 @@
 #![tactic(auto)]
 
 mod cells;
+pub mod complements;
 mod decide;
 mod heads;
+mod instance_names;
+mod inverters;
 pub mod laws;
+mod lookup;
 mod names;
 mod placements;
 pub mod refusal;
