@@ -35,7 +35,7 @@ pub record AreNamed (signals : List Signal) : Type 0 where
   pub valued : (v z : ℕ) → z < length signals → named_value signals v (name_of signals z) ≡ bit v z
 
 module _ (signals : List Signal) where
-  says_as : (level : Level) (text other : List ℕ) (value also : ℕ → Bool) → Says signals level text value
+  pub says_as : (level : Level) (text other : List ℕ) (value also : ℕ → Bool) → Says signals level text value
       → text ≡ other → ((v : ℕ) → value v ≡ also v) → Says signals level other also
   says_as level text other value also says same agrees = record {
     tree = says.tree;
@@ -57,13 +57,14 @@ module _ (signals : List Signal) where
     values = says.values;
   }
 
-  factor : (text : List ℕ) (value : ℕ → Bool) → Says signals Primary text value → Says signals Factor text value
+  pub factor : (text : List ℕ) (value : ℕ → Bool) → Says signals Primary text value → Says signals Factor text value
   factor = raised Primary Factor (λ symbols tree spelt. as_factor spelt)
 
-  term : (text : List ℕ) (value : ℕ → Bool) → Says signals Factor text value → Says signals Term text value
+  pub term : (text : List ℕ) (value : ℕ → Bool) → Says signals Factor text value → Says signals Term text value
   term = raised Factor Term (λ symbols tree spelt. as_term spelt)
 
-  expression : (text : List ℕ) (value : ℕ → Bool) → Says signals Term text value → Says signals Expression text value
+  pub expression : (text : List ℕ) (value : ℕ → Bool) → Says signals Term text value
+      → Says signals Expression text value
   expression = raised Term Expression (λ symbols tree spelt. as_expression spelt)
 
   constant : (b : Bool) (word : List ℕ) → Spells Primary (Word word ∷ []) (Constant b)
@@ -82,7 +83,7 @@ module _ (signals : List Signal) where
   always : Says signals Primary (codes "1'b1") (λ v. true)
   always = constant true (codes "1'b1") one one_read
 
-  complement : (text : List ℕ) (value : ℕ → Bool) → Says signals Primary text value
+  pub complement : (text : List ℕ) (value : ℕ → Bool) → Says signals Primary text value
       → Says signals Factor ((126 ∷ []) ++ text) (λ v. not (value v))
   complement text value says = record {
     tree = Not says.tree;
@@ -92,7 +93,7 @@ module _ (signals : List Signal) where
     values = λ v. ap not (says.values v);
   }
 
-  group : (text : List ℕ) (value : ℕ → Bool) → Says signals Expression text value
+  pub group : (text : List ℕ) (value : ℕ → Bool) → Says signals Expression text value
       → Says signals Primary (codes "(" ++ text ++ codes ")") value
   group text value says = record {
     tree = says.tree;
@@ -104,7 +105,7 @@ module _ (signals : List Signal) where
     values = says.values;
   }
 
-  both : (a b : List ℕ) (former latter : ℕ → Bool) → Says signals Term a former → Says signals Factor b latter
+  pub both : (a b : List ℕ) (former latter : ℕ → Bool) → Says signals Term a former → Says signals Factor b latter
       → Says signals Term (a ++ (codes " & " ++ b)) (λ v. former v && latter v)
   both a b former latter left right = record {
     tree = And left.tree right.tree;
@@ -115,7 +116,7 @@ module _ (signals : List Signal) where
     values = λ v i. left.values v i && right.values v i;
   }
 
-  either : (a b : List ℕ) (former latter : ℕ → Bool) → Says signals Expression a former → Says signals Term b latter
+  pub either : (a b : List ℕ) (former latter : ℕ → Bool) → Says signals Expression a former → Says signals Term b latter
       → Says signals Expression (a ++ (codes " | " ++ b)) (λ v. former v || latter v)
   either a b former latter left right = record {
     tree = Or left.tree right.tree;
@@ -149,7 +150,7 @@ abbrev pub AreThere : ℕ → List Literal → Type 0
 AreThere count cube = AllByRecursion (λ l. l.sig < count) cube
 
 module _ (signals : List Signal) (are : AreNamed signals) where
-  name : (z : ℕ) → z < length signals → Says signals Primary (verilog_name (name_of signals z)) (λ v. bit v z)
+  pub name : (z : ℕ) → z < length signals → Says signals Primary (verilog_name (name_of signals z)) (λ v. bit v z)
   name z there = record {
     tree = Named (name_of signals z);
     symbols = Name (name_of signals z) ∷ [];

@@ -26,7 +26,7 @@ use Rattle.si_verilog.proofs.WritingAssigns.{SaysAssigns, AreFrom, says_assigns}
 
 -- ---- ports
 
-abbrev HasWritable : Port → Type 0
+abbrev pub HasWritable : Port → Type 0
 HasWritable (InputPort name) = IsWritable name
 HasWritable (OutputPort name) = IsWritable name
 
@@ -56,7 +56,7 @@ more_ports_read text symbols (p ∷ ps) writable reads =
     ∙ ap (λ (s : List Symbol). s ++ symbols_of rest)
     (append_assoc symbols (mark ++ port_symbols p) (flat_map (λ q. mark ++ port_symbols q) ps))
 
-ports_read : (ports : List Port) → AllByRecursion HasWritable ports
+pub ports_read : (ports : List Port) → AllByRecursion HasWritable ports
     → Reads (ports_text ports) (join_by port_symbols (Mark 44 ∷ []) ports)
 ports_read [] writable = λ rest. refl
 ports_read (p ∷ ps) writable =
@@ -80,7 +80,7 @@ output_ports : (names : List (List ℕ)) → AllByRecursion IsWritable names
 output_ports [] all = tt
 output_ports (n ∷ names) all = (all.0, output_ports names all.1)
 
-ports_writable : (signals : List Signal) → AllByRecursion Writable signals
+pub ports_writable : (signals : List Signal) → AllByRecursion Writable signals
     → AllByRecursion HasWritable (ports_of signals)
 ports_writable signals all = all_append HasWritable (map InputPort (names_of Input signals))
     (map OutputPort (names_of Output signals)) (input_ports (names_of Input signals) (kind_writable Input signals all))
@@ -96,13 +96,13 @@ wire_line_read name writable =
     (read_then (codes "  wire ") (verilog_name name) word (Name name ∷ []) wire_read (written_read name writable))
     (λ more. refl) semicolon_read
 
-wires_read : (names : List (List ℕ)) → AllByRecursion IsWritable names
+pub wires_read : (names : List (List ℕ)) → AllByRecursion IsWritable names
     → Reads (flat_map wire_line names) (flat_map wire_symbols names)
 wires_read [] all = λ rest. refl
 wires_read (n ∷ names) all = both_read (wire_line n) (flat_map wire_line names) (wire_symbols n)
     (flat_map wire_symbols names) (wire_line_read n all.0) (wires_read names all.1)
 
-wires_writable : (signals : List Signal) → AllByRecursion Writable signals
+pub wires_writable : (signals : List Signal) → AllByRecursion Writable signals
     → AllByRecursion IsWritable (wires_of signals)
 wires_writable signals all = all_append IsWritable (names_of Internal signals) (names_of Inserted signals)
     (kind_writable Internal signals all) (kind_writable Inserted signals all)

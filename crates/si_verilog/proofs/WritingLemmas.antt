@@ -48,11 +48,11 @@ assigns_from signals i gates = assign_lines signals (drop i signals) gates
 
 -- ---- ports
 
-listed : (ps : List (List ℕ)) → more_ports true ps ≡ flat_map (λ p. codes ",\n" ++ p) ps
+pub listed : (ps : List (List ℕ)) → more_ports true ps ≡ flat_map (λ p. codes ",\n" ++ p) ps
 listed [] = refl
 listed (p ∷ ps) = ap (λ (t : List ℕ). (codes ",\n" ++ p) ++ t) (listed ps)
 
-two_lists : (any : Bool) (ps qs : List (List ℕ))
+pub two_lists : (any : Bool) (ps qs : List (List ℕ))
     → more_ports any ps ++ more_ports (any || is_some ps) qs ≡ more_ports any (ps ++ qs)
 two_lists true [] qs = refl
 two_lists false [] qs = refl
@@ -63,7 +63,7 @@ two_lists false (p ∷ ps) qs =
     append_assoc (codes "\n" ++ p) (more_ports true ps) (more_ports true qs)
     ∙ ap (λ (t : List ℕ). (codes "\n" ++ p) ++ t) (two_lists true ps qs)
 
-all_lines : (signals : List Signal) → port_lines (codes "  input ") Input signals
+pub all_lines : (signals : List Signal) → port_lines (codes "  input ") Input signals
     ++ port_lines (codes "  output ") Output signals ≡ map port_text (ports_of signals)
 all_lines signals = sym (map-append port_text (map InputPort (names_of Input signals))
     (map OutputPort (names_of Output signals))
@@ -82,7 +82,7 @@ all_lines signals = sym (map-append port_text (map InputPort (names_of Input sig
     both : {a b c d : List (List ℕ)} → a ≡ b → c ≡ d → a ++ c ≡ b ++ d
     both e f = λ i. e i ++ f i
 
-joined : (ports : List Port) → flat_map (λ p. codes ",\n" ++ p) (map port_text ports)
+pub joined : (ports : List Port) → flat_map (λ p. codes ",\n" ++ p) (map port_text ports)
     ≡ flat_map (λ p. codes ",\n" ++ port_text p) ports
 joined [] = refl
 joined (p ∷ ps) = ap (λ (t : List ℕ). (codes ",\n" ++ port_text p) ++ t) (joined ps)

@@ -60,7 +60,10 @@ fn add_ports(text: &mut Text, signals: &[Signal]) -> Result<(), NoMemory>
 
 /// Adds the lines of the ports of a kind, all but the end of the last, where ports stand before
 /// them or none does. The answer is whether a port stands before what comes next.
-fn add_ports_of(
+///
+/// It fails only where memory runs out. The text may then end in a part of them, and isn't to be
+/// used.
+pub fn add_ports_of(
     text: &mut Text,
     signals: &[Signal],
     kind: SigKind,
@@ -106,7 +109,10 @@ fn is_of_kind(a: SigKind, b: SigKind) -> bool
 }
 
 /// Adds a line for each signal of the kind, as a wire.
-fn add_wires(text: &mut Text, signals: &[Signal], kind: SigKind) -> Result<(), NoMemory>
+///
+/// It fails only where memory runs out. The text may then end in a part of them, and isn't to be
+/// used.
+pub fn add_wires(text: &mut Text, signals: &[Signal], kind: SigKind) -> Result<(), NoMemory>
     ensures { OnOk result
         (text.new ≡ text.old ++ flat_map wire_line (names_of kind signals.now)) }
 {
@@ -164,7 +170,10 @@ fn add_assign(
 }
 
 /// Adds the expression of the gate of a signal with this name.
-fn add_gate(
+///
+/// It fails only where memory runs out. The text may then end in a part of it, and isn't to be
+/// used.
+pub fn add_gate(
     alloc: Global,
     text: &mut Text,
     signals: &[Signal],

@@ -1,0 +1,4 @@
+pub mod ResettableText
+pub mod Meaning
+pub mod Refusals
+pub mod Laws

@@ -1,0 +1,7 @@
+//! Netlists as modules of Verilog with a reset input: while it is 1 the netlist comes to its start
+//! values, and while it is 0 the module is the netlist.
+#![tactic(auto)]
+
+pub mod laws;
+pub mod refusal;
+pub mod write;
