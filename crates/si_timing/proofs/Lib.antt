@@ -1,0 +1,10 @@
+pub mod Members
+pub mod NetArcs
+pub mod InstanceLemmas
+pub mod Naming
+pub mod NoLoops
+pub mod SameLemmas
+pub mod Leaving
+pub mod Decisions
+pub mod Writing
+pub mod Examples
