@@ -1,10 +1,10 @@
 -- The netlist of a generalised C-element as equations, a text that is cut short, and a pin that is told.
-use Rattle.std.proofs.Common.{◌≡◌, ℕ, false, List, [], ◌∷◌, ◌++◌, Ok, Err, refl, codes}
+use Rattle.std.proofs.Common.{ℕ, false, List, [], ◌∷◌, ◌++◌, Ok, Err, refl, codes}
 use Rattle.si_base.specs.declared.fault.TextKind.TheVariants.{NoEnd}
 use Rattle.si_base.specs.declared.graph.SigKind.TheVariants.{Input, Output}
 use Rattle.si_base.specs.declared.ids.Literal.{Literal}
 use Rattle.si_base.specs.Netlist.{Cell as CellGate, Netlist}
-use Rattle.si_cell.specs.Library.{Cell, Library}
+use Rattle.si_cell.specs.Library.{Library}
 use Rattle.si_cell.specs.declared.pins.Pins.TheVariants.{Any}
 use Rattle.si_equations.specs.Written.{equations_text}
 use Rattle.si_netlist_reader.specs.NetlistFault.{netlist_fault}
@@ -12,6 +12,8 @@ use Rattle.si_netlist_reader.specs.NetlistValue.{netlist_of}
 use Rattle.si_readings.specs.declared.library_format.LibraryFormat.TheVariants.{Own}
 use Rattle.si_refusals.specs.Refusal.{BadText, Complemented as Told}
 use Rattle.si_refusals.specs.Stages.{Refuses, Passes}
+use Rattle.si_genlib.specs.Ports.{with_own_ports}
+use Rattle.si_structure.specs.declared.complements.Complements.TheVariants.{Refused}
 use Rattle.si_structure.specs.declared.refusal.Unstructured.TheVariants.{Complemented}
 use Rattle.si_exports.specs.Equations.{equations}
 use Rattle.si_exports.specs.Structure.{TellsReason, structure}
@@ -32,7 +34,7 @@ unfolding netlist_fault
 cut_short = Refuses (BadText (codes "c.net") 3 NoEnd) ((3, NoEnd), refl, refl) refl
 
 -- the netlist is read first
-netlist_first : structure (Own Any) (codes "c.net") (codes ".model c2\n.inputs a b\n") (codes "c.lib") []
+netlist_first : structure (Own Any) Refused (codes "c.net") (codes ".model c2\n.inputs a b\n") (codes "c.lib") []
     (Err (BadText (codes "c.net") 3 NoEnd))
 unfolding netlist_fault
 netlist_first = Refuses (BadText (codes "c.net") 3 NoEnd) ((3, NoEnd), refl, refl) refl
@@ -58,5 +60,5 @@ small = record {
   gates = CellGate (codes "AND2") (lit 0 ∷ lit 0 ∷ []) [] ∷ [];
 }
 
-second_pin : TellsReason gates small (Complemented 1 0 1) (Told (codes "z") (codes "AND2") (codes "b"))
+second_pin : TellsReason (with_own_ports gates) small (Complemented 1 0 1) (Told (codes "z") (codes "AND2") (codes "b"))
 second_pin = refl

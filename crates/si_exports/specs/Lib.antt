@@ -1,2 +1,5 @@
 pub mod Equations
+pub mod Ported
+pub mod Resettable
 pub mod Structure
+pub mod Timing

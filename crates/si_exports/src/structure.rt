@@ -8,69 +8,82 @@ ghost use Rattle.si_readings.specs.declared.library_format.LibraryFormat as form
 ghost use Rattle.si_exports.specs.Structure as stage;
 ghost use Rattle.si_exports.specs.Structure.{IsItsStructure, TellsReason};
 ghost use Rattle.si_structure.specs.Refusals.{Shows};
+ghost use Rattle.si_structure.specs.declared.complements.Complements as complement;
 
+use crate::ported::ported_in;
 use si_base::ids::NoMemory;
 use si_base::text::{Name, Text};
-use si_cell::library::Library;
+use si_genlib::ports::PortedLibrary;
 use si_netlist::netlist::Netlist;
 use si_readings::library_format::LibraryFormat;
-use si_readings::readings::{library_in, netlist_in};
+use si_readings::readings::netlist_in;
 use si_refusals::breach::name_of_signal;
 use si_refusals::refusals::Refusal;
+use si_structure::complements::Complements;
 use si_structure::refusal::Unstructured;
 use si_structure::write::write_structure;
 use std::alloc::Global;
 
 /// The netlist that the first text spells as modules of Verilog: one for each cell that it uses of
 /// the library that the other text spells in the format, and one of the controller, with an
-/// instance of a cell for each gate. A refusal shows the names of the texts' files.
+/// instance of a cell for each gate, and inverters before complemented pins where these are asked
+/// for. A refusal shows the names of the texts' files.
 ///
 /// # Errors
 ///
 /// `BadText` with the first fault of the texts in their order; else, of the first gate that isn't
-/// an instance of a cell by plain literals, `Unplaced` where it is none of any literals, and
-/// `Complemented` with its first complemented pin where it is one; else `SameName` exactly where
-/// the model has the name of a cell that is used. `NoMemory` only where memory runs out.
+/// an instance of a cell by literals that are plain or get inverters, `Unplaced` where it is none
+/// of any literals, and `Complemented` with its first complemented pin where it is one; else
+/// `SameName` exactly where the model has the name of a cell that is used. `NoMemory` only where
+/// memory runs out.
 pub fn structure<'w>(
     alloc: Global,
     format: LibraryFormat,
+    complements: Complements,
     netlist_file: &'w str,
     netlist: &[u8],
     library_file: &'w str,
     library: &[u8],
 ) -> Result<Text, Refusal<'w>>
-    ensures ok { IfOk result (λ output. stage.structure format netlist_file.now netlist.now
-        library_file.now library.now (Ok output)) }
-    ensures err { IfErr result (λ r. MayStop (stage.structure format netlist_file.now netlist.now
-        library_file.now library.now) (ending_of r)) }
+    ensures ok { IfOk result (λ output. stage.structure format complements netlist_file.now
+        netlist.now library_file.now library.now (Ok output)) }
+    ensures err { IfErr result (λ r. MayStop (stage.structure format complements netlist_file.now
+        netlist.now library_file.now library.now) (ending_of r)) }
 {
     let circuit = netlist_in(alloc, netlist_file, netlist)?;
-    let cells = library_in(alloc, format, library_file, library)?;
-    structured(alloc, &cells, &circuit)
+    let cells = ported_in(alloc, format, library_file, library)?;
+    structured(alloc, complements, &cells, &circuit)
 }
 
 /// The modules of a netlist over a library, or why it has none.
-fn structured(alloc: Global, library: &Library, netlist: &Netlist) -> Result<Text, Refusal<'static>>
-    ensures ok { IfOk result (λ text. stage.structured library.now netlist.now (Ok text)) }
+fn structured(
+    alloc: Global,
+    complements: Complements,
+    library: &PortedLibrary,
+    netlist: &Netlist,
+) -> Result<Text, Refusal<'static>>
+    ensures ok { IfOk result
+        (λ text. stage.structured complements library.now netlist.now (Ok text)) }
     ensures err { IfErr result
-        (λ r. MayStop (stage.structured library.now netlist.now) (ending_of r)) }
+        (λ r. MayStop (stage.structured complements library.now netlist.now) (ending_of r)) }
 {
-    match write_structure(alloc, library, netlist) {
+    match write_structure(alloc, library, complements, netlist) {
         Ok(text) => Ok(text),
-        Err(why) => Err(refusal_of(alloc, library, netlist, why)?),
+        Err(why) => Err(refusal_of(alloc, complements, library, netlist, why)?),
     }
 }
 
 /// The reason why the netlist has no modules, by the names of the signal, the cell and the pin.
 fn refusal_of(
     alloc: Global,
-    library: &Library,
+    complements: Complements,
+    library: &PortedLibrary,
     netlist: &Netlist,
     why: Unstructured,
 ) -> Result<Refusal<'static>, NoMemory>
-    requires { Shows library.now netlist.now why }
+    requires { Shows library.now complements netlist.now why }
     ensures { IfOk result
-        (λ r. MayStop (stage.structured library.now netlist.now) (ending_of r)) }
+        (λ r. MayStop (stage.structured complements library.now netlist.now) (ending_of r)) }
 {
     match why {
         Unstructured::NoMemory => Err(NoMemory),
@@ -90,34 +103,34 @@ fn refusal_of(
 }
 
 /// The name of the cell at that place of the library; nothing where there is none.
-fn cell_name(alloc: Global, library: &Library, cell: u8) -> Result<Name, NoMemory>
-    ensures { IfOk result (λ name. name ≡ (cell_at library.now cell).name) }
+fn cell_name(alloc: Global, library: &PortedLibrary, cell: u8) -> Result<Name, NoMemory>
+    ensures { IfOk result (λ name. name ≡ (cell_at library.now.library cell).name) }
 {
-    match library.cells().get(cell as usize) {
+    match library.library().cells().get(cell as usize) {
         Some(cell) => Name::copy_of(alloc, cell.name.bytes()),
         None => Name::copy_of(alloc, b""),
     }
 }
 
 /// The name of its pin of that number, from 0; nothing where there is none.
-fn pin_name(alloc: Global, library: &Library, cell: u8, pin: u8) -> Result<Name, NoMemory>
+fn pin_name(alloc: Global, library: &PortedLibrary, cell: u8, pin: u8) -> Result<Name, NoMemory>
     ensures { IfOk result (λ name. name ≡ stage.pin_name library.now cell pin) }
 {
-    let Some(cell) = library.cells().get(cell as usize) else {
+    let Some(ports) = library.ports().get(cell as usize) else {
         return Name::copy_of(alloc, b"");
     };
-    match cell.pins.get(pin as usize) {
+    match ports.pins.get(pin as usize) {
         Some(name) => Name::copy_of(alloc, name.bytes()),
         None => Name::copy_of(alloc, b""),
     }
 }
 
 /// A law, whose function does nothing: texts come to an output exactly where they have no fault and
-/// each gate is an instance of a cell by plain literals, and no used cell has the model's name: to
-/// modules, which mean the netlist over the library.
+/// each gate is an instance of a cell by literals that are plain or get inverters, and no used cell
+/// has the model's name: to modules, which mean the netlist over the library.
 pub fn netlists_become_structures()
-    ensures { (format : formats.LibraryFormat)
+    ensures { (format : formats.LibraryFormat) (complements : complement.Complements)
         (netlist netlist_text library library_text output : List ℕ)
-        → stage.structure format netlist netlist_text library library_text (Ok output)
-        ↔ IsItsStructure format netlist_text library_text output }
+        → stage.structure format complements netlist netlist_text library library_text (Ok output)
+        ↔ IsItsStructure format complements netlist_text library_text output }
 {}
