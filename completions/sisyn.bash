@@ -28,10 +28,13 @@ _sisyn() {
     '3 insert') files=yes ;;
     '2 genlib') files=yes ;;
     '2 verilog') files=yes ;;
-    '3 verilog') words='genlib'; files=yes ;;
-    '4 verilog') files=yes ;;
+    '3 verilog') words='reset genlib'; files=yes ;;
+    '4 verilog') words='inverters'; files=yes ;;
+    '5 verilog') words='inverters' ;;
     '2 eqn') files=yes ;;
     '2 loops') files=yes ;;
+    '3 loops') words='genlib'; files=yes ;;
+    '4 loops') files=yes ;;
     '2 reset') files=yes ;;
     '2 replay') files=yes ;;
     '3 replay') files=yes ;;

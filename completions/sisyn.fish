@@ -41,12 +41,15 @@ complete -c sisyn -n 'test (count (commandline -opc)) -eq 1' -a 'genlib' -d 'a l
 complete -c sisyn -n 'test (count (commandline -opc)) -eq 2; and test (commandline -opc)[2] = genlib' -F
 complete -c sisyn -n 'test (count (commandline -opc)) -eq 1' -a 'verilog' -d 'a netlist as a module of Verilog'
 complete -c sisyn -n 'test (count (commandline -opc)) -eq 2; and test (commandline -opc)[2] = verilog' -F
-complete -c sisyn -n 'test (count (commandline -opc)) -eq 3; and test (commandline -opc)[2] = verilog' -a 'genlib' -F
-complete -c sisyn -n 'test (count (commandline -opc)) -eq 4; and test (commandline -opc)[2] = verilog' -F
+complete -c sisyn -n 'test (count (commandline -opc)) -eq 3; and test (commandline -opc)[2] = verilog' -a 'reset genlib' -F
+complete -c sisyn -n 'test (count (commandline -opc)) -eq 4; and test (commandline -opc)[2] = verilog' -a 'inverters' -F
+complete -c sisyn -n 'test (count (commandline -opc)) -eq 5; and test (commandline -opc)[2] = verilog' -a 'inverters'
 complete -c sisyn -n 'test (count (commandline -opc)) -eq 1' -a 'eqn' -d 'a netlist as equations'
 complete -c sisyn -n 'test (count (commandline -opc)) -eq 2; and test (commandline -opc)[2] = eqn' -F
 complete -c sisyn -n 'test (count (commandline -opc)) -eq 1' -a 'loops' -d 'which pins to cut, so that it has no loop'
 complete -c sisyn -n 'test (count (commandline -opc)) -eq 2; and test (commandline -opc)[2] = loops' -F
+complete -c sisyn -n 'test (count (commandline -opc)) -eq 3; and test (commandline -opc)[2] = loops' -a 'genlib' -F
+complete -c sisyn -n 'test (count (commandline -opc)) -eq 4; and test (commandline -opc)[2] = loops' -F
 complete -c sisyn -n 'test (count (commandline -opc)) -eq 1' -a 'reset' -d 'which outputs to force, so that it starts'
 complete -c sisyn -n 'test (count (commandline -opc)) -eq 2; and test (commandline -opc)[2] = reset' -F
 complete -c sisyn -n 'test (count (commandline -opc)) -eq 1' -a 'replay' -d 'where a schedule over a netlist ends'

@@ -28,7 +28,7 @@ use Rattle.si_commands.specs.declared.task.Task.{Task}
 use Rattle.si_commands.specs.declared.task.Task.TheVariants.{About, Tell, Synth, Map, FromGenlib, Verilog, Replay}
 use Rattle.si_commands.specs.declared.task.Task.TheVariants.{Audit}
 use Rattle.si_commands.specs.declared.task.Task.TheVariants.{TellNetlist, Resolve, Insert, Same, Exercise, Suggest}
-use Rattle.si_commands.specs.declared.task.Task.TheVariants.{Structure, Equations}
+use Rattle.si_commands.specs.declared.task.Task.TheVariants.{Structure, Equations, Resettable, Timing}
 use Rattle.si_commands.specs.declared.task.Task.TheVariants as task
 use Rattle.si_commands.specs.declared.task.Together.{Together}
 use Rattle.si_commands.specs.declared.task.Together.TheVariants as together
@@ -77,11 +77,14 @@ each_listed Resolve = (place Resolve, lit≤ tt, refl)
 each_listed Insert = (place Insert, lit≤ tt, refl)
 each_listed FromGenlib = (place FromGenlib, lit≤ tt, refl)
 each_listed Verilog = (place Verilog, lit≤ tt, refl)
+each_listed Resettable = (place Resettable, lit≤ tt, refl)
 each_listed (Structure Cells) = (place (Structure Cells), lit≤ tt, refl)
 each_listed (Structure Gates) = (place (Structure Gates), lit≤ tt, refl)
 each_listed Equations = (place Equations, lit≤ tt, refl)
 each_listed (TellNetlist Loops) = (place (TellNetlist Loops), lit≤ tt, refl)
 each_listed (TellNetlist Reset) = (place (TellNetlist Reset), lit≤ tt, refl)
+each_listed (Timing Cells) = (place (Timing Cells), lit≤ tt, refl)
+each_listed (Timing Gates) = (place (Timing Gates), lit≤ tt, refl)
 each_listed (Replay End) = (place (Replay End), lit≤ tt, refl)
 each_listed (Replay Wave) = (place (Replay Wave), lit≤ tt, refl)
 each_listed Audit = (place Audit, lit≤ tt, refl)
@@ -187,6 +190,12 @@ pub two_files_placed : (kind : LibraryKind) (count : ℕ)
     → IsCount 2 0 count
 two_files_placed Cells count many = many
 two_files_placed Gates count many = many
+
+pub two_files_timed : (kind : LibraryKind) (count : ℕ)
+    → IsCount (file_count (form_of (Timing kind)).places) (more_files (form_of (Timing kind)).tail) count
+    → IsCount 2 0 count
+two_files_timed Cells count many = many
+two_files_timed Gates count many = many
 
 -- the words that are chosen of what the program tells of itself are those of the places
 pub no_options : (topic : Topic) (count : ℕ)

@@ -49,7 +49,7 @@ map_plain_words = refl
 
 -- these words name a file of genlib, `plain`, and no library `genlib`
 no_library : Fit (form_of (Map Cells)) (codes "c.sg" ∷ codes "genlib" ∷ []) (codes "plain" ∷ []) → ⊥
-no_library (inl other, some) = other refl
+no_library (inl other, some) = cc
 no_library (inr last, some) = cc
 
 -- an option is given once

@@ -1,6 +1,6 @@
 -- Words and forms, place by place.
 use Rattle.std.proofs.Common.{◌≡◌, ◌≢◌, ℕ, suc, ◌+◌, ◌-◌, ◌<◌, ◌≤◌, List, [], ◌∷◌, ◌++◌, length, map, take, drop}
-use Rattle.std.proofs.Common.{get_or, refl, sym}
+use Rattle.std.proofs.Common.{get_or, refl, sym, subst}
 use Rattle.std.proofs.Common.{ap, codes}
 use Rattle.std.proofs.Common.{◌∙◌, ◌⊎◌, inl, inr, arith, append-nil, append_assoc, add-one, String, string_bytes}
 use Rattle.std.proofs.Common.{Global}
@@ -8,10 +8,11 @@ use Rattle.std.proofs.Common.{Bool, true, false, not, bytes_eq, Bor}
 use Rattle.std.proofs.lemmas.Slice.Eq.{bytes_eq-Decides}
 use Rattle.std.proofs.Math.Seq.{drop-cons, take_all}
 use Rattle.std.proofs.lemmas.List.{drop-map, length-drop, length-map}
+use Rattle.si_base.specs.Words.{is_signal_name}
 use Rattle.si_words.specs.Loops.Reads.{words_now}
 use Rattle.si_words.specs.Names.{stands_in}
-use Rattle.si_commands.specs.Form.{Slot, Word, File, LoneFile, LibraryFile, OneOf, Tail, Nothing, MoreFiles, MorePairs}
-use Rattle.si_commands.specs.Form.{Options}
+use Rattle.si_commands.specs.Form.{Slot, Word, File, LoneFile, LibraryFile, OneOf, Name, Tail, Nothing, MoreFiles}
+use Rattle.si_commands.specs.Form.{MorePairs, Options}
 use Rattle.si_commands.specs.Form.{Fit, FitBehind, Form, HasParts, Fits, are_some, choice_count, file_count, filled}
 use Rattle.si_commands.specs.Form.{more_choices, more_files}
 use Rattle.si_commands.specs.Loops.Filled.{IsFilled, Later}
@@ -34,12 +35,16 @@ length_filled (LoneFile name ∷ places) tail [] choices fit = absurd fit
 length_filled (LoneFile name ∷ places) tail (file ∷ files) choices fit =
     let fewer = length_filled places tail files choices fit.1 in
     omega (arith, fewer)
-length_filled (LibraryFile name ∷ places) tail [] choices fit = absurd fit
-length_filled (LibraryFile name ∷ places) tail (file ∷ files) choices fit =
+length_filled (LibraryFile name kept ∷ places) tail [] choices fit = absurd fit
+length_filled (LibraryFile name kept ∷ places) tail (file ∷ files) choices fit =
     let fewer = length_filled places tail files choices fit.1 in
     omega (arith, fewer)
 length_filled (OneOf name words ∷ places) tail files [] fit = absurd fit
 length_filled (OneOf name words ∷ places) tail files (choice ∷ choices) fit =
+    let fewer = length_filled places tail files choices fit.1 in
+    omega (arith, fewer)
+length_filled (Name name ∷ places) tail files [] fit = absurd fit
+length_filled (Name name ∷ places) tail files (choice ∷ choices) fit =
     let fewer = length_filled places tail files choices fit.1 in
     omega (arith, fewer)
 
@@ -80,11 +85,14 @@ count_of_files (File name ∷ places) tail (file ∷ files) choices fit =
 count_of_files (LoneFile name ∷ places) tail [] choices fit = absurd fit
 count_of_files (LoneFile name ∷ places) tail (file ∷ files) choices fit =
     one_more _ _ _ (count_of_files places tail files choices fit.1)
-count_of_files (LibraryFile name ∷ places) tail [] choices fit = absurd fit
-count_of_files (LibraryFile name ∷ places) tail (file ∷ files) choices fit =
+count_of_files (LibraryFile name kept ∷ places) tail [] choices fit = absurd fit
+count_of_files (LibraryFile name kept ∷ places) tail (file ∷ files) choices fit =
     one_more _ _ _ (count_of_files places tail files choices fit.1)
 count_of_files (OneOf name words ∷ places) tail files [] fit = absurd fit
 count_of_files (OneOf name words ∷ places) tail files (choice ∷ choices) fit =
+    count_of_files places tail files choices fit.1
+count_of_files (Name name ∷ places) tail files [] fit = absurd fit
+count_of_files (Name name ∷ places) tail files (choice ∷ choices) fit =
     count_of_files places tail files choices fit.1
 
 -- of a form, as the code holds its files
@@ -131,11 +139,14 @@ count_of_choices (File name ∷ places) tail [] choices fit = absurd fit
 count_of_choices (File name ∷ places) tail (file ∷ files) choices fit = count_of_choices places tail files choices fit
 count_of_choices (LoneFile name ∷ places) tail [] choices fit = absurd fit
 count_of_choices (LoneFile name ∷ places) tail (file ∷ files) choices fit = count_of_choices places tail files choices fit.1
-count_of_choices (LibraryFile name ∷ places) tail [] choices fit = absurd fit
-count_of_choices (LibraryFile name ∷ places) tail (file ∷ files) choices fit =
+count_of_choices (LibraryFile name kept ∷ places) tail [] choices fit = absurd fit
+count_of_choices (LibraryFile name kept ∷ places) tail (file ∷ files) choices fit =
     count_of_choices places tail files choices fit.1
 count_of_choices (OneOf name words ∷ places) tail files [] fit = absurd fit
 count_of_choices (OneOf name words ∷ places) tail files (choice ∷ choices) fit =
+    one_more _ _ _ (count_of_choices places tail files choices fit.1)
+count_of_choices (Name name ∷ places) tail files [] fit = absurd fit
+count_of_choices (Name name ∷ places) tail files (choice ∷ choices) fit =
     one_more _ _ _ (count_of_choices places tail files choices fit.1)
 
 -- of a form, as the code holds its choices
@@ -153,23 +164,26 @@ abbrev pub Stands : Slot → (word : List ℕ) → (others : List (List ℕ)) �
 Stands (Word own) word others = word ≡ own
 Stands (File name) word others = Unit {0}
 Stands (LoneFile name) word others = word ≢ codes "--help"
-Stands (LibraryFile name) word others = (word ≢ codes "genlib") ⊎ (others ≡ [])
+Stands (LibraryFile name kept) word others = (stands_in kept word ≡ false) ⊎ (others ≡ [])
 Stands (OneOf name words) word others = stands_in words word ≡ true
+Stands (Name name) word others = is_signal_name word ≡ true
 
 -- the files, and the choices, behind what the word of the place gives
 abbrev pub with_file : Slot → (word : List ℕ) → (files : List (List ℕ)) → List (List ℕ)
 with_file (Word own) word files = files
 with_file (File name) word files = word ∷ files
 with_file (LoneFile name) word files = word ∷ files
-with_file (LibraryFile name) word files = word ∷ files
+with_file (LibraryFile name kept) word files = word ∷ files
 with_file (OneOf name words) word files = files
+with_file (Name name) word files = files
 
 abbrev pub with_choice : Slot → (word : List ℕ) → (choices : List (List ℕ)) → List (List ℕ)
 with_choice (Word own) word choices = choices
 with_choice (File name) word choices = choices
 with_choice (LoneFile name) word choices = choices
-with_choice (LibraryFile name) word choices = choices
+with_choice (LibraryFile name kept) word choices = choices
 with_choice (OneOf name words) word choices = word ∷ choices
+with_choice (Name name) word choices = word ∷ choices
 
 -- the word stands in the place, and the others have the rest of the form
 pub record Begins (slot : Slot) (places : List Slot) (tail : Tail) (word : List ℕ)
@@ -221,8 +235,8 @@ begins (LoneFile name) places tail word words (file ∷ files) choices has =
       stands = rw (sym heads) has.1.0;
       has = (tails, has.1.1);
     }
-begins (LibraryFile name) places tail word words [] choices has = absurd has.1
-begins (LibraryFile name) places tail word words (file ∷ files) choices has =
+begins (LibraryFile name kept) places tail word words [] choices has = absurd has.1
+begins (LibraryFile name kept) places tail word words (file ∷ files) choices has =
     let same = has.0 in
     let heads : file ≡ word = cc in
     let tails : words ≡ filled places tail files choices = cc in
@@ -232,13 +246,26 @@ begins (LibraryFile name) places tail word words (file ∷ files) choices has =
       files_are = ap (λ (w : List ℕ). w ∷ files) heads;
       choices_are = refl;
       stands = elim has.1.0 [
-        | inl other ↦ inl (λ is. other (heads ∙ is))
+        | inl other ↦ inl (subst (λ w. stands_in kept w ≡ false) heads other)
         | inr last ↦ inr (tails ∙ last)
       ];
       has = (tails, has.1.1);
     }
 begins (OneOf name own) places tail word words files [] has = absurd has.1
 begins (OneOf name own) places tail word words files (choice ∷ choices) has =
+    let same = has.0 in
+    let heads : choice ≡ word = cc in
+    let tails : words ≡ filled places tail files choices = cc in
+    record {
+      later_files = files;
+      later_choices = choices;
+      files_are = refl;
+      choices_are = ap (λ (w : List ℕ). w ∷ choices) heads;
+      stands = rw (sym heads) has.1.0;
+      has = (tails, has.1.1);
+    }
+begins (Name name) places tail word words files [] has = absurd has.1
+begins (Name name) places tail word words files (choice ∷ choices) has =
     let same = has.0 in
     let heads : choice ≡ word = cc in
     let tails : words ≡ filled places tail files choices = cc in
@@ -260,13 +287,16 @@ with_first (File name) places tail word words files choices stands has =
     (ap (λ (l : List (List ℕ)). word ∷ l) has.0, has.1)
 with_first (LoneFile name) places tail word words files choices stands has =
     (ap (λ (l : List (List ℕ)). word ∷ l) has.0, (stands, has.1))
-with_first (LibraryFile name) places tail word words files choices stands has =
+with_first (LibraryFile name kept) places tail word words files choices stands has =
     (ap (λ (l : List (List ℕ)). word ∷ l) has.0, (alone stands, has.1))
   where
-    alone : (word ≢ codes "genlib") ⊎ (words ≡ []) → (word ≢ codes "genlib") ⊎ (filled places tail files choices ≡ [])
+    alone : (stands_in kept word ≡ false) ⊎ (words ≡ [])
+        → (stands_in kept word ≡ false) ⊎ (filled places tail files choices ≡ [])
     alone (inl other) = inl other
     alone (inr last) = inr (sym has.0 ∙ last)
 with_first (OneOf name own) places tail word words files choices stands has =
+    (ap (λ (l : List (List ℕ)). word ∷ l) has.0, (stands, has.1))
+with_first (Name name) places tail word words files choices stands has =
     (ap (λ (l : List (List ℕ)). word ∷ l) has.0, (stands, has.1))
 
 -- no words are too few
@@ -293,16 +323,18 @@ files_behind : (slot : Slot) (word : List ℕ) (files later : List (List ℕ))
 files_behind (Word own) word files later = append_assoc files [] later
 files_behind (File name) word files later = append_assoc files (word ∷ []) later
 files_behind (LoneFile name) word files later = append_assoc files (word ∷ []) later
-files_behind (LibraryFile name) word files later = append_assoc files (word ∷ []) later
+files_behind (LibraryFile name kept) word files later = append_assoc files (word ∷ []) later
 files_behind (OneOf name own) word files later = append_assoc files [] later
+files_behind (Name name) word files later = append_assoc files [] later
 
 choices_behind : (slot : Slot) (word : List ℕ) (choices later : List (List ℕ))
     → (choices ++ with_choice slot word []) ++ later ≡ choices ++ with_choice slot word later
 choices_behind (Word own) word choices later = append_assoc choices [] later
 choices_behind (File name) word choices later = append_assoc choices [] later
 choices_behind (LoneFile name) word choices later = append_assoc choices [] later
-choices_behind (LibraryFile name) word choices later = append_assoc choices [] later
+choices_behind (LibraryFile name kept) word choices later = append_assoc choices [] later
 choices_behind (OneOf name own) word choices later = append_assoc choices (word ∷ []) later
+choices_behind (Name name) word choices later = append_assoc choices (word ∷ []) later
 
 module _ (places later : List Slot) (tail : Tail) (words others files choices : List (List ℕ)) (place : ℕ)
     (slot : Slot) (word : List ℕ) (filled : IsFilled places tail words files choices place)
@@ -367,12 +399,12 @@ module _ (places later : List Slot) (tail : Tail) (words others files choices : 
       (place_filled places later tail words others files choices place (LoneFile name) word filled here at stands
       next_slot next_word)
 
-  pub library_filled : (name : List ℕ) → drop place places ≡ LibraryFile name ∷ later
+  pub library_filled : (name : List ℕ) (kept : List (List ℕ)) → drop place places ≡ LibraryFile name kept ∷ later
       → drop place words ≡ word ∷ others → drop (place + 1) places ≡ later → drop (place + 1) words ≡ others
-      → (word ≢ codes "genlib") ⊎ (others ≡ [])
+      → (stands_in kept word ≡ false) ⊎ (others ≡ [])
       → IsFilled places tail words (files ++ word ∷ []) choices (place + 1)
-  library_filled name here at next_slot next_word stands = rw (append-nil choices) at
-      (place_filled places later tail words others files choices place (LibraryFile name) word filled here at stands
+  library_filled name kept here at next_slot next_word stands = rw (append-nil choices) at
+      (place_filled places later tail words others files choices place (LibraryFile name kept) word filled here at stands
       next_slot next_word)
 
   pub choice_filled : (name : List ℕ) (listed : List (List ℕ)) → drop place places ≡ OneOf name listed ∷ later
@@ -380,6 +412,13 @@ module _ (places later : List Slot) (tail : Tail) (words others files choices : 
       → stands_in listed word ≡ true → IsFilled places tail words files (choices ++ word ∷ []) (place + 1)
   choice_filled name listed here at next_slot next_word stands = rw (append-nil files) at
       (place_filled places later tail words others files choices place (OneOf name listed) word filled here at stands
+      next_slot next_word)
+
+  pub name_filled : (name : List ℕ) → drop place places ≡ Name name ∷ later → drop place words ≡ word ∷ others
+      → drop (place + 1) places ≡ later → drop (place + 1) words ≡ others
+      → is_signal_name word ≡ true → IsFilled places tail words files (choices ++ word ∷ []) (place + 1)
+  name_filled name here at next_slot next_word stands = rw (append-nil files) at
+      (place_filled places later tail words others files choices place (Name name) word filled here at stands
       next_slot next_word)
 
 -- ---- what stands at a place of a list, and what comes later
@@ -425,7 +464,7 @@ words_same x y differs is no_differ = (bytes_eq-Decides x y).0 (equal_of (bytes_
 pub true_not_false : true ≡ false → ⊥
 true_not_false same = cc
 
--- ---- whether a word tells the format of the file behind it, as the code tests it
+-- ---- whether a word is kept for what stands behind it, as the code tests it
 pub words_behind : (words : List (String Global)) (place : ℕ)
     → words_of (take (length words - place) (drop place words)) ≡ drop place (words_of words)
 words_behind words place =
@@ -438,12 +477,12 @@ module _ (word : List ℕ) (words : List (String Global)) (place : ℕ) where
   abbrev later : List (List ℕ)
   later = words_of (take (length words - place) (drop place words))
 
-  pub not_a_library : (word ≡ codes "genlib") × (later ≢ [])
-      → (word ≢ codes "genlib") ⊎ (drop place (words_of words) ≡ []) → ⊥
-  not_a_library is (inl other) = other is.0
-  not_a_library is (inr last) = is.1 (words_behind words place ∙ last)
+  pub not_a_library : (kept : List (List ℕ)) → (stands_in kept word ≡ true) × (later ≢ [])
+      → (stands_in kept word ≡ false) ⊎ (drop place (words_of words) ≡ []) → ⊥
+  not_a_library kept is (inl other) = true_not_false (sym is.0 ∙ other)
+  not_a_library kept is (inr last) = is.1 (words_behind words place ∙ last)
 
-  pub is_a_library : (word ≢ codes "genlib") ⊎ (later ≡ [])
-      → (word ≢ codes "genlib") ⊎ (drop place (words_of words) ≡ [])
-  is_a_library (inl other) = inl other
-  is_a_library (inr last) = inr (sym (words_behind words place) ∙ last)
+  pub is_a_library : (kept : List (List ℕ)) → (stands_in kept word ≡ false) ⊎ (later ≡ [])
+      → (stands_in kept word ≡ false) ⊎ (drop place (words_of words) ≡ [])
+  is_a_library kept (inl other) = inl other
+  is_a_library kept (inr last) = inr (sym (words_behind words place) ∙ last)

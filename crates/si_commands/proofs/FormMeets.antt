@@ -3,9 +3,10 @@ use Rattle.std.proofs.Common.{◌≡◌, ◌≢◌, ℕ, List, [], ◌∷◌, re
 use Rattle.std.proofs.Common.{◌∙◌, ◌⊎◌, inl, inr, Bool, true, false, ◌||◌, not, bytes_eq}
 use Rattle.std.proofs.lemmas.Slice.Eq.{bytes_eq-Decides}
 use Rattle.std.specs.List.{list_any}
+use Rattle.si_base.specs.Words.{is_signal_name}
 use Rattle.si_words.specs.Names.{stands_in}
-use Rattle.si_commands.specs.Form.{Form, Slot, Word, File, LoneFile, LibraryFile, OneOf, Tail, Nothing, MoreFiles}
-use Rattle.si_commands.specs.Form.{MorePairs, Options}
+use Rattle.si_commands.specs.Form.{Form, Slot, Word, File, LoneFile, LibraryFile, OneOf, Name, Tail, Nothing}
+use Rattle.si_commands.specs.Form.{MoreFiles, MorePairs, Options}
 use Rattle.si_commands.specs.Form.{HasForm, HasParts, are_some}
 use Rattle.si_commands.proofs.FormLemmas.{Stands, with_file, with_choice, begins, not_without_words}
 
@@ -16,11 +17,13 @@ abbrev pub meets : (last : Bool) → Slot → Slot → Bool
 meets last (Word x) (Word y) = bytes_eq x y
 meets last (Word x) (LoneFile name) = not (bytes_eq x (codes "--help"))
 meets last (LoneFile name) (Word y) = not (bytes_eq y (codes "--help"))
-meets last (Word x) (LibraryFile name) = last || not (bytes_eq x (codes "genlib"))
-meets last (LibraryFile name) (Word y) = last || not (bytes_eq y (codes "genlib"))
+meets last (Word x) (LibraryFile name kept) = last || not (stands_in kept x)
+meets last (LibraryFile name kept) (Word y) = last || not (stands_in kept y)
 meets last (Word x) (OneOf name words) = stands_in words x
 meets last (OneOf name words) (Word y) = stands_in words y
 meets last (OneOf name words) (OneOf other others) = list_any (λ w. stands_in others w) words
+meets last (Word x) (Name name) = is_signal_name x
+meets last (Name name) (Word y) = is_signal_name y
 meets last slot other = true
 
 -- a word behind all places may stand in this one
@@ -77,12 +80,12 @@ not_equal word other differ = by (bytes_eq word other) refl
     by true is = absurd (differ ((bytes_eq-Decides word other).0 is))
     by false is = refl
 
-library_meets : (last : Bool) (own word : List ℕ) (words : List (List ℕ)) → word ≡ own
-    → (word ≢ codes "genlib") ⊎ (words ≡ []) → (words ≡ [] → last ≡ true)
-    → (last || not (bytes_eq own (codes "genlib"))) ≡ true
-library_meets last own word words is (inl other) ends =
-    or_right last _ (not_equal own (codes "genlib") (λ same. other (is ∙ same)))
-library_meets last own word words is (inr none) ends = or_left last _ (ends none)
+library_meets : (last : Bool) (own word : List ℕ) (kept words : List (List ℕ)) → word ≡ own
+    → (stands_in kept word ≡ false) ⊎ (words ≡ []) → (words ≡ [] → last ≡ true)
+    → (last || not (stands_in kept own)) ≡ true
+library_meets last own word kept words is (inl other) ends =
+    or_right last _ (ap not (ap (λ (w : List ℕ). stands_in kept w) (sym is) ∙ other))
+library_meets last own word kept words is (inr none) ends = or_left last _ (ends none)
 
 both_meet : (last : Bool) (slot other : Slot) (word : List ℕ) (words : List (List ℕ)) → Stands slot word words
     → Stands other word words → (words ≡ [] → last ≡ true) → meets last slot other ≡ true
@@ -90,26 +93,38 @@ both_meet last (Word a) (Word b) word words one two ends = (bytes_eq-Decides a b
 both_meet last (Word a) (File name) word words one two ends = refl
 both_meet last (Word a) (LoneFile name) word words one two ends =
     not_equal a (codes "--help") (λ same. two (one ∙ same))
-both_meet last (Word a) (LibraryFile name) word words one two ends = library_meets last a word words one two ends
+both_meet last (Word a) (LibraryFile name kept) word words one two ends =
+    library_meets last a word kept words one two ends
 both_meet last (Word a) (OneOf name own) word words one two ends = rw (sym one) two
+both_meet last (Word a) (Name name) word words one two ends = rw (sym one) two
 both_meet last (File name) other word words one two ends = refl
 both_meet last (LoneFile name) (Word b) word words one two ends =
     not_equal b (codes "--help") (λ same. one (two ∙ same))
 both_meet last (LoneFile name) (File other) word words one two ends = refl
 both_meet last (LoneFile name) (LoneFile other) word words one two ends = refl
-both_meet last (LoneFile name) (LibraryFile other) word words one two ends = refl
+both_meet last (LoneFile name) (LibraryFile other kept) word words one two ends = refl
 both_meet last (LoneFile name) (OneOf other own) word words one two ends = refl
-both_meet last (LibraryFile name) (Word b) word words one two ends = library_meets last b word words two one ends
-both_meet last (LibraryFile name) (File other) word words one two ends = refl
-both_meet last (LibraryFile name) (LoneFile other) word words one two ends = refl
-both_meet last (LibraryFile name) (LibraryFile other) word words one two ends = refl
-both_meet last (LibraryFile name) (OneOf other own) word words one two ends = refl
+both_meet last (LoneFile name) (Name other) word words one two ends = refl
+both_meet last (LibraryFile name kept) (Word b) word words one two ends =
+    library_meets last b word kept words two one ends
+both_meet last (LibraryFile name kept) (File other) word words one two ends = refl
+both_meet last (LibraryFile name kept) (LoneFile other) word words one two ends = refl
+both_meet last (LibraryFile name kept) (LibraryFile other others) word words one two ends = refl
+both_meet last (LibraryFile name kept) (OneOf other own) word words one two ends = refl
+both_meet last (LibraryFile name kept) (Name other) word words one two ends = refl
 both_meet last (OneOf name own) (Word b) word words one two ends = rw (sym two) one
 both_meet last (OneOf name own) (File other) word words one two ends = refl
 both_meet last (OneOf name own) (LoneFile other) word words one two ends = refl
-both_meet last (OneOf name own) (LibraryFile other) word words one two ends = refl
+both_meet last (OneOf name own) (LibraryFile other kept) word words one two ends = refl
 both_meet last (OneOf name own) (OneOf other others) word words one two ends =
     one_passes (λ w. stands_in others w) own word one two
+both_meet last (OneOf name own) (Name other) word words one two ends = refl
+both_meet last (Name name) (Word b) word words one two ends = rw (sym two) one
+both_meet last (Name name) (File other) word words one two ends = refl
+both_meet last (Name name) (LoneFile other) word words one two ends = refl
+both_meet last (Name name) (LibraryFile other kept) word words one two ends = refl
+both_meet last (Name name) (OneOf other others) word words one two ends = refl
+both_meet last (Name name) (Name other) word words one two ends = refl
 
 -- ---- a word behind all places of one form, and in a place of the other
 first_listed : (options : List (List ℕ)) (word : List ℕ) (words : List (List ℕ))

@@ -16,7 +16,7 @@ use Rattle.si_commands.specs.About.{Shows, shown_form, shown_part, shown_slot, r
 use Rattle.si_commands.specs.About.{begins, line_of, note_of, notes, page_text}
 use Rattle.si_commands.specs.About.{begins_at, shown_option, shown_tail}
 use Rattle.si_commands.specs.Command.{Row, command_words, form_of, row_of, rows, tasks}
-use Rattle.si_commands.specs.Form.{Form, Slot, Word, File, LoneFile, LibraryFile, OneOf}
+use Rattle.si_commands.specs.Form.{Form, Slot, Word, File, LoneFile, LibraryFile, OneOf, Name}
 use Rattle.si_commands.specs.Loops.Reads.{form_now, row_now, slot_now, slots_now, tail_now}
 use Rattle.si_words.specs.Loops.Reads.{words_now}
 use Rattle.si_commands.specs.declared.about.TheConstants.{HELP_HEAD, HELP_TAIL, BLANKS}
@@ -194,8 +194,9 @@ page_of_first (Word own ∷ places) word page is =
     subst (λ (w : List ℕ). stands_in command_words w ≡ true) ((bytes_eq-Decides own word).0 is) page
 page_of_first (File name ∷ places) word page is = cc
 page_of_first (LoneFile name ∷ places) word page is = cc
-page_of_first (LibraryFile name ∷ places) word page is = cc
+page_of_first (LibraryFile name kept ∷ places) word page is = cc
 page_of_first (OneOf name words ∷ places) word page is = cc
+page_of_first (Name name ∷ places) word page is = cc
 
 pub has_its_page : (task : Task) (word : List ℕ) → begins word (form_of task) ≡ true
     → stands_in command_words word ≡ true

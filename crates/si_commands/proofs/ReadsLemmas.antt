@@ -64,6 +64,13 @@ read_one files texts a x count each is same =
     let many : length files ≡ 1 = omega (arith, count.low, count.high) in
     (one_name files many, one_text texts a x (each ∙ many) is same)
 
+-- the words that a place leaves to choose are one
+pub read_choice : (choices : List (Bor (List ℕ))) → IsCount 1 0 (length choices)
+    → words_now choices ≡ (get_or choices 0 no_name).now ∷ []
+read_choice choices count =
+    let many : length choices ≡ 1 = omega (arith, count.low, count.high) in
+    one_name choices many
+
 pub read_two : (files : List (Bor (List ℕ))) (texts : List (Vec ℕ Global)) (a b : Vec ℕ Global) (x y : List ℕ)
     → IsCount 2 0 (length files) → length texts ≡ length files → a ≡ get_or texts 0 a → b ≡ get_or texts 1 b
     → x ≡ a.items → y ≡ b.items

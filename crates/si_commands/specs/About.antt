@@ -4,8 +4,8 @@ use Rattle.std.specs.Prelude.{bytes_eq, length, map, drop, codes}
 use Rattle.std.specs.List.{flat_map}
 use Rattle.si_base.specs.Bytes.{space}
 use Rattle.si_commands.specs.Command.{Row, Request, form_of, rows}
-use Rattle.si_commands.specs.Form.{Form, Slot, Word, File, LoneFile, LibraryFile, OneOf, Tail}
-use Rattle.si_commands.specs.Form.{Nothing}
+use Rattle.si_commands.specs.Form.{Form, Slot, Word, File, LoneFile, LibraryFile, OneOf, Name}
+use Rattle.si_commands.specs.Form.{Tail, Nothing}
 use Rattle.si_commands.specs.Form.{MoreFiles, MorePairs, Options}
 use Rattle.si_commands.specs.declared.about.TheConstants.{HELP_HEAD, HELP_TAIL, BLANKS, VERSION}
 use Rattle.si_commands.specs.declared.notes.TheConstants.{NOTES}
@@ -20,8 +20,9 @@ abbrev pub shown_slot : Slot → List ℕ
 shown_slot (Word word) = word
 shown_slot (File name) = name
 shown_slot (LoneFile name) = name
-shown_slot (LibraryFile name) = name
+shown_slot (LibraryFile name kept) = name
 shown_slot (OneOf name words) = name
+shown_slot (Name name) = name
 
 -- and for what may stand behind them: two dots for files, each option in brackets
 abbrev pub shown_option : (option : List ℕ) → List ℕ

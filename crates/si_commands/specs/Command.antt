@@ -8,7 +8,7 @@ use Rattle.si_circuit.specs.declared.style.Style.{Style}
 use Rattle.si_circuit.specs.declared.style.Style.TheVariants.{Complex, GeneralisedC}
 use Rattle.si_refusals.specs.Ending.{Ending, NoMemory, Usage}
 use Rattle.si_commands.specs.Form.{Form, HasForm, Slot, Word, File, LoneFile, LibraryFile, OneOf}
-use Rattle.si_commands.specs.Form.{Tail}
+use Rattle.si_commands.specs.Form.{Name, Tail}
 use Rattle.si_commands.specs.Form.{MoreFiles, MorePairs, Nothing, Options, words_of}
 use Rattle.si_commands.specs.declared.task.LibraryKind.{LibraryKind}
 use Rattle.si_commands.specs.declared.task.LibraryKind.TheVariants.{Cells, Gates}
@@ -18,6 +18,7 @@ use Rattle.si_commands.specs.declared.task.Task.TheVariants.{Verilog, Replay, Au
 use Rattle.si_commands.specs.declared.task.Task.TheVariants as task
 use Rattle.si_commands.specs.declared.task.Task.TheVariants.{TellNetlist, Resolve, Insert, Same}
 use Rattle.si_commands.specs.declared.task.Task.TheVariants.{Suggest, Structure, Equations}
+use Rattle.si_commands.specs.declared.task.Task.TheVariants.{Resettable, Timing}
 use Rattle.si_readings.specs.declared.library_format.LibraryFormat.{LibraryFormat}
 use Rattle.si_readings.specs.declared.library_format.LibraryFormat.TheVariants.{Own, Genlib}
 use Rattle.si_reports.specs.declared.netlist_report.NetlistReport.{NetlistReport}
@@ -104,8 +105,15 @@ resolve_options = codes "suggest" ∷ []
 abbrev pub map_options : List (List ℕ)
 map_options = codes "suggest" ∷ codes "plain" ∷ []
 
+-- that of `verilog` over a library: an inverter for each complemented pin
+abbrev pub structure_options : List (List ℕ)
+structure_options = codes "inverters" ∷ []
+
 abbrev pub is_suggested : (options : List (List ℕ)) → Bool
 is_suggested options = stands_in options (codes "suggest")
+
+abbrev pub is_inverted : (options : List (List ℕ)) → Bool
+is_inverted options = stands_in options (codes "inverters")
 
 abbrev pub pins_of : (options : List (List ℕ)) → Pins
 pins_of options = if stands_in options (codes "plain") then Plain else Any
@@ -114,6 +122,14 @@ pins_of options = if stands_in options (codes "plain") then Plain else Any
 abbrev pub format_of : LibraryKind → (options : List (List ℕ)) → LibraryFormat
 format_of Cells options = Own (pins_of options)
 format_of Gates options = Genlib (pins_of options)
+
+-- what no library is called before other words: the word that tells the format of the next file,
+-- and for `verilog` also that before the name of an input
+abbrev pub format_words : List (List ℕ)
+format_words = codes "genlib" ∷ []
+
+abbrev pub verilog_words : List (List ℕ)
+verilog_words = codes "genlib" ∷ codes "reset" ∷ []
 
 -- ---- forms
 
@@ -187,7 +203,7 @@ row_of (Suggest style) =
     row (Word (codes "suggest") ∷ File graph_name ∷ Word (style_named style).word ∷ [])
     (codes "the same by a wider search")
 row_of (Map Cells) =
-    row_with (Word (codes "map") ∷ File graph_name ∷ LibraryFile (codes "LIB") ∷ [])
+    row_with (Word (codes "map") ∷ File graph_name ∷ LibraryFile (codes "LIB") format_words ∷ [])
     (Options map_options) (codes "a netlist of cells of a library")
 row_of (Map Gates) =
     row_with (Word (codes "map") ∷ File graph_name ∷ Word (codes "genlib") ∷ File genlib_name ∷ [])
@@ -204,15 +220,25 @@ row_of FromGenlib =
 row_of Verilog =
     row (Word (codes "verilog") ∷ LoneFile netlist_name ∷ [])
     (codes "a netlist as a module of Verilog")
+row_of Resettable =
+    row (Word (codes "verilog") ∷ File netlist_name ∷ Word (codes "reset") ∷ Name (codes "NAME") ∷ [])
+    (codes "the same with an input that resets it")
 row_of (Structure Cells) =
-    row (Word (codes "verilog") ∷ File netlist_name ∷ LibraryFile (codes "LIB") ∷ [])
-    (codes "the same of instances of cells")
+    row_with
+    (Word (codes "verilog") ∷ File netlist_name ∷ LibraryFile (codes "LIB") verilog_words ∷ [])
+    (Options structure_options) (codes "the same of instances of cells")
 row_of (Structure Gates) =
-    row
+    row_with
     (Word (codes "verilog") ∷ File netlist_name ∷ Word (codes "genlib") ∷ File genlib_name ∷ [])
-    (codes "the same of gates of genlib")
+    (Options structure_options) (codes "the same of gates of genlib")
 row_of Equations =
     row (Word (codes "eqn") ∷ LoneFile netlist_name ∷ []) (codes "a netlist as equations")
+row_of (Timing Cells) =
+    row (Word (codes "loops") ∷ File netlist_name ∷ LibraryFile (codes "LIB") format_words ∷ [])
+    (codes "the same for a timing tool")
+row_of (Timing Gates) =
+    row (Word (codes "loops") ∷ File netlist_name ∷ Word (codes "genlib") ∷ File genlib_name ∷ [])
+    (codes "the same of gates of genlib")
 row_of (TellNetlist report) =
     row (Word (netlist_named report).word ∷ LoneFile netlist_name ∷ []) (netlist_named report).says
 row_of (Replay report) =
@@ -245,8 +271,8 @@ tasks = Tell Summary ∷ Tell States ∷ Tell Regions ∷ Tell Conflicts ∷ Tel
     ∷ Tell Covers ∷ Tell Fold ∷ Tell Dot ∷ Synth Complex ∷ Synth GeneralisedC
     ∷ Suggest Complex ∷ Suggest GeneralisedC ∷ Map Cells
     ∷ Map Gates ∷ Resolve ∷ Insert ∷ FromGenlib
-    ∷ Verilog ∷ Structure Cells ∷ Structure Gates ∷ Equations
-    ∷ TellNetlist Loops ∷ TellNetlist Reset ∷ Replay End ∷ Replay Wave ∷ Audit ∷ Same
+    ∷ Verilog ∷ Resettable ∷ Structure Cells ∷ Structure Gates ∷ Equations
+    ∷ TellNetlist Loops ∷ Timing Cells ∷ Timing Gates ∷ TellNetlist Reset ∷ Replay End ∷ Replay Wave ∷ Audit ∷ Same
     ∷ task.Together together.Product ∷ task.Together together.Compose
     ∷ task.Together together.Join ∷ task.Together together.Works ∷ Exercise ∷ About Help
     ∷ About (Page Before) ∷ About (Page Behind) ∷ About Version ∷ []

@@ -3,6 +3,7 @@ use Rattle.std.specs.Prelude.{◌≡◌, ◌≢◌, ℕ, ◌+◌, ◌%◌, ◌�
 use Rattle.std.specs.Prelude.{List, []}
 use Rattle.std.specs.Prelude.{◌∷◌, length, map, bytes_eq, codes, String, string_bytes}
 use Rattle.std.specs.declared.alloc.Global.{Global}
+use Rattle.si_base.specs.Words.{is_signal_name}
 use Rattle.si_words.specs.Names.{stands_in}
 
 -- the words of a line, each by its bytes
@@ -10,14 +11,16 @@ abbrev pub words_of : List (String Global) → List (List ℕ)
 words_of words = map (λ w. string_bytes w) words
 
 -- a place in the form of a command: for this word; for the name of a file, which where it stands
--- alone isn't `--help`, and where it is that of a library, behind which words stand, isn't `genlib`;
--- or for one of these words. The help gives files and choices these names
+-- alone isn't `--help`, and where it is that of a library, behind which words stand, isn't one of
+-- those that have a meaning of their own there; for one of these words; or for a name of a signal.
+-- The help gives files and choices these names
 pub data Slot : Type 0 where
   Word : List ℕ → Slot
   File : List ℕ → Slot
   LoneFile : List ℕ → Slot
-  LibraryFile : List ℕ → Slot
+  LibraryFile : List ℕ → (kept : List (List ℕ)) → Slot
   OneOf : List ℕ → List (List ℕ) → Slot
+  Name : List ℕ → Slot
 
 -- what may stand behind the places: nothing; the names of more files, so many at most; the same in
 -- pairs; or options, which are words that may be given
@@ -64,26 +67,30 @@ filled [] tail files choices = behind tail files choices
 filled (Word word ∷ places) tail files choices = word ∷ filled places tail files choices
 filled (File name ∷ places) tail (file ∷ files) choices = file ∷ filled places tail files choices
 filled (LoneFile name ∷ places) tail (file ∷ files) choices = file ∷ filled places tail files choices
-filled (LibraryFile name ∷ places) tail (file ∷ files) choices =
+filled (LibraryFile name kept ∷ places) tail (file ∷ files) choices =
     file ∷ filled places tail files choices
 filled (OneOf name words ∷ places) tail files (choice ∷ choices) =
+    choice ∷ filled places tail files choices
+filled (Name name ∷ places) tail files (choice ∷ choices) =
     choice ∷ filled places tail files choices
 filled places tail files choices = []
 
 -- there is a place for each of them, or it fits behind the places; a file that stands alone isn't
--- `--help`; a library isn't `genlib`, or nothing stands behind it; and each choice is one of the
--- words of its place
+-- `--help`; a library isn't one of the words that are kept there, or nothing stands behind it; and
+-- each choice is one of the words of its place, or a name of a signal
 abbrev pub Fits : List Slot → Tail → (files choices : List (List ℕ)) → Type 0
 Fits [] tail files choices = FitBehind tail files choices
 Fits (Word word ∷ places) tail files choices = Fits places tail files choices
 Fits (File name ∷ places) tail (file ∷ files) choices = Fits places tail files choices
 Fits (LoneFile name ∷ places) tail (file ∷ files) choices =
     (file ≢ codes "--help") × Fits places tail files choices
-Fits (LibraryFile name ∷ places) tail (file ∷ files) choices =
-    ((file ≢ codes "genlib") ⊎ (filled places tail files choices ≡ []))
+Fits (LibraryFile name kept ∷ places) tail (file ∷ files) choices =
+    ((stands_in kept file ≡ false) ⊎ (filled places tail files choices ≡ []))
     × Fits places tail files choices
 Fits (OneOf name words ∷ places) tail files (choice ∷ choices) =
     (stands_in words choice ≡ true) × Fits places tail files choices
+Fits (Name name ∷ places) tail files (choice ∷ choices) =
+    (is_signal_name choice ≡ true) × Fits places tail files choices
 Fits places tail files choices = ⊥
 
 -- the words have these places and this tail, name these files, and choose these words
@@ -109,12 +116,13 @@ abbrev pub file_count : List Slot → ℕ
 file_count [] = 0
 file_count (File name ∷ places) = 1 + file_count places
 file_count (LoneFile name ∷ places) = 1 + file_count places
-file_count (LibraryFile name ∷ places) = 1 + file_count places
+file_count (LibraryFile name kept ∷ places) = 1 + file_count places
 file_count (slot ∷ places) = file_count places
 
 abbrev pub choice_count : List Slot → ℕ
 choice_count [] = 0
 choice_count (OneOf name words ∷ places) = 1 + choice_count places
+choice_count (Name name ∷ places) = 1 + choice_count places
 choice_count (slot ∷ places) = choice_count places
 
 -- how many more of each may stand behind them

@@ -40,13 +40,10 @@ Examples, beside the sources:
 
   sisyn check examples/vme-read.sg
   sisyn explain examples/pulse-train.sg
-  sisyn lint examples/vme-read.sg
   sisyn synth examples/vme-read.sg complex > vme-read.net
   sisyn suggest examples/duplicator.sg complex > duplicator.net
   sisyn map examples/c-element-three.sg genlib examples/everyday.genlib
-  sisyn resolve examples/vme-read.sg | sisyn synth /dev/stdin gc
   sisyn verilog examples/vme-read.net > vme-read.v
-  sisyn replay examples/c-element.sg examples/c-element.net <(echo 'a+ b+ c+')
   sisyn audit examples/vme-read.sg examples/vme-read.net
 
 The documents stand beside the sources: README.md has a walk through the

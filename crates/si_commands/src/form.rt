@@ -1,7 +1,7 @@
 //! The form of a command, and the words that have it.
 
 ghost use Rattle.std.specs.Prelude.{◌≡◌, ◌≢◌, ◌≤◌, ◌⊎◌, ℕ, List, [], ◌++◌, IfOk, IfSome, OnOk};
-ghost use Rattle.std.specs.Prelude.{MatchOption, codes, length, true, false};
+ghost use Rattle.std.specs.Prelude.{MatchOption, length, true, false};
 ghost use Rattle.si_words.specs.Loops.Reads.{words_now};
 ghost use Rattle.si_words.specs.Names.{stands_in};
 ghost use Rattle.si_commands.specs.Form as form;
@@ -10,6 +10,7 @@ ghost use Rattle.si_commands.specs.Form.{HasForm, HasParts, words_of};
 ghost use Rattle.si_commands.specs.Loops.Filled.{AreFilled, Completes};
 ghost use Rattle.si_commands.specs.Loops.Reads.{form_now, slot_now, slots_now, tail_now};
 
+use si_words::words::is_signal_name;
 use std::alloc::{AllocError, Global};
 
 /// A place in the form of a command.
@@ -22,11 +23,12 @@ pub enum Slot<'a> {
     /// The same of a file that stands alone behind the command: any word but `--help`, which asks
     /// for the command's page.
     LoneFile(&'a str),
-    /// The same of a library: any word but `genlib` with words behind it, as that tells the format
-    /// of the file that follows.
-    LibraryFile(&'a str),
+    /// The same of a library: any word but these with words behind it, as they tell what follows.
+    LibraryFile(&'a str, &'a [&'a str]),
     /// One of these words, which the help calls so.
     OneOf(&'a str, &'a [&'a str]),
+    /// A word that may name a signal, which the help calls so.
+    Name(&'a str),
 }
 
 impl<'a> Slot<'a> {
@@ -38,8 +40,9 @@ impl<'a> Slot<'a> {
             Slot::Word(word) => word,
             Slot::File(name) => name,
             Slot::LoneFile(name) => name,
-            Slot::LibraryFile(name) => name,
+            Slot::LibraryFile(name, _) => name,
             Slot::OneOf(name, _) => name,
+            Slot::Name(name) => name,
         }
     }
 }
@@ -118,14 +121,20 @@ fn placed_in<'w>(
                 }
                 files.push(word)?;
             }
-            Slot::LibraryFile(_) => {
-                if names_a_format(word, &words[place + 1..]) {
+            Slot::LibraryFile(_, kept) => {
+                if is_kept(kept, word, &words[place + 1..]) {
                     return Ok(None);
                 }
                 files.push(word)?;
             }
             Slot::OneOf(_, listed) => {
                 if !is_listed(listed, word) {
+                    return Ok(None);
+                }
+                choices.push(word)?;
+            }
+            Slot::Name(_) => {
+                if !is_signal_name(word.as_bytes()) {
                     return Ok(None);
                 }
                 choices.push(word)?;
@@ -206,12 +215,14 @@ fn are_some(options: &[&str], words: &[String]) -> bool
     taken == words.len()
 }
 
-/// Whether the word tells the format of the file behind it.
-fn names_a_format(word: &str, later: &[String]) -> bool
-    ensures named { result ≡ true → (word.now ≡ codes "genlib") × (words_of later.now ≢ []) }
-    ensures other { result ≡ false → (word.now ≢ codes "genlib") ⊎ (words_of later.now ≡ []) }
+/// Whether the word is one of those that are kept, and words stand behind it.
+fn is_kept(kept: &[&str], word: &str, later: &[String]) -> bool
+    ensures kept { result ≡ true
+        → (stands_in (words_now kept.now) word.now ≡ true) × (words_of later.now ≢ []) }
+    ensures other { result ≡ false
+        → (stands_in (words_now kept.now) word.now ≡ false) ⊎ (words_of later.now ≡ []) }
 {
-    !later.is_empty() && word == "genlib"
+    !later.is_empty() && is_listed(kept, word)
 }
 
 /// Whether one of the words is this one.

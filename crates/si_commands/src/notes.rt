@@ -207,16 +207,19 @@ Statuses: 0, 1 nomemory, 3 readfault, 4 writefault, 5 toolong, 6 badtext.
     (
         "verilog",
         b"It writes the netlist as a module of Verilog; with a library as a module for
-each cell that is used, and one with an instance of a cell for each gate. Each
-pin reads a signal as it is: `map` with plain behind it makes such netlists.
+each cell that is used, and one with an instance of a cell for each gate, by the
+names that genlib gives to pins. A pin reads a signal as it is, as those that
+`map` with plain behind it makes; `inverters` puts an inverter of the library in
+front of each other pin. With `reset` the module has an input NAME: while it is
+1, the outputs that the command `reset` lists have their start values.
 
 Example:
 
   sisyn verilog examples/vme-read.net > vme-read.v
 
 Statuses: 0, 1 nomemory, 3 readfault, 4 writefault, 5 toolong, 6 badtext, 15 of
-a gate that is no instance of a cell, or has a complemented pin, and of a model
-that has the name of a cell.
+a gate that is no instance of a cell, or has a complemented pin; of a model that
+has the name of a cell, and of an input that has that of a signal.
 ",
     ),
     (
@@ -234,13 +237,15 @@ Statuses: 0, 1 nomemory, 3 readfault, 4 writefault, 5 toolong, 6 badtext.
     (
         "loops",
         b"It writes how many arcs lead from gate to gate, and those pins that, cut, leave
-no loop.
+no loop; with a library as commands for a timing tool, which name the instances
+that `verilog` with this library writes.
 
 Example:
 
   sisyn loops examples/vme-read.net
 
-Statuses: 0, 1 nomemory, 3 readfault, 4 writefault, 5 toolong, 6 badtext.
+Statuses: 0, 1 nomemory, 3 readfault, 4 writefault, 5 toolong, 6 badtext; with a
+library 15 of a gate that is no instance of a cell.
 ",
     ),
     (

@@ -4,7 +4,7 @@ ghost use Rattle.std.specs.Prelude.{◌≡◌, map};
 ghost use Rattle.si_commands.specs.Command as command;
 ghost use Rattle.si_commands.specs.Loops.Reads.{row_now};
 
-use crate::form::Slot::{File, LibraryFile, LoneFile, OneOf, Word};
+use crate::form::Slot::{File, LibraryFile, LoneFile, Name, OneOf, Word};
 use crate::form::Tail::{MoreFiles, MorePairs, Nothing, Options};
 use crate::form::{Slot, Tail};
 use crate::task::{HelpPlace, LibraryKind, Task, Together, Topic};
@@ -68,6 +68,15 @@ const RESOLVE_OPTIONS: &[&str] = &["suggest"];
 
 /// The options of `map`: the same, and pins without complements.
 const MAP_OPTIONS: &[&str] = &["suggest", "plain"];
+
+/// The option of `verilog` over a library: an inverter for each complemented pin.
+const STRUCTURE_OPTIONS: &[&str] = &["inverters"];
+
+/// What no library is called before other words: the word that tells the format of the next file.
+const FORMAT_WORDS: &[&str] = &["genlib"];
+
+/// The same for `verilog`, where another word stands before the name of an input.
+const VERILOG_WORDS: &[&str] = &["genlib", "reset"];
 
 /// The rows.
 const ROWS: &[Row] = &[
@@ -151,7 +160,7 @@ const ROWS: &[Row] = &[
     },
     Row {
         task: Task::Map(LibraryKind::Cells),
-        places: &[Word("map"), File("F"), LibraryFile("LIB")],
+        places: &[Word("map"), File("F"), LibraryFile("LIB", FORMAT_WORDS)],
         tail: Options(MAP_OPTIONS),
         says: "a netlist of cells of a library",
     },
@@ -186,9 +195,24 @@ const ROWS: &[Row] = &[
         says: "a netlist as a module of Verilog",
     },
     Row {
-        task: Task::Structure(LibraryKind::Cells),
-        places: &[Word("verilog"), File("NETLIST"), LibraryFile("LIB")],
+        task: Task::Resettable,
+        places: &[
+            Word("verilog"),
+            File("NETLIST"),
+            Word("reset"),
+            Name("NAME"),
+        ],
         tail: Nothing,
+        says: "the same with an input that resets it",
+    },
+    Row {
+        task: Task::Structure(LibraryKind::Cells),
+        places: &[
+            Word("verilog"),
+            File("NETLIST"),
+            LibraryFile("LIB", VERILOG_WORDS),
+        ],
+        tail: Options(STRUCTURE_OPTIONS),
         says: "the same of instances of cells",
     },
     Row {
@@ -199,7 +223,7 @@ const ROWS: &[Row] = &[
             Word("genlib"),
             File("FILE"),
         ],
-        tail: Nothing,
+        tail: Options(STRUCTURE_OPTIONS),
         says: "the same of gates of genlib",
     },
     Row {
@@ -213,6 +237,22 @@ const ROWS: &[Row] = &[
         places: &[Word("loops"), LoneFile("NETLIST")],
         tail: Nothing,
         says: "which pins to cut, so that it has no loop",
+    },
+    Row {
+        task: Task::Timing(LibraryKind::Cells),
+        places: &[
+            Word("loops"),
+            File("NETLIST"),
+            LibraryFile("LIB", FORMAT_WORDS),
+        ],
+        tail: Nothing,
+        says: "the same for a timing tool",
+    },
+    Row {
+        task: Task::Timing(LibraryKind::Gates),
+        places: &[Word("loops"), File("NETLIST"), Word("genlib"), File("FILE")],
+        tail: Nothing,
+        says: "the same of gates of genlib",
     },
     Row {
         task: Task::TellNetlist(NetlistReport::Reset),

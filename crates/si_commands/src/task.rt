@@ -64,6 +64,8 @@ pub enum Task {
     FromGenlib,
     /// A netlist as a module of Verilog.
     Verilog,
+    /// The same with an input of the name that the words choose, which resets it.
+    Resettable,
     /// A netlist of the cells of a library that is read so, as modules of Verilog with an instance
     /// for each gate.
     Structure(LibraryKind),
@@ -71,6 +73,9 @@ pub enum Task {
     Equations,
     /// A report on a netlist.
     TellNetlist(NetlistReport),
+    /// Where the loops of a netlist of the cells of a library that is read so are cut, as lines for
+    /// a timing tool.
+    Timing(LibraryKind),
     /// What is told of a schedule over a netlist beside a graph.
     Replay(ReplayReport),
     /// Whether a netlist is certified for a graph.

@@ -3,8 +3,8 @@ use Rattle.std.specs.Prelude.{ℕ, List, map, Vec}
 use Rattle.std.specs.declared.alloc.Global.{Global}
 use Rattle.si_words.specs.Loops.Reads.{words_now}
 use Rattle.si_commands.specs.Command.{Request, Row}
-use Rattle.si_commands.specs.Form.{Form, Slot, Word, File, LoneFile, LibraryFile, OneOf, Tail}
-use Rattle.si_commands.specs.Form.{Nothing}
+use Rattle.si_commands.specs.Form.{Form, Slot, Word, File, LoneFile, LibraryFile, OneOf, Name}
+use Rattle.si_commands.specs.Form.{Tail, Nothing}
 use Rattle.si_commands.specs.Form.{MoreFiles, MorePairs, Options}
 use Rattle.si_commands.specs.declared.command.Command.{Command}
 use Rattle.si_commands.specs.declared.form.Slot.{Slot as HeldSlot}
@@ -22,8 +22,9 @@ abbrev pub slot_now : HeldSlot → Slot
 slot_now (held.Word word) = Word word.now
 slot_now (held.File name) = File name.now
 slot_now (held.LoneFile name) = LoneFile name.now
-slot_now (held.LibraryFile name) = LibraryFile name.now
+slot_now (held.LibraryFile name kept) = LibraryFile name.now (words_now kept.now)
 slot_now (held.OneOf name words) = OneOf name.now (words_now words.now)
+slot_now (held.Name name) = Name name.now
 
 abbrev pub slots_now : List HeldSlot → List Slot
 slots_now places = map slot_now places
