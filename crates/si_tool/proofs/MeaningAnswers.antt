@@ -6,7 +6,7 @@ use Rattle.si_commands.specs.About.{about_text}
 use Rattle.si_commands.specs.Command.{Request, form_of, format_of, is_suggested, number_of}
 use Rattle.si_commands.specs.Form.{Fit}
 use Rattle.si_tool.specs.Loads.{Contents, Counts, loads, load_well, loads_well, AreTold}
-use Rattle.si_tool.specs.Meaning.{meaning, ComesTo, IsDetermined, mapped_by, resolved_by, together}
+use Rattle.si_tool.specs.Meaning.{meaning, ComesTo, IsDetermined, complements_of, mapped_by, resolved_by, together}
 use Rattle.si_refusals.specs.Refusal.{TextRefusal, ReadFault, Answer, Output, FileRefused, TextRefused}
 use Rattle.si_commands.specs.declared.task.Task.{Task}
 use Rattle.si_commands.specs.declared.task.Topic.TheVariants.{Help, Page, Version}
@@ -37,8 +37,10 @@ use Rattle.si_works.proofs.WorksLemmas.{works_one, works_some}
 use Rattle.si_reports.proofs.NetlistReportLemmas.{netlist_report_one, netlist_report_some}
 use Rattle.si_reports.proofs.VerilogLemmas.{verilog_one, verilog_some}
 use Rattle.si_exports.proofs.EquationsLemmas.{equations_one, equations_some}
+use Rattle.si_exports.proofs.ResettableLemmas.{resettable_one, resettable_some}
 use Rattle.si_exports.proofs.StructureLemmas.{structure_one, structure_some}
-use Rattle.si_commands.specs.declared.task.Task.TheVariants.{Structure, Equations}
+use Rattle.si_exports.proofs.TimingLemmas.{timing_one, timing_some}
+use Rattle.si_commands.specs.declared.task.Task.TheVariants.{Structure, Equations, Resettable, Timing}
 use Rattle.si_suggestion.proofs.SuggestedTexts.{map_suggested_some, resolve_suggested_some}
 use Rattle.si_suggestion.proofs.SuggestionsExist.{suggest_some}
 use Rattle.si_readings.specs.declared.library_format.LibraryFormat.{LibraryFormat}
@@ -89,9 +91,11 @@ meaning_one (Map kind) (g ∷ l ∷ []) options (a ∷ b ∷ []) one =
     mapped_one (is_suggested options) (format_of kind options) g a l b one
 meaning_one FromGenlib (file ∷ []) choices (text ∷ []) one = genlib_one file text
 meaning_one Verilog (file ∷ []) choices (text ∷ []) one = verilog_one file text
+meaning_one Resettable (file ∷ []) (name ∷ []) (text ∷ []) one = resettable_one file text name
 meaning_one (Structure kind) (n ∷ l ∷ []) options (a ∷ b ∷ []) one =
-    structure_one (format_of kind options) n a l b
+    structure_one (format_of kind options) (complements_of options) n a l b
 meaning_one Equations (file ∷ []) choices (text ∷ []) one = equations_one file text
+meaning_one (Timing kind) (n ∷ l ∷ []) options (a ∷ b ∷ []) one = timing_one (format_of kind options) n a l b
 meaning_one (TellNetlist what) (file ∷ []) choices (text ∷ []) one = netlist_report_one what file text
 meaning_one (Replay what) (g ∷ n ∷ s ∷ []) choices (a ∷ b ∷ c ∷ []) one = replay_one what g a n b s c
 meaning_one Audit (g ∷ n ∷ []) choices (a ∷ b ∷ []) one = audit_one g a n b
@@ -118,11 +122,16 @@ meaning_some (Map Gates) (g ∷ l ∷ []) options (a ∷ b ∷ []) fit each =
     mapped_some (is_suggested options) (format_of Gates options) g a l b
 meaning_some FromGenlib (file ∷ []) choices (text ∷ []) fit each = genlib_some file text
 meaning_some Verilog (file ∷ []) choices (text ∷ []) fit each = verilog_some file text
+meaning_some Resettable (file ∷ []) (name ∷ []) (text ∷ []) fit each = resettable_some file text name fit.0
 meaning_some (Structure Cells) (n ∷ l ∷ []) options (a ∷ b ∷ []) fit each =
-    structure_some (format_of Cells options) n a l b
+    structure_some (format_of Cells options) (complements_of options) n a l b
 meaning_some (Structure Gates) (n ∷ l ∷ []) options (a ∷ b ∷ []) fit each =
-    structure_some (format_of Gates options) n a l b
+    structure_some (format_of Gates options) (complements_of options) n a l b
 meaning_some Equations (file ∷ []) choices (text ∷ []) fit each = equations_some file text
+meaning_some (Timing Cells) (n ∷ l ∷ []) options (a ∷ b ∷ []) fit each =
+    timing_some (format_of Cells options) n a l b
+meaning_some (Timing Gates) (n ∷ l ∷ []) options (a ∷ b ∷ []) fit each =
+    timing_some (format_of Gates options) n a l b
 meaning_some (TellNetlist what) (file ∷ []) choices (text ∷ []) fit each = netlist_report_some what file text
 meaning_some (Replay what) (g ∷ n ∷ s ∷ []) choices (a ∷ b ∷ c ∷ []) fit each = replay_some what g a n b s c
 meaning_some Audit (g ∷ n ∷ []) choices (a ∷ b ∷ []) fit each = audit_some g a n b

@@ -1,6 +1,8 @@
--- What a run of `synth`, `suggest` or `map` that is done puts on `out`: a netlist that implements the graph of its file.
+-- What a run of `synth`, `suggest` or `map` that is done puts on `out`: a netlist that implements the graph of
+-- its file.
 use Rattle.std.proofs.Common.{◌≡◌, ℕ, List, [], ◌∷◌, Ok, String, Global, refl, sym, ap, subst, ◌∙◌, inl, inr, Bool}
-use Rattle.std.proofs.Common.{true, false}
+use Rattle.std.proofs.Common.{true, false, ◌≢◌, ◌⊎◌, ◌||◌, bytes_eq, codes}
+use Rattle.std.proofs.lemmas.Slice.Eq.{bytes_eq-Decides}
 use Rattle.si_base.specs.Behaviour.{Implements}
 use Rattle.si_base.specs.Codes.{CodedGraph}
 use Rattle.si_base.specs.Graph.{StateGraph}
@@ -26,7 +28,8 @@ use Rattle.si_stages.specs.Synthesis.{synthesis}
 use Rattle.si_stages.specs.Written.{IsWritten}
 use Rattle.si_suggestion.specs.Suggested.{map_suggested, suggested_cells, suggested_lineage}
 use Rattle.si_suggestion.specs.Suggestion.{suggest, suggestion}
-use Rattle.si_commands.specs.Command.{Asks, Request, format_of, is_suggested, map_options}
+use Rattle.si_words.specs.Names.{stands_in}
+use Rattle.si_commands.specs.Command.{Asks, Request, format_of, format_words, is_suggested, map_options}
 use Rattle.si_commands.specs.Form.{are_some, words_of}
 use Rattle.si_tool.specs.Loads.{Contents, Counts, load, loads}
 use Rattle.si_tool.specs.Meaning.{mapped_by, meaning}
@@ -159,6 +162,19 @@ module _ (content : Contents) (before now : Counts) (file : List ℕ) (out : Sin
       (mapped_implements (is_suggested options) (format_of kind options) file text library cells output means)
   of_map kind library options (text ∷ cells ∷ other ∷ texts) loaded means = absurd means
 
+-- a library that isn't called `genlib`, or has no words behind it, is one by the words of `map`
+not_listed : (library : List ℕ) → library ≢ codes "genlib" → stands_in format_words library ≡ false
+not_listed library differ = by (bytes_eq library (codes "genlib")) refl
+  where
+    by : (b : Bool) → bytes_eq library (codes "genlib") ≡ b → (bytes_eq library (codes "genlib") || false) ≡ false
+    by true is = absurd (differ ((bytes_eq-Decides library (codes "genlib")).0 is))
+    by false is = rw is refl
+
+not_kept : (library : List ℕ) (options : List (List ℕ)) → (library ≢ codes "genlib") ⊎ (options ≡ [])
+    → (stands_in format_words library ≡ false) ⊎ (options ≡ [])
+not_kept library options (inl other) = inl (not_listed library other)
+not_kept library options (inr none) = inr none
+
 module _ (words : List (String Global)) (content : Contents) (before now : Counts) (out err : SinkChange)
     (result : Status) where
   map_put : (kind : LibraryKind) (file library : List ℕ) (options : List (List ℕ))
@@ -189,6 +205,6 @@ module _ (words : List (String Global)) (content : Contents) (before now : Count
       let puts = puts_output words content before now out err result asked (asks, tt) ends is in
       of_suggest content before now file out puts.output puts.written GeneralisedC puts.texts puts.loaded puts.means
   netlist_put file ends is (inr (inr (library, options, are, inl (asks, other)))) =
-      map_put Cells file library options ends is (asks, (other, given_options options are))
+      map_put Cells file library options ends is (asks, (not_kept library options other, given_options options are))
   netlist_put file ends is (inr (inr (library, options, are, inr asks))) =
       map_put Gates file library options ends is (asks, given_options options are)

@@ -1,14 +1,17 @@
 -- (command) What a command that is asked for means over its texts, and what it comes to over its
 -- files.
-use Rattle.std.specs.Prelude.{◌≡◌, ℕ, Bool, true, false, List, [], ◌∷◌, String, Ok, Err}
+use Rattle.std.specs.Prelude.{◌≡◌, ℕ, Bool, true, false, if◌then◌else◌, List, [], ◌∷◌, String}
+use Rattle.std.specs.Prelude.{Ok, Err}
 use Rattle.std.specs.declared.alloc.Global.{Global}
 use Rattle.si_commands.specs.About.{about_text}
-use Rattle.si_commands.specs.Command.{Request, Asks, format_of, is_suggested, number_of}
+use Rattle.si_commands.specs.Command.{Request, Asks, format_of, is_inverted, is_suggested}
+use Rattle.si_commands.specs.Command.{number_of}
 use Rattle.si_commands.specs.declared.task.Task.{Task}
 use Rattle.si_commands.specs.declared.task.Task.TheVariants.{About, Tell, Synth, Map, FromGenlib}
 use Rattle.si_commands.specs.declared.task.Task.TheVariants.{Verilog, Replay, Audit, Exercise}
 use Rattle.si_commands.specs.declared.task.Task.TheVariants.{TellNetlist, Resolve, Insert, Same}
 use Rattle.si_commands.specs.declared.task.Task.TheVariants.{Suggest, Structure, Equations}
+use Rattle.si_commands.specs.declared.task.Task.TheVariants.{Resettable, Timing}
 use Rattle.si_commands.specs.declared.task.Task.TheVariants as task
 use Rattle.si_commands.specs.declared.task.Together.{Together}
 use Rattle.si_commands.specs.declared.task.Together.TheVariants as kind
@@ -19,7 +22,9 @@ use Rattle.si_refusals.specs.Stages.{Stage, gives}
 use Rattle.si_readings.specs.declared.library_format.LibraryFormat.{LibraryFormat}
 use Rattle.si_exercise.specs.Exercise.{exercise}
 use Rattle.si_exports.specs.Equations.{equations}
+use Rattle.si_exports.specs.Resettable.{resettable}
 use Rattle.si_exports.specs.Structure.{structure}
+use Rattle.si_exports.specs.Timing.{timing}
 use Rattle.si_stages.specs.Genlib.{genlib}
 use Rattle.si_stages.specs.Inserted.{insert, resolve}
 use Rattle.si_reports.specs.Meaning.{report, replay}
@@ -31,6 +36,8 @@ use Rattle.si_systems.specs.Product.{product}
 use Rattle.si_works.specs.Works.{works}
 use Rattle.si_reports.specs.NetlistReports.{netlist_report}
 use Rattle.si_reports.specs.Verilog.{verilog}
+use Rattle.si_structure.specs.declared.complements.Complements.{Complements}
+use Rattle.si_structure.specs.declared.complements.Complements.TheVariants.{Refused, Inverted}
 use Rattle.si_suggestion.specs.Suggested.{map_suggested, resolve_suggested}
 use Rattle.si_suggestion.specs.Suggestion.{suggest}
 
@@ -44,6 +51,10 @@ abbrev pub mapped_by : (suggested : Bool) → LibraryFormat
     → (graph graph_text library library_text : List ℕ) → Stage TextRefusal (List ℕ)
 mapped_by true format g graph l library = map_suggested format g graph l library
 mapped_by false format g graph l library = mapping format g graph l library
+
+-- what becomes of complemented pins
+abbrev pub complements_of : (options : List (List ℕ)) → Complements
+complements_of options = if is_inverted options then Inverted else Refused
 
 -- what is made of controllers together, each file with its text
 abbrev pub together : Together → (files texts : List (List ℕ)) → Stage TextRefusal (List ℕ)
@@ -62,9 +73,12 @@ meaning (Map kind) (g ∷ l ∷ []) options (graph ∷ library ∷ []) =
     mapped_by (is_suggested options) (format_of kind options) g graph l library
 meaning FromGenlib (file ∷ []) choices (text ∷ []) = genlib file text
 meaning Verilog (file ∷ []) choices (text ∷ []) = verilog file text
+meaning Resettable (file ∷ []) (name ∷ []) (text ∷ []) = resettable file text name
 meaning (Structure kind) (n ∷ l ∷ []) options (netlist ∷ library ∷ []) =
-    structure (format_of kind options) n netlist l library
+    structure (format_of kind options) (complements_of options) n netlist l library
 meaning Equations (file ∷ []) choices (text ∷ []) = equations file text
+meaning (Timing kind) (n ∷ l ∷ []) options (netlist ∷ library ∷ []) =
+    timing (format_of kind options) n netlist l library
 meaning (TellNetlist what) (file ∷ []) choices (text ∷ []) = netlist_report what file text
 meaning (Replay what) (g ∷ n ∷ s ∷ []) choices (graph ∷ netlist ∷ schedule ∷ []) =
     replay what g graph n netlist s schedule

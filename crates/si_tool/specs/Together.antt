@@ -1,4 +1,5 @@
--- (command) The theorem of systems: what is so where `works` is done, by the bytes of its files alone.
+-- (command) The theorem of systems: what is so where `works` is done, by the bytes of its files
+-- alone.
 use Rattle.std.specs.Prelude.{◌≡◌, ℕ, ◌≤◌, ◌%◌, List, [], ◌∷◌, Option, codes, length}
 use Rattle.si_io.specs.Outside.{IsContent}
 use Rattle.si_works.specs.System.{AreRight, two_by_two}

@@ -12,7 +12,8 @@ ghost use Rattle.si_words.specs.Names.{stands_in};
 ghost use Rattle.si_tool.specs.Loads as stage;
 ghost use Rattle.si_tool.specs.Loads.{CountsStay, IsUnread, LoadsFirst, loads};
 ghost use Rattle.si_tool.specs.Meaning as meanings;
-ghost use Rattle.si_tool.specs.Meaning.{ComesTo, MayStopCommand, mapped_by, meaning, resolved_by};
+ghost use Rattle.si_tool.specs.Meaning.{ComesTo, MayStopCommand, complements_of, mapped_by};
+ghost use Rattle.si_tool.specs.Meaning.{meaning, resolved_by};
 ghost use Rattle.si_commands.specs.Loops.Reads.{request_of, texts_now};
 
 use si_base::limits::MAX_TEXT;
@@ -24,7 +25,9 @@ use si_commands::form::is_listed;
 use si_commands::task::{LibraryKind, Task, Together};
 use si_exercise::exercise::exercise;
 use si_exports::equations::equations;
+use si_exports::resettable::resettable;
 use si_exports::structure::structure;
+use si_exports::timing::timing;
 use si_io::shelf::{LoadFault, Shelf};
 use si_joins::join::join_texts;
 use si_likeness::same::same;
@@ -39,6 +42,7 @@ use si_stages::genlib::genlib;
 use si_stages::inserted::{insert, resolve};
 use si_stages::mapping::map_texts;
 use si_stages::synth::synth;
+use si_structure::complements::Complements;
 use si_suggestion::mapped::map_suggested;
 use si_suggestion::resolved::resolve_suggested;
 use si_suggestion::suggested::suggest_text;
@@ -109,7 +113,15 @@ fn output_of_texts<'w>(
         }
         Task::Structure(kind) => {
             let format = library_format(kind, choices);
-            structure(alloc, format, files[0], &texts[0], files[1], &texts[1])
+            structure(
+                alloc,
+                format,
+                complements(choices),
+                files[0],
+                &texts[0],
+                files[1],
+                &texts[1],
+            )
         }
         Task::Replay(what) => {
             let (graph, netlist, schedule) = (files[0], files[1], files[2]);
@@ -123,6 +135,11 @@ fn output_of_texts<'w>(
         Task::Same => same(alloc, files[0], &texts[0], files[1], &texts[1]),
         Task::Together(what) => together(alloc, what, files, texts),
         Task::Exercise => Ok(exercise(alloc, number(choices[0]))?),
+        Task::Resettable => resettable(alloc, files[0], &texts[0], choices[0]),
+        Task::Timing(kind) => {
+            let format = library_format(kind, choices);
+            timing(alloc, format, files[0], &texts[0], files[1], &texts[1])
+        }
     }
 }
 
@@ -202,6 +219,17 @@ fn library_format(kind: LibraryKind, options: &[&str]) -> LibraryFormat
     match kind {
         LibraryKind::Cells => LibraryFormat::Own(pins),
         LibraryKind::Gates => LibraryFormat::Genlib(pins),
+    }
+}
+
+/// What becomes of complemented pins, as the options ask for.
+fn complements(options: &[&str]) -> Complements
+    ensures { result ≡ complements_of (words_now options.now) }
+{
+    if is_listed(options, "inverters") {
+        Complements::Inverted
+    } else {
+        Complements::Refused
     }
 }
 

@@ -11,8 +11,8 @@ use si_refusals::refusals::Refusal;
 use si_refusals::status::Status;
 use std::alloc::Global;
 
-/// Puts the line of a refusal on `err`, in one call. The status is then the refusal's, or `NoMemory`
-/// where memory ran out.
+/// Puts the line of a refusal on `err`, in one call. The status is then the refusal's, or
+/// `NoMemory` where memory ran out.
 pub fn refuse<E: Sink>(alloc: Global, refusal: &Refusal<'_>, err: &mut E) -> Status
     ensures puts { PutsDue (ending_of refusal.now)
         (change E.faults E.bytes E.puts err.old err.new) result }

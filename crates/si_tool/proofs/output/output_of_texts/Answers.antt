@@ -1,8 +1,8 @@
 use Rattle.std.proofs.Common.{length, arith}
 use Rattle.si_words.specs.Loops.Reads.{words_now}
 use Rattle.si_commands.specs.Command.{form_of}
-use Rattle.si_commands.proofs.ReadsLemmas.{read_one, read_two, read_three}
-use Rattle.si_commands.proofs.CommandTasks.{few_together, no_options, two_files, two_files_placed}
+use Rattle.si_commands.proofs.ReadsLemmas.{read_choice, read_one, read_two, read_three}
+use Rattle.si_commands.proofs.CommandTasks.{few_together, no_options, two_files, two_files_placed, two_files_timed}
 use Rattle.si_commands.proofs.FormLemmas.{counted_choices, counted_files}
 use Rattle.si_tool.proofs.output.output_of_texts.Goals as goal
 
@@ -134,7 +134,8 @@ returns-in-Structure-clause-ok c =
     let are = read_two c.args.files.now c.args.texts.now _ _ _ _ (two_files_placed c.in-Structure.kind _ counted)
     c.requires.texts c.index-texts-0-in-Structure.is c.index-texts-1-in-Structure.is c.deref-in-Structure.ensures.value
     c.deref-in-Structure-2.ensures.value in
-    rw (c.in-Structure.is, are.0, are.1) (rw c.library_format-format-in-Structure.ensures at c.structure.ensures.ok)
+    rw (c.in-Structure.is, are.0, are.1)
+    (rw (c.library_format-format-in-Structure.ensures, c.complements.ensures) at c.structure.ensures.ok)
 
 pub returns-in-Structure-clause-err : goal.returns-in-Structure-clause-err
 returns-in-Structure-clause-err c =
@@ -143,7 +144,8 @@ returns-in-Structure-clause-err c =
     let are = read_two c.args.files.now c.args.texts.now _ _ _ _ (two_files_placed c.in-Structure.kind _ counted)
     c.requires.texts c.index-texts-0-in-Structure.is c.index-texts-1-in-Structure.is c.deref-in-Structure.ensures.value
     c.deref-in-Structure-2.ensures.value in
-    rw (c.in-Structure.is, are.0, are.1) (rw c.library_format-format-in-Structure.ensures at c.structure.ensures.err)
+    rw (c.in-Structure.is, are.0, are.1)
+    (rw (c.library_format-format-in-Structure.ensures, c.complements.ensures) at c.structure.ensures.err)
 
 pub returns-in-Replay-clause-ok : goal.returns-in-Replay-clause-ok
 returns-in-Replay-clause-ok c =
@@ -233,3 +235,39 @@ returns-in-Together-clause-ok c = rw c.in-Together.is c.together.ensures.ok
 
 pub returns-in-Together-clause-err : goal.returns-in-Together-clause-err
 returns-in-Together-clause-err c = rw c.in-Together.is c.together.ensures.err
+
+pub returns-in-Resettable-clause-ok : goal.returns-in-Resettable-clause-ok
+returns-in-Resettable-clause-ok c =
+    let many = counted_files (form_of c.args.task) c.args.files.now (words_now c.args.choices.now) c.requires.given in
+    let are = read_one c.args.files.now c.args.texts.now _ _ (rw c.in-Resettable.is at many) c.requires.texts
+    c.index-texts-0-in-Resettable.is c.deref-in-Resettable.ensures.value in
+    let few = counted_choices (form_of c.args.task) (words_now c.args.files.now) c.args.choices.now c.requires.given in
+    let name = read_choice c.args.choices.now (rw c.in-Resettable.is at few) in
+    rw (c.in-Resettable.is, are.0, are.1, name) c.resettable.ensures.ok
+
+pub returns-in-Resettable-clause-err : goal.returns-in-Resettable-clause-err
+returns-in-Resettable-clause-err c =
+    let many = counted_files (form_of c.args.task) c.args.files.now (words_now c.args.choices.now) c.requires.given in
+    let are = read_one c.args.files.now c.args.texts.now _ _ (rw c.in-Resettable.is at many) c.requires.texts
+    c.index-texts-0-in-Resettable.is c.deref-in-Resettable.ensures.value in
+    let few = counted_choices (form_of c.args.task) (words_now c.args.files.now) c.args.choices.now c.requires.given in
+    let name = read_choice c.args.choices.now (rw c.in-Resettable.is at few) in
+    rw (c.in-Resettable.is, are.0, are.1, name) c.resettable.ensures.err
+
+pub returns-in-Timing-clause-ok : goal.returns-in-Timing-clause-ok
+returns-in-Timing-clause-ok c =
+    let many = counted_files (form_of c.args.task) c.args.files.now (words_now c.args.choices.now) c.requires.given in
+    let counted = rw c.in-Timing.is at many in
+    let are = read_two c.args.files.now c.args.texts.now _ _ _ _ (two_files_timed c.in-Timing.kind _ counted)
+    c.requires.texts c.index-texts-0-in-Timing.is c.index-texts-1-in-Timing.is c.deref-in-Timing.ensures.value
+    c.deref-in-Timing-2.ensures.value in
+    rw (c.in-Timing.is, are.0, are.1) (rw c.library_format-format-in-Timing.ensures at c.timing.ensures.ok)
+
+pub returns-in-Timing-clause-err : goal.returns-in-Timing-clause-err
+returns-in-Timing-clause-err c =
+    let many = counted_files (form_of c.args.task) c.args.files.now (words_now c.args.choices.now) c.requires.given in
+    let counted = rw c.in-Timing.is at many in
+    let are = read_two c.args.files.now c.args.texts.now _ _ _ _ (two_files_timed c.in-Timing.kind _ counted)
+    c.requires.texts c.index-texts-0-in-Timing.is c.index-texts-1-in-Timing.is c.deref-in-Timing.ensures.value
+    c.deref-in-Timing-2.ensures.value in
+    rw (c.in-Timing.is, are.0, are.1) (rw c.library_format-format-in-Timing.ensures at c.timing.ensures.err)
