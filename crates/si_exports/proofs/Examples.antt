@@ -1,5 +1,5 @@
 -- The netlist of a generalised C-element as equations, a text that is cut short, and a pin that is told.
-use Rattle.std.proofs.Common.{ℕ, false, List, [], ◌∷◌, ◌++◌, Ok, Err, refl, codes}
+use Rattle.std.proofs.Common.{ℕ, false, List, [], ◌∷◌, ◌++◌, None, Ok, Err, refl, codes}
 use Rattle.si_base.specs.declared.fault.TextKind.TheVariants.{NoEnd}
 use Rattle.si_base.specs.declared.graph.SigKind.TheVariants.{Input, Output}
 use Rattle.si_base.specs.declared.ids.Literal.{Literal}
@@ -34,7 +34,7 @@ unfolding netlist_fault
 cut_short = Refuses (BadText (codes "c.net") 3 NoEnd) ((3, NoEnd), refl, refl) refl
 
 -- the netlist is read first
-netlist_first : structure (Own Any) Refused (codes "c.net") (codes ".model c2\n.inputs a b\n") (codes "c.lib") []
+netlist_first : structure (Own Any) Refused None (codes "c.net") (codes ".model c2\n.inputs a b\n") (codes "c.lib") []
     (Err (BadText (codes "c.net") 3 NoEnd))
 unfolding netlist_fault
 netlist_first = Refuses (BadText (codes "c.net") 3 NoEnd) ((3, NoEnd), refl, refl) refl

@@ -25,14 +25,14 @@ is_told : (name : List ℕ) (why : Unresettable) (refusal : TextRefusal) → Tel
 is_told name why refusal told same = subst (λ (w : Unresettable). TellsNoRoom name w refusal) same told
 
 -- a reason is told by one refusal
-one_tale : (name : List ℕ) (why : Unresettable) (q r : TextRefusal) → TellsNoRoom name why q
+pub one_tale : (name : List ℕ) (why : Unresettable) (q r : TextRefusal) → TellsNoRoom name why q
     → TellsNoRoom name why r → q ≡ r
 one_tale name reason.NoMemory q r one other = absurd one
 one_tale name reason.NotAName q r one other = absurd one
 one_tale name reason.NameIsTaken q r one other = one ∙ sym other
 
 -- and where the name is one, each but want of memory by some
-some_tale : (n : Netlist) (name : List ℕ) (why : Unresettable) → IsTrue (is_signal_name name)
+pub some_tale : (n : Netlist) (name : List ℕ) (why : Unresettable) → IsTrue (is_signal_name name)
     → why ≢ reason.NoMemory → Shows n name why → (refusal : TextRefusal) × TellsNoRoom name why refusal
 some_tale n name reason.NoMemory is other shows = absurd (other refl)
 some_tale n name reason.NotAName is other shows = absurd (true≢false (sym is ∙ shows))

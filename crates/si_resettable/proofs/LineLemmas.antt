@@ -52,18 +52,18 @@ held_starts false start value = refl
 regrouped : (n b o e c : List ℕ) → n ++ (b ++ ((o ++ e) ++ c)) ≡ ((n ++ (b ++ o)) ++ e) ++ c
 regrouped n b o e c = simp append_assoc
 
-forced_high : (reset plain : List ℕ) → verilog_name reset ++ (codes " | " ++ (codes "(" ++ plain ++ codes ")"))
+pub forced_high : (reset plain : List ℕ) → verilog_name reset ++ (codes " | " ++ (codes "(" ++ plain ++ codes ")"))
     ≡ forced_text reset true plain
 forced_high reset plain = regrouped (verilog_name reset) (codes " | ") (codes "(") plain (codes ")")
 
-forced_low : (reset plain : List ℕ)
+pub forced_low : (reset plain : List ℕ)
     → ((126 ∷ []) ++ verilog_name reset) ++ (codes " & " ++ (codes "(" ++ plain ++ codes ")"))
     ≡ forced_text reset false plain
 forced_low reset plain = regrouped (126 ∷ verilog_name reset) (codes " & ") (codes "(") plain (codes ")")
 
 -- ---- lines
 
-line_reads : (name : List ℕ) → IsWritable name → (text : List ℕ) (symbols : List Symbol) → ReadsBefore text symbols
+pub line_reads : (name : List ℕ) → IsWritable name → (text : List ℕ) (symbols : List Symbol) → ReadsBefore text symbols
     → Reads (codes "  assign " ++ verilog_name name ++ codes " = " ++ text ++ codes ";\n")
     (Word (codes "assign") ∷ Name name ∷ Mark 61 ∷ symbols ++ Mark 59 ∷ [])
 line_reads name writable text symbols reads =

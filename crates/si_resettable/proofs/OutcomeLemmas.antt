@@ -7,6 +7,7 @@ use Rattle.si_loops.specs.Arcs.{gated}
 use Rattle.si_settled.specs.Settling.{inputs_of}
 use Rattle.si_settled.proofs.Forcing.{drops_are_one}
 use Rattle.si_settled.proofs.DecidingForced.{drops_exist}
+use Rattle.si_resettable.specs.Forcing.{Forcing, IsForcing}
 use Rattle.si_resettable.specs.Refusals.{HasRoomFor, Shows, is_taken}
 use Rattle.si_resettable.specs.ResettableText.{IsResettableText, resettable_text}
 use Rattle.si_resettable.specs.declared.refusal.Unresettable.{Unresettable}
@@ -52,3 +53,18 @@ some_outcome n reset = elim (cases_Bool (is_signal_name reset)) [
     | inr free ↦ inl (record { is_name = name; is_free = free })
   ]
 ]
+
+-- ---- reset inputs
+
+-- a netlist has one reset input of a name, where there is room for it
+pub one_forcing : (n : Netlist) (f g : Forcing) → f.name ≡ g.name → IsForcing n f → IsForcing n g → f ≡ g
+one_forcing n f g named one other =
+    let same : f.forced ≡ g.forced =
+    drops_are_one n (inputs_of n.signals) (gated n.signals) f.forced g.forced one.are other.are in
+    λ i. record { name = named i; forced = same i }
+
+pub some_forcing : (n : Netlist) (name : List ℕ) → HasRoomFor n name
+    → (f : Forcing) × (f.name ≡ name) × IsForcing n f
+some_forcing n name room =
+    let dropped = drops_exist n (inputs_of n.signals) (gated n.signals) in
+    (record { name = name; forced = dropped.0 }, refl, record { room = room; are = dropped.1 })

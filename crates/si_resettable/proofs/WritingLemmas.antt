@@ -72,9 +72,9 @@ plain_by_call n z signals name text gate are is_name there =
     rw (is_name, are) (ap (λ o. text ++ text_if_there n.signals (name_of n.signals z) o) (sym there))
 
 -- where z isn't forced, and where it is
-pub left_plain : (n : Netlist) (forced reset : List ℕ) (z : ℕ) (text : List ℕ) → is_among forced z ≡ false
-    → text ++ plain_text n z ≡ text ++ expression_text n forced reset z
-left_plain n forced reset z text other = rw other refl
+pub left_plain : (n : Netlist) (forced reset : List ℕ) (z : ℕ) (text plain : List ℕ) → is_among forced z ≡ false
+    → plain ≡ plain_text n z → text ++ plain ≡ text ++ expression_text n forced reset z
+left_plain n forced reset z text plain other is_plain = rw (is_plain, other) refl
 
 sign_then : (text sign name joint plain end : List ℕ)
     → ((((text ++ sign) ++ name) ++ joint) ++ plain) ++ end
@@ -88,17 +88,19 @@ forced_as : (value : Bool) (text reset plain : List ℕ)
 forced_as true text reset plain = sign_then text [] (verilog_name reset) (codes " | (") plain (codes ")")
 forced_as false text reset plain = sign_then text (126 ∷ []) (verilog_name reset) (codes " & (") plain (codes ")")
 
-pub forced_by_calls : (n : Netlist) (forced reset : List ℕ) (z : ℕ) (value : Bool)
-    (text sign joint signed named opened said : List ℕ)
-    → is_among forced z ≡ true → value ≡ bit n.start z → sign ≡ (if value then [] else 126 ∷ [])
-    → joint ≡ (if value then codes " | (" else codes " & (")
+pub forced_by_calls : (reset : List ℕ) (value : Bool) (text plain sign joint signed named opened said : List ℕ)
+    → sign ≡ (if value then [] else 126 ∷ []) → joint ≡ (if value then codes " | (" else codes " & (")
     → signed ≡ text ++ sign → named ≡ signed ++ verilog_name reset → opened ≡ named ++ joint
-    → said ≡ opened ++ plain_text n z
-    → said ++ codes ")" ≡ text ++ expression_text n forced reset z
-forced_by_calls n forced reset z value text sign joint signed named opened said
-    among is_value is_sign is_joint is_signed is_named is_opened is_said =
-    rw (is_said, is_opened, is_named, is_signed, is_joint, is_sign, is_value, among)
-    (forced_as (bit n.start z) text reset (plain_text n z))
+    → said ≡ opened ++ plain → said ++ codes ")" ≡ text ++ forced_text reset value plain
+forced_by_calls reset value text plain sign joint signed named opened said
+    is_sign is_joint is_signed is_named is_opened is_said =
+    rw (is_said, is_opened, is_named, is_signed, is_joint, is_sign) (forced_as value text reset plain)
+
+-- the expression of z, which is forced
+pub left_forced : (n : Netlist) (forced reset : List ℕ) (z : ℕ) (value : Bool) (text plain : List ℕ)
+    → is_among forced z ≡ true → value ≡ bit n.start z → plain ≡ plain_text n z
+    → text ++ forced_text reset value plain ≡ text ++ expression_text n forced reset z
+left_forced n forced reset z value text plain among is_value is_plain = rw (is_value, is_plain, among) refl
 
 -- the lines of the signals from the i-th on
 abbrev pub lines_from : Netlist → List ℕ → List ℕ → List ℕ → ℕ → List ℕ

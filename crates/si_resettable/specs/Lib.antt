@@ -1,4 +1,5 @@
 pub mod ResettableText
 pub mod Meaning
 pub mod Refusals
+pub mod Forcing
 pub mod Laws

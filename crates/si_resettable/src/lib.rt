@@ -2,6 +2,7 @@
 //! values, and while it is 0 the module is the netlist.
 #![tactic(auto)]
 
+pub mod forcing;
 pub mod laws;
 pub mod refusal;
 pub mod write;

@@ -11,22 +11,20 @@ ghost use Rattle.si_settled.specs.Settling as settling;
 ghost use Rattle.si_verilog.specs.Grammar.{InputPort};
 ghost use Rattle.si_verilog.specs.ModuleText.{ports_of, ports_text};
 ghost use Rattle.si_resettable.specs.Meaning.{MeansResettable};
-ghost use Rattle.si_resettable.specs.Refusals as refusals;
 ghost use Rattle.si_resettable.specs.Refusals.{HasRoomFor, Shows};
 ghost use Rattle.si_resettable.specs.ResettableText.{IsResettableText, assign_line};
-ghost use Rattle.si_resettable.specs.ResettableText.{expression_text, plain_text};
-ghost use Rattle.si_resettable.specs.ResettableText.{resettable_text};
+ghost use Rattle.si_resettable.specs.ResettableText.{expression_text, forced_text};
+ghost use Rattle.si_resettable.specs.ResettableText.{plain_text, resettable_text};
 
+use crate::forcing::Forcing;
 use crate::refusal::Unresettable;
 use si_base::graph::{SigKind, Signal, signal_name};
 use si_base::ids::{NoMemory, Sig};
 use si_base::text::Text;
 use si_loops::arcs::driven;
 use si_netlist::netlist::Netlist;
-use si_settled::forced::forced;
 use si_verilog::names::add_name;
 use si_verilog::write::{add_gate, add_ports_of, add_wires};
-use si_words::words::is_signal_name;
 use std::alloc::Global;
 
 /// The netlist as a module of Verilog with a further input, `reset`, in front of its ports. While
@@ -47,22 +45,9 @@ pub fn write_resettable(
     ensures means { IfOk result (λ text. MeansResettable text netlist.now reset.now) }
     ensures err { IfErr result (Shows netlist.now reset.now) }
 {
-    if !is_signal_name(reset) {
-        return Err(Unresettable::NotAName);
-    }
-    if is_taken(netlist, reset) {
-        return Err(Unresettable::NameIsTaken);
-    }
-    let forced = forced(alloc, netlist)?;
-    let text = text_of(alloc, netlist, forced.as_slice(), reset)?;
+    let forcing = Forcing::of(alloc, netlist, reset)?;
+    let text = text_of(alloc, netlist, forcing.forced(), reset)?;
     Ok(text)
-}
-
-/// Whether a signal of the netlist has the name.
-fn is_taken(netlist: &Netlist, name: &[u8]) -> bool
-    ensures { result ≡ refusals.is_taken netlist.now name.now }
-{
-    netlist.signals().iter().any(|x| x.name.bytes() == name)
 }
 
 /// The text of the module with that reset input, which forces these signals, and what holds of each
@@ -150,14 +135,27 @@ fn add_expression(
     ensures { OnOk result
         (text.new ≡ text.old ++ expression_text netlist.now forced.now reset.now z) }
 {
+    let mut plain = Text::copy_of(alloc, b"")?;
+    add_plain(alloc, &mut plain, netlist, z)?;
     if !is_among(forced, z) {
-        return add_plain(alloc, text, netlist, z);
+        return text.add(plain.bytes());
     }
     let value = netlist.start().get(z);
+    add_forced(text, reset, value, plain.bytes())
+}
+
+/// Adds an expression with the reset input, which forces that value: while the input is 0 it has
+/// the value of the expression that is given.
+///
+/// It fails only where memory runs out. The text may then end in a part of it, and isn't to be
+/// used.
+pub fn add_forced(text: &mut Text, reset: &[u8], value: bool, plain: &[u8]) -> Result<(), NoMemory>
+    ensures { OnOk result (text.new ≡ text.old ++ forced_text reset.now value plain.now) }
+{
     text.add(sign(value))?;
     add_name(text, reset)?;
     text.add(joint(value))?;
-    add_plain(alloc, text, netlist, z)?;
+    text.add(plain)?;
     text.add(b")")
 }
 

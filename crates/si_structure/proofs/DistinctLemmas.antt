@@ -94,7 +94,7 @@ own_pins pins literals own = record {
   apart = pins_apart pins literals own.apart;
 }
 
-abbrev nets_at : List ℕ → List (List ℕ) → List (List ℕ)
+abbrev pub nets_at : List ℕ → List (List ℕ) → List (List ℕ)
 nets_at name pins = map (inverted_net name) pins
 
 nets_apart : (name : List ℕ) → HasNameBytes name → (pins : List (List ℕ)) → AllByRecursion IsPortName pins

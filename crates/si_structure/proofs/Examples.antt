@@ -1,6 +1,6 @@
 -- Worked examples: a C-element as a module, controllers of one gate, an inverter, and the values of ports.
 use Rattle.std.proofs.Common.{◌≡◌, ℕ, ◌<◌, true, false, List, [], ◌∷◌, ◌++◌, flat_map, refl, codes}
-use Rattle.std.proofs.Common.{arith, Some}
+use Rattle.std.proofs.Common.{arith, Some, None}
 use Rattle.std.proofs.lemmas.List.Elements.{All-from_recursion}
 use Rattle.si_base.specs.Bytes.{opening_parenthesis, closing_parenthesis, dot}
 use Rattle.si_base.specs.declared.graph.Signal.{Signal}
@@ -16,6 +16,7 @@ use Rattle.si_verilog.specs.Keywords.{keywords, is_keyword}
 use Rattle.si_verilog.specs.Symbols.{Name, Mark, symbols_of}
 use Rattle.si_verilog.specs.Meaning.{named_value}
 use Rattle.si_verilog.specs.ModuleText.{verilog_name, verilog_text}
+use Rattle.si_resettable.specs.Forcing.{Forcing}
 use Rattle.si_structure.specs.Parts.{Connection}
 use Rattle.si_structure.specs.Meaning.{port_value}
 use Rattle.si_structure.specs.Refusals.{inverts, model_is_cell}
@@ -23,7 +24,7 @@ use Rattle.si_structure.specs.declared.complements.Complements.TheVariants.{Refu
 use Rattle.si_structure.specs.Loops.Deciding.{AreSmall}
 use Rattle.si_structure.specs.Loops.Writing.{connection_texts, gate_lines, gate_wires, placement_lines, wire_lines}
 use Rattle.si_structure.specs.StructureText.{PortedCell, cell_netlist, inverted_nets, inverted_pins}
-use Rattle.si_structure.specs.StructureText.{inverter_of, is_inverter, own_connections, pin_nets}
+use Rattle.si_structure.specs.StructureText.{driven_net, inverter_of, is_inverter, own_connections, pin_nets}
 use Rattle.si_structure.specs.StructureText.{ported_cells, reads_own, structure_text, used_cells}
 
 abbrev plain : ℕ → Literal
@@ -94,7 +95,7 @@ only_c2 = refl
 other_name : model_is_cell owned_cells join ≡ false
 other_name = refl
 
-join_text : structure_text owned_cells join ≡
+join_text : structure_text owned_cells join None ≡
     codes "module C2(\n"
     ++ codes "  input a,\n"
     ++ codes "  input b,\n"
@@ -165,7 +166,7 @@ nets_of_meet : pin_nets meet.signals (codes "Z") (codes "A" ∷ codes "B" ∷ []
     ≡ codes "R" ∷ codes "Z$B$inverted" ∷ []
 nets_of_meet = refl
 
-meet_text : structure_text named_cells meet ≡
+meet_text : structure_text named_cells meet None ≡
     codes "module C2(\n"
     ++ codes "  input A,\n"
     ++ codes "  input B,\n"
@@ -192,18 +193,51 @@ meet_text : structure_text named_cells meet ≡
 unfolding structure_text verilog_text verilog_name
 meet_text = refl
 
+-- ---- a reset input that forces Z
+
+abbrev forcing : Forcing
+forcing = record { name = codes "RST"; forced = 2 ∷ [] }
+
+z_is_freed : driven_net join.signals forcing.forced (codes "Z") ≡ codes "Z$free"
+z_is_freed = refl
+
+s_is_not : driven_net join.signals forcing.forced (codes "S") ≡ codes "S"
+s_is_not = refl
+
+join_with_reset : structure_text owned_cells join (Some forcing) ≡
+    codes "module C2(\n"
+    ++ codes "  input a,\n"
+    ++ codes "  input b,\n"
+    ++ codes "  input \\q$in ,\n"
+    ++ codes "  output q\n"
+    ++ codes ");\n"
+    ++ codes "  assign q = (a & b) | (a & \\q$in ) | (b & \\q$in );\n"
+    ++ codes "endmodule\n"
+    ++ codes "module \\join (\n"
+    ++ codes "  input RST,\n"
+    ++ codes "  input R,\n"
+    ++ codes "  input S,\n"
+    ++ codes "  output Z\n"
+    ++ codes ");\n"
+    ++ codes "  wire \\Z$free ;\n"
+    ++ codes "  assign Z = ~RST & (\\Z$free );\n"
+    ++ codes "  C2 \\Z$gate (.a(R), .b(S), .\\q$in (Z), .q(\\Z$free ));\n"
+    ++ codes "endmodule\n"
+unfolding structure_text verilog_text verilog_name
+join_with_reset = refl
+
 -- ---- parts of those texts
 
 pins_of_join : connection_texts c2.pins (codes "R" ∷ codes "S" ∷ []) ≡ codes ".a(R), .b(S), "
 unfolding verilog_name
 pins_of_join = refl
 
-line_of_join : placement_lines (ported_cells owned_cells) join.signals join.signals join.gates
+line_of_join : placement_lines (ported_cells owned_cells) join.signals [] join.signals join.gates
     ≡ codes "  C2 \\Z$gate (.a(R), .b(S), .\\q$in (Z), .q(Z));\n"
 unfolding verilog_name
 line_of_join = refl
 
-no_line_of_a_sum : gate_lines (ported_cells owned_cells) join.signals (codes "Z") (SumGate []) ≡ []
+no_line_of_a_sum : gate_lines (ported_cells owned_cells) join.signals [] (codes "Z") (SumGate []) ≡ []
 no_line_of_a_sum = refl
 
 wire_of_meet : wire_lines (ported_cells named_cells) meet.signals meet.gates ≡ codes "  wire \\Z$B$inverted ;\n"

@@ -8,13 +8,13 @@ pub mod PlacementLemmas
 pub mod InverterLemmas
 pub mod DistinctLemmas
 pub mod StructureLemmas
+pub mod ResetLemmas
 pub mod OneMeaning
 pub mod TextLemmas
 pub mod OutcomeLemmas
 pub mod GateDecisions
 pub mod NetlistDecisions
 mod SameLemmas
-mod SumWriting
 mod HeadWriting
 mod PlacementWriting
 mod Examples

@@ -37,17 +37,17 @@ module _ (n : Netlist) (is : IsReadable n) where
   said = says_assigns n.signals is.named 0 n.signals n.gates (all_from n.signals) is.count is.there
 
   pub spelled : Module
-  spelled = framed n.model n.signals said.assigns
+  spelled = framed n.model [] n.signals said.assigns
 
   pub spelled_symbols : List Symbol
-  spelled_symbols = module_symbols (framed n.model n.signals said.assigns) (said.symbols ++ [])
+  spelled_symbols = module_symbols (framed n.model [] n.signals said.assigns) (said.symbols ++ [])
 
   pub text_read : Reads (verilog_text n) spelled_symbols
   unfolding verilog_text spelled_symbols
   text_read = λ rest.
-      part_read n.model n.signals is.model is.writable (assign_lines n.signals n.signals n.gates) said.symbols
+      part_read n.model [] n.signals is.model tt is.writable (assign_lines n.signals n.signals n.gates) said.symbols
       said.assigns said.reads rest
-      ∙ ap (λ (s : List Symbol). module_symbols (framed n.model n.signals said.assigns) s ++ symbols_of rest)
+      ∙ ap (λ (s : List Symbol). module_symbols (framed n.model [] n.signals said.assigns) s ++ symbols_of rest)
       (sym (append-nil said.symbols))
 
   pub is_part : SpellPart spelled_symbols (alone spelled)

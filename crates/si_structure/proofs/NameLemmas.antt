@@ -8,7 +8,7 @@ use Rattle.si_base.specs.Words.{is_letter, is_name_byte, is_signal_name}
 use Rattle.si_genlib.specs.Ports.{Ports, IsPortName}
 use Rattle.si_verilog.specs.Symbols.{is_blank}
 use Rattle.si_verilog.proofs.NameLemmas.{HasNoBlank, IsWritable, not_blank}
-use Rattle.si_structure.specs.StructureText.{feedback, instance_name, inverter_name, inverted_net}
+use Rattle.si_structure.specs.StructureText.{feedback, free_net, instance_name, inverter_name, inverted_net}
 
 -- ---- names of name bytes
 
@@ -52,6 +52,9 @@ longer_writable front back writable dark = record {
 
 pub instance_writable : (name : List ℕ) → IsWritable name → IsWritable (instance_name name)
 instance_writable name writable = longer_writable name (codes "$gate") writable refl
+
+pub free_writable : (name : List ℕ) → IsWritable name → IsWritable (free_net name)
+free_writable name writable = longer_writable name (codes "$free") writable refl
 
 pub feedback_writable : (ports : Ports) → IsPortName ports.output → IsWritable (feedback ports)
 feedback_writable ports is = longer_writable ports.output (codes "$in") (port_writable ports.output is) refl
@@ -118,3 +121,18 @@ same_pins name a b bytes one other same =
     ∙ ap before (sym (behind_dollar name (a ++ 36 ∷ tail) bytes) ∙ ap behind (sym (net_parts name a) ∙ same
     ∙ net_parts name b) ∙ behind_dollar name (b ++ 36 ∷ tail) bytes)
     ∙ before_dollar b tail other
+
+-- ---- nets that gates of forced signals drive
+
+pub free_owner : (name : List ℕ) → HasNameBytes name → before (free_net name) ≡ name
+free_owner name bytes = before_dollar name (codes "free") bytes
+
+pub same_owners : (a b : List ℕ) → HasNameBytes a → HasNameBytes b → free_net a ≡ free_net b → a ≡ b
+same_owners a b one other same = sym (free_owner a one) ∙ ap before same ∙ free_owner b other
+
+-- none is the net of an inverter
+pub free_or_inverted : (a b pin : List ℕ) → HasNameBytes a → HasNameBytes b → free_net a ≢ inverted_net b pin
+free_or_inverted a b pin one other = λ same.
+    no_dollar (codes "free") pin (codes "inverted") refl
+    (sym (behind_dollar a (codes "free") one) ∙ ap behind (same ∙ net_parts b pin)
+    ∙ behind_dollar b (pin ++ codes "$inverted") other)

@@ -163,12 +163,13 @@ module_found (c ∷ cs) (m ∷ ms) parts are name cell found = elim (cases_Bool 
 
 -- ---- the instances of a gate
 
-pub instances_one : (cells : List PortedCell) (all : List Signal) (name : List ℕ) (g : Gate) (c : PortedCell)
+pub instances_one : (cells : List PortedCell) (all : List Signal) (forced name : List ℕ) (g : Gate) (c : PortedCell)
     (literals : List Literal) (sum : Sum) → g ≡ CellGate c.cell.name literals sum
     → cell_named cells c.cell.name ≡ Some c
-    → gate_instances cells all name g ≡ cell_instances cells all name c literals ∷ []
-instances_one cells all name g c literals sum same found =
-    ap (gate_instances cells all name) same ∙ ap (λ o. instances_if_any cells all name o literals) found
+    → gate_instances cells all forced name g ≡ cell_instances cells all forced name c literals ∷ []
+instances_one cells all forced name g c literals sum same found =
+    ap (gate_instances cells all forced name) same
+    ∙ ap (λ o. instances_if_any cells all forced name o literals) found
 
 pub pins_one : (cells : List PortedCell) (g : Gate) (c : PortedCell) (literals : List Literal) (sum : Sum)
     → g ≡ CellGate c.cell.name literals sum → cell_named cells c.cell.name ≡ Some c

@@ -1,34 +1,38 @@
 -- What the writers of cells and instances have still to add, a step at a time.
 use Rattle.std.proofs.Common.{◌≡◌, ℕ, suc, ◌+◌, ◌-◌, ◌<◌, ◌≤◌, Bool, true, false, List, [], ◌∷◌, ◌++◌, length, drop}
 use Rattle.std.proofs.Common.{filter, map, flat_map, get_or, codes, if◌then◌else◌, append_assoc, add-one, drop-cons}
-use Rattle.std.proofs.Common.{refl, sym, ap, ap₂, ◌∙◌, Some, arith, take}
+use Rattle.std.proofs.Common.{refl, sym, ap, ap₂, ◌∙◌, Option, Some, arith, take}
 use Rattle.std.specs.List.{join_by}
 use Rattle.std.proofs.lemmas.Grind.{flat_map-append}
 use Rattle.std.proofs.lemmas.List.{append-nil, take_all}
 use Rattle.si_base.specs.declared.graph.Signal.{Signal}
 use Rattle.si_base.specs.declared.ids.Literal.{Literal}
+use Rattle.si_base.specs.Bits.{bit}
 use Rattle.si_base.specs.Netlist.{Gate, Cell as CellGate, Netlist, Sum}
 use Rattle.si_base.specs.NetlistText.{name_of}
 use Rattle.si_cell.specs.Library.{Cell}
 use Rattle.si_genlib.specs.Ports.{Ports, PortedLibrary}
 use Rattle.si_verilog.specs.ModuleText.{sum_text, verilog_name, verilog_text, wire_line}
+use Rattle.si_resettable.specs.Forcing.{Forcing}
+use Rattle.si_resettable.specs.ResettableText.{forced_text}
 use Rattle.si_structure.specs.Parts.{Placement}
 use Rattle.si_structure.specs.StructureText.{GateInstances, PortedCell, cell_inputs, cell_instances, cell_named}
 use Rattle.si_structure.specs.StructureText.{cell_netlist}
 use Rattle.si_structure.specs.StructureText.{cell_signals, complemented, connected, connection_text, driven_gates}
 use Rattle.si_structure.specs.StructureText.{feedback, gate_instances, head_text, in_order, instance_name}
-use Rattle.si_structure.specs.StructureText.{instances_from, inverted_net, inverted_nets, inverted_pins}
+use Rattle.si_structure.specs.StructureText.{inverted_net, inverted_nets, inverted_pins}
 use Rattle.si_structure.specs.StructureText.{inverter_if_any}
 use Rattle.si_structure.specs.StructureText.{inverter_of, is_used, own_connections, pin_nets, placed}
 use Rattle.si_structure.specs.StructureText.{placement_line, ported_cells, reads_own, structure_text, used_cells}
-use Rattle.si_structure.specs.StructureText.{with_ports}
+use Rattle.si_structure.specs.StructureText.{driven_net, forced_by, forced_line, free_net, free_nets, reset_lines}
+use Rattle.si_structure.specs.StructureText.{reset_ports, with_ports}
 use Rattle.si_structure.specs.Loops.Writing.{cell_lines, connection_texts, gate_wires}
 use Rattle.si_structure.specs.Loops.Writing.{inverter_lines, lines_of, pin_wires, placement_lines, wire_lines}
 use Rattle.si_structure.proofs.CellLemmas.{driven_is_last}
 
 -- the lines of the gates, the next of which is that of a signal from the i-th on
-abbrev pub placements_left : List PortedCell → List Signal → ℕ → List Gate → List ℕ
-placements_left cells signals i gates = placement_lines cells signals (drop i signals) gates
+abbrev pub placements_left : List PortedCell → List Signal → List ℕ → ℕ → List Gate → List ℕ
+placements_left cells signals forced i gates = placement_lines cells signals forced (drop i signals) gates
 
 abbrev pub wires_left : List PortedCell → List Signal → ℕ → List Gate → List ℕ
 wires_left cells signals i gates = wire_lines cells (drop i signals) gates
@@ -98,25 +102,26 @@ regrouped : (text h a o q s e f : List ℕ) → (((((text ++ h) ++ a) ++ o) ++ q
 regrouped text h a o q s e f = simp append_assoc
 
 cell_text : (c : PortedCell) → verilog_text (cell_netlist c)
-    ≡ (head_text c.cell.name (cell_signals c) ++ ((((codes "  assign " ++ verilog_name c.ports.output) ++ codes " = ")
+    ≡ (head_text c.cell.name [] (cell_signals c)
+    ++ ((((codes "  assign " ++ verilog_name c.ports.output) ++ codes " = ")
     ++ sum_text (cell_signals c) c.cell.sum) ++ codes ";\n")) ++ codes "endmodule\n"
 unfolding verilog_text
 cell_text c = rw (driven_is_last (cell_inputs c) c.ports.output)
-    (ap (λ (t : List ℕ). (head_text c.cell.name (cell_signals c) ++ t) ++ codes "endmodule\n")
+    (ap (λ (t : List ℕ). (head_text c.cell.name [] (cell_signals c) ++ t) ++ codes "endmodule\n")
     (append-nil ((((codes "  assign " ++ verilog_name c.ports.output) ++ codes " = ")
     ++ sum_text (cell_signals c) c.cell.sum) ++ codes ";\n")))
 
 -- the texts that the calls leave one after another
 pub cell_by_calls : (c : PortedCell) (name output : List ℕ) (signals : List Signal) (sum : Sum)
     (text head begun named given summed : List ℕ) → name ≡ c.cell.name → output ≡ c.ports.output
-    → signals ≡ cell_signals c → sum ≡ c.cell.sum → head ≡ text ++ head_text name signals
+    → signals ≡ cell_signals c → sum ≡ c.cell.sum → head ≡ text ++ head_text name [] signals
     → begun ≡ head ++ codes "  assign " → named ≡ begun ++ verilog_name output → given ≡ named ++ codes " = "
     → summed ≡ given ++ sum_text signals sum
     → summed ++ codes ";\nendmodule\n" ≡ text ++ verilog_text (cell_netlist c)
 cell_by_calls c name output signals sum text head begun named given summed
     is_name is_output are_signals is_sum is_head is_begun is_named is_given is_summed =
     rw (is_summed, is_given, is_named, is_begun, is_head, is_name, is_output, are_signals, is_sum) (
-    regrouped text (head_text c.cell.name (cell_signals c)) (codes "  assign ") (verilog_name c.ports.output)
+    regrouped text (head_text c.cell.name [] (cell_signals c)) (codes "  assign ") (verilog_name c.ports.output)
     (codes " = ") (sum_text (cell_signals c) c.cell.sum) (codes ";\n") (codes "endmodule\n")
     ∙ ap (λ (t : List ℕ). text ++ t) (sym (cell_text c)))
 
@@ -198,16 +203,16 @@ mapped f g (x ∷ xs) = ap (λ (t : List ℕ). f (g x) ++ t) (mapped f g xs)
 -- ---- the instances of a gate
 
 -- the lines of inverters, and behind them that of the gate's own instance
-pub instances_by_calls : (cells : List PortedCell) (signals : List Signal) (name : List ℕ) (c : PortedCell)
+pub instances_by_calls : (cells : List PortedCell) (signals : List Signal) (forced name : List ℕ) (c : PortedCell)
     (literals : List Literal) (pins : List (List ℕ)) (cell : Cell) (ports : Ports) (instance : List ℕ)
     (nets : List (List ℕ)) (read driven text inverted : List ℕ) → pins ≡ c.ports.pins → cell ≡ c.cell
     → ports ≡ c.ports → instance ≡ instance_name name → nets ≡ pin_nets signals name pins literals → read ≡ name
-    → driven ≡ name → inverted ≡ text ++ inverter_lines cells signals name pins literals
+    → driven ≡ driven_net signals forced name → inverted ≡ text ++ inverter_lines cells signals name pins literals
     → inverted ++ placement_line (placed instance (record { cell = cell; ports = ports }) nets read driven)
-    ≡ text ++ cell_lines cells signals name c literals
-instances_by_calls cells signals name c literals pins cell ports instance nets read driven text inverted are_pins
+    ≡ text ++ cell_lines cells signals forced name c literals
+instances_by_calls cells signals forced name c literals pins cell ports instance nets read driven text inverted are_pins
     is_cell are_ports is_instance are_nets is_read is_driven is_inverted =
-    let i = cell_instances cells signals name c literals in
+    let i = cell_instances cells signals forced name c literals in
     let lines = nested placement_line (λ (p : List ℕ × Literal). inverter_if_any (inverter_of cells) name p.0
     (name_of signals p.1.sig)) (complemented c.ports.pins literals) in
     rw (is_inverted, are_nets, is_instance, is_read, is_driven, is_cell, are_ports, are_pins) (
@@ -228,36 +233,73 @@ gate_wires_some cells name cell literals sum c found =
 
 -- ---- the whole text
 
-five_parts : (c h w p e : List ℕ) → ((([] ++ c ++ h) ++ w) ++ p) ++ e ≡ c ++ (((h ++ w) ++ p) ++ e)
-five_parts c h w p e = simp append_assoc
+seven_parts : (c h f w r p e : List ℕ) → (((((([] ++ c ++ h) ++ f) ++ w) ++ r) ++ p) ++ e)
+    ≡ c ++ ((((h ++ (f ++ w)) ++ r) ++ p) ++ e)
+seven_parts c h f w r p e = simp append_assoc
 
-pub text_by_calls : (ported : PortedLibrary) (n : Netlist) (none cells head wires lines all : List ℕ) → none ≡ []
+pub text_by_calls : (ported : PortedLibrary) (n : Netlist) (reset : Option Forcing)
+    (none cells head free wires assigns lines all : List ℕ) → none ≡ []
     → cells ≡ none ++ flat_map (λ c. verilog_text (cell_netlist c)) (used_cells ported n)
-    → head ≡ cells ++ head_text n.model n.signals
-    → wires ≡ head ++ wire_lines (ported_cells ported) n.signals n.gates
-    → lines ≡ wires ++ placement_lines (ported_cells ported) n.signals n.signals n.gates
-    → all ≡ lines ++ codes "endmodule\n" → all ≡ structure_text ported n
+    → head ≡ cells ++ head_text n.model (reset_ports reset) n.signals
+    → free ≡ head ++ flat_map wire_line (free_nets n.signals (forced_by reset))
+    → wires ≡ free ++ wire_lines (ported_cells ported) n.signals n.gates
+    → assigns ≡ wires ++ reset_lines n reset
+    → lines ≡ assigns ++ placement_lines (ported_cells ported) n.signals (forced_by reset) n.signals n.gates
+    → all ≡ lines ++ codes "endmodule\n" → all ≡ structure_text ported n reset
 unfolding structure_text
-text_by_calls ported n none cells head wires lines all is_none are_cells is_head are_wires are_lines is_all =
+text_by_calls ported n reset none cells head free wires assigns lines all is_none are_cells is_head are_free are_wires
+    are_assigns are_lines is_all =
     let front = flat_map (λ c. verilog_text (cell_netlist c)) (used_cells ported n) in
     let library = ported_cells ported in
+    let forced = forced_by reset in
     let pairs = driven_gates n.signals n.gates in
-    let first = head_text n.model n.signals in
+    let first = head_text n.model (reset_ports reset) n.signals in
+    let loose = free_nets n.signals forced in
+    let inverted = inverted_nets library n.signals n.gates in
     let end = codes "endmodule\n" in
-    let instances = instances_from library n.signals n.signals n.gates in
-    let gate_of = λ (p : Signal × Gate). gate_instances library n.signals p.0.name p.1 in
-    rw (is_all, are_lines, are_wires, is_head, are_cells, is_none) (
-    five_parts front first (wire_lines library n.signals n.gates)
-    (placement_lines library n.signals n.signals n.gates) end
-    ∙ ap (λ (t : List ℕ). front ++ (((first ++ t) ++ placement_lines library n.signals n.signals n.gates) ++ end))
+    let gate_of = λ (p : Signal × Gate). gate_instances library n.signals forced p.0.name p.1 in
+    let whole : List ℕ → List ℕ → List ℕ =
+    λ middle placed. front ++ ((((first ++ middle) ++ reset_lines n reset) ++ placed) ++ end) in
+    let all_wires : flat_map wire_line loose ++ wire_lines library n.signals n.gates
+    ≡ flat_map wire_line (loose ++ inverted) =
+    ap (λ (t : List ℕ). flat_map wire_line loose ++ t)
     (nested wire_line (λ (p : Signal × Gate). map (inverted_net p.0.name) (inverted_pins library p.1)) pairs)
-    ∙ ap (λ (t : List ℕ). front ++ (((first ++ flat_map wire_line (inverted_nets library n.signals n.gates)) ++ t)
-    ++ end))
-    (nested placement_line (λ (p : Signal × Gate). flat_map in_order (gate_of p)) pairs
-    ∙ ap lines_of (nested_instances gate_of pairs)))
+    ∙ sym (flat_map-append wire_line loose inverted) in
+    let all_placed = nested placement_line (λ (p : Signal × Gate). flat_map in_order (gate_of p)) pairs
+    ∙ ap lines_of (nested_instances gate_of pairs) in
+    rw (is_all, are_lines, are_assigns, are_wires, are_free, is_head, are_cells, is_none) (
+    seven_parts front first (flat_map wire_line loose) (wire_lines library n.signals n.gates) (reset_lines n reset)
+    (placement_lines library n.signals forced n.signals n.gates) end
+    ∙ (λ i. whole (all_wires i) (all_placed i)))
   where
     nested_instances : (g : Signal × Gate → List GateInstances) (ps : List (Signal × Gate))
         → flat_map (λ p. flat_map in_order (g p)) ps ≡ flat_map in_order (flat_map g ps)
     nested_instances g [] = refl
     nested_instances g (p ∷ ps) = ap (λ (t : List Placement). flat_map in_order (g p) ++ t) (nested_instances g ps)
         ∙ sym (flat_map-append in_order (g p) (flat_map g ps))
+
+-- ---- what a reset input adds
+
+-- the wires of the free nets of these signals from the i-th on
+abbrev pub free_left : List Signal → List ℕ → ℕ → List ℕ
+free_left signals forced i = flat_map wire_line (free_nets signals (drop i forced))
+
+-- the assigns of these from the i-th on
+abbrev pub forced_left : Netlist → List ℕ → List ℕ → ℕ → List ℕ
+forced_left n reset forced i = flat_map (forced_line n reset) (drop i forced)
+
+line_parts : (text a m e f s : List ℕ) → ((((text ++ a) ++ m) ++ e) ++ f) ++ s ≡ text ++ ((((a ++ m) ++ e) ++ f) ++ s)
+line_parts text a m e f s = simp append_assoc
+
+-- the texts that the calls leave one after another
+pub forced_by_calls : (n : Netlist) (reset : List ℕ) (z : ℕ) (value : Bool)
+    (name net none free text begun named given said : List ℕ) → name ≡ name_of n.signals z → value ≡ bit n.start z
+    → none ≡ [] → net ≡ free_net name → free ≡ none ++ verilog_name net → begun ≡ text ++ codes "  assign "
+    → named ≡ begun ++ verilog_name name → given ≡ named ++ codes " = "
+    → said ≡ given ++ forced_text reset value free → said ++ codes ";\n" ≡ text ++ forced_line n reset z
+forced_by_calls n reset z value name net none free text begun named given said is_name is_value is_none is_net is_free
+    is_begun is_named is_given is_said =
+    let own = name_of n.signals z in
+    rw (is_said, is_given, is_named, is_begun, is_free, is_net, is_none, is_value, is_name)
+    (line_parts text (codes "  assign ") (verilog_name own) (codes " = ")
+    (forced_text reset (bit n.start z) (verilog_name (free_net own))) (codes ";\n"))

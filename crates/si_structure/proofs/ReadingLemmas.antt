@@ -22,7 +22,7 @@ use Rattle.si_structure.specs.StructureText.{connection_text, head_text, placeme
 
 -- ---- ports
 
-abbrev HasWritable : Port → Type 0
+abbrev pub HasWritable : Port → Type 0
 HasWritable (InputPort name) = IsWritable name
 HasWritable (OutputPort name) = IsWritable name
 
@@ -113,16 +113,24 @@ grouped : (w n o p c s a e : List Symbol) → ((((((w ++ n) ++ o) ++ p) ++ c) ++
     ≡ w ++ (n ++ (o ++ (p ++ (c ++ (s ++ (a ++ e))))))
 grouped w n o p c s a e = simp append_assoc
 
--- a module of this name, with the ports and wires of these signals
-abbrev pub framed : List ℕ → List Signal → List Assign → Module
-framed name signals assigns = record {
+-- a module of this name, with the ports and wires of these signals, and other ports in front
+abbrev pub framed : List ℕ → List Port → List Signal → List Assign → Module
+framed name front signals assigns = record {
   name = name;
-  ports = ports_of signals;
+  ports = front ++ ports_of signals;
   wires = wires_of signals;
   assigns = assigns;
 }
 
-module _ (name : List ℕ) (signals : List Signal) (named : IsWritable name) (all : AllByRecursion Writable signals) where
+module _ (name : List ℕ) (front : List Port) (signals : List Signal) (named : IsWritable name)
+    (before : AllByRecursion HasWritable front) (all : AllByRecursion Writable signals) where
+  ports : List Port
+  ports = front ++ ports_of signals
+
+  ports_can : AllByRecursion HasWritable ports
+  unfolding ports
+  ports_can = all_append HasWritable front (ports_of signals) before (ports_writable signals all)
+
   module_word : List Symbol
   module_word = Word (codes "module") ∷ []
 
@@ -133,7 +141,7 @@ module _ (name : List ℕ) (signals : List Signal) (named : IsWritable name) (al
   opens = Mark 40 ∷ []
 
   port_list : List Symbol
-  port_list = join_by port_symbols (Mark 44 ∷ []) (ports_of signals)
+  port_list = join_by port_symbols (Mark 44 ∷ []) (front ++ ports_of signals)
 
   closes : List Symbol
   closes = Mark 41 ∷ Mark 59 ∷ []
@@ -144,30 +152,31 @@ module _ (name : List ℕ) (signals : List Signal) (named : IsWritable name) (al
   head_symbols : List Symbol
   head_symbols = ((((module_word ++ model) ++ opens) ++ port_list) ++ closes) ++ wire_list
 
-  head_read : Reads (head_text name signals) head_symbols
-  unfolding head_symbols module_word model opens port_list closes wire_list
+  head_read : Reads (head_text name front signals) head_symbols
+  unfolding head_symbols module_word model opens port_list closes wire_list ports
   head_read =
       let begun : ReadsBefore (codes "module " ++ verilog_name name) (module_word ++ model) =
       read_then (codes "module ") (verilog_name name) module_word model module_read (written_read name named) in
       let opened = parted_read (codes "module " ++ verilog_name name) (codes "(") (module_word ++ model) opens begun
       (λ more. refl) opening_read in
-      let listed = both_read (codes "module " ++ verilog_name name ++ codes "(") (ports_text (ports_of signals))
-      ((module_word ++ model) ++ opens) port_list opened (ports_read (ports_of signals) (ports_writable signals all)) in
-      let closed = both_read (codes "module " ++ verilog_name name ++ codes "(" ++ ports_text (ports_of signals))
+      let listed = both_read (codes "module " ++ verilog_name name ++ codes "(") (ports_text ports)
+      ((module_word ++ model) ++ opens) port_list opened (ports_read ports ports_can) in
+      let closed = both_read (codes "module " ++ verilog_name name ++ codes "(" ++ ports_text ports)
       (codes ");\n") (((module_word ++ model) ++ opens) ++ port_list) closes listed header_end_read in
-      both_read (codes "module " ++ verilog_name name ++ codes "(" ++ ports_text (ports_of signals) ++ codes ");\n")
+      both_read (codes "module " ++ verilog_name name ++ codes "(" ++ ports_text ports ++ codes ");\n")
       (flat_map wire_line (wires_of signals)) ((((module_word ++ model) ++ opens) ++ port_list) ++ closes) wire_list
       closed
       (wires_read (wires_of signals) (wires_writable signals all))
 
   -- what stands between the head and the end is read in its place
   pub part_read : (body : List ℕ) (symbols : List Symbol) (assigns : List Assign) → Reads body symbols
-      → Reads (head_text name signals ++ body ++ codes "endmodule\n")
-      (module_symbols (framed name signals assigns) symbols)
+      → Reads (head_text name front signals ++ body ++ codes "endmodule\n")
+      (module_symbols (framed name front signals assigns) symbols)
   unfolding head_symbols module_word model opens port_list closes wire_list
   part_read body symbols assigns reads = λ rest.
-      both_read (head_text name signals ++ body) (codes "endmodule\n") (head_symbols ++ symbols)
-      (Word (codes "endmodule") ∷ []) (both_read (head_text name signals) body head_symbols symbols head_read reads)
+      both_read (head_text name front signals ++ body) (codes "endmodule\n") (head_symbols ++ symbols)
+      (Word (codes "endmodule") ∷ [])
+      (both_read (head_text name front signals) body head_symbols symbols head_read reads)
       end_line_read rest
       ∙ ap (λ (s : List Symbol). s ++ symbols_of rest)
       (grouped module_word model opens port_list closes wire_list symbols (Word (codes "endmodule") ∷ []))
@@ -175,10 +184,10 @@ module _ (name : List ℕ) (signals : List Signal) (named : IsWritable name) (al
 -- ---- more wires behind those of the signals
 
 -- the same module with these wires too
-abbrev pub framed_with : List ℕ → List Signal → List (List ℕ) → List Assign → Module
-framed_with name signals wires assigns = record {
+abbrev pub framed_with : List ℕ → List Port → List Signal → List (List ℕ) → List Assign → Module
+framed_with name front signals wires assigns = record {
   name = name;
-  ports = ports_of signals;
+  ports = front ++ ports_of signals;
   wires = wires_of signals ++ wires;
   assigns = assigns;
 }
@@ -189,22 +198,23 @@ wires_apart w v s e = simp append_assoc
 texts_apart : (h w b e : List ℕ) → (h ++ (w ++ b)) ++ e ≡ ((h ++ w) ++ b) ++ e
 texts_apart h w b e = simp append_assoc
 
-pub wider_part_read : (name : List ℕ) (signals : List Signal) (wires : List (List ℕ)) → IsWritable name
-    → AllByRecursion Writable signals → AllByRecursion IsWritable wires → (body : List ℕ) (symbols : List Symbol)
-    (assigns : List Assign) → Reads body symbols
-    → Reads (head_text name signals ++ flat_map wire_line wires ++ body ++ codes "endmodule\n")
-    (module_symbols (framed_with name signals wires assigns) symbols)
-wider_part_read name signals wires named all writable body symbols assigns reads = λ rest.
+pub wider_part_read : (name : List ℕ) (front : List Port) (signals : List Signal) (wires : List (List ℕ))
+    → IsWritable name → AllByRecursion HasWritable front → AllByRecursion Writable signals
+    → AllByRecursion IsWritable wires → (body : List ℕ) (symbols : List Symbol) (assigns : List Assign)
+    → Reads body symbols
+    → Reads (head_text name front signals ++ flat_map wire_line wires ++ body ++ codes "endmodule\n")
+    (module_symbols (framed_with name front signals wires assigns) symbols)
+wider_part_read name front signals wires named before all writable body symbols assigns reads = λ rest.
     let lines = flat_map wire_line wires in
     let marks = flat_map wire_symbols wires in
     let first : List Symbol = Word (codes "module") ∷ Name name ∷ Mark 40 ∷ [] in
-    let ports : List Symbol = join_by port_symbols (Mark 44 ∷ []) (ports_of signals) in
+    let ports : List Symbol = join_by port_symbols (Mark 44 ∷ []) (front ++ ports_of signals) in
     let closes : List Symbol = Mark 41 ∷ Mark 59 ∷ [] in
     let end : List Symbol = Word (codes "endmodule") ∷ [] in
     let own = flat_map wire_symbols (wires_of signals) in
     ap (λ (t : List ℕ). symbols_of (t ++ rest))
-    (sym (texts_apart (head_text name signals) lines body (codes "endmodule\n")))
-    ∙ part_read name signals named all (lines ++ body) (marks ++ symbols) assigns
+    (sym (texts_apart (head_text name front signals) lines body (codes "endmodule\n")))
+    ∙ part_read name front signals named before all (lines ++ body) (marks ++ symbols) assigns
     (both_read lines body marks symbols (wires_read wires writable) reads) rest
     ∙ ap (λ (t : List Symbol). (first ++ (ports ++ (closes ++ t))) ++ symbols_of rest)
     (wires_apart own marks symbols end

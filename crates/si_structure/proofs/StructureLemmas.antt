@@ -1,6 +1,6 @@
 -- What the text of a netlist over a library is made of.
 use Rattle.std.proofs.Common.{◌≡◌, ◌⊎◌, ℕ, zero, suc, ◌<◌, Bool, true, false, List, [], ◌∷◌, ◌++◌, length, map, filter}
-use Rattle.std.proofs.Common.{flat_map, slice_get, Option, Some, None, Contains, if◌then◌else◌, refl, sym, ap}
+use Rattle.std.proofs.Common.{bytes_eq, flat_map, slice_get, Option, Some, None, Contains, if◌then◌else◌, refl, sym, ap}
 use Rattle.std.proofs.Common.{subst, ◌∙◌, append_assoc, arith, inl, inr}
 use Rattle.std.specs.Prelude.{IsTrue}
 use Rattle.std.specs.List.{AllByRecursion, list_any}
@@ -30,14 +30,14 @@ use Rattle.si_structure.specs.Parts.{Connection, Part, SpellParts, part}
 use Rattle.si_structure.specs.Meaning.{AreOfCells, IsNet, alone}
 use Rattle.si_structure.specs.Refusals.{IsPlacedGate, inverts}
 use Rattle.si_structure.specs.StructureText.{PortedCell, cell_instances, cell_named, cell_netlist, complemented}
-use Rattle.si_structure.specs.StructureText.{connected, feedback, in_order, instance_name}
+use Rattle.si_structure.specs.StructureText.{connected, driven_net, feedback, free_net, in_order, instance_name}
 use Rattle.si_structure.specs.StructureText.{inverted_net, inverter_if_any, inverter_name, inverter_of}
 use Rattle.si_structure.specs.StructureText.{is_complemented, own_connections, pin_nets, placed}
 use Rattle.si_structure.specs.StructureText.{ported_cells, reads_own}
 use Rattle.si_structure.specs.Loops.Deciding.{ported_at}
 use Rattle.si_structure.specs.declared.complements.Complements.{Complements}
-use Rattle.si_structure.proofs.NameLemmas.{feedback_writable, instance_writable, inverter_writable, net_writable}
-use Rattle.si_structure.proofs.NameLemmas.{port_writable}
+use Rattle.si_structure.proofs.NameLemmas.{feedback_writable, free_writable, instance_writable, inverter_writable}
+use Rattle.si_structure.proofs.NameLemmas.{net_writable, port_writable}
 use Rattle.si_structure.proofs.ReadingLemmas.{CanConnect, CanPlace}
 use Rattle.si_structure.proofs.ModuleLemmas.{spelled, spelled_symbols, text_read, is_part, is_of_netlist}
 use Rattle.si_structure.proofs.CellLemmas.{IsPortedCell, cell_readable, output_is, pins_are}
@@ -207,18 +207,27 @@ module _ (signals : List Signal) (are : AreNamed signals) (name : List ℕ) (wri
         inverters_can (Some c) is xs all.1,
       )
 
-  pub instances_can : (cells : List PortedCell) → IsCellIfAny (inverter_of cells) → (c : PortedCell)
-      → IsPortedCell c → (literals : List Literal) → AllByRecursion (λ l. l.sig < length signals) literals
-      → AllByRecursion CanPlace (in_order (cell_instances cells signals name c literals))
-  instances_can cells inverter c is literals within =
+  driven_can : (forced : List ℕ) → IsWritable (driven_net signals forced name)
+  driven_can forced = by (list_any (λ z. bytes_eq (name_of signals z) name) forced)
+    where
+      by : (is_forced : Bool) → IsWritable (if is_forced then free_net name else name)
+      by true = free_writable name writable
+      by false = writable
+
+  pub instances_can : (cells : List PortedCell) → IsCellIfAny (inverter_of cells) → (forced : List ℕ)
+      → (c : PortedCell) → IsPortedCell c → (literals : List Literal)
+      → AllByRecursion (λ l. l.sig < length signals) literals
+      → AllByRecursion CanPlace (in_order (cell_instances cells signals forced name c literals))
+  instances_can cells inverter forced c is literals within =
       let pins = c.ports.pins in
       let names = pins_are c is in
-      let i = cell_instances cells signals name c literals in
+      let i = cell_instances cells signals forced name c literals in
       all_append CanPlace i.inverters (i.gate ∷ [])
       (inverters_can (inverter_of cells) inverter (complemented pins literals)
       (at_pins pins literals (length signals) names within)) (
         placed_can (instance_name name) (instance_writable name writable) c is (pin_nets signals name pins literals)
-            (nets_writable pins literals names within) name name writable writable,
+            (nets_writable pins literals names within) name (driven_net signals forced name) writable
+            (driven_can forced),
         tt,
       )
 
@@ -247,24 +256,25 @@ net_lengths signals name (p ∷ ps) (l ∷ ls) same =
     let rest : length ls ≡ length ps = omega arith in
     ap suc (net_lengths signals name ps ls rest)
 
-module _ (signals : List Signal) (name : List ℕ) where
+module _ (signals : List Signal) (name driven : List ℕ) where
   one_more : (pins : List (List ℕ)) (p : List ℕ) (cs : List Connection)
-      → AllByRecursion (IsNet signals name pins) cs → AllByRecursion (IsNet signals name (p ∷ pins)) cs
+      → AllByRecursion (IsNet signals name driven pins) cs → AllByRecursion (IsNet signals name driven (p ∷ pins)) cs
   one_more pins p [] all = tt
   one_more pins p (c ∷ cs) all = (
     elim all.0 [
       | inl signal ↦ inl signal
-      | inr inverted ↦ (
+      | inr (inl inverted) ↦ (
           let there = inverted.0 in
           let inside = there.1 in
-          inr ((suc there.0, omega arith, there.2), inverted.1))
+          inr (inl ((suc there.0, omega arith, there.2), inverted.1)))
+      | inr (inr own) ↦ inr (inr own)
     ],
     one_more pins p cs all.1,
   )
 
   pub pin_nets_are : (pins : List (List ℕ)) (literals : List Literal)
       → AllByRecursion (λ l. l.sig < length signals) literals
-      → AllByRecursion (IsNet signals name (map (λ p. p.0) (complemented pins literals)))
+      → AllByRecursion (IsNet signals name driven (map (λ p. p.0) (complemented pins literals)))
       (connected pins (pin_nets signals name pins literals))
   pin_nets_are [] literals within = tt
   pin_nets_are (p ∷ ps) [] within = tt
@@ -279,26 +289,27 @@ module _ (signals : List Signal) (name : List ℕ) where
             )
         | inr other ↦ at_pins_of (connected (p ∷ ps) (pin_nets signals name (p ∷ ps) (l ∷ ls)))
             (sym (other_pins p l ps ls other)) (
-              inr ((0, omega arith, refl), other_net signals name p l other),
+              inr (inl ((0, omega arith, refl), other_net signals name p l other)),
               one_more (map (λ q. q.0) (complemented ps ls)) p (connected ps (pin_nets signals name ps ls)) later,
             )
       ]
     where
       at_pins_of : (cs : List Connection) {xs ys : List (List ℕ × Literal)} → xs ≡ ys
-          → AllByRecursion (IsNet signals name (map (λ q. q.0) xs)) cs
-          → AllByRecursion (IsNet signals name (map (λ q. q.0) ys)) cs
+          → AllByRecursion (IsNet signals name driven (map (λ q. q.0) xs)) cs
+          → AllByRecursion (IsNet signals name driven (map (λ q. q.0) ys)) cs
       at_pins_of cs same are =
-          subst (λ (zs : List (List ℕ × Literal)). AllByRecursion (IsNet signals name (map (λ q. q.0) zs)) cs) same are
+          subst (λ (zs : List (List ℕ × Literal)). AllByRecursion (IsNet signals name driven (map (λ q. q.0) zs)) cs)
+          same are
 
   pub own_nets_are : (c : PortedCell) (pins : List (List ℕ)) → Contains (map (λ (x : Signal). x.name) signals) name
-      → AllByRecursion (IsNet signals name pins) (own_connections c name name)
+      → AllByRecursion (IsNet signals name driven pins) (own_connections c name driven)
   own_nets_are c pins there = by (reads_own c.cell)
     where
-      by : (reads : Bool) → AllByRecursion (IsNet signals name pins)
+      by : (reads : Bool) → AllByRecursion (IsNet signals name driven pins)
           ((if reads then record { port = feedback c.ports; net = name } ∷ [] else [])
-          ++ record { port = c.ports.output; net = name } ∷ [])
-      by true = (inl there, (inl there, tt))
-      by false = (inl there, tt)
+          ++ record { port = c.ports.output; net = driven } ∷ [])
+      by true = (inl there, (inr (inr refl), tt))
+      by false = (inr (inr refl), tt)
 
 -- ---- gates among those of a netlist
 

@@ -1,11 +1,11 @@
 -- The whole text: its modules are told apart, and are those of the netlist over the library.
 use Rattle.std.proofs.Common.{◌≡◌, ◌≢◌, ℕ, suc, ◌<◌, ◌&&◌, Bool, true, false, List, [], ◌∷◌, ◌++◌, length, map, filter}
-use Rattle.std.proofs.Common.{flat_map, slice_get, Some, AllPairs, bytes_eq, get_or, refl, sym, ap, subst, ◌∙◌}
-use Rattle.std.proofs.Common.{append_assoc, arith, inl, inr}
+use Rattle.std.proofs.Common.{flat_map, slice_get, Option, Some, AllPairs, bytes_eq, codes, get_or, refl, sym, ap}
+use Rattle.std.proofs.Common.{subst, ◌∙◌, append_assoc, arith, inl, inr}
 use Rattle.std.specs.Prelude.{IsTrue, unwrap_or, option_map}
 use Rattle.std.specs.List.{AllByRecursion, list_any}
 use Rattle.std.proofs.lemmas.Bool.{and_from, cases_Bool, or_left, or_right, true≢false}
-use Rattle.std.proofs.lemmas.List.{append-nil}
+use Rattle.std.proofs.lemmas.List.{append-nil, map-append}
 use Rattle.std.proofs.lemmas.List.Elements.{recursion_from_All, All-from_recursion}
 use Rattle.std.proofs.lemmas.List.Kept.{AllPairs-cons, AllPairs-filter}
 use Rattle.std.proofs.lemmas.List.Quantifiers.{all_pairs_push}
@@ -25,13 +25,14 @@ use Rattle.si_cell.specs.Library.{Cell, code_of}
 use Rattle.si_genlib.specs.Ports.{IsPortName, Ports, PortedLibrary}
 use Rattle.si_verilog.specs.Declared.{port_name, declared_names}
 use Rattle.si_verilog.specs.Symbols.{Symbol, symbols_of}
-use Rattle.si_verilog.specs.Grammar.{Module, no_assign, module_symbols}
-use Rattle.si_verilog.specs.ModuleText.{ports_of, verilog_text, wires_of}
+use Rattle.si_verilog.specs.Grammar.{Module, module_symbols}
+use Rattle.si_verilog.specs.ModuleText.{ports_of, verilog_text, wire_line, wires_of}
 use Rattle.si_verilog.proofs.DeclaredLemmas.{all_declared}
 use Rattle.si_verilog.proofs.NameLemmas.{IsWritable, word_is_writable}
 use Rattle.si_verilog.proofs.SymbolLemmas.{Reads, both_read}
 use Rattle.si_verilog.proofs.MeaningLemmas.{AreNamed}
 use Rattle.si_verilog.proofs.NetlistLemmas.{Writable, all_append, netlist_named, netlist_there, netlist_writable}
+use Rattle.si_resettable.specs.Forcing.{Forcing, IsResetOf}
 use Rattle.si_structure.specs.Laws.{IsPorted}
 use Rattle.si_structure.specs.Parts.{Connection, Part, SpellPart, SpellParts, no_part, part}
 use Rattle.si_structure.specs.Parts.{placement_symbols}
@@ -44,11 +45,14 @@ use Rattle.si_structure.specs.StructureText.{connected, controller_text, driven_
 use Rattle.si_structure.specs.StructureText.{has_name_of, in_order, instance_name, instances_from, inverted_net}
 use Rattle.si_structure.specs.StructureText.{inverted_nets, inverted_pins, inverter_of, inverters_placed}
 use Rattle.si_structure.specs.StructureText.{is_complemented, is_inverter, is_of, is_used, own_connections, pin_nets}
-use Rattle.si_structure.specs.StructureText.{placement_line, ported_cells, structure_text, used_cells, with_ports}
+use Rattle.si_structure.specs.StructureText.{added_wires, driven_net, forced_by, free_nets, head_text, placement_line}
+use Rattle.si_structure.specs.StructureText.{ported_cells, reset_lines, reset_ports, structure_text, used_cells}
+use Rattle.si_structure.specs.StructureText.{with_ports}
 use Rattle.si_structure.specs.Loops.Deciding.{ported_at}
 use Rattle.si_structure.specs.declared.complements.Complements.{Complements}
 use Rattle.si_structure.specs.declared.complements.Complements.TheVariants.{Refused, Inverted}
 use Rattle.si_structure.proofs.OneMeaning.{one_meaning}
+use Rattle.si_structure.proofs.ResetLemmas.{Added, added, free_apart, free_from_inverters, from_both, names_from_free}
 use Rattle.si_structure.proofs.NameLemmas.{HasNameBytes, signal_bytes}
 use Rattle.si_structure.proofs.ReadingLemmas.{CanPlace, framed_with, placements_read, wider_part_read}
 use Rattle.si_structure.proofs.ModuleLemmas.{IsReadable, is_of_netlist as spelled_is, spelled}
@@ -172,10 +176,17 @@ names_bytes : (xs : List Signal) → AllByRecursion (λ x. HasNameBytes x.name) 
 names_bytes [] all = tt
 names_bytes (x ∷ xs) all = (all.0, names_bytes xs all.1)
 
-module _ (ported : PortedLibrary) (complements : Complements) (n : Netlist) (good : IsPorted ported)
-    (is : IsNetlist n) (structured : IsStructured ported complements n) where
+four_parts : (a b c d : List (List ℕ)) → (a ++ (b ++ c)) ++ d ≡ (a ++ b) ++ (c ++ d)
+four_parts a b c d = simp append_assoc
+
+module _ (ported : PortedLibrary) (complements : Complements) (n : Netlist) (reset : Option Forcing)
+    (good : IsPorted ported) (is : IsNetlist n) (structured : IsStructured ported complements n)
+    (fits : IsResetOf n reset) where
   abbrev cells : List PortedCell
   cells = ported_cells ported
+
+  abbrev forced : List ℕ
+  forced = forced_by reset
 
   abbrev pairs : List (Signal × Gate)
   pairs = driven_gates n.signals n.gates
@@ -204,20 +215,21 @@ module _ (ported : PortedLibrary) (complements : Complements) (n : Netlist) (goo
       (all_filtered Writable (λ (x : Signal). is_driven x.kind) n.signals (netlist_writable n is)) all_good
 
   abbrev instances : List GateInstances
-  instances = instances_from cells n.signals n.signals n.gates
+  instances = instances_from cells n.signals forced n.signals n.gates
 
   one_of : (name : List ℕ) (g : Gate) → (h : Good g)
-      → gate_instances cells n.signals name g ≡ cell_instances cells n.signals name h.cell h.literals ∷ []
-  one_of name g h = instances_one cells n.signals name g h.cell h.literals h.sum h.same h.found
+      → gate_instances cells n.signals forced name g ≡ cell_instances cells n.signals forced name h.cell h.literals ∷ []
+  one_of name g h = instances_one cells n.signals forced name g h.cell h.literals h.sum h.same h.found
 
   one_each : AllByRecursion (λ (p : Signal × Gate). (i : GateInstances)
-      × (gate_instances cells n.signals p.0.name p.1 ≡ i ∷ [])) pairs
+      × (gate_instances cells n.signals forced p.0.name p.1 ≡ i ∷ [])) pairs
   one_each = weaker (λ (p : Signal × Gate). Writable p.0 × Good p.1)
-      (λ (p : Signal × Gate). (i : GateInstances) × (gate_instances cells n.signals p.0.name p.1 ≡ i ∷ []))
-      (λ p h. (cell_instances cells n.signals p.0.name h.1.cell h.1.literals, one_of p.0.name p.1 h.1)) pairs pairs_good
+      (λ (p : Signal × Gate). (i : GateInstances) × (gate_instances cells n.signals forced p.0.name p.1 ≡ i ∷ []))
+      (λ p h. (cell_instances cells n.signals forced p.0.name h.1.cell h.1.literals, one_of p.0.name p.1 h.1)) pairs
+      pairs_good
 
   counted : length instances ≡ length (driven n.signals)
-  counted = ones_counted (λ (p : Signal × Gate). gate_instances cells n.signals p.0.name p.1) pairs one_each
+  counted = ones_counted (λ (p : Signal × Gate). gate_instances cells n.signals forced p.0.name p.1) pairs one_each
       ∙ zip_count (driven n.signals) n.gates is.gate_count
 
   -- ---- what is written can be read
@@ -227,12 +239,12 @@ module _ (ported : PortedLibrary) (complements : Complements) (n : Netlist) (goo
 
   all_can : AllByRecursion CanPlace (flat_map in_order instances)
   all_can = all_flat CanPlace in_order instances
-      (all_flat CanAll (λ (p : Signal × Gate). gate_instances cells n.signals p.0.name p.1) pairs
+      (all_flat CanAll (λ (p : Signal × Gate). gate_instances cells n.signals forced p.0.name p.1) pairs
       (weaker (λ (p : Signal × Gate). Writable p.0 × Good p.1)
-      (λ (p : Signal × Gate). AllByRecursion CanAll (gate_instances cells n.signals p.0.name p.1))
+      (λ (p : Signal × Gate). AllByRecursion CanAll (gate_instances cells n.signals forced p.0.name p.1))
       (λ p h. subst (AllByRecursion CanAll) (sym (one_of p.0.name p.1 h.1)) (
-        instances_can n.signals named p.0.name h.0 cells (inverter_is ported good) h.1.cell h.1.good h.1.literals
-            h.1.within,
+        instances_can n.signals named p.0.name h.0 cells (inverter_is ported good) forced h.1.cell h.1.good
+            h.1.literals h.1.within,
         tt,
       )) pairs pairs_good))
 
@@ -259,23 +271,43 @@ module _ (ported : PortedLibrary) (complements : Complements) (n : Netlist) (goo
 
   -- ---- the controller
 
+  with_reset : Added n reset
+  with_reset = added n reset is fits
+
+  abbrev wires : List (List ℕ)
+  wires = added_wires cells n forced
+
   abbrev controller : Part
   controller = record {
-    body = framed_with n.model n.signals (inverted_nets cells n.signals n.gates) [];
+    body = framed_with n.model (reset_ports reset) n.signals wires with_reset.assigns;
     placements = flat_map in_order instances;
   }
 
-  abbrev controller_symbols : List Symbol
-  controller_symbols = module_symbols controller.body (flat_map placement_symbols controller.placements)
+  abbrev body_symbols : List Symbol
+  body_symbols = with_reset.symbols ++ flat_map placement_symbols (flat_map in_order instances)
 
-  controller_read : Reads (controller_text ported n) controller_symbols
-  controller_read = wider_part_read n.model n.signals (inverted_nets cells n.signals n.gates)
-      (word_is_writable n.model is.model) (netlist_writable n is) wires_writable
-      (flat_map placement_line (flat_map in_order instances)) (flat_map placement_symbols (flat_map in_order instances))
-      [] (placements_read (flat_map in_order instances) all_can)
+  abbrev controller_symbols : List Symbol
+  controller_symbols = module_symbols controller.body body_symbols
+
+  all_wires_writable : AllByRecursion IsWritable wires
+  all_wires_writable = all_append IsWritable (free_nets n.signals forced) (inverted_nets cells n.signals n.gates)
+      with_reset.writable wires_writable
+
+  controller_read : Reads (controller_text ported n reset) controller_symbols
+  controller_read =
+      let placements = flat_map in_order instances in
+      let lines = flat_map placement_line placements in
+      let head = head_text n.model (reset_ports reset) n.signals ++ flat_map wire_line wires in
+      λ rest.
+      ap (λ (t : List ℕ). symbols_of ((t ++ codes "endmodule\n") ++ rest))
+      (append_assoc head (reset_lines n reset) lines)
+      ∙ wider_part_read n.model (reset_ports reset) n.signals wires (word_is_writable n.model is.model) with_reset.ports
+      (netlist_writable n is) all_wires_writable (reset_lines n reset ++ lines) body_symbols with_reset.assigns
+      (both_read (reset_lines n reset) lines with_reset.symbols (flat_map placement_symbols placements) with_reset.reads
+      (placements_read placements all_can)) rest
 
   controller_part : SpellPart controller_symbols controller
-  controller_part = record { assigns = []; spell = no_assign; whole = refl }
+  controller_part = record { assigns = with_reset.symbols; spell = with_reset.spell; whole = refl }
 
   signal_names_bytes : AllByRecursion (λ x. HasNameBytes x.name) n.signals
   signal_names_bytes =
@@ -300,15 +332,27 @@ module _ (ported : PortedLibrary) (complements : Complements) (n : Netlist) (goo
   distinct : AllPairs (λ x y. x ≢ y) (declared_names controller.body)
   distinct =
       let names = map (λ (x : Signal). x.name) n.signals in
+      let front = map port_name (reset_ports reset) in
+      let own_ports = map port_name (ports_of n.signals) in
+      let free = free_nets n.signals forced in
       let nets = inverted_nets cells n.signals n.gates in
-      let apart = signals_apart n.signals is.distinct in
-      let all : Apart (names ++ nets) = apart_append names nets apart
-      (all_nets_apart (inverted_pins cells) pairs pairs_own (owners_apart n.signals n.gates apart))
-      (no_signals (inverted_pins cells) names (names_bytes n.signals signal_names_bytes) pairs) in
-      let same : names ++ nets ≡ declared_names controller.body =
-      ap (λ (ms : List (List ℕ)). ms ++ nets) (sym (declared_signals n is))
-      ∙ append_assoc (map port_name (ports_of n.signals)) (wires_of n.signals) nets in
-      subst (AllPairs (λ x y. x ≢ y)) same (pairs_apart (names ++ nets) all)
+      let bytes : AllByRecursion HasNameBytes (front ++ names) =
+      all_append HasNameBytes front names with_reset.port_bytes (names_bytes n.signals signal_names_bytes) in
+      let added_apart : Apart (free ++ nets) = apart_append free nets
+      (free_apart n.signals forced with_reset.bytes with_reset.forced)
+      (all_nets_apart (inverted_pins cells) pairs pairs_own
+      (owners_apart n.signals n.gates (signals_apart n.signals is.distinct)))
+      (free_from_inverters n.signals forced with_reset.bytes (inverted_pins cells) pairs pairs_own) in
+      let all : Apart ((front ++ names) ++ (free ++ nets)) =
+      apart_append (front ++ names) (free ++ nets) with_reset.apart added_apart
+      (from_both (front ++ names) free nets (names_from_free n.signals (front ++ names) bytes forced)
+      (no_signals (inverted_pins cells) (front ++ names) bytes pairs)) in
+      let same : (front ++ names) ++ (free ++ nets) ≡ declared_names controller.body =
+      ap (λ (ms : List (List ℕ)). (front ++ ms) ++ (free ++ nets)) (sym (declared_signals n is))
+      ∙ four_parts front own_ports (wires_of n.signals) (free ++ nets)
+      ∙ ap (λ (ms : List (List ℕ)). ms ++ (wires_of n.signals ++ (free ++ nets)))
+      (sym (map-append port_name (reset_ports reset) (ports_of n.signals))) in
+      subst (AllPairs (λ x y. x ≢ y)) same (pairs_apart ((front ++ names) ++ (free ++ nets)) all)
 
   abbrev parts : List Part
   parts = map alone cells_spelt.modules ++ controller ∷ []
@@ -373,7 +417,7 @@ module _ (ported : PortedLibrary) (complements : Complements) (n : Netlist) (goo
           (λ (p : List ℕ × Literal). p.1.sig < length n.signals) (λ p both. both.1) xs
           (at_pins h.cell.ports.pins h.literals (length n.signals) (pins_are h.cell h.good) h.within)
 
-  gate_placed : (z : ℕ) → IsNonInput n.signals z → IsGatePlaced ported n parts instances z
+  gate_placed : (z : ℕ) → IsNonInput n.signals z → IsGatePlaced ported n forced parts instances z
   gate_placed z non_input =
       let x : Signal = non_input.0 in
       let place = gate_place n.signals z in
@@ -398,29 +442,30 @@ module _ (ported : PortedLibrary) (complements : Complements) (n : Netlist) (goo
       (inverters_placed (inverter_of cells) n.signals name pins h.literals) = inverters_at place g gate.1 h name in
       let are_pins = pins_of g h in
       let lengths = net_lengths n.signals name pins h.literals h.pins in
-      let connections : List Connection = connected pins ns ++ own_connections c name name in
+      let net = driven_net n.signals forced name in
+      let connections : List Connection = connected pins ns ++ own_connections c name net in
       record {
         gate = g;
         has = gate.1;
-        placed = cell_instances cells n.signals name c h.literals;
-        there = one_at (λ (p : Signal × Gate). gate_instances cells n.signals p.0.name p.1) pairs one_each place (x, g)
-            (cell_instances cells n.signals name c h.literals)
+        placed = cell_instances cells n.signals forced name c h.literals;
+        there = one_at (λ (p : Signal × Gate). gate_instances cells n.signals forced p.0.name p.1) pairs one_each place
+            (x, g) (cell_instances cells n.signals forced name c h.literals)
             (zip_at (driven n.signals) n.gates place x g (driven_at n.signals z x non_input.1 non_input.2) gate.1)
-            (ap (λ (m : List ℕ). gate_instances cells n.signals m g) (sym name_is) ∙ one_of name g h);
+            (ap (λ (m : List ℕ). gate_instances cells n.signals forced m g) (sym name_is) ∙ one_of name g h);
         inverters = subst (λ (ps : List (List ℕ)). AreInvertersPlaced n parts name ps
             (inverters_placed (inverter_of cells) n.signals name pins h.literals)) (sym are_pins) at.placed;
         named = refl;
         assign = cell_assign parts c there;
-        instance = instance_is parts c there (instance_name name) ns name name lengths;
-        drives = drives_net c (instance_name name) ns name name;
-        nets = All-from_recursion (IsNet n.signals name (inverted_pins cells g)) connections
-            (subst (λ (ps : List (List ℕ)). AllByRecursion (IsNet n.signals name ps) connections) (sym are_pins)
-            (all_append (IsNet n.signals name (map (λ p. p.0) (complemented pins h.literals))) (connected pins ns)
-            (own_connections c name name) (pin_nets_are n.signals name pins h.literals h.within)
-            (own_nets_are n.signals name c (map (λ p. p.0) (complemented pins h.literals))
+        instance = instance_is parts c there (instance_name name) ns name net lengths;
+        drives = drives_net c (instance_name name) ns name net;
+        nets = All-from_recursion (IsNet n.signals name net (inverted_pins cells g)) connections
+            (subst (λ (ps : List (List ℕ)). AllByRecursion (IsNet n.signals name net ps) connections) (sym are_pins)
+            (all_append (IsNet n.signals name net (map (λ p. p.0) (complemented pins h.literals))) (connected pins ns)
+            (own_connections c name net) (pin_nets_are n.signals name net pins h.literals h.within)
+            (own_nets_are n.signals name net c (map (λ p. p.0) (complemented pins h.literals))
             (name_is_there n.signals z within))));
         value = λ values nets have settled.
-            instance_value c h.good there.of (drives_own c there.of there.is) nets ns name name lengths
+            instance_value c h.good there.of (drives_own c there.of there.is) nets ns name net lengths
             ∙ ap (λ (bs : List Bool). sum_value (code_of (bs ++ nets name ∷ [])) c.cell.sum)
             (pin_values n parts name values nets have pins h.literals h.pins h.within
             (at.inverted nets (recursion_from_All (IsSettled parts nets)
@@ -431,13 +476,13 @@ module _ (ported : PortedLibrary) (complements : Complements) (n : Netlist) (goo
             ∙ sym (ap (λ o. value_if_there o z values) gate_is_cell);
       }
 
-  is_controller : IsController ported n parts controller
+  is_controller : IsController ported n reset parts controller
   is_controller = record {
     named = refl;
     ports = refl;
     wires = refl;
     distinct = distinct;
-    assigns = refl;
+    assigns = with_reset.are;
     instances = instances;
     placed = refl;
     count = counted;
@@ -453,7 +498,7 @@ module _ (ported : PortedLibrary) (complements : Complements) (n : Netlist) (goo
       (lasts n.model (used_cells ported n) cells_spelt.modules cells_spelt.of
       (no_model (is_used cells n) n.model ported.library.cells ported.ports structured.model)))
 
-  is_of_netlist : AreOfNetlist ported n parts
+  is_of_netlist : AreOfNetlist ported n reset parts
   is_of_netlist = record {
     cells = cells_spelt.modules;
     controller = controller;
@@ -463,17 +508,17 @@ module _ (ported : PortedLibrary) (complements : Complements) (n : Netlist) (goo
     distinct = apart_parts;
   }
 
-  whole_read : symbols_of (structure_text ported n) ≡ cells_spelt.symbols ++ (controller_symbols ++ [])
+  whole_read : symbols_of (structure_text ported n reset) ≡ cells_spelt.symbols ++ (controller_symbols ++ [])
   unfolding structure_text
   whole_read =
       let front = flat_map (λ c. verilog_text (cell_netlist c)) (used_cells ported n) in
-      let back = controller_text ported n in
+      let back = controller_text ported n reset in
       let read = both_read front back cells_spelt.symbols controller_symbols cells_spelt.reads controller_read in
       ap symbols_of (sym (append-nil (front ++ back))) ∙ read []
       ∙ ap (λ (u : List Symbol). (cells_spelt.symbols ++ controller_symbols) ++ u) symbols_none
       ∙ append_assoc cells_spelt.symbols controller_symbols []
 
-  pub text_means : MeansStructure (structure_text ported n) ported n
+  pub text_means : MeansStructure (structure_text ported n reset) ported n reset
   text_means = (
     parts,
     subst (λ (s : List Symbol). SpellParts s parts) (sym whole_read)
@@ -482,10 +527,10 @@ module _ (ported : PortedLibrary) (complements : Complements) (n : Netlist) (goo
   )
 
 -- and any modules that it is the text of are those
-pub text_means_only : (ported : PortedLibrary) (complements : Complements) (n : Netlist) (parts : List Part)
-    → IsPorted ported → IsNetlist n → IsStructured ported complements n
-    → SpellParts (symbols_of (structure_text ported n)) parts → AreOfNetlist ported n parts
-text_means_only ported complements n parts good is structured spelt =
-    let means = text_means ported complements n good is structured in
-    subst (AreOfNetlist ported n)
-    (one_meaning (symbols_of (structure_text ported n)) means.0 parts means.1 spelt) means.2
+pub text_means_only : (ported : PortedLibrary) (complements : Complements) (n : Netlist) (reset : Option Forcing)
+    (parts : List Part) → IsPorted ported → IsNetlist n → IsStructured ported complements n → IsResetOf n reset
+    → SpellParts (symbols_of (structure_text ported n reset)) parts → AreOfNetlist ported n reset parts
+text_means_only ported complements n reset parts good is structured fits spelt =
+    let means = text_means ported complements n reset good is structured fits in
+    subst (AreOfNetlist ported n reset)
+    (one_meaning (symbols_of (structure_text ported n reset)) means.0 parts means.1 spelt) means.2

@@ -7,14 +7,18 @@ use Rattle.std.specs.List.{join_by, list_any, zip}
 use Rattle.si_base.specs.declared.ids.Literal.{Literal}
 use Rattle.si_base.specs.declared.graph.Signal.{Signal}
 use Rattle.si_base.specs.declared.graph.SigKind.TheVariants.{Input, Output}
+use Rattle.si_base.specs.Bits.{bit}
 use Rattle.si_base.specs.Graph.{is_driven}
 use Rattle.si_base.specs.Netlist.{Gate, SumGate, Gc, Cell as CellGate, Netlist, sum_value}
 use Rattle.si_base.specs.NetlistText.{name_of}
 use Rattle.si_netlist.specs.Reads.{sum_reads}
 use Rattle.si_cell.specs.Library.{Cell}
 use Rattle.si_genlib.specs.Ports.{Ports, PortedLibrary}
+use Rattle.si_verilog.specs.Grammar.{Port, InputPort}
 use Rattle.si_verilog.specs.ModuleText.{verilog_name, ports_text, wire_line, ports_of, wires_of}
 use Rattle.si_verilog.specs.ModuleText.{verilog_text}
+use Rattle.si_resettable.specs.Forcing.{Forcing}
+use Rattle.si_resettable.specs.ResettableText.{forced_text}
 use Rattle.si_structure.specs.Parts.{Connection, Placement}
 
 -- ---- cells with the names of their ports
@@ -111,6 +115,40 @@ is_used cells n cell = list_any (is_of cell) n.gates
 abbrev pub used_cells : PortedLibrary → Netlist → List PortedCell
 used_cells ported n = filter (λ c. is_used (ported_cells ported) n c.cell) (ported_cells ported)
 
+-- ---- a reset input
+
+-- the port of the reset input, if there is one
+abbrev pub reset_ports : Option Forcing → List Port
+reset_ports None = []
+reset_ports (Some f) = InputPort f.name ∷ []
+
+-- the signals that it forces
+abbrev pub forced_by : Option Forcing → List ℕ
+forced_by None = []
+forced_by (Some f) = f.forced
+
+-- the net that the gate of a forced signal drives; no signal has a `$` in its name
+abbrev pub free_net : List ℕ → List ℕ
+free_net name = name ++ codes "$free"
+
+abbrev pub free_nets : List Signal → (forced : List ℕ) → List (List ℕ)
+free_nets signals forced = map (λ z. free_net (name_of signals z)) forced
+
+-- the net that the gate of a signal of this name drives: the signal, if it isn't forced
+abbrev pub driven_net : List Signal → (forced name : List ℕ) → List ℕ
+driven_net signals forced name =
+    if list_any (λ z. bytes_eq (name_of signals z) name) forced then free_net name else name
+
+-- the assign of signal z: the reset input forces its start value, or lets the free net through
+abbrev pub forced_line : Netlist → (reset : List ℕ) → ℕ → List ℕ
+forced_line n reset z = codes "  assign " ++ verilog_name (name_of n.signals z) ++ codes " = "
+    ++ forced_text reset (bit n.start z) (verilog_name (free_net (name_of n.signals z)))
+    ++ codes ";\n"
+
+abbrev pub reset_lines : Netlist → Option Forcing → List ℕ
+reset_lines n None = []
+reset_lines n (Some f) = flat_map (forced_line n f.name) f.forced
+
 -- ---- instances
 
 -- the instance of a signal's gate; no signal has a `$` in its name
@@ -183,35 +221,37 @@ abbrev pub in_order : GateInstances → List Placement
 in_order i = i.inverters ++ i.gate ∷ []
 
 -- those for a cell with these literals, as the gate of a signal of this name
-abbrev pub cell_instances : List PortedCell → List Signal → List ℕ → PortedCell → List Literal
-    → GateInstances
-cell_instances cells signals name c literals = record {
+abbrev pub cell_instances : List PortedCell → List Signal → (forced name : List ℕ) → PortedCell
+    → List Literal → GateInstances
+cell_instances cells signals forced name c literals = record {
   inverters = inverters_placed (inverter_of cells) signals name c.ports.pins literals;
-  gate = placed (instance_name name) c (pin_nets signals name c.ports.pins literals) name name;
+  gate = placed (instance_name name) c (pin_nets signals name c.ports.pins literals) name
+      (driven_net signals forced name);
 }
 
-abbrev pub instances_if_any : List PortedCell → List Signal → List ℕ → Option PortedCell
-    → List Literal → List GateInstances
-instances_if_any cells signals name None literals = []
-instances_if_any cells signals name (Some c) literals =
-    cell_instances cells signals name c literals ∷ []
+abbrev pub instances_if_any : List PortedCell → List Signal → (forced name : List ℕ)
+    → Option PortedCell → List Literal → List GateInstances
+instances_if_any cells signals forced name None literals = []
+instances_if_any cells signals forced name (Some c) literals =
+    cell_instances cells signals forced name c literals ∷ []
 
 -- those for the gate of a signal of this name: none where it has no cell
-abbrev pub gate_instances : List PortedCell → List Signal → List ℕ → Gate → List GateInstances
-gate_instances cells signals name (SumGate sum) = []
-gate_instances cells signals name (Gc set reset) = []
-gate_instances cells signals name (CellGate cell literals sum) =
-    instances_if_any cells signals name (cell_named cells cell) literals
+abbrev pub gate_instances : List PortedCell → List Signal → (forced name : List ℕ) → Gate
+    → List GateInstances
+gate_instances cells signals forced name (SumGate sum) = []
+gate_instances cells signals forced name (Gc set reset) = []
+gate_instances cells signals forced name (CellGate cell literals sum) =
+    instances_if_any cells signals forced name (cell_named cells cell) literals
 
 -- the non-inputs among the signals, each with its gate
 abbrev pub driven_gates : List Signal → List Gate → List (Signal × Gate)
 driven_gates signals gates = zip (filter (λ x. is_driven x.kind) signals) gates
 
 -- those for the gates, with the next of the non-inputs among these signals
-abbrev pub instances_from : List PortedCell → List Signal → List Signal → List Gate
-    → List GateInstances
-instances_from cells all signals gates =
-    flat_map (λ p. gate_instances cells all p.0.name p.1) (driven_gates signals gates)
+abbrev pub instances_from : List PortedCell → List Signal → (forced : List ℕ) → List Signal
+    → List Gate → List GateInstances
+instances_from cells all forced signals gates =
+    flat_map (λ p. gate_instances cells all forced p.0.name p.1) (driven_gates signals gates)
 
 -- ---- the nets of inverters
 
@@ -242,24 +282,31 @@ placement_line p =
     codes "  " ++ verilog_name p.cell ++ codes " " ++ verilog_name p.name ++ codes "("
     ++ join_by connection_text (codes ", ") p.connections ++ codes ");\n"
 
--- the lines of a module before what drives its signals
-abbrev pub head_text : List ℕ → List Signal → List ℕ
-head_text name signals =
-    codes "module " ++ verilog_name name ++ codes "(" ++ ports_text (ports_of signals)
+-- the lines of a module before what drives its signals; other ports may stand before those of these
+abbrev pub head_text : (name : List ℕ) → (front : List Port) → List Signal → List ℕ
+head_text name front signals =
+    codes "module " ++ verilog_name name ++ codes "(" ++ ports_text (front ++ ports_of signals)
     ++ codes ");\n" ++ flat_map wire_line (wires_of signals)
 
--- the controller: its ports and wires, and the instances for each gate
-abbrev pub controller_text : PortedLibrary → Netlist → List ℕ
-controller_text ported n =
+-- the wires that a controller has beside its signals
+abbrev pub added_wires : List PortedCell → Netlist → (forced : List ℕ) → List (List ℕ)
+added_wires cells n forced =
+    free_nets n.signals forced ++ inverted_nets cells n.signals n.gates
+
+-- the controller: its ports and wires, the assigns of forced signals, and the instances for each
+-- gate
+abbrev pub controller_text : PortedLibrary → Netlist → Option Forcing → List ℕ
+controller_text ported n reset =
     let cells = ported_cells ported in
-    head_text n.model n.signals
-    ++ flat_map wire_line (inverted_nets cells n.signals n.gates)
+    head_text n.model (reset_ports reset) n.signals
+    ++ flat_map wire_line (added_wires cells n (forced_by reset))
+    ++ reset_lines n reset
     ++ flat_map placement_line
-    (flat_map in_order (instances_from cells n.signals n.signals n.gates))
+    (flat_map in_order (instances_from cells n.signals (forced_by reset) n.signals n.gates))
     ++ codes "endmodule\n"
 
--- the cells, and behind them the controller
-unfoldable pub structure_text : PortedLibrary → Netlist → List ℕ
-structure_text ported n =
+-- the cells, and behind them the controller, which may have a reset input
+unfoldable pub structure_text : PortedLibrary → Netlist → Option Forcing → List ℕ
+structure_text ported n reset =
     flat_map (λ c. verilog_text (cell_netlist c)) (used_cells ported n)
-    ++ controller_text ported n
+    ++ controller_text ported n reset

@@ -9,8 +9,6 @@ ghost use Rattle.si_structure.specs.StructureText as structure;
 ghost use Rattle.si_structure.specs.StructureText.{cell_netlist, input};
 
 use crate::heads::add_head;
-use crate::names::add_name;
-use crate::write_sums::add_sum;
 use si_base::graph::{SigKind, Signal};
 use si_base::ids::{Code, NoMemory, Sig};
 use si_base::text::{Name, Text};
@@ -18,6 +16,9 @@ use si_cell::cell::Cell;
 use si_cell::pin_sum::PinCube;
 use si_cube::cube::Cube;
 use si_genlib::ports::Ports;
+use si_netlist::gate::Gate;
+use si_verilog::names::add_name;
+use si_verilog::write::add_gate;
 use std::alloc::Global;
 
 /// What stands behind the output's name in that of the port by which a cell reads its own output.
@@ -40,12 +41,12 @@ pub(crate) fn add_cell(
 {
     let made = cell_signals(alloc, cell, ports)?;
     let signals = made.as_slice();
-    let sum = cell.sum.widened(alloc)?;
-    add_head(text, cell.name.bytes(), signals)?;
+    let gate = Gate::Sum(cell.sum.widened(alloc)?);
+    add_head(text, cell.name.bytes(), &None, signals)?;
     text.add(b"  assign ")?;
     add_name(text, ports.output.bytes())?;
     text.add(b" = ")?;
-    add_sum(alloc, text, signals, &sum)?;
+    add_gate(alloc, text, signals, ports.output.bytes(), &gate)?;
     text.add(b";\nendmodule\n")
 }
 

@@ -123,7 +123,7 @@ pub(crate) fn place_of_inverter(cells: &[Cell]) -> Option<u8>
 }
 
 /// The place of the cell of the name, from 0.
-pub(crate) fn place_of(cells: &[Cell], name: &[u8]) -> Option<u8>
+pub fn place_of(cells: &[Cell], name: &[u8]) -> Option<u8>
     requires { length cells.now ≤ max_cells }
     ensures { MatchOption result (All (λ c. c.name ≢ name.now) cells.now)
         (λ k. (k < length cells.now)
@@ -139,7 +139,7 @@ pub(crate) fn place_of(cells: &[Cell], name: &[u8]) -> Option<u8>
 
 /// Whether the cell at that place has a pin for each of these literals, and the sum, over them and
 /// signal `z`. It fails only where memory runs out.
-fn is_instance(
+pub fn is_instance(
     alloc: Global,
     library: &Library,
     z: Sig,
@@ -149,7 +149,8 @@ fn is_instance(
 ) -> Result<bool, NoMemory>
     requires signal { z < code_width }
     requires cell { cell < length library.now.cells }
-    requires small { AreSmall literals.now }
+    requires few { length literals.now ≤ max_pins }
+    requires there { All (λ l. l.sig < code_width) literals.now }
     ensures { IfOk result (λ is. Decides is
         ((length literals.now ≡ length (cell_at library.now cell).pins) × (sum.now
         ≡ expanded library.now (record { cell = cell; literals = literals.now }) z))) }

@@ -1,4 +1,4 @@
-//! Names of instances, and of the nets that inverters drive.
+//! Names of instances, and of the nets that inverters and gates of forced signals drive.
 
 ghost use Rattle.std.specs.Prelude.{◌≡◌, IfOk};
 ghost use Rattle.si_structure.specs.StructureText as structure;
@@ -36,5 +36,14 @@ pub(crate) fn inverted_net(alloc: Global, name: &[u8], pin: &[u8]) -> Result<Tex
     made.add(b"$")?;
     made.add(pin)?;
     made.add(b"$inverted")?;
+    Ok(made)
+}
+
+/// The net that the gate of a forced signal drives. It fails only where memory runs out.
+pub(crate) fn free_net(alloc: Global, name: &[u8]) -> Result<Text, NoMemory>
+    ensures { IfOk result (λ made. made ≡ structure.free_net name.now) }
+{
+    let mut made = Text::copy_of(alloc, name)?;
+    made.add(b"$free")?;
     Ok(made)
 }

@@ -8,12 +8,12 @@ ghost use Rattle.si_structure.specs.Loops.Writing.{gate_wires, pin_wires, wire_l
 
 use crate::instance_names::inverted_net;
 use crate::lookup::{cell_named, ports_at};
-use crate::names::add_name;
 use si_base::graph::Signal;
 use si_base::ids::{Literal, NoMemory};
 use si_base::text::{Name, Text};
 use si_genlib::ports::PortedLibrary;
 use si_netlist::gate::Gate;
+use si_verilog::names::add_name;
 use std::alloc::Global;
 
 /// Adds a line for the net of each inverter, gate by gate.
@@ -96,7 +96,7 @@ fn add_wires_of_pins(
 }
 
 /// Adds the line of a wire.
-fn add_wire(text: &mut Text, name: &[u8]) -> Result<(), NoMemory>
+pub(crate) fn add_wire(text: &mut Text, name: &[u8]) -> Result<(), NoMemory>
     ensures { OnOk result (text.new ≡ text.old ++ wire_line name.now) }
 {
     text.add(b"  wire ")?;

@@ -4,14 +4,13 @@
 
 mod cells;
 pub mod complements;
-mod decide;
+pub mod decide;
 mod heads;
 mod instance_names;
 mod inverters;
 pub mod laws;
 mod lookup;
-mod names;
 mod placements;
 pub mod refusal;
+mod reset;
 pub mod write;
-mod write_sums;

@@ -1,7 +1,9 @@
 //! Instances of cells.
 
-ghost use Rattle.std.specs.Prelude.{◌≡◌, ◌<◌, ◌≤◌, [], ◌∷◌, ◌++◌, IfOk, OnOk, codes, length, map};
-ghost use Rattle.std.specs.List.{join_by};
+ghost use Rattle.std.specs.Prelude.{◌≡◌, ◌<◌, ◌≤◌, [], ◌∷◌, ◌++◌, IfOk, OnOk, bytes_eq, codes};
+ghost use Rattle.std.specs.Prelude.{length, map};
+ghost use Rattle.std.specs.List.{join_by, list_any};
+ghost use Rattle.si_base.specs.NetlistText.{name_of};
 ghost use Rattle.si_netlist.specs.Loops.Parts.{gate_seen};
 ghost use Rattle.si_cell.specs.Limits.{max_pins};
 ghost use Rattle.si_structure.specs.StructureText as structure;
@@ -12,15 +14,15 @@ ghost use Rattle.si_structure.specs.Loops.Writing.{cell_lines, connection_texts,
 ghost use Rattle.si_structure.specs.Loops.Writing.{inverter_line, inverter_lines, placement_lines};
 
 use crate::cells::{feedback, reads_own};
-use crate::instance_names::{instance_name, inverted_net, inverter_name};
+use crate::instance_names::{free_net, instance_name, inverted_net, inverter_name};
 use crate::lookup::{cell_named, inverter_of, ports_at};
-use crate::names::add_name;
 use si_base::graph::{Signal, signal_name};
-use si_base::ids::{Literal, NoMemory};
+use si_base::ids::{Literal, NoMemory, Sig};
 use si_base::text::{Name, Text};
 use si_cell::cell::Cell;
 use si_genlib::ports::{PortedLibrary, Ports};
 use si_netlist::gate::Gate;
+use si_verilog::names::add_name;
 use std::alloc::Global;
 
 /// The nets of an instance.
@@ -43,10 +45,11 @@ pub(crate) fn add_placements(
     text: &mut Text,
     library: &PortedLibrary,
     signals: &[Signal],
+    forced: &[Sig],
     gates: &[Gate],
 ) -> Result<(), NoMemory>
     ensures { OnOk result (text.new ≡ text.old ++ placement_lines (ported_cells library.now)
-        signals.now signals.now (map gate_seen gates.now)) }
+        signals.now forced.now signals.now (map gate_seen gates.now)) }
 {
     let mut gates = gates;
     for signal in signals {
@@ -56,7 +59,8 @@ pub(crate) fn add_placements(
         let [gate, rest @ ..] = gates else {
             return Ok(());
         };
-        add_gate(alloc, text, library, signals, signal.name.bytes(), gate)?;
+        let name = signal.name.bytes();
+        add_gate(alloc, text, library, signals, forced, name, gate)?;
         gates = rest;
     }
     Ok(())
@@ -68,11 +72,12 @@ fn add_gate(
     text: &mut Text,
     library: &PortedLibrary,
     signals: &[Signal],
+    forced: &[Sig],
     name: &[u8],
     gate: &Gate,
 ) -> Result<(), NoMemory>
-    ensures { OnOk result (text.new ≡ text.old
-        ++ gate_lines (ported_cells library.now) signals.now name.now (gate_seen gate.now)) }
+    ensures { OnOk result (text.new ≡ text.old ++ gate_lines (ported_cells library.now)
+        signals.now forced.now name.now (gate_seen gate.now)) }
 {
     match gate {
         Gate::Cell {
@@ -80,7 +85,10 @@ fn add_gate(
             literals,
             ..
         } => match cell_named(library, cell.bytes()) {
-            Some(k) => add_instances(alloc, text, library, k, signals, name, literals.as_slice()),
+            Some(k) => {
+                let literals = literals.as_slice();
+                add_instances(alloc, text, library, k, signals, forced, name, literals)
+            }
             None => Ok(()),
         },
         Gate::Sum(_) | Gate::Gc { .. } => Ok(()),
@@ -95,17 +103,18 @@ fn add_instances(
     library: &PortedLibrary,
     k: u8,
     signals: &[Signal],
+    forced: &[Sig],
     name: &[u8],
     literals: &[Literal],
 ) -> Result<(), NoMemory>
     requires { k < length library.now.library.cells }
     ensures { OnOk result (text.new ≡ text.old ++ cell_lines (ported_cells library.now) signals.now
-        name.now (ported_at library.now k) literals.now) }
+        forced.now name.now (ported_at library.now k) literals.now) }
 {
     let ports = ports_at(library, k);
     let pins = ports.pins.as_slice();
     add_inverters(alloc, text, library, signals, name, pins, literals)?;
-    let nets = gate_nets(alloc, signals, name, pins, literals)?;
+    let nets = gate_nets(alloc, signals, forced, name, pins, literals)?;
     let instance = instance_name(alloc, name)?;
     let cell = library.library().cell(k);
     add_placement(alloc, text, instance.bytes(), cell, ports, &nets)
@@ -115,19 +124,46 @@ fn add_instances(
 fn gate_nets(
     alloc: Global,
     signals: &[Signal],
+    forced: &[Sig],
     name: &[u8],
     pins: &[Name],
     literals: &[Literal],
 ) -> Result<Nets, NoMemory>
     ensures pins { IfOk result (λ nets. nets.pins.items
         ≡ structure.pin_nets signals.now name.now pins.now literals.now) }
-    ensures own { IfOk result (λ nets. (nets.read ≡ name.now) × (nets.driven ≡ name.now)) }
+    ensures own { IfOk result (λ nets. (nets.read ≡ name.now)
+        × (nets.driven ≡ structure.driven_net signals.now forced.now name.now)) }
 {
     Ok(Nets {
         pins: pin_nets(alloc, signals, name, pins, literals)?,
         read: Text::copy_of(alloc, name)?,
-        driven: Text::copy_of(alloc, name)?,
+        driven: driven_net(alloc, signals, forced, name)?,
     })
+}
+
+/// The net that the gate of a signal of this name drives: the signal, or its free net if it is
+/// forced.
+fn driven_net(
+    alloc: Global,
+    signals: &[Signal],
+    forced: &[Sig],
+    name: &[u8],
+) -> Result<Text, NoMemory>
+    ensures { IfOk result
+        (λ net. net ≡ structure.driven_net signals.now forced.now name.now) }
+{
+    if is_forced(signals, forced, name) {
+        free_net(alloc, name)
+    } else {
+        Text::copy_of(alloc, name)
+    }
+}
+
+/// Whether one of the forced signals has the name.
+fn is_forced(signals: &[Signal], forced: &[Sig], name: &[u8]) -> bool
+    ensures { result ≡ list_any (λ z. bytes_eq (name_of signals.now z) name.now) forced.now }
+{
+    forced.iter().any(|z| signal_name(signals, *z) == name)
 }
 
 /// The net at each pin.

@@ -5,6 +5,7 @@ ghost use Rattle.std.specs.List.{list_any};
 ghost use Rattle.si_base.specs.WellFormed.{IsNetlist};
 ghost use Rattle.si_netlist.specs.Loops.Parts.{gate_seen};
 ghost use Rattle.si_verilog.specs.ModuleText.{verilog_text};
+ghost use Rattle.si_resettable.specs.Forcing.{IsResetOf};
 ghost use Rattle.si_structure.specs.Laws.{IsPorted};
 ghost use Rattle.si_structure.specs.Meaning.{MeansStructure};
 ghost use Rattle.si_structure.specs.Refusals as refusals;
@@ -21,6 +22,7 @@ use crate::inverters::add_inverted_wires;
 use crate::lookup::inverter_of;
 use crate::placements::add_placements;
 use crate::refusal::Unstructured;
+use crate::reset::{add_forced_lines, add_free_wires, forced_by};
 use si_base::ids::{NoMemory, Sig};
 use si_base::text::Text;
 use si_cell::cell::Cell;
@@ -28,11 +30,14 @@ use si_cell::library::Library;
 use si_genlib::ports::PortedLibrary;
 use si_netlist::gate::Gate;
 use si_netlist::netlist::Netlist;
+use si_resettable::forcing::Forcing;
 use std::alloc::Global;
 
 /// The netlist as modules of Verilog: the cells of the library that it uses, and behind them the
 /// controller, with an instance of a cell for each gate. Ports have the names that stand beside the
-/// library. A complemented literal gets an inverter of its own, where that is asked for.
+/// library. A complemented literal gets an inverter of its own, where that is asked for. A reset
+/// input stands in front of the ports: while it is 1, the signals that it forces have their start
+/// values; while it is 0, each has the value of its gate.
 ///
 /// # Errors
 ///
@@ -44,18 +49,21 @@ pub fn write_structure(
     alloc: Global,
     library: &PortedLibrary,
     complements: Complements,
+    reset: &Option<Forcing>,
     netlist: &Netlist,
 ) -> Result<Text, Unstructured>
+    requires { IsResetOf netlist.now reset.now }
     ensures structured { IfOk result (λ _. IsStructured library.now complements netlist.now) }
-    ensures text { IfOk result (λ text. text ≡ structure_text library.now netlist.now) }
-    ensures means { IfOk result (λ text. MeansStructure text library.now netlist.now) }
+    ensures text { IfOk result (λ text. text ≡ structure_text library.now netlist.now reset.now) }
+    ensures means { IfOk result
+        (λ text. MeansStructure text library.now netlist.now reset.now) }
     ensures err { IfErr result (λ e. Shows library.now complements netlist.now e) }
 {
     check_gates(alloc, library.library(), complements, netlist)?;
     if model_is_cell(library, netlist) {
         return Err(Unstructured::ModelIsCell);
     }
-    let text = text_of(alloc, library, netlist)?;
+    let text = text_of(alloc, library, reset, netlist)?;
     Ok(text)
 }
 
@@ -142,8 +150,13 @@ fn has_complemented(gate: &Gate) -> bool
 }
 
 /// The text of the modules, and what holds of the library with its ports and of each netlist.
-fn text_of(alloc: Global, library: &PortedLibrary, netlist: &Netlist) -> Result<Text, NoMemory>
-    ensures text { IfOk result (λ text. text ≡ structure_text library.now netlist.now) }
+fn text_of(
+    alloc: Global,
+    library: &PortedLibrary,
+    reset: &Option<Forcing>,
+    netlist: &Netlist,
+) -> Result<Text, NoMemory>
+    ensures text { IfOk result (λ text. text ≡ structure_text library.now netlist.now reset.now) }
     ensures ported { OnOk result (IsPorted library.now) }
     ensures netlist { IsNetlist netlist.now }
 {
@@ -151,9 +164,12 @@ fn text_of(alloc: Global, library: &PortedLibrary, netlist: &Netlist) -> Result<
     let gates = netlist.gates();
     let mut text = Text::copy_of(alloc, b"")?;
     add_cells(alloc, &mut text, library, netlist)?;
-    add_head(&mut text, netlist.model().bytes(), signals)?;
+    add_head(&mut text, netlist.model().bytes(), reset, signals)?;
+    let forced = forced_by(reset);
+    add_free_wires(alloc, &mut text, signals, forced)?;
     add_inverted_wires(alloc, &mut text, library, signals, gates)?;
-    add_placements(alloc, &mut text, library, signals, gates)?;
+    add_forced_lines(alloc, &mut text, netlist, reset)?;
+    add_placements(alloc, &mut text, library, signals, forced, gates)?;
     text.add(b"endmodule\n")?;
     Ok(text)
 }

@@ -3,7 +3,6 @@ pub mod NetArcs
 pub mod InstanceLemmas
 pub mod Naming
 pub mod NoLoops
-pub mod SameLemmas
 pub mod Leaving
 pub mod Decisions
 pub mod Writing

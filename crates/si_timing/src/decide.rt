@@ -1,25 +1,19 @@
 //! Whether a gate is an instance of a cell of the library.
 
-ghost use Rattle.std.specs.Prelude.{◌≡◌, ◌≢◌, ◌<◌, ◌≤◌, All, IfOk, MatchOption, length};
-ghost use Rattle.std.specs.Prelude.{slice_index_or};
+ghost use Rattle.std.specs.Prelude.{◌<◌, ◌≤◌, All, IfOk, length};
 ghost use Rattle.std.specs.Bool.{Decides};
 ghost use Rattle.si_base.specs.Limits.{code_width, max_signals};
 ghost use Rattle.si_base.specs.Netlist.{Cell as CellGate};
 ghost use Rattle.si_base.specs.WellFormed.{IsGate};
 ghost use Rattle.si_netlist.specs.Loops.Parts.{gate_seen};
-ghost use Rattle.si_cell.specs.Expanded.{expanded};
-ghost use Rattle.si_cell.specs.Library.{cell_at, no_cell};
-ghost use Rattle.si_cell.specs.Limits.{max_cells, max_pins};
+ghost use Rattle.si_cell.specs.Limits.{max_pins};
 ghost use Rattle.si_timing.specs.Refusals.{IsCellGate};
 
-use arrayvec::ArrayVec;
 use si_base::ids::{Literal, NoMemory, Sig};
-use si_cell::cell::{Cell, Instance, PinLiteral};
-use si_cell::expand::expand;
 use si_cell::library::Library;
-use si_cube::cube::Cube;
 use si_cube::sum::Sum;
 use si_netlist::gate::Gate;
+use si_structure::decide::{is_instance, place_of};
 use std::alloc::Global;
 
 /// Whether the gate of signal `z` is an instance of a cell of the library, by any literals.
@@ -65,84 +59,4 @@ fn is_cell(
         Some(cell) => is_instance(alloc, library, z, cell, literals, sum),
         None => Ok(false),
     }
-}
-
-/// The place of the cell of the name, from 0.
-pub(crate) fn place_of(cells: &[Cell], name: &[u8]) -> Option<u8>
-    requires { length cells.now ≤ max_cells }
-    ensures { MatchOption result (All (λ c. c.name ≢ name.now) cells.now)
-        (λ k. (k < length cells.now)
-        × ((slice_index_or cells.now k no_cell).name ≡ name.now)) }
-{
-    for (k, cell) in cells.iter().enumerate() {
-        if cell.name.bytes() == name {
-            return Some(k as u8);
-        }
-    }
-    None
-}
-
-/// Whether the cell at that place has a pin for each of these literals, and the sum, over them and
-/// signal `z`. It fails only where memory runs out.
-fn is_instance(
-    alloc: Global,
-    library: &Library,
-    z: Sig,
-    cell: u8,
-    literals: &[Literal],
-    sum: &Sum,
-) -> Result<bool, NoMemory>
-    requires signal { z < code_width }
-    requires cell { cell < length library.now.cells }
-    requires few { length literals.now ≤ max_pins }
-    requires there { All (λ l. l.sig < code_width) literals.now }
-    ensures { IfOk result (λ is. Decides is
-        ((length literals.now ≡ length (cell_at library.now cell).pins) × (sum.now
-        ≡ expanded library.now (record { cell = cell; literals = literals.now }) z))) }
-{
-    if literals.len() != library.cell(cell).pins.len() {
-        return Ok(false);
-    }
-    let instance = instance_of(cell, literals);
-    let wanted = expand(alloc, library, &instance, z)?;
-    Ok(same_cubes(sum.cubes(), wanted.cubes()))
-}
-
-/// The cell at that place with these literals.
-fn instance_of(cell: u8, literals: &[Literal]) -> Instance
-    requires { length literals.now ≤ max_pins }
-    ensures { result ≡ record { cell = cell; literals = literals.now } }
-{
-    let mut at_pins = ArrayVec::new();
-    for literal in literals {
-        at_pins.push(PinLiteral(*literal));
-    }
-    Instance {
-        cell,
-        literals: at_pins,
-    }
-}
-
-/// Whether two lists of cubes are the same.
-fn same_cubes(a: &[Cube], b: &[Cube]) -> bool
-    ensures { Decides result (a.now ≡ b.now) }
-{
-    let mut left = b;
-    for cube in a {
-        let [first, rest @ ..] = left else {
-            return false;
-        };
-        if !is_same(cube, first) {
-            return false;
-        }
-        left = rest;
-    }
-    left.is_empty()
-}
-
-/// Whether two cubes have the same literals.
-fn is_same(a: &Cube, b: &Cube) -> bool
-    ensures { Decides result (a.now ≡ b.now) }
-{
-    a.care.0 == b.care.0 && a.value.0 == b.value.0
 }

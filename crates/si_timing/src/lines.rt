@@ -8,7 +8,6 @@ ghost use Rattle.si_timing.specs.Instances.{arc_from};
 ghost use Rattle.si_timing.specs.TimingText.{cut_of_gate, disabled_line, own_arcs, own_of_gate};
 ghost use Rattle.si_timing.specs.TimingText.{pin_arcs};
 
-use crate::decide::place_of;
 use crate::feedback::reads_own;
 use si_base::graph::{Signal, signal_name};
 use si_base::ids::{Literal, NoMemory, Sig};
@@ -17,6 +16,7 @@ use si_cell::cell::Cell;
 use si_genlib::ports::{PortedLibrary, Ports};
 use si_loops::arcs::Arc;
 use si_netlist::gate::Gate;
+use si_structure::decide::place_of;
 use std::alloc::Global;
 
 /// Adds the lines for an arc that is cut, at the gate where it ends: none where that has no cell.

@@ -32,18 +32,20 @@ abbrev pub lines_of : List Placement → List ℕ
 lines_of placements = flat_map placement_line placements
 
 -- those of a cell with these literals
-abbrev pub cell_lines : List PortedCell → List Signal → List ℕ → PortedCell → List Literal → List ℕ
-cell_lines cells signals name c literals =
-    lines_of (in_order (cell_instances cells signals name c literals))
+abbrev pub cell_lines : List PortedCell → List Signal → (forced name : List ℕ) → PortedCell
+    → List Literal → List ℕ
+cell_lines cells signals forced name c literals =
+    lines_of (in_order (cell_instances cells signals forced name c literals))
 
-abbrev pub gate_lines : List PortedCell → List Signal → List ℕ → Gate → List ℕ
-gate_lines cells signals name gate =
-    lines_of (flat_map in_order (gate_instances cells signals name gate))
+abbrev pub gate_lines : List PortedCell → List Signal → (forced name : List ℕ) → Gate → List ℕ
+gate_lines cells signals forced name gate =
+    lines_of (flat_map in_order (gate_instances cells signals forced name gate))
 
 -- those of the gates, with the next of the non-inputs among these signals
-abbrev pub placement_lines : List PortedCell → List Signal → List Signal → List Gate → List ℕ
-placement_lines cells all signals gates =
-    flat_map (λ p. gate_lines cells all p.0.name p.1) (driven_gates signals gates)
+abbrev pub placement_lines : List PortedCell → List Signal → (forced : List ℕ) → List Signal
+    → List Gate → List ℕ
+placement_lines cells all forced signals gates =
+    flat_map (λ p. gate_lines cells all forced p.0.name p.1) (driven_gates signals gates)
 
 -- the line of the inverter at a pin, if there is a cell for it
 abbrev pub inverter_line : List PortedCell → (name pin source : List ℕ) → List ℕ

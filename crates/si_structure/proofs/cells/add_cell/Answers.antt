@@ -11,6 +11,6 @@ returns c = left_as _ _ _ _
     (c.bytes.ensures ∙ ap (λ (x : Cell). x.name) c.cell.view_is)
     (c.bytes-2.ensures ∙ ap (λ (p : Ports). p.output) c.ports.view_is)
     (c.as_slice-signals.ensures.value ∙ c.in_ok-made.ensures)
-    (c.in_ok-sum.ensures ∙ ap (λ (x : Cell). x.sum) c.cell.view_is)
+    (c.in_ok-widened.ensures ∙ ap (λ (x : Cell). x.sum) c.cell.view_is)
     c.in_ok-add_head.ensures c.in_ok-add.ensures.added c.in_ok-add_name.ensures c.in_ok-add-2.ensures.added
-    c.in_ok-add_sum.ensures) c.add-3.ensures.added
+    c.in_ok-add_gate.ensures) c.add-3.ensures.added

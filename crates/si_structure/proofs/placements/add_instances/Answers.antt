@@ -9,7 +9,7 @@ use Rattle.si_structure.proofs.placements.add_instances.Goals as goal
 
 pub returns : goal.returns
 returns c = left_as _ _ _ _
-    (instances_by_calls (ported_cells c.args.library.now) c.args.signals.now c.args.name.now
+    (instances_by_calls (ported_cells c.args.library.now) c.args.signals.now c.args.forced.now c.args.name.now
     (ported_at c.args.library.now c.args.k) c.args.literals.now _ _ _ _ _ _ _ c.args.text.now _
     (c.as_slice-pins.ensures.value ∙ ap (λ (p : Ports). p.pins) (c.ports.view_is ∙ c.ports_at-ports.ensures))
     (c.cell-cell.ensures.cell ∙ ap (λ (l : Library). cell_at l c.args.k) c.library.ensures)

@@ -6,5 +6,5 @@ use Rattle.si_structure.proofs.placements.add_placements.Given as goal
 
 abbrev pub invariant-loop-signal : goal.invariant-loop-signal
 invariant-loop-signal l =
-    l.text ++ placements_left (ported_cells l.library) l.signals l.signal-index (map gate_seen l.gates)
-    ≡ l.initial.text ++ placements_left (ported_cells l.library) l.signals 0 (map gate_seen l.initial.gates)
+    l.text ++ placements_left (ported_cells l.library) l.signals l.forced l.signal-index (map gate_seen l.gates)
+    ≡ l.initial.text ++ placements_left (ported_cells l.library) l.signals l.forced 0 (map gate_seen l.initial.gates)

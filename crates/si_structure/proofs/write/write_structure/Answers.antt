@@ -10,8 +10,9 @@ returns-clause-means c =
     let library = c.args.library.now in
     let complements = c.args.complements in
     let n = c.args.netlist.now in
-    subst (λ (t : List ℕ). MeansStructure t library n) (sym c.in_ok-text.ensures.text)
-    (text_means library complements n c.in_ok-text.ensures.ported c.text_of.ensures.netlist (record {
+    let reset = c.args.reset.now in
+    subst (λ (t : List ℕ). MeansStructure t library n reset) (sym c.in_ok-text.ensures.text)
+    (text_means library complements n reset c.in_ok-text.ensures.ported c.text_of.ensures.netlist (record {
       placed = subst (λ (l : Library). AllPlaced l complements n) c.library.ensures c.in_ok-check_gates.ensures.ok;
       model = sym c.if-model_is_cell.ensures;
-    }))
+    }) c.requires)
