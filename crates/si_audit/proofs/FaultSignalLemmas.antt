@@ -38,7 +38,7 @@ moves_in g classes x y e n graph more (inl copied) =
     (let parts = step_within g x.state e y.state graph copied.step in omega (arith, parts.1))
 moves_in g classes x y e n graph more (inr switch) = omega (arith, switch.new)
 
-among : (g : StateGraph) (classes : List Class) (signals : List Signal) (why : Rejected) → IsGraph g
+pub among : (g : StateGraph) (classes : List Class) (signals : List Signal) (why : Rejected) → IsGraph g
     → length g.signals < length signals → length signals ≤ max_signals → ShowsRejected g classes why
     → AreAmong signals why
 among g classes signals (DelaysInput s e) graph more few shows =

@@ -25,6 +25,16 @@ pub struct Netlist {
     gates: Vec<Gate>,
 }
 
+/// What a netlist is made of.
+#[derive(Drop)]
+pub struct Parts {
+    pub model: Name,
+    pub signals: Vec<Signal>,
+    pub start: Code,
+    pub inserts: Vec<Insert>,
+    pub gates: Vec<Gate>,
+}
+
 impl Model for Netlist {
     ghost use Rattle.std.specs.Prelude.{map};
     ghost use Rattle.si_base.specs.Netlist as base;
@@ -75,6 +85,33 @@ impl Netlist {
         } }
     {
         Netlist {
+            model,
+            signals,
+            start,
+            inserts,
+            gates,
+        }
+    }
+
+    /// What the netlist is made of.
+    pub fn into_parts(self) -> Parts
+        ensures parts { self ≡ record {
+          model = result.model;
+          signals = result.signals.items;
+          start = result.start;
+          inserts = result.inserts.items;
+          gates = map gate_seen result.gates.items;
+        } }
+        ensures netlist { IsNetlist self }
+    {
+        let Netlist {
+            model,
+            signals,
+            start,
+            inserts,
+            gates,
+        } = self;
+        Parts {
             model,
             signals,
             start,

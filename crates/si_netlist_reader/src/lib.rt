@@ -1,7 +1,8 @@
-//! The text of a netlist as it is read, and the law that writing and reading are inverse.
+//! The text of a netlist as it is read, and the law that writing and reading are inverse. A gate
+//! line can be read alone.
 #![tactic(auto)]
 
-mod gate_reader;
+pub mod gate_reader;
 mod gate_rows;
 mod header;
 mod insertions;

@@ -10,6 +10,7 @@ use Rattle.si_refusals.specs.Refusal.{BadText, ListsDiffer, Improper, Unresolved
 use Rattle.si_refusals.specs.Refusal.{Uncomposed, Interfering, Uncertified, JoinedTooLarge, Complemented}
 use Rattle.si_refusals.specs.declared.breach.NamedBreach.TheVariants.{Inconsistent}
 use Rattle.si_refusals.specs.declared.rejection.NamedRejection.TheVariants.{Delays, Start, Gate}
+use Rattle.si_refusals.specs.declared.rejection.NamedRejection.TheVariants.{Astray, TooMany, Both, Leaves}
 use Rattle.si_refusals.specs.declared.uncomposed.NamedCause.TheVariants.{Interferes}
 use Rattle.si_refusals.specs.declared.status.Status.TheVariants as status
 
@@ -47,6 +48,21 @@ gate_line = refl
 delays_line : line_of (Answered (TextRefused (Rejected (Delays 1 (codes "s5") (codes "DSr-")))))
     ≡ codes "rejected insert " ++ decimal 1 ++ codes " delays s5 DSr-\n"
 delays_line = simp append_assoc
+
+astray_line : line_of (Answered (TextRefused (Rejected (Astray (codes "LDS") (codes "s0@1")))))
+    ≡ codes "rejected astray LDS s0@1\n"
+astray_line = refl
+
+too_many_line : line_of (Answered (TextRefused (Rejected TooMany)))
+    ≡ codes "rejected states " ++ decimal 262144 ++ codes "\n"
+too_many_line = simp append_assoc
+
+both_line : line_of (Answered (TextRefused (Rejected (Both 2 (codes "s3@1")))))
+    ≡ codes "rejected insert " ++ decimal 2 ++ codes " both s3@1\n"
+both_line = simp append_assoc
+
+leaves_line : line_of (Answered (TextRefused (Rejected (Leaves (codes "s3"))))) ≡ codes "rejected leaves s3\n"
+leaves_line = refl
 
 rejected_status : status_of (Answered (TextRefused (Rejected (Start (codes "csc0"))))) ≡ status.Rejected
 rejected_status = refl

@@ -1,12 +1,14 @@
-//! Why a netlist isn't certified for a graph, by the words of states and events and the names of
-//! signals.
+//! Why a netlist isn't certified for a graph, or why a gate makes no new signal, by the words of
+//! states and events and the names of signals.
 
 ghost use Rattle.std.specs.Prelude.{◌≡◌, [], ◌∷◌, ◌++◌, IfOk, OnOk, codes, decimal};
+ghost use Rattle.si_base.specs.Limits.{max_states};
 ghost use Rattle.si_base.specs.Words.{line};
 ghost use Rattle.si_refusals.specs.Rejection.{insert_words, reason_words};
 ghost use Rattle.si_words.specs.Loops.Reads.{words_now};
 
 use si_base::ids::NoMemory;
+use si_base::limits::MAX_STATES;
 use si_base::text::{Name, Text};
 use si_netlist::name_list::NameList;
 use si_netlist::write::add_words;
@@ -15,6 +17,41 @@ use std::alloc::Global;
 /// Why a netlist isn't certified for a graph: the first reason. Insertions are counted from 1.
 #[derive(Drop)]
 pub enum NamedRejection {
+    /// A gate moves the signal where the graph doesn't, at a state that the netlist and the graph
+    /// reach together.
+    Astray {
+        signal: Name,
+        state: Name,
+    },
+    /// The netlist and the graph reach more states together than a graph may have.
+    TooMany,
+    /// The signal of insertion `k` never rises.
+    NeverUp {
+        k: u32,
+    },
+    /// The signal of insertion `k` never falls.
+    NeverDown {
+        k: u32,
+    },
+    /// At the state the signal of insertion `k` is met with both values.
+    Both {
+        k: u32,
+        state: Name,
+    },
+    /// The gate of the new signal forces no value on the part of the graph around the state.
+    Unforced {
+        state: Name,
+    },
+    /// The gate of the new signal forces either value on the part of the graph around the state.
+    Contrary {
+        state: Name,
+    },
+    /// At the state the gate of the new signal leaves the value that its part forces.
+    Leaves {
+        state: Name,
+    },
+    /// The gate of the new signal forces one value alone.
+    Constant,
     /// The words of insertion `k` don't name two sets of states.
     States {
         k: u32,
@@ -91,6 +128,19 @@ fn add_reason(alloc: Global, words: &mut NameList, reason: &NamedRejection) -> R
     ensures { OnOk result (words.new ≡ words.old ++ reason_words reason.now) }
 {
     match reason {
+        NamedRejection::Astray { signal, state } => {
+            add_all(words, &[b"astray", signal.bytes(), state.bytes()])
+        }
+        NamedRejection::TooMany => add_too_many(alloc, words),
+        NamedRejection::NeverUp { k } => add_insert(alloc, words, *k, &[b"never", b"up"]),
+        NamedRejection::NeverDown { k } => add_insert(alloc, words, *k, &[b"never", b"down"]),
+        NamedRejection::Both { k, state } => {
+            add_insert(alloc, words, *k, &[b"both", state.bytes()])
+        }
+        NamedRejection::Unforced { state } => add_all(words, &[b"unforced", state.bytes()]),
+        NamedRejection::Contrary { state } => add_all(words, &[b"contrary", state.bytes()]),
+        NamedRejection::Leaves { state } => add_all(words, &[b"leaves", state.bytes()]),
+        NamedRejection::Constant => add_all(words, &[b"constant"]),
         NamedRejection::States { k } => add_insert(alloc, words, *k, &[b"states"]),
         NamedRejection::Classes { k } => add_insert(alloc, words, *k, &[b"classes"]),
         NamedRejection::Delays { k, state, event } => {
@@ -108,6 +158,17 @@ fn add_reason(alloc: Global, words: &mut NameList, reason: &NamedRejection) -> R
             add_all(words, &[b"gate", signal.bytes(), state.bytes()])
         }
     }
+}
+
+/// Puts last the words of more states than a graph may have.
+fn add_too_many(alloc: Global, words: &mut NameList) -> Result<(), NoMemory>
+    ensures { OnOk result
+        (words.new ≡ words.old ++ codes "states" ∷ decimal max_states ∷ []) }
+{
+    let Ok(states) = MAX_STATES.to_string(alloc) else {
+        return Err(NoMemory);
+    };
+    add_all(words, &[b"states", states.as_bytes()])
 }
 
 /// Puts last the words of a reason against insertion number `k`.

@@ -126,8 +126,9 @@ pub(crate) fn rejection(alloc: Global, signals: &[Signal], fault: AuditFault) ->
     }
 }
 
-/// The fault by the names of signals and the words of events.
-fn reason_of(
+/// The fault of an audit by the names of these signals and the words of their events. It fails only
+/// where memory runs out.
+pub fn reason_of(
     alloc: Global,
     signals: &[Signal],
     fault: AuditFault,

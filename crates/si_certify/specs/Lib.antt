@@ -1,0 +1,4 @@
+pub mod Hidden
+pub mod Certify
+pub mod Laws
+pub mod Loops

@@ -1,0 +1,2 @@
+-- What the parts of a computation keep: for the proofs of the code, and in no promise of a run.
+pub mod There

@@ -1,0 +1,3 @@
+pub mod NotFound
+pub mod Laws
+pub mod Loops
