@@ -163,8 +163,10 @@ fn switching_words(
     Ok(words)
 }
 
-/// The word of a state after k insertions.
-fn state_word(
+/// The word of a state after k insertions: the name of the given state from which it comes, and,
+/// where k isn't 0, `@` and the values of the k inserted signals in order of insertion. It fails only
+/// where memory runs out.
+pub fn state_word(
     alloc: Global,
     states: &Names,
     k: usize,

@@ -19,6 +19,7 @@ pub mod SwitchTurns
 pub mod SwitchLoops
 pub mod SameForced
 pub mod PartitionForAnswers
+pub mod FirstWords
 pub mod FunctionLemmas
 pub mod SameFunction
 pub mod SwitchingOutside

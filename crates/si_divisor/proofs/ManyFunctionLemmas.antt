@@ -258,9 +258,8 @@ module _ (g : StateGraph) (P : Event → Type 0) (all : (e : Event) → e.sig < 
 pub sized : (k : ℕ) (words : List ℕ) → length (column k words) ≡ length words
 sized k words = length-map words (λ (w : ℕ). bit w k)
 
-module _ (c : CodedGraph) (functions : List Function) (words : SettledWords) (held passes : List ℕ) (is : IsCoded c)
-    (up_are : AreForcedWords c functions true words.up.items)
-    (down_are : AreForcedWords c functions false words.down.items)
+module _ (c : CodedGraph) (words : SettledWords) (held passes : List ℕ) (is : IsCoded c)
+    (up_size : length words.up.items ≡ c.graph.states) (down_size : length words.down.items ≡ c.graph.states)
     (held_are : AreHeldWords words.up.items words.down.items held)
     (all : HasAll (2 * length c.graph.signals) passes)
     (at_one : (k : ℕ) → IsClosureBy c.graph (Passes passes k) (column k held) (column k words.up.items)
@@ -272,7 +271,7 @@ module _ (c : CodedGraph) (functions : List Function) (words : SettledWords) (he
 
   holding : (k : ℕ) → k < 128 → (s : ℕ) → s < c.graph.states
       → get_or (column k held) s false ≡ holds (Forces k) s
-  holding k few s within = column-at k held s ∙ held_are.each k s few (omega (arith, within, up_are.size))
+  holding k few s within = column-at k held s ∙ held_are.each k s few (omega (arith, within, up_size))
       ∙ ap₂ (λ x y. not x && not y) (sym (column-at k words.up.items s)) (sym (column-at k words.down.items s))
 
   settling : (k : ℕ) → k < 128 → (b : Bool) (seeds found : List Bool) → length seeds ≡ c.graph.states
@@ -288,15 +287,15 @@ module _ (c : CodedGraph) (functions : List Function) (words : SettledWords) (he
 
   pub are_settled_words : AreSettledWords c.graph words
   are_settled_words = record {
-    up_size = up_are.size;
-    down_size = down_are.size;
+    up_size = up_size;
+    down_size = down_size;
     ones_size = sym (sized 0 words.ones.items) ∙ (at_one 0).size;
     zeros_size = sym (sized 0 words.zeros.items) ∙ (at_zero 0).size;
     each = λ k few. record {
       at_one = settling k few true (column k words.up.items) (column k words.ones.items)
-          (sized k words.up.items ∙ up_are.size) (λ s within. refl) (at_one k);
+          (sized k words.up.items ∙ up_size) (λ s within. refl) (at_one k);
       at_zero = settling k few false (column k words.down.items) (column k words.zeros.items)
-          (sized k words.down.items ∙ down_are.size) (λ s within. refl) (at_zero k);
+          (sized k words.down.items ∙ down_size) (λ s within. refl) (at_zero k);
     };
   }
 

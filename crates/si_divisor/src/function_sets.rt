@@ -155,9 +155,25 @@ pub(crate) fn settled_words(
     ensures down { IfOk result (λ r. AreForcedWords graph.now functions.now false r.down.items) }
     ensures settled { IfOk result (AreSettledWords graph.now.graph) }
 {
-    let coded = graph.coded();
-    let g = coded.graph();
-    let ForcedWords { up, down } = forced_words(alloc, coded, functions)?;
+    let ForcedWords { up, down } = forced_words(alloc, graph.coded(), functions)?;
+    settled_for(alloc, graph, up, down)
+}
+
+/// Where states settle, by words that say what is forced to 1 and to 0. It fails only where memory
+/// runs out.
+pub(crate) fn settled_for(
+    alloc: Global,
+    graph: &Proper,
+    up: Vec<u128>,
+    down: Vec<u128>,
+) -> Result<SettledWords, NoMemory>
+    requires up_size { length up.items ≡ graph.now.graph.states }
+    requires down_size { length down.items ≡ graph.now.graph.states }
+    ensures up { IfOk result (λ r. r.up.items ≡ up.items) }
+    ensures down { IfOk result (λ r. r.down.items ≡ down.items) }
+    ensures settled { IfOk result (AreSettledWords graph.now.graph) }
+{
+    let g = graph.coded().graph();
     let held = held_words(alloc, &up, &down)?;
     let passes = everywhere(alloc, 2 * g.signals().len() as u32)?;
     let ones = closures(alloc, g, &passes, &held, &up)?;

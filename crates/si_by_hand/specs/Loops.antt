@@ -1,0 +1,5 @@
+-- What the parts of a computation keep: for the proofs of the code, and in no promise of a run.
+pub mod NewNames
+pub mod ForcedSets
+pub mod NoneTold
+pub mod Handed
