@@ -26,9 +26,10 @@ use Rattle.si_commands.proofs.FormMeets.{overlaps}
 use Rattle.si_commands.specs.declared.table.Row.{Row as HeldRow}
 use Rattle.si_commands.specs.declared.task.Task.{Task}
 use Rattle.si_commands.specs.declared.task.Task.TheVariants.{About, Tell, Synth, Map, FromGenlib, Verilog, Replay}
-use Rattle.si_commands.specs.declared.task.Task.TheVariants.{Audit}
+use Rattle.si_commands.specs.declared.task.Task.TheVariants.{Audit, Certify, InsertGate}
 use Rattle.si_commands.specs.declared.task.Task.TheVariants.{TellNetlist, Resolve, Insert, Same, Exercise, Suggest}
 use Rattle.si_commands.specs.declared.task.Task.TheVariants.{Structure, Equations, Resettable, Timing}
+use Rattle.si_commands.specs.declared.task.Task.TheVariants.{ResettableStructure}
 use Rattle.si_commands.specs.declared.task.Task.TheVariants as task
 use Rattle.si_commands.specs.declared.task.Together.{Together}
 use Rattle.si_commands.specs.declared.task.Together.TheVariants as together
@@ -75,11 +76,14 @@ each_listed (Map Cells) = (place (Map Cells), lit≤ tt, refl)
 each_listed (Map Gates) = (place (Map Gates), lit≤ tt, refl)
 each_listed Resolve = (place Resolve, lit≤ tt, refl)
 each_listed Insert = (place Insert, lit≤ tt, refl)
+each_listed InsertGate = (place InsertGate, lit≤ tt, refl)
 each_listed FromGenlib = (place FromGenlib, lit≤ tt, refl)
 each_listed Verilog = (place Verilog, lit≤ tt, refl)
 each_listed Resettable = (place Resettable, lit≤ tt, refl)
 each_listed (Structure Cells) = (place (Structure Cells), lit≤ tt, refl)
 each_listed (Structure Gates) = (place (Structure Gates), lit≤ tt, refl)
+each_listed (ResettableStructure Cells) = (place (ResettableStructure Cells), lit≤ tt, refl)
+each_listed (ResettableStructure Gates) = (place (ResettableStructure Gates), lit≤ tt, refl)
 each_listed Equations = (place Equations, lit≤ tt, refl)
 each_listed (TellNetlist Loops) = (place (TellNetlist Loops), lit≤ tt, refl)
 each_listed (TellNetlist Reset) = (place (TellNetlist Reset), lit≤ tt, refl)
@@ -88,6 +92,7 @@ each_listed (Timing Gates) = (place (Timing Gates), lit≤ tt, refl)
 each_listed (Replay End) = (place (Replay End), lit≤ tt, refl)
 each_listed (Replay Wave) = (place (Replay Wave), lit≤ tt, refl)
 each_listed Audit = (place Audit, lit≤ tt, refl)
+each_listed Certify = (place Certify, lit≤ tt, refl)
 each_listed Same = (place Same, lit≤ tt, refl)
 each_listed (task.Together together.Product) = (place (task.Together together.Product), lit≤ tt, refl)
 each_listed (task.Together together.Compose) = (place (task.Together together.Compose), lit≤ tt, refl)
@@ -190,6 +195,19 @@ pub two_files_placed : (kind : LibraryKind) (count : ℕ)
     → IsCount 2 0 count
 two_files_placed Cells count many = many
 two_files_placed Gates count many = many
+
+pub two_files_reset : (kind : LibraryKind) (count : ℕ)
+    → IsCount (file_count (form_of (ResettableStructure kind)).places)
+    (more_files (form_of (ResettableStructure kind)).tail) count → IsCount 2 0 count
+two_files_reset Cells count many = many
+two_files_reset Gates count many = many
+
+-- and a word is chosen there
+pub some_reset : (kind : LibraryKind) (count : ℕ)
+    → IsCount (choice_count (form_of (ResettableStructure kind)).places)
+    (more_choices (form_of (ResettableStructure kind)).tail) count → 1 ≤ count
+some_reset Cells count many = many.low
+some_reset Gates count many = many.low
 
 pub two_files_timed : (kind : LibraryKind) (count : ℕ)
     → IsCount (file_count (form_of (Timing kind)).places) (more_files (form_of (Timing kind)).tail) count

@@ -1,9 +1,9 @@
 -- One file, two and three, by their names and their texts.
-use Rattle.std.proofs.Common.{◌≡◌, ℕ, ◌+◌, ◌<◌, List, [], ◌∷◌, ◌++◌, length, take, drop, get_or, sym, ap, ◌∙◌, arith}
-use Rattle.std.proofs.Common.{Bor, Vec, Global, add-one}
+use Rattle.std.proofs.Common.{◌≡◌, ℕ, ◌+◌, ◌-◌, ◌<◌, ◌≤◌, List, [], ◌∷◌, ◌++◌, length, take, drop, get_or, sym}
+use Rattle.std.proofs.Common.{ap, ◌∙◌, Bor, Vec, Global, add-one, arith}
 use Rattle.std.proofs.Math.ListN.{get_or-map}
 use Rattle.std.proofs.Math.Seq.{take-suc}
-use Rattle.std.proofs.lemmas.List.{take-append-drop, length-map}
+use Rattle.std.proofs.lemmas.List.{take-append-drop, take_all, length-map}
 use Rattle.si_words.specs.Loops.Reads.{words_now}
 use Rattle.si_commands.proofs.FormLemmas.{IsCount, at_place}
 use Rattle.si_commands.specs.Loops.Reads.{texts_now}
@@ -70,6 +70,15 @@ pub read_choice : (choices : List (Bor (List ℕ))) → IsCount 1 0 (length choi
 read_choice choices count =
     let many : length choices ≡ 1 = omega (arith, count.low, count.high) in
     one_name choices many
+
+-- the first of them, and the others
+pub read_name : (choices : List (Bor (List ℕ))) → 1 ≤ length choices
+    → words_now choices ≡ (get_or choices 0 no_name).now ∷ words_now (take (length choices - 1) (drop 1 choices))
+read_name [] some = absurd (omega (arith, some))
+read_name (a ∷ choices) some =
+    let all : take (length (a ∷ choices) - 1) choices ≡ choices =
+    take_all (length (a ∷ choices) - 1) choices (omega arith) in
+    ap (λ (others : List (Bor (List ℕ))). a.now ∷ words_now others) (sym all)
 
 pub read_two : (files : List (Bor (List ℕ))) (texts : List (Vec ℕ Global)) (a b : Vec ℕ Global) (x y : List ℕ)
     → IsCount 2 0 (length files) → length texts ≡ length files → a ≡ get_or texts 0 a → b ≡ get_or texts 1 b

@@ -17,8 +17,10 @@ use Rattle.si_commands.specs.declared.task.Task.TheVariants.{About, Tell, Synth,
 use Rattle.si_commands.specs.declared.task.Task.TheVariants.{Verilog, Replay, Audit, Exercise}
 use Rattle.si_commands.specs.declared.task.Task.TheVariants as task
 use Rattle.si_commands.specs.declared.task.Task.TheVariants.{TellNetlist, Resolve, Insert, Same}
+use Rattle.si_commands.specs.declared.task.Task.TheVariants.{Certify, InsertGate}
 use Rattle.si_commands.specs.declared.task.Task.TheVariants.{Suggest, Structure, Equations}
-use Rattle.si_commands.specs.declared.task.Task.TheVariants.{Resettable, Timing}
+use Rattle.si_commands.specs.declared.task.Task.TheVariants.{Resettable, ResettableStructure}
+use Rattle.si_commands.specs.declared.task.Task.TheVariants.{Timing}
 use Rattle.si_readings.specs.declared.library_format.LibraryFormat.{LibraryFormat}
 use Rattle.si_readings.specs.declared.library_format.LibraryFormat.TheVariants.{Own, Genlib}
 use Rattle.si_reports.specs.declared.netlist_report.NetlistReport.{NetlistReport}
@@ -149,9 +151,9 @@ command_words = codes "check" ∷ codes "states" ∷ codes "regions" ∷ codes "
     ∷ codes "explain" ∷ codes "lint" ∷ codes "covers" ∷ codes "fold" ∷ codes "dot" ∷ codes "synth"
     ∷ codes "suggest" ∷ codes "map" ∷ codes "resolve" ∷ codes "insert" ∷ codes "genlib"
     ∷ codes "verilog" ∷ codes "eqn"
-    ∷ codes "loops" ∷ codes "reset" ∷ codes "replay" ∷ codes "wave" ∷ codes "audit" ∷ codes "same"
-    ∷ codes "product" ∷ codes "compose" ∷ codes "join" ∷ codes "works" ∷ codes "exercise"
-    ∷ codes "help" ∷ codes "--version" ∷ []
+    ∷ codes "loops" ∷ codes "reset" ∷ codes "replay" ∷ codes "wave" ∷ codes "audit"
+    ∷ codes "certify" ∷ codes "same" ∷ codes "product" ∷ codes "compose" ∷ codes "join"
+    ∷ codes "works" ∷ codes "exercise" ∷ codes "help" ∷ codes "--version" ∷ []
 
 abbrev pub command_slot : Slot
 command_slot = OneOf (codes "COMMAND") command_words
@@ -214,6 +216,10 @@ row_of Resolve =
 row_of Insert =
     row (Word (codes "insert") ∷ File graph_name ∷ File netlist_name ∷ [])
     (codes "the graph after insertions of a netlist")
+row_of InsertGate =
+    row
+    (Word (codes "insert") ∷ File graph_name ∷ Word (codes "gate") ∷ File genlib_name ∷ [])
+    (codes "the graph with a signal for a gate")
 row_of FromGenlib =
     row (Word (codes "genlib") ∷ LoneFile genlib_name ∷ [])
     (codes "a library of genlib as a library of cells")
@@ -221,7 +227,8 @@ row_of Verilog =
     row (Word (codes "verilog") ∷ LoneFile netlist_name ∷ [])
     (codes "a netlist as a module of Verilog")
 row_of Resettable =
-    row (Word (codes "verilog") ∷ File netlist_name ∷ Word (codes "reset") ∷ Name (codes "NAME") ∷ [])
+    row
+    (Word (codes "verilog") ∷ File netlist_name ∷ Word (codes "reset") ∷ Name (codes "NAME") ∷ [])
     (codes "the same with an input that resets it")
 row_of (Structure Cells) =
     row_with
@@ -231,6 +238,16 @@ row_of (Structure Gates) =
     row_with
     (Word (codes "verilog") ∷ File netlist_name ∷ Word (codes "genlib") ∷ File genlib_name ∷ [])
     (Options structure_options) (codes "the same of gates of genlib")
+row_of (ResettableStructure Cells) =
+    row_with
+    (Word (codes "verilog") ∷ File netlist_name ∷ LibraryFile (codes "LIB") verilog_words
+    ∷ Word (codes "reset") ∷ Name (codes "NAME") ∷ [])
+    (Options structure_options) (codes "cells, with a reset input")
+row_of (ResettableStructure Gates) =
+    row_with
+    (Word (codes "verilog") ∷ File netlist_name ∷ Word (codes "genlib") ∷ File genlib_name
+    ∷ Word (codes "reset") ∷ Name (codes "NAME") ∷ [])
+    (Options structure_options) (codes "the same of genlib")
 row_of Equations =
     row (Word (codes "eqn") ∷ LoneFile netlist_name ∷ []) (codes "a netlist as equations")
 row_of (Timing Cells) =
@@ -249,6 +266,9 @@ row_of (Replay report) =
 row_of Audit =
     row (Word (codes "audit") ∷ File graph_name ∷ File netlist_name ∷ [])
     (codes "whether a netlist is certified for a graph")
+row_of Certify =
+    row (Word (codes "certify") ∷ File graph_name ∷ File netlist_name ∷ [])
+    (codes "a netlist with insertions told by its gates")
 row_of Same =
     row (Word (codes "same") ∷ File graph_name ∷ File (codes "G") ∷ [])
     (codes "whether two graphs behave alike")
@@ -270,12 +290,13 @@ abbrev pub tasks : List Task
 tasks = Tell Summary ∷ Tell States ∷ Tell Regions ∷ Tell Conflicts ∷ Tell Explain ∷ Tell Lint
     ∷ Tell Covers ∷ Tell Fold ∷ Tell Dot ∷ Synth Complex ∷ Synth GeneralisedC
     ∷ Suggest Complex ∷ Suggest GeneralisedC ∷ Map Cells
-    ∷ Map Gates ∷ Resolve ∷ Insert ∷ FromGenlib
-    ∷ Verilog ∷ Resettable ∷ Structure Cells ∷ Structure Gates ∷ Equations
-    ∷ TellNetlist Loops ∷ Timing Cells ∷ Timing Gates ∷ TellNetlist Reset ∷ Replay End ∷ Replay Wave ∷ Audit ∷ Same
-    ∷ task.Together together.Product ∷ task.Together together.Compose
-    ∷ task.Together together.Join ∷ task.Together together.Works ∷ Exercise ∷ About Help
-    ∷ About (Page Before) ∷ About (Page Behind) ∷ About Version ∷ []
+    ∷ Map Gates ∷ Resolve ∷ Insert ∷ InsertGate ∷ FromGenlib
+    ∷ Verilog ∷ Resettable ∷ Structure Cells ∷ Structure Gates
+    ∷ ResettableStructure Cells ∷ ResettableStructure Gates ∷ Equations
+    ∷ TellNetlist Loops ∷ Timing Cells ∷ Timing Gates ∷ TellNetlist Reset ∷ Replay End
+    ∷ Replay Wave ∷ Audit ∷ Certify ∷ Same ∷ task.Together together.Product
+    ∷ task.Together together.Compose ∷ task.Together together.Join ∷ task.Together together.Works
+    ∷ Exercise ∷ About Help ∷ About (Page Before) ∷ About (Page Behind) ∷ About Version ∷ []
 
 abbrev pub rows : List Row
 rows = map (λ task. row_of task) tasks

@@ -24,7 +24,7 @@ use std::alloc::Global;
 const HELP_HEAD: &[u8] = b"sisyn makes circuits without a clock from state graphs.
 ";
 
-/// What stands behind them: what the files are, some examples, and where the documents are.
+/// What stands behind them: what the files are, a first example, and where the documents are.
 const HELP_TAIL: &[u8] = b"
 
 F and G are state graphs, in the text that petrify calls .sg: lists of signals,
@@ -34,17 +34,10 @@ N and M are netlists as synth and map write them, and SCHEDULE is events, such
 as 'a+ b+ c+'. Each is the name of a file; /dev/stdin and <(..) serve too.
 
 A run that succeeds writes to standard output. A refused run writes one line to
-standard error, and ends with a status from 1 to 15.
+standard error, and ends with a status from 1 to 15. An example of each command
+stands on its page, as in 'sisyn help synth'; a first one, beside the sources:
 
-Examples, beside the sources:
-
-  sisyn check examples/vme-read.sg
-  sisyn explain examples/pulse-train.sg
   sisyn synth examples/vme-read.sg complex > vme-read.net
-  sisyn suggest examples/duplicator.sg complex > duplicator.net
-  sisyn map examples/c-element-three.sg genlib examples/everyday.genlib
-  sisyn verilog examples/vme-read.net > vme-read.v
-  sisyn audit examples/vme-read.sg examples/vme-read.net
 
 The documents stand beside the sources: README.md has a walk through the
 commands, docs/GUIDE.md what to do where a run is refused, docs/FORMATS.md each

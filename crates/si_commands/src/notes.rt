@@ -183,7 +183,8 @@ a graph that isn't proper, 8 unresolved or with `suggest` unresolvable.
     ),
     (
         "insert",
-        b"It writes the graph after the insertions that a netlist names.
+        b"It writes the graph after the insertions that a netlist names, or after that of
+one signal for a gate: FILE holds its line, such as 'x sum r + a x'.
 
 Example:
 
@@ -210,8 +211,8 @@ Statuses: 0, 1 nomemory, 3 readfault, 4 writefault, 5 toolong, 6 badtext.
 each cell that is used, and one with an instance of a cell for each gate, by the
 names that genlib gives to pins. A pin reads a signal as it is, as those that
 `map` with plain behind it makes; `inverters` puts an inverter of the library in
-front of each other pin. With `reset` the module has an input NAME: while it is
-1, the outputs that the command `reset` lists have their start values.
+front of each other pin. With `reset` the controller has an input NAME: while it
+is 1, the outputs that the command `reset` lists have their start values.
 
 Example:
 
@@ -293,6 +294,20 @@ right for the graph, and what it has.
 Example:
 
   sisyn audit examples/vme-read.sg examples/vme-read.net
+
+Statuses: 0, 1 nomemory, 3 readfault, 4 writefault, 5 toolong, 6 badtext or
+lists, 7 of a graph that isn't proper, 11 rejected.
+",
+    ),
+    (
+        "certify",
+        b"It writes the netlist with its insertions as its gates tell them, so that it is
+audited: signals that the graph doesn't have are hidden ones, `.internal` or
+`.inserted`, in the order of their insertion. Lines `.insert` aren't looked at.
+
+Example:
+
+  sisyn certify examples/vme-read.sg examples/vme-book.net
 
 Statuses: 0, 1 nomemory, 3 readfault, 4 writefault, 5 toolong, 6 badtext or
 lists, 7 of a graph that isn't proper, 11 rejected.

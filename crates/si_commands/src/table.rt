@@ -50,6 +50,7 @@ const COMMANDS: &[&str] = &[
     "replay",
     "wave",
     "audit",
+    "certify",
     "same",
     "product",
     "compose",
@@ -183,6 +184,12 @@ const ROWS: &[Row] = &[
         says: "the graph after insertions of a netlist",
     },
     Row {
+        task: Task::InsertGate,
+        places: &[Word("insert"), File("F"), Word("gate"), File("FILE")],
+        tail: Nothing,
+        says: "the graph with a signal for a gate",
+    },
+    Row {
         task: Task::FromGenlib,
         places: &[Word("genlib"), LoneFile("FILE")],
         tail: Nothing,
@@ -225,6 +232,31 @@ const ROWS: &[Row] = &[
         ],
         tail: Options(STRUCTURE_OPTIONS),
         says: "the same of gates of genlib",
+    },
+    Row {
+        task: Task::ResettableStructure(LibraryKind::Cells),
+        places: &[
+            Word("verilog"),
+            File("NETLIST"),
+            LibraryFile("LIB", VERILOG_WORDS),
+            Word("reset"),
+            Name("NAME"),
+        ],
+        tail: Options(STRUCTURE_OPTIONS),
+        says: "cells, with a reset input",
+    },
+    Row {
+        task: Task::ResettableStructure(LibraryKind::Gates),
+        places: &[
+            Word("verilog"),
+            File("NETLIST"),
+            Word("genlib"),
+            File("FILE"),
+            Word("reset"),
+            Name("NAME"),
+        ],
+        tail: Options(STRUCTURE_OPTIONS),
+        says: "the same of genlib",
     },
     Row {
         task: Task::Equations,
@@ -277,6 +309,12 @@ const ROWS: &[Row] = &[
         places: &[Word("audit"), File("F"), File("NETLIST")],
         tail: Nothing,
         says: "whether a netlist is certified for a graph",
+    },
+    Row {
+        task: Task::Certify,
+        places: &[Word("certify"), File("F"), File("NETLIST")],
+        tail: Nothing,
+        says: "a netlist with insertions told by its gates",
     },
     Row {
         task: Task::Same,

@@ -69,6 +69,8 @@ pub enum Task {
     /// A netlist of the cells of a library that is read so, as modules of Verilog with an instance
     /// for each gate.
     Structure(LibraryKind),
+    /// The same with an input of the name that the words choose, which resets the netlist.
+    ResettableStructure(LibraryKind),
     /// A netlist as equations.
     Equations,
     /// A report on a netlist.
@@ -80,10 +82,14 @@ pub enum Task {
     Replay(ReplayReport),
     /// Whether a netlist is certified for a graph.
     Audit,
+    /// A netlist with the lines of the insertions that its gates tell for a graph.
+    Certify,
     /// The graph after the insertions that resolve its conflicts.
     Resolve,
     /// The graph after the insertions of a netlist.
     Insert,
+    /// The graph after the insertion of a signal for a gate.
+    InsertGate,
     /// Whether two graphs behave alike.
     Same,
     /// What is made of controllers together.

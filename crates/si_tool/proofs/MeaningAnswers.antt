@@ -1,5 +1,5 @@
 -- A command comes to one answer: by its texts, and by its files where they are told.
-use Rattle.std.proofs.Common.{◌≡◌, ℕ, List, [], ◌∷◌, length, Result, Ok, Err, Contains, ap, subst, arith}
+use Rattle.std.proofs.Common.{◌≡◌, ℕ, List, [], ◌∷◌, length, Some, None, Result, Ok, Err, Contains, ap, subst, arith}
 use Rattle.std.proofs.Common.{◌⊎◌, Bool, true, false, inl, inr}
 use Rattle.si_io.specs.Outside.{Rose}
 use Rattle.si_commands.specs.About.{about_text}
@@ -12,7 +12,7 @@ use Rattle.si_commands.specs.declared.task.Task.{Task}
 use Rattle.si_commands.specs.declared.task.Topic.TheVariants.{Help, Page, Version}
 use Rattle.si_commands.specs.declared.task.HelpPlace.TheVariants.{Before, Behind}
 use Rattle.si_commands.specs.declared.task.Task.TheVariants.{About, Tell, Synth, Map, FromGenlib, Verilog, Replay}
-use Rattle.si_commands.specs.declared.task.Task.TheVariants.{Audit}
+use Rattle.si_commands.specs.declared.task.Task.TheVariants.{Audit, Certify, InsertGate}
 use Rattle.si_commands.specs.declared.task.Task.TheVariants.{Exercise}
 use Rattle.si_commands.specs.declared.task.Task.TheVariants.{TellNetlist, Resolve, Insert, Same, Suggest}
 use Rattle.si_commands.specs.declared.task.Task.TheVariants as task
@@ -21,6 +21,8 @@ use Rattle.si_commands.specs.declared.task.Together.TheVariants as kind
 use Rattle.si_readings.specs.Laws.{AtMostOne, HasResult}
 use Rattle.si_commands.specs.declared.task.LibraryKind.TheVariants.{Cells, Gates}
 use Rattle.si_stages.proofs.AuditLemmas.{audit_one, audit_some}
+use Rattle.si_by_hand.proofs.ByHandTexts.{by_hand_one, by_hand_some}
+use Rattle.si_certify.proofs.CertifyLemmas.{certify_one, certify_some}
 use Rattle.si_exercise.proofs.ExerciseLemmas.{exercise_one, exercise_some}
 use Rattle.si_stages.proofs.GenlibLemmas.{genlib_one, genlib_some}
 use Rattle.si_stages.proofs.InsertedTexts.{insert_one, insert_some, resolve_one, resolve_some}
@@ -41,6 +43,7 @@ use Rattle.si_exports.proofs.ResettableLemmas.{resettable_one, resettable_some}
 use Rattle.si_exports.proofs.StructureLemmas.{structure_one, structure_some}
 use Rattle.si_exports.proofs.TimingLemmas.{timing_one, timing_some}
 use Rattle.si_commands.specs.declared.task.Task.TheVariants.{Structure, Equations, Resettable, Timing}
+use Rattle.si_commands.specs.declared.task.Task.TheVariants.{ResettableStructure}
 use Rattle.si_suggestion.proofs.SuggestedTexts.{map_suggested_some, resolve_suggested_some}
 use Rattle.si_suggestion.proofs.SuggestionsExist.{suggest_some}
 use Rattle.si_readings.specs.declared.library_format.LibraryFormat.{LibraryFormat}
@@ -93,14 +96,18 @@ meaning_one FromGenlib (file ∷ []) choices (text ∷ []) one = genlib_one file
 meaning_one Verilog (file ∷ []) choices (text ∷ []) one = verilog_one file text
 meaning_one Resettable (file ∷ []) (name ∷ []) (text ∷ []) one = resettable_one file text name
 meaning_one (Structure kind) (n ∷ l ∷ []) options (a ∷ b ∷ []) one =
-    structure_one (format_of kind options) (complements_of options) n a l b
+    structure_one (format_of kind options) (complements_of options) None n a l b
+meaning_one (ResettableStructure kind) (n ∷ l ∷ []) (name ∷ options) (a ∷ b ∷ []) one =
+    structure_one (format_of kind options) (complements_of options) (Some name) n a l b
 meaning_one Equations (file ∷ []) choices (text ∷ []) one = equations_one file text
 meaning_one (Timing kind) (n ∷ l ∷ []) options (a ∷ b ∷ []) one = timing_one (format_of kind options) n a l b
 meaning_one (TellNetlist what) (file ∷ []) choices (text ∷ []) one = netlist_report_one what file text
 meaning_one (Replay what) (g ∷ n ∷ s ∷ []) choices (a ∷ b ∷ c ∷ []) one = replay_one what g a n b s c
 meaning_one Audit (g ∷ n ∷ []) choices (a ∷ b ∷ []) one = audit_one g a n b
+meaning_one Certify (g ∷ n ∷ []) choices (a ∷ b ∷ []) one = certify_one g a n b
 meaning_one Resolve (file ∷ []) options (text ∷ []) one = resolved_one (is_suggested options) file text one
 meaning_one Insert (g ∷ n ∷ []) choices (a ∷ b ∷ []) one = insert_one g a n b
+meaning_one InsertGate (g ∷ x ∷ []) choices (a ∷ b ∷ []) one = by_hand_one g a x b
 meaning_one Same (f ∷ g ∷ []) choices (a ∷ b ∷ []) one = same_one f a g b
 meaning_one (task.Together what) files choices texts one = together_one what files texts
 meaning_one Exercise [] (digit ∷ []) [] one = exercise_one (number_of digit)
@@ -124,9 +131,13 @@ meaning_some FromGenlib (file ∷ []) choices (text ∷ []) fit each = genlib_so
 meaning_some Verilog (file ∷ []) choices (text ∷ []) fit each = verilog_some file text
 meaning_some Resettable (file ∷ []) (name ∷ []) (text ∷ []) fit each = resettable_some file text name fit.0
 meaning_some (Structure Cells) (n ∷ l ∷ []) options (a ∷ b ∷ []) fit each =
-    structure_some (format_of Cells options) (complements_of options) n a l b
+    structure_some (format_of Cells options) (complements_of options) None n a l b tt
 meaning_some (Structure Gates) (n ∷ l ∷ []) options (a ∷ b ∷ []) fit each =
-    structure_some (format_of Gates options) (complements_of options) n a l b
+    structure_some (format_of Gates options) (complements_of options) None n a l b tt
+meaning_some (ResettableStructure Cells) (n ∷ l ∷ []) (name ∷ options) (a ∷ b ∷ []) fit each =
+    structure_some (format_of Cells options) (complements_of options) (Some name) n a l b fit.1.0
+meaning_some (ResettableStructure Gates) (n ∷ l ∷ []) (name ∷ options) (a ∷ b ∷ []) fit each =
+    structure_some (format_of Gates options) (complements_of options) (Some name) n a l b fit.0
 meaning_some Equations (file ∷ []) choices (text ∷ []) fit each = equations_some file text
 meaning_some (Timing Cells) (n ∷ l ∷ []) options (a ∷ b ∷ []) fit each =
     timing_some (format_of Cells options) n a l b
@@ -135,8 +146,10 @@ meaning_some (Timing Gates) (n ∷ l ∷ []) options (a ∷ b ∷ []) fit each =
 meaning_some (TellNetlist what) (file ∷ []) choices (text ∷ []) fit each = netlist_report_some what file text
 meaning_some (Replay what) (g ∷ n ∷ s ∷ []) choices (a ∷ b ∷ c ∷ []) fit each = replay_some what g a n b s c
 meaning_some Audit (g ∷ n ∷ []) choices (a ∷ b ∷ []) fit each = audit_some g a n b
+meaning_some Certify (g ∷ n ∷ []) choices (a ∷ b ∷ []) fit each = certify_some g a n b
 meaning_some Resolve (file ∷ []) options (text ∷ []) fit each = resolved_some (is_suggested options) file text
 meaning_some Insert (g ∷ n ∷ []) choices (a ∷ b ∷ []) fit each = insert_some g a n b
+meaning_some InsertGate (g ∷ x ∷ []) choices (a ∷ b ∷ []) fit each = by_hand_some g a x b
 meaning_some Same (f ∷ g ∷ []) choices (a ∷ b ∷ []) fit each = same_some f a g b
 meaning_some (task.Together what) files choices texts fit each = together_some what files texts
 meaning_some Exercise [] (digit ∷ []) [] fit each =

@@ -1,7 +1,7 @@
 -- (command) What a command that is asked for means over its texts, and what it comes to over its
 -- files.
 use Rattle.std.specs.Prelude.{◌≡◌, ℕ, Bool, true, false, if◌then◌else◌, List, [], ◌∷◌, String}
-use Rattle.std.specs.Prelude.{Ok, Err}
+use Rattle.std.specs.Prelude.{Ok, Err, Some, None}
 use Rattle.std.specs.declared.alloc.Global.{Global}
 use Rattle.si_commands.specs.About.{about_text}
 use Rattle.si_commands.specs.Command.{Request, Asks, format_of, is_inverted, is_suggested}
@@ -11,7 +11,8 @@ use Rattle.si_commands.specs.declared.task.Task.TheVariants.{About, Tell, Synth,
 use Rattle.si_commands.specs.declared.task.Task.TheVariants.{Verilog, Replay, Audit, Exercise}
 use Rattle.si_commands.specs.declared.task.Task.TheVariants.{TellNetlist, Resolve, Insert, Same}
 use Rattle.si_commands.specs.declared.task.Task.TheVariants.{Suggest, Structure, Equations}
-use Rattle.si_commands.specs.declared.task.Task.TheVariants.{Resettable, Timing}
+use Rattle.si_commands.specs.declared.task.Task.TheVariants.{Resettable, ResettableStructure}
+use Rattle.si_commands.specs.declared.task.Task.TheVariants.{Timing, Certify, InsertGate}
 use Rattle.si_commands.specs.declared.task.Task.TheVariants as task
 use Rattle.si_commands.specs.declared.task.Together.{Together}
 use Rattle.si_commands.specs.declared.task.Together.TheVariants as kind
@@ -20,6 +21,8 @@ use Rattle.si_refusals.specs.Refusal.{FileRefusal, TextRefusal, Answer, Output}
 use Rattle.si_refusals.specs.Refusal.{FileRefused, TextRefused}
 use Rattle.si_refusals.specs.Stages.{Stage, gives}
 use Rattle.si_readings.specs.declared.library_format.LibraryFormat.{LibraryFormat}
+use Rattle.si_by_hand.specs.ByHand.{by_hand}
+use Rattle.si_certify.specs.Certify.{certify}
 use Rattle.si_exercise.specs.Exercise.{exercise}
 use Rattle.si_exports.specs.Equations.{equations}
 use Rattle.si_exports.specs.Resettable.{resettable}
@@ -75,7 +78,9 @@ meaning FromGenlib (file ∷ []) choices (text ∷ []) = genlib file text
 meaning Verilog (file ∷ []) choices (text ∷ []) = verilog file text
 meaning Resettable (file ∷ []) (name ∷ []) (text ∷ []) = resettable file text name
 meaning (Structure kind) (n ∷ l ∷ []) options (netlist ∷ library ∷ []) =
-    structure (format_of kind options) (complements_of options) n netlist l library
+    structure (format_of kind options) (complements_of options) None n netlist l library
+meaning (ResettableStructure kind) (n ∷ l ∷ []) (name ∷ options) (netlist ∷ library ∷ []) =
+    structure (format_of kind options) (complements_of options) (Some name) n netlist l library
 meaning Equations (file ∷ []) choices (text ∷ []) = equations file text
 meaning (Timing kind) (n ∷ l ∷ []) options (netlist ∷ library ∷ []) =
     timing (format_of kind options) n netlist l library
@@ -83,8 +88,10 @@ meaning (TellNetlist what) (file ∷ []) choices (text ∷ []) = netlist_report 
 meaning (Replay what) (g ∷ n ∷ s ∷ []) choices (graph ∷ netlist ∷ schedule ∷ []) =
     replay what g graph n netlist s schedule
 meaning Audit (g ∷ n ∷ []) choices (graph ∷ netlist ∷ []) = audit g graph n netlist
+meaning Certify (g ∷ n ∷ []) choices (graph ∷ netlist ∷ []) = certify g graph n netlist
 meaning Resolve (file ∷ []) options (text ∷ []) = resolved_by (is_suggested options) file text
 meaning Insert (g ∷ n ∷ []) choices (graph ∷ netlist ∷ []) = insert g graph n netlist
+meaning InsertGate (g ∷ x ∷ []) choices (graph ∷ gate ∷ []) = by_hand g graph x gate
 meaning Same (f ∷ g ∷ []) choices (one ∷ other ∷ []) = same f one g other
 meaning (task.Together what) files choices texts = together what files texts
 meaning Exercise [] (digit ∷ []) [] = exercise (number_of digit)

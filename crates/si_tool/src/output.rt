@@ -15,10 +15,13 @@ ghost use Rattle.si_tool.specs.Meaning as meanings;
 ghost use Rattle.si_tool.specs.Meaning.{ComesTo, MayStopCommand, complements_of, mapped_by};
 ghost use Rattle.si_tool.specs.Meaning.{meaning, resolved_by};
 ghost use Rattle.si_commands.specs.Loops.Reads.{request_of, texts_now};
+ghost use Rattle.si_commands.specs.declared.task.Task.TheVariants.{ResettableStructure};
 
 use si_base::limits::MAX_TEXT;
 use si_base::text::Text;
+use si_by_hand::by_hand::insert_by_hand;
 use si_cell::pins::Pins;
+use si_certify::certify::certify_texts;
 use si_commands::about::about;
 use si_commands::command::Command;
 use si_commands::form::is_listed;
@@ -26,7 +29,7 @@ use si_commands::task::{LibraryKind, Task, Together};
 use si_exercise::exercise::exercise;
 use si_exports::equations::equations;
 use si_exports::resettable::resettable;
-use si_exports::structure::structure;
+use si_exports::structure::{resettable_structure, structure};
 use si_exports::timing::timing;
 use si_io::shelf::{LoadFault, Shelf};
 use si_joins::join::join_texts;
@@ -140,7 +143,40 @@ fn output_of_texts<'w>(
             let format = library_format(kind, choices);
             timing(alloc, format, files[0], &texts[0], files[1], &texts[1])
         }
+        Task::ResettableStructure(kind) => with_reset(alloc, kind, files, choices, texts),
+        Task::Certify => certify_texts(alloc, files[0], &texts[0], files[1], &texts[1]),
+        Task::InsertGate => insert_by_hand(alloc, files[0], &texts[0], files[1], &texts[1]),
     }
+}
+
+/// A netlist of cells with a reset input, by its name and the options, which are chosen behind it.
+fn with_reset<'w>(
+    alloc: Global,
+    kind: LibraryKind,
+    files: &[&'w str],
+    choices: &[&str],
+    texts: &[Vec<u8>],
+) -> Result<Text, Refusal<'w>>
+    requires given { Fit (form_of (ResettableStructure kind)) (words_now files.now)
+        (words_now choices.now) }
+    requires texts { length texts.now ≡ length files.now }
+    ensures ok { IfOk result (λ text. meaning (ResettableStructure kind) (words_now files.now)
+        (words_now choices.now) (texts_now texts.now) (Ok text)) }
+    ensures err { IfErr result (λ r. MayStop (meaning (ResettableStructure kind)
+        (words_now files.now) (words_now choices.now) (texts_now texts.now)) (ending_of r)) }
+{
+    let (name, options) = (choices[0], &choices[1..]);
+    let format = library_format(kind, options);
+    resettable_structure(
+        alloc,
+        format,
+        complements(options),
+        name,
+        files[0],
+        &texts[0],
+        files[1],
+        &texts[1],
+    )
 }
 
 /// What is made of the controllers of the files together.

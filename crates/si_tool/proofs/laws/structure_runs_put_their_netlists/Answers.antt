@@ -1,3 +1,4 @@
+use Rattle.std.proofs.Common.{None}
 use Rattle.si_commands.specs.Command.{format_of}
 use Rattle.si_commands.specs.declared.task.Task.TheVariants.{Structure}
 use Rattle.si_exports.proofs.StructureLemmas.{output_is_structure}
@@ -14,7 +15,7 @@ returns g c words content before now old new former later result kind netlist li
       library_text = puts.other_text;
       loaded = puts.loaded;
       output = puts.output;
-      is_structure = output_is_structure (format_of kind options) (complements_of options) netlist puts.text library
-          puts.other_text puts.output puts.means;
+      is_structure = output_is_structure (format_of kind options) (complements_of options) None netlist puts.text
+          library puts.other_text puts.output puts.means;
       written = puts.written;
     }

@@ -271,3 +271,35 @@ returns-in-Timing-clause-err c =
     c.requires.texts c.index-texts-0-in-Timing.is c.index-texts-1-in-Timing.is c.deref-in-Timing.ensures.value
     c.deref-in-Timing-2.ensures.value in
     rw (c.in-Timing.is, are.0, are.1) (rw c.library_format-format-in-Timing.ensures at c.timing.ensures.err)
+
+pub returns-in-Certify-clause-ok : goal.returns-in-Certify-clause-ok
+returns-in-Certify-clause-ok c =
+    let many = counted_files (form_of c.args.task) c.args.files.now (words_now c.args.choices.now) c.requires.given in
+    let are = read_two c.args.files.now c.args.texts.now _ _ _ _ (rw c.in-Certify.is at many)
+    c.requires.texts c.index-texts-0-in-Certify.is c.index-texts-1-in-Certify.is c.deref-in-Certify.ensures.value
+    c.deref-in-Certify-2.ensures.value in
+    rw (c.in-Certify.is, are.0, are.1) c.certify_texts.ensures.ok
+
+pub returns-in-Certify-clause-err : goal.returns-in-Certify-clause-err
+returns-in-Certify-clause-err c =
+    let many = counted_files (form_of c.args.task) c.args.files.now (words_now c.args.choices.now) c.requires.given in
+    let are = read_two c.args.files.now c.args.texts.now _ _ _ _ (rw c.in-Certify.is at many)
+    c.requires.texts c.index-texts-0-in-Certify.is c.index-texts-1-in-Certify.is c.deref-in-Certify.ensures.value
+    c.deref-in-Certify-2.ensures.value in
+    rw (c.in-Certify.is, are.0, are.1) c.certify_texts.ensures.err
+
+pub returns-in-InsertGate-clause-ok : goal.returns-in-InsertGate-clause-ok
+returns-in-InsertGate-clause-ok c =
+    let many = counted_files (form_of c.args.task) c.args.files.now (words_now c.args.choices.now) c.requires.given in
+    let are = read_two c.args.files.now c.args.texts.now _ _ _ _ (rw c.in-InsertGate.is at many)
+    c.requires.texts c.index-texts-0-in-InsertGate.is c.index-texts-1-in-InsertGate.is c.deref-in-InsertGate.ensures.value
+    c.deref-in-InsertGate-2.ensures.value in
+    rw (c.in-InsertGate.is, are.0, are.1) c.insert_by_hand.ensures.ok
+
+pub returns-in-InsertGate-clause-err : goal.returns-in-InsertGate-clause-err
+returns-in-InsertGate-clause-err c =
+    let many = counted_files (form_of c.args.task) c.args.files.now (words_now c.args.choices.now) c.requires.given in
+    let are = read_two c.args.files.now c.args.texts.now _ _ _ _ (rw c.in-InsertGate.is at many)
+    c.requires.texts c.index-texts-0-in-InsertGate.is c.index-texts-1-in-InsertGate.is c.deref-in-InsertGate.ensures.value
+    c.deref-in-InsertGate-2.ensures.value in
+    rw (c.in-InsertGate.is, are.0, are.1) c.insert_by_hand.ensures.err
