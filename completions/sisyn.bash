@@ -3,7 +3,7 @@ _sisyn() {
   local word=${COMP_WORDS[COMP_CWORD]}
   local words= files=
   case "$COMP_CWORD ${COMP_WORDS[1]}" in
-    1\ *) words='check states regions conflicts explain lint covers fold dot synth suggest map resolve insert genlib verilog eqn loops reset replay wave audit same product compose join works exercise help --version --help -h' ;;
+    1\ *) words='check states regions conflicts explain lint covers fold dot synth suggest map resolve insert genlib verilog eqn loops reset replay wave audit certify same product compose join works exercise help --version --help -h' ;;
     '2 check') files=yes ;;
     '2 states') files=yes ;;
     '2 regions') files=yes ;;
@@ -25,12 +25,15 @@ _sisyn() {
     '2 resolve') files=yes ;;
     '3 resolve') words='suggest' ;;
     '2 insert') files=yes ;;
-    '3 insert') files=yes ;;
+    '3 insert') words='gate'; files=yes ;;
+    '4 insert') files=yes ;;
     '2 genlib') files=yes ;;
     '2 verilog') files=yes ;;
     '3 verilog') words='reset genlib'; files=yes ;;
-    '4 verilog') words='inverters'; files=yes ;;
-    '5 verilog') words='inverters' ;;
+    '4 verilog') words='inverters reset'; files=yes ;;
+    '5 verilog') words='inverters reset' ;;
+    '6 verilog') words='inverters' ;;
+    '7 verilog') words='inverters' ;;
     '2 eqn') files=yes ;;
     '2 loops') files=yes ;;
     '3 loops') words='genlib'; files=yes ;;
@@ -44,6 +47,8 @@ _sisyn() {
     '4 wave') files=yes ;;
     '2 audit') files=yes ;;
     '3 audit') files=yes ;;
+    '2 certify') files=yes ;;
+    '3 certify') files=yes ;;
     '2 same') files=yes ;;
     '3 same') files=yes ;;
     '2 product') files=yes ;;
@@ -65,7 +70,7 @@ _sisyn() {
     '4 works') files=yes ;;
     '5 works') files=yes ;;
     '2 exercise') words='1 2 3 4 5 6 7 8' ;;
-    '2 help') words='check states regions conflicts explain lint covers fold dot synth suggest map resolve insert genlib verilog eqn loops reset replay wave audit same product compose join works exercise help --version' ;;
+    '2 help') words='check states regions conflicts explain lint covers fold dot synth suggest map resolve insert genlib verilog eqn loops reset replay wave audit certify same product compose join works exercise help --version' ;;
   esac
   mapfile -t COMPREPLY < <(compgen -W "$words" -- "$word"; [ -z "$files" ] || compgen -f -- "$word")
 }

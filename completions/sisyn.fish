@@ -36,14 +36,17 @@ complete -c sisyn -n 'test (count (commandline -opc)) -eq 2; and test (commandli
 complete -c sisyn -n 'test (count (commandline -opc)) -eq 3; and test (commandline -opc)[2] = resolve' -a 'suggest'
 complete -c sisyn -n 'test (count (commandline -opc)) -eq 1' -a 'insert' -d 'the graph after insertions of a netlist'
 complete -c sisyn -n 'test (count (commandline -opc)) -eq 2; and test (commandline -opc)[2] = insert' -F
-complete -c sisyn -n 'test (count (commandline -opc)) -eq 3; and test (commandline -opc)[2] = insert' -F
+complete -c sisyn -n 'test (count (commandline -opc)) -eq 3; and test (commandline -opc)[2] = insert' -a 'gate' -F
+complete -c sisyn -n 'test (count (commandline -opc)) -eq 4; and test (commandline -opc)[2] = insert' -F
 complete -c sisyn -n 'test (count (commandline -opc)) -eq 1' -a 'genlib' -d 'a library of genlib as a library of cells'
 complete -c sisyn -n 'test (count (commandline -opc)) -eq 2; and test (commandline -opc)[2] = genlib' -F
 complete -c sisyn -n 'test (count (commandline -opc)) -eq 1' -a 'verilog' -d 'a netlist as a module of Verilog'
 complete -c sisyn -n 'test (count (commandline -opc)) -eq 2; and test (commandline -opc)[2] = verilog' -F
 complete -c sisyn -n 'test (count (commandline -opc)) -eq 3; and test (commandline -opc)[2] = verilog' -a 'reset genlib' -F
-complete -c sisyn -n 'test (count (commandline -opc)) -eq 4; and test (commandline -opc)[2] = verilog' -a 'inverters' -F
-complete -c sisyn -n 'test (count (commandline -opc)) -eq 5; and test (commandline -opc)[2] = verilog' -a 'inverters'
+complete -c sisyn -n 'test (count (commandline -opc)) -eq 4; and test (commandline -opc)[2] = verilog' -a 'inverters reset' -F
+complete -c sisyn -n 'test (count (commandline -opc)) -eq 5; and test (commandline -opc)[2] = verilog' -a 'inverters reset'
+complete -c sisyn -n 'test (count (commandline -opc)) -eq 6; and test (commandline -opc)[2] = verilog' -a 'inverters'
+complete -c sisyn -n 'test (count (commandline -opc)) -eq 7; and test (commandline -opc)[2] = verilog' -a 'inverters'
 complete -c sisyn -n 'test (count (commandline -opc)) -eq 1' -a 'eqn' -d 'a netlist as equations'
 complete -c sisyn -n 'test (count (commandline -opc)) -eq 2; and test (commandline -opc)[2] = eqn' -F
 complete -c sisyn -n 'test (count (commandline -opc)) -eq 1' -a 'loops' -d 'which pins to cut, so that it has no loop'
@@ -63,6 +66,9 @@ complete -c sisyn -n 'test (count (commandline -opc)) -eq 4; and test (commandli
 complete -c sisyn -n 'test (count (commandline -opc)) -eq 1' -a 'audit' -d 'whether a netlist is certified for a graph'
 complete -c sisyn -n 'test (count (commandline -opc)) -eq 2; and test (commandline -opc)[2] = audit' -F
 complete -c sisyn -n 'test (count (commandline -opc)) -eq 3; and test (commandline -opc)[2] = audit' -F
+complete -c sisyn -n 'test (count (commandline -opc)) -eq 1' -a 'certify' -d 'a netlist with insertions told by its gates'
+complete -c sisyn -n 'test (count (commandline -opc)) -eq 2; and test (commandline -opc)[2] = certify' -F
+complete -c sisyn -n 'test (count (commandline -opc)) -eq 3; and test (commandline -opc)[2] = certify' -F
 complete -c sisyn -n 'test (count (commandline -opc)) -eq 1' -a 'same' -d 'whether two graphs behave alike'
 complete -c sisyn -n 'test (count (commandline -opc)) -eq 2; and test (commandline -opc)[2] = same' -F
 complete -c sisyn -n 'test (count (commandline -opc)) -eq 3; and test (commandline -opc)[2] = same' -F
@@ -91,5 +97,5 @@ complete -c sisyn -n 'test (count (commandline -opc)) -eq 5; and test (commandli
 complete -c sisyn -n 'test (count (commandline -opc)) -eq 1' -a 'exercise' -d 'the sizes of N handshakes, from 1 to 8'
 complete -c sisyn -n 'test (count (commandline -opc)) -eq 2; and test (commandline -opc)[2] = exercise' -a '1 2 3 4 5 6 7 8'
 complete -c sisyn -n 'test (count (commandline -opc)) -eq 1' -a 'help' -d 'what a command writes, and how it may end'
-complete -c sisyn -n 'test (count (commandline -opc)) -eq 2; and test (commandline -opc)[2] = help' -a 'check states regions conflicts explain lint covers fold dot synth suggest map resolve insert genlib verilog eqn loops reset replay wave audit same product compose join works exercise help --version'
+complete -c sisyn -n 'test (count (commandline -opc)) -eq 2; and test (commandline -opc)[2] = help' -a 'check states regions conflicts explain lint covers fold dot synth suggest map resolve insert genlib verilog eqn loops reset replay wave audit certify same product compose join works exercise help --version'
 complete -c sisyn -n 'test (count (commandline -opc)) -eq 1' -a '--version' -d 'the version, and what proved it'
