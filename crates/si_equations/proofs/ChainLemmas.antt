@@ -4,12 +4,10 @@ use Rattle.std.proofs.Common.{subst, ◌∙◌, append_assoc, if◌then◌else�
 use Rattle.std.proofs.Common.{Ok}
 use Rattle.std.proofs.lemmas.Bool.{cases_Bool}
 use Rattle.std.proofs.lemmas.List.{append-nil}
-use Rattle.si_base.specs.Limits.{max_signals}
 use Rattle.si_base.specs.Lines.{Line, is_blank, begins}
 use Rattle.si_base.specs.Words.{is_name_byte}
 use Rattle.si_base.specs.declared.fault.TextKind.{TextKind}
 use Rattle.si_base.specs.declared.fault.TextKind.TheVariants.{BadWord}
-use Rattle.si_words.specs.Names.{name_fault}
 use Rattle.si_words.proofs.NameWords.{same_bytes}
 use Rattle.si_tokens.specs.declared.fault.Stop.{Stop}
 use Rattle.si_tokens.specs.Unread.{◌>>=◌, Unread, Piece, joined, tokens_in, tokens_of_lines, tokens, first_of, token_at}
@@ -20,7 +18,7 @@ use Rattle.si_genlib.specs.Limits.{max_unfinished}
 use Rattle.si_genlib.specs.Statements.{if_passes}
 use Rattle.si_genlib.proofs.GrammarViableLaws.{sentences}
 use Rattle.si_equations.specs.Names.{bare}
-use Rattle.si_equations.specs.Equations.{if_good, mark_at, names_from}
+use Rattle.si_equations.specs.Equations.{list_fault, if_good, mark_at, names_from}
 
 -- ---- what is left behind a token has the tokens behind it
 
@@ -126,17 +124,16 @@ after_name others names p ps ends name fault =
 -- names without fault behind these, which no brackets stand around
 abbrev pub NewNames : List (List ℕ) → List (List ℕ) → List (List ℕ) → Type 0
 NewNames others names [] = Unit {0}
-NewNames others names (x ∷ xs) = (name_fault max_signals (others ++ names) x ≡ None) × (bare x ≡ x)
-    × (ends_expression x ≡ false) × NewNames others (names ++ x ∷ []) xs
+NewNames others names (x ∷ xs) = (list_fault others names x ≡ None) × (bare x ≡ x) × (ends_expression x ≡ false)
+    × NewNames others (names ++ x ∷ []) xs
 
 one_name : (others names : List (List ℕ)) (p : Piece) (ps : List Piece) (x : List ℕ) → p.bytes ≡ x
-    → ends_expression x ≡ false → bare x ≡ x → name_fault max_signals (others ++ names) x ≡ None
+    → ends_expression x ≡ false → bare x ≡ x → list_fault others names x ≡ None
     → names_from others names (p ∷ ps) ≡ names_from others (names ++ x ∷ []) ps
 one_name others names p ps x is goes plain good =
     let e1 : ends_expression p.bytes ≡ false = ap ends_expression is ∙ goes in
     let e2 : bare p.bytes ≡ x = ap bare is ∙ plain in
-    let e3 : name_fault max_signals (others ++ names) (bare p.bytes) ≡ None =
-    ap (name_fault max_signals (others ++ names)) e2 ∙ good in
+    let e3 : list_fault others names (bare p.bytes) ≡ None = ap (list_fault others names) e2 ∙ good in
     λ i. after_name others names p ps (e1 i) (e2 i) (e3 i)
 
 abbrev ReadNames : List (List ℕ) → List (List ℕ) → List (List ℕ) → List Piece → List (List ℕ) → Type 0
@@ -148,8 +145,7 @@ list_end : (others names : List (List ℕ)) (p : Piece) (ps : List Piece) (ws : 
 list_end others names p ps ws is at chain =
     let ends : ends_expression p.bytes ≡ true = ap ends_expression is in (
       p.rest,
-      ap (λ (c : Bool). after_name others names p ps c (bare p.bytes)
-          (name_fault max_signals (others ++ names) (bare p.bytes))) ends
+      ap (λ (c : Bool). after_name others names p ps c (bare p.bytes) (list_fault others names (bare p.bytes))) ends
           ∙ ap (λ (ns : List (List ℕ)). Ok (ns, p.rest)) (sym (append-nil names)),
       ap bytes_of chain ∙ at,
     )

@@ -5,9 +5,9 @@ use Rattle.si_base.specs.declared.fault.TextKind.TheVariants as kinds
 use Rattle.si_base.specs.declared.graph.SigKind.TheVariants.{Input, Output, Inserted}
 use Rattle.si_base.specs.Netlist.{SumGate, Gc, Netlist}
 use Rattle.si_tokens.specs.Unread.{tokens}
-use Rattle.si_genlib.specs.Expression.{step, Pin, And, Or}
+use Rattle.si_genlib.specs.Expression.{step, Tree, Pin, Not, And, Or}
 use Rattle.si_equations.specs.Equations.{mark_at, list_at, lists_at, equation_at, statements_at, equations_in}
-use Rattle.si_equations.specs.Equations.{expression_value}
+use Rattle.si_equations.specs.Equations.{Equation, expression_value}
 use Rattle.si_equations.specs.Written.{equations_text}
 
 -- ---- texts that are read
@@ -29,6 +29,28 @@ c_element : equations_in (lists ++ codes "[c] = a b + c (a + b);") ≡ Ok (recor
 unfolding equations_in statements_at lists_at list_at mark_at equation_at tokens step
 c_element = refl
 
+-- a controller of a VME bus, as petrify writes it: each output that an equation reads stands in both lists
+vme : List ℕ
+vme = codes "# Outputs between brackets \"[out]\" indicate a feedback to input \"out\"\n"
+    ++ codes "INORDER = dsr ldtack d dtack lds csc0;\nOUTORDER = [d] [dtack] [lds] [csc0];\n"
+    ++ codes "[d] = ldtack csc0;\n[dtack] = d;\n[lds] = csc0 + d;\n[csc0] = dsr (csc0 + ldtack');\n"
+
+abbrev equation : ℕ → List ℕ → Tree → Equation
+equation line name tree = record { line = line; name = name; tree = tree }
+
+-- its inputs are those that no equation drives
+fed_back : equations_in vme ≡ Ok (record {
+  inputs = codes "dsr" ∷ codes "ldtack" ∷ [];
+  outputs = codes "d" ∷ codes "dtack" ∷ codes "lds" ∷ codes "csc0" ∷ [];
+  equations = equation 4 (codes "d") (And (Pin (codes "ldtack")) (Pin (codes "csc0")))
+      ∷ equation 5 (codes "dtack") (Pin (codes "d"))
+      ∷ equation 6 (codes "lds") (Or (Pin (codes "csc0")) (Pin (codes "d")))
+      ∷ equation 7 (codes "csc0") (And (Pin (codes "dsr")) (Or (Pin (codes "csc0")) (Not (Pin (codes "ldtack")))))
+      ∷ [];
+})
+unfolding vme equations_in statements_at lists_at list_at mark_at equation_at tokens step
+fed_back = refl
+
 -- it is 1 where a and b are, and keeps the value 1 where only one of them is
 keeps_one : expression_value (codes "a" ∷ codes "b" ∷ codes "c" ∷ []) 5
     (Or (And (Pin (codes "a")) (Pin (codes "b"))) (And (Pin (codes "[c]")) (Or (Pin (codes "a")) (Pin (codes "b")))))
@@ -49,9 +71,9 @@ bad_expression : equations_in (lists ++ codes "c = a +;") ≡ Err (3, kinds.BadE
 unfolding equations_in statements_at lists_at list_at mark_at equation_at tokens step
 bad_expression = refl
 
-twice_in_lists : equations_in (codes "INORDER = a;\nOUTORDER = [a];") ≡ Err (2, kinds.Repeated)
+twice_in_a_list : equations_in (codes "INORDER = a;\nOUTORDER = b\n[b];") ≡ Err (3, kinds.Repeated)
 unfolding equations_in statements_at lists_at list_at mark_at equation_at tokens step
-twice_in_lists = refl
+twice_in_a_list = refl
 
 of_an_input : equations_in (lists ++ codes "c = a;\nb = a;") ≡ Err (4, kinds.Repeated)
 unfolding equations_in statements_at lists_at list_at mark_at equation_at tokens step

@@ -11,4 +11,5 @@ pub mod NewLemmas
 pub mod EquationLemmas
 pub mod WrittenLemmas
 pub mod MeansLemmas
+pub mod ListLemmas
 pub mod WholeLemmas

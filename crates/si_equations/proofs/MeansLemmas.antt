@@ -1,5 +1,5 @@
 -- The text of a netlist has no fault, and its equations are of the netlist.
-use Rattle.std.proofs.Common.{◌≡◌, ℕ, suc, ◌+◌, ◌<◌, ◌≤◌, true, List, [], ◌∷◌, ◌++◌, length, flat_map}
+use Rattle.std.proofs.Common.{◌≡◌, ℕ, suc, ◌+◌, ◌<◌, ◌≤◌, true, false, List, [], ◌∷◌, ◌++◌, length, flat_map}
 use Rattle.std.proofs.Common.{slice_get, Option, Some, None, Result, Ok, refl, sym, ap, subst, ◌∙◌, append_assoc}
 use Rattle.std.proofs.Common.{codes, arith, if◌then◌else◌}
 use Rattle.std.specs.List.{AllByRecursion, list_all}
@@ -21,7 +21,7 @@ use Rattle.si_words.specs.Ends.{after_last}
 use Rattle.si_words.specs.Names.{stands_in}
 use Rattle.si_tokens.specs.declared.fault.Stop.{Stop}
 use Rattle.si_tokens.specs.Unread.{◌>>=◌, Unread, Piece, tokens, unread}
-use Rattle.si_equations.specs.Equations.{Equations, driven, signals, internal_among, mark_at, names_from}
+use Rattle.si_equations.specs.Equations.{Equations, driven, signals, without, internal_among, mark_at, names_from}
 use Rattle.si_equations.specs.Equations.{list_at, lists_at, equations_from, statements_at, undeclared, last_fault}
 use Rattle.si_equations.specs.Equations.{ended, unless, equations_in, expression_value}
 use Rattle.si_equations.specs.Meaning.{IsGateOf, AreOfNetlist, MeansNetlist}
@@ -34,7 +34,8 @@ use Rattle.si_equations.proofs.NameLemmas.{fixed_in_line}
 use Rattle.si_equations.proofs.NetlistLemmas.{netlist_named, netlist_there, inner, names_in_order, driven_in}
 use Rattle.si_equations.proofs.NetlistLemmas.{driven_in_order}
 use Rattle.si_equations.proofs.NewLemmas.{AreNew, netlist_new, new_parts, new_without, new_apart, AreGood, new_names}
-use Rattle.si_equations.proofs.NewLemmas.{inner_are, outputs_stand, NoFaults, no_faults}
+use Rattle.si_equations.proofs.NewLemmas.{apart_none, apart_turned, all_kept, inner_are, outputs_stand, NoFaults}
+use Rattle.si_equations.proofs.NewLemmas.{no_faults}
 use Rattle.si_equations.proofs.TokenLemmas.{marks, name_read}
 use Rattle.si_equations.proofs.WrittenLemmas.{AreFrom, SaysEquations, says_equations, list_marks, list_in_line}
 
@@ -126,13 +127,23 @@ module _ (n : Netlist) (is : IsNetlist n) where
       )
 
   input_names : NewNames [] [] inputs
-  input_names = new_names [] [] inputs good_lists.0 new_lists.0
+  input_names = new_names [] [] inputs good_lists.0 (apart_none inputs) new_lists.0
       (omega (arith, count, length-append inputs outputs))
 
-  output_names : NewNames inputs [] outputs
-  output_names = new_names inputs [] outputs good_lists.1
+  -- no output is an input
+  apart_lists : AllByRecursion (λ x. stands_in inputs x ≡ false) outputs
+  apart_lists = new_apart inputs [] outputs
       (subst (λ (l : List (List ℕ)). AreNew l outputs) (sym (append-nil inputs)) new_lists.1)
-      (omega (arith, count, length-append inputs outputs, length-append inputs []))
+
+  output_names : NewNames inputs [] outputs
+  output_names = new_names inputs [] outputs good_lists.1 apart_lists
+      (new_without inputs [] outputs
+      (subst (λ (l : List (List ℕ)). AreNew l outputs) (sym (append-nil inputs)) new_lists.1))
+      (omega (arith, count, length-append inputs outputs))
+
+  -- so none is fed back
+  inputs_are : without outputs inputs ≡ inputs
+  inputs_are = all_kept outputs inputs (apart_turned inputs outputs apart_lists)
 
   inner_is : internal_among outputs (outputs ++ others) ≡ others
   inner_is = inner_are outputs others (new_apart outputs [] others
@@ -198,13 +209,17 @@ module _ (n : Netlist) (is : IsNetlist n) where
       × IsAt r equation_tokens
   read_outputs = list_read (codes "OUTORDER") inputs outputs read_inputs.0 equation_tokens read_inputs.2 output_names
 
+  abbrev both_lists : List (List ℕ) × Unread → List (List ℕ) × Unread → Result (Equations × Unread) Stop
+  both_lists ins outs = Ok (record { inputs = without outs.0 ins.0; outputs = outs.0; equations = [] }, outs.1)
+
   read_lists : lists_at source ≡ Ok (lists, read_outputs.0)
   unfolding lists_at
   read_lists =
       ap (λ (r : Result (List (List ℕ) × Unread) Stop). r >>= λ ins. list_at (codes "OUTORDER") ins.0 ins.1
-      >>= λ outs. Ok (record { inputs = ins.0; outputs = outs.0; equations = [] }, outs.1)) read_inputs.1
-      ∙ ap (λ (r : Result (List (List ℕ) × Unread) Stop). r
-      >>= λ outs. Ok (record { inputs = inputs; outputs = outs.0; equations = [] }, outs.1)) read_outputs.1
+      >>= both_lists ins) read_inputs.1
+      ∙ ap (λ (r : Result (List (List ℕ) × Unread) Stop). r >>= both_lists (inputs, read_inputs.0)) read_outputs.1
+      ∙ ap (λ (l : List (List ℕ)). Ok (record { inputs = l; outputs = outputs; equations = [] }, read_outputs.0))
+      inputs_are
 
   abbrev fuel : ℕ
   fuel = suc (length (tokens read_outputs.0))

@@ -3,8 +3,9 @@ use Rattle.std.proofs.Common.{◌≡◌, ◌≢◌, ℕ, ◌+◌, ◌≤◌, ◌
 use Rattle.std.proofs.Common.{length, bytes_eq, nat_le, None, refl, sym, ap, subst, ◌∙◌, arith, inl, inr}
 use Rattle.std.proofs.Common.{append_assoc}
 use Rattle.std.specs.List.{AllByRecursion, list_all}
-use Rattle.std.proofs.lemmas.Bool.{cases_Bool, or_parts, lt-leb}
+use Rattle.std.proofs.lemmas.Bool.{cases_Bool, or_parts, lt-leb, true≢false}
 use Rattle.std.proofs.lemmas.List.{append-nil, length-append}
+use Rattle.std.proofs.lemmas.Slice.Eq.{bytes_eq-Decides}
 use Rattle.si_base.specs.declared.graph.Signal.{Signal}
 use Rattle.si_base.specs.declared.fault.TextKind.TheVariants.{BadName, Repeated, TooManySignals}
 use Rattle.si_base.specs.Faults.{when, ◌otherwise◌}
@@ -15,7 +16,7 @@ use Rattle.si_base.specs.WellFormed.{IsNetlist}
 use Rattle.si_base.specs.Words.{is_signal_name}
 use Rattle.si_words.specs.Names.{stands_in}
 use Rattle.si_words.proofs.NameWords.{same_bytes}
-use Rattle.si_equations.specs.Equations.{internal_among, equation_fault}
+use Rattle.si_equations.specs.Equations.{without, internal_among, equation_fault}
 use Rattle.si_equations.proofs.ChainLemmas.{NewNames}
 use Rattle.si_equations.proofs.NameLemmas.{plain_token}
 use Rattle.si_equations.proofs.NetlistLemmas.{AreApart, head_apart, tail_apart, other_bytes}
@@ -36,7 +37,7 @@ or_true true c is = refl
 or_true false c is = is
 
 -- each of these stands among them and those before
-all_stand : (before xs : List (List ℕ)) → AllByRecursion (λ x. stands_in (before ++ xs) x ≡ true) xs
+pub all_stand : (before xs : List (List ℕ)) → AllByRecursion (λ x. stands_in (before ++ xs) x ≡ true) xs
 all_stand before [] = tt
 all_stand before (x ∷ xs) = (
   stands_append before (x ∷ xs) x
@@ -114,6 +115,11 @@ new_without a b (x ∷ xs) new = (
       (subst (λ (l : List (List ℕ)). AreNew l xs) (append_assoc a b (x ∷ [])) new.1),
 )
 
+-- where there are none, none stands among them
+pub apart_none : (xs : List (List ℕ)) → AllByRecursion (λ x. stands_in [] x ≡ false) xs
+apart_none [] = tt
+apart_none (x ∷ xs) = (refl, apart_none xs)
+
 -- none of them stands among the first
 pub new_apart : (a b xs : List (List ℕ)) → AreNew (a ++ b) xs → AllByRecursion (λ x. stands_in a x ≡ false) xs
 new_apart a b [] new = tt
@@ -123,32 +129,56 @@ new_apart a b (x ∷ xs) new = (
       (subst (λ (l : List (List ℕ)). AreNew l xs) (append_assoc a b (x ∷ [])) new.1),
 )
 
+pub bytes_turned : (a b : List ℕ) (c : Bool) → bytes_eq a b ≡ c → bytes_eq b a ≡ c
+bytes_turned a b true is = (bytes_eq-Decides b a).1 (sym ((bytes_eq-Decides a b).0 is))
+bytes_turned a b false is = other_bytes b a (λ same. true≢false (sym ((bytes_eq-Decides a b).1 (sym same)) ∙ is))
+
+not_one : (y : List ℕ) (a b : List (List ℕ)) → AllByRecursion (λ x. stands_in (y ∷ a) x ≡ false) b
+    → (stands_in b y ≡ false) × AllByRecursion (λ x. stands_in a x ≡ false) b
+not_one y a [] apart = (refl, tt)
+not_one y a (x ∷ b) apart =
+    let here = or_parts (bytes_eq x y) (stands_in a x) apart.0 in
+    let later = not_one y a b apart.1 in
+    (rw (bytes_turned x y false here.0) later.0, (here.1, later.1))
+
+-- where none of these is one of those, none of those is one of these
+pub apart_turned : (a b : List (List ℕ)) → AllByRecursion (λ x. stands_in a x ≡ false) b
+    → AllByRecursion (λ x. stands_in b x ≡ false) a
+apart_turned [] b apart = tt
+apart_turned (y ∷ a) b apart =
+    let parts = not_one y a b apart in (parts.0, apart_turned a b parts.1)
+
 -- ---- the lists
 
 abbrev pub AreGood : List (List ℕ) → Type 0
 AreGood xs = AllByRecursion (λ x. is_signal_name x ≡ true) xs
 
-pub new_names : (others names xs : List (List ℕ)) → AreGood xs → AreNew (others ++ names) xs
-    → length (others ++ names) + length xs ≤ max_signals → NewNames others names xs
-new_names others names [] good new few = tt
-new_names others names (x ∷ xs) good new few =
+pub few_without : (others names : List (List ℕ)) → length (without others names) ≤ length names
+few_without others [] = omega arith
+few_without others (x ∷ names) = elim (cases_Bool (stands_in others x)) [
+  | inl stands ↦ rw stands (omega (arith, few_without others names))
+  | inr other ↦ rw other (omega (arith, few_without others names))
+]
+
+-- names that the other list hasn't got
+pub new_names : (others names xs : List (List ℕ)) → AreGood xs
+    → AllByRecursion (λ x. stands_in others x ≡ false) xs → AreNew names xs
+    → length others + (length names + length xs) ≤ max_signals → NewNames others names xs
+new_names others names [] good apart new few = tt
+new_names others names (x ∷ xs) good apart new few =
     let token = plain_token x good.0 in
-    let room : nat_le max_signals (length (others ++ names)) ≡ false =
-    lt-leb max_signals (length (others ++ names)) (omega (arith, few)) in
+    let count = length-append others (without others names) in
+    let room : nat_le max_signals (length (others ++ without others names)) ≡ false =
+    lt-leb max_signals (length (others ++ without others names))
+    (omega (arith, few, count, few_without others names)) in
     let here = good.0 in
-    let fresh = new.0 in (
-      λ i. when (not (here i)) BadName otherwise when (fresh i) Repeated otherwise when (room i) TooManySignals,
+    let fresh = new.0 in
+    let own = apart.0 in (
+      λ i. when (not (here i)) BadName otherwise when (fresh i) Repeated
+          otherwise when (not (own i) && room i) TooManySignals,
       token.bare_is,
       token.goes_on,
-      new_names others (names ++ x ∷ []) xs good.1
-          (subst (λ (l : List (List ℕ)). AreNew l xs) (append_assoc others names (x ∷ [])) new.1)
-          (omega (
-            arith,
-            few,
-            length-append others names,
-            length-append others (names ++ x ∷ []),
-            length-append names (x ∷ []),
-          )),
+      new_names others (names ++ x ∷ []) xs good.1 apart.1 new.1 (omega (arith, few, length-append names (x ∷ []))),
     )
 
 -- ---- internal signals

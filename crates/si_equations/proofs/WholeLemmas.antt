@@ -1,7 +1,7 @@
 -- What a text without fault spells is whole.
 use Rattle.std.proofs.Common.{◌≡◌, ℕ, zero, suc, ◌&&◌, ◌||◌, not, Bool, true, false, List, [], ◌∷◌, ◌++◌, length}
 use Rattle.std.proofs.Common.{nat_le, Option, Some, None, Result, Ok, Err, codes, refl, sym, ap, subst, ◌∙◌, inl, inr}
-use Rattle.std.proofs.Common.{append_assoc, if◌then◌else◌, bytes_eq}
+use Rattle.std.proofs.Common.{append_assoc, if◌then◌else◌}
 use Rattle.std.proofs.lemmas.Bool.{cases_Bool, or_parts}
 use Rattle.std.proofs.lemmas.List.{append-nil, map-append}
 use Rattle.si_base.specs.Faults.{when, ◌otherwise◌, first_after, first_in}
@@ -19,11 +19,14 @@ use Rattle.si_tokens.specs.Unread.{◌>>=◌, Unread, Piece, bad_line, tokens, t
 use Rattle.si_genlib.specs.Expression.{Tree, trees, start, read}
 use Rattle.si_genlib.specs.Gate.{ends_expression}
 use Rattle.si_equations.specs.Names.{bare}
-use Rattle.si_equations.specs.Equations.{Equation, Equations, driven, signals, internal_among, if_good, mark_at}
-use Rattle.si_equations.specs.Equations.{names_from, list_at, lists_at, equation_fault, with_equation, equation_at}
+use Rattle.si_equations.specs.Equations.{Equation, Equations, driven, signals, without, internal_among, if_good}
+use Rattle.si_equations.specs.Equations.{mark_at, list_fault, names_from, list_at, lists_at, equation_fault}
+use Rattle.si_equations.specs.Equations.{with_equation, equation_at}
 use Rattle.si_equations.specs.Equations.{equations_from, statements_at, undeclared, has_all_outputs, last_fault, unless}
 use Rattle.si_equations.specs.Equations.{ended, equations_in}
 use Rattle.si_equations.specs.Whole.{repeated, AreWhole}
+use Rattle.si_equations.proofs.ListLemmas.{no_fault, when_none, good_push, IsGoodList, AreGoodNames, not_kept}
+use Rattle.si_equations.proofs.ListLemmas.{good_lists}
 use Rattle.si_equations.proofs.NewLemmas.{stands_append, among_append, inner_head}
 
 -- ---- what went well
@@ -38,26 +41,7 @@ good_none : (fault : Option TextKind) (p : Piece) (u : Unread) → if_good fault
 good_none None p u is = refl
 good_none (Some kind) p u is = absurd cc
 
-no_fault : {F : Type 0} (a b : Option F) → (a otherwise b) ≡ None → (a ≡ None) × (b ≡ None)
-no_fault None b none = (refl, none)
-no_fault (Some x) b none = absurd cc
-
-when_none : (c : Bool) (kind : TextKind) → when c kind ≡ None → c ≡ false
-when_none true kind none = absurd cc
-when_none false kind none = refl
-
--- names without a fault, and one more
-good_push : (f : List (List ℕ) → List ℕ → Option TextKind) (old xs : List (List ℕ)) (w : List ℕ)
-    → first_after f old xs ≡ None → f (old ++ xs) w ≡ None → first_after f old (xs ++ w ∷ []) ≡ None
-good_push f old [] w good here = let at_old : f old w ≡ None = rw append-nil at here in rw at_old refl
-good_push f old (x ∷ xs) w good here =
-    let parts = no_fault (f old x) (first_after f (old ++ x ∷ []) xs) good in
-    rw parts.0 (good_push f (old ++ x ∷ []) xs w parts.1 (rw append_assoc here))
-
 -- ---- the lists
-
-abbrev AreGoodNames : List (List ℕ) → Type 0
-AreGoodNames names = first_after (name_fault max_signals) [] names ≡ None
 
 abbrev behind_token : List (List ℕ) → List (List ℕ) → Piece → List Piece → Bool → List ℕ → Option TextKind
     → Result (List (List ℕ) × Unread) Stop
@@ -65,33 +49,32 @@ behind_token others names t ts ends name fault =
     if ends then Ok (names, t.rest) else if_good fault t >>= λ rest. names_from others (names ++ name ∷ []) ts
 
 token_whole : (others names : List (List ℕ)) (t : Piece) (ts : List Piece) (all : List (List ℕ)) (r : Unread) (c : Bool)
-    (x : List ℕ) (fault : Option TextKind) → name_fault max_signals (others ++ names) x ≡ fault
-    → behind_token others names t ts c x fault ≡ Ok (all, r) → AreGoodNames (others ++ names)
-    → (names_from others (names ++ x ∷ []) ts ≡ Ok (all, r) → AreGoodNames (others ++ (names ++ x ∷ []))
-    → AreGoodNames (others ++ all)) → AreGoodNames (others ++ all)
+    (x : List ℕ) (fault : Option TextKind) → list_fault others names x ≡ fault
+    → behind_token others names t ts c x fault ≡ Ok (all, r) → IsGoodList others names
+    → (names_from others (names ++ x ∷ []) ts ≡ Ok (all, r) → IsGoodList others (names ++ x ∷ [])
+    → IsGoodList others all) → IsGoodList others all
 token_whole others names t ts all r true x fault is_fault is good later =
     let both : (names, t.rest) ≡ (all, r) = cc in
-    subst (λ (l : List (List ℕ)). AreGoodNames (others ++ l)) (ap (λ (p : List (List ℕ) × Unread). p.0) both) good
+    subst (IsGoodList others) (ap (λ (p : List (List ℕ) × Unread). p.0) both) good
 token_whole others names t ts all r false x None is_fault is good later =
-    later is (subst AreGoodNames (append_assoc others names (x ∷ []))
-    (good_push (name_fault max_signals) [] (others ++ names) x good is_fault))
+    later is (good_push (list_fault others) [] names x good is_fault)
 token_whole others names t ts all r false x (Some kind) is_fault is good later = absurd cc
 
 names_whole : (others names : List (List ℕ)) (ps : List Piece) (all : List (List ℕ)) (r : Unread)
-    → names_from others names ps ≡ Ok (all, r) → AreGoodNames (others ++ names) → AreGoodNames (others ++ all)
+    → names_from others names ps ≡ Ok (all, r) → IsGoodList others names → IsGoodList others all
 names_whole others names [] all r is good = absurd cc
 names_whole others names (t ∷ ts) all r is good =
     token_whole others names t ts all r (ends_expression t.bytes) (bare t.bytes)
-    (name_fault max_signals (others ++ names) (bare t.bytes)) refl is good
+    (list_fault others names (bare t.bytes)) refl is good
     (λ more still. names_whole others (names ++ bare t.bytes ∷ []) ts all r more still)
 
-list_whole : (word : List ℕ) (others : List (List ℕ)) (u : Unread) (names : List (List ℕ)) (r : Unread)
-    → list_at word others u ≡ Ok (names, r) → AreGoodNames others → AreGoodNames (others ++ names)
+pub list_whole : (word : List ℕ) (others : List (List ℕ)) (u : Unread) (names : List (List ℕ)) (r : Unread)
+    → list_at word others u ≡ Ok (names, r) → IsGoodList others names
 unfolding list_at
-list_whole word others u names r is good =
+list_whole word others u names r is =
     let equals = bind_ok (mark_at word u) _ (names, r) is in
     let body = bind_ok (mark_at (codes "=") equals.0) _ (names, r) equals.2 in
-    names_whole others [] (tokens body.0) names r body.2 (subst AreGoodNames (sym (append-nil others)) good)
+    names_whole others [] (tokens body.0) names r body.2 refl
 
 -- ---- the equations
 
@@ -112,26 +95,15 @@ unfolding lists_at
 lists_whole u lists r is =
     let ins = bind_ok (list_at (codes "INORDER") [] u) _ (lists, r) is in
     let outs = bind_ok (list_at (codes "OUTORDER") ins.0.0 ins.0.1) _ (lists, r) ins.2 in
-    let made : Equations = record { inputs = ins.0.0; outputs = outs.0.0; equations = [] } in
-    let first : AreGoodNames ins.0.0 = list_whole (codes "INORDER") [] u ins.0.0 ins.0.1 ins.1 refl in
-    let second : AreGoodNames (ins.0.0 ++ outs.0.0) =
-    list_whole (codes "OUTORDER") ins.0.0 ins.0.1 outs.0.0 outs.0.1 outs.1 first in
+    let inputs = without outs.0.0 ins.0.0 in
+    let made : Equations = record { inputs = inputs; outputs = outs.0.0; equations = [] } in
+    let first = list_whole (codes "INORDER") [] u ins.0.0 ins.0.1 ins.1 in
+    let second = list_whole (codes "OUTORDER") ins.0.0 ins.0.1 outs.0.0 outs.0.1 outs.1 in
     let sound : AreSound made = record {
-      names = subst AreGoodNames (sym (append-nil (ins.0.0 ++ outs.0.0))) second;
+      names = subst AreGoodNames (sym (append-nil (inputs ++ outs.0.0))) (good_lists ins.0.0 outs.0.0 first second);
       once = refl;
     } in
     sound_as made lists outs.0.1 r outs.2 sound
-
--- what isn't among some names isn't among the internal ones of them
-not_inner : (outputs names : List (List ℕ)) (x : List ℕ) → stands_in names x ≡ false
-    → stands_in (internal_among outputs names) x ≡ false
-not_inner outputs [] x none = refl
-not_inner outputs (n ∷ names) x none =
-    let parts = or_parts (bytes_eq x n) (stands_in names x) none in
-    elim (cases_Bool (stands_in outputs n)) [
-      | inl stands ↦ rw stands (not_inner outputs names x parts.1)
-      | inr inner ↦ rw (inner, parts.0) (not_inner outputs names x parts.1)
-    ]
 
 module _ (e : Equations) (line : ℕ) (name : List ℕ) (tree : Tree)
     (none : equation_fault e.inputs e.outputs (driven e) name ≡ None) (sound : AreSound e) where
@@ -182,7 +154,7 @@ module _ (e : Equations) (line : ℕ) (name : List ℕ) (tree : Tree)
       stands_append lists (internal_among e.outputs (driven e)) name
       ∙ ap (λ (c : Bool). c || stands_in (internal_among e.outputs (driven e)) name)
       (stands_append e.inputs e.outputs name ∙ (λ i. new_name.0 i || inner i))
-      ∙ not_inner e.outputs (driven e) name new_name.1 in
+      ∙ not_kept e.outputs (driven e) name new_name.1 in
       let full : too_many ≡ false = when_none too_many TooManySignals rest_good.1 in
       let room : nat_le max_signals (length (signals e)) ≡ false =
       ap (λ (c : Bool). not c && nat_le max_signals (length (signals e))) (sym inner) ∙ full in

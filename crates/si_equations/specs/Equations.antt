@@ -2,17 +2,19 @@
 -- its first fault.
 --
 --     # a comment to the end of the line
---     INORDER = a b;
---     OUTORDER = c;
+--     INORDER = a b c;
+--     OUTORDER = [c] d;
 --     [c] = a b + c (a + b);
---     x = a * !b + b';
+--     d = a * !x;
+--     x = b';
 --
 -- The two lists stand in front, in this order, and behind them one equation for each signal that
--- isn't an input. A statement ends at its `;`, on whatever line. A signal that has an equation and
--- stands in neither list is internal. A name in brackets is the same as without them. Expressions
--- are those of genlib: so the constants are `CONST0` and `CONST1`, and no `0` and `1`. An output
--- stands in the list of outputs alone, also where an equation reads it. Statements of other kinds,
--- as SIS's `NAME`, aren't read.
+-- isn't an input. A name of `INORDER` that stands in `OUTORDER` too, as `c`, is an output that is
+-- fed back to the gates, and no input. So petrify lists each output that an equation reads; here
+-- none must be listed twice. A statement ends at its `;`, on whatever line. A signal that has an
+-- equation and stands in neither list, as `x`, is internal. A name in brackets is the same as
+-- without them. Expressions are those of genlib: so the constants are `CONST0` and `CONST1`, and
+-- no `0` and `1`. Statements of other kinds, as SIS's `NAME`, aren't read.
 use Rattle.std.specs.Prelude.{ℕ, ◌&&◌, ◌||◌, not, Bool, true, List, [], ◌∷◌, ◌++◌, length, map}
 use Rattle.std.specs.Prelude.{filter, nat_le, bytes_eq, codes, if◌then◌else◌, zero, suc}
 use Rattle.std.specs.Prelude.{Option, Some, None, Result, Ok, Err}
@@ -25,7 +27,7 @@ use Rattle.si_base.specs.declared.fault.TextKind.{TextKind}
 use Rattle.si_base.specs.declared.fault.TextKind.TheVariants.{BadByte, BadName, BadWord, NoEnd}
 use Rattle.si_base.specs.declared.fault.TextKind.TheVariants.{Repeated, TooManySignals, Undeclared}
 use Rattle.si_words.specs.Ends.{after_last}
-use Rattle.si_words.specs.Names.{stands_in, name_fault}
+use Rattle.si_words.specs.Names.{stands_in}
 use Rattle.si_words.specs.Sums.{is_empty}
 use Rattle.si_tokens.specs.declared.fault.Stop.{Stop}
 use Rattle.si_tokens.specs.declared.fault.Stop.TheVariants.{Cut, Fault}
@@ -51,9 +53,13 @@ pub record Equations : Type 0 where
 abbrev pub driven : Equations → List (List ℕ)
 driven e = map (λ q. q.name) e.equations
 
+-- those of these names that are none of the others
+abbrev pub without : List (List ℕ) → List (List ℕ) → List (List ℕ)
+without others names = filter (λ name. not (stands_in others name)) names
+
 -- those of these signals that are no outputs
 abbrev pub internal_among : List (List ℕ) → List (List ℕ) → List (List ℕ)
-internal_among outputs names = filter (λ name. not (stands_in outputs name)) names
+internal_among outputs names = without outputs names
 
 abbrev pub internal : Equations → List (List ℕ)
 internal e = internal_among e.outputs (driven e)
@@ -80,13 +86,22 @@ abbrev pub if_good : Option TextKind → Piece → Result Unread Stop
 if_good None piece = Ok piece.rest
 if_good (Some kind) piece = Err (Fault piece.line kind)
 
+-- the fault of a name of a list, behind the names of another list and those of its own so far: no
+-- signal name; one that its list has already; where the other list hasn't got it, one too many
+abbrev pub list_fault : List (List ℕ) → List (List ℕ) → List ℕ → Option TextKind
+list_fault others names name =
+    when (not (is_signal_name name)) BadName
+    otherwise when (stands_in names name) Repeated
+    otherwise when (not (stands_in others name)
+    && nat_le max_signals (length (others ++ without others names))) TooManySignals
+
 -- the names of a list up to its `;`, behind those of another list and those of its own so far
 abbrev pub names_from : List (List ℕ) → List (List ℕ) → List Piece
     → Result (List (List ℕ) × Unread) Stop
 names_from others names [] = Err Cut
 names_from others names (token ∷ more) =
     if ends_expression token.bytes then Ok (names, token.rest)
-    else if_good (name_fault max_signals (others ++ names) (bare token.bytes)) token
+    else if_good (list_fault others names (bare token.bytes)) token
     >>= λ rest. names_from others (names ++ bare token.bytes ∷ []) more
 
 -- `WORD = NAMES;`, where the names of another list stand before
@@ -96,11 +111,19 @@ list_at word others u = do
   names ← mark_at (codes "=") equals
   names_from others [] (tokens names)
 
+-- the inputs are the names of the first list that are no outputs
 unfoldable pub lists_at : Unread → Result (Equations × Unread) Stop
 lists_at u = do
-  inputs ← list_at (codes "INORDER") [] u
-  outputs ← list_at (codes "OUTORDER") inputs.0 inputs.1
-  Ok (record { inputs = inputs.0; outputs = outputs.0; equations = [] }, outputs.1)
+  listed ← list_at (codes "INORDER") [] u
+  outputs ← list_at (codes "OUTORDER") listed.0 listed.1
+  Ok (
+    record {
+      inputs = without outputs.0 listed.0;
+      outputs = outputs.0;
+      equations = [];
+    },
+    outputs.1,
+  )
 
 -- the fault of the name of an equation, behind the lists and the equations of other signals: no
 -- signal name; an input, or a signal that has an equation; one signal too many

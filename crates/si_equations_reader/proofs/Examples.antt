@@ -1,21 +1,18 @@
--- The trees of the tokens of some expressions.
-use Rattle.std.proofs.Common.{◌≡◌, true, false, [], ◌∷◌, codes, refl}
-use Rattle.si_genlib.specs.Expression.{step, Pin, Constant, Not, And, Or}
-use Rattle.si_equations_reader.specs.Held.{tree_of}
+-- The trees of the steps of some expressions.
+use Rattle.std.proofs.Common.{◌≡◌, ℕ, true, false, List, [], ◌∷◌, Bor, refl}
+use Rattle.si_genlib.specs.Expression.{Pin, Constant, Not, And, Or}
+use Rattle.si_equations_reader.specs.declared.step.Step.TheVariants as steps
+use Rattle.si_equations_reader.specs.Steps.{tree_of}
 
 -- `a' b + !c;`
-sum : tree_of (codes "a" ∷ codes "'" ∷ codes "b" ∷ codes "+" ∷ codes "!" ∷ codes "c" ∷ codes ";" ∷ [])
-    ≡ Or (And (Not (Pin (codes "a"))) (Pin (codes "b"))) (Not (Pin (codes "c")))
-unfolding tree_of step
-sum = refl
+sum : (a b c : Bor (List ℕ))
+    → tree_of (steps.Pin a ∷ steps.Not ∷ steps.Pin b ∷ steps.And ∷ steps.Pin c ∷ steps.Not ∷ steps.Or ∷ [])
+    ≡ Or (And (Not (Pin a.now)) (Pin b.now)) (Not (Pin c.now))
+sum a b c = refl
 
--- `[a] (CONST1);`
-product : tree_of (codes "[a]" ∷ codes "(" ∷ codes "CONST1" ∷ codes ")" ∷ codes ";" ∷ [])
-    ≡ And (Pin (codes "[a]")) (Constant true)
-unfolding tree_of step
-product = refl
+constant : tree_of (steps.Constant true ∷ []) ≡ Constant true
+constant = refl
 
--- without its `;` nothing is read
-cut : tree_of (codes "a" ∷ []) ≡ Constant false
-unfolding tree_of step
-cut = refl
+-- operands that are missing are the constant 0
+missing : tree_of (steps.And ∷ []) ≡ And (Constant false) (Constant false)
+missing = refl

@@ -1,120 +1,121 @@
--- Operators that aren't finished, kept the last last, and the values of names.
-use Rattle.std.proofs.Common.{◌≡◌, ℕ, ◌+◌, ◌<◌, ◌-◌, ◌↔◌, Bool, false, List, [], ◌∷◌, ◌++◌, length, map, reverse}
-use Rattle.std.proofs.Common.{get_or, slice_get, Option, Some, None, refl, sym, ap, ◌∙◌, arith, MatchOption, IsSome}
-use Rattle.std.proofs.Common.{option_to_list, position, bytes_eq, suc, inl, inr, true, not, ◌≤◌, ◌^◌, ◌==◌, nat_lt}
-use Rattle.std.proofs.Common.{if◌then◌else◌, Result, Err}
-use Rattle.std.specs.List.{prefix_len}
-use Rattle.std.proofs.lemmas.Bool.{cases_Bool, cases_lt, lt-ltb, le-ltb}
-use Rattle.std.proofs.lemmas.List.{length-reverse, get_or-reverse}
-use Rattle.std.proofs.lemmas.Option.{slice_get_within, get_or_from_slice_get}
-use Rattle.std.proofs.lemmas.Nat.Bits.{bit_at_above}
-use Rattle.std.proofs.lemmas.Slice.Eq.{bytes_eq-Decides}
-use Rattle.si_base.specs.Bits.{bit}
-use Rattle.si_base.specs.declared.fault.LineFault.{LineFault}
-use Rattle.si_base.specs.declared.fault.LineFault.TheVariants as line_faults
-use Rattle.si_base.specs.declared.fault.TextKind.{TextKind}
-use Rattle.si_words.proofs.NameWords.{bytes_swap}
-use Rattle.si_tokens.specs.declared.fault.ReadFault.{ReadFault}
-use Rattle.si_tokens.specs.declared.fault.Stop.{Stop}
-use Rattle.si_tokens.specs.declared.fault.Stop.TheVariants.{Fault}
-use Rattle.si_tokens.specs.Loops.Parts.{Shows}
-use Rattle.si_genlib.specs.Expression.{is_complement, begins_complement, State, Outcome, Goes, Ends, Stops}
-use Rattle.si_equations.specs.Names.{named_from, named_value}
-use Rattle.si_genlib.proofs.ExpressionOperators.{popped}
+-- What is read of an expression, and the trees that its steps leave.
+use Rattle.std.proofs.Common.{◌≡◌, ℕ, ◌<◌, ◌≤◌, Bool, true, false, List, [], ◌∷◌, ◌++◌, length, reverse, suc}
+use Rattle.std.proofs.Common.{Option, Some, None, nat_le, if◌then◌else◌, MatchOption}
+use Rattle.std.proofs.Common.{refl, sym, ap, ◌∙◌, arith}
+use Rattle.std.proofs.lemmas.Bool.{le-leb, lt-leb}
+use Rattle.std.proofs.lemmas.List.{reverse-append, length-reverse}
+use Rattle.si_base.specs.declared.fault.TextKind.TheVariants.{TooDeep}
+use Rattle.si_genlib.specs.declared.symbol.Symbol.TheVariants as symbols
+use Rattle.si_genlib.specs.Limits.{max_unfinished}
+use Rattle.si_genlib.specs.Expression.{Operations, Tree, trees, State, Goes, Stops, opened, due}
+use Rattle.si_genlib.specs.Expression.{begins_complement, complemented, still}
+use Rattle.si_equations_reader.specs.declared.step.Step.{Step}
+use Rattle.si_equations_reader.specs.declared.step.Step.TheVariants as steps
+use Rattle.si_equations_reader.specs.declared.machine.Reading.{Reading}
 use Rattle.si_equations_reader.specs.declared.machine.Operator.{Operator as OperatorHeld}
-use Rattle.si_equations_reader.specs.Loops.Machine.{operator_now, unfinished_now, LeadsOn, StopsWith, ToldAt}
+use Rattle.si_equations_reader.specs.declared.machine.Operator.TheVariants as operators
+use Rattle.si_equations_reader.specs.Steps.{last_of, before_last, after_step, after_steps, tree_of}
+use Rattle.si_equations_reader.specs.Loops.Machine.{before, operators_now, trees_now, trees_before}
+use Rattle.si_equations_reader.specs.Loops.Machine.{state_of, state_now}
 
-pub popped_now : (old new : List OperatorHeld) (r : Option OperatorHeld) (n : ℕ) → n ≡ length old
-    → old ≡ new ++ option_to_list r → (IsSome r ↔ (0 < n))
-    → MatchOption r (unfinished_now old ≡ []) (λ x. unfinished_now old ≡ operator_now x ∷ unfinished_now new)
-popped_now old new None n count same some = ap (map operator_now) (popped old new None n count same some)
-popped_now old new (Some x) n count same some = ap (map operator_now) (popped old new (Some x) n count same some)
+-- ---- one step more
+one_more : {X : Type 0} (o : Operations X) (xs : List X) (all : List Step) (step : Step)
+    → after_steps o xs (all ++ step ∷ []) ≡ after_step o (after_steps o xs all) step
+one_more o xs [] step = refl
+one_more o xs (first ∷ all) step = one_more o (after_step o xs first) all step
 
-begins_at : (ops : List OperatorHeld) (d : OperatorHeld) → 0 < length ops
-    → begins_complement (map operator_now ops) ≡ is_complement (operator_now (get_or ops 0 d))
-begins_at [] d some = absurd (omega arith)
-begins_at (x ∷ ops) d some = refl
+pub trees_push : (new old : List Step) (step : Step) → new ≡ old ++ step ∷ []
+    → trees_now new ≡ after_step trees (trees_now old) step
+trees_push new old step is = ap trees_now is ∙ one_more trees [] old step
 
-pub last_is : (ops : List OperatorHeld) (x : OperatorHeld) → Some x ≡ slice_get ops (length ops - 1)
-    → is_complement (operator_now x) ≡ begins_complement (unfinished_now ops)
-last_is ops x at =
-    let within : length ops - 1 < length ops = slice_get_within ops (length ops - 1) x (sym at) in
-    let last : get_or ops (length ops - 1) x ≡ x = get_or_from_slice_get ops (length ops - 1) x x (sym at) in
-    let first : get_or (reverse ops) 0 x ≡ get_or ops (length ops - 1 - 0) x = get_or-reverse ops 0 x (omega arith) in
-    let same : length ops - 1 - 0 ≡ length ops - 1 = omega arith in
-    sym (begins_at (reverse ops) x (omega (arith, length-reverse ops))
-    ∙ ap (λ (y : OperatorHeld). is_complement (operator_now y))
-    (first ∙ ap (λ (k : ℕ). get_or ops k x) same ∙ last))
+-- ---- one operator more
+operators_length : (ts : List Tree) (ops : List OperatorHeld) → length (operators_now ts ops) ≡ length ops
+operators_length ts [] = refl
+operators_length ts (operators.Complement ∷ more) = ap suc (operators_length ts more)
+operators_length ts (operators.Paren terms factors ∷ more) =
+    ap suc (operators_length (before terms (before factors ts)) more)
 
--- ---- where a step leads
-pub goes_so : (m : Option Bool) (t : State Bool) (c : Outcome Bool) → m ≡ None → LeadsOn m t c → c ≡ Goes t
-goes_so None t c is on = on
-goes_so (Some x) t c is on = absurd cc
+count_is : (ts : List Tree) (ops : List OperatorHeld) → length (operators_now ts (reverse ops)) ≡ length ops
+count_is ts ops = operators_length ts (reverse ops) ∙ length-reverse ops
 
-pub ends_so : (m : Option Bool) (t : State Bool) (c : Outcome Bool) (x : Bool) → m ≡ Some x → LeadsOn m t c
-    → c ≡ Ends x
-ends_so None t c x is on = absurd cc
-ends_so (Some y) t c x is on = cc
+-- nothing but their number tells whether there is room
+same_room : (s t next : State Tree) → length s.unfinished ≡ length t.unfinished → opened s next ≡ opened t next
+same_room s t next same =
+    ap (λ (n : ℕ). if nat_le max_unfinished n then Stops TooDeep else Goes next) same
 
-pub stops_so : (e : LineFault) (c : Outcome Bool) (kind : TextKind) → e ≡ line_faults.Kind kind → StopsWith e c
-    → c ≡ Stops kind
-stops_so line_faults.NoMemory c kind is on = absurd cc
-stops_so (line_faults.Kind other) c kind is on = cc
+pub too_deep : (r : Reading) (operator : OperatorHeld) → max_unfinished ≤ length r.unfinished.items
+    → opened (state_now r) (state_of false r.terms r.factors (operator ∷ reverse r.unfinished.items)
+    (trees_now r.steps.items)) ≡ Stops TooDeep
+too_deep r operator deep =
+    let next = state_of false r.terms r.factors (operator ∷ reverse r.unfinished.items) (trees_now r.steps.items) in
+    let count = count_is (before r.terms (before r.factors (before r.operand (trees_now r.steps.items))))
+    r.unfinished.items in
+    ap (λ (full : Bool). if full then Stops TooDeep else Goes next) (le-leb _ _ (omega (arith, count, deep)))
 
-pub told_so : {Y : Type 0} (e : LineFault) (line : ℕ) (f : ReadFault) (c : Outcome Bool) (r : Result Y Stop)
-    → StopsWith e c → ToldAt e line f → ((kind : TextKind) → c ≡ Stops kind → r ≡ Err (Fault line kind)) → Shows f r
-told_so line_faults.NoMemory line f c r on told next = rw told tt
-told_so (line_faults.Kind kind) line f c r on told next = rw told (next kind on)
+pub opens : (operand terms factors : Bool) (old new : List OperatorHeld) (operator : OperatorHeld) (ts : List Tree)
+    → operand ≡ false → new ≡ old ++ operator ∷ [] → length old < max_unfinished
+    → opened (state_of operand terms factors (reverse old) ts)
+    (state_of false terms factors (operator ∷ reverse old) ts) ≡ Goes (state_of operand terms factors (reverse new) ts)
+opens true terms factors old new operator ts due is room = absurd cc
+opens false terms factors old new operator ts due is room =
+    let next = state_of false terms factors (operator ∷ reverse old) ts in
+    let count = count_is (before terms (before factors ts)) old in
+    ap (λ (full : Bool). if full then Stops TooDeep else Goes next) (lt-leb _ _ (omega (arith, count, room)))
+    ∙ ap (λ (ops : List OperatorHeld). Goes (state_of false terms factors ops ts))
+    (sym (ap reverse is ∙ reverse-append old (operator ∷ [])))
 
--- ---- the value of a name
-abbrev value_at : ℕ → ℕ → Option ℕ → Bool
-value_at values i None = false
-value_at values i (Some k) = bit values (i + k)
+pub opens_paren : (operand terms factors : Bool) (ops : List OperatorHeld) (ts : List Tree) → operand ≡ false
+    → opened (state_of operand false false ops ts)
+    (state_of false false false (operators.Paren terms factors ∷ ops) ts)
+    ≡ due (state_of operand terms factors ops ts) symbols.Open
+opens_paren true terms factors ops ts none = absurd cc
+opens_paren false terms factors ops ts none =
+    same_room (state_of false false false ops ts) (state_of false terms factors ops ts) _
+    (operators_length ts ops ∙ sym (operators_length (before terms (before factors ts)) ops))
 
-bytes_swapped : (a b : List ℕ) (c : Bool) → bytes_eq a b ≡ c → bytes_eq b a ≡ c
-bytes_swapped a b true is = (bytes_eq-Decides b a).1 (sym ((bytes_eq-Decides a b).0 is))
-bytes_swapped a b false is = bytes_swap a b is
+-- ---- the `!` that stand last
+pub popped_complement : (ops rest : List OperatorHeld) (r : Option OperatorHeld)
+    → begins_complement (operators_now [] ops) ≡ true → MatchOption r (ops ≡ []) (λ x. ops ≡ x ∷ rest)
+    → ops ≡ operators.Complement ∷ rest
+popped_complement ops rest None begins none =
+    let not_so : false ≡ true =
+    ap (λ (l : List OperatorHeld). begins_complement (operators_now [] l)) (sym none) ∙ begins in
+    absurd cc
+popped_complement ops rest (Some operators.Complement) begins is = is
+popped_complement ops rest (Some (operators.Paren terms factors)) begins is =
+    let not_so : false ≡ true =
+    ap (λ (l : List OperatorHeld). begins_complement (operators_now [] l)) (sym is) ∙ begins in
+    absurd cc
 
-value_later : (values i place count : ℕ)
-    → value_at values i (if nat_lt (suc place) (suc count) then Some (suc place) else None)
-    ≡ value_at values (i + 1) (if nat_lt place count then Some place else None)
-value_later values i place count = elim (cases_lt place count) [
-  | inl less ↦
-      let one : nat_lt place count ≡ true = lt-ltb _ _ less in
-      let other : nat_lt (suc place) (suc count) ≡ true = lt-ltb _ _ (omega arith) in
-      let same : i + suc place ≡ i + 1 + place = omega arith in
-      rw (one, other) (ap (bit values) same)
-  | inr past ↦
-      let one : nat_lt place count ≡ false = le-ltb _ _ past in
-      let other : nat_lt (suc place) (suc count) ≡ false = le-ltb _ _ (omega arith) in
-      rw (one, other) refl
-]
+-- some of them are taken
+pub record Taken (old new : List Step) (ops rest : List OperatorHeld) : Type 0 where
+  pub last_is : (ts : List Tree) → complemented trees (tree_of new) (operators_now ts rest)
+      ≡ complemented trees (tree_of old) (operators_now ts ops)
+  pub same_before : trees_before new ≡ trees_before old
+  pub same_still : (ts : List Tree) → still (operators_now ts rest) ≡ still (operators_now ts ops)
 
-pub named_place : (i : ℕ) (names : List (List ℕ)) (values : ℕ) (name : List ℕ)
-    → named_from i names values name ≡ value_at values i (position (λ n. bytes_eq name n) names)
-named_place i [] values name = refl
-named_place i (n ∷ names) values name = elim (cases_Bool (bytes_eq name n)) [
-  | inl same ↦
-      let other = bytes_swapped name n true same in
-      let first : i ≡ i + 0 = omega arith in
-      let there : nat_lt 0 (suc (length names)) ≡ true = lt-ltb _ _ (omega arith) in
-      rw (same, other, there) (ap (bit values) first)
-  | inr apart ↦
-      let other = bytes_swapped name n false apart in
-      let one : (k : ℕ) → 1 + k ≡ suc k = λ k. omega arith in
-      rw (apart, other, one) (named_place (i + 1) names values name
-      ∙ sym (value_later values i (prefix_len (λ m. not (bytes_eq name m)) names) (length names)))
-]
+pub one_taken : (old new more : List Step) (ops rest last : List OperatorHeld) → Taken old new ops rest
+    → rest ≡ operators.Complement ∷ last → trees_now more ≡ after_step trees (trees_now new) steps.Not
+    → Taken old more ops last
+one_taken old new more ops rest last taken is made = record {
+  last_is = λ ts. ap (λ (l : List Tree). complemented trees (last_of trees l) (operators_now ts last)) made
+      ∙ sym (ap (λ (l : List OperatorHeld). complemented trees (tree_of new) (operators_now ts l)) is)
+      ∙ taken.last_is ts;
+  same_before = ap (λ (l : List Tree). before_last l) made ∙ taken.same_before;
+  same_still = λ ts. sym (ap (λ (l : List OperatorHeld). still (operators_now ts l)) is) ∙ taken.same_still ts;
+}
 
-pub named_there : (names : List (List ℕ)) (values : ℕ) (name : List ℕ) (k : ℕ)
-    → Some k ≡ position (λ n. bytes_eq name n) names → bit values k ≡ named_value names values name
-named_there names values name k at =
-    let same : k ≡ 0 + k = omega arith in
-    ap (bit values) same ∙ ap (value_at values 0) at ∙ sym (named_place 0 names values name)
+none_left : (x : Tree) (ts : List Tree) (rest : List OperatorHeld)
+    → begins_complement (operators_now [] rest) ≡ false
+    → (x ≡ complemented trees x (operators_now ts rest)) × (operators_now ts rest ≡ still (operators_now ts rest))
+none_left x ts [] none = (refl, refl)
+none_left x ts (operators.Complement ∷ more) none = absurd cc
+none_left x ts (operators.Paren terms factors ∷ more) none = (refl, refl)
 
-pub named_none : (names : List (List ℕ)) (values : ℕ) (name : List ℕ)
-    → None ≡ position (λ n. bytes_eq name n) names → false ≡ named_value names values name
-named_none names values name at = ap (value_at values 0) at ∙ sym (named_place 0 names values name)
-
-pub no_bit : (values k : ℕ) → values < 2 ^ 128 → 128 ≤ k → bit values k ≡ false
-no_bit values k small past = ap (λ (b : ℕ). b == 1) (bit_at_above values 128 k small past)
+pub all_taken : (old new : List Step) (ops rest : List OperatorHeld) → Taken old new ops rest
+    → begins_complement (operators_now [] rest) ≡ false → (ts : List Tree)
+    → (tree_of new ≡ complemented trees (tree_of old) (operators_now ts ops))
+    × (operators_now ts rest ≡ still (operators_now ts ops))
+all_taken old new ops rest taken none ts =
+    let left = none_left (tree_of new) ts rest none in
+    (left.0 ∙ taken.last_is ts, left.1 ∙ taken.same_still ts)

@@ -1,6 +1,6 @@
 -- Equations one after another, and the signals with them.
 use Rattle.std.proofs.Common.{◌≡◌, ℕ, ◌+◌, ◌<◌, ◌≤◌, ◌&&◌, ◌||◌, not, Bool, true, false, List, [], ◌∷◌, ◌++◌, length}
-use Rattle.std.proofs.Common.{nat_le, bytes_eq, if◌then◌else◌, suc, Bor, get_or, slice_get, drop, map, add-one}
+use Rattle.std.proofs.Common.{nat_le, bytes_eq, if◌then◌else◌, suc, get_or, slice_get, drop, map, add-one}
 use Rattle.std.proofs.Common.{Option, Some, None, refl, sym, ap, ◌∙◌}
 use Rattle.std.specs.List.{list_all}
 use Rattle.std.proofs.Math.ListN.{drop_of_length-le}
@@ -12,12 +12,13 @@ use Rattle.si_base.specs.Faults.{when, ◌otherwise◌, first_in}
 use Rattle.si_base.specs.Limits.{max_signals}
 use Rattle.si_base.specs.Words.{is_signal_name}
 use Rattle.si_words.specs.Names.{stands_in}
-use Rattle.si_words.specs.Loops.Reads.{words_now}
 use Rattle.si_words.proofs.FaultLemmas.{both, not_when}
 use Rattle.si_genlib.specs.Expression.{value_of}
 use Rattle.si_equations.specs.Equations.{Equation, internal_among, equation_fault, known, undeclared}
 use Rattle.si_equations.proofs.NewLemmas.{stands_append}
-use Rattle.si_equations_reader.specs.Held.{equation_now, tree_of}
+use Rattle.si_equations_reader.specs.Held.{equation_now}
+use Rattle.si_equations_reader.specs.Steps.{tree_of}
+use Rattle.si_equations_reader.specs.declared.step.Step.{Step}
 use Rattle.si_equations_reader.specs.declared.progress.Equation.{Equation as EquationHeld}
 
 -- ---- a name without fault
@@ -69,7 +70,7 @@ internal_new inputs outputs before name none other =
     }
 
 -- ---- one output after another
-drop_at : (xs : List (List ℕ)) (k : ℕ) (x : List ℕ) → slice_get xs k ≡ Some x → drop k xs ≡ x ∷ drop (k + 1) xs
+pub drop_at : (xs : List (List ℕ)) (k : ℕ) (x : List ℕ) → slice_get xs k ≡ Some x → drop k xs ≡ x ∷ drop (k + 1) xs
 drop_at xs k x at =
     let within : k < length xs = slice_get_within xs k x at in
     drop-cons xs k x within
@@ -114,12 +115,11 @@ first_done f qs i past so_far =
     sym so_far ∙ ap (λ (l : List EquationHeld). first_in f (map equation_now l)) (drop_of_length-le qs past)
 
 -- ---- whether the names of an equation are those of signals
-module _ (sigs names : List (List ℕ)) (q : EquationHeld) (words : List (Bor (List ℕ))) (v : Bool)
-    (sigs_are : sigs ≡ names) (words_are : words ≡ q.sentence.items)
-    (is : v ≡ value_of (known sigs) (tree_of (words_now words))) where
+module _ (sigs names : List (List ℕ)) (q : EquationHeld) (all : List Step) (v : Bool)
+    (sigs_are : sigs ≡ names) (all_are : all ≡ q.steps.items) (is : v ≡ value_of (known sigs) (tree_of all)) where
   value_then : value_of (known names) (equation_now q).tree ≡ v
-  value_then = sym (is ∙ ap (λ (l : List (List ℕ)). value_of (known l) (tree_of (words_now words))) sigs_are
-      ∙ ap (λ (l : List (Bor (List ℕ))). value_of (known names) (tree_of (words_now l))) words_are)
+  value_then = sym (is ∙ ap (λ (l : List (List ℕ)). value_of (known l) (tree_of all)) sigs_are
+      ∙ ap (λ (l : List Step). value_of (known names) (tree_of l)) all_are)
 
   pub is_known : v ≡ true → undeclared names (equation_now q) ≡ None
   is_known known_so = ap (λ (c : Bool). if c then None else Some (q.line, Undeclared)) (value_then ∙ known_so)

@@ -1,3 +1,4 @@
 -- What the parts of a computation keep: for the proofs of the code, and in no promise of a run.
 pub mod Machine
+pub mod Values
 pub mod Statements

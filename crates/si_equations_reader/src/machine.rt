@@ -1,13 +1,18 @@
 //! Expressions, read token by token.
 
-ghost use Rattle.std.specs.Prelude.{◌≡◌, [], ◌∷◌, MatchOption, reverse, None};
+ghost use Rattle.std.specs.Prelude.{◌≡◌, [], ◌∷◌, List, MatchOption, OnOk, false, true, reverse};
 ghost use Rattle.si_genlib.specs.Expression as spec;
+ghost use Rattle.si_genlib.specs.Expression.{Tree, trees};
 ghost use Rattle.si_genlib.specs.declared.symbol.Symbol.TheVariants as symbols;
-ghost use Rattle.si_equations_reader.specs.Loops.Machine.{operations, symbol_now, operator_now};
-ghost use Rattle.si_equations_reader.specs.Loops.Machine.{unfinished_now, state_now, Steps};
+ghost use Rattle.si_equations_reader.specs.Loops.Machine.{before, behind_now, operators_now, standing};
+ghost use Rattle.si_equations_reader.specs.Loops.Machine.{state_now, state_of, Steps, symbol_now};
+ghost use Rattle.si_equations_reader.specs.Loops.Machine.{trees_before, trees_now};
+ghost use Rattle.si_equations_reader.specs.Steps.{after_step, tree_of};
 
-use crate::meaning::{Meaning, Symbol};
+use crate::step::Step;
+use crate::symbol::Symbol;
 use si_base::fault::{LineFault, TextKind};
+use si_base::ids::NoMemory;
 use si_genlib::limits::MAX_UNFINISHED;
 use std::alloc::Global;
 
@@ -16,140 +21,161 @@ use std::alloc::Global;
 pub(crate) enum Operator {
     /// `!`
     Complement,
-    /// An opening parenthesis, with the terms and the factors that stand before it.
-    Paren {
-        terms: Option<bool>,
-        factors: Option<bool>,
-    },
+    /// An opening parenthesis, and whether terms and factors stand before it.
+    Paren { terms: bool, factors: bool },
 }
 
 /// What is read of an expression.
 #[derive(Drop)]
-pub(crate) struct Reading {
-    /// The operand that stands last.
-    pub(crate) operand: Option<bool>,
+pub(crate) struct Reading<'a> {
+    /// The steps of all that is read. Their last result is the operand, if one stands last; before
+    /// it come those of the factors and the terms that stand, and so on for each parenthesis.
+    pub(crate) steps: Vec<Step<'a>>,
+    /// Whether an operand stands last.
+    pub(crate) operand: bool,
     /// The operators before it that aren't finished, the last last.
     pub(crate) unfinished: Vec<Operator>,
-    /// Of the innermost parentheses the terms before the last `+`.
-    pub(crate) terms: Option<bool>,
-    /// The factors behind that.
-    pub(crate) factors: Option<bool>,
-}
-
-fn is_complement(operator: &Operator) -> bool
-    ensures { result ≡ spec.is_complement (operator_now operator.now) }
-{
-    match *operator {
-        Operator::Complement => true,
-        Operator::Paren { .. } => false,
-    }
+    /// Whether, of the innermost parentheses, terms stand before the last `+`.
+    pub(crate) terms: bool,
+    /// Whether factors stand behind that.
+    pub(crate) factors: bool,
 }
 
 /// Whether a `!` stands last.
 fn ends_in_complement(unfinished: &[Operator]) -> bool
-    ensures { result ≡ spec.begins_complement (unfinished_now unfinished.now) }
+    ensures { result ≡ spec.begins_complement (operators_now [] (reverse unfinished.now)) }
 {
     match unfinished.last() {
+        Some(Operator::Complement) => true,
+        Some(Operator::Paren { .. }) => false,
         None => false,
-        Some(last) => is_complement(last),
     }
 }
 
 /// Takes the operator that stands last.
 fn pop(unfinished: &mut Vec<Operator>) -> Option<Operator>
-    ensures { MatchOption result (unfinished_now unfinished.old.items ≡ [])
-        (λ last. unfinished_now unfinished.old.items
-        ≡ operator_now last ∷ unfinished_now unfinished.new.items) }
+    ensures { MatchOption result (reverse unfinished.old.items ≡ [])
+        (λ last. reverse unfinished.old.items ≡ last ∷ reverse unfinished.new.items) }
 {
     unfinished.pop()
 }
 
-/// Takes the `!` that stand last. Answers the complement of the operand for each.
-fn take_complements(meaning: &Meaning<'_>, unfinished: &mut Vec<Operator>, operand: bool) -> bool
-    ensures value { result ≡ spec.complemented (operations meaning.now) operand
-        (unfinished_now unfinished.old.items) }
-    ensures rest { unfinished_now unfinished.new.items
-        ≡ spec.still (unfinished_now unfinished.old.items) }
+/// Adds a step, which takes its operands from the results of those before it.
+fn emit<'a>(steps: &mut Vec<Step<'a>>, step: Step<'a>) -> Result<(), NoMemory>
+    ensures { OnOk result
+        (trees_now steps.new.items ≡ after_step trees (trees_now steps.old.items) step.entry) }
 {
-    let mut value = operand;
+    steps.push(step)?;
+    Ok(())
+}
+
+/// Takes the `!` that stand last, and the complement of the last result for each.
+fn take_complements<'a>(
+    steps: &mut Vec<Step<'a>>,
+    unfinished: &mut Vec<Operator>,
+) -> Result<(), NoMemory>
+    ensures last { OnOk result ((ts : List Tree) → tree_of steps.new.items
+        ≡ spec.complemented trees (tree_of steps.old.items)
+        (operators_now ts (reverse unfinished.old.items))) }
+    ensures before { OnOk result (trees_before steps.new.items ≡ trees_before steps.old.items) }
+    ensures rest { OnOk result ((ts : List Tree) → operators_now ts (reverse unfinished.new.items)
+        ≡ spec.still (operators_now ts (reverse unfinished.old.items))) }
+{
     while ends_in_complement(unfinished) {
         let _last = pop(unfinished);
-        value = meaning.complement(value);
+        emit(steps, Step::Not)?;
     }
-    value
+    Ok(())
 }
 
-fn times(meaning: &Meaning<'_>, factors: Option<bool>, factor: bool) -> bool
-    ensures { result ≡ spec.after (operations meaning.now).both factors factor }
+/// Joins the last result to the factors, if any stand before it.
+fn times<'a>(steps: &mut Vec<Step<'a>>, factors: bool) -> Result<(), NoMemory>
+    ensures last { OnOk result (tree_of steps.new.items ≡ spec.after trees.both
+        (standing factors (trees_before steps.old.items)) (tree_of steps.old.items)) }
+    ensures before { OnOk result
+        (trees_before steps.new.items ≡ before factors (trees_before steps.old.items)) }
 {
-    match factors {
-        None => factor,
-        Some(before) => meaning.both(before, factor),
+    if !factors {
+        return Ok(());
     }
+    emit(steps, Step::And)?;
+    Ok(())
 }
 
-fn plus(meaning: &Meaning<'_>, terms: Option<bool>, term: bool) -> bool
-    ensures { result ≡ spec.after (operations meaning.now).either terms term }
+/// Joins the last result to the terms, if any stand before it.
+fn plus<'a>(steps: &mut Vec<Step<'a>>, terms: bool) -> Result<(), NoMemory>
+    ensures last { OnOk result (tree_of steps.new.items ≡ spec.after trees.either
+        (standing terms (trees_before steps.old.items)) (tree_of steps.old.items)) }
+    ensures before { OnOk result
+        (trees_before steps.new.items ≡ before terms (trees_before steps.old.items)) }
 {
-    match terms {
-        None => term,
-        Some(before) => meaning.either(before, term),
+    if !terms {
+        return Ok(());
     }
+    emit(steps, Step::Or)?;
+    Ok(())
 }
 
-impl Reading {
+impl<'a> Reading<'a> {
     /// Nothing is read yet.
-    pub(crate) fn new(alloc: Global) -> Reading
+    pub(crate) fn new(alloc: Global) -> Reading<'a>
         ensures { state_now result ≡ spec.start }
     {
         Reading {
-            operand: None,
+            steps: Vec::new(alloc),
+            operand: false,
             unfinished: Vec::new(alloc),
-            terms: None,
-            factors: None,
+            terms: false,
+            factors: false,
         }
     }
 
     /// One more operator isn't finished.
-    fn open(&mut self, operator: Operator) -> Result<Option<bool>, LineFault>
-        ensures { Steps result (state_now self.new)
-            (spec.opened (state_now self.old) (record {
-              operand = None;
-              unfinished = operator_now operator ∷ (state_now self.old).unfinished;
-              terms = self.old.terms;
-              factors = self.old.factors;
-            })) }
+    fn open(&mut self, operator: Operator) -> Result<bool, LineFault>
+        requires { self.old.operand ≡ false }
+        ensures { Steps result self.new (spec.opened (state_now self.old)
+            (state_of false self.old.terms self.old.factors
+            (operator ∷ reverse self.old.unfinished.items) (trees_now self.old.steps.items))) }
     {
         if self.unfinished.len() >= MAX_UNFINISHED {
             return Err(LineFault::Kind(TextKind::TooDeep));
         }
         self.unfinished.push(operator)?;
-        self.operand = None;
-        Ok(None)
+        Ok(false)
     }
 
-    fn open_paren(&mut self) -> Result<Option<bool>, LineFault>
-        ensures { Steps result (state_now self.new) (spec.due (state_now self.old) symbols.Open) }
+    fn open_paren(&mut self) -> Result<bool, LineFault>
+        requires { self.old.operand ≡ false }
+        ensures { Steps result self.new (spec.due (state_now self.old) symbols.Open) }
     {
         let paren = Operator::Paren {
             terms: self.terms,
             factors: self.factors,
         };
-        self.terms = None;
-        self.factors = None;
+        self.terms = false;
+        self.factors = false;
         self.open(paren)
     }
 
+    /// An operand of one step.
+    fn leaf(&mut self, leaf: Step<'a>) -> Result<bool, LineFault>
+        ensures { Steps result self.new (spec.Goes (state_of true self.old.terms self.old.factors
+            (reverse self.old.unfinished.items)
+            (after_step trees (trees_now self.old.steps.items) leaf.entry))) }
+    {
+        emit(&mut self.steps, leaf)?;
+        self.operand = true;
+        Ok(false)
+    }
+
     /// Where an operand is due.
-    fn due(&mut self, symbol: Symbol) -> Result<Option<bool>, LineFault>
-        ensures { Steps result (state_now self.new)
-            (spec.due (state_now self.old) (symbol_now symbol)) }
+    fn due(&mut self, symbol: Symbol<'a>) -> Result<bool, LineFault>
+        requires { self.old.operand ≡ false }
+        ensures { Steps result self.new (spec.due (state_now self.old) (symbol_now symbol.entry)) }
     {
         match symbol {
-            Symbol::Leaf(value) => {
-                self.operand = Some(value);
-                Ok(None)
-            }
+            Symbol::Pin(name) => self.leaf(Step::Pin(name)),
+            Symbol::Constant(value) => self.leaf(Step::Constant(value)),
             Symbol::Complement => self.open(Operator::Complement),
             Symbol::Open => self.open_paren(),
             Symbol::Prime => Err(LineFault::Kind(TextKind::BadExpression)),
@@ -161,126 +187,137 @@ impl Reading {
         }
     }
 
-    /// The factor that the operand ends stands with those before it.
-    fn end_factor(&mut self, meaning: &Meaning<'_>, operand: bool)
-        ensures { state_now self.new
-            ≡ spec.next_factor (operations meaning.now) (state_now self.old) operand }
+    /// The factor that the operand ends is joined to those before it.
+    fn all_factors(&mut self) -> Result<(), NoMemory>
+        ensures last { OnOk result (tree_of self.new.steps.items
+            ≡ spec.term trees (behind_now self.old) (tree_of self.old.steps.items)) }
+        ensures before { OnOk result (trees_before self.new.steps.items
+            ≡ before self.old.factors (trees_before self.old.steps.items)) }
+        ensures rest { OnOk result ((ts : List Tree) →
+            operators_now ts (reverse self.new.unfinished.items)
+            ≡ spec.still (operators_now ts (reverse self.old.unfinished.items))) }
+        ensures operand { self.new.operand ≡ self.old.operand }
+        ensures terms { self.new.terms ≡ self.old.terms }
     {
-        let factor = take_complements(meaning, &mut self.unfinished, operand);
-        self.factors = Some(times(meaning, self.factors, factor));
-        self.operand = None;
+        take_complements(&mut self.steps, &mut self.unfinished)?;
+        times(&mut self.steps, self.factors)?;
+        Ok(())
     }
 
-    /// The terms, with that which the operand ends.
-    fn all_terms(&mut self, meaning: &Meaning<'_>, operand: bool) -> bool
-        ensures value { result
-            ≡ spec.all_terms (operations meaning.now) (state_now self.old) operand }
-        ensures rest { unfinished_now self.new.unfinished.items
-            ≡ spec.still (unfinished_now self.old.unfinished.items) }
+    /// The term that the operand ends is joined to those before it.
+    fn all_terms(&mut self) -> Result<(), NoMemory>
+        ensures last { OnOk result (tree_of self.new.steps.items
+            ≡ spec.all_terms trees (behind_now self.old) (tree_of self.old.steps.items)) }
+        ensures before { OnOk result (trees_before self.new.steps.items
+            ≡ before self.old.terms (before self.old.factors (trees_before self.old.steps.items))) }
+        ensures rest { OnOk result ((ts : List Tree) →
+            operators_now ts (reverse self.new.unfinished.items)
+            ≡ spec.still (operators_now ts (reverse self.old.unfinished.items))) }
+        ensures operand { self.new.operand ≡ self.old.operand }
     {
-        let factor = take_complements(meaning, &mut self.unfinished, operand);
-        let term = times(meaning, self.factors, factor);
-        plus(meaning, self.terms, term)
+        self.all_factors()?;
+        plus(&mut self.steps, self.terms)?;
+        Ok(())
     }
 
-    fn end_term(&mut self, meaning: &Meaning<'_>, operand: bool)
-        ensures { state_now self.new
-            ≡ spec.next_term (operations meaning.now) (state_now self.old) operand }
+    fn end_factor(&mut self) -> Result<(), NoMemory>
+        ensures next { OnOk result (state_now self.new
+            ≡ spec.next_factor trees (behind_now self.old) (tree_of self.old.steps.items)) }
+        ensures due { OnOk result (self.new.operand ≡ false) }
     {
-        let all = self.all_terms(meaning, operand);
-        self.terms = Some(all);
-        self.factors = None;
-        self.operand = None;
+        self.all_factors()?;
+        self.factors = true;
+        self.operand = false;
+        Ok(())
     }
 
-    fn close(&mut self, meaning: &Meaning<'_>, operand: bool) -> Result<Option<bool>, LineFault>
-        ensures { Steps result (state_now self.new)
-            (spec.behind (operations meaning.now) (state_now self.old) operand symbols.Close) }
+    fn end_term(&mut self) -> Result<(), NoMemory>
+        ensures { OnOk result (state_now self.new
+            ≡ spec.next_term trees (behind_now self.old) (tree_of self.old.steps.items)) }
     {
-        let all = self.all_terms(meaning, operand);
+        self.all_terms()?;
+        self.terms = true;
+        self.factors = false;
+        self.operand = false;
+        Ok(())
+    }
+
+    fn close(&mut self) -> Result<bool, LineFault>
+        requires { self.old.operand ≡ true }
+        ensures { Steps result self.new (spec.behind trees (behind_now self.old)
+            (tree_of self.old.steps.items) symbols.Close) }
+    {
+        self.all_terms()?;
         match pop(&mut self.unfinished) {
             Some(Operator::Paren { terms, factors }) => {
-                self.operand = Some(all);
                 self.terms = terms;
                 self.factors = factors;
-                Ok(None)
+                Ok(false)
             }
             Some(Operator::Complement) => Err(LineFault::Kind(TextKind::BadExpression)),
             None => Err(LineFault::Kind(TextKind::BadExpression)),
         }
     }
 
-    fn end(&mut self, meaning: &Meaning<'_>, operand: bool) -> Result<Option<bool>, LineFault>
-        ensures { Steps result (state_now self.new)
-            (spec.behind (operations meaning.now) (state_now self.old) operand symbols.End) }
+    fn end(&mut self) -> Result<bool, LineFault>
+        ensures { Steps result self.new (spec.behind trees (behind_now self.old)
+            (tree_of self.old.steps.items) symbols.End) }
     {
-        let all = self.all_terms(meaning, operand);
+        self.all_terms()?;
         match pop(&mut self.unfinished) {
             Some(_) => Err(LineFault::Kind(TextKind::BadExpression)),
-            None => Ok(Some(all)),
+            None => Ok(true),
         }
     }
 
-    fn next_operand(
-        &mut self,
-        meaning: &Meaning<'_>,
-        operand: bool,
-        symbol: Symbol,
-    ) -> Result<Option<bool>, LineFault>
-        ensures { Steps result (state_now self.new)
-            (spec.due (spec.next_factor (operations meaning.now) (state_now self.old) operand)
-            (symbol_now symbol)) }
+    fn next_operand(&mut self, symbol: Symbol<'a>) -> Result<bool, LineFault>
+        ensures { Steps result self.new (spec.due
+            (spec.next_factor trees (behind_now self.old) (tree_of self.old.steps.items))
+            (symbol_now symbol.entry)) }
     {
-        self.end_factor(meaning, operand);
+        self.end_factor()?;
         self.due(symbol)
     }
 
     /// Behind an operand.
-    fn behind(
-        &mut self,
-        meaning: &Meaning<'_>,
-        operand: bool,
-        symbol: Symbol,
-    ) -> Result<Option<bool>, LineFault>
-        ensures { Steps result (state_now self.new)
-            (spec.behind (operations meaning.now) (state_now self.old) operand
-            (symbol_now symbol)) }
+    fn behind(&mut self, symbol: Symbol<'a>) -> Result<bool, LineFault>
+        requires { self.old.operand ≡ true }
+        ensures { Steps result self.new (spec.behind trees (behind_now self.old)
+            (tree_of self.old.steps.items) (symbol_now symbol.entry)) }
     {
         match symbol {
             Symbol::Prime => {
-                self.operand = Some(meaning.complement(operand));
-                Ok(None)
+                emit(&mut self.steps, Step::Not)?;
+                Ok(false)
             }
             Symbol::Times => {
-                self.end_factor(meaning, operand);
-                Ok(None)
+                self.end_factor()?;
+                Ok(false)
             }
             Symbol::Plus => {
-                self.end_term(meaning, operand);
-                Ok(None)
+                self.end_term()?;
+                Ok(false)
             }
-            Symbol::Close => self.close(meaning, operand),
-            Symbol::End => self.end(meaning, operand),
-            Symbol::Leaf(_) => self.next_operand(meaning, operand, symbol),
-            Symbol::Complement => self.next_operand(meaning, operand, symbol),
-            Symbol::Open => self.next_operand(meaning, operand, symbol),
-            Symbol::Other => self.next_operand(meaning, operand, symbol),
+            Symbol::Close => self.close(),
+            Symbol::End => self.end(),
+            Symbol::Pin(_) => self.next_operand(symbol),
+            Symbol::Constant(_) => self.next_operand(symbol),
+            Symbol::Complement => self.next_operand(symbol),
+            Symbol::Open => self.next_operand(symbol),
+            Symbol::Other => self.next_operand(symbol),
         }
     }
 
-    /// Reads the next symbol. Answers the value of the expression, where the symbol ends it.
+    /// Reads the next symbol. Answers whether it ends the expression.
     #[tactic(auto, unfolding(si_genlib::specs::Expression::step))]
-    pub(crate) fn step(
-        &mut self,
-        meaning: &Meaning<'_>,
-        symbol: Symbol,
-    ) -> Result<Option<bool>, LineFault>
-        ensures { Steps result (state_now self.new)
-            (spec.step (operations meaning.now) (state_now self.old) (symbol_now symbol)) }
+    pub(crate) fn step(&mut self, symbol: Symbol<'a>) -> Result<bool, LineFault>
+        ensures { Steps result self.new
+            (spec.step trees (state_now self.old) (symbol_now symbol.entry)) }
     {
-        match self.operand {
-            None => self.due(symbol),
-            Some(operand) => self.behind(meaning, operand, symbol),
+        if self.operand {
+            self.behind(symbol)
+        } else {
+            self.due(symbol)
         }
     }
 }

@@ -1,96 +1,26 @@
-//! What an expression is read for, and what its tokens are then.
+//! What expressions are evaluated for, and what they come to.
 
-ghost use Rattle.std.specs.Prelude.{◌≡◌, ◌∷◌, [], not};
-ghost use Rattle.si_genlib.specs.Expression as expression;
+ghost use Rattle.std.specs.Prelude.{◌≡◌, ◌∷◌, IfOk, reverse};
+ghost use Rattle.si_genlib.specs.Expression.{value_of};
 ghost use Rattle.si_equations.specs.Names.{named_value};
-ghost use Rattle.si_equations_reader.specs.Loops.Machine.{operations, symbol_now};
+ghost use Rattle.si_equations_reader.specs.Loops.Values.{operations};
+ghost use Rattle.si_equations_reader.specs.Steps.{last_of, before_last, after_step, tree_of};
 
 use crate::names::bare;
-use si_base::ids::{Code, Sig};
+use crate::step::Step;
+use si_base::ids::{Code, NoMemory, Sig};
 use si_base::limits::CODE_WIDTH;
 use si_base::names::Names;
 use si_words::lists::{has, place_of};
-use si_words::words::is_name_byte;
+use std::alloc::Global;
 
-/// What an expression is read for.
+/// What an expression is evaluated for.
 #[derive(Clone, Copy)]
 pub(crate) enum Meaning<'n> {
     /// Whether each of its names is one of these.
     Known(&'n Names),
     /// Its value, where the signals with these names have the bits of the code.
     Truth(&'n Names, Code),
-}
-
-/// A token of an expression, and the value of one that stands for a value.
-#[derive(Clone, Copy)]
-pub(crate) enum Symbol {
-    Leaf(bool),
-    /// `!`
-    Complement,
-    /// `'`
-    Prime,
-    /// `*`
-    Times,
-    /// `+`
-    Plus,
-    Open,
-    Close,
-    /// `;`
-    End,
-    Other,
-}
-
-fn is_name(token: &[u8]) -> bool
-    ensures { result ≡ expression.is_name token.now }
-{
-    match token {
-        [] => false,
-        [first, ..] => is_name_byte(*first),
-    }
-}
-
-fn is_zero(token: &[u8]) -> bool
-    ensures { result ≡ expression.is_zero token.now }
-{
-    b"CONST0".as_slice() == token
-}
-
-fn is_constant(token: &[u8]) -> bool
-    ensures { result ≡ expression.is_constant token.now }
-{
-    is_zero(token) || b"CONST1".as_slice() == token
-}
-
-fn mark_of(byte: u8) -> Symbol
-    ensures { symbol_now result ≡ expression.mark (byte ∷ []) }
-{
-    if byte == b'!' {
-        Symbol::Complement
-    } else if byte == b'\'' {
-        Symbol::Prime
-    } else if byte == b'*' {
-        Symbol::Times
-    } else if byte == b'+' {
-        Symbol::Plus
-    } else if byte == b'(' {
-        Symbol::Open
-    } else if byte == b')' {
-        Symbol::Close
-    } else if byte == b';' {
-        Symbol::End
-    } else {
-        Symbol::Other
-    }
-}
-
-fn mark(token: &[u8]) -> Symbol
-    ensures { symbol_now result ≡ expression.mark token.now }
-{
-    match token {
-        [] => Symbol::Other,
-        [byte] => mark_of(*byte),
-        [_, _, ..] => Symbol::Other,
-    }
 }
 
 /// The value of the name, where the names have the bits of the code.
@@ -113,7 +43,7 @@ impl Meaning<'_> {
         }
     }
 
-    pub(crate) fn constant(&self, value: bool) -> bool
+    fn constant(&self, value: bool) -> bool
         ensures { result ≡ (operations self.now).constant value }
     {
         match self {
@@ -122,7 +52,7 @@ impl Meaning<'_> {
         }
     }
 
-    pub(crate) fn complement(&self, operand: bool) -> bool
+    fn complement(&self, operand: bool) -> bool
         ensures { result ≡ (operations self.now).complement operand }
     {
         match self {
@@ -131,7 +61,7 @@ impl Meaning<'_> {
         }
     }
 
-    pub(crate) fn both(&self, left: bool, right: bool) -> bool
+    fn both(&self, left: bool, right: bool) -> bool
         ensures { result ≡ (operations self.now).both left right }
     {
         match self {
@@ -140,7 +70,7 @@ impl Meaning<'_> {
         }
     }
 
-    pub(crate) fn either(&self, left: bool, right: bool) -> bool
+    fn either(&self, left: bool, right: bool) -> bool
         ensures { result ≡ (operations self.now).either left right }
     {
         match self {
@@ -149,16 +79,55 @@ impl Meaning<'_> {
         }
     }
 
-    /// What the token is.
-    pub(crate) fn symbol(&self, token: &[u8]) -> Symbol
-        ensures { symbol_now result ≡ expression.symbol (operations self.now) token.now }
+    /// Takes the last result.
+    fn take(&self, results: &mut Vec<bool>) -> bool
+        ensures value { result ≡ last_of (operations self.now) (reverse results.old.items) }
+        ensures rest { reverse results.new.items ≡ before_last (reverse results.old.items) }
     {
-        if !is_name(token) {
-            return mark(token);
+        match results.pop() {
+            Some(value) => value,
+            None => self.constant(false),
         }
-        if is_constant(token) {
-            return Symbol::Leaf(self.constant(!is_zero(token)));
-        }
-        Symbol::Leaf(self.pin(token))
     }
+
+    /// What a step comes to, whose operands it takes from the results.
+    fn value_of(&self, results: &mut Vec<bool>, step: &Step<'_>) -> bool
+        ensures { result ∷ reverse results.new.items
+            ≡ after_step (operations self.now) (reverse results.old.items) step.now }
+    {
+        match *step {
+            Step::Pin(name) => self.pin(name),
+            Step::Constant(value) => self.constant(value),
+            Step::Not => {
+                let operand = self.take(results);
+                self.complement(operand)
+            }
+            Step::And => {
+                let right = self.take(results);
+                let left = self.take(results);
+                self.both(left, right)
+            }
+            Step::Or => {
+                let right = self.take(results);
+                let left = self.take(results);
+                self.either(left, right)
+            }
+        }
+    }
+}
+
+/// What the expression of these steps comes to.
+pub(crate) fn evaluate(
+    alloc: Global,
+    meaning: &Meaning<'_>,
+    steps: &[Step<'_>],
+) -> Result<bool, NoMemory>
+    ensures { IfOk result (λ v. v ≡ value_of (operations meaning.now) (tree_of steps.now)) }
+{
+    let mut results = Vec::new(alloc);
+    for step in steps {
+        let value = meaning.value_of(&mut results, step);
+        results.push(value)?;
+    }
+    Ok(meaning.take(&mut results))
 }

@@ -3,8 +3,9 @@
 ghost use Rattle.std.specs.Prelude.{◌≡◌, ◌++◌, ◌≤◌, ◌<◌, ◌∷◌, [], false, length, MatchOption, None};
 ghost use Rattle.std.specs.Prelude.{Some, OnOk};
 ghost use Rattle.si_base.specs.Limits.{max_signals};
+ghost use Rattle.si_equations.specs.Equations.{list_fault, without};
 ghost use Rattle.si_equations.specs.Names as spec;
-ghost use Rattle.si_words.specs.Names.{name_fault, stands_in};
+ghost use Rattle.si_words.specs.Names.{stands_in};
 
 use si_base::fault::TextKind;
 use si_base::ids::NoMemory;
@@ -25,7 +26,7 @@ fn before_bracket(bytes: &[u8]) -> Option<&[u8]>
 }
 
 /// The name without the brackets around it.
-pub(crate) fn bare(name: &[u8]) -> &[u8]
+pub fn bare(name: &[u8]) -> &[u8]
     ensures { result.now ≡ spec.bare name.now }
 {
     match name {
@@ -42,15 +43,17 @@ pub(crate) fn bare(name: &[u8]) -> &[u8]
     }
 }
 
-/// The fault of a name of a list, behind these.
-pub(crate) fn name_kind(before: &Names, name: &[u8]) -> Option<TextKind>
-    ensures { result ≡ name_fault max_signals before.now name.now }
+/// The fault of a name of a list, behind the names of another list and those of its own so far.
+/// There are `count` names in both lists together.
+pub(crate) fn name_kind(others: &Names, names: &Names, count: u32, name: &[u8]) -> Option<TextKind>
+    requires { count ≡ length (others.now ++ without others.now names.now) }
+    ensures { result ≡ list_fault others.now names.now name.now }
 {
     if !is_signal_name(name) {
         Some(TextKind::BadName)
-    } else if has(before, name) {
+    } else if has(names, name) {
         Some(TextKind::Repeated)
-    } else if before.len() as usize >= MAX_SIGNALS {
+    } else if !has(others, name) && count as usize >= MAX_SIGNALS {
         Some(TextKind::TooManySignals)
     } else {
         None

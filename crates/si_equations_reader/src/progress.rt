@@ -3,11 +3,12 @@
 ghost use Rattle.std.specs.Prelude.{◌≡◌, OnOk, None, map};
 ghost use Rattle.si_equations.specs.Equations.{driven, signals, equation_fault, with_equation};
 ghost use Rattle.si_equations.specs.Equations as spec;
-ghost use Rattle.si_words.specs.Loops.Reads.{words_now};
 ghost use Rattle.si_words.specs.Names.{stands_in};
-ghost use Rattle.si_equations_reader.specs.Held.{progress_now, equation_now, tree_of};
+ghost use Rattle.si_equations_reader.specs.Held.{progress_now, equation_now};
+ghost use Rattle.si_equations_reader.specs.Steps.{tree_of};
 
 use crate::names::push;
+use crate::step::Step;
 use si_base::fault::TextKind;
 use si_base::ids::NoMemory;
 use si_base::limits::MAX_SIGNALS;
@@ -22,8 +23,8 @@ pub(crate) struct Equation<'a> {
     pub(crate) line: u64,
     /// The signal that it is of.
     pub(crate) name: &'a [u8],
-    /// The tokens of its expression, up to the `;`.
-    pub(crate) sentence: Vec<&'a [u8]>,
+    /// The steps of its expression.
+    pub(crate) steps: Vec<Step<'a>>,
 }
 
 /// The lists, and the equations so far.
@@ -66,23 +67,19 @@ impl<'a> Progress<'a> {
         &mut self,
         line: u64,
         name: &'a [u8],
-        sentence: Vec<&'a [u8]>,
+        steps: Vec<Step<'a>>,
     ) -> Result<(), NoMemory>
         requires signals { self.old.signals ≡ signals (progress_now self.old) }
         requires fine { equation_fault (progress_now self.old).inputs
             (progress_now self.old).outputs (driven (progress_now self.old)) name.now ≡ None }
         ensures added { OnOk result (progress_now self.new ≡ with_equation (progress_now self.old)
-            line name.now (tree_of (words_now sentence.entry.items))) }
+            line name.now (tree_of steps.entry.items)) }
         ensures signals { OnOk result (self.new.signals ≡ signals (progress_now self.new)) }
     {
         if !has(&self.outputs, name) {
             push(&mut self.signals, name)?;
         }
-        self.equations.push(Equation {
-            line,
-            name,
-            sentence,
-        })?;
+        self.equations.push(Equation { line, name, steps })?;
         Ok(())
     }
 

@@ -12,8 +12,7 @@ ghost use Rattle.si_equations_reader.specs.Held.{progress_now, Spells, Refuses};
 ghost use Rattle.si_equations_reader.specs.Read.{equations_now};
 
 use crate::equations::Equations;
-use crate::expression::evaluate;
-use crate::meaning::Meaning;
+use crate::meaning::{Meaning, evaluate};
 use crate::progress::Progress;
 use crate::statements::read_statements;
 use si_base::fault::{TextFault, TextKind};
@@ -72,7 +71,7 @@ fn undeclared_line(alloc: Global, read: &Progress<'_>) -> Result<Option<u64>, No
 {
     let meaning = Meaning::Known(&read.signals);
     for equation in &read.equations {
-        if !evaluate(alloc, &meaning, &equation.sentence)? {
+        if !evaluate(alloc, &meaning, &equation.steps)? {
             return Ok(Some(equation.line));
         }
     }
@@ -104,14 +103,15 @@ fn checked<'a>(alloc: Global, text: &[u8], read: Progress<'a>) -> Result<Equatio
 /// The equations that the text spells.
 ///
 /// The text is `INORDER = NAMES;`, `OUTORDER = NAMES;`, and behind them `NAME = EXPRESSION;` for
-/// each signal that isn't an input. A name in brackets is the same as without them; expressions are
-/// those of genlib. A signal that has an equation and stands in neither list is internal.
+/// each signal that isn't an input. A name of both lists is an output that is fed back, and no
+/// input. A name in brackets is the same as without them; expressions are those of genlib. A signal
+/// that has an equation and stands in neither list is internal.
 ///
 /// # Errors
 ///
 /// `At` the line of the first fault, exactly where the text has one. A line's `BadByte` comes when
 /// the line begins. A token that isn't the one that is due, as `=`, is `BadWord`. A name that is no
-/// signal name is `BadName`; one that stands in a list already, an equation of an input and a
+/// signal name is `BadName`; one that stands in its list already, an equation of an input and a
 /// second one of a signal are `Repeated`; a signal beyond
 /// [`MAX_SIGNALS`](si_base::limits::MAX_SIGNALS) is `TooManySignals`. A token with which an
 /// expression can't go on is `BadExpression`; one operator too many whose operand isn't finished is

@@ -1,21 +1,42 @@
 //! Statements of a text of equations.
 
-ghost use Rattle.std.specs.Prelude.{◌≡◌, OnOk, IfOk};
-ghost use Rattle.si_equations.specs.Equations.{signals, lists_at, statements_at};
+ghost use Rattle.std.specs.Prelude.{◌≡◌, ◌++◌, [], None, OnOk, IfOk};
+ghost use Rattle.si_base.specs.Faults.{first_after};
+ghost use Rattle.si_base.specs.Limits.{max_signals};
+ghost use Rattle.si_equations.specs.Equations.{without, signals, lists_at, statements_at};
 ghost use Rattle.si_tokens.specs.Loops.Parts.{left, piece, Reads};
+ghost use Rattle.si_words.specs.Names.{name_fault};
 ghost use Rattle.si_equations_reader.specs.Held.{progress_now};
-ghost use Rattle.si_equations_reader.specs.Loops.Statements.{equation_behind};
+ghost use Rattle.si_equations_reader.specs.Loops.Statements.{equation_behind, only_lists};
 
 use crate::expression::read_expression;
-use crate::lists::read_list;
+use crate::lists::{inputs_of, read_list, signals_of};
 use crate::marks::{fault_at, read_mark};
-use crate::meaning::Meaning;
 use crate::names::bare;
 use crate::progress::Progress;
+use si_base::ids::NoMemory;
 use si_base::names::Names;
 use si_tokens::fault::ReadFault;
 use si_tokens::source::{Part, Source};
 use std::alloc::Global;
+
+/// The signals that two lists tell, and no equation yet.
+fn begin<'a>(alloc: Global, listed: &Names, outputs: Names) -> Result<Progress<'a>, NoMemory>
+    requires { first_after (name_fault max_signals) []
+        (without outputs listed.now ++ outputs) ≡ None }
+    ensures lists { IfOk result (λ p. progress_now p
+        ≡ only_lists (without outputs listed.now) outputs) }
+    ensures signals { IfOk result (λ p. p.signals ≡ signals (progress_now p)) }
+{
+    let inputs = inputs_of(listed, &outputs)?;
+    let signals = signals_of(&inputs, &outputs)?;
+    Ok(Progress {
+        inputs,
+        outputs,
+        signals,
+        equations: Vec::new(alloc),
+    })
+}
 
 /// The two lists.
 #[tactic(auto, unfolding(si_equations::specs::Equations::lists_at))]
@@ -24,15 +45,11 @@ fn read_lists<'a>(alloc: Global, source: &mut Source<'a>) -> Result<Progress<'a>
         (lists_at (left source.old)) }
     ensures signals { IfOk result (λ p. p.signals ≡ signals (progress_now p)) }
 {
-    let mut signals = Names::new(alloc)?;
-    let inputs = read_list(source, b"INORDER", &mut signals)?;
-    let outputs = read_list(source, b"OUTORDER", &mut signals)?;
-    Ok(Progress {
-        inputs,
-        outputs,
-        signals,
-        equations: Vec::new(alloc),
-    })
+    let none = Names::new(alloc)?;
+    let listed = read_list(source, b"INORDER", &none)?;
+    let outputs = read_list(source, b"OUTORDER", &listed)?;
+    let progress = begin(alloc, &listed, outputs)?;
+    Ok(progress)
 }
 
 /// The equation that begins with this token.
@@ -52,8 +69,8 @@ fn read_equation<'a>(
         return Err(fault_at(first.line, kind));
     }
     read_mark(source, b"=")?;
-    let sentence = read_expression(alloc, source, &Meaning::Known(&progress.signals))?;
-    progress.add(first.line, name, sentence)?;
+    let steps = read_expression(alloc, source)?;
+    progress.add(first.line, name, steps)?;
     Ok(())
 }
 

@@ -3,11 +3,12 @@
 ghost use Rattle.std.specs.Prelude.{◌≡◌, ◌<◌, IfOk, Some, length, map, slice_get};
 ghost use Rattle.si_equations.specs.Equations as spec;
 ghost use Rattle.si_equations_reader.specs.Read.{equations_now};
+ghost use Rattle.si_equations_reader.specs.Steps.{tree_of};
 
 use crate::equations::Equations;
-use crate::expression::evaluate;
-use crate::meaning::Meaning;
+use crate::meaning::{Meaning, evaluate};
 use crate::progress::Equation;
+use crate::step::Step;
 use si_base::ids::{Code, NoMemory};
 use si_base::names::Names;
 use std::alloc::Global;
@@ -67,6 +68,15 @@ impl<'a> Equations<'a> {
         self.at(k).name
     }
 
+    /// The steps of the expression of equation `k`.
+    pub fn steps(&self, k: usize) -> &[Step<'a>]
+        requires { k < length (equations_now self.now).equations }
+        ensures { slice_get (map (λ q. q.tree) (equations_now self.now).equations) k
+            ≡ Some (tree_of result.now) }
+    {
+        &self.at(k).steps
+    }
+
     /// The value of the expression of equation `k`, where the signals have the bits of `values`, in
     /// the order of [`signals`](Equations::signals). It fails only where memory runs out.
     pub fn value(&self, alloc: Global, k: usize, values: Code) -> Result<bool, NoMemory>
@@ -77,7 +87,7 @@ impl<'a> Equations<'a> {
     {
         let equation = self.at(k);
         let meaning = Meaning::Truth(&self.read.signals, values);
-        let value = evaluate(alloc, &meaning, &equation.sentence)?;
+        let value = evaluate(alloc, &meaning, &equation.steps)?;
         Ok(value)
     }
 }

@@ -1,6 +1,6 @@
 use Rattle.std.proofs.Common.{sym, ◌∙◌, arith}
 use Rattle.std.proofs.lemmas.Bool.{le-ltb}
-use Rattle.si_equations_reader.proofs.MachineLemmas.{named_there, named_none, no_bit}
+use Rattle.si_equations_reader.proofs.NamedValueLemmas.{named_there, named_none, no_bit}
 use Rattle.si_equations_reader.proofs.meaning.named_value_of.Goals as goal
 
 pub returns-then-place-lt-CODE_WIDTH : goal.returns-then-place-lt-CODE_WIDTH
