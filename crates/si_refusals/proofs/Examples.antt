@@ -11,6 +11,7 @@ use Rattle.si_refusals.specs.Refusal.{Uncomposed, Interfering, Uncertified, Join
 use Rattle.si_refusals.specs.declared.breach.NamedBreach.TheVariants.{Inconsistent}
 use Rattle.si_refusals.specs.declared.rejection.NamedRejection.TheVariants.{Delays, Start, Gate}
 use Rattle.si_refusals.specs.declared.rejection.NamedRejection.TheVariants.{Astray, TooMany, Both, Leaves}
+use Rattle.si_refusals.specs.declared.rejection.NamedRejection.TheVariants.{Products}
 use Rattle.si_refusals.specs.declared.uncomposed.NamedCause.TheVariants.{Interferes}
 use Rattle.si_refusals.specs.declared.status.Status.TheVariants as status
 
@@ -63,6 +64,9 @@ both_line = simp append_assoc
 
 leaves_line : line_of (Answered (TextRefused (Rejected (Leaves (codes "s3"))))) ≡ codes "rejected leaves s3\n"
 leaves_line = refl
+
+products_line : line_of (Answered (TextRefused (Rejected (Products (codes "z"))))) ≡ codes "rejected products z\n"
+products_line = refl
 
 rejected_status : status_of (Answered (TextRefused (Rejected (Start (codes "csc0"))))) ≡ status.Rejected
 rejected_status = refl

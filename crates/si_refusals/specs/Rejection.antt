@@ -7,6 +7,7 @@ use Rattle.si_refusals.specs.declared.rejection.NamedRejection.TheVariants.{Neve
 use Rattle.si_refusals.specs.declared.rejection.NamedRejection.TheVariants.{Both, Unforced}
 use Rattle.si_refusals.specs.declared.rejection.NamedRejection.TheVariants.{Contrary, Leaves}
 use Rattle.si_refusals.specs.declared.rejection.NamedRejection.TheVariants.{Constant}
+use Rattle.si_refusals.specs.declared.rejection.NamedRejection.TheVariants.{Products, Hidden}
 use Rattle.si_refusals.specs.declared.rejection.NamedRejection.TheVariants.{States, Classes}
 use Rattle.si_refusals.specs.declared.rejection.NamedRejection.TheVariants.{Delays, Breaks}
 use Rattle.si_refusals.specs.declared.rejection.NamedRejection.TheVariants.{TooLarge, Start, Gate}
@@ -25,6 +26,8 @@ reason_words (Unforced state) = codes "unforced" ∷ state ∷ []
 reason_words (Contrary state) = codes "contrary" ∷ state ∷ []
 reason_words (Leaves state) = codes "leaves" ∷ state ∷ []
 reason_words Constant = codes "constant" ∷ []
+reason_words (Products signal) = codes "products" ∷ signal ∷ []
+reason_words (Hidden count) = codes "hidden" ∷ decimal count ∷ []
 reason_words (States k) = insert_words k (codes "states" ∷ [])
 reason_words (Classes k) = insert_words k (codes "classes" ∷ [])
 reason_words (Delays k state event) = insert_words k (codes "delays" ∷ state ∷ event ∷ [])

@@ -52,6 +52,14 @@ pub enum NamedRejection {
     },
     /// The gate of the new signal forces one value alone.
     Constant,
+    /// The expression of the signal multiplies out to too many products.
+    Products {
+        signal: Name,
+    },
+    /// So many signals are hidden that their start values aren't searched for.
+    Hidden {
+        count: u32,
+    },
     /// The words of insertion `k` don't name two sets of states.
     States {
         k: u32,
@@ -141,6 +149,8 @@ fn add_reason(alloc: Global, words: &mut NameList, reason: &NamedRejection) -> R
         NamedRejection::Contrary { state } => add_all(words, &[b"contrary", state.bytes()]),
         NamedRejection::Leaves { state } => add_all(words, &[b"leaves", state.bytes()]),
         NamedRejection::Constant => add_all(words, &[b"constant"]),
+        NamedRejection::Products { signal } => add_all(words, &[b"products", signal.bytes()]),
+        NamedRejection::Hidden { count } => add_hidden(alloc, words, *count),
         NamedRejection::States { k } => add_insert(alloc, words, *k, &[b"states"]),
         NamedRejection::Classes { k } => add_insert(alloc, words, *k, &[b"classes"]),
         NamedRejection::Delays { k, state, event } => {
@@ -169,6 +179,16 @@ fn add_too_many(alloc: Global, words: &mut NameList) -> Result<(), NoMemory>
         return Err(NoMemory);
     };
     add_all(words, &[b"states", states.as_bytes()])
+}
+
+/// Puts last the words of too many hidden signals.
+fn add_hidden(alloc: Global, words: &mut NameList, count: u32) -> Result<(), NoMemory>
+    ensures { OnOk result (words.new ≡ words.old ++ codes "hidden" ∷ decimal count ∷ []) }
+{
+    let Ok(count) = count.to_string(alloc) else {
+        return Err(NoMemory);
+    };
+    add_all(words, &[b"hidden", count.as_bytes()])
 }
 
 /// Puts last the words of a reason against insertion number `k`.

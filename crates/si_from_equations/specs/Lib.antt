@@ -1,0 +1,7 @@
+pub mod Limits
+pub mod Sums
+pub mod SumLaws
+pub mod Given
+pub mod Beside
+pub mod BesideLaws
+pub mod Unsummed
