@@ -83,7 +83,7 @@ module _ (states : List (List ℕ)) (c : CodedGraph) (n : Netlist) (is : IsCoded
       let reason = one_reason states given n.signals one.why one.reason other.reason one.told told in
       one.refusal_is ∙ ap (λ (x : NamedRejection). Rejected x) reason ∙ sym other.refusal_is
 
-  spelling_one : AtMostOne (spelling states c n)
+  pub spelling_one : AtMostOne (spelling states c n)
   unfolding text_by
   spelling_one (Ok a) (Ok b) one other =
       let same = fitting_one c n one.lineage other.lineage one.fits other.fits in
@@ -92,7 +92,7 @@ module _ (states : List (List ℕ)) (c : CodedGraph) (n : Netlist) (is : IsCoded
   spelling_one (Err r) (Ok a) one other = absurd (apart a r other one)
   spelling_one (Err r) (Err q) one other = ap Err (same_refusal r q one other)
 
-  spelling_some : IsNetlist n → IsFor c n → HasResult (spelling states c n)
+  pub spelling_some : IsNetlist n → IsFor c n → HasResult (spelling states c n)
   spelling_some netlist fits = of_answer (answers_exist c n is proper netlist fits)
     where
       of_answer : (r : Result History NotFound) × IsAnswer c n r → HasResult (spelling states c n)
@@ -114,7 +114,7 @@ module _ (states : List (List ℕ)) (c : CodedGraph) (n : Netlist) (is : IsCoded
           )
 
 -- ---- the texts come to one answer
-proper_is : (g : StateGraph) (c : CodedGraph) → IsSound g c → IsProper c.graph
+pub proper_is : (g : StateGraph) (c : CodedGraph) → IsSound g c → IsProper c.graph
 proper_is g c sound = subst IsProper (sym sound.same_graph) sound.proper
 
 pub certify_one : (g a n b : List ℕ) → AtMostOne (certify g a n b)

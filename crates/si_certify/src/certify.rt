@@ -104,9 +104,13 @@ fn spelled_beside<'w>(
     spelled(alloc, key, graph, states, netlist)
 }
 
-/// The text of the netlist with the lines of the lineage that fits it, or the first reason why none
-/// does.
-fn spelled(
+/// The text of the netlist with the lines of the lineage that fits it.
+///
+/// # Errors
+///
+/// `Rejected` exactly where no lineage fits, with the first reason. `NoMemory` only where memory
+/// runs out.
+pub fn spelled(
     alloc: Global,
     key: TextKey,
     graph: Proper,

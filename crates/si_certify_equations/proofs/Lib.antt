@@ -1,0 +1,4 @@
+pub mod NetlistStage
+pub mod StartsLemmas
+pub mod CertifyLemmas
+mod Examples

@@ -1,0 +1,4 @@
+pub mod Limits
+pub mod Starts
+pub mod Certify
+pub mod Laws
