@@ -17,7 +17,7 @@ use Rattle.si_commands.specs.declared.task.Task.TheVariants.{About, Tell, Synth,
 use Rattle.si_commands.specs.declared.task.Task.TheVariants.{Verilog, Replay, Audit, Exercise}
 use Rattle.si_commands.specs.declared.task.Task.TheVariants as task
 use Rattle.si_commands.specs.declared.task.Task.TheVariants.{TellNetlist, Resolve, Insert, Same}
-use Rattle.si_commands.specs.declared.task.Task.TheVariants.{Certify, InsertGate}
+use Rattle.si_commands.specs.declared.task.Task.TheVariants.{Certify, CertifyEquations, InsertGate}
 use Rattle.si_commands.specs.declared.task.Task.TheVariants.{Suggest, Structure, Equations}
 use Rattle.si_commands.specs.declared.task.Task.TheVariants.{Resettable, ResettableStructure}
 use Rattle.si_commands.specs.declared.task.Task.TheVariants.{Timing}
@@ -269,6 +269,10 @@ row_of Audit =
 row_of Certify =
     row (Word (codes "certify") ∷ File graph_name ∷ File netlist_name ∷ [])
     (codes "a netlist with insertions told by its gates")
+row_of CertifyEquations =
+    row
+    (Word (codes "certify") ∷ File graph_name ∷ Word (codes "eqn") ∷ File genlib_name ∷ [])
+    (codes "the same of equations")
 row_of Same =
     row (Word (codes "same") ∷ File graph_name ∷ File (codes "G") ∷ [])
     (codes "whether two graphs behave alike")
@@ -294,7 +298,7 @@ tasks = Tell Summary ∷ Tell States ∷ Tell Regions ∷ Tell Conflicts ∷ Tel
     ∷ Verilog ∷ Resettable ∷ Structure Cells ∷ Structure Gates
     ∷ ResettableStructure Cells ∷ ResettableStructure Gates ∷ Equations
     ∷ TellNetlist Loops ∷ Timing Cells ∷ Timing Gates ∷ TellNetlist Reset ∷ Replay End
-    ∷ Replay Wave ∷ Audit ∷ Certify ∷ Same ∷ task.Together together.Product
+    ∷ Replay Wave ∷ Audit ∷ Certify ∷ CertifyEquations ∷ Same ∷ task.Together together.Product
     ∷ task.Together together.Compose ∷ task.Together together.Join ∷ task.Together together.Works
     ∷ Exercise ∷ About Help ∷ About (Page Before) ∷ About (Page Behind) ∷ About Version ∷ []
 

@@ -317,6 +317,12 @@ const ROWS: &[Row] = &[
         says: "a netlist with insertions told by its gates",
     },
     Row {
+        task: Task::CertifyEquations,
+        places: &[Word("certify"), File("F"), Word("eqn"), File("FILE")],
+        tail: Nothing,
+        says: "the same of equations",
+    },
+    Row {
         task: Task::Same,
         places: &[Word("same"), File("F"), File("G")],
         tail: Nothing,

@@ -84,6 +84,8 @@ pub enum Task {
     Audit,
     /// A netlist with the lines of the insertions that its gates tell for a graph.
     Certify,
+    /// The netlist that equations spell, with such lines.
+    CertifyEquations,
     /// The graph after the insertions that resolve its conflicts.
     Resolve,
     /// The graph after the insertions of a netlist.

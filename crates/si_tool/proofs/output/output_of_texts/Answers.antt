@@ -288,6 +288,22 @@ returns-in-Certify-clause-err c =
     c.deref-in-Certify-2.ensures.value in
     rw (c.in-Certify.is, are.0, are.1) c.certify_texts.ensures.err
 
+pub returns-in-CertifyEquations-clause-ok : goal.returns-in-CertifyEquations-clause-ok
+returns-in-CertifyEquations-clause-ok c =
+    let many = counted_files (form_of c.args.task) c.args.files.now (words_now c.args.choices.now) c.requires.given in
+    let are = read_two c.args.files.now c.args.texts.now _ _ _ _ (rw c.in-CertifyEquations.is at many)
+    c.requires.texts c.index-texts-0-in-CertifyEquations.is c.index-texts-1-in-CertifyEquations.is c.deref-in-CertifyEquations.ensures.value
+    c.deref-in-CertifyEquations-2.ensures.value in
+    rw (c.in-CertifyEquations.is, are.0, are.1) c.certify_equations.ensures.ok
+
+pub returns-in-CertifyEquations-clause-err : goal.returns-in-CertifyEquations-clause-err
+returns-in-CertifyEquations-clause-err c =
+    let many = counted_files (form_of c.args.task) c.args.files.now (words_now c.args.choices.now) c.requires.given in
+    let are = read_two c.args.files.now c.args.texts.now _ _ _ _ (rw c.in-CertifyEquations.is at many)
+    c.requires.texts c.index-texts-0-in-CertifyEquations.is c.index-texts-1-in-CertifyEquations.is c.deref-in-CertifyEquations.ensures.value
+    c.deref-in-CertifyEquations-2.ensures.value in
+    rw (c.in-CertifyEquations.is, are.0, are.1) c.certify_equations.ensures.err
+
 pub returns-in-InsertGate-clause-ok : goal.returns-in-InsertGate-clause-ok
 returns-in-InsertGate-clause-ok c =
     let many = counted_files (form_of c.args.task) c.args.files.now (words_now c.args.choices.now) c.requires.given in
