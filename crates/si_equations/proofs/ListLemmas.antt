@@ -97,7 +97,7 @@ kept_new others names (x ∷ xs) new = elim (cases_Bool (stands_in others x)) [
       )
 ]
 
-new_joined : (names xs ys : List (List ℕ)) → AreNew names xs → AreNew (names ++ xs) ys → AreNew names (xs ++ ys)
+pub new_joined : (names xs ys : List (List ℕ)) → AreNew names xs → AreNew (names ++ xs) ys → AreNew names (xs ++ ys)
 new_joined names [] ys one two = subst (λ (l : List (List ℕ)). AreNew l ys) (append-nil names) two
 new_joined names (x ∷ xs) ys one two = (
   one.0,
@@ -268,7 +268,7 @@ all_good listed outputs (x ∷ xs) none =
 
 -- ---- inputs and outputs are without fault
 
-names_good : (names xs : List (List ℕ)) → AreGood xs → AreNew names xs → length names + length xs ≤ max_signals
+pub names_good : (names xs : List (List ℕ)) → AreGood xs → AreNew names xs → length names + length xs ≤ max_signals
     → first_after (name_fault max_signals) names xs ≡ None
 names_good names [] good new few = refl
 names_good names (x ∷ xs) good new few =

@@ -32,7 +32,7 @@ use Rattle.si_equations.proofs.NewLemmas.{stands_append, among_append, inner_hea
 -- ---- what went well
 
 -- both parts of a reading gave something
-bind_ok : {A B : Type 0} (r : Result A Stop) (k : A → Result B Stop) (y : B) → (r >>= k) ≡ Ok y
+pub bind_ok : {A B : Type 0} (r : Result A Stop) (k : A → Result B Stop) (y : B) → (r >>= k) ≡ Ok y
     → (x : A) × (r ≡ Ok x) × (k x ≡ Ok y)
 bind_ok (Ok x) k y is = (x, refl, is)
 bind_ok (Err stop) k y is = absurd cc
@@ -79,9 +79,9 @@ list_whole word others u names r is =
 -- ---- the equations
 
 -- what holds of the equations that are read, as far as they are
-record AreSound (e : Equations) : Type 0 where
-  names : AreGoodNames (signals e)
-  once : first_after (repeated e.inputs) [] (driven e) ≡ None
+pub record AreSound (e : Equations) : Type 0 where
+  pub names : AreGoodNames (signals e)
+  pub once : first_after (repeated e.inputs) [] (driven e) ≡ None
 
 abbrev found : Equations → Unread → Result (Equations × Unread) Stop
 found e u = Ok (e, u)
@@ -164,7 +164,7 @@ module _ (e : Equations) (line : ℕ) (name : List ℕ) (tree : Tree)
       good_push (name_fault max_signals) [] (signals e) name sound.names here in
       subst AreGoodNames (sym (signals_more ∙ ap (λ (l : List (List ℕ)). signals e ++ l) last)) all
 
-  still_sound : AreSound more
+  pub still_sound : AreSound more
   still_sound = elim (cases_Bool (stands_in e.outputs name)) [
     | inl stands ↦ record { names = of_output stands; once = once_more }
     | inr inner ↦ record { names = of_inner inner; once = once_more }
@@ -229,7 +229,7 @@ unless_none : (f : Option (ℕ × TextKind)) (x e : Equations) → unless f x �
 unless_none None x e is = (refl, cc)
 unless_none (Some fault) x e is = absurd cc
 
-ended_whole : (last : ℕ) (bad : Option ℕ) (r : Result Equations Stop) (e : Equations) → ended last bad r ≡ Ok e
+pub ended_whole : (last : ℕ) (bad : Option ℕ) (r : Result Equations Stop) (e : Equations) → ended last bad r ≡ Ok e
     → ((x : Equations) → r ≡ Ok x → AreSound x) → AreWhole e
 ended_whole last None (Ok x) e is sound =
     let parts = unless_none (last_fault last x) x e is in

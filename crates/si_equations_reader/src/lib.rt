@@ -5,13 +5,13 @@
 pub mod equations;
 mod expression;
 mod lists;
-mod machine;
+pub mod machine;
 mod marks;
 mod meaning;
 pub mod names;
-mod progress;
+pub mod progress;
 pub mod reader;
 mod statements;
 pub mod step;
-mod symbol;
+pub mod symbol;
 pub mod values;

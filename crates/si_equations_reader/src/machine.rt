@@ -1,6 +1,7 @@
 //! Expressions, read token by token.
 
 ghost use Rattle.std.specs.Prelude.{◌≡◌, [], ◌∷◌, List, MatchOption, OnOk, false, true, reverse};
+ghost use Rattle.std.specs.Option.{is_some};
 ghost use Rattle.si_genlib.specs.Expression as spec;
 ghost use Rattle.si_genlib.specs.Expression.{Tree, trees};
 ghost use Rattle.si_genlib.specs.declared.symbol.Symbol.TheVariants as symbols;
@@ -27,7 +28,7 @@ pub(crate) enum Operator {
 
 /// What is read of an expression.
 #[derive(Drop)]
-pub(crate) struct Reading<'a> {
+pub struct Reading<'a> {
     /// The steps of all that is read. Their last result is the operand, if one stands last; before
     /// it come those of the factors and the terms that stand, and so on for each parenthesis.
     pub(crate) steps: Vec<Step<'a>>,
@@ -118,7 +119,7 @@ fn plus<'a>(steps: &mut Vec<Step<'a>>, terms: bool) -> Result<(), NoMemory>
 
 impl<'a> Reading<'a> {
     /// Nothing is read yet.
-    pub(crate) fn new(alloc: Global) -> Reading<'a>
+    pub fn new(alloc: Global) -> Reading<'a>
         ensures { state_now result ≡ spec.start }
     {
         Reading {
@@ -308,9 +309,28 @@ impl<'a> Reading<'a> {
         }
     }
 
+    /// Whether an operand stands last.
+    pub fn has_operand(&self) -> bool
+        ensures { result ≡ is_some (state_now self.now).operand }
+    {
+        self.operand
+    }
+
+    /// The steps of all that is read.
+    pub fn into_steps(self) -> Vec<Step<'a>>
+        ensures { result ≡ self.entry.steps }
+    {
+        self.steps
+    }
+
     /// Reads the next symbol. Answers whether it ends the expression.
+    ///
+    /// # Errors
+    ///
+    /// `BadExpression` where the symbol can't stand there, `TooDeep` where it is one operator too
+    /// many whose operand isn't finished, and `NoMemory` only where memory runs out.
     #[tactic(auto, unfolding(si_genlib::specs::Expression::step))]
-    pub(crate) fn step(&mut self, symbol: Symbol<'a>) -> Result<bool, LineFault>
+    pub fn step(&mut self, symbol: Symbol<'a>) -> Result<bool, LineFault>
         ensures { Steps result self.new
             (spec.step trees (state_now self.old) (symbol_now symbol.entry)) }
     {

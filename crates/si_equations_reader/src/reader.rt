@@ -8,7 +8,7 @@ ghost use Rattle.si_equations.specs.Equations as spec;
 ghost use Rattle.si_tokens.specs.Unread as unread;
 ghost use Rattle.si_tokens.specs.declared.fault.Stop.TheVariants as stops;
 ghost use Rattle.si_words.specs.Ends.{after_last as line_after_last};
-ghost use Rattle.si_equations_reader.specs.Held.{progress_now, Spells, Refuses};
+ghost use Rattle.si_equations_reader.specs.Held.{AreCounted, progress_now, Spells, Refuses};
 ghost use Rattle.si_equations_reader.specs.Read.{equations_now};
 
 use crate::equations::Equations;
@@ -65,7 +65,7 @@ fn stop_fault(text: &[u8], stop: Stop) -> TextFault
 
 /// The line of the first equation with a name that no signal has.
 fn undeclared_line(alloc: Global, read: &Progress<'_>) -> Result<Option<u64>, NoMemory>
-    requires { read.now.signals ≡ spec.signals (progress_now read.now) }
+    requires { AreCounted read.now }
     ensures { IfOk result (λ line. first_in (spec.undeclared (spec.signals (progress_now read.now)))
         (progress_now read.now).equations ≡ option_map (λ n. (n, Undeclared)) line) }
 {
@@ -78,9 +78,20 @@ fn undeclared_line(alloc: Global, read: &Progress<'_>) -> Result<Option<u64>, No
     Ok(None)
 }
 
-/// The equations, if each name in them is that of a signal, and each output has one.
-fn checked<'a>(alloc: Global, text: &[u8], read: Progress<'a>) -> Result<Equations<'a>, TextFault>
-    requires { read.signals ≡ spec.signals (progress_now read) }
+/// The equations that are read of the text, if each name in them is that of a signal, and each
+/// output has one.
+///
+/// # Errors
+///
+/// The first equation with a name that no signal has is `Undeclared` at its line; else an output
+/// without an equation is `Undeclared` at the line after the last. `NoMemory` only where memory runs
+/// out.
+pub fn checked<'a>(
+    alloc: Global,
+    text: &[u8],
+    read: Progress<'a>,
+) -> Result<Equations<'a>, TextFault>
+    requires { AreCounted read }
     ensures { Spells equations_now result (spec.unless
         (spec.last_fault (line_after_last text.now) (progress_now read.entry))
         (progress_now read.entry)) }

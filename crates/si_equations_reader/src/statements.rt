@@ -3,14 +3,14 @@
 ghost use Rattle.std.specs.Prelude.{◌≡◌, ◌++◌, [], None, OnOk, IfOk};
 ghost use Rattle.si_base.specs.Faults.{first_after};
 ghost use Rattle.si_base.specs.Limits.{max_signals};
-ghost use Rattle.si_equations.specs.Equations.{without, signals, lists_at, statements_at};
+ghost use Rattle.si_equations.specs.Equations.{without, lists_at, statements_at};
 ghost use Rattle.si_tokens.specs.Loops.Parts.{left, piece, Reads};
 ghost use Rattle.si_words.specs.Names.{name_fault};
-ghost use Rattle.si_equations_reader.specs.Held.{progress_now};
+ghost use Rattle.si_equations_reader.specs.Held.{AreCounted, progress_now};
 ghost use Rattle.si_equations_reader.specs.Loops.Statements.{equation_behind, only_lists};
 
 use crate::expression::read_expression;
-use crate::lists::{inputs_of, read_list, signals_of};
+use crate::lists::{inputs_of, read_list};
 use crate::marks::{fault_at, read_mark};
 use crate::names::bare;
 use crate::progress::Progress;
@@ -26,16 +26,10 @@ fn begin<'a>(alloc: Global, listed: &Names, outputs: Names) -> Result<Progress<'
         (without outputs listed.now ++ outputs) ≡ None }
     ensures lists { IfOk result (λ p. progress_now p
         ≡ only_lists (without outputs listed.now) outputs) }
-    ensures signals { IfOk result (λ p. p.signals ≡ signals (progress_now p)) }
+    ensures counted { IfOk result AreCounted }
 {
     let inputs = inputs_of(listed, &outputs)?;
-    let signals = signals_of(&inputs, &outputs)?;
-    Ok(Progress {
-        inputs,
-        outputs,
-        signals,
-        equations: Vec::new(alloc),
-    })
+    Progress::of_lists(alloc, inputs, outputs)
 }
 
 /// The two lists.
@@ -43,7 +37,7 @@ fn begin<'a>(alloc: Global, listed: &Names, outputs: Names) -> Result<Progress<'
 fn read_lists<'a>(alloc: Global, source: &mut Source<'a>) -> Result<Progress<'a>, ReadFault>
     ensures lists { Reads (λ p. (progress_now p, left source.new)) result
         (lists_at (left source.old)) }
-    ensures signals { IfOk result (λ p. p.signals ≡ signals (progress_now p)) }
+    ensures counted { IfOk result AreCounted }
 {
     let none = Names::new(alloc)?;
     let listed = read_list(source, b"INORDER", &none)?;
@@ -59,10 +53,10 @@ fn read_equation<'a>(
     progress: &mut Progress<'a>,
     first: Part<'a>,
 ) -> Result<(), ReadFault>
-    requires { progress.old.signals ≡ signals (progress_now progress.old) }
+    requires { AreCounted progress.old }
     ensures equation { Reads (λ _. (progress_now progress.new, left source.new)) result
         (equation_behind (progress_now progress.old) (piece first.entry (left source.old))) }
-    ensures signals { OnOk result (progress.new.signals ≡ signals (progress_now progress.new)) }
+    ensures counted { OnOk result (AreCounted progress.new) }
 {
     let name = bare(first.bytes);
     if let Some(kind) = progress.equation_kind(name) {
@@ -80,7 +74,7 @@ pub(crate) fn read_statements<'a>(
     source: &mut Source<'a>,
 ) -> Result<Progress<'a>, ReadFault>
     ensures statements { Reads (λ p. progress_now p) result (statements_at (left source.old)) }
-    ensures signals { IfOk result (λ p. p.signals ≡ signals (progress_now p)) }
+    ensures counted { IfOk result AreCounted }
 {
     let mut progress = read_lists(alloc, source)?;
     while let Some(first) = source.next_token() {

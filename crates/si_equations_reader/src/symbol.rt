@@ -8,7 +8,8 @@ use si_words::words::is_name_byte;
 
 /// A token of an expression.
 #[derive(Clone, Copy)]
-pub(crate) enum Symbol<'a> {
+pub enum Symbol<'a> {
+    /// The name of a pin.
     Pin(&'a [u8]),
     Constant(bool),
     /// `!`
@@ -19,10 +20,13 @@ pub(crate) enum Symbol<'a> {
     Times,
     /// `+`
     Plus,
+    /// `(`
     Open,
+    /// `)`
     Close,
     /// `;`
     End,
+    /// What can't stand in an expression.
     Other,
 }
 

@@ -12,7 +12,7 @@ use Rattle.si_equations_reader.proofs.statements.read_statements.Goals as goal
 pub loop-first-init : goal.loop-first-init
 loop-first-init c = record {
   statements = statements_begin _ _ _ c.in_ok-progress.ensures.lists;
-  signals = c.in_ok-progress.ensures.signals;
+  counted = c.in_ok-progress.ensures.counted;
 }
 
 pub loop-first-smaller : goal.loop-first-smaller
@@ -26,7 +26,7 @@ loop-first-preserved c = record {
       (left c.loop-first.source) (left c.read_equation.new.source)
       (piece c.in-Some.first (left c.next_token.new.self)) (tokens (left c.next_token.new.self))
       c.in-Some.ensures c.in_ok-read_equation.ensures.equation).0 ∙ c.loop-first.invariant.statements;
-  signals = c.in_ok-read_equation.ensures.signals;
+  counted = c.in_ok-read_equation.ensures.counted;
 }
 
 pub returns-in_err-read_equation : goal.returns-in_err-read_equation
@@ -39,7 +39,7 @@ returns-in_err-read_equation c =
           (equation_fails (progress_now c.loop-first.progress) (left c.loop-first.source)
           (piece c.in-Some.first (left c.next_token.new.self)) (tokens (left c.next_token.new.self))
           c.in_err-read_equation.field-0.0 c.in-Some.ensures c.in_err-read_equation.ensures.equation));
-      signals = rw p.1 tt;
+      counted = rw p.1 tt;
     }
 
 pub returns-in_err-progress : goal.returns-in_err-progress
@@ -48,12 +48,12 @@ returns-in_err-progress c =
     record {
       statements = rw (p.1, p.2) (lists_fail (left c.args.source.now) c.in_err-progress.field-0.0
           c.in_err-progress.ensures.lists);
-      signals = rw p.1 tt;
+      counted = rw p.1 tt;
     }
 
 pub returns : goal.returns
 returns c = record {
   statements = sym c.loop-first.invariant.statements
       ∙ no_equation (progress_now c.loop-first.progress) (left c.loop-first.source) c.in_default.ensures;
-  signals = c.loop-first.invariant.signals;
+  counted = c.loop-first.invariant.counted;
 }
