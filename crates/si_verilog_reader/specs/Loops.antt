@@ -1,0 +1,4 @@
+-- What the parts of a computation keep: for the proofs of the code, and in no promise of a run.
+pub mod Held
+pub mod Names
+pub mod Regions
