@@ -48,7 +48,7 @@ _sisyn() {
     '2 audit') files=yes ;;
     '3 audit') files=yes ;;
     '2 certify') files=yes ;;
-    '3 certify') words='eqn'; files=yes ;;
+    '3 certify') words='eqn verilog'; files=yes ;;
     '4 certify') files=yes ;;
     '2 same') files=yes ;;
     '3 same') files=yes ;;

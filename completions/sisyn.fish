@@ -68,7 +68,7 @@ complete -c sisyn -n 'test (count (commandline -opc)) -eq 2; and test (commandli
 complete -c sisyn -n 'test (count (commandline -opc)) -eq 3; and test (commandline -opc)[2] = audit' -F
 complete -c sisyn -n 'test (count (commandline -opc)) -eq 1' -a 'certify' -d 'a netlist with insertions told by its gates'
 complete -c sisyn -n 'test (count (commandline -opc)) -eq 2; and test (commandline -opc)[2] = certify' -F
-complete -c sisyn -n 'test (count (commandline -opc)) -eq 3; and test (commandline -opc)[2] = certify' -a 'eqn' -F
+complete -c sisyn -n 'test (count (commandline -opc)) -eq 3; and test (commandline -opc)[2] = certify' -a 'eqn verilog' -F
 complete -c sisyn -n 'test (count (commandline -opc)) -eq 4; and test (commandline -opc)[2] = certify' -F
 complete -c sisyn -n 'test (count (commandline -opc)) -eq 1' -a 'same' -d 'whether two graphs behave alike'
 complete -c sisyn -n 'test (count (commandline -opc)) -eq 2; and test (commandline -opc)[2] = same' -F

@@ -1,6 +1,6 @@
 -- Equations come to one answer; what they come to passes its audit and has their values, and is
 -- there wherever with some start values a lineage fits.
-use Rattle.std.proofs.Common.{ℕ, ◌^◌, ◌<◌, List, length, Ok, Err, refl, sym, ap, subst, ◌∙◌}
+use Rattle.std.proofs.Common.{◌≡◌, ℕ, ◌^◌, ◌<◌, List, length, Ok, Err, refl, sym, ap, subst, ◌∙◌}
 use Rattle.si_base.specs.Codes.{CodedGraph}
 use Rattle.si_base.specs.GivenGraph.{Sg}
 use Rattle.si_base.specs.Graph.{StateGraph}
@@ -33,7 +33,11 @@ use Rattle.si_stages.proofs.AuditLaws.{reads_back}
 use Rattle.si_stages.proofs.GivenLineages.{given_state_names}
 use Rattle.si_certify.proofs.CertifyLemmas.{certified_by, proper_is}
 use Rattle.si_certify.proofs.SpelledLemmas.{spelled_is_netlist}
-use Rattle.si_certify_equations.specs.Certify.{certify_equations}
+use Rattle.si_verilog_reader.specs.Comments.{without_comments}
+use Rattle.si_verilog_reader.proofs.WholeLemmas.{text_whole as modules_whole}
+use Rattle.si_certify_equations.specs.declared.form.Form.{Form}
+use Rattle.si_certify_equations.specs.declared.form.Form.TheVariants as forms
+use Rattle.si_certify_equations.specs.Certify.{certify_equations, spelled_in}
 use Rattle.si_certify_equations.specs.Laws.{AnswersAreOne, AnswersExist, CertifiedEquationsPass, FittingAreCertified}
 use Rattle.si_certify_equations.specs.Starts.{IsStarted, spelled_first, started_on, starts}
 use Rattle.si_certify_equations.proofs.NetlistStage.{IsNetlistBeside, beside_for, beside_more}
@@ -51,10 +55,15 @@ pub coded_names : (sg : Sg) (c : CodedGraph) → IsSound sg.graph c → AreGiven
     → AreGiven sg.model c.graph.signals
 coded_names sg c sound given = subst (λ (g : StateGraph). AreGiven sg.model g.signals) (sym sound.same_graph) given
 
+-- what a text spells is whole
+pub spelled_whole : (form : Form) (text : List ℕ) (e : Equations) → spelled_in form text ≡ Ok e → AreWhole e
+spelled_whole forms.Equations text e is = text_whole text e is
+spelled_whole forms.Modules text e is = modules_whole (without_comments text) e is
+
 -- ---- the texts come to one answer
 pub answers_are_one : AnswersAreOne
-answers_are_one g a n b = then_one _ _ (graph_one g a)
-    (λ sg given. then_one _ _ (read_one n b)
+answers_are_one form g a n b = then_one _ _ (graph_one g a)
+    (λ sg given. then_one _ _ (read_one form n b)
     (λ e spelled. then_one _ _ (proper_one sg.graph sg.states)
     (λ c sound. then_one _ _ (netlist_one n sg.model c e)
     (λ m comes. starts_one sg.states c m sound.coded_is (proper_is sg.graph c sound)))))
@@ -85,11 +94,11 @@ module _ (a : List ℕ) (sg : Sg) (e : Equations) (c : CodedGraph) (m : Netlist)
     started_for = started_is_for c m values for
 
 pub answers_exist : AnswersExist
-answers_exist g a n b = then_some _ _ (graph_some g a)
-    (λ sg given. then_some _ _ (read_some n b)
+answers_exist form g a n b = then_some _ _ (graph_some g a)
+    (λ sg given. then_some _ _ (read_some form n b)
     (λ e spelled. then_some _ _ (proper_some a sg given)
     (λ c sound. then_some _ _ (netlist_some n sg.model c e)
-    (λ m comes. answered a sg e c m given (text_whole b e spelled) sound (netlist_is_beside n sg.model c e m comes)))))
+    (λ m comes. answered a sg e c m given (spelled_whole form b e spelled) sound (netlist_is_beside n sg.model c e m comes)))))
 
 -- ---- what they come to
 -- other lines and start values change no gate
@@ -100,7 +109,7 @@ still_of_equations lines given values n e of z drives =
     record { equation = h.equation; there = h.there; named = h.named; value = h.value }
 
 pub certified_equations_pass : CertifiedEquationsPass
-certified_equations_pass g a n b output comes =
+certified_equations_pass form g a n b output comes =
     let read = passed _ _ output comes in
     let spelled = passed _ _ output read.2 in
     let checked = passed _ _ output spelled.2 in
@@ -111,7 +120,7 @@ certified_equations_pass g a n b output comes =
     let m = made.0 in
     let is = netlist_is_beside n sg.model c e m made.1 in
     let told : IsStarted sg.states c m output = made.2 in
-    let whole = text_whole b e spelled.1 in
+    let whole = spelled_whole form b e spelled.1 in
     let lineage = told.spelled.lineage in
     let lines = insertions_of sg.states lineage in
     let this = started_on c m told.values in
@@ -137,19 +146,19 @@ certified_equations_pass g a n b output comes =
 
 -- ---- when they come to something
 pub fitting_are_certified : FittingAreCertified
-fitting_are_certified g a n b some =
+fitting_are_certified form g a n b some =
     let sg = some.given in
     let e = some.read in
     let c = some.coded in
     let m = netlist_beside sg.model c e in
     let is : IsNetlistBeside sg.model c e m =
     record { lists = some.lists; few = some.few; summed = some.summed; netlist_is = refl } in
-    let whole = text_whole b e some.spelled in
+    let whole = spelled_whole form b e some.spelled in
     of_answer (answered a sg e c m some.is_given whole some.sound is)
   where
     of_answer : HasResult (spelled_first some.given.states some.coded
         (netlist_beside some.given.model some.coded some.read))
-        → (output : List ℕ) × certify_equations g a n b (Ok output)
+        → (output : List ℕ) × certify_equations form g a n b (Ok output)
     of_answer (Ok output, told) = (
       output,
       Passes some.given some.is_given (Passes some.read some.spelled (Passes some.coded some.sound

@@ -15,7 +15,7 @@ use Rattle.si_base.specs.Limits.{max_signals}
 use Rattle.si_base.specs.Netlist.{Netlist}
 use Rattle.si_base.specs.System.{IsFor, is_inserted}
 use Rattle.si_base.specs.WellFormed.{IsNetlist}
-use Rattle.si_equations.specs.Equations.{Equations, equations_in}
+use Rattle.si_equations.specs.Equations.{Equations}
 use Rattle.si_equations.specs.Whole.{AreWhole}
 use Rattle.si_from_equations.specs.Beside.{all_signals, hidden_names, lists_place, netlist_beside, unsummed}
 use Rattle.si_from_equations.specs.Given.{AreGiven}
@@ -25,7 +25,8 @@ use Rattle.si_readings.proofs.StageLemmas.{passed, then_one, then_some}
 use Rattle.si_refusals.specs.Refusal.{BadText, ListsDiffer, Rejected}
 use Rattle.si_refusals.specs.declared.rejection.NamedRejection.TheVariants.{Products}
 use Rattle.si_certify_equations.specs.Certify.{few_hidden, match_signals, netlist_of_equations, netlist_of_sums}
-use Rattle.si_certify_equations.specs.Certify.{read_equations}
+use Rattle.si_certify_equations.specs.declared.form.Form.{Form}
+use Rattle.si_certify_equations.specs.Certify.{read_equations, spelled_in}
 use Rattle.si_certify_equations.specs.Limits.{max_hidden}
 
 -- ---- one of two values
@@ -36,21 +37,22 @@ one_some : {A : Type 0} (o : Option A) (x y : A) → o ≡ Some x → o ≡ Some
 one_some o x y one other = cc
 
 -- ---- the text
-pub read_one : (file text : List ℕ) → AtMostOne (read_equations file text)
-read_one file text (Ok e) (Ok d) one other =
+pub read_one : (form : Form) (file text : List ℕ) → AtMostOne (read_equations form file text)
+read_one form file text (Ok e) (Ok d) one other =
     let both = sym one ∙ other in
     let same : e ≡ d = cc in ap Ok same
-read_one file text (Ok e) (Err r) one other = (let both = sym one ∙ other.1 in cc)
-read_one file text (Err r) (Ok e) one other = (let both = sym one.1 ∙ other in cc)
-read_one file text (Err r) (Err q) one other =
+read_one form file text (Ok e) (Err r) one other = (let both = sym one ∙ other.1 in cc)
+read_one form file text (Err r) (Ok e) one other = (let both = sym one.1 ∙ other in cc)
+read_one form file text (Err r) (Err q) one other =
     let both = sym one.1 ∙ other.1 in
     let same : one.0 ≡ other.0 = cc in
     ap Err (one.2 ∙ ap (λ (at : ℕ × TextKind). BadText file at.0 at.1) same ∙ sym other.2)
 
-pub read_some : (file text : List ℕ) → HasResult (read_equations file text)
-read_some file text = by_result (equations_in text) refl
+pub read_some : (form : Form) (file text : List ℕ) → HasResult (read_equations form file text)
+read_some form file text = by_result (spelled_in form text) refl
   where
-    by_result : (r : Result Equations (ℕ × TextKind)) → equations_in text ≡ r → HasResult (read_equations file text)
+    by_result : (r : Result Equations (ℕ × TextKind)) → spelled_in form text ≡ r
+        → HasResult (read_equations form file text)
     by_result (Ok e) is = (Ok e, is)
     by_result (Err at) is = (Err (BadText file at.0 at.1), (at, is, refl))
 

@@ -1,7 +1,7 @@
--- (command) What `certify` means over the texts of a graph and of equations: the netlist of the
--- equations beside the graph, with the lines of the insertions that its gates tell, or the first
--- cause against it.
-use Rattle.std.specs.Prelude.{◌≡◌, ℕ, ◌<◌, ◌≤◌, List, length, Some, None, Ok, Err}
+-- (command) What `certify` means over the texts of a graph and of equations, or of modules of
+-- Verilog that are read as equations: the netlist of the equations beside the graph, with the lines
+-- of the insertions that its gates tell, or the first cause against it.
+use Rattle.std.specs.Prelude.{◌≡◌, ℕ, ◌<◌, ◌≤◌, List, length, Some, None, Result, Ok, Err}
 use Rattle.si_base.specs.declared.fault.TextKind.{TextKind}
 use Rattle.si_base.specs.declared.graph.Signal.{Signal}
 use Rattle.si_base.specs.Codes.{CodedGraph}
@@ -15,16 +15,35 @@ use Rattle.si_readings.specs.Readings.{graph_in}
 use Rattle.si_refusals.specs.Refusal.{TextRefusal, BadText, ListsDiffer, Rejected}
 use Rattle.si_refusals.specs.Stages.{Stage, ◌>>=◌}
 use Rattle.si_refusals.specs.declared.rejection.NamedRejection.TheVariants.{Hidden, Products}
+use Rattle.si_verilog_reader.specs.Comments.{without_comments}
+use Rattle.si_verilog_reader.specs.Modules.{modules_in}
+use Rattle.si_certify_equations.specs.declared.form.Form.{Form}
+use Rattle.si_certify_equations.specs.declared.form.Form.TheVariants as forms
 use Rattle.si_certify_equations.specs.Limits.{max_hidden}
 use Rattle.si_certify_equations.specs.Starts.{spelled_first}
 
 -- ---- texts
 
--- the equations that a text spells, or its first fault
-abbrev pub read_equations : (file text : List ℕ) → Stage TextRefusal Equations
-read_equations file text (Ok e) = equations_in text ≡ Ok e
-read_equations file text (Err refusal) = (at : ℕ × TextKind) × (equations_in text ≡ Err at)
+-- what is read of a text of that form: modules are read without their comments
+abbrev pub code_of : Form → List ℕ → List ℕ
+code_of forms.Equations text = text
+code_of forms.Modules text = without_comments text
+
+-- the equations that it spells, or its first fault
+abbrev pub spelled_by : Form → (code : List ℕ) → Result Equations (ℕ × TextKind)
+spelled_by forms.Equations code = equations_in code
+spelled_by forms.Modules code = modules_in code
+
+abbrev pub spelled_in : Form → List ℕ → Result Equations (ℕ × TextKind)
+spelled_in form text = spelled_by form (code_of form text)
+
+abbrev pub read_code : Form → (file code : List ℕ) → Stage TextRefusal Equations
+read_code form file code (Ok e) = spelled_by form code ≡ Ok e
+read_code form file code (Err refusal) = (at : ℕ × TextKind) × (spelled_by form code ≡ Err at)
     × (refusal ≡ BadText file at.0 at.1)
+
+abbrev pub read_equations : Form → (file text : List ℕ) → Stage TextRefusal Equations
+read_equations form file text = read_code form file (code_of form text)
 
 -- ---- the netlist
 
@@ -64,9 +83,9 @@ certified_on file given e = do
   netlist ← netlist_of_equations file given.model coded e
   spelled_first given.states coded netlist
 
-abbrev pub certify_equations : (graph graph_text equations equations_text : List ℕ)
+abbrev pub certify_equations : Form → (graph graph_text equations equations_text : List ℕ)
     → Stage TextRefusal (List ℕ)
-certify_equations graph graph_text equations equations_text = do
+certify_equations form graph graph_text equations equations_text = do
   given ← graph_in graph graph_text
-  read ← read_equations equations equations_text
+  read ← read_equations form equations equations_text
   certified_on equations given read

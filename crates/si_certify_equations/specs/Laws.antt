@@ -2,7 +2,7 @@
 use Rattle.std.specs.Prelude.{◌≡◌, ℕ, ◌<◌, ◌≤◌, List, length, None, Ok}
 use Rattle.si_base.specs.Codes.{CodedGraph}
 use Rattle.si_base.specs.GivenGraph.{Sg}
-use Rattle.si_equations.specs.Equations.{Equations, equations_in}
+use Rattle.si_equations.specs.Equations.{Equations}
 use Rattle.si_found.specs.Found.{Fits}
 use Rattle.si_from_equations.specs.Beside.{all_signals, hidden_names, lists_place, netlist_beside}
 use Rattle.si_from_equations.specs.Beside.{unsummed}
@@ -13,16 +13,17 @@ use Rattle.si_readings.specs.Checks.{IsSound}
 use Rattle.si_readings.specs.Laws.{AtMostOne, HasResult}
 use Rattle.si_sg.specs.GivenGraph.{IsGivenBy}
 use Rattle.si_stages.specs.AuditLaws.{IsCertifiedBy}
-use Rattle.si_certify_equations.specs.Certify.{certify_equations}
+use Rattle.si_certify_equations.specs.declared.form.Form.{Form}
+use Rattle.si_certify_equations.specs.Certify.{certify_equations, spelled_in}
 use Rattle.si_certify_equations.specs.Limits.{max_hidden}
 use Rattle.si_certify_equations.specs.Starts.{started_on, starts}
 
 -- ---- what it comes to
 
 -- the output is certified for the graph of the text, and its gates have the values of the equations
-pub record IsCertifiedOutput (text equations output : List ℕ) : Type 0 where
+pub record IsCertifiedOutput (form : Form) (text equations output : List ℕ) : Type 0 where
   pub read : Equations
-  pub spelled : equations_in equations ≡ Ok read
+  pub spelled : spelled_in form equations ≡ Ok read
   pub given : Sg
   pub lineage : History
   pub certified : IsCertifiedBy text output given lineage
@@ -30,19 +31,19 @@ pub record IsCertifiedOutput (text equations output : List ℕ) : Type 0 where
 
 -- such is what equations come to: it passes its audit
 abbrev pub CertifiedEquationsPass : Type 0
-CertifiedEquationsPass = (file text equations_file equations output : List ℕ)
-    → certify_equations file text equations_file equations (Ok output)
-    → IsCertifiedOutput text equations output
+CertifiedEquationsPass = (form : Form) (file text equations_file equations output : List ℕ)
+    → certify_equations form file text equations_file equations (Ok output)
+    → IsCertifiedOutput form text equations output
 
 -- ---- when it comes to something
 
 -- a lineage fits the netlist of the equations beside the graph of the text, with some start values
 -- of its hidden signals
-pub record SomeFits (text equations : List ℕ) : Type 0 where
+pub record SomeFits (form : Form) (text equations : List ℕ) : Type 0 where
   pub given : Sg
   pub is_given : IsGivenBy text given
   pub read : Equations
-  pub spelled : equations_in equations ≡ Ok read
+  pub spelled : spelled_in form equations ≡ Ok read
   pub coded : CodedGraph
   pub sound : IsSound given.graph coded
   pub lists : lists_place coded.graph.signals read ≡ None
@@ -55,15 +56,16 @@ pub record SomeFits (text equations : List ℕ) : Type 0 where
 
 -- where one does, the equations are certified
 abbrev pub FittingAreCertified : Type 0
-FittingAreCertified = (file text equations_file equations : List ℕ) → SomeFits text equations
-    → (output : List ℕ) × certify_equations file text equations_file equations (Ok output)
+FittingAreCertified = (form : Form) (file text equations_file equations : List ℕ)
+    → SomeFits form text equations
+    → (output : List ℕ) × certify_equations form file text equations_file equations (Ok output)
 
 -- ---- answers
 
 abbrev pub AnswersAreOne : Type 0
-AnswersAreOne = (file text equations_file equations : List ℕ)
-    → AtMostOne (certify_equations file text equations_file equations)
+AnswersAreOne = (form : Form) (file text equations_file equations : List ℕ)
+    → AtMostOne (certify_equations form file text equations_file equations)
 
 abbrev pub AnswersExist : Type 0
-AnswersExist = (file text equations_file equations : List ℕ)
-    → HasResult (certify_equations file text equations_file equations)
+AnswersExist = (form : Form) (file text equations_file equations : List ℕ)
+    → HasResult (certify_equations form file text equations_file equations)

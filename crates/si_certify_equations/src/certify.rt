@@ -1,16 +1,18 @@
-//! From the texts of a graph and of equations to the netlist of the equations, with the lines of
-//! its insertions.
+//! From the texts of a graph and of equations, or of modules, to the netlist of the equations, with
+//! the lines of its insertions.
 
-ghost use Rattle.std.specs.Prelude.{IfErr, IfOk, Ok};
+ghost use Rattle.std.specs.Prelude.{◌≡◌, IfErr, IfOk, Ok};
 ghost use Rattle.si_certify_equations.specs.Certify as spec;
 ghost use Rattle.si_circuit.specs.Circuits.{AreStateNames};
 ghost use Rattle.si_equations.specs.Whole.{AreWhole};
+ghost use Rattle.si_equations_reader.specs.Held.{Spells};
 ghost use Rattle.si_equations_reader.specs.Read.{equations_now};
 ghost use Rattle.si_from_equations.specs.Given.{AreGiven};
 ghost use Rattle.si_readings.specs.Checks.{IsNamed};
 ghost use Rattle.si_refusals.specs.Ending.{MayStop, ending_of};
 ghost use Rattle.si_sg.specs.GivenGraph.{sg_now};
 
+use crate::form::Form;
 use crate::netlist::netlist_of_equations;
 use crate::starts::spelled_first;
 use si_base::fault::TextFault;
@@ -23,12 +25,14 @@ use si_readings::checks::proper_of;
 use si_readings::readings::graph_in;
 use si_refusals::refusals::Refusal;
 use si_sg::read::Sg;
+use si_verilog_reader::comments::without_comments;
+use si_verilog_reader::reader::read_modules;
 use std::alloc::Global;
 
-/// The text of the netlist that the equations of the one text spell beside the graph of the other,
-/// with the lines of the insertions that its gates tell. Signals that have an equation and that the
-/// graph doesn't have are hidden ones; they start with the first values with which the gates tell
-/// insertions. A refusal shows the names of the texts' files.
+/// The text of the netlist that the equations of the one text, which is of that form, spell beside
+/// the graph of the other, with the lines of the insertions that its gates tell. Signals that have
+/// an equation and that the graph doesn't have are hidden ones; they start with the first values
+/// with which the gates tell insertions. A refusal shows the names of the texts' files.
 ///
 /// # Errors
 ///
@@ -40,19 +44,21 @@ use std::alloc::Global;
 /// 0. `NoMemory` only where memory runs out.
 pub fn certify_equations<'w>(
     alloc: Global,
+    form: Form,
     graph_file: &'w str,
     graph: &[u8],
     equations_file: &'w str,
     equations: &[u8],
 ) -> Result<Text, Refusal<'w>>
-    ensures ok { IfOk result (λ output. spec.certify_equations graph_file.now graph.now
+    ensures ok { IfOk result (λ output. spec.certify_equations form graph_file.now graph.now
         equations_file.now equations.now (Ok output)) }
-    ensures err { IfErr result (λ r. MayStop (spec.certify_equations graph_file.now graph.now
+    ensures err { IfErr result (λ r. MayStop (spec.certify_equations form graph_file.now graph.now
         equations_file.now equations.now) (ending_of r)) }
 {
     let key = key_of(alloc, graph, equations)?;
     let given = graph_in(alloc, graph_file, graph)?;
-    let equations = equations_in(alloc, equations_file, equations)?;
+    let code = code_of(alloc, form, equations)?;
+    let equations = equations_in(alloc, form, equations_file, code.bytes())?;
     certified_on(alloc, key, given, equations_file, &equations)
 }
 
@@ -63,17 +69,39 @@ fn key_of(alloc: Global, graph: &[u8], equations: &[u8]) -> Result<TextKey, NoMe
     Ok(TextKey::of(all.bytes()))
 }
 
-/// The equations that the text spells.
+/// What is read of a text of that form: modules are read without their comments.
+fn code_of(alloc: Global, form: Form, text: &[u8]) -> Result<Text, NoMemory>
+    ensures { IfOk result (λ code. code ≡ spec.code_of form text.now) }
+{
+    match form {
+        Form::Equations => Text::copy_of(alloc, text),
+        Form::Modules => without_comments(alloc, text),
+    }
+}
+
+/// The equations that this spells, or its first fault.
+fn read_code<'a>(alloc: Global, form: Form, code: &'a [u8]) -> Result<Equations<'a>, TextFault>
+    ensures { Spells equations_now result (spec.spelled_by form code.now) }
+{
+    match form {
+        Form::Equations => read_equations(alloc, code),
+        Form::Modules => read_modules(alloc, code),
+    }
+}
+
+/// The equations that this spells, of that file.
 fn equations_in<'w, 'a>(
     alloc: Global,
+    form: Form,
     file: &'w str,
-    text: &'a [u8],
+    code: &'a [u8],
 ) -> Result<Equations<'a>, Refusal<'w>>
-    ensures ok { IfOk result (λ e. spec.read_equations file.now text.now (Ok (equations_now e))) }
+    ensures ok { IfOk result
+        (λ e. spec.read_code form file.now code.now (Ok (equations_now e))) }
     ensures err { IfErr result (λ r.
-        MayStop (spec.read_equations file.now text.now) (ending_of r)) }
+        MayStop (spec.read_code form file.now code.now) (ending_of r)) }
 {
-    match read_equations(alloc, text) {
+    match read_code(alloc, form, code) {
         Ok(equations) => Ok(equations),
         Err(TextFault::NoMemory) => Err(Refusal::NoMemory),
         Err(TextFault::At { line, kind }) => Err(Refusal::BadText { file, line, kind }),

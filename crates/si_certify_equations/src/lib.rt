@@ -3,6 +3,7 @@
 #![tactic(auto)]
 
 pub mod certify;
+pub mod form;
 pub mod laws;
 pub mod limits;
 mod netlist;

@@ -26,7 +26,8 @@ use Rattle.si_commands.proofs.FormMeets.{overlaps}
 use Rattle.si_commands.specs.declared.table.Row.{Row as HeldRow}
 use Rattle.si_commands.specs.declared.task.Task.{Task}
 use Rattle.si_commands.specs.declared.task.Task.TheVariants.{About, Tell, Synth, Map, FromGenlib, Verilog, Replay}
-use Rattle.si_commands.specs.declared.task.Task.TheVariants.{Audit, Certify, CertifyEquations, InsertGate}
+use Rattle.si_commands.specs.declared.task.Task.TheVariants.{Audit, Certify, CertifyEquations}
+use Rattle.si_commands.specs.declared.task.Task.TheVariants.{CertifyModules, InsertGate}
 use Rattle.si_commands.specs.declared.task.Task.TheVariants.{TellNetlist, Resolve, Insert, Same, Exercise, Suggest}
 use Rattle.si_commands.specs.declared.task.Task.TheVariants.{Structure, Equations, Resettable, Timing}
 use Rattle.si_commands.specs.declared.task.Task.TheVariants.{ResettableStructure}
@@ -94,6 +95,7 @@ each_listed (Replay Wave) = (place (Replay Wave), lit≤ tt, refl)
 each_listed Audit = (place Audit, lit≤ tt, refl)
 each_listed Certify = (place Certify, lit≤ tt, refl)
 each_listed CertifyEquations = (place CertifyEquations, lit≤ tt, refl)
+each_listed CertifyModules = (place CertifyModules, lit≤ tt, refl)
 each_listed Same = (place Same, lit≤ tt, refl)
 each_listed (task.Together together.Product) = (place (task.Together together.Product), lit≤ tt, refl)
 each_listed (task.Together together.Compose) = (place (task.Together together.Compose), lit≤ tt, refl)

@@ -17,7 +17,8 @@ use Rattle.si_commands.specs.declared.task.Task.TheVariants.{About, Tell, Synth,
 use Rattle.si_commands.specs.declared.task.Task.TheVariants.{Verilog, Replay, Audit, Exercise}
 use Rattle.si_commands.specs.declared.task.Task.TheVariants as task
 use Rattle.si_commands.specs.declared.task.Task.TheVariants.{TellNetlist, Resolve, Insert, Same}
-use Rattle.si_commands.specs.declared.task.Task.TheVariants.{Certify, CertifyEquations, InsertGate}
+use Rattle.si_commands.specs.declared.task.Task.TheVariants.{Certify, CertifyEquations}
+use Rattle.si_commands.specs.declared.task.Task.TheVariants.{CertifyModules, InsertGate}
 use Rattle.si_commands.specs.declared.task.Task.TheVariants.{Suggest, Structure, Equations}
 use Rattle.si_commands.specs.declared.task.Task.TheVariants.{Resettable, ResettableStructure}
 use Rattle.si_commands.specs.declared.task.Task.TheVariants.{Timing}
@@ -218,7 +219,7 @@ row_of Insert =
     (codes "the graph after insertions of a netlist")
 row_of InsertGate =
     row
-    (Word (codes "insert") ∷ File graph_name ∷ Word (codes "gate") ∷ File genlib_name ∷ [])
+    (Word (codes "insert") ∷ File graph_name ∷ Word (codes "gate") ∷ File (codes "GATE") ∷ [])
     (codes "the graph with a signal for a gate")
 row_of FromGenlib =
     row (Word (codes "genlib") ∷ LoneFile genlib_name ∷ [])
@@ -271,8 +272,13 @@ row_of Certify =
     (codes "a netlist with insertions told by its gates")
 row_of CertifyEquations =
     row
-    (Word (codes "certify") ∷ File graph_name ∷ Word (codes "eqn") ∷ File genlib_name ∷ [])
+    (Word (codes "certify") ∷ File graph_name ∷ Word (codes "eqn") ∷ File (codes "EQUATIONS") ∷ [])
     (codes "the same of equations")
+row_of CertifyModules =
+    row
+    (Word (codes "certify") ∷ File graph_name ∷ Word (codes "verilog")
+    ∷ File (codes "MODULES") ∷ [])
+    (codes "the same of modules of Verilog")
 row_of Same =
     row (Word (codes "same") ∷ File graph_name ∷ File (codes "G") ∷ [])
     (codes "whether two graphs behave alike")
@@ -298,9 +304,10 @@ tasks = Tell Summary ∷ Tell States ∷ Tell Regions ∷ Tell Conflicts ∷ Tel
     ∷ Verilog ∷ Resettable ∷ Structure Cells ∷ Structure Gates
     ∷ ResettableStructure Cells ∷ ResettableStructure Gates ∷ Equations
     ∷ TellNetlist Loops ∷ Timing Cells ∷ Timing Gates ∷ TellNetlist Reset ∷ Replay End
-    ∷ Replay Wave ∷ Audit ∷ Certify ∷ CertifyEquations ∷ Same ∷ task.Together together.Product
-    ∷ task.Together together.Compose ∷ task.Together together.Join ∷ task.Together together.Works
-    ∷ Exercise ∷ About Help ∷ About (Page Before) ∷ About (Page Behind) ∷ About Version ∷ []
+    ∷ Replay Wave ∷ Audit ∷ Certify ∷ CertifyEquations ∷ CertifyModules ∷ Same
+    ∷ task.Together together.Product ∷ task.Together together.Compose
+    ∷ task.Together together.Join ∷ task.Together together.Works ∷ Exercise
+    ∷ About Help ∷ About (Page Before) ∷ About (Page Behind) ∷ About Version ∷ []
 
 abbrev pub rows : List Row
 rows = map (λ task. row_of task) tasks

@@ -304,8 +304,9 @@ lists, 7 of a graph that isn't proper, 11 rejected.
         b"It writes the netlist with its insertions as its gates tell them, so that it is
 audited: signals that the graph doesn't have are hidden ones, `.internal` or
 `.inserted`, in the order of their insertion. Lines `.insert` aren't looked at.
-With `eqn` the netlist is that of equations, as petrify and `eqn` write them,
-each multiplied out; start values of hidden signals are found, of up to 8.
+With `eqn` the netlist is that of equations, as `eqn` and other tools write
+them, and with `verilog` that of modules, as `verilog` writes them: each assign
+is multiplied out; start values of hidden signals are found, of up to 8.
 
 Example:
 

@@ -185,7 +185,7 @@ const ROWS: &[Row] = &[
     },
     Row {
         task: Task::InsertGate,
-        places: &[Word("insert"), File("F"), Word("gate"), File("FILE")],
+        places: &[Word("insert"), File("F"), Word("gate"), File("GATE")],
         tail: Nothing,
         says: "the graph with a signal for a gate",
     },
@@ -318,9 +318,15 @@ const ROWS: &[Row] = &[
     },
     Row {
         task: Task::CertifyEquations,
-        places: &[Word("certify"), File("F"), Word("eqn"), File("FILE")],
+        places: &[Word("certify"), File("F"), Word("eqn"), File("EQUATIONS")],
         tail: Nothing,
         says: "the same of equations",
+    },
+    Row {
+        task: Task::CertifyModules,
+        places: &[Word("certify"), File("F"), Word("verilog"), File("MODULES")],
+        tail: Nothing,
+        says: "the same of modules of Verilog",
     },
     Row {
         task: Task::Same,

@@ -86,6 +86,8 @@ pub enum Task {
     Certify,
     /// The netlist that equations spell, with such lines.
     CertifyEquations,
+    /// The netlist that modules of Verilog spell, with such lines.
+    CertifyModules,
     /// The graph after the insertions that resolve its conflicts.
     Resolve,
     /// The graph after the insertions of a netlist.

@@ -12,7 +12,9 @@ use Rattle.si_commands.specs.declared.task.Task.{Task}
 use Rattle.si_commands.specs.declared.task.Topic.TheVariants.{Help, Page, Version}
 use Rattle.si_commands.specs.declared.task.HelpPlace.TheVariants.{Before, Behind}
 use Rattle.si_commands.specs.declared.task.Task.TheVariants.{About, Tell, Synth, Map, FromGenlib, Verilog, Replay}
-use Rattle.si_commands.specs.declared.task.Task.TheVariants.{Audit, Certify, CertifyEquations, InsertGate}
+use Rattle.si_commands.specs.declared.task.Task.TheVariants.{Audit, Certify, CertifyEquations}
+use Rattle.si_commands.specs.declared.task.Task.TheVariants.{CertifyModules, InsertGate}
+use Rattle.si_certify_equations.specs.declared.form.Form.TheVariants as forms
 use Rattle.si_commands.specs.declared.task.Task.TheVariants.{Exercise}
 use Rattle.si_commands.specs.declared.task.Task.TheVariants.{TellNetlist, Resolve, Insert, Same, Suggest}
 use Rattle.si_commands.specs.declared.task.Task.TheVariants as task
@@ -106,7 +108,8 @@ meaning_one (TellNetlist what) (file ∷ []) choices (text ∷ []) one = netlist
 meaning_one (Replay what) (g ∷ n ∷ s ∷ []) choices (a ∷ b ∷ c ∷ []) one = replay_one what g a n b s c
 meaning_one Audit (g ∷ n ∷ []) choices (a ∷ b ∷ []) one = audit_one g a n b
 meaning_one Certify (g ∷ n ∷ []) choices (a ∷ b ∷ []) one = certify_one g a n b
-meaning_one CertifyEquations (g ∷ e ∷ []) choices (a ∷ b ∷ []) one = equated.answers_are_one g a e b
+meaning_one CertifyEquations (g ∷ e ∷ []) choices (a ∷ b ∷ []) one = equated.answers_are_one forms.Equations g a e b
+meaning_one CertifyModules (g ∷ m ∷ []) choices (a ∷ b ∷ []) one = equated.answers_are_one forms.Modules g a m b
 meaning_one Resolve (file ∷ []) options (text ∷ []) one = resolved_one (is_suggested options) file text one
 meaning_one Insert (g ∷ n ∷ []) choices (a ∷ b ∷ []) one = insert_one g a n b
 meaning_one InsertGate (g ∷ x ∷ []) choices (a ∷ b ∷ []) one = by_hand_one g a x b
@@ -149,7 +152,8 @@ meaning_some (TellNetlist what) (file ∷ []) choices (text ∷ []) fit each = n
 meaning_some (Replay what) (g ∷ n ∷ s ∷ []) choices (a ∷ b ∷ c ∷ []) fit each = replay_some what g a n b s c
 meaning_some Audit (g ∷ n ∷ []) choices (a ∷ b ∷ []) fit each = audit_some g a n b
 meaning_some Certify (g ∷ n ∷ []) choices (a ∷ b ∷ []) fit each = certify_some g a n b
-meaning_some CertifyEquations (g ∷ e ∷ []) choices (a ∷ b ∷ []) fit each = equated.answers_exist g a e b
+meaning_some CertifyEquations (g ∷ e ∷ []) choices (a ∷ b ∷ []) fit each = equated.answers_exist forms.Equations g a e b
+meaning_some CertifyModules (g ∷ m ∷ []) choices (a ∷ b ∷ []) fit each = equated.answers_exist forms.Modules g a m b
 meaning_some Resolve (file ∷ []) options (text ∷ []) fit each = resolved_some (is_suggested options) file text
 meaning_some Insert (g ∷ n ∷ []) choices (a ∷ b ∷ []) fit each = insert_some g a n b
 meaning_some InsertGate (g ∷ x ∷ []) choices (a ∷ b ∷ []) fit each = by_hand_some g a x b

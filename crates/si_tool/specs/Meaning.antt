@@ -13,7 +13,7 @@ use Rattle.si_commands.specs.declared.task.Task.TheVariants.{TellNetlist, Resolv
 use Rattle.si_commands.specs.declared.task.Task.TheVariants.{Suggest, Structure, Equations}
 use Rattle.si_commands.specs.declared.task.Task.TheVariants.{Resettable, ResettableStructure}
 use Rattle.si_commands.specs.declared.task.Task.TheVariants.{Timing, Certify, InsertGate}
-use Rattle.si_commands.specs.declared.task.Task.TheVariants.{CertifyEquations}
+use Rattle.si_commands.specs.declared.task.Task.TheVariants.{CertifyEquations, CertifyModules}
 use Rattle.si_commands.specs.declared.task.Task.TheVariants as task
 use Rattle.si_commands.specs.declared.task.Together.{Together}
 use Rattle.si_commands.specs.declared.task.Together.TheVariants as kind
@@ -25,6 +25,7 @@ use Rattle.si_readings.specs.declared.library_format.LibraryFormat.{LibraryForma
 use Rattle.si_by_hand.specs.ByHand.{by_hand}
 use Rattle.si_certify.specs.Certify.{certify}
 use Rattle.si_certify_equations.specs.Certify.{certify_equations}
+use Rattle.si_certify_equations.specs.declared.form.Form.TheVariants as forms
 use Rattle.si_exercise.specs.Exercise.{exercise}
 use Rattle.si_exports.specs.Equations.{equations}
 use Rattle.si_exports.specs.Resettable.{resettable}
@@ -92,7 +93,9 @@ meaning (Replay what) (g ∷ n ∷ s ∷ []) choices (graph ∷ netlist ∷ sche
 meaning Audit (g ∷ n ∷ []) choices (graph ∷ netlist ∷ []) = audit g graph n netlist
 meaning Certify (g ∷ n ∷ []) choices (graph ∷ netlist ∷ []) = certify g graph n netlist
 meaning CertifyEquations (g ∷ e ∷ []) choices (graph ∷ equations ∷ []) =
-    certify_equations g graph e equations
+    certify_equations forms.Equations g graph e equations
+meaning CertifyModules (g ∷ m ∷ []) choices (graph ∷ modules ∷ []) =
+    certify_equations forms.Modules g graph m modules
 meaning Resolve (file ∷ []) options (text ∷ []) = resolved_by (is_suggested options) file text
 meaning Insert (g ∷ n ∷ []) choices (graph ∷ netlist ∷ []) = insert g graph n netlist
 meaning InsertGate (g ∷ x ∷ []) choices (graph ∷ gate ∷ []) = by_hand g graph x gate

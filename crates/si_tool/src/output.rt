@@ -23,6 +23,7 @@ use si_by_hand::by_hand::insert_by_hand;
 use si_cell::pins::Pins;
 use si_certify::certify::certify_texts;
 use si_certify_equations::certify::certify_equations;
+use si_certify_equations::form::Form;
 use si_commands::about::about;
 use si_commands::command::Command;
 use si_commands::form::is_listed;
@@ -147,7 +148,24 @@ fn output_of_texts<'w>(
         Task::ResettableStructure(kind) => with_reset(alloc, kind, files, choices, texts),
         Task::Certify => certify_texts(alloc, files[0], &texts[0], files[1], &texts[1]),
         Task::CertifyEquations => {
-            certify_equations(alloc, files[0], &texts[0], files[1], &texts[1])
+            certify_equations(
+                alloc,
+                Form::Equations,
+                files[0],
+                &texts[0],
+                files[1],
+                &texts[1],
+            )
+        }
+        Task::CertifyModules => {
+            certify_equations(
+                alloc,
+                Form::Modules,
+                files[0],
+                &texts[0],
+                files[1],
+                &texts[1],
+            )
         }
         Task::InsertGate => insert_by_hand(alloc, files[0], &texts[0], files[1], &texts[1]),
     }

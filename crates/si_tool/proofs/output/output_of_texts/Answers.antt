@@ -292,7 +292,8 @@ pub returns-in-CertifyEquations-clause-ok : goal.returns-in-CertifyEquations-cla
 returns-in-CertifyEquations-clause-ok c =
     let many = counted_files (form_of c.args.task) c.args.files.now (words_now c.args.choices.now) c.requires.given in
     let are = read_two c.args.files.now c.args.texts.now _ _ _ _ (rw c.in-CertifyEquations.is at many)
-    c.requires.texts c.index-texts-0-in-CertifyEquations.is c.index-texts-1-in-CertifyEquations.is c.deref-in-CertifyEquations.ensures.value
+    c.requires.texts c.index-texts-0-in-CertifyEquations.is c.index-texts-1-in-CertifyEquations.is
+    c.deref-in-CertifyEquations.ensures.value
     c.deref-in-CertifyEquations-2.ensures.value in
     rw (c.in-CertifyEquations.is, are.0, are.1) c.certify_equations.ensures.ok
 
@@ -300,9 +301,28 @@ pub returns-in-CertifyEquations-clause-err : goal.returns-in-CertifyEquations-cl
 returns-in-CertifyEquations-clause-err c =
     let many = counted_files (form_of c.args.task) c.args.files.now (words_now c.args.choices.now) c.requires.given in
     let are = read_two c.args.files.now c.args.texts.now _ _ _ _ (rw c.in-CertifyEquations.is at many)
-    c.requires.texts c.index-texts-0-in-CertifyEquations.is c.index-texts-1-in-CertifyEquations.is c.deref-in-CertifyEquations.ensures.value
+    c.requires.texts c.index-texts-0-in-CertifyEquations.is c.index-texts-1-in-CertifyEquations.is
+    c.deref-in-CertifyEquations.ensures.value
     c.deref-in-CertifyEquations-2.ensures.value in
     rw (c.in-CertifyEquations.is, are.0, are.1) c.certify_equations.ensures.err
+
+pub returns-in-CertifyModules-clause-ok : goal.returns-in-CertifyModules-clause-ok
+returns-in-CertifyModules-clause-ok c =
+    let many = counted_files (form_of c.args.task) c.args.files.now (words_now c.args.choices.now) c.requires.given in
+    let are = read_two c.args.files.now c.args.texts.now _ _ _ _ (rw c.in-CertifyModules.is at many)
+    c.requires.texts c.index-texts-0-in-CertifyModules.is c.index-texts-1-in-CertifyModules.is
+    c.deref-in-CertifyModules.ensures.value
+    c.deref-in-CertifyModules-2.ensures.value in
+    rw (c.in-CertifyModules.is, are.0, are.1) c.certify_equations-in-CertifyModules.ensures.ok
+
+pub returns-in-CertifyModules-clause-err : goal.returns-in-CertifyModules-clause-err
+returns-in-CertifyModules-clause-err c =
+    let many = counted_files (form_of c.args.task) c.args.files.now (words_now c.args.choices.now) c.requires.given in
+    let are = read_two c.args.files.now c.args.texts.now _ _ _ _ (rw c.in-CertifyModules.is at many)
+    c.requires.texts c.index-texts-0-in-CertifyModules.is c.index-texts-1-in-CertifyModules.is
+    c.deref-in-CertifyModules.ensures.value
+    c.deref-in-CertifyModules-2.ensures.value in
+    rw (c.in-CertifyModules.is, are.0, are.1) c.certify_equations-in-CertifyModules.ensures.err
 
 pub returns-in-InsertGate-clause-ok : goal.returns-in-InsertGate-clause-ok
 returns-in-InsertGate-clause-ok c =
