@@ -1,16 +1,16 @@
 -- Intervals that are asked for: by words and events, answered one after another.
 use Rattle.std.proofs.Common.{◌≡◌, ◌≢◌, ℕ, ◌+◌, ◌*◌, ◌%◌, ◌^◌, ◌<◌, ◌≤◌, ◌==◌, ◌∙◌, Bool, true, List, [], ◌∷◌, ◌++◌}
 use Rattle.std.proofs.Common.{length, get_or, set, take, drop, refl, sym, ap, ap₂, subst, arith, inl, inr, ◌⊎◌, ◌↔◌}
-use Rattle.std.proofs.Common.{All, Contains, append_assoc, bit_or, get_or-set_same, get_or-set_other}
+use Rattle.std.proofs.Common.{All, Contains, suc, append_assoc, bit_or, get_or-set_same, get_or-set_other}
 use Rattle.std.proofs.lemmas.Bool.{cases_eq}
 use Rattle.std.proofs.lemmas.List.{append-nil, take-append-le, take_more, take_all, map-append, length-map}
-use Rattle.std.proofs.lemmas.List.{length-take, get_or_default}
+use Rattle.std.proofs.lemmas.List.{get_or_default}
 use Rattle.std.proofs.lemmas.Nat.Bits.{bit_at_set_same, bit_at_set_other}
 use Rattle.std.proofs.Math.Seq.{take-add}
 use Rattle.std.specs.Int.{w128}
 use Rattle.si_base.specs.declared.ids.Event.{Event}
 use Rattle.si_base.specs.Bits.{bit}
-use Rattle.si_base.specs.Graph.{StateGraph, IsGraph, rise}
+use Rattle.si_base.specs.Graph.{StateGraph, IsGraph}
 use Rattle.si_closures.specs.Loops.WordSearch.{column, HasBit}
 use Rattle.si_closures.specs.Loops.Words.{IsEventAt}
 use Rattle.si_closures.proofs.SameStates.{same_states}
@@ -19,7 +19,7 @@ use Rattle.si_closures.proofs.WordSearchLemmas.{in_column}
 use Rattle.si_regions.specs.declared.regions.Component.{Component}
 use Rattle.si_candidates.specs.Interval.{IsInterval}
 use Rattle.si_candidates.specs.Loops.Asked.{Ask, asks_from, asks_of, asked_on, asked_for, AreReady, AreIntervalsOf}
-use Rattle.si_candidates.specs.Loops.Adding.{with_block, with_blocks, AddsAsked, AddsFirst, AddsIntervals}
+use Rattle.si_candidates.specs.Loops.Adding.{with_blocks, AddsAsked, AddsFirst, AddsIntervals}
 use Rattle.si_candidates.specs.Blocks.{state_set, max_blocks, AreIntervalsFrom, AreIntervals}
 use Rattle.si_candidates.proofs.BlockLists.{with_blocks-append, full_blocks}
 use Rattle.si_candidates.proofs.IntervalsExist.{some_interval}
@@ -254,37 +254,42 @@ module _ (g : StateGraph) where
       let sets = some_asked g 0 words stops is size in
       record { sets = sets.0; are = sets.1; added = sym (full_blocks found full sets.0) }
 
-  pub column_adds : (seeds words : List ℕ) (stops : List Event) (k : ℕ) (old found new : List (List Bool))
-      → k < length stops
-      → ((j : ℕ) (stop : Event) → IsEventAt stops j stop → IsInterval g (column j seeds) stop (column j words))
-      → new ≡ with_block found (column k words) → AddsAsked g (asked_for seeds (take k stops)) old found
-      → AddsAsked g (asked_for seeds (take (k + 1) stops)) old new
-  column_adds seeds words stops k old found new inside are added before =
-      subst (λ asks. AddsAsked g asks old new) (sym whole)
-      (adds_both (asked_for seeds (take k stops)) (ask ∷ []) old found new before
-      (record { sets = column k words ∷ []; are = (are k stop at, tt); added = added }))
+  -- each set is the interval that is asked for by the bit of its place, from bit k on
+  intervals_asked : (k : ℕ) (seeds : List ℕ) (stops : List Event) (sets : List (List Bool))
+      → length sets ≡ length stops
+      → ((j : ℕ) (stop : Event) → IsEventAt stops j stop
+      → IsInterval g (column (k + j) seeds) stop (get_or sets j []))
+      → AreIntervalsOf g (asked_on k seeds stops) sets
+  intervals_asked k seeds [] [] same each = tt
+  intervals_asked k seeds [] (set ∷ sets) same each = absurd (omega (arith, same))
+  intervals_asked k seeds (stop ∷ stops) [] same each = absurd (omega (arith, same))
+  intervals_asked k seeds (stop ∷ stops) (set ∷ sets) same each =
+      let here : k + 0 ≡ k = omega arith in (
+        subst (λ n. IsInterval g (column n seeds) stop set) here
+            (each 0 stop (record { inside = omega arith; same = refl })),
+        intervals_asked (k + 1) seeds stops sets (omega (arith, same)) (λ j s at.
+            later j s (each (suc j) s (record { inside = omega (arith, at.inside); same = at.same }))),
+      )
     where
-      stop : Event
-      stop = get_or stops k (rise 0)
+      later : (j : ℕ) (s : Event) → IsInterval g (column (k + suc j) seeds) s (get_or sets j [])
+          → IsInterval g (column (k + 1 + j) seeds) s (get_or sets j [])
+      later j s is =
+          let next : k + suc j ≡ k + 1 + j = omega arith in
+          subst (λ n. IsInterval g (column n seeds) s (get_or sets j [])) next is
 
-      at : IsEventAt stops k stop
-      at = record { inside = inside; same = get_or_default stops k stop (rise 0) inside }
-
-      ask : Ask
-      ask = record { from = column k seeds; stop = stop }
-
-      count : 0 + length (take k stops) ≡ k
-      count = omega (arith, length-take k stops, inside)
-
-      whole : asked_for seeds (take (k + 1) stops) ≡ asked_for seeds (take k stops) ++ ask ∷ []
-      whole = ap (asked_for seeds) (take_more stops k (rise 0) inside)
-          ∙ asked-append 0 seeds (take k stops) (stop ∷ [])
-          ∙ ap (λ j. asked_for seeds (take k stops) ++ asked_on j seeds (stop ∷ [])) count
-
-  pub all_columns_add : (seeds : List ℕ) (stops : List Event) (k : ℕ) (old found : List (List Bool)) → length stops ≤ k
-      → AddsAsked g (asked_for seeds (take k stops)) old found → AddsAsked g (asked_for seeds stops) old found
-  all_columns_add seeds stops k old found all before =
-      subst (λ es. AddsAsked g (asked_for seeds es) old found) (take_all k stops all) before
+  pub asked_added : (seeds words : List ℕ) (stops : List Event) (sets old new : List (List Bool))
+      → length sets ≡ length stops
+      → ((k : ℕ) → k < length stops → get_or sets k [] ≡ column k words)
+      → ((k : ℕ) (stop : Event) → IsEventAt stops k stop → IsInterval g (column k seeds) stop (column k words))
+      → new ≡ with_blocks old sets → AddsAsked g (asked_for seeds stops) old new
+  asked_added seeds words stops sets old new same columns intervals added = record {
+    sets = sets;
+    are = intervals_asked 0 seeds stops sets same (λ k stop at.
+        let first : k ≡ 0 + k = omega arith in
+        subst (λ n. IsInterval g (column n seeds) stop (get_or sets k [])) first
+        (subst (λ set. IsInterval g (column k seeds) stop set) (sym (columns k at.inside)) (intervals k stop at)));
+    added = added;
+  }
 
   -- ---- the first ones of them, while the others wait
   pub more_wait : (asks waited waiting : List Ask) (found : List (List Bool)) → waiting ≡ waited ++ asks

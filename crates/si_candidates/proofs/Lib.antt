@@ -22,5 +22,7 @@ pub mod ClassesExist
 pub mod ClassesDecided
 pub mod TreeLemmas
 pub mod SideLemmas
+mod SideWords
+mod ManySideLemmas
 pub mod SideClassLemmas
 mod SideExamples

@@ -3,7 +3,7 @@ use Rattle.std.proofs.Common.{◌≡◌, ◌≢◌, ℕ, ◌+◌, ◌-◌, ◌*�
 use Rattle.std.proofs.Common.{Bool, true, false, List, [], ◌∷◌, ◌++◌, length, get_or, set, replicate, Contains}
 use Rattle.std.proofs.Common.{refl, sym, ap, subst, ◌∙◌, arith, inl, inr, ◌⊎◌, ◌↔◌, bit_and, bit_or}
 use Rattle.std.proofs.Common.{get_or-set_same, get_or-set_other, eqb-true, eq-eqb}
-use Rattle.std.proofs.lemmas.Bool.{cases_eq, true≢false, false_from_ne_true}
+use Rattle.std.proofs.lemmas.Bool.{cases_eq, cases_lt, true≢false, false_from_ne_true}
 use Rattle.std.proofs.lemmas.List.{get_or_default, get_or-replicate, length-map, length-replicate, length-set}
 use Rattle.std.proofs.lemmas.List.{get_or_push, get_or_append_left, length_push}
 use Rattle.std.proofs.lemmas.Nat.Bits.{bit_at_set_same, bit_at_set_other}
@@ -12,7 +12,7 @@ use Rattle.std.specs.Int.{w128, bit_at}
 use Rattle.si_base.specs.declared.graph.Edge.{Edge}
 use Rattle.si_base.specs.Bits.{bit}
 use Rattle.si_base.specs.Graph.{StateGraph, IsGraph, IsNonInput, Step, arc}
-use Rattle.si_base.specs.Sets.{IsIn}
+use Rattle.si_base.specs.Sets.{IsIn, IsFirstFrom}
 use Rattle.si_graph.specs.Loops.Arcs.{edge_at, no_edge}
 use Rattle.si_closures.specs.Loops.WordSearch.{column, HasBit}
 use Rattle.si_closures.proofs.WordBits.{in_and, in_or, in_not}
@@ -361,44 +361,35 @@ module _ (words : List ℕ) (k n w : ℕ) (few : k < 128) (inside : n < length w
   new_bit : (j s : ℕ) → HasBit put_words j s ↔ (HasBit words j s ⊎ ((j ≡ k) × (s ≡ n)))
   new_bit j s = elim (cases_eq s n) [ inl same ↦ bit_there j s same | inr other ↦ bit_elsewhere j s other ]
 
-  pub put_one : (old : List ℕ) (set_k : List Bool) → IsIn set_k n → ArePut old k set_k n words
+  -- where n is the next state of the set from `at` on, the states in between are none of the set's
+  pub put_next : (old : List ℕ) (set_k : List Bool) (at : ℕ) → IsFirstFrom set_k at n → ArePut old k set_k at words
       → ArePut old k set_k (n + 1) put_words
-  put_one old set_k has before j s = (
+  put_next old set_k at next before j s = (
     λ h. elim ((new_bit j s).0 h) [
       | inl was ↦ elim ((before j s).0 was) [
         | inl first ↦ inl first
-        | inr (same, early, here) ↦ inr (same, omega (arith, early), here)
+        | inr (same, early, here) ↦ inr (same, omega (arith, early, next.from), here)
       ]
-      | inr (same, there) ↦ inr (same, omega (arith, there), subst (λ t. IsIn set_k t) (sym there) has)
+      | inr (same, there) ↦ inr (same, omega (arith, there), subst (λ t. IsIn set_k t) (sym there) next.inside)
     ],
     λ h. elim h [
       | inl first ↦ (new_bit j s).1 (inl ((before j s).1 (inl first)))
       | inr (same, early, here) ↦ (new_bit j s).1 (elim (cases_eq s n) [
         | inl there ↦ inr (same, there)
-        | inr other ↦ inl ((before j s).1 (inr (same, omega (arith, early, other), here)))
+        | inr other ↦ inl ((before j s).1 (inr (same, skipped early other here, here)))
       ])
     ],
   )
-
-pub put_none : (old words : List ℕ) (k n : ℕ) (set : List Bool) → get_or set n false ≡ false
-    → ArePut old k set n words → ArePut old k set (n + 1) words
-put_none old words k n set out before j s = (
-  λ h. elim ((before j s).0 h) [
-    | inl first ↦ inl first
-    | inr (same, early, here) ↦ inr (same, omega (arith, early), here)
-  ],
-  λ h. (before j s).1 (elim h [
-    | inl first ↦ inl first
-    | inr (same, early, here) ↦ elim (cases_eq s n) [
-      | inl there ↦ absurd (true≢false (sym here ∙ ap (λ t. get_or set t false) there ∙ out))
-      | inr other ↦ inr (same, omega (arith, early, other), here)
-    ]
-  ]),
-)
+    where
+      skipped : s < n + 1 → s ≢ n → IsIn set_k s → s < at
+      skipped early other here = elim (cases_lt s at) [
+        | inl below ↦ below
+        | inr past ↦ omega (arith, early, other, next.first s past here)
+      ]
 
 -- ---- block after block
 module _ (states : ℕ) (blocks : List (List Bool)) (first : ℕ) where
-  packed_column : (words : List ℕ) (k : ℕ) → k < 128 → first + k < length blocks
+  pub packed_column : (words : List ℕ) (k : ℕ) → k < 128 → first + k < length blocks
       → length (block_at blocks (first + k)) ≡ states → ArePacked states blocks first 128 words
       → column k words ≡ block_at blocks (first + k)
   packed_column words k few inside size are = same_sets (column k words) (block_at blocks (first + k))

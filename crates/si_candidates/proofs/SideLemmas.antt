@@ -14,7 +14,8 @@ use Rattle.si_insert.specs.Insertion.{entry}
 use Rattle.si_base.specs.Sets.{IsIn, is_in}
 use Rattle.si_candidates.specs.declared.tree.Link.{Link}
 use Rattle.si_candidates.specs.Loops.Tree.{IsLinkAt, IsMet, IsTree}
-use Rattle.si_candidates.specs.Loops.Sides.{differ, leaves, between, class_by, AreSides, IsPartitionOfBlocks}
+use Rattle.si_candidates.specs.Loops.Sides.{differ, leaves, between, class_by, side_after, AreSides}
+use Rattle.si_candidates.specs.Loops.Sides.{IsPartitionOfBlocks}
 
 -- ---- one of the two, and not both
 differ_not : (a b : Bool) → differ (not a) b ≡ not (differ a b)
@@ -52,9 +53,6 @@ no_difference false true h = absurd (true≢false h)
 no_difference false false h = refl
 
 -- ---- the sides of a set, link after link
-abbrev pub side_after : List Bool → List Bool → Link → Bool
-side_after block sides l = differ (is_in sides l.from) (leaves block l.from l.to)
-
 -- the sides of the states that the first n links meet; the others wait at the side of the start
 pub record AreSidesTo (g : StateGraph) (tree : List Link) (block : List Bool) (n : ℕ) (sides : List Bool)
     : Type 0 where

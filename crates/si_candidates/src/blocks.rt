@@ -4,7 +4,6 @@ ghost use Rattle.std.specs.Prelude.{◌≡◌, ◌≤◌, ◌<◌, [], IfOk, OnO
 ghost use Rattle.std.specs.List.{list_any};
 ghost use Rattle.si_base.specs.Graph.{IsGraph};
 ghost use Rattle.si_base.specs.Limits.{max_signals};
-ghost use Rattle.si_closures.specs.Loops.WordSearch.{column};
 ghost use Rattle.si_regions.specs.Regions.{AreComponents};
 ghost use Rattle.si_candidates.specs.Loops.Adding.{with_block, with_blocks, AddsAsked, AddsFirst};
 ghost use Rattle.si_candidates.specs.Loops.Adding.{AddsIntervals};
@@ -17,7 +16,7 @@ use si_base::graph::Signal;
 use si_base::ids::{Event, NoMemory, Sig, StateId};
 use si_base::sets::StateSet;
 use si_checks::proper::Proper;
-use si_closures::words::set_at;
+use si_closures::columns::sets_of_words;
 use si_regions::regions::Component;
 use std::alloc::Global;
 
@@ -190,29 +189,18 @@ fn add_asked(
     }
     let words = asked.intervals(alloc, graph)?;
     let states = graph.coded().graph().states();
-    for k in 0..asked.stops.len() {
-        add_column(alloc, &words, states, k as u32, found)?;
-    }
+    let sets = sets_of_words(alloc, &words, states, asked.stops.len())?;
+    add_sets(sets, found)?;
     Ok(())
 }
 
-/// Adds the set k of the words, which are for so many states.
-fn add_column(
-    alloc: Global,
-    words: &[u128],
-    states: u32,
-    k: u32,
-    found: &mut Vec<Block>,
-) -> Result<(), NoMemory>
-    requires size { length words.now ≡ states }
-    requires few { k < 128 }
-    ensures { OnOk result (found.new.items ≡ with_block found.old.items (column k words.now)) }
+/// Adds the sets, one after another.
+fn add_sets(sets: Vec<StateSet>, found: &mut Vec<Block>) -> Result<(), NoMemory>
+    ensures { OnOk result (found.new.items ≡ with_blocks found.old.items sets.items) }
 {
-    if found.len() >= MAX_BLOCKS {
-        return Ok(());
+    for set in sets {
+        add_block(set, found)?;
     }
-    let set = set_at(alloc, words, states, k)?;
-    add_block(set, found)?;
     Ok(())
 }
 

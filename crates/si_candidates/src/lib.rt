@@ -9,6 +9,7 @@ mod earlier;
 pub mod interval;
 mod intervals;
 pub mod laws;
+pub mod many_sides;
 pub mod may_switch;
 pub mod part_laws;
 mod parts;

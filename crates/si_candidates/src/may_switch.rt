@@ -84,7 +84,7 @@ fn packed_blocks(alloc: Global, states: u32, blocks: &[Block]) -> Result<Vec<Blo
 
 /// The words of the blocks from that place on, of which there are 128 at most: bit k of a state's
 /// word says whether the block that stands k places on has the state.
-fn block_words(
+pub(crate) fn block_words(
     alloc: Global,
     states: u32,
     blocks: &[Block],
@@ -102,7 +102,7 @@ fn block_words(
     Ok(words)
 }
 
-/// Gives each state of the set the bit.
+/// Gives each state of the set the bit. It goes from one state of the set to the next.
 fn put_set(words: &mut [u128], k: u32, set: &StateSet)
     requires few { k < 128 }
     requires size { length words.old ≡ length set.now }
@@ -110,10 +110,12 @@ fn put_set(words: &mut [u128], k: u32, set: &StateSet)
     ensures each { (j s : ℕ) → HasBit words.new j s
         ↔ (HasBit words.old j s ⊎ ((j ≡ k) × IsIn set.now s)) }
 {
-    for s in 0..set.size() {
-        if set.has(StateId(s)) {
-            words[s as usize] |= 1 << k;
-        }
+    // A size is a u32, so that the place past each state fits, too.
+    let _size = set.size();
+    let mut at = StateId(0);
+    while let Some(s) = set.first_from(at) {
+        words[s.0 as usize] |= 1 << k;
+        at = StateId(s.0 + 1);
     }
 }
 

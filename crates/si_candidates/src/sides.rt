@@ -2,9 +2,11 @@
 //! of two blocks tell.
 
 ghost use Rattle.std.specs.Prelude.{◌≡◌, ℕ, ◌<◌, IfOk, length};
+ghost use Rattle.si_base.specs.Bits.{bit};
 ghost use Rattle.si_base.specs.Sets.{IsIn};
+ghost use Rattle.si_closures.specs.Loops.WordSearch.{column};
 ghost use Rattle.si_candidates.specs.Loops.Sides as of_sides;
-ghost use Rattle.si_candidates.specs.Loops.Sides.{AreSides, between};
+ghost use Rattle.si_candidates.specs.Loops.Sides.{AreSides, between, side_after};
 ghost use Rattle.si_candidates.specs.Loops.Tree.{IsTree};
 
 use crate::tree::Link;
@@ -34,6 +36,42 @@ pub fn sides(
         }
     }
     Ok(sides)
+}
+
+/// The sides of 128 sets at once: bit k of a state's word says whether set k has the state, and of
+/// the result whether the state is on the other side of that set than the start. It fails only
+/// where memory runs out.
+pub fn sides_of_words(
+    alloc: Global,
+    graph: &Proper,
+    tree: &[Link],
+    words: &[u128],
+) -> Result<Vec<u128>, NoMemory>
+    requires tree { IsTree graph.now.graph tree.now }
+    requires size { length words.now ≡ graph.now.graph.states }
+    ensures size { IfOk result (λ sides. length sides.items ≡ graph.now.graph.states) }
+    ensures sides { IfOk result (λ sides. (k : ℕ) → k < 128
+        → AreSides graph.now.graph tree.now (column k words.now) (column k sides.items)) }
+{
+    let g = graph.coded().graph();
+    let mut sides = vec![in alloc; 0; g.states() as usize]?;
+    for link in tree {
+        sides[link.to.0 as usize] = side_behind(&sides, words, link);
+    }
+    Ok(sides)
+}
+
+/// For each set the side of the state to which the link leads.
+fn side_behind(sides: &[u128], words: &[u128], link: &Link) -> u128
+    requires sides { link.now.from < length sides.now }
+    requires from { link.now.from < length words.now }
+    requires to { link.now.to < length words.now }
+    ensures { (k : ℕ) → k < 128 → bit result k
+        ≡ side_after (column k words.now) (column k sides.now) link.now }
+{
+    let from = link.from.0 as usize;
+    let to = link.to.0 as usize;
+    sides[from] ^ words[from] & !words[to]
 }
 
 /// Whether the link leads out of the set.

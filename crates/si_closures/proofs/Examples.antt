@@ -1,6 +1,7 @@
--- Worked examples: sets as columns of words, and the event at a place.
+-- Worked examples: sets as columns of words, the event at a place, and cells of matrices.
 use Rattle.std.proofs.Common.{◌≡◌, true, false, [], ◌∷◌, refl, arith}
 use Rattle.si_base.specs.Graph.{rise, fall}
+use Rattle.si_closures.specs.Loops.Turned.{cell}
 use Rattle.si_closures.specs.Loops.WordSearch.{column}
 use Rattle.si_closures.specs.Loops.Words.{IsEventAt}
 
@@ -13,3 +14,10 @@ next_column = refl
 
 second_event : IsEventAt (rise 0 ∷ fall 3 ∷ []) 1 (fall 3)
 second_event = record { inside = omega arith; same = refl }
+
+-- the bit of value 2 stands in column 1, and in a turned matrix in row 1
+in_the_first_row : cell (2 ∷ 0 ∷ []) 0 1 ≡ true
+in_the_first_row = refl
+
+in_the_first_column : cell (0 ∷ 1 ∷ []) 1 0 ≡ true
+in_the_first_column = refl

@@ -3,4 +3,6 @@ pub mod SameStates
 pub mod SignalKinds
 pub mod WordSearchLemmas
 pub mod WordLemmas
+pub mod TurnedLemmas
+pub mod ColumnLemmas
 mod Examples

@@ -11,7 +11,6 @@ use Rattle.std.specs.Int.{w128}
 use Rattle.si_base.specs.declared.ids.Event.{Event}
 use Rattle.si_base.specs.Bits.{bit}
 use Rattle.si_base.specs.Graph.{event_place}
-use Rattle.si_base.proofs.BitFacts.{bit-zero}
 use Rattle.si_graph.proofs.OrderLemmas.{event_from_place}
 use Rattle.si_closures.specs.Loops.WordSearch.{column, HasBit, Passes}
 use Rattle.si_closures.specs.Loops.Words.{HasAll, IsEventAt}

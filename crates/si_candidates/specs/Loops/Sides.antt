@@ -8,6 +8,7 @@ use Rattle.si_insert.specs.declared.partition.Class.{Class}
 use Rattle.si_insert.specs.declared.partition.Class.TheVariants.{Low, Rising, High, Falling}
 use Rattle.si_insert.specs.Partition.{class_of, IsLawful}
 use Rattle.si_candidates.specs.declared.tree.Link.{Link}
+use Rattle.si_candidates.specs.Blocks.{block_at}
 use Rattle.si_candidates.specs.Loops.Tree.{IsLinkAt, IsTree}
 
 -- one of the two, and not both
@@ -19,6 +20,10 @@ differ false b = b
 abbrev pub leaves : List Bool → ℕ → ℕ → Bool
 leaves set s t = is_in set s && not (is_in set t)
 
+-- the side of the state to which a link leads, by that of the state from which it leads
+abbrev pub side_after : List Bool → List Bool → Link → Bool
+side_after set sides l = differ (is_in sides l.from) (leaves set l.from l.to)
+
 -- on which side of the set each state lies: along the tree, from the start on, the side changes
 -- where a link leaves the set
 pub record AreSides (g : StateGraph) (tree : List Link) (set sides : List Bool) : Type 0 where
@@ -26,6 +31,11 @@ pub record AreSides (g : StateGraph) (tree : List Link) (set sides : List Bool) 
   pub start : is_in sides g.start ≡ false
   pub along : (k : ℕ) (l : Link) → IsLinkAt tree k l
       → is_in sides l.to ≡ differ (is_in sides l.from) (leaves set l.from l.to)
+
+-- the sets of the list are the sides of the first blocks, as many as it has
+abbrev pub AreSidesOf : StateGraph → List Link → List (List Bool) → List (List Bool) → Type 0
+AreSidesOf g tree blocks list = (k : ℕ) → k < length list
+    → AreSides g tree (block_at blocks k) (block_at list k)
 
 -- the state lies on different sides of two sets
 abbrev pub between : List Bool → List Bool → ℕ → Bool

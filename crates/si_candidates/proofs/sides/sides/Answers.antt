@@ -1,7 +1,7 @@
 use Rattle.std.proofs.Common.{◌≡◌, ◌∙◌, sym, ap₂, subst}
 use Rattle.si_base.specs.Codes.{IsCoded}
-use Rattle.si_candidates.specs.Loops.Sides.{differ}
-use Rattle.si_candidates.proofs.SideLemmas.{link_within, side_after, sides_other, sides_same}
+use Rattle.si_candidates.specs.Loops.Sides.{differ, side_after}
+use Rattle.si_candidates.proofs.SideLemmas.{link_within, sides_other, sides_same}
 use Rattle.si_candidates.proofs.sides.sides.Goals as goal
 use Rattle.si_candidates.proofs.sides.sides.Goals.{then-differ, else-differ}
 
