@@ -1,10 +1,11 @@
 -- Keys at work: of four states with one code, two enable the same non-input events, so that five of the six pairs
 -- clash. And a trial insertion at work.
-use Rattle.std.proofs.Common.{◌≡◌, ℕ, List, false, [], ◌∷◌, ◌++◌, map, refl}
+use Rattle.std.proofs.Common.{◌≡◌, ◌==◌, ℕ, List, true, false, cond, [], ◌∷◌, ◌++◌, map, refl}
 use Rattle.si_insert.specs.declared.partition.Class.{Class}
 use Rattle.si_insert.specs.declared.partition.Class.TheVariants.{Low, Rising, High, Falling}
 use Rattle.si_conflicts.specs.declared.keys.Key.{Key}
 use Rattle.si_conflicts.specs.declared.members.Member.{Member}
+use Rattle.si_conflicts.specs.Loops.Own.{own_keys}
 use Rattle.si_conflicts.specs.declared.turns.Change.TheVariants.{SameKey, NewKey, NewCode}
 use Rattle.si_conflicts.specs.Loops.Keys.{clashes, clash_count, no_key}
 use Rattle.si_conflicts.specs.Loops.Turns.{turns_after}
@@ -71,6 +72,11 @@ alike =
 as_many_as_alike : pair_sum (stable_count (Rising ∷ Falling ∷ Low ∷ [])) alike ≡ code_count alike 4
 unfolding alike
 as_many_as_alike = refl
+
+-- of these a set has the states 0 and 1. The signal 1 leads from 0 to a state of the set, and from 1 to none.
+one_of_its_own : clash_count (own_keys (true ∷ true ∷ false ∷ []) (λ s. cond (s == 0) 2 0) alike) ≡ 1
+unfolding alike
+one_of_its_own = refl
 
 two_more : List Member
 two_more = record { key = key 5 0; state = 3 } ∷ record { key = key 5 2; state = 4 } ∷ []

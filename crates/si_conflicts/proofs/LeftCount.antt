@@ -152,6 +152,11 @@ below_none c d d_is coded classes lawful n bar (Some m) left_n enough = enough
 below_none c d d_is coded classes lawful n bar None left_n enough = λ m left_m. (
     let same = one_left c (subst IsCoded d_is coded) classes lawful m n left_m left_n in omega (arith, same, enough))
 
+pub enough_told : (o : Option ℕ) (total sum bar : ℕ) → IfNone o (bar ≤ total) → (bar ≤ total → bar ≤ sum)
+    → IfNone o (bar ≤ sum)
+enough_told (Some m) total sum bar enough more = enough
+enough_told None total sum bar enough more = more enough
+
 -- a count up to a bar is below it just where the sum is
 pub told_below : (total sum bar : ℕ) → (total < bar → total ≡ sum) → (bar ≤ total → bar ≤ sum)
     → (ltb total bar ≡ true) ↔ (sum < bar)

@@ -17,5 +17,8 @@ pub mod TallyLemmas
 pub mod TurnLemmas
 pub mod SortedClashes
 pub mod ApartStayLemmas
+pub mod OwnLemmas
+pub mod OwnNumbers
+pub mod OwnLeft
 pub mod RingLemmas
 pub mod CrowdLemmas

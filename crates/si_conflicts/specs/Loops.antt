@@ -4,5 +4,6 @@ pub mod Links
 pub mod Chains
 pub mod Turns
 pub mod Apart
+pub mod Own
 pub mod Crowds
 pub mod Search

@@ -1,7 +1,8 @@
 //! States of equal code, linked into rings, and the conflicts that an insertion would leave.
 
-ghost use Rattle.std.specs.Prelude.{◌≡◌, ℕ, ◌<◌, ◌≤◌, ◌↔◌, false, IsTrue, IfOk, IfSome, IfNone};
-ghost use Rattle.std.specs.Prelude.{length, slice_index};
+ghost use Rattle.std.specs.Prelude.{◌≡◌, ℕ, ◌*◌, ◌<◌, ◌≤◌, ◌↔◌, false, IsTrue, IfOk};
+ghost use Rattle.std.specs.Prelude.{IfSome, IfNone, length, slice_index};
+ghost use Rattle.si_base.specs.Limits.{max_states};
 ghost use Rattle.si_insert.specs.Accepted.{IsAccepted};
 ghost use Rattle.si_insert.specs.Partition.{IsLawful};
 ghost use Rattle.si_conflicts.specs.Loops.Apart as Apart;
@@ -9,15 +10,18 @@ ghost use Rattle.si_conflicts.specs.Loops.Apart.{pair_sum};
 ghost use Rattle.si_conflicts.specs.Loops.Chains.{AreChains};
 ghost use Rattle.si_conflicts.specs.Loops.Crowds.{crowded_of};
 ghost use Rattle.si_conflicts.specs.Left.{LeavesConflicts};
+ghost use Rattle.si_conflicts.specs.Loops.Own.{HasOwnConflicts};
 
 use crate::classes::Classes;
 use crate::crowds::{Crowded, crowded_members};
 use crate::keys::Key;
 use crate::members::{Member, members};
+use crate::own::count_own;
 use crate::rings::rings;
 use crate::trial::{count_stable, count_switching};
 use crate::turns::{Turn, turns};
 use si_base::ids::{NoMemory, StateId};
+use si_base::sets::StateSet;
 use si_checks::proper::Proper;
 use si_insert::accept::Accepted;
 use si_insert::partition::Class;
@@ -31,7 +35,7 @@ pub struct CodeChains {
     members: Vec<Member>,
     /// The members as they are counted. Contracts don't see it.
     turns: Vec<Turn>,
-    /// Room for the keys of copies in a trial. Contracts don't see it either.
+    /// Room for the keys of copies in a count. Contracts don't see it either.
     scratch: Vec<Key>,
 }
 
@@ -101,6 +105,48 @@ impl CodeChains {
         count_stable(self.turns.as_slice(), classes, bar) < bar
     }
 
+    /// How many conflicts of the insertion the new signal shows, or the others at copies where it is
+    /// stable: None where these are `bar` or more. It ends as soon as that shows.
+    pub fn told_below<C: Classes>(&self, graph: &Proper, classes: &C, bar: u64) -> Option<u64>
+        requires chains { AreChains graph.now self.now }
+        requires count { length (C.classes classes.now) ≡ graph.now.graph.states }
+        ensures told { IfSome result (λ n.
+            n ≡ pair_sum (Apart.stable_count (C.classes classes.now)) self.now.members) }
+        ensures fewer { IfSome result (λ n. n < bar) }
+        ensures few { IfSome result (λ n. n ≤ 2 * max_states * max_states) }
+        ensures none { IfNone result
+            (bar ≤ pair_sum (Apart.stable_count (C.classes classes.now)) self.now.members) }
+    {
+        let _given = graph.coded().graph();
+        below(count_stable(self.turns.as_slice(), classes, bar), bar)
+    }
+
+    /// How many pairs of states of the set have equal codes, while other non-inputs lead from them
+    /// to states of the set. So many conflicts are left between copies at which a new signal may
+    /// rise, if it rises at just these states, or at which it may fall, if it falls at these. The
+    /// chains stay as they are. It fails only where memory runs out.
+    pub fn own_conflicts(
+        &mut self,
+        alloc: Global,
+        graph: &Proper,
+        set: &StateSet,
+    ) -> Result<u64, NoMemory>
+        requires chains { AreChains graph.now self.old }
+        requires size { length set.now ≡ graph.now.graph.states }
+        ensures own { IfOk result (HasOwnConflicts graph.now.graph self.old.members set.now) }
+        ensures few { IfOk result (λ n. n ≤ max_states * max_states) }
+        ensures chains { self.new ≡ self.old }
+    {
+        let given = graph.coded().graph();
+        count_own(
+            alloc,
+            &mut self.scratch,
+            given,
+            set,
+            self.members.as_slice(),
+        )
+    }
+
     /// How many conflicts the insertion by the partition leaves. The chains stay as they are. It
     /// fails only where memory runs out.
     pub fn trial(
@@ -122,8 +168,9 @@ impl CodeChains {
         Ok(told + rest)
     }
 
-    /// The same for the classes of a lawful partition, or None where it leaves `bar` conflicts or
-    /// more: it ends as soon as that shows.
+    /// How many conflicts the insertion by the classes of a lawful partition leaves, or None where
+    /// they are `bar` or more: it ends as soon as that shows. The chains stay as they are. It fails
+    /// only where memory runs out.
     pub fn trial_below(
         &mut self,
         alloc: Global,

@@ -10,6 +10,7 @@ pub mod keys;
 pub mod laws;
 mod links;
 mod members;
+mod own;
 mod rings;
 mod tally;
 mod trial;

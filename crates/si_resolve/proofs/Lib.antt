@@ -8,4 +8,5 @@ pub mod BlockSizes
 pub mod BlockListLemmas
 pub mod AspectLemmas
 pub mod SearchLemmas
+pub mod CountingLemmas
 pub mod ResolveLemmas

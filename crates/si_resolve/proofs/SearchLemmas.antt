@@ -14,11 +14,11 @@ use Rattle.si_base.proofs.GivenGraphUnique.{contains_from_in}
 use Rattle.si_graph.proofs.SearchLemmas.{in_below}
 use Rattle.si_insert.specs.declared.partition.Class.{Class}
 use Rattle.si_insert.specs.Partition.{IsLawful}
-use Rattle.si_candidates.specs.Loops.Sides.{AreSided, AreSides, IsPartitionOfBlocks, between}
+use Rattle.si_candidates.specs.Loops.Sides.{IsPartitionOfBlocks, between}
 use Rattle.si_candidates.proofs.SideLemmas.{class_is}
 use Rattle.si_candidates.specs.Blocks.{AreBlocks, block_at}
 use Rattle.si_candidates.specs.Parts.{AreClasses}
-use Rattle.si_candidates.proofs.PartLaws.{classes_lawful, classes_unique}
+use Rattle.si_candidates.proofs.PartLaws.{classes_lawful}
 use Rattle.si_conflicts.specs.declared.crowds.Crowd.{Crowd}
 use Rattle.si_conflicts.specs.declared.members.Member.{Member}
 use Rattle.si_conflicts.specs.Loops.Chains.{AreChains, Chains}
@@ -36,7 +36,7 @@ use Rattle.si_resolve.specs.declared.aspects.Aspect.{Aspect}
 use Rattle.si_resolve.specs.declared.block_list.BlockList.{BlockList}
 use Rattle.si_resolve.specs.Loops.Aspects.{HaveAspects, aspect_of, column_at, unparted_count}
 use Rattle.si_resolve.specs.Loops.Sharing.{ShareCrowd, crowd_at}
-use Rattle.si_resolve.specs.Loops.Usable.{IsUsable, AreSearched, AreUsable, HaveSides}
+use Rattle.si_resolve.specs.Loops.Usable.{IsUsable, AreSearched, AreUsable}
 use Rattle.si_resolve.specs.Loops.Progress.{found_of, best_of, IsSearching, AreAccepted, bar_of, MayBeAccepted}
 use Rattle.si_resolve.specs.Loops.Progress.{LeavesBelow}
 use Rattle.si_resolve.specs.Loops.Progress.{LeavesNoneBelow, NoneIsBelow}
@@ -56,29 +56,15 @@ lawful_classes g plus minus classes graph plus_size minus_size r f are =
     let f_in = in_below minus f.0 f.1 in
     classes_lawful g plus minus classes r.0 f.0 graph are r.1 (omega (arith, r_in)) f.1 (omega (arith, f_in))
 
-pub one_leaves_none : (c : CodedGraph) (plus minus : List Bool) (classes : List Class) (low : ℕ) → IsCoded c
-    → length plus ≡ c.graph.states → length minus ≡ c.graph.states
-    → ((s : ℕ) × IsIn plus s) → ((s : ℕ) × IsIn minus s) → AreClasses c.graph plus minus classes
-    → ((n : ℕ) → LeavesConflicts c classes n → low ≤ n) → LeavesNoneBelow c plus minus low
-one_leaves_none c plus minus classes low is plus_size minus_size r f are high others n also leaves =
-    let r_in = in_below plus r.0 r.1 in
-    let f_in = in_below minus f.0 f.1 in
-    let same = classes_unique c.graph plus minus others classes r.0 f.0 is.graph_is is.connected
-    r.1 (omega (arith, r_in)) f.1 (omega (arith, f_in)) also are in
-    high n (subst (λ xs. LeavesConflicts c xs n) same leaves)
-
 -- the classes that sides tell are those of the blocks, if there are any
-pub told_leave_none : (c : CodedGraph) (plus minus : List Bool) (low : ℕ) (told : List Class) → IsCoded c
+pub told_classes : (c : CodedGraph) (plus minus : List Bool) (told classes : List Class) → IsCoded c
     → length plus ≡ c.graph.states → length minus ≡ c.graph.states
     → ((s : ℕ) × IsIn plus s) → ((s : ℕ) × IsIn minus s)
     → ((others : List Class) → IsPartitionOfBlocks c.graph plus minus others → others ≡ told)
-    → (IsLawful c.graph told → (n : ℕ) → LeavesConflicts c told n → low ≤ n)
-    → LeavesNoneBelow c plus minus low
-told_leave_none c plus minus low told is plus_size minus_size r f only enough classes n are leaves =
+    → AreClasses c.graph plus minus classes → classes ≡ told
+told_classes c plus minus told classes is plus_size minus_size r f only are =
     let lawful = lawful_classes c.graph plus minus classes is.graph_is plus_size minus_size r f are in
-    let same : classes ≡ told =
-    only classes (record { lawful = lawful; rising = are.rising; falling = are.falling }) in
-    enough (subst (IsLawful c.graph) same lawful) n (subst (λ xs. LeavesConflicts c xs n) same leaves)
+    only classes (record { lawful = lawful; rising = are.rising; falling = are.falling })
 
 pub some_is : {A : Type 0} (P : A → Type 0) (o : Option A) (x : A) → o ≡ Some x → IfSome o P → P x
 some_is P o x same is = subst (λ z. IfSome z P) same is
@@ -154,7 +140,7 @@ skip c blocks j i s so high =
     let above : (y : Choice) → IsChoice c blocks y → y.j ≡ j → y.i ≡ i → bar n so.best ≤ y.conflicts =
     λ y choice at_j at_i. (let more = high y choice at_j at_i in omega (arith, low, more)) in
     record {
-      chains = so.chains;
+      counts = so.counts;
       best = so.best;
       is_best = search_skip c blocks n j i so.best above so.is_best;
       found = so.found;
@@ -168,7 +154,7 @@ keep c blocks j i s x is so choice at_j at_i fewer =
     let low : bar_by n s.best ≡ bar n so.best = ap (bar_by n) so.found ∙ bar_same n so.best in
     let under : x.conflicts < bar n so.best = omega (arith, low, fewer) in
     record {
-      chains = so.chains;
+      counts = so.counts;
       best = Some x;
       is_best = search_take c blocks n j i so.best x is choice at_j at_i under so.is_best;
       found = refl;
@@ -178,7 +164,7 @@ keep c blocks j i s x is so choice at_j at_i fewer =
 pub skip_row : (c : CodedGraph) (blocks : List (List Bool)) (j : ℕ) (s : Search) → IsSearching c blocks j 0 s
     → ((y : Choice) → IsChoice c blocks y → y.j ≡ j → ⊥) → IsSearching c blocks (j + 1) 0 s
 skip_row c blocks j s so none = record {
-  chains = so.chains;
+  counts = so.counts;
   best = so.best;
   is_best = search_row c blocks s.given j 0 so.best (λ y choice at. absurd (none y choice at)) so.is_best;
   found = so.found;
@@ -187,7 +173,7 @@ skip_row c blocks j s so none = record {
 pub end_row : (c : CodedGraph) (blocks : List (List Bool)) (j : ℕ) (s : Search) → IsSearching c blocks j j s
     → IsSearching c blocks (j + 1) 0 s
 end_row c blocks j s so = record {
-  chains = so.chains;
+  counts = so.counts;
   best = so.best;
   is_best = search_row c blocks s.given j j so.best (λ y choice at. inl (before y choice at)) so.is_best;
   found = so.found;
@@ -352,26 +338,6 @@ not_usable g blocks usable k are within is_not is = true≢false (sym ((are.each
 -- ---- in the words of the code
 pub none_is : {A P : Type 0} (o : Option A) → o ≡ None → IfNone o P → P
 none_is {A} {P} o same is = subst (λ z. IfNone z P) same is
-
-pub sided_at : (g : StateGraph) (blocks : List (List Bool)) (usable : List Bool) (sides : List (List Bool)) (i j : ℕ)
-    (plus minus plus_sides minus_sides : List Bool) → HaveSides g blocks usable sides → AreUsable g blocks usable
-    → i < length blocks → j < length blocks → IsUsable g (block_at blocks i) → IsUsable g (block_at blocks j)
-    → plus ≡ block_at blocks i → minus ≡ block_at blocks j → plus_sides ≡ block_at sides i
-    → minus_sides ≡ block_at sides j → AreSided g plus minus plus_sides minus_sides
-sided_at g blocks usable sides i j plus minus plus_sides minus_sides have are i_in j_in one other plus_is minus_is
-    plus_sides_are minus_sides_are = record {
-      tree = have.tree;
-      is_tree = have.is_tree;
-      plus_are = at i plus plus_sides i_in one plus_is plus_sides_are;
-      minus_are = at j minus minus_sides j_in other minus_is minus_sides_are;
-    }
-  where
-    at : (k : ℕ) (block lie : List Bool) → k < length blocks → IsUsable g (block_at blocks k)
-        → block ≡ block_at blocks k → lie ≡ block_at sides k → AreSides g have.tree block lie
-    at k block lie within may block_is lie_is =
-        subst (λ (x : List Bool). AreSides g have.tree x lie) (sym block_is)
-        (subst (AreSides g have.tree (block_at blocks k)) (sym lie_is)
-        (have.each k within ((are.each k within).1 may)))
 
 pub at_blocks : (P : List Bool → List Bool → Type 0) (plus x minus y : List Bool) → plus ≡ x → minus ≡ y
     → P plus minus → P x y

@@ -3,4 +3,5 @@ pub mod Search
 pub mod Aspects
 pub mod Sharing
 pub mod Usable
+pub mod Counting
 pub mod Progress

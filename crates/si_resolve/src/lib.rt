@@ -6,6 +6,7 @@ mod aspects;
 pub mod best;
 mod block_list;
 mod by_sides;
+mod counts;
 pub mod ends;
 pub mod laws;
 pub mod resolve;

@@ -2,23 +2,22 @@
 
 ghost use Rattle.std.specs.Prelude.{◌≡◌, ℕ, ◌+◌, ◌<◌, ◌↔◌, Bool, false, List, IfOk, IfSome};
 ghost use Rattle.std.specs.Prelude.{IfNone, OnOk, IsTrue, MatchOption, length, count_by};
-ghost use Rattle.si_base.specs.Codes.{CodedGraph, IsCoded};
-ghost use Rattle.si_base.specs.Sets.{IsIn, IsDisjoint};
+ghost use Rattle.si_base.specs.Codes.{CodedGraph};
 ghost use Rattle.si_candidates.specs.Blocks.{block_at};
-ghost use Rattle.si_candidates.specs.Loops.Sides.{AreSided};
+ghost use Rattle.si_candidates.specs.Parts.{AreClasses, HaveNoClasses};
 ghost use Rattle.si_conflicts.specs.Loops.Chains.{AreChains};
 ghost use Rattle.si_conflicts.specs.Conflicts.{HasConflicts};
 ghost use Rattle.si_resolve.specs.Best.{Choice, Improves, NoneImproves};
+ghost use Rattle.si_resolve.specs.Loops.Counting.{AreCounts};
 ghost use Rattle.si_resolve.specs.Loops.Usable.{IsUsable, AreSearched};
-ghost use Rattle.si_resolve.specs.Loops.Progress.{AreAccepted, IsSearching, LeavesBelow};
+ghost use Rattle.si_resolve.specs.Loops.Progress.{IsSearching, LeavesBelow};
 ghost use Rattle.si_resolve.specs.Loops.Progress.{MayBeAccepted};
 ghost use Rattle.si_resolve.specs.Loops.Progress.{LeavesNoneBelow, NoneIsBelow, bar_of};
 
 use crate::block_list::BlockList;
-use crate::by_sides::BySides;
+use crate::counts::Counts;
 use si_base::ids::NoMemory;
 use si_base::limits::MAX_STATES;
-use si_base::sets::StateSet;
 use si_candidates::block::Block;
 use si_candidates::by_sides::classes_by_sides;
 use si_checks::proper::Proper;
@@ -33,13 +32,13 @@ struct Found {
     conflicts: u64,
 }
 
-/// The number of conflicts of the given graph, the best candidate so far that leaves fewer, and the
-/// states of the graph by their codes.
+/// The number of conflicts of the given graph, the best candidate so far that leaves fewer, and
+/// what counts the conflicts that candidates leave.
 #[derive(Drop)]
 struct Search {
     given: u64,
     best: Option<Found>,
-    chains: CodeChains,
+    counts: Counts,
 }
 
 /// The partition of the best candidate, if it leaves fewer conflicts than the graph has.
@@ -56,7 +55,8 @@ pub(crate) fn find_best(
     ensures { IfOk result (λ o. MatchOption o (NoneImproves graph.now)
         (λ a. (x : Choice) × Improves graph.now x × (x.classes ≡ a))) }
 {
-    let mut search = Search::new(chains, conflicts);
+    let counts = Counts::new(alloc, chains, list.blocks.len())?;
+    let mut search = Search::new(counts, conflicts);
     for j in 0..list.blocks.len() {
         search.try_row(alloc, graph, list, j)?;
     }
@@ -69,15 +69,15 @@ pub(crate) fn find_best(
 
 impl Search {
     /// The search before all candidates.
-    fn new(chains: CodeChains, conflicts: u64) -> Search
+    fn new(counts: Counts, conflicts: u64) -> Search
         ensures given { result.given ≡ conflicts }
-        ensures starts { (c : CodedGraph) → AreChains c chains
-            → (blocks : List (List Bool)) → IsSearching c blocks 0 0 result }
+        ensures starts { (c : CodedGraph) → (blocks : List (List Bool)) → AreCounts c blocks counts
+            → IsSearching c blocks 0 0 result }
     {
         Search {
             given: conflicts,
             best: None,
-            chains,
+            counts,
         }
     }
 
@@ -132,14 +132,7 @@ impl Search {
         if !self.may_part(graph, list, i, j) {
             return Ok(());
         }
-        let left = self.found_below(
-            alloc,
-            graph,
-            list.block(i),
-            list.block(j),
-            list.sides(i),
-            list.sides(j),
-        )?;
+        let left = self.found_below(alloc, graph, list, i, j)?;
         if let Some(found) = left {
             self.best = Some(found);
         }
@@ -179,7 +172,7 @@ impl Search {
     /// leaves: these stay, whatever classes the candidate has.
     fn may_part(&self, graph: &Proper, list: &BlockList, i: usize, j: usize) -> bool
         requires list { AreSearched graph.now list.now }
-        requires chains { AreChains graph.now self.now.chains }
+        requires counts { AreCounts graph.now list.now.blocks.items self.now.counts }
         requires i_within { i < length list.now.blocks.items }
         requires j_within { j < length list.now.blocks.items }
         requires first { IsUsable graph.now.graph (block_at list.now.blocks.items i) }
@@ -202,82 +195,81 @@ impl Search {
     }
 
     /// The candidate with the number of conflicts that it leaves, if it has classes and the number
-    /// is below the bar.
+    /// is below the bar. Its classes are made last: most candidates are passed over without them.
     fn found_below(
         &mut self,
         alloc: Global,
         graph: &Proper,
-        plus: &Block,
-        minus: &Block,
-        plus_sides: &StateSet,
-        minus_sides: &StateSet,
+        list: &BlockList,
+        i: usize,
+        j: usize,
     ) -> Result<Option<Found>, NoMemory>
-        requires coded { IsCoded graph.now }
-        requires chains { AreChains graph.now self.old.chains }
-        requires plus_size { length plus.now ≡ graph.now.graph.states }
-        requires minus_size { length minus.now ≡ graph.now.graph.states }
-        requires sided { AreSided graph.now.graph plus.now minus.now
-            plus_sides.now minus_sides.now }
-        requires some_plus { (s : ℕ) × IsIn plus.now s }
-        requires some_minus { (s : ℕ) × IsIn minus.now s }
-        requires disjoint { IsDisjoint plus.now minus.now }
-        requires accepted { AreAccepted graph.now.graph plus.now minus.now }
-        ensures below { IfOk result
-            (λ o. IfSome o (LeavesBelow graph.now plus.now minus.now (bar_of self.old))) }
-        ensures none { IfOk result
-            (λ o. IfNone o (LeavesNoneBelow graph.now plus.now minus.now (bar_of self.old))) }
-        ensures same { self.new ≡ self.old }
+        requires list { AreSearched graph.now list.now }
+        requires order { i < j }
+        requires within { j < length list.now.blocks.items }
+        requires first { IsUsable graph.now.graph (block_at list.now.blocks.items i) }
+        requires later { IsUsable graph.now.graph (block_at list.now.blocks.items j) }
+        requires both { MayBeAccepted graph.now.graph (block_at list.now.blocks.items i)
+            (block_at list.now.blocks.items j) }
+        requires before { IsSearching graph.now list.now.blocks.items j i self.old }
+        ensures below { IfOk result (λ o. IfSome o
+            (LeavesBelow graph.now (block_at list.now.blocks.items i)
+            (block_at list.now.blocks.items j) (bar_of self.old))) }
+        ensures none { IfOk result (λ o. IfNone o
+            (LeavesNoneBelow graph.now (block_at list.now.blocks.items i)
+            (block_at list.now.blocks.items j) (bar_of self.old))) }
+        ensures given { self.new.given ≡ self.old.given }
+        ensures bar { bar_of self.new ≡ bar_of self.old }
+        ensures after { IsSearching graph.now list.now.blocks.items j i self.new }
     {
         let bar = self.bar();
-        if !self.may_leave_fewer(graph, plus, minus, plus_sides, minus_sides) {
-            return Ok(None);
-        }
-        let by_sides = classes_by_sides(
-            alloc,
-            graph,
-            plus.set(),
-            minus.set(),
-            plus_sides,
-            minus_sides,
-        )?;
-        let Some(partition) = by_sides else {
+        let left = self.counts.left_below(alloc, graph, list, i, j, bar)?;
+        let Some(conflicts) = left else {
             return Ok(None);
         };
-        let left = self
-            .chains
-            .trial_below(alloc, graph, partition.classes(), bar)?;
-        match left {
+        match accepted_candidate(alloc, graph, list, i, j)? {
             None => Ok(None),
-            Some(conflicts) => Ok(Some(Found {
-                accepted: Accepted::known(graph, partition),
+            Some(accepted) => Ok(Some(Found {
+                accepted,
                 conflicts,
             })),
         }
     }
+}
 
-    /// Whether the candidate may leave fewer conflicts than the best so far, by the only classes
-    /// that it can have: the sides of its blocks tell them, and nothing is searched for that.
-    fn may_leave_fewer(
-        &self,
-        graph: &Proper,
-        plus: &Block,
-        minus: &Block,
-        plus_sides: &StateSet,
-        minus_sides: &StateSet,
-    ) -> bool
-        requires coded { IsCoded graph.now }
-        requires chains { AreChains graph.now self.now.chains }
-        requires plus_size { length plus.now ≡ graph.now.graph.states }
-        requires minus_size { length minus.now ≡ graph.now.graph.states }
-        requires sided { AreSided graph.now.graph plus.now minus.now
-            plus_sides.now minus_sides.now }
-        requires some_plus { (s : ℕ) × IsIn plus.now s }
-        requires some_minus { (s : ℕ) × IsIn minus.now s }
-        ensures { result ≡ false
-            → LeavesNoneBelow graph.now plus.now minus.now (bar_of self.now) }
-    {
-        let classes = BySides::new(graph, plus, minus, plus_sides, minus_sides);
-        self.chains.may_leave_below(graph, &classes, self.bar())
+/// The partition of the candidate of the two blocks, which may be accepted, if it has classes.
+fn accepted_candidate(
+    alloc: Global,
+    graph: &Proper,
+    list: &BlockList,
+    i: usize,
+    j: usize,
+) -> Result<Option<Accepted>, NoMemory>
+    requires list { AreSearched graph.now list.now }
+    requires order { i < j }
+    requires within { j < length list.now.blocks.items }
+    requires first { IsUsable graph.now.graph (block_at list.now.blocks.items i) }
+    requires later { IsUsable graph.now.graph (block_at list.now.blocks.items j) }
+    requires both { MayBeAccepted graph.now.graph (block_at list.now.blocks.items i)
+        (block_at list.now.blocks.items j) }
+    ensures classes { IfOk result (λ o. IfSome o
+        (AreClasses graph.now.graph (block_at list.now.blocks.items i)
+        (block_at list.now.blocks.items j))) }
+    ensures none { IfOk result (λ o. IfNone o
+        (HaveNoClasses graph.now.graph (block_at list.now.blocks.items i)
+        (block_at list.now.blocks.items j))) }
+{
+    let by_sides = classes_by_sides(
+        alloc,
+        graph,
+        list.block(i).set(),
+        list.block(j).set(),
+        list.sides(i),
+        list.sides(j),
+    )?;
+    match by_sides {
+        None => Ok(None),
+        Some(partition) => Ok(Some(Accepted::known(graph, partition))),
     }
 }
 

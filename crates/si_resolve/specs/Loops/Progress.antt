@@ -8,9 +8,9 @@ use Rattle.si_insert.specs.declared.partition.Class.{Class}
 use Rattle.si_insert.specs.Accepted.{IsAccepted}
 use Rattle.si_insert.specs.Loops.RowSearch.{bar}
 use Rattle.si_candidates.specs.Parts.{AreClasses}
-use Rattle.si_conflicts.specs.Loops.Chains.{AreChains}
 use Rattle.si_conflicts.specs.Left.{LeavesConflicts}
 use Rattle.si_resolve.specs.Best.{Choice, IsChoice}
+use Rattle.si_resolve.specs.Loops.Counting.{AreCounts}
 use Rattle.si_resolve.specs.Loops.Search.{IsBestSoFar}
 use Rattle.si_resolve.specs.declared.search.Found.{Found}
 use Rattle.si_resolve.specs.declared.search.Search.{Search}
@@ -26,7 +26,7 @@ best_of (Some x) = Some (found_of x)
 -- the search has looked at the candidates before the places j and i
 pub record IsSearching (c : CodedGraph) (blocks : List (List Bool)) (j i : ℕ) (search : Search)
     : Type 0 where
-  pub chains : AreChains c search.chains
+  pub counts : AreCounts c blocks search.counts
   pub best : Option Choice
   pub is_best : IsBestSoFar c blocks search.given j i best
   pub found : search.best ≡ best_of best

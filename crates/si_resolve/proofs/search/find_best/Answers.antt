@@ -5,7 +5,9 @@ use Rattle.si_resolve.proofs.search.find_best.Goals as goal
 
 pub loop-j-init : goal.loop-j-init
 loop-j-init c = record {
-  searching = c.new-search.ensures.starts c.args.graph.now c.requires.chains c.args.list.now.blocks.items;
+  searching = c.new-search.ensures.starts c.args.graph.now c.args.list.now.blocks.items
+      (c.in_ok-counts.ensures c.args.graph.now c.requires.chains c.args.list.now.blocks.items
+      (omega (arith, c.len.ensures)));
   given = c.new-search.ensures.given;
 }
 

@@ -32,4 +32,4 @@ returns c = λ refused.
       | inr more ↦ omega (arith, more, c.bar.ensures)
     ] in
     none_by_aspects c.args.graph.now list r.list c.args.i c.args.j r.i_within r.j_within r.first r.later
-    c.args.self.now.chains r.chains (bar_of c.args.self.now) enough
+    c.args.self.now.counts.chains r.counts.chains (bar_of c.args.self.now) enough
