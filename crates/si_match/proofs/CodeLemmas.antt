@@ -189,21 +189,37 @@ module _ (c : CodedGraph) (z signals : ℕ) (on off sorted : List ℕ) (on_are :
   told_by_lists false meet apart = sym (apart_determines c z signals on sorted on_are sorted_are (apart refl))
 
 -- ---- signal after signal
-module _ (c : CodedGraph) (z i signals : ℕ) (on off : List ℕ) (so_far : InSupport c z i signals on off)
+module _ (c : CodedGraph) (z i signals : ℕ) (so_far : AreTried c z i signals)
     (inside : i < length c.graph.signals) where
   told_step : (b : Bool) → determines c z (flip signals i) ≡ b
       → support_by_drops c z (length c.graph.signals - (i + 1)) (i + 1) (if b then flip signals i else signals)
       ≡ support_of c z
   told_step b is =
       let e : length c.graph.signals - i ≡ suc (length c.graph.signals - (i + 1)) = omega arith in
-      rw (← is) (rw e at so_far.tried.told)
+      rw (← is) (rw e at so_far.told)
 
+  pub tried_kept : determines c z (flip signals i) ≡ false → AreTried c z (i + 1) signals
+  tried_kept needed = record {
+    told = told_step false needed;
+    later = λ j low high. so_far.later j (omega (arith, low)) high;
+  }
+
+  pub tried_dropped : determines c z (flip signals i) ≡ true → AreTried c z (i + 1) (flip signals i)
+  tried_dropped needless = record {
+    told = told_step true needless;
+    later = λ j low high. flip-other signals i j (λ same. omega (arith, low, same))
+        ∙ so_far.later j (omega (arith, low)) high;
+  }
+
+pub tried_all : (c : CodedGraph) (z i signals : ℕ) → length c.graph.signals ≤ i → AreTried c z i signals
+    → signals ≡ support_of c z
+tried_all c z i signals past all = let e : length c.graph.signals - i ≡ 0 = omega arith in rw e at all.told
+
+module _ (c : CodedGraph) (z i signals : ℕ) (on off : List ℕ) (so_far : InSupport c z i signals on off)
+    (inside : i < length c.graph.signals) where
   pub in_kept : determines c z (flip signals i) ≡ false → InSupport c z (i + 1) signals on off
   in_kept needed = record {
-    tried = record {
-      told = told_step false needed;
-      later = λ j low high. so_far.tried.later j (omega (arith, low)) high;
-    };
+    tried = tried_kept c z i signals so_far.tried inside needed;
     on_are = so_far.on_are;
     off_are = so_far.off_are;
   }
@@ -212,18 +228,14 @@ module _ (c : CodedGraph) (z i signals : ℕ) (on off : List ℕ) (so_far : InSu
       → AreCodes c z false (flip signals i) off2
       → determines c z (flip signals i) ≡ true → InSupport c z (i + 1) (flip signals i) on2 off2
   in_dropped on2 off2 on_are off_are needless = record {
-    tried = record {
-      told = told_step true needless;
-      later = λ j low high. flip-other signals i j (λ same. omega (arith, low, same))
-          ∙ so_far.tried.later j (omega (arith, low)) high;
-    };
+    tried = tried_dropped c z i signals so_far.tried inside needless;
     on_are = on_are;
     off_are = off_are;
   }
 
 pub in_end : (c : CodedGraph) (z i signals : ℕ) (on off : List ℕ) → length c.graph.signals ≤ i
     → InSupport c z i signals on off → signals ≡ support_of c z
-in_end c z i signals on off past all = let e : length c.graph.signals - i ≡ 0 = omega arith in rw e at all.tried.told
+in_end c z i signals on off past all = tried_all c z i signals past all.tried
 
 -- ---- searching
 pub not_found : (xs : List ℕ) (x : ℕ) (r : Result ℕ ℕ) → IsBinarySearchResult (λ y. nat_cmp y x) xs r

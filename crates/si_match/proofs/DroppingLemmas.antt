@@ -34,9 +34,10 @@ bits_of_agree signals a b j agrees there =
     cut : (k : ℕ) → bit (bit_and k signals) j ≡ bit k j
     cut k = bit-and k signals j ∙ ap (λ (b : Bool). bit k j && b) there ∙ and-true (bit k j)
 
-pub agree_by_bits : (signals a b : ℕ) → ((j : ℕ) → bit signals j ≡ true → bit a j ≡ bit b j) → agree signals a b ≡ true
-agree_by_bits signals a b same = eq-eqb _ _ (same_codes _ _ (λ j. bit-and a signals j
-    ∙ by_bit j (bit signals j) refl ∙ sym (bit-and b signals j)))
+pub same_by_bits : (signals a b : ℕ) → ((j : ℕ) → bit signals j ≡ true → bit a j ≡ bit b j)
+    → bit_and a signals ≡ bit_and b signals
+same_by_bits signals a b same = same_codes _ _ (λ j. bit-and a signals j
+    ∙ by_bit j (bit signals j) refl ∙ sym (bit-and b signals j))
   where
     by_bit : (j : ℕ) (v : Bool) → bit signals j ≡ v → (bit a j && bit signals j) ≡ (bit b j && bit signals j)
     by_bit j true there = ap (λ (v : Bool). v && bit signals j) (same j there)
@@ -45,6 +46,9 @@ agree_by_bits signals a b same = eq-eqb _ _ (same_codes _ _ (λ j. bit-and a sig
         none : (v : Bool) → (v && false) ≡ false
         none true = refl
         none false = refl
+
+pub agree_by_bits : (signals a b : ℕ) → ((j : ℕ) → bit signals j ≡ true → bit a j ≡ bit b j) → agree signals a b ≡ true
+agree_by_bits signals a b same = eq-eqb _ _ (same_by_bits signals a b same)
 
 -- ---- all signals, and those behind one
 in_ones : (i n : ℕ) → i < n → bit (ones n) i ≡ true

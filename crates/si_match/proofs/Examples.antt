@@ -2,6 +2,7 @@
 -- its trigger, and what is known of its fits.
 use Rattle.std.proofs.Common.{◌≡◌, ◌≢◌, ℕ, Bool, true, false, List, [], ◌∷◌, refl, Some, None, codes}
 use Rattle.std.proofs.Common.{zero, suc, ◌<◌, ◌≤◌, ◌==◌, ◌^◌, ◌∙◌, sym, ap, subst, arith, lit<, get_or, Contains}
+use Rattle.std.proofs.Common.{bit_and, bit_xor}
 use Rattle.std.proofs.lemmas.Bool.{true≢false}
 use Rattle.std.proofs.lemmas.List.Elements.{recursion_from_All}
 use Rattle.std.proofs.lemmas.Nat.Bits.{bit_at_above}
@@ -17,6 +18,7 @@ use Rattle.si_cell.specs.Library.{Cell, Library, instance_value, with_pins}
 use Rattle.si_cell.specs.declared.pins.Pins.TheVariants.{Any, Plain}
 use Rattle.si_match.specs.Loops.Choices.{AreAmong, AreOwed, Ascends, NoneFitsOver}
 use Rattle.si_match.specs.Loops.Columns.{AreColumns, first_pin_values}
+use Rattle.si_match.specs.Loops.Differences.{AreDifferences, any_without}
 use Rattle.si_match.specs.Loops.Dropping.{AreTried}
 use Rattle.si_match.specs.Fit.{first_fit, literals_for}
 use Rattle.si_match.specs.Functions.{AreFunctions, function_table, function_tables, value_at}
@@ -145,6 +147,46 @@ trigger_alone = refl
 support_is_trigger : support_of repeater 1 ≡ 1
 unfolding support_of
 support_is_trigger = refl
+
+-- ---- differences of codes
+-- of the codes with the next value 1 of b and those with 0, those that differ not at b differ at a
+at_a_alone : AreDifferences repeater 1 3 2 (1 ∷ [])
+at_a_alone d = (has d, λ (s, t, inside_s, inside_t, on, off, is, clear). from s t inside_s inside_t on off is clear)
+  where
+    has : (d : ℕ) → Contains (1 ∷ []) d → (s : ℕ) × (t : ℕ) × (s < 4) × (t < 4)
+        × (next_value repeater s 1 ≡ true) × (next_value repeater t 1 ≡ false)
+        × (bit_xor (bit_and (code repeater s) 3) (bit_and (code repeater t) 3) ≡ d) × (bit_and d 2 ≡ 0)
+    has d (zero, within, at) =
+        (1, 0, lit< tt, lit< tt, refl, refl, at, subst (λ n. bit_and n 2 ≡ 0) at refl)
+    has d (suc k, within, at) = absurd (omega (arith, within))
+
+    at_b : {d : ℕ} → 3 ≡ d → bit_and d 2 ≡ 0 → ⊥
+    at_b is clear = (let none : 2 ≡ 0 = subst (λ n. bit_and n 2 ≡ 0) (sym is) clear in omega (arith, none))
+
+    from : {d : ℕ} (s t : ℕ) → s < 4 → t < 4 → next_value repeater s 1 ≡ true → next_value repeater t 1 ≡ false
+        → bit_xor (bit_and (code repeater s) 3) (bit_and (code repeater t) 3) ≡ d → bit_and d 2 ≡ 0
+        → Contains (1 ∷ []) d
+    from zero t inside_s inside_t on off is clear = absurd (true≢false (sym on))
+    from (suc zero) zero inside_s inside_t on off is clear = (0, lit< tt, is)
+    from (suc zero) (suc zero) inside_s inside_t on off is clear = absurd (true≢false off)
+    from (suc zero) (suc (suc zero)) inside_s inside_t on off is clear = absurd (true≢false off)
+    from (suc zero) (suc (suc (suc zero))) inside_s inside_t on off is clear = absurd (at_b is clear)
+    from (suc zero) (suc (suc (suc (suc t)))) inside_s inside_t on off is clear = absurd (omega (arith, inside_t))
+    from (suc (suc zero)) zero inside_s inside_t on off is clear = absurd (at_b is clear)
+    from (suc (suc zero)) (suc zero) inside_s inside_t on off is clear = absurd (true≢false off)
+    from (suc (suc zero)) (suc (suc zero)) inside_s inside_t on off is clear = absurd (true≢false off)
+    from (suc (suc zero)) (suc (suc (suc zero))) inside_s inside_t on off is clear = (0, lit< tt, is)
+    from (suc (suc zero)) (suc (suc (suc (suc t)))) inside_s inside_t on off is clear =
+        absurd (omega (arith, inside_t))
+    from (suc (suc (suc zero))) t inside_s inside_t on off is clear = absurd (true≢false (sym on))
+    from (suc (suc (suc (suc s)))) t inside_s inside_t on off is clear = absurd (omega (arith, inside_s))
+
+-- so a is needed: without it this difference holds none of the signals that are left
+a_needed : any_without (1 ∷ []) 2 ≡ true
+a_needed = refl
+
+a_enough : any_without (1 ∷ []) 1 ≡ false
+a_enough = refl
 
 -- ---- what is known of fits
 -- each instance that fits b reads a: at the first two states, which differ at a alone, b has other next values

@@ -16,3 +16,4 @@ pub mod ApartLemmas
 pub mod ApartPlaces
 pub mod ColumnLemmas
 pub mod RowLemmas
+pub mod DifferenceLemmas

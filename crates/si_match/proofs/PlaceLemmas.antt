@@ -9,8 +9,10 @@ use Rattle.std.proofs.lemmas.List.{get_or-map, get_or_default, length-map}
 use Rattle.std.proofs.lemmas.List.Elements.{All-nil, All-cons, All-head, All-tail, All-map, All-contains}
 use Rattle.std.proofs.lemmas.Nat.Bits.{bit_at-lt, bit_at-suc, bit_at_lowest, bit_at_xor}
 use mir.Val.{bool_byte}
-use Rattle.si_base.proofs.BitFacts.{below_two, bit-zero, bit-or, bit-and}
-use Rattle.si_base.specs.Bits.{bit}
+use Rattle.std.proofs.Math.Nat.{mod-eq_of_lt}
+use Rattle.std.proofs.Math.Pow.{pow-lt}
+use Rattle.si_base.proofs.BitFacts.{below_two, bit-zero, bit-or, bit-and, flip-same, flip-other}
+use Rattle.si_base.specs.Bits.{bit, flip, IsSet}
 use Rattle.si_base.specs.Codes.{CodedGraph, IsCoded, code}
 use Rattle.si_base.specs.Netlist.{literal_value, sum_value}
 use Rattle.si_base.specs.declared.ids.Literal.{Literal}
@@ -227,6 +229,34 @@ bit_of_xor a b i =
       ]
     ]
 
+-- a set with a bit
+power_bit : (place i : ℕ) → bit (2 ^ place) i ≡ bit (flip 0 place) i
+power_bit place i = sym (bit_of_xor 0 (2 ^ place) i ∙ rw (bit-zero i) refl)
+
+pub with_bit : (set place : ℕ) → place < table_codes → IsSet set place true (bit_or set (1 * 2 ^ place % 2 ^ 32))
+with_bit set place small =
+    let fits : 2 ^ place < 2 ^ 32 = pow-lt small in
+    let power : 1 * 2 ^ place ≡ 2 ^ place = omega arith in
+    let same : 1 * 2 ^ place % 2 ^ 32 ≡ 2 ^ place = rw power (mod-eq_of_lt fits) in
+    rw same (record {
+      there = bit-or set (2 ^ place) place ∙ or_one (bit set place) (bit (2 ^ place) place) own;
+      others = λ k other. bit-or set (2 ^ place) k ∙ or_none (bit set k) (bit (2 ^ place) k) (none k other);
+    })
+  where
+    own : bit (2 ^ place) place ≡ true
+    own = power_bit place place ∙ flip-same 0 place ∙ ap not (bit-zero place)
+
+    none : (k : ℕ) → (k ≡ place → ⊥) → bit (2 ^ place) k ≡ false
+    none k other = power_bit place k ∙ flip-other 0 place k other ∙ bit-zero k
+
+    or_one : (a b : Bool) → b ≡ true → (a || b) ≡ true
+    or_one true b is = refl
+    or_one false b is = is
+
+    or_none : (a b : Bool) → b ≡ false → (a || b) ≡ a
+    or_none true b is = refl
+    or_none false b is = is
+
 -- where a table differs from what was seen, it has 1 for 0 or 0 for 1
 pub differing_bit : (on off table : ℕ)
     → (bit_and (bit_or on off) (bit_xor on table) ≡ 0 → ⊥)
@@ -247,21 +277,19 @@ differing_bit on off table some =
 nonzero : (k : ℕ) → (k == 0) ≡ false → k ≡ 0 → ⊥
 nonzero k e zero_it = true≢false (sym (eq-eqb k 0 zero_it) ∙ e)
 
-pub both_bits : (on off x y : ℕ) → x ≡ on → y ≡ off → not (bit_and x y == 0) ≡ true
+pub both_bits : (on off : ℕ) → not (bit_and on off == 0) ≡ true
     → (m : ℕ) × (bit on m ≡ true) × (bit off m ≡ true)
-both_bits on off x y x_is y_is some =
-    common_bit on off (λ none. nonzero (bit_and x y) (not_is (bit_and x y == 0) some) (rw (x_is, y_is) none))
+both_bits on off some =
+    common_bit on off (nonzero (bit_and on off) (not_is (bit_and on off == 0) some))
   where
     not_is : (b : Bool) → not b ≡ true → b ≡ false
     not_is true e = absurd (true≢false (sym e))
     not_is false e = refl
 
-pub missed_bit : (on off table x y t : ℕ) → x ≡ on → y ≡ off → t ≡ table
-    → (bit_and (bit_or x y) (bit_xor x t) == 0) ≡ false
+pub missed_bit : (on off table : ℕ) → (bit_and (bit_or on off) (bit_xor on table) == 0) ≡ false
     → (m : ℕ) × (((bit table m ≡ true) × (bit off m ≡ true)) ⊎ ((bit table m ≡ false) × (bit on m ≡ true)))
-missed_bit on off table x y t x_is y_is t_is some =
-    differing_bit on off table
-    (λ none. nonzero (bit_and (bit_or x y) (bit_xor x t)) some (rw (x_is, y_is, t_is) none))
+missed_bit on off table some =
+    differing_bit on off table (nonzero (bit_and (bit_or on off) (bit_xor on table)) some)
 
 module _ (c : CodedGraph) (z : ℕ) (chosen : List ℕ) where
   pub none_seen : AreSeen c z chosen (record { on = 0; off = 0 })

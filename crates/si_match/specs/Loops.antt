@@ -2,6 +2,7 @@
 pub mod Search
 pub mod Codes
 pub mod Dropping
+pub mod Differences
 pub mod Known
 pub mod Columns
 pub mod Places

@@ -1,16 +1,16 @@
 //! Signals by which two states are told apart that have different next values.
 
 ghost use Rattle.std.specs.Prelude.{◌≡◌, ℕ, ◌<◌, ◌≤◌, ◌↔◌, ◌⊎◌, ◌∷◌, All, Contains};
-ghost use Rattle.std.specs.Prelude.{IfSome, IfNone, None, length, true};
+ghost use Rattle.std.specs.Prelude.{IfSome, IfNone, Some, None, length, true, false};
 ghost use Rattle.si_base.specs.Bits.{bit};
 ghost use Rattle.si_base.specs.Limits.{code_width};
 ghost use Rattle.si_cell.specs.Limits.{max_pins};
 ghost use Rattle.si_match.specs.Loops.Apart.{AreApart, AreAlike, AllAlike, AllAlikeTo};
-ghost use Rattle.si_match.specs.Loops.Apart.{AllAlikeAmong};
-ghost use Rattle.si_match.specs.Loops.Apart.{few_states};
+ghost use Rattle.si_match.specs.Loops.Apart.{AllAlikeAmong, AreCodesAmong, DifferAtRead};
+ghost use Rattle.si_match.specs.Loops.Apart.{IsUnread, IsUnreadFromOne, few_states, max_witnesses};
 
 use crate::codes::cut;
-use crate::places::{Seen, opposite, placed_code, with_state};
+use crate::places::{Seen, opposite, placed_code, table_value, with_state};
 use crate::state::add_witness;
 use crate::triggers::MAX_WITNESSES;
 use arrayvec::ArrayVec;
@@ -73,9 +73,9 @@ fn first_apart(
     let mut seen = Seen::none();
     for s in 0..coded.graph().states() {
         let s = StateId(s);
-        let place = Sig(placed_code(z, chosen, coded.code(s)));
+        let values = placed_code(z, chosen, coded.code(s));
         let others = opposite(seen.on, seen.off, coded.next_value(s, z));
-        if others.get(place) {
+        if table_value(others, values) {
             return apart_from(coded, z, read, s, witnesses);
         }
         seen = with_state(coded, z, chosen, s, seen);
@@ -111,42 +111,64 @@ fn apart_from(
     None
 }
 
-/// The same of a pair of these states alone.
+/// The same of a pair of these states alone. Of two states with different next values one has the
+/// next value 1 and the other 0, so each code of the one kind meets each of the other.
 fn fewest_apart(coded: &Coded, z: Sig, read: Code, states: &[u32]) -> Option<Code>
     requires signal { z < length coded.now.graph.signals }
     requires width { length coded.now.graph.signals ≤ code_width }
+    requires few { length states.now ≤ max_witnesses }
     requires states { All (λ s. s < coded.now.graph.states) states.now }
     ensures apart { IfSome result (AreApart coded.now z read) }
     ensures none { IfNone result (AllAlikeAmong coded.now z read states.now) }
 {
+    let codes = codes_among(coded, z, states);
+    let off = codes.off.as_slice();
     let mut fewest = None;
-    for state in states {
-        fewest = fewest_from(coded, z, read, StateId(*state), states, fewest);
+    for one in codes.on.as_slice() {
+        fewest = fewest_from(Code(*one), off, read, fewest);
     }
     fewest
 }
 
-/// The same of one state and each of the others, where these were the fewest before.
-fn fewest_from(
-    coded: &Coded,
-    z: Sig,
-    read: Code,
-    one: StateId,
-    others: &[u32],
-    before: Option<Code>,
-) -> Option<Code>
+/// The codes of states at which a signal has the next value 1, and of those where it has 0, each as
+/// a plain number.
+#[derive(Drop)]
+struct CodesByNext {
+    on: ArrayVec<u128, MAX_WITNESSES>,
+    off: ArrayVec<u128, MAX_WITNESSES>,
+}
+
+/// The codes of these states, by the next value of `z`.
+fn codes_among(coded: &Coded, z: Sig, states: &[u32]) -> CodesByNext
     requires signal { z < length coded.now.graph.signals }
-    requires width { length coded.now.graph.signals ≤ code_width }
-    requires one { one < coded.now.graph.states }
-    requires others { All (λ s. s < coded.now.graph.states) others.now }
-    requires before { IfSome before (AreApart coded.now z read) }
-    ensures apart { IfSome result (AreApart coded.now z read) }
+    requires few { length states.now ≤ max_witnesses }
+    requires states { All (λ s. s < coded.now.graph.states) states.now }
+    ensures on { AreCodesAmong coded.now z true states.now result.on.items }
+    ensures off { AreCodesAmong coded.now z false states.now result.off.items }
+{
+    let (mut on, mut off) = (ArrayVec::new(), ArrayVec::new());
+    for state in states {
+        let code = coded.code(StateId(*state));
+        if coded.next_value(StateId(*state), z) {
+            on.push(code.0);
+        } else {
+            off.push(code.0);
+        }
+    }
+    CodesByNext { on, off }
+}
+
+/// The fewest signals at which the code differs from one of the others and none of which is read,
+/// where these were the fewest before.
+fn fewest_from(one: Code, others: &[u128], read: Code, before: Option<Code>) -> Option<Code>
+    ensures some { IfSome result (λ differing. (before ≡ Some differing)
+        ⊎ IsUnreadFromOne read one others.now differing) }
     ensures before { IfNone result (before ≡ None) }
-    ensures none { IfNone result (All (AreAlike coded.now z read one) others.now) }
+    ensures none { IfNone result (All (DifferAtRead read one) others.now) }
 {
     let mut fewest = before;
     for other in others {
-        let found = differing(coded, z, read, one, StateId(*other));
+        let found = unread_difference(one, Code(*other), read);
         fewest = fewer(fewest, found);
     }
     fewest
@@ -164,7 +186,15 @@ fn differing(coded: &Coded, z: Sig, read: Code, one: StateId, other: StateId) ->
     if coded.next_value(one, z) == coded.next_value(other, z) {
         return None;
     }
-    let differing = Code(coded.code(one).0 ^ coded.code(other).0);
+    unread_difference(coded.code(one), coded.code(other), read)
+}
+
+/// The signals at which the codes differ, if none of them is read.
+fn unread_difference(one: Code, other: Code, read: Code) -> Option<Code>
+    ensures some { IfSome result (IsUnread read one other) }
+    ensures none { IfNone result (DifferAtRead read one other) }
+{
+    let differing = Code(one.0 ^ other.0);
     if cut(differing, read).0 == 0 {
         Some(differing)
     } else {

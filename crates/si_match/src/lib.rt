@@ -4,6 +4,7 @@
 pub mod apart;
 pub mod codes;
 mod columns;
+mod differences;
 pub mod fit;
 pub mod functions;
 pub mod known;

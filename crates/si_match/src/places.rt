@@ -3,7 +3,7 @@
 ghost use Rattle.std.specs.Prelude.{◌≡◌, ℕ, ◌<◌, ◌≤◌, ◌∷◌, ◌⊎◌, Bool, All, Contains};
 ghost use Rattle.std.specs.Prelude.{IfSome, IfNone, if◌then◌else◌, length};
 ghost use Rattle.std.specs.Prelude.{true, false};
-ghost use Rattle.si_base.specs.Bits.{bit};
+ghost use Rattle.si_base.specs.Bits.{IsSet, bit};
 ghost use Rattle.si_base.specs.Codes.{code, next_value};
 ghost use Rattle.si_base.specs.Limits.{code_width};
 ghost use Rattle.si_cell.specs.Limits.{max_pins, table_codes};
@@ -18,11 +18,12 @@ use si_base::ids::{Code, Sig, StateId};
 use si_graph::coded::Coded;
 
 /// The values of the places that were seen at states where a signal has the next value 1, and
-/// those where it has 0: bit m is 1 where the values are those of the code m.
+/// those where it has 0: bit m is 1 where the values are those of the code m. So they can be
+/// compared with a truth table over the places, which has a bit for each code too.
 #[derive(Clone, Copy)]
 pub(crate) struct Seen {
-    pub(crate) on: Code,
-    pub(crate) off: Code,
+    pub(crate) on: u32,
+    pub(crate) off: u32,
 }
 
 impl Seen {
@@ -30,15 +31,12 @@ impl Seen {
     pub(crate) fn none() -> Seen
         ensures { (result.on ≡ 0) × (result.off ≡ 0) }
     {
-        Seen {
-            on: Code(0),
-            off: Code(0),
-        }
+        Seen { on: 0, off: 0 }
     }
 }
 
 /// Of the values that were seen, those with the other next value.
-pub(crate) fn opposite(on: Code, off: Code, next: bool) -> Code
+pub(crate) fn opposite(on: u32, off: u32, next: bool) -> u32
     ensures { result ≡ (if next then off else on) }
 {
     if next { off } else { on }
@@ -55,12 +53,20 @@ pub(crate) fn placed_code(z: Sig, chosen: &[u8], code: Code) -> u8
     u8::from(code.get(z)) + 2 * values_at(chosen, code) as u8
 }
 
-/// The value of the table where the places have these values.
-fn table_value(table: u32, values: u8) -> bool
+/// The value of the table where the places have these values, or whether the set has the values.
+pub(crate) fn table_value(table: u32, values: u8) -> bool
     requires { values < table_codes }
     ensures { result ≡ bit table values }
 {
     table >> values & 1 == 1
+}
+
+/// The set, with these values of the places in it.
+fn with_values(set: u32, values: u8) -> u32
+    requires { values < table_codes }
+    ensures { IsSet set values true result }
+{
+    set | 1 << values
 }
 
 /// What was seen, and the values and the next value at one more state.
@@ -77,16 +83,16 @@ pub(crate) fn with_state(coded: &Coded, z: Sig, chosen: &[u8], s: StateId, seen:
     ensures kept { (next : Bool) (m : ℕ) → bit (spec.places_with seen next) m ≡ true
         → bit (spec.places_with result next) m ≡ true }
 {
-    let values = Sig(placed_code(z, chosen, coded.code(s)));
+    let values = placed_code(z, chosen, coded.code(s));
     if coded.next_value(s, z) {
         Seen {
-            on: seen.on.set(values, true),
+            on: with_values(seen.on, values),
             off: seen.off,
         }
     } else {
         Seen {
             on: seen.on,
-            off: seen.off.set(values, true),
+            off: with_values(seen.off, values),
         }
     }
 }
@@ -111,19 +117,19 @@ fn seen_at(coded: &Coded, z: Sig, chosen: &[u8], states: &[u32]) -> Seen
 }
 
 /// Whether some values were seen with both next values, so that no table has them.
-fn clash(on: Code, off: Code) -> bool
+fn clash(on: u32, off: u32) -> bool
     ensures { result ≡ true → (m : ℕ) × (bit on m ≡ true) × (bit off m ≡ true) }
 {
-    on.0 & off.0 != 0
+    on & off != 0
 }
 
 /// Whether the table has the next values that were seen.
-fn allows(on: Code, off: Code, table: u32) -> bool
+fn allows(on: u32, off: u32, table: u32) -> bool
     ensures { result ≡ false → (m : ℕ)
         × (((bit table m ≡ true) × (bit off m ≡ true))
         ⊎ ((bit table m ≡ false) × (bit on m ≡ true))) }
 {
-    (on.0 | off.0) & (on.0 ^ u128::from(table)) == 0
+    (on | off) & (on ^ table) == 0
 }
 
 /// The first state at which the table, where `z` stands first and then the chosen signals, hasn't

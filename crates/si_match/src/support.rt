@@ -6,11 +6,13 @@ ghost use Rattle.si_base.specs.Codes.{IsCoded};
 ghost use Rattle.si_base.specs.Graph.{IsNonInput};
 ghost use Rattle.si_base.specs.Limits.{code_width};
 ghost use Rattle.si_checks.specs.Loops.Lent.{coded_of};
+ghost use Rattle.si_match.specs.Loops.Differences.{AreDifferences};
 ghost use Rattle.si_match.specs.Loops.Dropping.{AreTried};
 ghost use Rattle.si_match.specs.Support.{determines, support_of};
 ghost use Rattle.si_match.specs.Triggers.{AreTriggers};
 
 use crate::codes::{codes_with, meet, projected_codes};
+use crate::differences::{any_without, differences};
 use crate::rows::{MAX_ROW_SIGNALS, determine_few};
 use crate::triggers::triggers_of;
 use crate::weight::size;
@@ -22,6 +24,13 @@ use std::alloc::Global;
 
 /// The most rows of a truth table for each state: with more of them, codes in order take less time.
 const ROWS_PER_STATE: u64 = 8;
+
+/// The most states of a graph whose codes are compared pair by pair: with more of them, codes in
+/// order take less time and memory.
+const MAX_COMPARED_STATES: u32 = 1024;
+
+/// The most differences for each state: with more of them, codes in order take less time.
+const DIFFERENCES_PER_STATE: usize = 16;
 
 /// The support of `z`, a bit for each signal: of all signals, in signal order, each is dropped
 /// without which the values of the others still determine the next value of `z`. It fails only
@@ -96,9 +105,66 @@ fn with_later(signals: Code, z: Sig, count: usize) -> Code
 }
 
 /// The support of `z`, where the signals before `first` have been tried and those behind are all
-/// there. The codes are kept as two lists, by the next value, and get shorter with each signal that
-/// is dropped.
+/// there.
 fn kept_signals(
+    alloc: Global,
+    coded: &Coded,
+    z: Sig,
+    triggers: Code,
+    first: usize,
+    all: Code,
+) -> Result<Code, NoMemory>
+    requires coded { IsCoded coded.now }
+    requires signal { z < length coded.now.graph.signals }
+    requires triggers { AreTriggers coded.now z triggers }
+    requires tried { AreTried coded.now z first all }
+    ensures { IfOk result (λ signals. signals ≡ support_of coded.now z) }
+{
+    let states = coded.graph().states();
+    if states > MAX_COMPARED_STATES {
+        return kept_by_codes(alloc, coded, z, triggers, first, all);
+    }
+    let differences = differences(alloc, coded, z, all, triggers)?;
+    if differences.len() > DIFFERENCES_PER_STATE * states as usize {
+        return kept_by_codes(alloc, coded, z, triggers, first, all);
+    }
+    Ok(kept_by_differences(coded, z, triggers, first, all, &differences))
+}
+
+/// The same, where these are the differences of codes with different next values. The signals that
+/// are left determine the next value as long as they tell all of these apart. Differences that hold
+/// a trigger aren't among them, since no trigger is dropped.
+fn kept_by_differences(
+    coded: &Coded,
+    z: Sig,
+    triggers: Code,
+    first: usize,
+    all: Code,
+    differences: &[Code],
+) -> Code
+    requires coded { IsCoded coded.now }
+    requires triggers { AreTriggers coded.now z triggers }
+    requires tried { AreTried coded.now z first all }
+    requires differences { AreDifferences coded.now z all triggers differences.now }
+    ensures { result ≡ support_of coded.now z }
+{
+    let mut signals = all;
+    for i in first..coded.graph().signals().len() {
+        if triggers.get(Sig(i as u8)) {
+            continue;
+        }
+        let fewer = signals.flip(Sig(i as u8));
+        if any_without(differences, fewer) {
+            continue;
+        }
+        signals = fewer;
+    }
+    signals
+}
+
+/// The same, for any number of states and differences. The codes are kept as two lists, by the next
+/// value, and get shorter with each signal that is dropped.
+fn kept_by_codes(
     alloc: Global,
     coded: &Coded,
     z: Sig,

@@ -6,6 +6,7 @@ ghost use Rattle.si_base.specs.Limits.{code_width};
 ghost use Rattle.si_checks.specs.Loops.Lent.{coded_of};
 ghost use Rattle.si_match.specs.Weight.{added_weight, size_from, size_of_support, weight_of};
 
+use crate::codes::cut;
 use crate::fit::fit;
 use crate::support::support;
 use si_base::ids::{Code, NoMemory, Sig};
@@ -19,14 +20,7 @@ pub fn size(signals: Code, count: usize) -> u64
     ensures size { result ≡ size_from count 0 signals }
     ensures few { result ≤ count }
 {
-    let mut size = 0;
-    for i in 0..count {
-        if !signals.get(Sig(i as u8)) {
-            continue;
-        }
-        size += 1;
-    }
-    size
+    u64::from(cut(signals, Code::ones(count)).0.count_ones())
 }
 
 /// What a non-input adds to the weight: nothing where it fits a cell, else one more than the size

@@ -1,5 +1,6 @@
 -- States that an instance has to tell apart, and the signals by which it can.
-use Rattle.std.specs.Prelude.{◌≡◌, ◌≢◌, ℕ, ◌<◌, ◌++◌, true, false, List, All, length}
+use Rattle.std.specs.Prelude.{◌≡◌, ◌≢◌, ◌↔◌, ℕ, ◌<◌, ◌++◌, Bool, true, false, List, All}
+use Rattle.std.specs.Prelude.{Contains, length, bit_and, bit_xor}
 use Rattle.si_base.specs.Bits.{bit}
 use Rattle.si_base.specs.Codes.{CodedGraph, code, next_value}
 use Rattle.si_cell.specs.Library.{Library}
@@ -34,6 +35,30 @@ AllAlike c z read = (one : ℕ) → one < c.graph.states → AllAlikeTo c z read
 -- no two of these states have
 abbrev pub AllAlikeAmong : CodedGraph → (z read : ℕ) → List ℕ → Type 0
 AllAlikeAmong c z read states = All (λ one. All (AreAlike c z read one) states) states
+
+-- the codes of those of the states at which z has that next value
+abbrev pub AreCodesAmong : CodedGraph → ℕ → Bool → (states codes : List ℕ) → Type 0
+AreCodesAmong c z value states codes =
+    (k : ℕ) → Contains codes k
+    ↔ ((s : ℕ) × Contains states s × (next_value c s z ≡ value) × (code c s ≡ k))
+
+-- the codes differ at a signal that is read
+abbrev pub DifferAtRead : (read one other : ℕ) → Type 0
+DifferAtRead read one other = bit_and (bit_xor one other) read ≢ 0
+
+-- the codes have the same values of the signals that are read, and differ at the set's signals
+abbrev pub IsUnread : (read one other differing : ℕ) → Type 0
+IsUnread read one other differing =
+    (differing ≡ bit_xor one other) × (bit_and (bit_xor one other) read ≡ 0)
+
+-- the same of one code and one of the others
+abbrev pub IsUnreadFromOne : (read one : ℕ) → List ℕ → ℕ → Type 0
+IsUnreadFromOne read one others differing =
+    (other : ℕ) × Contains others other × IsUnread read one other differing
+
+-- the most states that are kept as witnesses
+abbrev pub max_witnesses : ℕ
+max_witnesses = 32
 
 -- the most states of a graph that are all looked at
 abbrev pub few_states : ℕ

@@ -1,9 +1,10 @@
 use Rattle.std.proofs.Common.{All, IfSome, IfNone, take}
-use Rattle.si_match.specs.Loops.Apart.{AreApart, AreAlike}
+use Rattle.si_match.specs.Loops.Apart.{AreApart, DifferAtRead}
 use Rattle.si_match.proofs.apart.fewest_apart.Given as goal
 
-abbrev pub invariant-loop-state : goal.invariant-loop-state
-invariant-loop-state l = record {
-  apart : IfSome l.fewest (AreApart l.coded l.z l.read);
-  none : IfNone l.fewest (All (λ one. All (AreAlike l.coded l.z l.read one) l.states) (take l.state-index l.states));
+abbrev pub invariant-loop-one : goal.invariant-loop-one
+invariant-loop-one l = record {
+  apart : IfSome l.fewest (AreApart l.coded l.fn.z l.read);
+  none : IfNone l.fewest (All (λ one. All (DifferAtRead l.read one) l.off)
+      (take l.one-index l.one-items));
 }

@@ -23,12 +23,12 @@ loop-s-preserved c =
     let chosen = c.args.chosen.now in
     let s = c.loop-s.s in
     let seen = c.loop-s.seen in
-    let at : c.placed_code.result ≡ place_of coded z chosen s =
-    c.placed_code.ensures.value ∙ ap (placed_code (z ∷ chosen)) c.code.ensures in
+    let at : c.placed_code-values.result ≡ place_of coded z chosen s =
+    c.placed_code-values.ensures.value ∙ ap (placed_code (z ∷ chosen)) c.code.ensures in
     let others : c.opposite-others.result ≡ (if next_value coded s z then seen.off else seen.on) =
     c.opposite-others.ensures ∙ ap (λ (v : Bool). if v then seen.off else seen.on) c.next_value.ensures in
     let clear : bit (if next_value coded s z then seen.off else seen.on) (place_of coded z chosen s) ≡ false =
-    sym (ap₂ bit others at) ∙ sym c.get.ensures ∙ c.if-get.false in
+    sym (ap₂ bit others at) ∙ sym c.table_value.ensures ∙ c.if-table_value.false in
     record {
       within = c.loop-s.invariant.within;
       seen = c.with_state-seen.ensures.seen;
@@ -37,19 +37,19 @@ loop-s-preserved c =
       alike = by_place_next coded z chosen s seen c.loop-s.invariant.all clear c.loop-s.invariant.alike;
     }
 
-pub returns-then-get-clause-none : goal.returns-then-get-clause-none
-returns-then-get-clause-none c =
+pub returns-then-table_value-clause-none : goal.returns-then-table_value-clause-none
+returns-then-table_value-clause-none c =
     let coded = c.args.coded.now in
     let z = c.args.z in
     let chosen = c.args.chosen.now in
     let s = c.loop-s.s in
     let seen = c.loop-s.seen in
-    let at : c.placed_code.result ≡ place_of coded z chosen s =
-    c.placed_code.ensures.value ∙ ap (placed_code (z ∷ chosen)) c.code.ensures in
+    let at : c.placed_code-values.result ≡ place_of coded z chosen s =
+    c.placed_code-values.ensures.value ∙ ap (placed_code (z ∷ chosen)) c.code.ensures in
     let others : c.opposite-others.result ≡ (if next_value coded s z then seen.off else seen.on) =
     c.opposite-others.ensures ∙ ap (λ (v : Bool). if v then seen.off else seen.on) c.next_value.ensures in
     let there : bit (if next_value coded s z then seen.off else seen.on) (place_of coded z chosen s) ≡ true =
-    sym (ap₂ bit others at) ∙ sym c.get.ensures ∙ c.if-get.true in
+    sym (ap₂ bit others at) ∙ sym c.table_value.ensures ∙ c.if-table_value.true in
     if_none_never (AllAlikeTo coded z c.args.read s) (AllAlike coded z c.args.read) c.apart_from.result
     c.apart_from.ensures.none
     (not_alike coded z chosen c.args.read c.requires.read s seen c.loop-s.invariant.seen there)

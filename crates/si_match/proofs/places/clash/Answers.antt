@@ -2,4 +2,4 @@ use Rattle.si_match.proofs.PlaceLemmas.{both_bits}
 use Rattle.si_match.proofs.places.clash.Goals as goal
 
 pub returns : goal.returns
-returns c = both_bits c.args.on c.args.off c.on.inside.0 c.off.inside.0 c.on.view_is c.off.view_is
+returns c = both_bits c.args.on c.args.off

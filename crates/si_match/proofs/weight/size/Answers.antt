@@ -1,17 +1,14 @@
-use Rattle.std.proofs.Common.{arith, sym, ◌∙◌}
-use Rattle.si_match.proofs.WeightLemmas.{not_there, one_there}
+use Rattle.std.proofs.Common.{◌∙◌, ap, arith, bit_and, count_ones}
+use Rattle.si_match.proofs.WeightLemmas.{masked_size, size_within}
 use Rattle.si_match.proofs.weight.size.Goals as goal
 
-pub loop-i-preserved-then-not-get : goal.loop-i-preserved-then-not-get
-loop-i-preserved-then-not-get c = record {
-  told = not_there c.args.count c.loop-i.i c.args.signals c.loop-i-test.true c.loop-i.size _ (sym c.get.ensures
-      ∙ c.if-not-get.true) c.loop-i.invariant.told;
-  few = omega (arith, c.loop-i.invariant.few);
-}
+pub returns-clause-size : goal.returns-clause-size
+returns-clause-size c =
+    c.from-2.ensures ∙ ap count_ones (c.from.view_is ∙ c.cut.ensures ∙ ap (bit_and c.args.signals) c.ones.ensures)
+    ∙ masked_size c.args.signals c.args.count
 
-pub loop-i-preserved : goal.loop-i-preserved
-loop-i-preserved c = record {
-  told = one_there c.args.count c.loop-i.i c.args.signals c.loop-i-test.true c.loop-i.size _ (sym c.get.ensures
-      ∙ c.if-not-get.false) c.loop-i.invariant.told;
-  few = omega (arith, c.loop-i.invariant.few);
-}
+pub returns-clause-few : goal.returns-clause-few
+returns-clause-few c =
+    let counted = returns-clause-size c in
+    let few = size_within c.args.count 0 c.args.signals in
+    omega (arith, counted, few)
