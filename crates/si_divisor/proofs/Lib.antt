@@ -21,6 +21,8 @@ pub mod SameForced
 pub mod PartitionForAnswers
 pub mod FirstWords
 pub mod FunctionLemmas
+mod ColumnLemmas
+mod ForcedLemmas
 pub mod SameFunction
 pub mod SwitchingOutside
 pub mod ManyFunctionLemmas

@@ -1,15 +1,11 @@
 -- Sets of states for many functions at once: what the bits of words say, one function beside another.
-use Rattle.std.proofs.Common.{◌≡◌, ◌≢◌, ℕ, ◌+◌, ◌-◌, ◌*◌, ◌%◌, ◌^◌, ◌<◌, ◌≤◌, ◌==◌, ◌&&◌, ◌||◌, not}
+use Rattle.std.proofs.Common.{◌≡◌, ℕ, ◌+◌, ◌-◌, ◌*◌, ◌^◌, ◌<◌, ◌≤◌, ◌&&◌, ◌||◌, not}
 use Rattle.std.proofs.Common.{Bool, true, false, List, [], ◌∷◌, ◌++◌, length, get_or}
 use Rattle.std.proofs.Common.{refl, sym, ap, ap₂, subst, ◌∙◌, arith, inl, inr, ◌↔◌, bit_and, bit_or, bit_xor}
 use Rattle.std.proofs.lemmas.Bool.{cases_eq, cases_Bool, true≢false, and_parts, and_from}
-use Rattle.std.proofs.lemmas.List.{get_or_default, get_or_push, get_or_append_left, length-map, length_push}
+use Rattle.std.proofs.lemmas.List.{get_or_push, get_or_append_left, length-map, length_push}
 use Rattle.std.proofs.lemmas.Nat.{or_lt}
-use Rattle.std.proofs.lemmas.Nat.Bits.{bit_at_set_same, bit_at_set_other}
-use Rattle.std.specs.Int.{w128}
-use Rattle.std.specs.Int.Bits.{or_zero_r}
 use mathlib.Core.Bool.{beq}
-use mir.Val.{bool_byte}
 use Rattle.si_base.specs.declared.ids.Event.{Event}
 use Rattle.si_base.specs.Bits.{bit}
 use Rattle.si_base.specs.Codes.{CodedGraph, IsCoded, code}
@@ -25,6 +21,7 @@ use Rattle.si_closures.proofs.WordLemmas.{full_bit, place_below}
 use Rattle.si_closures.proofs.WordBits.{not_is, xor_is, in_and, in_or}
 use Rattle.si_closures.proofs.WordSearchLemmas.{column-at, in_column}
 use Rattle.si_insert.specs.declared.partition.Class.{Class}
+use Rattle.si_insert.specs.declared.partition.Class.TheVariants.{Low}
 use Rattle.si_insert.specs.Partition.{class_of}
 use Rattle.si_divisor.specs.declared.function.Function.{Function}
 use Rattle.si_divisor.specs.declared.function_sets.FunctionSets.{FunctionSets}
@@ -37,7 +34,7 @@ use Rattle.si_divisor.specs.PartitionFor.{AreSets, IsPartitionFor, HasNone, HasS
 use Rattle.si_divisor.specs.Targets.{IsLeast, Settles, AreForced, AreSettled, HaveTargets, IsUnforced}
 use Rattle.si_divisor.specs.Targets.{SettlesAtBoth, forced_by, forced_in, holds, target}
 use Rattle.si_divisor.specs.Switching.{Switches}
-use Rattle.si_divisor.proofs.PartitionForAnswers.{AreClassesBy, are_sets, is_partition, none_carried}
+use Rattle.si_divisor.proofs.PartitionForAnswers.{are_sets, is_partition, none_carried}
 use Rattle.si_divisor.proofs.PartitionForAnswers.{partition_carried, sets_of}
 use Rattle.si_divisor.proofs.SwitchRuleLemmas.{least_falls}
 use Rattle.si_divisor.proofs.SwitchingOutside.{none_without_targets, none_if_strays_up, none_if_strays_down}
@@ -48,43 +45,6 @@ use Rattle.si_divisor.proofs.SettlingLemmas.{closure_settles}
 neither : (a b : Bool) → not (a || b) ≡ (not a && not b)
 neither true b = refl
 neither false b = refl
-
--- ---- the functions that force one state
--- the bits of the first n functions are told, and no other is set
-pub record AreToldTo (c : CodedGraph) (functions : List Function) (b : Bool) (s n word : ℕ) : Type 0 where
-  pub told : (k : ℕ) (d : Function) → k < n → k < length functions
-      → bit word k ≡ forced_by (function_value (get_or functions k d)) c b s
-  pub later : (k : ℕ) → n ≤ k → bit word k ≡ false
-
-pub none_told : (c : CodedGraph) (functions : List Function) (b : Bool) (s : ℕ) → AreToldTo c functions b s 0 0
-none_told c functions b s = record { told = λ k d early inside. absurd (omega arith); later = λ k late. bit-zero k }
-
-module _ (c : CodedGraph) (functions : List Function) (b : Bool) (s n word : ℕ) (f : Function)
-    (inside : n < length functions) (at : f ≡ get_or functions n f) (before : AreToldTo c functions b s n word) where
-  here : (k : ℕ) (d : Function) → k ≡ n → get_or functions k d ≡ f
-  here k d same = ap (λ j. get_or functions j d) same ∙ get_or_default functions n d f inside ∙ sym at
-
-  pub one_told : (next : ℕ) → bit next n ≡ forced_by (function_value f) c b s
-      → ((k : ℕ) → k ≢ n → bit next k ≡ bit word k) → AreToldTo c functions b s (n + 1) next
-  one_told next new kept = record {
-    told = λ k d early within. elim (cases_eq k n) [
-      | inl same ↦ ap (bit next) same ∙ new
-          ∙ ap (λ (h : Function). forced_by (function_value h) c b s) (sym (here k d same))
-      | inr other ↦ kept k other ∙ before.told k d (omega (arith, early, other)) within
-    ];
-    later = λ k late. kept k (λ same. absurd (omega (arith, late, same))) ∙ before.later k (omega (arith, late));
-  }
-
-  pub one_added : (v : Bool) → n < 128 → v ≡ forced_by (function_value f) c b s
-      → AreToldTo c functions b s (n + 1) (bit_or word (bool_byte v * 2 ^ n % 2 ^ 128))
-  one_added true few is = one_told (bit_or word (1 * 2 ^ n % 2 ^ 128))
-      (ap (λ (v : ℕ). v == 1) (bit_at_set_same w128 word n few) ∙ is)
-      (λ k other. ap (λ (v : ℕ). v == 1) (bit_at_set_other w128 word n few k other))
-  one_added false few is = subst (AreToldTo c functions b s (n + 1)) (sym same)
-      (one_told word (before.later n (omega arith) ∙ is) (λ k other. refl))
-    where
-      same : bit_or word (0 * 2 ^ n % 2 ^ 128) ≡ word
-      same = ap (bit_or word) (omega arith) ∙ or_zero_r word
 
 -- ---- the functions for which a state holds, and those for which it settles at one value
 held_bit : (x y k : ℕ) → bit_or x y < 2 ^ 128 → k < 128
@@ -461,22 +421,33 @@ module _ (c : CodedGraph) (made : FunctionSets) (words : SettledWords) (is : IsC
       each = λ k d inside. are_sets_of k d (omega (arith, inside, few)) inside;
     }
 
--- the classes by lists that are the sets k
-pub are_classes_at : (c : CodedGraph) (value : ℕ → Bool → Bool) (k : ℕ) (sets : FunctionSets)
-    (plus minus ones : List Bool) (classes : List Class) → AreSetsOf c value k sets
-    → plus ≡ column k sets.plus.items → minus ≡ column k sets.minus.items → ones ≡ column k sets.ones.items
-    → length classes ≡ length plus → AreClassesBy ones plus minus classes
-    → AreClassesAt c.graph.states k sets classes
-are_classes_at c value k sets plus minus ones classes are plus_is minus_is ones_is count each = record {
-  count = count ∙ size;
-  each = λ s within. each s (omega (arith, within, size))
-      ∙ ap (λ (p : List Bool). class_for (get_or p s false) (get_or minus s false) (get_or ones s false)) plus_is
-      ∙ ap₂ (λ (m o : List Bool). class_for (get_or (column k sets.plus.items) s false) (get_or m s false)
-      (get_or o s false)) minus_is ones_is;
+-- one class more, by the bits k of the words of its state
+pub one_class : (sets : FunctionSets) (k n : ℕ) (classes : List Class) (x : Class)
+    → x ≡ class_for (bit (get_or sets.plus.items n 0) k) (bit (get_or sets.minus.items n 0) k)
+    (bit (get_or sets.ones.items n 0) k)
+    → AreClassesAt n k sets classes → AreClassesAt (n + 1) k sets (classes ++ x ∷ [])
+one_class sets k n classes x is before = record {
+  count = length_push classes x ∙ ap (λ (m : ℕ). m + 1) before.count;
+  each = λ s early. elim (cases_eq s n) [
+    | inl same ↦ subst At (sym same) (get_or_push classes x Low n before.count ∙ is ∙ sym by_columns)
+    | inr other ↦ (
+        let sooner : s < n = omega (arith, early, other) in
+        get_or_append_left classes (x ∷ []) Low s (omega (arith, sooner, before.count)) ∙ before.each s sooner)
+  ];
 }
   where
-    size : length plus ≡ c.graph.states
-    size = ap length plus_is ∙ length-map sets.plus.items (λ (w : ℕ). bit w k) ∙ are.plus_size
+    At : ℕ → Type 0
+    At s = class_of (classes ++ x ∷ []) s ≡ class_for (get_or (column k sets.plus.items) s false)
+        (get_or (column k sets.minus.items) s false) (get_or (column k sets.ones.items) s false)
+
+    by_columns : class_for (get_or (column k sets.plus.items) n false) (get_or (column k sets.minus.items) n false)
+        (get_or (column k sets.ones.items) n false) ≡ class_for (bit (get_or sets.plus.items n 0) k)
+        (bit (get_or sets.minus.items n 0) k) (bit (get_or sets.ones.items n 0) k)
+    by_columns = rw (
+      column-at k sets.plus.items n,
+      column-at k sets.minus.items n,
+      column-at k sets.ones.items n,
+    ) refl
 
 -- for where any function serves
 abbrev pub no_function : Function

@@ -69,7 +69,7 @@ fn has_some(set: &StateSet) -> bool
 }
 
 /// The class of a state by the sets that have it.
-fn class_at(plus: bool, minus: bool, one: bool) -> Class
+pub(crate) fn class_at(plus: bool, minus: bool, one: bool) -> Class
     ensures { result ≡ class_for plus minus one }
 {
     if plus {

@@ -1,13 +1,14 @@
 //! The functions that instances compute.
 
-ghost use Rattle.std.specs.Prelude.{◌≡◌, ℕ, ◌+◌, ◌<◌, ◌≤◌, ◌^◌, All, Bool, Contains, IsPermutation};
-ghost use Rattle.std.specs.Prelude.{false, length, map, true};
+ghost use Rattle.std.specs.Prelude.{◌≡◌, ℕ, ◌+◌, ◌<◌, ◌≤◌, ◌^◌, ◌↔◌, ◌&&◌, All, Bool, Contains};
+ghost use Rattle.std.specs.Prelude.{IsPermutation, false, length, map, true};
 ghost use Rattle.std.specs.List.Sorted.{IsNonDecreasing};
 ghost use Rattle.si_base.specs.Bits.{bit};
 ghost use Rattle.si_base.specs.Limits.{code_width};
 ghost use Rattle.si_cell.specs.Library.{IsInstance, instance_value};
 ghost use Rattle.si_cell.specs.Limits.{max_pins};
-ghost use Rattle.si_divisor.specs.Functions.{IsFunction, IsTable, function_value, values_at};
+ghost use Rattle.si_divisor.specs.Functions.{IsFunction, IsTable, values_at};
+ghost use Rattle.si_divisor.specs.Loops.Columns.{HasCode, TellsStates};
 
 use arrayvec::ArrayVec;
 use si_base::ids::{Code, Sig};
@@ -27,43 +28,56 @@ pub struct Function {
 }
 
 impl Function {
-    /// Its value at the code, where the own output has the value `q`.
-    pub(crate) fn value(&self, code: Code, q: bool) -> bool
-        requires { All (λ s. s < code_width) self.now.signals.items }
-        ensures { result ≡ function_value self.now code q }
-    {
-        has_bit(
-            self.table,
-            values_of(self.signals.as_slice(), code, q) as usize,
-        )
-    }
-
-    /// Its value at the code where the own output is 0, and that where it is 1.
-    pub(crate) fn values(&self, code: Code) -> (bool, bool)
-        requires { All (λ s. s < code_width) self.now.signals.items }
-        ensures low { result.0 ≡ function_value self.now code false }
-        ensures high { result.1 ≡ function_value self.now code true }
+    /// The states that it forces to 1, and those that it forces to 0, of 128 at once, by the values
+    /// of each signal at them.
+    pub(crate) fn forced_states(&self, columns: &[u128]) -> (u128, u128)
+        requires within { All (λ s. s < code_width) self.now.signals.items }
+        requires columns { length columns.now ≡ code_width }
+        ensures up { TellsStates self.now true columns.now result.0 }
+        ensures down { TellsStates self.now false columns.now result.1 }
     {
         let signals = self.signals.as_slice();
-        let low = values_of(signals, code, false) as usize;
-        let high = low + code_count(signals.len()) as usize / 2;
-        (has_bit(self.table, low), has_bit(self.table, high))
+        let rows = code_count(signals.len()) / 2;
+        // Where its value is 1 with the own output at 0, and where it is with that at 1.
+        let (mut low, mut high) = (0, 0);
+        for values in 0..rows {
+            let there = those_with(signals, columns, values);
+            low |= if_true(has_bit(self.table, values as usize), there);
+            high |= if_true(has_bit(self.table, (rows + values) as usize), there);
+        }
+        (low, !high)
     }
 }
 
-/// The values of the signals at the code, and of the own output behind them.
-fn values_of(signals: &[u8], code: Code, q: bool) -> u32
+/// The states at which the signals have these values.
+fn those_with(signals: &[u8], columns: &[u128], values: u32) -> u128
     requires few { length signals.now ≤ max_pins }
     requires within { All (λ s. s < code_width) signals.now }
-    ensures is { result ≡ values_at signals.now code q }
-    ensures few { result < 32 }
+    requires columns { length columns.now ≡ code_width }
+    requires values { values < 2 ^ length signals.now }
+    ensures { (i code : ℕ) → i < 128 → HasCode columns.now i code
+        → (bit result i ≡ true) ↔ (values_at signals.now code false ≡ values) }
 {
-    let mut values = u32::from(q);
-    for i in 0..signals.len() {
-        let signal = Sig(signals[signals.len() - 1 - i]);
-        values = u32::from(code.get(signal)) + 2 * values;
+    let mut there = u128::MAX;
+    for k in 0..signals.len() {
+        let column = columns[signals[k] as usize];
+        there &= where_it_has(column, has_bit(values, k));
     }
-    values
+    there
+}
+
+/// The states at which a signal has the value, by its values at all of them.
+fn where_it_has(column: u128, value: bool) -> u128
+    ensures { (i : ℕ) → i < 128 → (bit result i ≡ true) ↔ (bit column i ≡ value) }
+{
+    if value { column } else { !column }
+}
+
+/// The states if the condition holds, and else none.
+fn if_true(condition: bool, states: u128) -> u128
+    ensures { (i : ℕ) → bit result i ≡ (condition && bit states i) }
+{
+    if condition { states } else { 0 }
 }
 
 /// The function that the instance computes.

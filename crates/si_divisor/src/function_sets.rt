@@ -7,21 +7,21 @@ ghost use Rattle.si_base.specs.Limits.{code_width};
 ghost use Rattle.si_closures.specs.Loops.WordSearch.{column};
 ghost use Rattle.si_divisor.specs.declared.function.Function.{Function as FunctionValue};
 ghost use Rattle.si_divisor.specs.Functions.{Computes};
-ghost use Rattle.si_divisor.specs.Loops.ManyFunctions.{AreForcedWords, AreFunctionSets};
-ghost use Rattle.si_divisor.specs.Loops.ManyFunctions.{AreHeldWords};
-ghost use Rattle.si_divisor.specs.Loops.ManyFunctions.{AreOpposed, AreSettledWords, TellsForced};
+ghost use Rattle.si_divisor.specs.Loops.ManyFunctions.{AreClassesAt, AreForcedWords};
+ghost use Rattle.si_divisor.specs.Loops.ManyFunctions.{AreFunctionSets, AreHeldWords};
+ghost use Rattle.si_divisor.specs.Loops.ManyFunctions.{AreOpposed, AreSettledWords};
 ghost use Rattle.si_divisor.specs.PartitionFor.{Answers, HasSome};
 ghost use Rattle.si_divisor.specs.Targets.{AreForced, forced_by};
 
-use crate::classes::class_list;
+use crate::classes::class_at;
+use crate::forced::{ForcedWords, forced_words};
 use crate::function::Function;
 use crate::switching::{Switched, switching};
-use si_base::ids::{NoMemory, StateId};
+use si_base::ids::NoMemory;
 use si_checks::proper::Proper;
 use si_closures::word_search::closures;
-use si_closures::words::{everywhere, has_bit, set_at};
-use si_graph::coded::Coded;
-use si_insert::partition::Partition;
+use si_closures::words::{everywhere, has_bit};
+use si_insert::partition::{Class, Partition};
 use std::alloc::Global;
 
 /// What each of at most 128 functions makes of the states, as the gate of a new signal: those that
@@ -121,15 +121,31 @@ impl FunctionSets {
             → Computes (slice_index_or self.now.functions.items k d) value
             → Answers graph.now value found) }
     {
-        let g = graph.coded().graph();
+        let _given = graph.coded().graph();
         if !has_bit(self.partitions, k as u32) {
             return Ok(None);
         }
-        let plus = set_at(alloc, &self.plus, g.states(), k as u32)?;
-        let minus = set_at(alloc, &self.minus, g.states(), k as u32)?;
-        let ones = set_at(alloc, &self.ones, g.states(), k as u32)?;
-        let classes = class_list(alloc, &plus, &minus, &ones)?;
+        let classes = self.classes_at(alloc, k as u32)?;
         Ok(Some(Partition::known(graph, classes)))
+    }
+
+    /// The classes of the states by the sets of the function at that place. It fails only where
+    /// memory runs out.
+    fn classes_at(&self, alloc: Global, k: u32) -> Result<Vec<Class>, NoMemory>
+        requires place { k < 128 }
+        requires minus { length self.now.minus.items ≡ length self.now.plus.items }
+        requires ones { length self.now.ones.items ≡ length self.now.plus.items }
+        ensures { IfOk result (λ classes.
+            AreClassesAt (length self.now.plus.items) k self.now classes.items) }
+    {
+        let mut classes = Vec::new(alloc);
+        for s in 0..self.plus.len() {
+            let rises = has_bit(self.plus[s], k);
+            let falls = has_bit(self.minus[s], k);
+            let is_one = has_bit(self.ones[s], k);
+            classes.push(class_at(rises, falls, is_one))?;
+        }
+        Ok(classes)
     }
 }
 
@@ -202,52 +218,6 @@ pub(crate) fn settled_alone(
     let mut functions = Vec::new(alloc);
     functions.push(function)?;
     settled_words(alloc, graph, &functions)
-}
-
-/// The functions that force the state to 1, and those that force it to 0, a bit for each.
-fn those_forcing(coded: &Coded, functions: &[Function], s: StateId) -> (u128, u128)
-    requires few { length functions.now ≤ 128 }
-    requires within { All (λ f. All (λ s. s < code_width) f.signals.items) functions.now }
-    requires state { s < coded.now.graph.states }
-    ensures up { TellsForced coded.now functions.now true s result.0 }
-    ensures down { TellsForced coded.now functions.now false s result.1 }
-{
-    let code = coded.code(s);
-    let (mut up, mut down) = (0, 0);
-    for k in 0..functions.len() {
-        let (low, high) = functions[k].values(code);
-        up |= u128::from(low) << k;
-        down |= u128::from(!high) << k;
-    }
-    (up, down)
-}
-
-/// For each state the functions that force it to 1, and those that force it to 0, a bit for each.
-#[derive(Drop)]
-struct ForcedWords {
-    up: Vec<u128>,
-    down: Vec<u128>,
-}
-
-/// For each state the functions that force it to either value.
-fn forced_words(
-    alloc: Global,
-    coded: &Coded,
-    functions: &[Function],
-) -> Result<ForcedWords, NoMemory>
-    requires few { length functions.now ≤ 128 }
-    requires within { All (λ f. All (λ s. s < code_width) f.signals.items) functions.now }
-    ensures up { IfOk result (λ r. AreForcedWords coded.now functions.now true r.up.items) }
-    ensures down { IfOk result (λ r. AreForcedWords coded.now functions.now false r.down.items) }
-{
-    let mut up = Vec::new(alloc);
-    let mut down = Vec::new(alloc);
-    for s in 0..coded.graph().states() {
-        let (one, zero) = those_forcing(coded, functions, StateId(s));
-        up.push(one)?;
-        down.push(zero)?;
-    }
-    Ok(ForcedWords { up, down })
 }
 
 /// For each state those whose bit neither of its words has.

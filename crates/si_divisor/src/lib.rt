@@ -6,6 +6,7 @@ mod classes;
 pub mod divisor_laws;
 pub mod divisors;
 pub mod fault;
+mod forced;
 pub mod function;
 pub mod function_sets;
 pub mod laws;
