@@ -1,5 +1,5 @@
 -- What stands at a place of a list of divisors.
-use Rattle.std.proofs.Common.{◌≡◌, ℕ, ◌<◌, List, All, length, get_or, slice_get, Some, sym, subst, ◌∙◌}
+use Rattle.std.proofs.Common.{◌≡◌, ℕ, ◌<◌, List, All, length, slice_get, Some, sym, subst, ◌∙◌}
 use Rattle.std.proofs.lemmas.Option.{slice_get_within}
 use Rattle.si_base.specs.Codes.{CodedGraph, IsCoded}
 use Rattle.si_cell.specs.Library.{Library, Instance, IsInstance}
@@ -8,14 +8,7 @@ use Rattle.si_divisor.proofs.DivisorChoices.{are_instances}
 use Rattle.si_divisor.proofs.DivisorsExist.{one_divisors}
 use Rattle.si_map.specs.Best.{IsDivisorAt}
 
--- a divisor is an instance of the library
-pub is_instance : (c : CodedGraph) (library : Library) (z place : ℕ) (divisor : Instance) (divisors : List Instance)
-    → IsCoded c → AreDivisors c library z divisors → place < length divisors → divisor ≡ get_or divisors place divisor
-    → IsInstance library divisor
-is_instance c library z place divisor divisors coded are within is =
-    subst (λ (i : Instance). IsInstance library i) (sym is)
-    (are_instances c library z divisors coded are place divisor within).over.instance
-
+-- the divisors are instances of the library
 pub all_instances : (c : CodedGraph) (library : Library) (z : ℕ) (divisors : List Instance) → IsCoded c
     → AreDivisors c library z divisors → All (λ i. IsInstance library i) divisors
 all_instances c library z divisors coded are place divisor within =

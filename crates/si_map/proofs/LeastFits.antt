@@ -1,21 +1,19 @@
 -- What a signal that never waits for a new one adds to the weight of the inserted graph at least.
 use Rattle.std.proofs.Common.{◌≡◌, ℕ, zero, suc, ◌+◌, ◌<◌, ◌≤◌, ◌⊎◌, ◌||◌, not, Bool, true, false, List, [], ◌∷◌}
-use Rattle.std.proofs.Common.{length, slice_get, is_none, Option, Some, None, refl, sym, ap, subst, ◌∙◌, arith}
-use Rattle.std.proofs.Common.{inl, inr, length-append, if◌then◌else◌, map, get_or}
+use Rattle.std.proofs.Common.{length, slice_get, is_none, Some, None, refl, sym, ap, subst, ◌∙◌, arith}
+use Rattle.std.proofs.Common.{inl, inr, length-append, if◌then◌else◌}
 use Rattle.std.proofs.lemmas.Bool.{cases_Bool, cases_lt, true≢false}
 use Rattle.std.proofs.lemmas.Bool.Decides.{eqb_tells}
-use Rattle.std.proofs.lemmas.List.{get_or-map, length-map}
 use mathlib.Core.Bool.{beq}
 use Rattle.si_base.specs.Bits.{bit, flip}
 use Rattle.si_base.specs.Codes.{CodedGraph, IsCoded, code, next_value}
 use Rattle.si_base.specs.Graph.{StateGraph, IsNonInput}
 use Rattle.si_base.specs.Proper.{HasNoConflict}
 use Rattle.si_base.specs.declared.graph.Signal.{Signal}
-use Rattle.si_base.specs.declared.ids.Literal.{Literal}
-use Rattle.si_base.proofs.BitFacts.{flip-same, flip-other}
+use Rattle.si_base.proofs.BitFacts.{flip-other}
 use Rattle.si_base.proofs.GraphSteps.{beq-refl}
 use Rattle.si_base.proofs.StepCodes.{step_within, code_fits, no_bit}
-use Rattle.si_cell.specs.Library.{Library, Instance, cell_at, no_cell}
+use Rattle.si_cell.specs.Library.{Library}
 use Rattle.si_insert.specs.declared.partition.Class.{Class}
 use Rattle.si_insert.specs.declared.partition.Class.TheVariants.{Low, Rising, High, Falling}
 use Rattle.si_insert.specs.Partition.{class_of, IsLawful}
@@ -25,7 +23,6 @@ use Rattle.si_insert.proofs.InsertionCopies.{copy, placed}
 use Rattle.si_insert.proofs.InsertionProper.{goes_on}
 use Rattle.si_insert.proofs.PartitionClasses.{entry_there}
 use Rattle.si_match.specs.Fit.{first_fit}
-use Rattle.si_match.specs.Loops.Choices.{AreAmong}
 use Rattle.si_match.specs.Loops.Known.{FitsByReading}
 use Rattle.si_match.specs.Support.{agree, determines, support_of}
 use Rattle.si_match.specs.Triggers.{IsTrigger, IsUnread, AreTriggers}
@@ -33,22 +30,23 @@ use Rattle.si_match.specs.Weight.{added_weight, size_from}
 use Rattle.si_match.proofs.CodeLemmas.{all_from}
 use Rattle.si_match.proofs.DroppingLemmas.{agree_by_bits, bits_of_agree, next_by, triggers_are_support}
 use Rattle.si_match.proofs.DroppingLemmas.{triggers_in_support}
-use Rattle.si_match.proofs.ChoiceLemmas.{owed_first, owed_unfit, trigger_read}
-use Rattle.si_match.proofs.FitLemmas.{fit_fits}
+use Rattle.si_match.proofs.ChoiceLemmas.{trigger_read}
 use Rattle.si_match.proofs.SupportLemmas.{support_determines}
 use Rattle.si_match.proofs.UnfitLemmas.{one_le, size_le, triggers_le, unfit_adds}
 use Rattle.si_map.specs.Loops.Least.{HaveFewPins}
 use Rattle.si_map.specs.Loops.Waiting.{NeverWaits}
+use Rattle.si_map.proofs.ReadLemmas.{one_larger, others_given, size_last}
+use Rattle.si_map.proofs.ReadLemmas.{stays_unfit as none_reads}
 use Rattle.si_map.proofs.WaitingFits.{fits_by_new, given_bit, same_next}
 
 -- ---- the value of the new signal at which a state of the class is left: no arc waits there
-abbrev exit : Class → Bool
+abbrev pub exit : Class → Bool
 exit Low = false
 exit Rising = true
 exit High = true
 exit Falling = false
 
-exit_there : (from : Class) → has_copy from (exit from) ≡ true
+pub exit_there : (from : Class) → has_copy from (exit from) ≡ true
 exit_there Low = refl
 exit_there Rising = refl
 exit_there High = refl
@@ -69,16 +67,6 @@ exit_goes Falling Falling = refl
 -- ---- sizes of sets
 abbrev one_if : Bool → ℕ
 one_if b = if b then 1 else 0
-
--- with the signal behind the others
-size_last : (n i set : ℕ) → size_from (suc n) i set ≡ size_from n i set + one_if (bit set (i + n))
-size_last zero i set = let here : i + 0 ≡ i = omega arith in rw here (omega arith)
-size_last (suc n) i set =
-    let last : i + 1 + n ≡ i + suc n = omega arith in
-    let later : size_from (suc n) (i + 1) set ≡ size_from n (i + 1) set + one_if (bit set (i + suc n)) =
-    subst (λ m. size_from (suc n) (i + 1) set ≡ size_from n (i + 1) set + one_if (bit set m)) last
-    (size_last n (i + 1) set) in
-    omega (arith, later)
 
 -- a set in another is smaller, or has all of it
 smaller_or_same : (n i few more : ℕ) → ((j : ℕ) → bit few j ≡ true → bit more j ≡ true)
@@ -171,18 +159,8 @@ module _ (c : CodedGraph) (classes : List Class) (new : Signal) (copies : List C
         | inr absent ↦ absent
       ]
 
-      read_new : bit read n ≡ true
-      read_new = flip-same triggers n ∙ ap not no_new
-
-      read_triggers : (i : ℕ) → bit triggers i ≡ true → bit read i ≡ true
-      read_triggers i there =
-          flip-other triggers n i (λ same. true≢false (sym there ∙ ap (bit triggers) same ∙ no_new)) ∙ there
-
       many_read : most < size_from (suc n) 0 read
-      many_read =
-          let place : 0 + n ≡ n = omega arith in
-          let last : one_if (bit read (0 + n)) ≡ 1 = ap (λ m. one_if (bit read m)) place ∙ ap one_if read_new in
-          omega (arith, size_last n 0 read, last, size_le n 0 triggers read read_triggers, many)
+      many_read = omega (arith, one_larger n triggers no_new, many)
 
       -- each instance that fits z reads them all
       by_reading : (i : ℕ) → bit read i ≡ true → FitsByReading d library i z
@@ -191,7 +169,7 @@ module _ (c : CodedGraph) (classes : List Class) (new : Signal) (copies : List C
             fits_by_new c classes new copies h is lawful inserted library z old never unfit f over fit
             (subst (λ (k : ℕ). IsUnread k f.literals) same.1 unread))
         | inr other ↦ (
-            let given : bit triggers i ≡ true = sym (flip-other triggers n i other.1) ∙ there in
+            let given = others_given n triggers no_new i other.1 there in
             trigger_read d library z made triggers all_stay i given)
       ]
 
@@ -204,28 +182,8 @@ module _ (c : CodedGraph) (classes : List Class) (new : Signal) (copies : List C
       z_unread : bit read z ≡ false
       z_unread = flip-other triggers n z (λ same. omega (arith, old, same)) ∙ no_own
 
-      -- the signals of literals are those that they read
-      among_own : (ls : List Literal) → AreAmong (z ∷ map (λ l. l.sig) ls) ls
-      among_own ls k l inside =
-          let within : k < length (map (λ (m : Literal). m.sig) ls) = rw length-map inside in
-          (suc k, omega (arith, within), get_or-map (λ (m : Literal). m.sig) ls k l (get_or ls k l).sig inside)
-
-      never_fits : (f : Instance) → first_fit d library z ≡ Some f → ⊥
-      never_fits f found =
-          let (over, fit) = fit_fits d library z f made found in
-          let short : length (cell_at library f.cell).pins ≤ most = few f.cell no_cell over.instance.cell in
-          let pins = over.instance.pins in
-          let too_many : length f.literals < size_from (suc n) 0 read = omega (arith, many_read, pins, short) in
-          owed_unfit d library z (suc n) (length f.literals) (map (λ l. l.sig) f.literals) [] read
-          (length-map f.literals (λ l. l.sig)) (owed_first d library z read by_reading z_unread) too_many f over fit
-          (among_own f.literals)
-
       pub stays_unfit : is_none (first_fit d library z) ≡ true
-      stays_unfit = by_first (first_fit d library z) refl
-        where
-          by_first : (o : Option Instance) → first_fit d library z ≡ o → is_none o ≡ true
-          by_first None none = refl
-          by_first (Some f) found = absurd (never_fits f found)
+      stays_unfit = none_reads d library z most made few (suc n) read by_reading z_unread many_read
 
       -- ---- the support has all triggers
       grows : size_from n 0 triggers ≤ size_from (length h.signals) 0 triggers

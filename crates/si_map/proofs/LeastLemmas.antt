@@ -12,6 +12,7 @@ use Rattle.si_base.specs.Bits.{bit}
 use Rattle.si_base.specs.Codes.{CodedGraph, IsCoded}
 use Rattle.si_base.specs.Graph.{StateGraph, IsNonInput, is_driven}
 use Rattle.si_base.specs.Limits.{code_width}
+use Rattle.si_base.specs.Proper.{HasNoConflict}
 use Rattle.si_base.specs.declared.graph.Signal.{Signal}
 use Rattle.si_base.specs.declared.graph.SigKind.TheVariants.{Input}
 use Rattle.si_cell.specs.Library.{Library}
@@ -19,7 +20,7 @@ use Rattle.si_insert.specs.declared.partition.Class.{Class}
 use Rattle.si_insert.specs.Accepted.{IsAccepted}
 use Rattle.si_insert.specs.Fresh.{IsTaken}
 use Rattle.si_insert.specs.GraphOfCopies.{copies_of}
-use Rattle.si_insert.specs.Insertion.{coded, new_signal}
+use Rattle.si_insert.specs.Insertion.{Copy, IsInsertedGraph, coded, new_signal}
 use Rattle.si_insert.proofs.AcceptedLosses.{driven_after}
 use Rattle.si_insert.proofs.InsertionCodes.{is_coded}
 use Rattle.si_insert.proofs.InsertionsExist.{some_insertion}
@@ -249,15 +250,14 @@ outside_below c library waiting least count adds =
     let all = sum_below c library waiting 0 0 least room from (starts_below c library) in omega (arith, all)
 
 -- ---- an insertion
--- where signals that never wait add that much, none leaves less
-pub bounded : (c : CodedGraph) (library : Library) (classes : List Class) (name least : List ℕ)
-    (waiting sum bar : ℕ) → IsCoded c → IsAccepted c.graph classes → (IsTaken c.graph.signals name → ⊥)
-    → AreLeast c library least → (g : StateGraph) (given : List Class) → g ≡ c.graph → given ≡ classes
-    → ((z : ℕ) → bit waiting z ≡ false → NeverWaits g given z)
-    → sum ≡ sum_outside waiting 0 least
+-- where the signals of each inserted graph without conflicts add that much, none leaves less
+pub none_below : (c : CodedGraph) (library : Library) (classes : List Class) (name : List ℕ) (sum bar : ℕ)
+    → IsCoded c → IsAccepted c.graph classes → (IsTaken c.graph.signals name → ⊥)
+    → ((h : StateGraph) → IsInsertedGraph c.graph classes (new_signal name) (copies_of classes) h
+    → IsCoded (coded c (copies_of classes) h) → HasNoConflict (coded c (copies_of classes) h)
+    → sum ≤ weight_of (coded c (copies_of classes) h) library)
     → bar ≤ sum → LeavesNoneBelow c library classes bar
-bounded c library classes name least waiting sum bar is accepts fresh are g given g_is given_is never sum_is high n free
-    leaves =
+none_below c library classes name sum bar is accepts fresh adds high n free leaves =
     let (h, inserted, graph) = some_insertion c classes name is accepts fresh in
     let d : CodedGraph = coded c (copies_of classes) h in
     let new = new_signal name in
@@ -266,18 +266,38 @@ bounded c library classes name least waiting sum bar is accepts fresh are g give
     let own : LeavesWeight c library classes (weight_of d library) =
     record { new = new; copies = copies_of classes; graph = h; insertion = inserted; weighs = refl } in
     let one = weight_is_one c library classes n (weight_of d library) leaves own in
+    let below = adds h inserted made none in
+    omega (arith, below, one, high)
+
+module _ (c : CodedGraph) (classes : List Class) (new : Signal) (copies : List Copy) (h : StateGraph)
+    (inserted : IsInsertedGraph c.graph classes new copies h) where
+  pub driven_there : (z : ℕ) → IsNonInput c.graph.signals z → IsNonInput h.signals z
+  driven_there z given = subst (λ (xs : List Signal). IsNonInput xs z) (sym inserted.signals)
+      (driven_after c.graph new z inserted.kind (inl given))
+
+  -- a list for the given signals has none for the new one
+  pub fewer_known : (least : List ℕ) → length least ≡ length c.graph.signals → length least ≤ length h.signals
+  fewer_known least count =
+      omega (arith, count, ap (length {A = Signal}) inserted.signals, length_push c.graph.signals new)
+
+-- where signals that never wait add that much, none leaves less
+pub bounded : (c : CodedGraph) (library : Library) (classes : List Class) (name least : List ℕ)
+    (waiting sum bar : ℕ) → IsCoded c → IsAccepted c.graph classes → (IsTaken c.graph.signals name → ⊥)
+    → AreLeast c library least → (g : StateGraph) (given : List Class) → g ≡ c.graph → given ≡ classes
+    → ((z : ℕ) → bit waiting z ≡ false → NeverWaits g given z)
+    → sum ≡ sum_outside waiting 0 least
+    → bar ≤ sum → LeavesNoneBelow c library classes bar
+bounded c library classes name least waiting sum bar is accepts fresh are g given g_is given_is never sum_is =
+    none_below c library classes name sum bar is accepts fresh (λ h inserted made none.
+    (let d : CodedGraph = coded c (copies_of classes) h in
+    let new = new_signal name in
     let Never : StateGraph → List Class → Type 0 = λ x ys. (z : ℕ) → bit waiting z ≡ false → NeverWaits x ys z in
     let never_here : Never c.graph classes = subst (Never c.graph) given_is (subst (λ x. Never x given) g_is never) in
-    let Driven : List Signal → Type 0 = λ xs. (z : ℕ) → IsNonInput c.graph.signals z → IsNonInput xs z in
-    let driven_there : Driven h.signals = subst Driven (sym inserted.signals)
-    (λ z given. driven_after c.graph new z inserted.kind (inl given)) in
     let adds : AllAdd d library waiting least = λ z clear more. (
     let (is_driven, least_there) = are.each z more in (
-      driven_there z is_driven,
-      least_there classes new (copies_of classes) h accepts.lawful inserted made none
-          (never_here z clear),
+      driven_there c classes new (copies_of classes) h inserted z is_driven,
+      least_there classes new (copies_of classes) h accepts.lawful inserted made none (never_here z clear),
     )) in
-    let count : length least ≤ length h.signals =
-    omega (arith, are.count, ap (length {A = Signal}) inserted.signals, length_push c.graph.signals new) in
+    let count = fewer_known c classes new (copies_of classes) h inserted least are.count in
     let below = outside_below d library waiting least count adds in
-    omega (arith, sum_is, below, one, high)
+    omega (arith, sum_is, below)))

@@ -1,12 +1,13 @@
 -- What becomes of a search with each divisor.
-use Rattle.std.proofs.Common.{◌≡◌, ℕ, ◌+◌, ◌<◌, ◌≤◌, ◌⊎◌, List, [], ◌∷◌, ◌++◌, get_or, All, Option, Some, None}
+use Rattle.std.proofs.Common.{◌≡◌, ℕ, ◌+◌, ◌<◌, ◌≤◌, ◌⊎◌, List, [], Option, Some, None}
 use Rattle.std.proofs.Common.{IfSome, IfNone, MatchOption, is_some, not, Bool, true, false, cond, refl, sym, ap, subst}
 use Rattle.std.proofs.Common.{◌∙◌, arith, inl, inr, Vec, Global}
 use Rattle.std.proofs.lemmas.Bool.{true≢false, cases_Bool}
 use Rattle.std.specs.BTreeMap.{is_at}
 use Rattle.std.specs.BTreeSet.{BTreeSet, Updates, contains}
 use Rattle.std.specs.List.{list_any}
-use Rattle.std.proofs.lemmas.List.Elements.{All-push}
+use Rattle.std.proofs.lemmas.Map.Text.{is_eq-slice_cmp}
+use Rattle.std.proofs.lemmas.Slice.Eq.{bytes_eq-Decides}
 use Rattle.si_base.specs.Codes.{CodedGraph, IsCoded}
 use Rattle.si_base.specs.Proper.{HasNoConflict, IsProper}
 use Rattle.si_cell.specs.Library.{Library, Instance, instance_value}
@@ -14,10 +15,10 @@ use Rattle.si_conflicts.specs.Loops.Chains.{AreChains}
 use Rattle.si_conflicts.specs.Left.{LeavesConflicts}
 use Rattle.si_divisor.specs.declared.function.Function.{Function}
 use Rattle.si_divisor.specs.Functions.{IsFunction, function_cmp}
-use Rattle.si_divisor.specs.PartitionFor.{IsPartitionFor}
+use Rattle.si_divisor.specs.PartitionFor.{Answers, IsPartitionFor}
 use Rattle.si_divisor.specs.Targets.{forced_by}
 use Rattle.si_divisor.proofs.PartitionLemmas.{passes}
-use Rattle.si_divisor.proofs.SameFunction.{functions_decide, same_function}
+use Rattle.si_divisor.proofs.SameFunction.{same_function}
 use Rattle.si_divisor.proofs.OnePartitionFor.{one_partition}
 use Rattle.si_insert.specs.declared.partition.Class.{Class}
 use Rattle.si_insert.specs.Partition.{IsLawful}
@@ -32,9 +33,11 @@ use Rattle.si_map.specs.declared.search.Search.{Search}
 use Rattle.si_map.specs.Best.{Choice, IsDivisorAt, LeavesWeight, Serves}
 use Rattle.si_map.specs.Loops.Least.{AreLeast}
 use Rattle.si_map.specs.Loops.Progress.{AreFitted, IsReady, IsSearching, HasTried, IsPassed, IsNewBest, IsTried}
-use Rattle.si_map.specs.Loops.Progress.{IsKnown}
+use Rattle.si_map.specs.Loops.Packed.{ArePacked, words_cmp}
+use Rattle.si_map.specs.Loops.Progress.{ArePassed, IsKnown}
 use Rattle.si_map.specs.Loops.Progress.{MayHaveRecorded, IsSpent, AreSpent, LeavesBelow, LeavesNoneBelow}
 use Rattle.si_map.proofs.BestDivisors.{one_divisor}
+use Rattle.si_map.proofs.PackedLemmas.{one_packed}
 use Rattle.si_map.proofs.SearchConflicts.{none_left}
 use Rattle.si_map.proofs.SearchSteps.{bar_low, search_skip, search_take}
 use Rattle.si_map.proofs.BestWeight.{weight_is_one}
@@ -137,12 +140,29 @@ module _ (c : CodedGraph) (library : Library) (z k : ℕ) (s : Search) (so : IsS
       let least = bar_low c library z k so.best so.is_best in omega (arith, so.bar_is, below, least)
 
 -- ---- one partition
-known_leaves : (c : CodedGraph) (library : Library) (s : Search) (classes : List Class) → IsReady c library s
-    → IsKnown s classes → LeavesNoneBelow c library classes s.bar
-known_leaves c library s classes ready (inl best) =
+known_leaves : (c : CodedGraph) (library : Library) (s : Search) (classes : List Class) (words : Vec ℕ Global)
+    → IsReady c library s → ArePacked classes words.items → IsKnown s classes words → IsAccepted c.graph classes
+    → LeavesNoneBelow c library classes s.bar
+known_leaves c library s classes words ready are (inl best) accepted =
     subst (λ o. IfSome o (λ p. LeavesNoneBelow c library p s.bar)) best ready.best_known
-known_leaves c library s classes ready (inr (k, within, is)) =
-    subst (λ (xs : List Class). LeavesNoneBelow c library xs s.bar) is (ready.tried_known k classes within)
+known_leaves c library s classes words ready are (inr there) accepted =
+    ready.tried_known classes words are there accepted
+
+same_words : (v w : Vec ℕ Global) → is_at (words_cmp v) w ≡ true → v.items ≡ w.items
+same_words v w level = (bytes_eq-Decides v.items w.items).0 (sym (is_eq-slice_cmp v.items w.items) ∙ level)
+
+more_passed : (c : CodedGraph) (library : Library) (bar : ℕ) (classes : List Class) (words : Vec ℕ Global)
+    (old new : BTreeSet (Vec ℕ Global)) → ArePacked classes words.items
+    → (IsAccepted c.graph classes → LeavesNoneBelow c library classes bar) → ArePassed c library bar old
+    → Updates words_cmp old new words true → ArePassed c library bar new
+more_passed c library bar classes words old new are none before added others key packed there =
+    elim (cases_Bool (is_at (words_cmp words) key)) [
+      | inl level ↦ (let P = ArePacked others in
+          let same = one_packed classes others words.items are (subst P (sym (same_words words key level)) packed) in
+          subst (λ (xs : List Class). IsAccepted c.graph xs → LeavesNoneBelow c library xs bar) same none)
+      | inr apart ↦ before others key packed
+          (sym (added.0 key ∙ ap (λ b. cond b true (contains words_cmp old key)) apart) ∙ there)
+    ]
 
 lower : (c : CodedGraph) (library : Library) (classes : List Class) (low high : ℕ) → low < high
     → LeavesNoneBelow c library classes high → LeavesNoneBelow c library classes low
@@ -153,15 +173,13 @@ module _ (c : CodedGraph) (library : Library) (s : Search) (ready : IsReady c li
   stays : (IsAccepted c.graph classes → LeavesNoneBelow c library classes s.bar) → IsTried c library classes s s
   stays none = inl (record { ready = ready; bar = refl; best = refl; none = none })
 
-  pub refused : (IsAccepted c.graph classes → ⊥) → IsTried c library classes s s
-  refused never = stays (λ accepted. absurd (never accepted))
+  pub known : (words : Vec ℕ Global) → ArePacked classes words.items → IsKnown s classes words
+      → IsTried c library classes s s
+  known words are is = stays (known_leaves c library s classes words ready are is)
 
-  pub known : IsKnown s classes → IsTried c library classes s s
-  known is = stays (λ accepted. known_leaves c library s classes ready is)
-
-  grown : (t : Search) → MayHaveRecorded s classes t → LeavesNoneBelow c library classes s.bar
-      → IsTried c library classes s t
-  grown t is none = inl (record {
+  grown : (words : Vec ℕ Global) (t : Search) → ArePacked classes words.items → MayHaveRecorded s words t
+      → (IsAccepted c.graph classes → LeavesNoneBelow c library classes s.bar) → IsTried c library classes s t
+  grown words t are is none = inl (record {
     ready = record {
       coded = ready.coded;
       proper = ready.proper;
@@ -171,25 +189,27 @@ module _ (c : CodedGraph) (library : Library) (s : Search) (ready : IsReady c li
       least = subst (λ (xs : Vec ℕ Global). AreLeast c library xs.items) (sym is.least) ready.least;
       best_known = subst (λ o. IfSome o (λ p. LeavesNoneBelow c library p t.bar)) (sym is.best)
           (subst (λ low. IfSome s.best (λ p. LeavesNoneBelow c library p low)) (sym is.bar) ready.best_known);
-      tried_known = subst (λ low. All (λ p. LeavesNoneBelow c library p low) t.tried.items) (sym is.bar)
-          (all is.tried);
+      tried_known = subst (λ low. ArePassed c library low t.tried) (sym is.bar) (all is.tried);
     };
     bar = is.bar;
     best = is.best;
-    none = λ accepted. none;
+    none = none;
   })
     where
-      all : (t.tried.items ≡ s.tried.items) ⊎ (t.tried.items ≡ s.tried.items ++ classes ∷ [])
-          → All (λ p. LeavesNoneBelow c library p s.bar) t.tried.items
-      all (inl same) = subst (All (λ p. LeavesNoneBelow c library p s.bar)) (sym same) ready.tried_known
-      all (inr more) = subst (All (λ p. LeavesNoneBelow c library p s.bar)) (sym more)
-          (All-push (λ p. LeavesNoneBelow c library p s.bar) s.tried.items classes ready.tried_known none)
+      all : (t.tried ≡ s.tried) ⊎ Updates words_cmp s.tried t.tried words true → ArePassed c library s.bar t.tried
+      all (inl same) = subst (ArePassed c library s.bar) (sym same) ready.tried_known
+      all (inr added) = more_passed c library s.bar classes words s.tried t.tried are none ready.tried_known added
 
-  pub kept_tried : (given : List Class) (m t : Search) (o : Option ℕ) → given ≡ classes → m ≡ s → o ≡ None
-      → IfNone o (LeavesNoneBelow c library given s.bar) → MayHaveRecorded m given t → IsTried c library classes s t
-  kept_tried given m t o same before is told more =
-      grown t (subst (λ xs. MayHaveRecorded s xs t) same (subst (λ x. MayHaveRecorded x given t) before more))
-      (subst (λ (xs : List Class). LeavesNoneBelow c library xs s.bar) same
+  pub refused : (words : Vec ℕ Global) (t : Search) → ArePacked classes words.items
+      → (IsAccepted c.graph classes → ⊥) → MayHaveRecorded s words t → IsTried c library classes s t
+  refused words t are never more = grown words t are more (λ accepted. absurd (never accepted))
+
+  pub kept_tried : (given : List Class) (words : Vec ℕ Global) (m t : Search) (o : Option ℕ)
+      → ArePacked classes words.items → given ≡ classes → m ≡ s → o ≡ None
+      → IfNone o (LeavesNoneBelow c library given s.bar) → MayHaveRecorded m words t → IsTried c library classes s t
+  kept_tried given words m t o are same before is told more =
+      grown words t are (subst (λ x. MayHaveRecorded x words t) before more)
+      (λ accepted. subst (λ (xs : List Class). LeavesNoneBelow c library xs s.bar) same
       (subst (λ p. IfNone p (LeavesNoneBelow c library given s.bar)) is told))
 
   -- the search with a partition as the best so far
@@ -217,8 +237,8 @@ module _ (c : CodedGraph) (library : Library) (s : Search) (ready : IsReady c li
       least = ready.least;
       best_known = λ m free leaves. (let same = weight_is_one c library classes n m left.leaves leaves in
           omega (arith, same));
-      tried_known = λ k d within. lower c library (get_or s.tried.items k d) n s.bar left.below
-          (ready.tried_known k d within);
+      tried_known = λ others words packed there accepted. lower c library others n s.bar left.below
+          (ready.tried_known others words packed there accepted);
     };
     accepted = accepted;
     left = left;
@@ -312,20 +332,6 @@ module _ (c : CodedGraph) (library : Library) (divisor : Instance) where
       (λ p. IsPartition p × IsLawful c.graph p)) is told in
       tried classes s t found.0
 
-  -- its inserted graph is proper and delays no input
-  pub found_stays : (classes : List Class) (o : Option (List Class)) → IsCoded c → IsProper c.graph → o ≡ Some classes
-      → MatchOption o ((classes : List Class) → IsPartition classes → ⊥)
-      (λ p. IsPartition p × IsLawful c.graph p) → StaysProper c.graph classes × DelaysNoInput c.graph classes
-  found_stays classes o coded proper is told =
-      let found : IsPartition classes × IsLawful c.graph classes =
-      subst (λ p. MatchOption p ((classes : List Class) → IsPartition classes → ⊥)
-      (λ p. IsPartition p × IsLawful c.graph p)) is told in
-      let forced = forced_by (instance_value library divisor) c in
-      let tests = passes c.graph forced classes coded.graph_is found.0 in (
-        proper_if_none c classes coded proper tests.lawful tests.losses,
-        no_delay c.graph classes coded.graph_is tests.lawful tests.inputs,
-      )
-
   pub found_spent : (classes : List Class) (s t : Search) (o : Option (List Class)) → o ≡ Some classes
       → MatchOption o ((classes : List Class) → IsPartition classes → ⊥)
       (λ p. IsPartition p × IsLawful c.graph p) → IsTried c library classes s t → IsSpent c library t.bar divisor
@@ -345,6 +351,20 @@ module _ (c : CodedGraph) (library : Library) (divisor : Instance) where
           (subst (λ (xs : List Class). LeavesWeight c library xs n) same leaves) in
           omega (arith, one))
 
+-- the partition for a value is lawful; its inserted graph is proper and delays no input
+pub found_stays : (c : CodedGraph) (value : ℕ → Bool → Bool) (classes : List Class) (o : Option (List Class))
+    → IsCoded c → IsProper c.graph → o ≡ Some classes → Answers c value o
+    → IsLawful c.graph classes × (StaysProper c.graph classes × DelaysNoInput c.graph classes)
+found_stays c value classes o coded proper is told =
+    let found : Answers c value (Some classes) = subst (Answers c value) is told in
+    let tests = passes c.graph (forced_by value c) classes coded.graph_is found.0 in (
+      found.1,
+      (
+        proper_if_none c classes coded proper tests.lawful tests.losses,
+        no_delay c.graph classes coded.graph_is tests.lawful tests.inputs,
+      ),
+    )
+
 pub lowers : (c : CodedGraph) (library : Library) (classes : List Class) (s t : Search)
     → IsTried c library classes s t → t.bar ≤ s.bar
 lowers c library classes s t (inl is) = omega (arith, is.bar)
@@ -361,15 +381,13 @@ pub none_yet : (c : CodedGraph) (library : Library) (bar : ℕ) (functions : BTr
 none_yet c library bar functions none f i there =
     absurd (true≢false (sym there ∙ ap (λ (ks : List Function). list_any (is_at (function_cmp f)) ks) none))
 
-pub more_spent : (c : CodedGraph) (library : Library) (high low : ℕ) (divisor : Instance) (f : Function)
-    (old new : BTreeSet Function) → IsCoded c → low ≤ high → AreSpent c library high old
-    → IsFunction library divisor f → IsSpent c library low divisor → Updates function_cmp old new f true
+pub more_spent : (c : CodedGraph) (library : Library) (high low : ℕ) (f : Function) (old new : BTreeSet Function)
+    → low ≤ high → AreSpent c library high old
+    → ((i : Instance) → IsFunction library i f → IsSpent c library low i) → Updates function_cmp old new f true
     → AreSpent c library low new
-more_spent c library high low divisor f old new coded less before is spent added g i there other =
+more_spent c library high low f old new less before spent added g i there is =
     elim (cases_Bool (is_at (function_cmp f) g)) [
-      | inl level ↦ (let same : f ≡ g = same_function f g level in
-          λ classes are accepted. spent classes (functions_decide library c i divisor f classes coded.graph_is
-          (subst (IsFunction library i) (sym same) other) is are) accepted)
+      | inl level ↦ spent i (subst (IsFunction library i) (sym (same_function f g level)) is)
       | inr apart ↦ spent_below c library high low i less
-          (before g i (sym (added.0 g ∙ ap (λ b. cond b true (contains function_cmp old g)) apart) ∙ there) other)
+          (before g i (sym (added.0 g ∙ ap (λ b. cond b true (contains function_cmp old g)) apart) ∙ there) is)
     ]

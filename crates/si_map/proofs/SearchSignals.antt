@@ -1,20 +1,23 @@
 -- What becomes of a search with each signal, and at its end.
-use Rattle.std.proofs.Common.{◌≡◌, ◌↔◌, ℕ, ◌+◌, ◌<◌, IsTrue, Bool, true, false, List, length, get_or, slice_get}
-use Rattle.std.proofs.Common.{Option, Some, None, is_some, refl, sym, ap, subst, ◌∙◌, inl, inr}
+use Rattle.std.proofs.Common.{◌≡◌, ◌↔◌, ℕ, ◌+◌, ◌<◌, IsTrue, Bool, true, false, List, [], length, get_or}
+use Rattle.std.proofs.Common.{Option, Some, None, is_some, refl, sym, ap, subst, ◌∙◌, inl, inr, arith}
 use Rattle.std.proofs.lemmas.Bool.{true≢false}
 use Rattle.std.proofs.lemmas.Option.{slice_get-get_or}
 use Rattle.si_base.specs.Codes.{CodedGraph}
 use Rattle.si_base.specs.Graph.{StateGraph, IsNonInput}
 use Rattle.si_cell.specs.Library.{Library, Instance}
 use Rattle.si_checks.specs.Loops.Searches.{IsFirstOrNone}
+use Rattle.si_divisor.specs.declared.function.Function.{Function}
 use Rattle.si_divisor.specs.Divisors.{AreDivisors}
+use Rattle.si_divisor.specs.Functions.{IsFunction}
 use Rattle.si_match.specs.Fit.{first_fit}
 use Rattle.si_map.specs.declared.search.Search.{Search}
 use Rattle.si_map.specs.Best.{Choice, IsBestPartition, IsUnfit, IsDivisorAt, Serves, choice_place}
+use Rattle.si_map.specs.Loops.Functions.{AreFunctions}
 use Rattle.si_map.specs.Loops.Search.{IsEarlier}
 use Rattle.si_map.specs.Loops.Progress.{IsSearching, HasTried, classes_of}
 use Rattle.si_map.proofs.BestDivisors.{place_within}
-use Rattle.si_map.proofs.SearchSteps.{search_signal, search_ends}
+use Rattle.si_map.proofs.SearchSteps.{search_signal, search_none_below, search_ends}
 
 module _ (c : CodedGraph) (library : Library) where
   -- ---- one divisor after another
@@ -26,15 +29,25 @@ module _ (c : CodedGraph) (library : Library) where
       by_first None is unfit = record { driven = driven; unfit = is }
       by_first (Some i) is unfit = absurd (true≢false unfit)
 
-  pub next_divisor : (d : CodedGraph) (z k : ℕ) (divisor : Instance) (divisors : List Instance) (s t : Search)
-      → d ≡ c → IsUnfit c library z → AreDivisors c library z divisors → k < length divisors
-      → divisor ≡ get_or divisors k divisor → HasTried d library divisor s t → IsSearching c library z k s
+  pub next_divisor : (d : CodedGraph) (z k : ℕ) (divisors : List Instance) (f : Function) (functions : List Function)
+      (s t : Search) → d ≡ c → IsUnfit c library z → AreDivisors c library z divisors
+      → AreFunctions library divisors (length divisors) functions → k < length functions → f ≡ get_or functions k f
+      → ((i : Instance) → IsFunction library i f → HasTried d library i s t) → IsSearching c library z k s
       → IsSearching c library z (k + 1) t
-  next_divisor d z k divisor divisors s t same unfit are within is tried so =
-      let there : slice_get divisors k ≡ Some divisor =
-      slice_get-get_or divisors k divisor within ∙ ap (λ (i : Instance). Some i) (sym is) in
-      let here : IsDivisorAt c library z k divisor = record { divisors = divisors; are = are; there = there } in
-      subst (λ e. HasTried e library divisor s t) same tried z k unfit here so
+  next_divisor d z k divisors f functions s t same unfit are made within is tried so =
+      subst (λ e. HasTried e library divisor s t) same (tried divisor function) z k unfit here so
+    where
+      inside : k < length divisors
+      inside = omega (arith, within, made.size)
+
+      divisor : Instance
+      divisor = get_or divisors k (record { cell = 0; literals = [] })
+
+      here : IsDivisorAt c library z k divisor
+      here = record { divisors = divisors; are = are; there = slice_get-get_or divisors k _ inside }
+
+      function : IsFunction library divisor f
+      function = subst (IsFunction library divisor) (sym is) (made.each k _ f inside)
 
   -- ---- the end of a signal
   next_signal : (z k : ℕ) (s : Search) → ((y : Choice) → Serves c library y → y.signal ≡ z → IsEarlier y z k)
@@ -75,6 +88,15 @@ module _ (c : CodedGraph) (library : Library) where
       not_both : (y : Choice) → Serves c library y → y.signal ≡ z → ⊥
       not_both y serves at = true≢false (sym fits ∙ ap (λ (o : Option Instance). is_some o)
           (ap (first_fit c library) (sym at) ∙ serves.unfit.unfit))
+
+  pub pass_zero : (z : ℕ) (s : Search) → s.bar ≡ 0 → IsSearching c library z 0 s → IsSearching c library (z + 1) 0 s
+  pass_zero z s zero so = record {
+    ready = so.ready;
+    best = so.best;
+    is_best = search_none_below c library z so.best (sym so.bar_is ∙ zero) so.is_best;
+    bar_is = so.bar_is;
+    kept = so.kept;
+  }
 
   -- ---- the end of all
   best_shown : (o : Option Choice) → IsFirstOrNone choice_place (Serves c library) o

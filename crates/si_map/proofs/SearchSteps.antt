@@ -1,5 +1,5 @@
 -- Steps of the search for the best divisor.
-use Rattle.std.proofs.Common.{◌≡◌, ℕ, ◌+◌, ◌<◌, ◌≤◌, length, Option, Some, inl}
+use Rattle.std.proofs.Common.{◌≡◌, ℕ, ◌+◌, ◌<◌, ◌≤◌, length, Option, Some, inl, inr, arith}
 use Rattle.std.proofs.lemmas.Option.{slice_get_within}
 use Rattle.si_base.specs.Codes.{CodedGraph}
 use Rattle.si_cell.specs.Library.{Library}
@@ -48,6 +48,17 @@ module _ (c : CodedGraph) (library : Library) where
       → IsBestSoFar c library z k o → IsBestSoFar c library (z + 1) 0 o
   search_signal z k o all so = rows.search_row (Serves c library) weight row place (weight_of c library) lower z k o
       (λ y serves at. inl (all y serves at)) so
+
+  -- none of its divisors gets below the weight 0
+  pub search_none_below : (z : ℕ) (o : Option Choice) → bar (weight_of c library) o ≡ 0 → IsBestSoFar c library z 0 o
+      → IsBestSoFar c library (z + 1) 0 o
+  search_none_below z o zero so = rows.search_row (Serves c library) weight row place (weight_of c library) lower z 0 o
+      (λ y serves at. inr (not_earlier y at, omega (arith, zero))) so
+    where
+      not_earlier : (y : Choice) → y.signal ≡ z → IsEarlier y z 0 → ⊥
+      not_earlier y at (inl less) = omega (arith, at, less)
+      not_earlier y at (inr (tied, inl less)) = omega (arith, less)
+      not_earlier y at (inr (tied, inr (level, nothing))) = nothing
 
   -- ---- the end
   pub within : (y : Choice) → Serves c library y → y.signal < length c.graph.signals

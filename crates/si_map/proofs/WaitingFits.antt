@@ -5,7 +5,7 @@ use Rattle.std.proofs.Common.{refl, sym, ap, subst, ◌∙◌, arith, inl, inr, 
 use Rattle.std.proofs.lemmas.List.Elements.{recursion_from_All}
 use Rattle.si_base.specs.Bits.{bit, IsSet}
 use Rattle.si_base.specs.Codes.{CodedGraph, IsCoded, code, next_value}
-use Rattle.si_base.specs.Graph.{StateGraph, enables, rise, fall}
+use Rattle.si_base.specs.Graph.{StateGraph, Step, enables, rise, fall}
 use Rattle.si_base.specs.Netlist.{literal_value, sum_value}
 use Rattle.si_base.specs.declared.ids.Event.{Event}
 use Rattle.si_base.specs.declared.ids.Literal.{Literal}
@@ -14,7 +14,7 @@ use Rattle.si_base.proofs.GraphSteps.{enables-step, step_from_enables}
 use Rattle.si_cell.specs.Library.{Library, Instance, cell_at, code_of, instance_value}
 use Rattle.si_insert.specs.declared.partition.Class.{Class}
 use Rattle.si_insert.specs.Partition.{class_of, IsLawful}
-use Rattle.si_insert.specs.Insertion.{Copy, IsCopied, IsInsertedGraph, coded, entry}
+use Rattle.si_insert.specs.Insertion.{Copy, IsCopied, IsInsertedGraph, coded, entry, waits}
 use Rattle.si_insert.proofs.PartitionClasses.{entry_there}
 use Rattle.si_insert.proofs.InsertionCopies.{copy, copy_at, given_copied, placed}
 use Rattle.si_insert.proofs.InsertionProper.{leads, goes_on, code_at, old_bit}
@@ -36,6 +36,11 @@ use Rattle.std.proofs.lemmas.Bool.{true≢false}
 use Rattle.std.proofs.lemmas.Option.{slice_get_within}
 use Rattle.si_base.proofs.Booleans.{same_if}
 
+-- no arc of z waits at the copy
+abbrev pub GoesOn : StateGraph → List Class → ℕ → Copy → Type 0
+GoesOn g classes z x = (e : Event) (t : ℕ) → Step g x.state e t → e.sig ≡ z
+    → waits (class_of classes x.state) (class_of classes t) x.value ≡ false
+
 module _ (c : CodedGraph) (classes : List Class) (new : Signal) (copies : List Copy) (h : StateGraph)
     (is : IsCoded c) (lawful : IsLawful c.graph classes) (inserted : IsInsertedGraph c.graph classes new copies h) where
   abbrev n : ℕ
@@ -52,34 +57,38 @@ module _ (c : CodedGraph) (classes : List Class) (new : Signal) (copies : List C
     pub given_bit : (j : ℕ) → (j ≡ n → ⊥) → bit (code d k) j ≡ bit (code c x.state) j
     given_bit j old = ap (λ v. bit v j) (code_at c copies h k x at) ∙ old_bit c x j old
 
-    module _ (z : ℕ) (old : z < n) (never : NeverWaits c.graph classes z) where
+    module _ (z : ℕ) (old : z < n) where
       not_new : z ≡ n → ⊥
       not_new same = omega (arith, old, same)
 
-      leads_given : (e : Event) → e.sig ≡ z → enables h k e ≡ true → enables c.graph x.state e ≡ true
-      leads_given e of_z on =
-          let step = step_from_enables h k e on in
-          let to = leads c.graph classes new copies h k e step.0 x inserted step.1 at in
-          let moved = given_copied c.graph classes x e to.0 (λ same. not_new (sym of_z ∙ same)) to.2 in
-          enables-step c.graph x.state e to.0.state moved.step
+      -- no arc of z waits at the copy
+      module _ (goes : GoesOn c.graph classes z x) where
+        leads_given : (e : Event) → e.sig ≡ z → enables h k e ≡ true → enables c.graph x.state e ≡ true
+        leads_given e of_z on =
+            let step = step_from_enables h k e on in
+            let to = leads c.graph classes new copies h k e step.0 x inserted step.1 at in
+            let moved = given_copied c.graph classes x e to.0 (λ same. not_new (sym of_z ∙ same)) to.2 in
+            enables-step c.graph x.state e to.0.state moved.step
 
-      leads_copied : (e : Event) → e.sig ≡ z → enables c.graph x.state e ≡ true → enables h k e ≡ true
-      leads_copied e of_z on =
-          let step = step_from_enables c.graph x.state e on in
-          let goes = never x.state e step.0 step.1 of_z x.value in
-          let moved : IsCopied c.graph classes x e (copy step.0 x.value) =
-          record { step = step.1; keeps = refl; goes = goes } in
-          let to = goes_on c.graph classes new copies h k e x (copy step.0 x.value) is.graph_is lawful inserted at
-          (inl moved) in
-          enables-step h k e to.0 to.2
+        leads_copied : (e : Event) → e.sig ≡ z → enables c.graph x.state e ≡ true → enables h k e ≡ true
+        leads_copied e of_z on =
+            let step = step_from_enables c.graph x.state e on in
+            let moved : IsCopied c.graph classes x e (copy step.0 x.value) =
+            record { step = step.1; keeps = refl; goes = goes e step.0 step.1 of_z } in
+            let to = goes_on c.graph classes new copies h k e x (copy step.0 x.value) is.graph_is lawful inserted at
+            (inl moved) in
+            enables-step h k e to.0 to.2
 
-      same_enabled : (e : Event) → e.sig ≡ z → enables h k e ≡ enables c.graph x.state e
-      same_enabled e of_z = same_if (enables h k e) (enables c.graph x.state e) (leads_given e of_z)
-          (leads_copied e of_z)
+        same_enabled : (e : Event) → e.sig ≡ z → enables h k e ≡ enables c.graph x.state e
+        same_enabled e of_z = same_if (enables h k e) (enables c.graph x.state e) (leads_given e of_z)
+            (leads_copied e of_z)
 
-      -- the next value at the copy is that at the state
-      pub same_next : next_value d k z ≡ next_value c x.state z
-      same_next = λ i. same_enabled (rise z) refl i || (given_bit z not_new i && not (same_enabled (fall z) refl i))
+        -- the next value at the copy is that at the state
+        pub next_there : next_value d k z ≡ next_value c x.state z
+        next_there = λ i. same_enabled (rise z) refl i || (given_bit z not_new i && not (same_enabled (fall z) refl i))
+
+      pub same_next : NeverWaits c.graph classes z → next_value d k z ≡ next_value c x.state z
+      same_next never = next_there (λ e t step of_z. never x.state e t step of_z x.value)
 
       -- and so is the value of an instance that doesn't read the new signal
       same_value : (library : Library) (f : Instance) → IsUnread n f.literals
@@ -106,7 +115,7 @@ module _ (c : CodedGraph) (classes : List Class) (new : Signal) (copies : List C
           let (x, at, there) = copy_at c.graph classes new copies h k inserted within in
           let unread : IsUnread n f.literals = λ j l inside same. (let small = over.signals j l inside in
           omega (arith, small, same)) in
-          same_value k x at z old never library f unread ∙ fits x.state there.within
+          same_value k x at z old library f unread ∙ fits x.state there.within
           ∙ sym (same_next k x at z old never)),
     )
 
@@ -128,7 +137,7 @@ module _ (c : CodedGraph) (classes : List Class) (new : Signal) (copies : List C
             let class = class_of classes s in
             let (k, inside, at) = placed c.graph classes new copies h (copy s (entry class)) inserted
             (record { within = within; there = entry_there class }) in
-            sym (same_value k (copy s (entry class)) at z old never library f unread) ∙ fits k inside
+            sym (same_value k (copy s (entry class)) at z old library f unread) ∙ fits k inside
             ∙ same_next k (copy s (entry class)) at z old never
 
 -- ---- what is known after an insertion

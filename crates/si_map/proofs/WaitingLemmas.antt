@@ -1,15 +1,18 @@
 -- Arc after arc, the signals that wait.
 use Rattle.std.proofs.Common.{◌≡◌, ℕ, ◌+◌, ◌<◌, ◌≤◌, true, false, List, length, get_or, sym, ap, subst, ◌∙◌}
-use Rattle.std.proofs.Common.{arith, inl, inr}
+use Rattle.std.proofs.Common.{arith, inl, inr, Contains}
 use Rattle.std.proofs.lemmas.Bool.{true≢false}
 use Rattle.std.proofs.lemmas.Bool.Decides.{eqb_tells}
 use Rattle.std.proofs.lemmas.List.{get_or_default}
 use Rattle.si_base.specs.Bits.{bit, IsSet}
+use Rattle.si_base.proofs.BitFacts.{bit-zero}
 use Rattle.si_base.specs.Graph.{StateGraph, arc}
 use Rattle.si_base.specs.declared.graph.Edge.{Edge}
 use Rattle.si_insert.specs.declared.partition.Class.{Class}
-use Rattle.si_map.specs.Loops.Waiting.{ArcNeverWaits, NeverWaits}
+use Rattle.si_insert.specs.Partition.{class_of}
+use Rattle.si_map.specs.Loops.Waiting.{ArcNeverWaits, MayWait, NeverWaits, Waits}
 
+-- ---- signals outside of the set
 -- of the first arcs, so many, those of signals that aren't in the set go on
 abbrev pub AreSeen : List Class → List Edge → ℕ → ℕ → Type 0
 AreSeen classes edges waiting count =
@@ -44,6 +47,32 @@ module _ (classes : List Class) (edges : List Edge) (i : ℕ) (item : Edge) (ins
         | inr other ↦ sym (set.others j other.1) ∙ clear
       ]
 
+-- ---- signals in the set wait
+abbrev pub AllWait : StateGraph → List Class → ℕ → Type 0
+AllWait g classes waiting = (z : ℕ) → bit waiting z ≡ true → Waits g classes z
+
+pub none_waits : (g : StateGraph) (classes : List Class) → AllWait g classes 0
+none_waits g classes z there = absurd (true≢false (sym there ∙ bit-zero z))
+
+pub one_waits : (g : StateGraph) (classes : List Class) (edges : List Edge) → edges ≡ g.edges
+    → (i : ℕ) (item : Edge) → i < length edges → item ≡ get_or edges i item
+    → (waiting next : ℕ) → IsSet waiting item.event.sig true next
+    → MayWait (class_of classes item.from) (class_of classes item.to)
+    → AllWait g classes waiting → AllWait g classes next
+one_waits g classes edges same i item inside is waiting next set may before z there =
+    elim (eqb_tells z item.event.sig) [
+      | inl this ↦ record {
+        from = item.from;
+        event = item.event;
+        to = item.to;
+        step = subst (λ (es : List Edge). Contains es item) same (i, inside, sym is);
+        signal = sym this.1;
+        arc_waits = may;
+      }
+      | inr other ↦ before z (sym (set.others z other.1) ∙ there)
+    ]
+
+-- ---- the others don't
 pub never_waits : (g : StateGraph) (classes : List Class) (edges : List Edge) (waiting count : ℕ) → edges ≡ g.edges
     → length edges ≤ count → AreSeen classes edges waiting count → (z : ℕ) → bit waiting z ≡ false
     → NeverWaits g classes z

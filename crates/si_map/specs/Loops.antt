@@ -2,4 +2,7 @@
 pub mod Search
 pub mod Waiting
 pub mod Least
+pub mod Packed
+pub mod Kept
+pub mod Functions
 pub mod Progress

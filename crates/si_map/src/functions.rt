@@ -1,13 +1,16 @@
-//! The functions of divisors that were looked at, and of those that come next.
+//! The functions of divisors: those that were looked at, and those that come next.
 
-ghost use Rattle.std.specs.Prelude.{◌≡◌, ◌<◌, ◌≤◌, All, IfOk, OnOk, [], length, slice_index_or};
+ghost use Rattle.std.specs.Prelude.{◌≡◌, ℕ, ◌<◌, ◌≤◌, All, Bool, IfOk, OnOk, [], length};
+ghost use Rattle.std.specs.Prelude.{slice_index_or};
 ghost use Rattle.si_base.specs.Limits.{code_width};
-ghost use Rattle.si_cell.specs.Library.{IsInstance, instance_value};
+ghost use Rattle.si_cell.specs.Library.{IsInstance};
 ghost use Rattle.si_divisor.specs.declared.function.Function.{Function as FunctionValue};
-ghost use Rattle.si_divisor.specs.Functions.{IsFunction};
+ghost use Rattle.si_divisor.specs.Functions.{Computes};
 ghost use Rattle.si_divisor.specs.Loops.ManyFunctions.{AreFunctionSets};
 ghost use Rattle.si_divisor.specs.PartitionFor.{Answers};
+ghost use Rattle.si_map.specs.Loops.Functions.{AreFunctions};
 
+use arrayvec::ArrayVec;
 use si_base::ids::NoMemory;
 use si_cell::cell::Instance;
 use si_cell::library::Library;
@@ -39,86 +42,112 @@ impl Functions {
         }
     }
 
-    /// The partition for the divisor; `None` exactly where there is none. Behind it come the
+    /// The partition for the function; `None` exactly where there is none. Behind it come the
     /// others.
     pub(crate) fn partition(
         &mut self,
         alloc: Global,
         graph: &Proper,
-        library: &Library,
-        divisor: &Instance,
-        others: &[Instance],
+        function: &Function,
+        others: &[Function],
     ) -> Result<Option<Partition>, NoMemory>
-        requires instance { IsInstance library.now divisor.now }
-        requires others { All (λ i. IsInstance library.now i) others.now }
+        requires within { All (λ s. s < code_width) function.now.signals.items }
+        requires others { All (λ f. All (λ s. s < code_width) f.signals.items) others.now }
         requires sets { AreFunctionSets graph.now self.old.next }
-        ensures answer { IfOk result
-            (Answers graph.now (instance_value library.now divisor.now)) }
+        ensures answer { IfOk result (λ found. (value : ℕ → Bool → Bool)
+            → Computes function.now value → Answers graph.now value found) }
         ensures sets { OnOk result (AreFunctionSets graph.now self.new.next) }
         ensures same { self.new.tried ≡ self.old.tried }
     {
-        let place = self.place(alloc, graph, library, divisor, others)?;
+        let place = self.place(alloc, graph, function, others)?;
         let found = self.next.partition(alloc, graph, place)?;
         Ok(found)
     }
 
-    /// Where the divisor's function stands among those that come next, which begin with it anew
-    /// unless it is there.
+    /// Where the function stands among those that come next, which begin with it anew unless it is
+    /// there.
     fn place(
         &mut self,
         alloc: Global,
         graph: &Proper,
-        library: &Library,
-        divisor: &Instance,
-        others: &[Instance],
+        function: &Function,
+        others: &[Function],
     ) -> Result<usize, NoMemory>
-        requires instance { IsInstance library.now divisor.now }
-        requires others { All (λ i. IsInstance library.now i) others.now }
+        requires within { All (λ s. s < code_width) function.now.signals.items }
+        requires others { All (λ f. All (λ s. s < code_width) f.signals.items) others.now }
         requires sets { AreFunctionSets graph.now self.old.next }
         ensures inside { IfOk result (λ k. k < length self.new.next.functions.items) }
-        ensures function { IfOk result (λ k. (d : FunctionValue) → IsFunction library.now
-            divisor.now (slice_index_or self.new.next.functions.items k d)) }
+        ensures function { IfOk result (λ k. (d : FunctionValue)
+            → slice_index_or self.new.next.functions.items k d ≡ function.now) }
         ensures sets { OnOk result (AreFunctionSets graph.now self.new.next) }
         ensures same { self.new.tried ≡ self.old.tried }
     {
-        let function = function_of(library, divisor);
-        if let Some(place) = self.next.place_of(&function) {
+        if let Some(place) = self.next.place_of(function) {
             return Ok(place);
         }
-        let functions = next_functions(alloc, library, divisor, others, &self.tried)?;
+        let functions = next_functions(alloc, function, others, &self.tried)?;
         self.next = FunctionSets::make(alloc, graph, functions)?;
         Ok(0)
     }
 }
 
-/// The function of the divisor and then, each once, those of the others that are not among the
-/// tried ones, as far as a word has room for them.
+/// The function and then, each once, those of the others that are not among the tried ones, as far
+/// as a word has room for them.
 fn next_functions(
     alloc: Global,
-    library: &Library,
-    divisor: &Instance,
-    others: &[Instance],
+    function: &Function,
+    others: &[Function],
     tried: &BTreeSet<Function>,
 ) -> Result<Vec<Function>, NoMemory>
-    requires instance { IsInstance library.now divisor.now }
-    requires others { All (λ i. IsInstance library.now i) others.now }
+    requires within { All (λ s. s < code_width) function.now.signals.items }
+    requires others { All (λ f. All (λ s. s < code_width) f.signals.items) others.now }
     ensures some { IfOk result (λ next. 0 < length next.items) }
     ensures few { IfOk result (λ next. length next.items ≤ 128) }
     ensures within { IfOk result
         (λ next. All (λ f. All (λ s. s < code_width) f.signals.items) next.items) }
-    ensures first { IfOk result (λ next. (d : FunctionValue) → IsFunction library.now divisor.now
-        (slice_index_or next.items 0 d)) }
+    ensures first { IfOk result
+        (λ next. (d : FunctionValue) → slice_index_or next.items 0 d ≡ function.now) }
 {
     let mut next = Vec::new(alloc);
-    next.push(function_of(library, divisor))?;
-    for k in 0..others.len() {
+    next.push(copy_of(function))?;
+    for other in others {
         if next.len() == SETS {
             return Ok(next);
         }
-        let function = function_of(library, &others[k]);
-        if !tried.contains(&function) && !next.contains(&function) {
-            next.push(function)?;
+        if !tried.contains(other) && !next.contains(other) {
+            next.push(copy_of(other))?;
         }
     }
     Ok(next)
+}
+
+/// The functions of the divisors, at the same places. It fails only where memory runs out.
+pub(crate) fn functions_of(
+    alloc: Global,
+    library: &Library,
+    divisors: &[Instance],
+) -> Result<Vec<Function>, NoMemory>
+    requires { All (λ i. IsInstance library.now i) divisors.now }
+    ensures { IfOk result (λ functions.
+        AreFunctions library.now divisors.now (length divisors.now) functions.items) }
+{
+    let mut functions = Vec::new(alloc);
+    for divisor in divisors {
+        functions.push(function_of(library, divisor))?;
+    }
+    Ok(functions)
+}
+
+/// The same function again.
+pub(crate) fn copy_of(function: &Function) -> Function
+    ensures { result ≡ function.now }
+{
+    let mut signals = ArrayVec::new();
+    for signal in function.signals.as_slice() {
+        signals.push(*signal);
+    }
+    Function {
+        signals,
+        table: function.table,
+    }
 }

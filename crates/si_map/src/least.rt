@@ -50,7 +50,7 @@ pub(crate) fn least_weights(
 }
 
 /// The most pins of a cell.
-fn most_pins(library: &Library) -> u64
+pub(crate) fn most_pins(library: &Library) -> u64
     ensures few { HaveFewPins library.now result }
     ensures small { result ≤ max_pins }
 {

@@ -3,10 +3,11 @@
 ghost use Rattle.std.specs.Prelude.{◌≡◌, ◌<◌, ◌≤◌, ◌↔◌, ◌+◌, true, length, IsTrue};
 ghost use Rattle.std.specs.Prelude.{All, IfOk, IfSome, IfNone, OnOk};
 ghost use Rattle.si_base.specs.Bits.{IsSet};
-ghost use Rattle.si_base.specs.Limits.{max_signals};
+ghost use Rattle.si_base.specs.Limits.{code_width, max_signals};
 ghost use Rattle.si_base.specs.Graph.{IsNonInput};
-ghost use Rattle.si_cell.specs.Library.{Library as LibraryValue, IsInstance};
+ghost use Rattle.si_cell.specs.Library.{Library as LibraryValue, Instance as InstanceValue};
 ghost use Rattle.si_checks.specs.Loops.Lent.{coded_of};
+ghost use Rattle.si_divisor.specs.Functions.{IsFunction};
 ghost use Rattle.si_divisor.specs.Loops.ManyFunctions.{AreFunctionSets};
 ghost use Rattle.si_insert.specs.Accepted.{DelaysNoInput, IsAccepted, StaysProper};
 ghost use Rattle.si_insert.specs.Partition.{IsLawful};
@@ -17,18 +18,19 @@ ghost use Rattle.si_map.specs.Loops.Progress.{AreFitted, IsReady, IsSearching, H
 ghost use Rattle.si_map.specs.Loops.Progress.{AreUpToDate, IsKnown, MayHaveRecorded, IsSpent};
 ghost use Rattle.si_map.specs.Loops.Progress.{LeavesBelow, LeavesNoneBelow};
 
-use crate::functions::Functions;
-use crate::least::{least_weights, sum_without};
+use crate::functions::{Functions, copy_of, functions_of};
+use crate::kept::sum_with;
+use crate::least::{least_weights, most_pins, sum_without};
+use crate::packed::packed;
 use crate::waiting::waiting_signals;
 use crate::weight::{weight_below, weight_without};
 use si_base::ids::{Code, NoMemory, Sig};
 use si_base::text::Name;
-use si_cell::cell::Instance;
 use si_checks::distinct::Distinct;
 use si_checks::proper::Proper;
 use si_conflicts::chains::CodeChains;
 use si_divisor::divisors::divisors;
-use si_divisor::function::function_of;
+use si_divisor::function::Function;
 use si_graph::graph::Graph;
 use si_insert::accept::{Accepted, accept_by_size};
 use si_insert::apply::apply;
@@ -37,23 +39,25 @@ use si_insert::partition::Partition;
 use si_match::functions::LibraryFunctions;
 use si_match::known::KnownFits;
 use std::alloc::Global;
+use std::collections::BTreeSet;
 
 /// With what the names of signals begin that are inserted for the gates of others.
 pub(crate) const STEM: &[u8] = b"map";
 
-/// The most classes of accepted partitions that are kept so as not to be tried again.
-const MAX_TRIED_CLASSES: usize = 1 << 24;
+/// The most words of partitions that are kept so as not to be tried again.
+const MAX_TRIED_WORDS: usize = 1 << 21;
 
 /// The weight that the next divisor has to get below, the partition of the best divisor so far,
 /// and what all divisors have in common: the rings of equal codes and the new signal's name. Many
-/// functions have one partition, as where codes at which they differ are no state's; some accepted
-/// ones that leave a conflict or no weight below the bar are kept. Of each signal it is known
-/// whether some cell fits it, and what it adds to the weight at least where it never waits.
+/// functions have one partition, as where codes at which they differ are no state's. So those that
+/// were tried are kept, each packed into words: none of them leaves a weight below the bar. Of each
+/// signal it is known whether some cell fits it, and what it adds to the weight at least where it
+/// never waits.
 #[derive(Drop)]
 struct Search {
     bar: u64,
     best: Option<Accepted>,
-    tried: Vec<Accepted>,
+    tried: BTreeSet<Vec<u64>>,
     chains: CodeChains,
     name: Name,
     fitted: Code,
@@ -101,7 +105,7 @@ impl Search {
         Ok(Search {
             bar: weight,
             best: None,
-            tried: Vec::new(alloc),
+            tried: BTreeSet::new(alloc),
             chains: CodeChains::new(alloc, graph)?,
             name: fresh_name(alloc, graph.coded().graph(), STEM)?,
             fitted,
@@ -109,8 +113,8 @@ impl Search {
         })
     }
 
-    /// Looks at all divisors of the signal, if no cell fits it. The functions are those of the
-    /// divisors that were looked at.
+    /// Looks at all divisors of the signal, if no cell fits it. Below the weight 0 there is none.
+    /// The functions are those of the divisors that were looked at.
     fn try_signal(
         &mut self,
         alloc: Global,
@@ -127,17 +131,22 @@ impl Search {
         ensures known { OnOk result
             (AreUpToDate (coded_of graph.entry) library.now self.new.bar functions.new) }
     {
+        if self.bar == 0 {
+            return Ok(());
+        }
         if self.fitted.get(z) {
             return Ok(());
         }
-        let divisors = divisors(alloc, graph, library.library(), z)?;
-        for k in 0..divisors.len() {
-            let others = &divisors[k + 1..];
+        let cells = library.library();
+        let divisors = divisors(alloc, graph, cells, z)?;
+        let coming = functions_of(alloc, cells, &divisors)?;
+        for k in 0..coming.len() {
+            let others = &coming[k + 1..];
             self.try_once(
                 alloc,
                 graph.proper(),
                 library,
-                &divisors[k],
+                &coming[k],
                 others,
                 functions,
             )?;
@@ -145,60 +154,60 @@ impl Search {
         Ok(())
     }
 
-    /// Looks at one divisor, unless one was looked at that computes the same function. Below the
-    /// weight 0 there is none. Behind it come the others.
+    /// Looks at the divisors of one function, unless it was looked at. Below the weight 0 there is
+    /// none. Behind it come the others.
     fn try_once(
         &mut self,
         alloc: Global,
         graph: &Proper,
         library: &LibraryFunctions<'_>,
-        divisor: &Instance,
-        others: &[Instance],
+        function: &Function,
+        others: &[Function],
         functions: &mut Functions,
     ) -> Result<(), NoMemory>
-        requires instance { IsInstance library.now divisor.now }
-        requires others { All (λ i. IsInstance library.now i) others.now }
+        requires within { All (λ s. s < code_width) function.now.signals.items }
+        requires others { All (λ f. All (λ s. s < code_width) f.signals.items) others.now }
         requires ready { IsReady graph.now library.now self.old }
         requires known { AreUpToDate graph.now library.now self.old.bar functions.old }
-        ensures tried { OnOk result
-            (HasTried graph.now library.now divisor.now self.old self.new) }
+        ensures tried { OnOk result ((i : InstanceValue) → IsFunction library.now i function.now
+            → HasTried graph.now library.now i self.old self.new) }
         ensures known { OnOk result
             (AreUpToDate graph.now library.now self.new.bar functions.new) }
     {
         if self.bar == 0 {
             return Ok(());
         }
-        let function = function_of(library.library(), divisor);
-        if functions.tried.contains(&function) {
+        if functions.tried.contains(function) {
             return Ok(());
         }
-        self.try_divisor(alloc, graph, library, divisor, others, functions)?;
-        functions.tried.insert(function)?;
+        self.try_function(alloc, graph, library, function, others, functions)?;
+        functions.tried.insert(copy_of(function))?;
         Ok(())
     }
 
-    /// Looks at one divisor. Behind it come the others.
-    fn try_divisor(
+    /// Looks at the divisors of one function. Behind it come the others.
+    fn try_function(
         &mut self,
         alloc: Global,
         graph: &Proper,
         library: &LibraryFunctions<'_>,
-        divisor: &Instance,
-        others: &[Instance],
+        function: &Function,
+        others: &[Function],
         functions: &mut Functions,
     ) -> Result<(), NoMemory>
-        requires instance { IsInstance library.now divisor.now }
-        requires others { All (λ i. IsInstance library.now i) others.now }
+        requires within { All (λ s. s < code_width) function.now.signals.items }
+        requires others { All (λ f. All (λ s. s < code_width) f.signals.items) others.now }
         requires ready { IsReady graph.now library.now self.old }
         requires sets { AreFunctionSets graph.now functions.old.next }
-        ensures tried { OnOk result
-            (HasTried graph.now library.now divisor.now self.old self.new) }
+        ensures tried { OnOk result ((i : InstanceValue) → IsFunction library.now i function.now
+            → HasTried graph.now library.now i self.old self.new) }
         ensures lower { OnOk result (self.new.bar ≤ self.old.bar) }
-        ensures spent { OnOk result (IsSpent graph.now library.now self.new.bar divisor.now) }
+        ensures spent { OnOk result ((i : InstanceValue) → IsFunction library.now i function.now
+            → IsSpent graph.now library.now self.new.bar i) }
         ensures sets { OnOk result (AreFunctionSets graph.now functions.new.next) }
         ensures same { functions.new.tried ≡ functions.old.tried }
     {
-        let found = functions.partition(alloc, graph, library.library(), divisor, others)?;
+        let found = functions.partition(alloc, graph, function, others)?;
         let Some(partition) = found else {
             return Ok(());
         };
@@ -222,49 +231,48 @@ impl Search {
         ensures { OnOk result
             (IsTried graph.now library.now partition self.old self.new) }
     {
-        if self.has_tried(&partition) {
+        let words = packed(alloc, partition.classes())?;
+        if self.has_tried(&partition, &words) {
             return Ok(());
         }
         let accepted = match accept_by_size(graph, partition) {
             Ok(accepted) => accepted,
-            Err(_refused) => return Ok(()),
+            Err(_refused) => return self.keep_tried(words),
         };
         let left = self.weight_left(alloc, graph, library, &accepted)?;
         let Some(weight) = left else {
-            self.keep_tried(accepted)?;
-            return Ok(());
+            return self.keep_tried(words);
         };
         self.bar = weight;
         self.best = Some(accepted);
         Ok(())
     }
 
-    /// Keeps the partition among those that were tried, as long as these have few classes.
-    fn keep_tried(&mut self, accepted: Accepted) -> Result<(), NoMemory>
-        ensures { OnOk result (MayHaveRecorded self.old accepted self.new) }
+    /// Keeps the partition with these words among those that were tried, as long as they are few.
+    fn keep_tried(&mut self, words: Vec<u64>) -> Result<(), NoMemory>
+        ensures { OnOk result (MayHaveRecorded self.old words self.new) }
     {
-        let classes = accepted.partition().classes().len();
-        if self.tried.len() < MAX_TRIED_CLASSES / (classes + 1) {
-            self.tried.push(accepted)?;
+        if self.tried.len() < MAX_TRIED_WORDS / (words.len() + 1) {
+            self.tried.insert(words)?;
         }
         Ok(())
     }
 
-    /// Whether the partition is the best so far, or among those that are kept as tried.
-    fn has_tried(&self, partition: &Partition) -> bool
-        ensures { IsTrue result → IsKnown self.now partition.now }
+    /// Whether the partition with these words is the best so far, or is kept as tried.
+    fn has_tried(&self, partition: &Partition, words: &Vec<u64>) -> bool
+        ensures { IsTrue result → IsKnown self.now partition.now words.now }
     {
         if let Some(best) = &self.best {
             if is_same(best.partition(), partition) {
                 return true;
             }
         }
-        let mut tried = self.tried.iter();
-        tried.any(|other| is_same(other.partition(), partition))
+        self.tried.contains(words)
     }
 
     /// The weight that the partition leaves, if it leaves no conflict and a weight below the bar.
-    /// The graph isn't made where the signals that never wait alone add as much.
+    /// The graph isn't made where the signals that never wait alone add as much, nor where they
+    /// and the kept triggers of those that wait do.
     fn weight_left(
         &mut self,
         alloc: Global,
@@ -280,9 +288,15 @@ impl Search {
             (λ o. IfNone o (LeavesNoneBelow graph.now library.now accepted.now self.old.bar)) }
         ensures same { self.new ≡ self.old }
     {
+        let coded = graph.coded();
         let classes = accepted.partition().classes();
-        let waiting = waiting_signals(graph.coded().graph(), classes);
-        if sum_without(self.least.as_slice(), waiting) >= self.bar {
+        let waiting = waiting_signals(coded.graph(), classes);
+        let least = self.least.as_slice();
+        if sum_without(least, waiting) >= self.bar {
+            return Ok(None);
+        }
+        let most = most_pins(library.library());
+        if sum_with(coded, classes, most, waiting, least) >= self.bar {
             return Ok(None);
         }
         let free = self.chains.trial_below(alloc, graph, classes, 1)?;
@@ -291,7 +305,7 @@ impl Search {
         }
         let inserted = apply(alloc, graph, accepted, &self.name)?;
         let distinct = Distinct::known(&inserted);
-        let known = known_fits(graph.coded().graph(), waiting, self.fitted);
+        let known = known_fits(coded.graph(), waiting, self.fitted);
         let weight = weight_below(alloc, distinct, library, &known, self.bar)?;
         Ok(weight)
     }

@@ -1,7 +1,8 @@
 -- What a search for the best divisor keeps.
-use Rattle.std.specs.Prelude.{◌≡◌, ℕ, ◌+◌, ◌<◌, ◌≤◌, ◌⊎◌, List, [], ◌∷◌, ◌++◌, All, Contains}
+use Rattle.std.specs.Prelude.{◌≡◌, ℕ, ◌+◌, ◌<◌, ◌≤◌, ◌⊎◌, List, Vec, true}
 use Rattle.std.specs.Prelude.{IsTrue, Option, Some, None, IfSome, is_some}
-use Rattle.std.specs.BTreeSet.{BTreeSet, contains}
+use Rattle.std.specs.Global.{Global}
+use Rattle.std.specs.BTreeSet.{BTreeSet, Updates, contains}
 use Rattle.si_base.specs.Bits.{bit}
 use Rattle.si_base.specs.Codes.{CodedGraph, IsCoded}
 use Rattle.si_base.specs.Graph.{IsNonInput}
@@ -21,6 +22,7 @@ use Rattle.si_match.specs.Fit.{first_fit}
 use Rattle.si_match.specs.Weight.{weight_of}
 use Rattle.si_map.specs.Best.{Choice, IsUnfit, IsDivisorAt, LeavesWeight}
 use Rattle.si_map.specs.Loops.Least.{AreLeast}
+use Rattle.si_map.specs.Loops.Packed.{ArePacked, words_cmp}
 use Rattle.si_map.specs.Loops.Search.{IsBestSoFar, bar}
 use Rattle.si_map.specs.declared.functions.Functions.{Functions}
 use Rattle.si_map.specs.declared.search.Search.{Search}
@@ -66,6 +68,12 @@ abbrev pub AreFitted : CodedGraph → Library → ℕ → Type 0
 AreFitted c library fitted = (z : ℕ) → IsNonInput c.graph.signals z
     → bit fitted z ≡ is_some (first_fit c library z)
 
+-- no accepted partition whose words are among these leaves a weight below the bar
+abbrev pub ArePassed : CodedGraph → Library → ℕ → BTreeSet (Vec ℕ Global) → Type 0
+ArePassed c library bar tried = (classes : List Class) (words : Vec ℕ Global)
+    → ArePacked classes words.items → IsTrue (contains words_cmp tried words)
+    → IsAccepted c.graph classes → LeavesNoneBelow c library classes bar
+
 -- what a search has for all divisors: c is a proper graph, the chains are those of its codes, no
 -- signal has the name, the signals that fit are known, and what others add at least, and what was
 -- tried leaves none below the bar
@@ -77,7 +85,7 @@ pub record IsReady (c : CodedGraph) (library : Library) (search : Search) : Type
   pub fitted : AreFitted c library search.fitted
   pub least : AreLeast c library search.least.items
   pub best_known : IfSome search.best (λ p. LeavesNoneBelow c library p search.bar)
-  pub tried_known : All (λ p. LeavesNoneBelow c library p search.bar) search.tried.items
+  pub tried_known : ArePassed c library search.bar search.tried
 
 -- the partition of the best so far
 abbrev pub classes_of : Option Choice → Option (List Class)
@@ -99,19 +107,20 @@ HasTried c library divisor s t =
     (z k : ℕ) → IsUnfit c library z → IsDivisorAt c library z k divisor
     → IsSearching c library z k s → IsSearching c library z (k + 1) t
 
--- the partition is the best so far, or is among those that were tried
-abbrev pub IsKnown : Search → List Class → Type 0
-IsKnown search classes = (search.best ≡ Some classes) ⊎ Contains search.tried.items classes
+-- the partition is the best so far, or its words are among those that were tried
+abbrev pub IsKnown : Search → List Class → Vec ℕ Global → Type 0
+IsKnown search classes words =
+    (search.best ≡ Some classes) ⊎ IsTrue (contains words_cmp search.tried words)
 
--- the search differs in nothing but that the partition may stand last of those that were tried
-pub record MayHaveRecorded (s : Search) (classes : List Class) (t : Search) : Type 0 where
+-- the search differs in nothing but that the words may be among those that were tried
+pub record MayHaveRecorded (s : Search) (words : Vec ℕ Global) (t : Search) : Type 0 where
   pub bar : t.bar ≡ s.bar
   pub best : t.best ≡ s.best
   pub chains : t.chains ≡ s.chains
   pub name : t.name ≡ s.name
   pub fitted : t.fitted ≡ s.fitted
   pub least : t.least ≡ s.least
-  pub tried : (t.tried.items ≡ s.tried.items) ⊎ (t.tried.items ≡ s.tried.items ++ classes ∷ [])
+  pub tried : (t.tried ≡ s.tried) ⊎ Updates words_cmp s.tried t.tried words true
 
 -- ---- what becomes of a search with a partition
 

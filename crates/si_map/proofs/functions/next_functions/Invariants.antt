@@ -1,5 +1,5 @@
-use Rattle.si_map.proofs.NextFunctions.{AreNext}
+use Rattle.si_map.proofs.DivisorFunctions.{AreNext}
 use Rattle.si_map.proofs.functions.next_functions.Given as goal
 
-abbrev pub invariant-loop-k : goal.invariant-loop-k
-invariant-loop-k l = AreNext l.library l.divisor l.next.items
+abbrev pub invariant-loop-other : goal.invariant-loop-other
+invariant-loop-other l = AreNext l.function l.next.items
