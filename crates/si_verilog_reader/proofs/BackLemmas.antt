@@ -1,23 +1,15 @@
 -- The module of a netlist is read back.
-use Rattle.std.proofs.Common.{◌≡◌, ℕ, ◌+◌, ◌-◌, ◌≤◌, not, true, false, List, [], ◌∷◌, ◌++◌, length, map, flat_map}
-use Rattle.std.proofs.Common.{nat_le, Option, Some, None, Result, Ok, refl, sym, ap, subst, ◌∙◌, append_assoc, codes}
-use Rattle.std.proofs.Common.{arith, if◌then◌else◌}
-use Rattle.std.specs.List.{AllByRecursion, join_by, list_all}
-use Rattle.std.specs.Prelude.{IsTrue}
-use Rattle.std.proofs.lemmas.Bool.{lt-leb}
-use Rattle.std.proofs.lemmas.List.{append-nil, length-append, length-map}
-use Rattle.std.proofs.lemmas.List.Elements.{recursion_from_All}
+use Rattle.std.proofs.Common.{◌≡◌, ℕ, ◌-◌, true, List, [], ◌∷◌, ◌++◌, map, flat_map}
+use Rattle.std.proofs.Common.{Option, Some, None, Result, Ok, refl, sym, ap, subst, ◌∙◌, append_assoc, codes}
+use Rattle.std.proofs.Common.{if◌then◌else◌}
+use Rattle.std.specs.List.{join_by, list_all}
 use Rattle.si_base.specs.declared.fault.TextKind.{TextKind}
-use Rattle.si_base.specs.declared.fault.TextKind.TheVariants.{BadName, Repeated, TooManySignals, Undeclared}
-use Rattle.si_base.specs.declared.graph.Signal.{Signal}
-use Rattle.si_base.specs.declared.graph.SigKind.TheVariants.{Input, Output}
-use Rattle.si_base.specs.Faults.{when, ◌otherwise◌, first_after, first_in}
+use Rattle.si_base.specs.declared.fault.TextKind.TheVariants.{Undeclared}
+use Rattle.si_base.specs.Faults.{◌otherwise◌, first_in}
 use Rattle.si_base.specs.Graph.{names_in, IsNonInput}
 use Rattle.si_base.specs.Limits.{max_signals}
 use Rattle.si_base.specs.Netlist.{Netlist, gate_place}
-use Rattle.si_base.specs.NetlistText.{names_of}
 use Rattle.si_base.specs.WellFormed.{IsNetlist}
-use Rattle.si_base.specs.Words.{is_signal_name}
 use Rattle.si_words.specs.Ends.{after_last}
 use Rattle.si_words.specs.Names.{stands_in, name_fault}
 use Rattle.si_tokens.specs.declared.fault.Stop.{Stop}
@@ -27,9 +19,8 @@ use Rattle.si_equations.specs.Equations.{unless, expression_value}
 use Rattle.si_equations.specs.Meaning.{IsGateOf, AreOfNetlist}
 use Rattle.si_equations.proofs.EquationLemmas.{longer}
 use Rattle.si_equations.proofs.MeaningLemmas.{AreNamed}
-use Rattle.si_equations.proofs.NetlistLemmas.{netlist_named, inner, names_in_order, driven_in, driven_in_order}
-use Rattle.si_equations.proofs.NewLemmas.{AreNew, netlist_new, new_parts, new_without, new_apart, AreGood, inner_are}
-use Rattle.si_equations.proofs.NewLemmas.{outputs_stand, NoFaults, no_faults}
+use Rattle.si_equations.proofs.NetlistLemmas.{netlist_named}
+use Rattle.si_equations.proofs.NewLemmas.{outputs_stand, NoFaults}
 use Rattle.si_verilog.specs.Symbols.{Symbol, Name, Word, Mark, symbols_of}
 use Rattle.si_verilog.specs.Grammar.{Module, port_symbols, wire_symbols, module_symbols}
 use Rattle.si_verilog.specs.Meaning.{IsModule, IsOfNetlist}

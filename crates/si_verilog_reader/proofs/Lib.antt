@@ -1,6 +1,8 @@
 mod LexExamples
 mod ReadExamples
 mod CommentExamples
+mod KeywordLemmas
+mod PieceLemmas
 pub mod PlacedLemmas
 pub mod CommentLemmas
 pub mod PartLemmas

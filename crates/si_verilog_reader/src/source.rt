@@ -8,6 +8,7 @@ ghost use Rattle.si_base.specs.Bytes.{backslash, line_feed, closing_parenthesis}
 ghost use Rattle.si_base.specs.Words as words;
 ghost use Rattle.si_verilog.specs.Symbols as symbols;
 ghost use Rattle.si_verilog_reader.specs.Loops.Held.{placed_now, symbol_now};
+ghost use Rattle.si_verilog_reader.specs.Loops.Pieces.{piece_now, placed_piece_now};
 ghost use Rattle.si_verilog_reader.specs.Modules.{begins_module as at_module, modules, size};
 ghost use Rattle.si_verilog_reader.specs.Parts as parts;
 ghost use Rattle.si_verilog_reader.specs.Placed.{on_line, placed_from, placed_symbols};
@@ -31,6 +32,24 @@ pub(crate) enum Symbol<'a> {
 pub(crate) struct Placed<'a> {
     pub(crate) line: u64,
     pub(crate) symbol: Symbol<'a>,
+}
+
+/// A symbol as its bytes show it: whether a bare word is a name isn't asked yet.
+#[derive(Clone, Copy)]
+enum Piece<'a> {
+    /// A bare word.
+    Bare(&'a [u8]),
+    /// An escaped name, without its backslash.
+    Escaped(&'a [u8]),
+    /// A mark.
+    Mark(u8),
+}
+
+/// A piece, and the line on which it stands.
+#[derive(Clone, Copy)]
+struct PlacedPiece<'a> {
+    line: u64,
+    piece: Piece<'a>,
 }
 
 /// Whether the byte is a blank: space, tab, line feed, carriage return, or form feed (12).
@@ -121,61 +140,72 @@ fn bare_symbol<'a>(word: &'a [u8]) -> Symbol<'a>
     }
 }
 
-/// A symbol, and the bytes behind it.
+/// The symbol that the piece is.
+fn symbol_of<'a>(piece: Piece<'a>) -> Symbol<'a>
+    ensures { symbol_now result ≡ piece_now piece.entry }
+{
+    match piece {
+        Piece::Bare(word) => bare_symbol(word),
+        Piece::Escaped(name) => Symbol::Name(name),
+        Piece::Mark(mark) => Symbol::Mark(mark),
+    }
+}
+
+/// A piece, and the bytes behind it.
 #[derive(Clone, Copy)]
 struct Taken<'a> {
-    symbol: Symbol<'a>,
+    piece: Piece<'a>,
     rest: &'a [u8],
 }
 
 /// The bare word that stands first.
 fn bare_here<'a>(here: &'a [u8]) -> Taken<'a>
     ensures shorter { length result.rest.now ≤ length here.now }
-    ensures symbol { symbol_now result.symbol
+    ensures piece { piece_now result.piece
         ≡ symbols.bare_symbol (take (prefix_len symbols.is_bare_byte here.now) here.now) }
     ensures rest { result.rest.now ≡ drop (prefix_len symbols.is_bare_byte here.now) here.now }
 {
     let (word, rest) = here.split_at(bare_len(here));
     Taken {
-        symbol: bare_symbol(word),
+        piece: Piece::Bare(word),
         rest,
     }
 }
 
-/// The symbol that a backslash and these bytes are, where a blank stands behind them or none does.
-fn escaped_symbol<'a>(name: &'a [u8], is_closed: bool) -> Symbol<'a>
-    ensures { symbol_now result
+/// The piece that a backslash and these bytes are, where a blank stands behind them or none does.
+fn escaped_piece<'a>(name: &'a [u8], is_closed: bool) -> Piece<'a>
+    ensures { piece_now result
         ≡ (if is_closed then symbols.escaped_symbol name.now else symbols.Mark backslash) }
 {
     if !is_closed {
-        return Symbol::Mark(b'\\');
+        return Piece::Mark(b'\\');
     }
     match name {
-        [] => Symbol::Mark(b'\\'),
-        [_, ..] => Symbol::Name(name),
+        [] => Piece::Mark(b'\\'),
+        [_, ..] => Piece::Escaped(name),
     }
 }
 
-/// The symbol behind a backslash.
+/// The piece behind a backslash.
 fn escaped_here<'a>(behind: &'a [u8]) -> Taken<'a>
     ensures shorter { length result.rest.now ≤ length behind.now }
-    ensures symbol { (n : ℕ) → placed_from n (symbols.Escaped []) behind.now
-        ≡ on_line n (symbol_now result.symbol) ∷ placed_from n symbols.Between result.rest.now }
+    ensures piece { (n : ℕ) → placed_from n (symbols.Escaped []) behind.now
+        ≡ on_line n (piece_now result.piece) ∷ placed_from n symbols.Between result.rest.now }
 {
     let (name, rest) = behind.split_at(dark_len(behind));
     Taken {
-        symbol: escaped_symbol(name, !rest.is_empty()),
+        piece: escaped_piece(name, !rest.is_empty()),
         rest,
     }
 }
 
-/// The first symbol, where no blank stands first.
-fn symbol_here<'a>(first: u8, behind: &'a [u8], here: &'a [u8]) -> Taken<'a>
+/// The first piece, where no blank stands first.
+fn piece_here<'a>(first: u8, behind: &'a [u8], here: &'a [u8]) -> Taken<'a>
     requires here { here.now ≡ first ∷ behind.now }
     requires dark { symbols.is_blank first ≡ false }
     ensures shorter { length result.rest.now ≤ length here.now }
-    ensures symbol { (n : ℕ) → placed_from n symbols.Between here.now
-        ≡ on_line n (symbol_now result.symbol) ∷ placed_from n symbols.Between result.rest.now }
+    ensures piece { (n : ℕ) → placed_from n symbols.Between here.now
+        ≡ on_line n (piece_now result.piece) ∷ placed_from n symbols.Between result.rest.now }
 {
     if is_bare_byte(first) {
         bare_here(here)
@@ -183,32 +213,32 @@ fn symbol_here<'a>(first: u8, behind: &'a [u8], here: &'a [u8]) -> Taken<'a>
         escaped_here(behind)
     } else {
         Taken {
-            symbol: Symbol::Mark(first),
+            piece: Piece::Mark(first),
             rest: behind,
         }
     }
 }
 
-/// Whether the symbol is `)`.
-fn is_closing(symbol: Symbol<'_>) -> bool
+/// Whether the piece is `)`.
+fn is_closing(piece: Piece<'_>) -> bool
     ensures { result
-        ≡ parts.same_symbol (symbols.Mark closing_parenthesis) (symbol_now symbol.entry) }
+        ≡ parts.same_symbol (symbols.Mark closing_parenthesis) (piece_now piece.entry) }
 {
-    match symbol {
-        Symbol::Mark(mark) => mark == b')',
-        Symbol::Name(_) => false,
-        Symbol::Word(_) => false,
+    match piece {
+        Piece::Mark(mark) => mark == b')',
+        Piece::Bare(_) => false,
+        Piece::Escaped(_) => false,
     }
 }
 
-/// Whether a module begins with the symbol.
-fn begins_module(placed: Placed<'_>) -> bool
-    ensures { result ≡ at_module (placed_now placed.entry) }
+/// Whether a module begins with the piece: no other bare word is the keyword `module`.
+fn begins_module(placed: PlacedPiece<'_>) -> bool
+    ensures { result ≡ at_module (placed_piece_now placed.entry) }
 {
-    match placed.symbol {
-        Symbol::Word(word) => b"module".as_slice() == word,
-        Symbol::Name(_) => false,
-        Symbol::Mark(_) => false,
+    match placed.piece {
+        Piece::Bare(word) => b"module".as_slice() == word,
+        Piece::Escaped(_) => false,
+        Piece::Mark(_) => false,
     }
 }
 
@@ -255,10 +285,10 @@ impl<'a> Source<'a> {
         }
     }
 
-    /// Takes the next symbol; `None` exactly where none is left.
-    pub(crate) fn next(&mut self) -> Option<Placed<'a>>
+    /// Takes the next piece; `None` exactly where none is left.
+    fn next_piece(&mut self) -> Option<PlacedPiece<'a>>
         ensures { MatchOption result ((self.old ≡ []) × (self.new ≡ []))
-            (λ p. self.old ≡ placed_now p ∷ self.new) }
+            (λ p. self.old ≡ placed_piece_now p ∷ self.new) }
     {
         let (blanks, here) = self.here.split_at(blank_len(self.here));
         let line = self.line + line_feeds(blanks) as u64;
@@ -267,11 +297,23 @@ impl<'a> Source<'a> {
             self.here = here;
             return None;
         };
-        let taken = symbol_here(*first, behind, here);
+        let taken = piece_here(*first, behind, here);
         self.here = taken.rest;
-        Some(Placed {
+        Some(PlacedPiece {
             line,
-            symbol: taken.symbol,
+            piece: taken.piece,
+        })
+    }
+
+    /// Takes the next symbol; `None` exactly where none is left.
+    pub(crate) fn next(&mut self) -> Option<Placed<'a>>
+        ensures { MatchOption result ((self.old ≡ []) × (self.new ≡ []))
+            (λ p. self.old ≡ placed_now p ∷ self.new) }
+    {
+        let placed = self.next_piece()?;
+        Some(Placed {
+            line: placed.line,
+            symbol: symbol_of(placed.piece),
         })
     }
 
@@ -281,10 +323,10 @@ impl<'a> Source<'a> {
             ((parts.closed self.old ≡ None) × (self.new ≡ self.old)) }
     {
         let mut ahead = self.copy();
-        let Some(placed) = ahead.next() else {
+        let Some(placed) = ahead.next_piece() else {
             return false;
         };
-        if !is_closing(placed.symbol) {
+        if !is_closing(placed.piece) {
             return false;
         }
         *self = ahead;
@@ -297,7 +339,7 @@ impl<'a> Source<'a> {
     {
         let mut ahead = self.copy();
         let mut size = 0;
-        while let Some(placed) = ahead.next() {
+        while let Some(placed) = ahead.next_piece() {
             if begins_module(placed) {
                 return size;
             }
@@ -312,7 +354,7 @@ impl<'a> Source<'a> {
     {
         let mut ahead = self.copy();
         let mut modules = 0;
-        while let Some(placed) = ahead.next() {
+        while let Some(placed) = ahead.next_piece() {
             if begins_module(placed) {
                 modules += 1;
             }

@@ -1,6 +1,7 @@
-use Rattle.si_verilog.specs.Keywords.{is_keyword, keywords}
+use Rattle.std.proofs.Common.{refl}
+use Rattle.si_verilog.specs.Keywords.{keywords}
 use Rattle.si_verilog_reader.proofs.keywords.is_keyword.Goals as goal
 
-pub returns : goal.returns
-unfolding is_keyword keywords
-returns c = c.has_word.ensures
+pub is_among-requires : goal.is_among-requires
+unfolding keywords
+is_among-requires c = refl
