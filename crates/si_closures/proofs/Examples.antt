@@ -15,7 +15,7 @@ next_column = refl
 second_event : IsEventAt (rise 0 ∷ fall 3 ∷ []) 1 (fall 3)
 second_event = record { inside = omega arith; same = refl }
 
--- the bit of value 2 stands in column 1, and in a turned matrix in row 1
+-- the bit of value 2 stands in column 1, and in the row of that number where the matrix is turned
 in_the_first_row : cell (2 ∷ 0 ∷ []) 0 1 ≡ true
 in_the_first_row = refl
 
