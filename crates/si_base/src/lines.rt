@@ -146,6 +146,16 @@ impl<'a> Words<'a> {
         }
     }
 
+    /// All words of bytes that have no comment.
+    pub fn of_bytes(bytes: &'a [u8], braces: bool) -> Words<'a>
+        ensures { result ≡ words_in braces bytes.now }
+    {
+        Words {
+            rest: bytes,
+            braces,
+        }
+    }
+
     /// All words of the line, or `None` where it has a bad byte. It is one look at `has_bad_byte`
     /// and the comment.
     pub fn of_clean(line: &'a [u8], braces: bool) -> Option<Words<'a>>

@@ -110,6 +110,14 @@ impl Names {
         self.set.as_slice()[k as usize].as_slice()
     }
 
+    /// Whether the name stands at place `k`.
+    pub fn is_at(&self, k: u32, name: &[u8]) -> bool
+        ensures at { IsTrue result ↔ (slice_get self.now k ≡ Some name.now) }
+        ensures distinct { AllPairs (λ x y. x ≢ y) self.now }
+    {
+        k < self.len() && self.get(k) == name
+    }
+
     /// The place of a name, or `None` where it isn't there. It is the only place of the name.
     pub fn place(&self, name: &[u8]) -> Option<u32>
         ensures found { IfSome result (λ k. slice_get self.now k ≡ Some name.now) }

@@ -4,7 +4,8 @@ ghost use Rattle.std.specs.Prelude.{◌≡◌, ℕ, ◌<◌, ◌≤◌, ◌*◌,
 ghost use Rattle.std.specs.Prelude.{false, IfOk, IsTrue, replicate, count_by, slice_index};
 ghost use Rattle.std.specs.Prelude.{slice_index_or, slice_set, MatchOption, bit_or};
 ghost use Rattle.si_base.specs.Sets.{IsSubset, IsUnion, IsDisjoint, IsFirstFrom, HasNoneFrom};
-ghost use Rattle.si_base.specs.Sets.{AreWithin, AreApart, HasNoFlagFrom, IsFirstFlag, flags_of};
+ghost use Rattle.si_base.specs.Sets.{AreFlags, AreWithin, AreApart, HasNoFlagFrom, IsFirstFlag};
+ghost use Rattle.si_base.specs.Sets.{flags_of};
 
 use crate::ids::{NoMemory, StateId};
 use std::alloc::Global;
@@ -37,6 +38,23 @@ impl StateSet {
     {
         let words = vec![in alloc; 0; (states as usize + 63) / 64]?;
         Ok(StateSet { states, words })
+    }
+
+    /// The set of the states whose flags are set: a word has the flags of 64 states, from its
+    /// lowest bit up.
+    pub fn from_words(states: u32, words: Vec<u64>) -> StateSet
+        requires { AreFlags states words.items }
+        ensures { result ≡ flags_of states words.items }
+    {
+        StateSet { states, words }
+    }
+
+    /// The flags of the states, in words of 64 each.
+    pub fn words(&self) -> &[u64]
+        ensures flags { AreFlags (length self.now) result.now }
+        ensures told { self.now ≡ flags_of (length self.now) result.now }
+    {
+        self.words.as_slice()
     }
 
     /// The size: each state of the set is below it.

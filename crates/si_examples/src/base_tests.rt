@@ -7,12 +7,12 @@ use si_base::text_key::TextKey;
 use std::hash::{BuildHasher, Hasher};
 use std::test::Fail;
 
-/// What SHA-256 and SipHash-1-3 with the key 0 make of `abc`, one after the other.
+/// What SHA-512 and SipHash-1-3 with the key 0 make of `abc`, one after the other.
 #[test]
 fn key_of_a_text(rt: HostRuntime) {
     assert_eq!(rt;
         TextKey::of(b"abc").build_hasher().finish(),
-        0x88cf_1543_5af1_244c
+        0x8c2e_ff76_18ad_c3f0
     );
 }
 
