@@ -1,6 +1,7 @@
--- Worked examples: sets as columns of words, the event at a place, and cells of matrices.
-use Rattle.std.proofs.Common.{◌≡◌, true, false, [], ◌∷◌, refl, arith}
+-- Worked examples: sets as columns of words and as rows of flags, the event at a place, and cells of matrices.
+use Rattle.std.proofs.Common.{◌≡◌, true, false, [], ◌∷◌, ◌++◌, replicate, refl, arith}
 use Rattle.si_base.specs.Graph.{rise, fall}
+use Rattle.si_closures.specs.Loops.Rows.{flag_in}
 use Rattle.si_closures.specs.Loops.Turned.{cell}
 use Rattle.si_closures.specs.Loops.WordSearch.{column}
 use Rattle.si_closures.specs.Loops.Words.{IsEventAt}
@@ -21,3 +22,11 @@ in_the_first_row = refl
 
 in_the_first_column : cell (0 ∷ 1 ∷ []) 1 0 ≡ true
 in_the_first_column = refl
+
+-- the second row of a block has the flags of the set 1: the bit of value 4 is that of the state 2
+in_the_second_row : flag_in (0 ∷ 4 ∷ []) 1 2 ≡ true
+in_the_second_row = refl
+
+-- the states from 128 on have a block of their own
+in_the_second_block : flag_in (replicate 128 0 ++ 0 ∷ 4 ∷ []) 1 130 ≡ true
+in_the_second_block = refl

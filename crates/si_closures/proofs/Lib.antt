@@ -4,5 +4,5 @@ pub mod SignalKinds
 pub mod WordSearchLemmas
 pub mod WordLemmas
 pub mod TurnedLemmas
-pub mod ColumnLemmas
+pub mod RowLemmas
 mod Examples

@@ -9,7 +9,7 @@ use Rattle.std.proofs.lemmas.Nat.Bits.{bit_at_cat_low, bit_at_cat_high}
 use Rattle.std.specs.Int.{bit_at}
 use Rattle.std.specs.List.{range_with_len}
 use Rattle.si_base.specs.Bits.{bit}
-use Rattle.si_base.proofs.BitFacts.{bit-or, bit-and}
+use Rattle.si_base.proofs.BitFacts.{bit-or, bit-and, bit-zero}
 use Rattle.si_closures.specs.Loops.Turned.{row, cell, AreBlocksTurned, HasHalves, AreExchanged, ArePairExchanged}
 use Rattle.si_closures.proofs.WordBits.{not_is, bit_few}
 
@@ -28,6 +28,12 @@ shifted_up x k j below =
     let back : j + k - k ≡ j = omega arith in
     ap (λ b. b == 1) (low_bit_kept (x * 2 ^ k) 128 (j + k) below ∙ whole_shift x k (j + k) (omega arith)
     ∙ ap (λ i. bit_at x i) back)
+
+pub shifted_below : (x k j : ℕ) → j < k → k < 128 → bit (x * 2 ^ k % 2 ^ 128) j ≡ false
+shifted_below x k j below fits =
+    let none : x * 2 ^ k + 0 ≡ x * 2 ^ k = omega arith in
+    ap (λ b. b == 1) (low_bit_kept (x * 2 ^ k) 128 j (omega (arith, below, fits)) ∙ ap (λ m. bit_at m j) (sym none)
+    ∙ bit_at_cat_low x k 0 j below) ∙ bit-zero j
 
 pub shifted_down : (x k j : ℕ) → bit (x / 2 ^ k) j ≡ bit x (j + k)
 shifted_down x k j =
@@ -191,7 +197,7 @@ even_or_odd n = elim (cases_eq (n % 2) 0) [
   | inr odd ↦ inr (omega (arith, odd))
 ]
 
-same_cell : (rows : List ℕ) {i j k l : ℕ} → i ≡ k → j ≡ l → cell rows i j ≡ cell rows k l
+pub same_cell : (rows : List ℕ) {i j k l : ℕ} → i ≡ k → j ≡ l → cell rows i j ≡ cell rows k l
 same_cell rows i_same j_same = ap₂ (λ x y. cell rows x y) i_same j_same
 
 module _ (n width low : ℕ) (old mid new : List ℕ) (before : AreBlocksTurned n (2 * width) old mid)

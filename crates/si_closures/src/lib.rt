@@ -2,6 +2,7 @@
 #![tactic(auto)]
 
 pub mod columns;
+pub mod set_rows;
 pub mod turned;
 pub mod word_search;
 pub mod word_work;

@@ -1,6 +1,5 @@
 -- Words for states or events, bit k of which is that of the set k.
-use Rattle.std.specs.Prelude.{◌≡◌, ℕ, ◌<◌, Bool, true, false, List, length, slice_index_or}
-use Rattle.std.specs.Prelude.{slice_set}
+use Rattle.std.specs.Prelude.{◌≡◌, ℕ, ◌<◌, List, length, slice_index_or}
 use Rattle.si_base.specs.declared.ids.Event.{Event}
 use Rattle.si_closures.specs.Loops.WordSearch.{HasBit}
 
@@ -13,8 +12,3 @@ pub record HasAll (states : ℕ) (words : List ℕ) : Type 0 where
 pub record IsEventAt (events : List Event) (k : ℕ) (e : Event) : Type 0 where
   pub inside : k < length events
   pub same : slice_index_or events k e ≡ e
-
--- the set, which has the state s too where b is true
-abbrev pub with_state : Bool → ℕ → List Bool → List Bool
-with_state true s set = slice_set set s true
-with_state false s set = set

@@ -1,5 +1,9 @@
-use Rattle.si_closures.proofs.ColumnLemmas.{AreAllTold}
+use Rattle.std.proofs.Common.{◌≡◌, ◌<◌, ℕ, [], length, slice_index_or}
+use Rattle.si_closures.specs.Loops.WordSearch.{column}
 use Rattle.si_closures.proofs.columns.sets_of_words.Given as goal
 
-abbrev pub invariant-loop-s : goal.invariant-loop-s
-invariant-loop-s l = AreAllTold l.words l.count l.s l.sets.items
+abbrev pub invariant-loop-k : goal.invariant-loop-k
+invariant-loop-k l = record {
+  count : length l.sets.items ≡ l.k;
+  each : (k : ℕ) → k < l.k → slice_index_or l.sets.items k [] ≡ column k l.words;
+}
