@@ -99,12 +99,12 @@ same_edges arcs (a ∷ more) = λ e.
     let rest = same_edges (with_arc arcs a) more e in
     (λ one. rest.0 (first.1 one), λ one. first.0 (rest.1 one))
 
-pub made : (none first edges : List Edge) (shown counted more listed all : List Arc) → none ≡ []
-    → first ≡ none ++ map edge_of shown → shown ≡ counted → edges ≡ first ++ map edge_of more → more ≡ listed
+pub made : (none first edges : List Edge) (counted more listed all : List Arc) → none ≡ []
+    → first ≡ none ++ map edge_of counted → edges ≡ first ++ map edge_of more → more ≡ listed
     → fold with_arc counted listed ≡ all → HaveSameArcs edges (map edge_of all)
-made none first edges shown counted more listed all empty first_is shown_is edges_are more_is all_are =
+made none first edges counted more listed all empty first_is edges_are more_is all_are =
     let both : first ≡ map edge_of counted = first_is
-    ∙ ap₂ (λ (es : List Edge) (arcs : List Arc). es ++ map edge_of arcs) empty shown_is in
+    ∙ ap (λ (es : List Edge). es ++ map edge_of counted) empty in
     let are : edges ≡ map edge_of counted ++ map edge_of listed = edges_are
     ∙ ap₂ (λ (es : List Edge) (arcs : List Arc). es ++ map edge_of arcs) both more_is in
     subst (λ (es : List Edge). HaveSameArcs es (map edge_of all)) (sym are)

@@ -1,29 +1,31 @@
 //! Where names of states are looked for before the table of names is asked.
 
-ghost use Rattle.std.specs.Prelude.{◌≡◌, ◌≢◌, AllPairs, IfSome, Some, slice_get, true};
+ghost use Rattle.std.specs.Prelude.{◌≡◌, ◌≢◌, AllPairs, IfSome, Some, slice_get};
 
 use si_base::ids::NoMemory;
 use si_base::names::Names;
 use std::alloc::Global;
 
-/// How many hints there are: twice as many as a usual large graph has states.
-const HINTS: usize = 131_072;
+/// The most hints that there are.
+const MOST_HINTS: usize = 262_144;
 
 /// For each slot the place of the last name that was noted there. Each name has one slot.
 ///
 /// A hint is only believed where the name stands at its place. So a text whose names are chosen to
-/// share their slots is read no worse than without hints: they are looked up in the table, which is
-/// keyed. Other names are mostly found here, for less than a keyed search costs.
+/// share their slots is read no worse than without hints: they are looked up among the names.
+/// Others are mostly found here, for less than that costs.
 #[derive(Drop)]
 pub(crate) struct Hints {
     places: Vec<u32>,
 }
 
 impl Hints {
-    /// Hints of which none is right yet. It fails only where memory runs out.
-    pub(crate) fn new(alloc: Global) -> Result<Hints, NoMemory> {
+    /// Hints for the names of a text of so many bytes, of which none is right yet. It fails only
+    /// where memory runs out.
+    pub(crate) fn new(alloc: Global, bytes: usize) -> Result<Hints, NoMemory> {
+        let count = (bytes / 64).clamp(16, MOST_HINTS).next_power_of_two();
         Ok(Hints {
-            places: vec![in alloc; 0; HINTS]?,
+            places: vec![in alloc; 0; count]?,
         })
     }
 
@@ -32,8 +34,8 @@ impl Hints {
         ensures placed { IfSome result (λ k. slice_get names.now k ≡ Some name.now) }
         ensures distinct { AllPairs (λ x y. x ≢ y) names.now }
     {
-        let place = self.places.get(slot(name)).copied().unwrap_or(0);
-        if is_at(names, place, name) {
+        let place = self.places.get(self.slot(name)).copied().unwrap_or(0);
+        if names.is_at(place, name) {
             Some(place)
         } else {
             None
@@ -42,25 +44,19 @@ impl Hints {
 
     /// Notes the place of a name.
     pub(crate) fn note(&mut self, name: &[u8], place: u32) {
-        if let Some(hint) = self.places.get_mut(slot(name)) {
+        let slot = self.slot(name);
+        if let Some(hint) = self.places.get_mut(slot) {
             *hint = place;
         }
     }
-}
 
-/// The slot of a name: its bytes as digits to the base 31, so that numbered names have slots apart.
-fn slot(name: &[u8]) -> usize {
-    let mut mixed: u32 = 0;
-    for byte in name {
-        mixed = mixed.wrapping_mul(31).wrapping_add(u32::from(*byte));
+    /// The slot of a name: its bytes as digits to the base 31, so that numbered names have slots
+    /// apart.
+    fn slot(&self, name: &[u8]) -> usize {
+        let mut mixed: usize = 0;
+        for byte in name {
+            mixed = mixed.wrapping_mul(31).wrapping_add(*byte as usize);
+        }
+        mixed & self.places.len().saturating_sub(1)
     }
-    mixed as usize % HINTS
-}
-
-/// Whether the name stands at the place.
-pub(crate) fn is_at(names: &Names, place: u32, name: &[u8]) -> bool
-    ensures placed { result ≡ true → slice_get names.now place ≡ Some name.now }
-    ensures distinct { AllPairs (λ x y. x ≢ y) names.now }
-{
-    place < names.len() && names.get(place) == name
 }

@@ -1,6 +1,6 @@
 -- What readers answer, as the definitions see it.
 use Rattle.std.specs.Prelude.{◌≡◌, ℕ, ◌<◌, ◌≤◌, false, List, [], ◌∷◌, length, bytes_eq, position}
-use Rattle.std.specs.Prelude.{Option, Some, None, Result, Ok, Err}
+use Rattle.std.specs.Prelude.{Option, Some, None, Result, Ok, Err, All, true}
 use Rattle.std.specs.List.{AllByRecursion}
 use Rattle.std.specs.Borrow.{Bor}
 use Rattle.si_base.specs.Limits.{max_signals, max_states_read, max_arcs_read}
@@ -16,6 +16,7 @@ use Rattle.si_sg.specs.declared.section.SectionSoFar.{SectionSoFar}
 use Rattle.si_sg.specs.declared.section.Mark.{Mark}
 use Rattle.si_sg.specs.Header.{Header, no_header, declared}
 use Rattle.si_sg.specs.Section.{Section}
+use Rattle.si_sg.specs.StateWords.{is_state_word}
 use Rattle.si_sg.specs.GraphText.{header_lines_fault, section_lines_fault, header_says}
 use Rattle.si_sg.specs.GraphText.{after_header}
 use Rattle.si_sg.specs.Section.{no_section}
@@ -56,6 +57,11 @@ pub record AreSignals (names : List (List ℕ)) : Type 0 where
 -- the name stands at this place first
 abbrev pub StandsAt : List (List ℕ) → List ℕ → ℕ → Type 0
 StandsAt names name k = position (λ n. bytes_eq name n) names ≡ Some k
+
+-- the words of states, no more than may be read
+pub record AreStates (states : List (List ℕ)) : Type 0 where
+  pub few : length states ≤ max_states_read
+  pub words : All (λ word. is_state_word word ≡ true) states
 
 -- ---- faults
 

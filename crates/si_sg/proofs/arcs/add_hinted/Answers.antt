@@ -1,10 +1,10 @@
-use Rattle.std.proofs.Common.{rules}
-use Rattle.si_sg.proofs.NameLemmas.{state_none, stands_at, there_already}
-use Rattle.si_sg.proofs.arcs.add_target.Goals as goal
+use Rattle.si_sg.proofs.NameLemmas.{state_none, stands_at, there_already, word_there}
+use Rattle.si_sg.proofs.arcs.add_hinted.Goals as goal
 
 pub returns-in-Some-clause-fault : goal.returns-in-Some-clause-fault
-returns-in-Some-clause-fault c = state_none c.args.states.now c.args.states.now c.args.word.now (search rules)
-    (there_already c.args.states.now c.args.word.now c.in-Some.place c.in-Some.ensures.placed) c.requires
+returns-in-Some-clause-fault c = state_none c.args.states.now c.args.states.now c.args.word.now
+    (word_there c.args.states.now c.args.word.now c.in-Some.place c.requires c.in-Some.ensures.placed)
+    (there_already c.args.states.now c.args.word.now c.in-Some.place c.in-Some.ensures.placed) c.requires.few
 
 pub returns-in-Some-clause-value : goal.returns-in-Some-clause-value
 returns-in-Some-clause-value c =
