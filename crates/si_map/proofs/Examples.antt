@@ -13,7 +13,7 @@ use Rattle.si_match.specs.Fit.{first_fit}
 use Rattle.si_match.specs.Support.{support_of}
 use Rattle.si_match.specs.Weight.{weight_of}
 use Rattle.si_map.specs.Best.{Choice, IsBestPartition, NoneServes, choice_place}
-use Rattle.si_map.specs.Loops.Least.{AreLeast, HaveFewPins, IsLeast}
+use Rattle.si_bounds.specs.Loops.Least.{AreLeast, HaveFewPins, IsLeast}
 use mathlib.Core.Logic.{inl, inr}
 
 -- the input a is signal 0, the output b, which follows it, signal 1
@@ -71,12 +71,12 @@ few_pins = All-cons (λ (x : Cell). length x.pins ≤ 1) _ [] (omega arith) (All
 abbrev IsSmall : ℕ → Type 0
 IsSmall w = w ≤ 2 + code_width
 
-none_known : (z : ℕ) → IsLeast follower buffers z (slice_index_or (0 ∷ 0 ∷ []) z 0)
+none_known : (z : ℕ) → IsLeast follower buffers [] z (slice_index_or (0 ∷ 0 ∷ []) z 0)
 none_known zero more = absurd (omega (arith, more))
 none_known (suc zero) more = absurd (omega (arith, more))
 none_known (suc (suc z)) more = absurd (omega (arith, more))
 
-nothing_known : AreLeast follower buffers (0 ∷ 0 ∷ [])
+nothing_known : AreLeast follower buffers [] (0 ∷ 0 ∷ [])
 nothing_known = record {
   count = refl;
   small = All-cons IsSmall 0 (0 ∷ []) (omega arith) (All-cons IsSmall 0 [] (omega arith) (All-nil IsSmall));

@@ -3,14 +3,7 @@ mod TraceExamples
 pub mod EndLemmas
 pub mod BestWeight
 pub mod SearchConflicts
-pub mod WaitingLemmas
-pub mod WaitingFits
 pub mod SearchFitted
-pub mod ReadLemmas
-pub mod LeastFits
-pub mod LeastLemmas
-pub mod KeptFits
-pub mod KeptLemmas
 pub mod BestDivisors
 pub mod OneBest
 pub mod SearchSteps

@@ -10,7 +10,7 @@ use Rattle.si_base.specs.Graph.{StateGraph, IsNonInput}
 use Rattle.si_cell.specs.Library.{Library, Instance}
 use Rattle.si_match.specs.Fit.{first_fit}
 use Rattle.si_match.specs.Weight.{added_weight, size_of_support}
-use Rattle.si_map.specs.Loops.Progress.{AreFitted}
+use Rattle.si_bounds.specs.Loops.Fitted.{AreFitted}
 
 module _ (c : CodedGraph) (library : Library) where
   -- the set has those of the first signals, so many, that fit

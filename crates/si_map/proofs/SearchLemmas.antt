@@ -28,11 +28,15 @@ use Rattle.si_insert.specs.Fresh.{IsTaken}
 use Rattle.si_insert.specs.Insertion.{coded, new_signal}
 use Rattle.si_insert.specs.GraphOfCopies.{copies_of}
 use Rattle.si_insert.proofs.AcceptedLosses.{no_delay, proper_if_none}
+use Rattle.si_insert.proofs.InsertionCodes.{is_coded as inserted_coded}
+use Rattle.si_insert.proofs.InsertionsExist.{some_insertion}
 use Rattle.si_match.specs.Weight.{weight_of}
 use Rattle.si_map.specs.declared.search.Search.{Search}
 use Rattle.si_map.specs.Best.{Choice, IsDivisorAt, LeavesWeight, Serves}
-use Rattle.si_map.specs.Loops.Least.{AreLeast}
-use Rattle.si_map.specs.Loops.Progress.{AreFitted, IsReady, IsSearching, HasTried, IsPassed, IsNewBest, IsTried}
+use Rattle.si_bounds.specs.Loops.Bounds.{AreBounds}
+use Rattle.si_bounds.specs.Loops.Fitted.{AreFitted}
+use Rattle.si_bounds.specs.Loops.Least.{WeighsAtLeast}
+use Rattle.si_map.specs.Loops.Progress.{IsReady, IsSearching, HasTried, IsPassed, IsNewBest, IsTried}
 use Rattle.si_map.specs.Loops.Packed.{ArePacked, words_cmp}
 use Rattle.si_map.specs.Loops.Progress.{ArePassed, IsKnown}
 use Rattle.si_map.specs.Loops.Progress.{MayHaveRecorded, IsSpent, AreSpent, LeavesBelow, LeavesNoneBelow}
@@ -70,6 +74,22 @@ pub conflict_leaves_none : (c : CodedGraph) (library : Library) (classes : List 
     → ((n : ℕ) → LeavesConflicts c classes n → 1 ≤ n) → LeavesNoneBelow c library classes low
 conflict_leaves_none c library classes low some n free leaves =
     let more = some 0 free in absurd (omega (arith, more))
+
+-- where each inserted graph weighs as much, none leaves less
+pub heavy_leaves_none : (c : CodedGraph) (library : Library) (classes : List Class) (name : List ℕ) (bar : ℕ)
+    → IsCoded c → IsAccepted c.graph classes → (IsTaken c.graph.signals name → ⊥)
+    → WeighsAtLeast c library classes bar → LeavesNoneBelow c library classes bar
+heavy_leaves_none c library classes name bar is accepts fresh heavy n free leaves =
+    let copies = copies_of classes in
+    let new = new_signal name in
+    let (h, inserted, graph) = some_insertion c classes name is accepts fresh in
+    let made = inserted_coded c classes new copies h is accepts.lawful inserted graph in
+    let none = none_left c classes new copies h is accepts.lawful free inserted in
+    let own : LeavesWeight c library classes (weight_of (coded c copies h) library) =
+    record { new = new; copies = copies; graph = h; insertion = inserted; weighs = refl } in
+    let one = weight_is_one c library classes n (weight_of (coded c copies h) library) leaves own in
+    let least = heavy new copies h inserted made none in
+    omega (arith, least, one)
 
 -- what a trial of the conflicts tells
 pub conflict_left : (c : CodedGraph) (library : Library) (classes given : List Class) (o : Option ℕ) (none : Bool)
@@ -186,7 +206,7 @@ module _ (c : CodedGraph) (library : Library) (s : Search) (ready : IsReady c li
       chains = subst (AreChains c) (sym is.chains) ready.chains;
       new = subst (λ name. IsTaken c.graph.signals name → ⊥) (sym is.name) ready.new;
       fitted = subst (AreFitted c library) (sym is.fitted) ready.fitted;
-      least = subst (λ (xs : Vec ℕ Global). AreLeast c library xs.items) (sym is.least) ready.least;
+      bounds = subst (AreBounds c library) (sym is.bounds) ready.bounds;
       best_known = subst (λ o. IfSome o (λ p. LeavesNoneBelow c library p t.bar)) (sym is.best)
           (subst (λ low. IfSome s.best (λ p. LeavesNoneBelow c library p low)) (sym is.bar) ready.best_known);
       tried_known = subst (λ low. ArePassed c library low t.tried) (sym is.bar) (all is.tried);
@@ -222,7 +242,7 @@ module _ (c : CodedGraph) (library : Library) (s : Search) (ready : IsReady c li
         chains = m.chains;
         name = m.name;
         fitted = m.fitted;
-        least = m.least;
+        bounds = m.bounds;
       }
 
   taken_best : (n : ℕ) → IsAccepted c.graph classes → LeavesBelow c library classes s.bar n
@@ -234,7 +254,7 @@ module _ (c : CodedGraph) (library : Library) (s : Search) (ready : IsReady c li
       chains = ready.chains;
       new = ready.new;
       fitted = ready.fitted;
-      least = ready.least;
+      bounds = ready.bounds;
       best_known = λ m free leaves. (let same = weight_is_one c library classes n m left.leaves leaves in
           omega (arith, same));
       tried_known = λ others words packed there accepted. lower c library others n s.bar left.below

@@ -2,7 +2,7 @@
 
 ghost use Rattle.std.specs.Prelude.{◌≡◌, IfOk, MatchOption};
 ghost use Rattle.si_map.specs.Best.{Choice, IsBest, IsBestPartition, NoneServes};
-ghost use Rattle.si_map.specs.Loops.Progress.{AreFitted};
+ghost use Rattle.si_bounds.specs.Loops.Fitted.{AreFitted};
 
 use crate::fitted::fitted_signals;
 use crate::search::find_best;

@@ -4,7 +4,7 @@ ghost use Rattle.std.specs.Prelude.{◌≡◌, IfSome, IfNone};
 ghost use Rattle.si_cell.specs.Library.{Library as LibraryValue};
 ghost use Rattle.si_checks.specs.Loops.Lent.{coded_of};
 ghost use Rattle.si_circuit.specs.Cells.{AllFit, IsFirstUnfit};
-ghost use Rattle.si_map.specs.Loops.Progress.{AreFitted};
+ghost use Rattle.si_bounds.specs.Loops.Fitted.{AreFitted};
 
 use crate::unfit::fits;
 use si_base::ids::{Code, Sig};

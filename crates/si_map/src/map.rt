@@ -14,7 +14,7 @@ ghost use Rattle.si_insert.specs.Fresh.{IsFresh, IsTaken};
 ghost use Rattle.si_insert.specs.Lineage.{Extends, ExtendsBy};
 ghost use Rattle.si_map.specs.Best.{Choice, IsBest, NoneServes};
 ghost use Rattle.si_map.specs.Ends.{ShowsStuck};
-ghost use Rattle.si_map.specs.Loops.Progress.{AreFitted};
+ghost use Rattle.si_bounds.specs.Loops.Fitted.{AreFitted};
 ghost use Rattle.si_map.specs.Trace.{IsMappingTrace, InsertsDivisor, EndsMapped};
 
 use crate::best::best_by_functions;

@@ -12,20 +12,20 @@ ghost use Rattle.si_divisor.specs.Loops.ManyFunctions.{AreFunctionSets};
 ghost use Rattle.si_insert.specs.Accepted.{DelaysNoInput, IsAccepted, StaysProper};
 ghost use Rattle.si_insert.specs.Partition.{IsLawful};
 ghost use Rattle.si_match.specs.Weight.{weight_of};
-ghost use Rattle.si_map.specs.Loops.Least.{AreLeast};
+ghost use Rattle.si_bounds.specs.Loops.Bounds.{AreBounds};
+ghost use Rattle.si_bounds.specs.Loops.Fitted.{AreFitted};
 ghost use Rattle.si_map.specs.Best.{IsBestPartition};
-ghost use Rattle.si_map.specs.Loops.Progress.{AreFitted, IsReady, IsSearching, HasTried, IsTried};
+ghost use Rattle.si_map.specs.Loops.Progress.{IsReady, IsSearching, HasTried, IsTried};
 ghost use Rattle.si_map.specs.Loops.Progress.{AreUpToDate, IsKnown, MayHaveRecorded, IsSpent};
 ghost use Rattle.si_map.specs.Loops.Progress.{LeavesBelow, LeavesNoneBelow};
 
 use crate::functions::{Functions, copy_of, functions_of};
-use crate::kept::sum_with;
-use crate::least::{least_weights, most_pins, sum_without};
 use crate::packed::packed;
-use crate::waiting::waiting_signals;
 use crate::weight::{weight_below, weight_without};
 use si_base::ids::{Code, NoMemory, Sig};
 use si_base::text::Name;
+use si_bounds::bounds::Bounds;
+use si_bounds::waiting::waiting_signals;
 use si_checks::distinct::Distinct;
 use si_checks::proper::Proper;
 use si_conflicts::chains::CodeChains;
@@ -51,8 +51,8 @@ const MAX_TRIED_WORDS: usize = 1 << 21;
 /// and what all divisors have in common: the rings of equal codes and the new signal's name. Many
 /// functions have one partition, as where codes at which they differ are no state's. So those that
 /// were tried are kept, each packed into words: none of them leaves a weight below the bar. Of each
-/// signal it is known whether some cell fits it, and what it adds to the weight at least where it
-/// never waits.
+/// signal it is known whether some cell fits it; and the bounds tell the weight that an insertion
+/// leaves at least.
 #[derive(Drop)]
 struct Search {
     bar: u64,
@@ -61,7 +61,7 @@ struct Search {
     chains: CodeChains,
     name: Name,
     fitted: Code,
-    least: Vec<u64>,
+    bounds: Bounds,
 }
 
 /// The partition for the best divisor of a graph of which these signals fit, if a divisor serves.
@@ -75,8 +75,8 @@ pub(crate) fn find_best(
     ensures { IfOk result (IsBestPartition (coded_of graph.entry) library.now) }
 {
     let weight = weight_without(alloc, graph, fitted)?;
-    let least = least_weights(alloc, graph, library.library(), fitted)?;
-    let mut search = Search::new(alloc, graph.proper(), weight, fitted, least)?;
+    let bounds = Bounds::of(alloc, graph, library, fitted)?;
+    let mut search = Search::new(alloc, graph.proper(), weight, fitted, bounds)?;
     let mut functions = Functions::new(alloc);
     let known = graph.proper().coded().graph();
     for i in 0..known.signals().len() {
@@ -96,10 +96,10 @@ impl Search {
         graph: &Proper,
         weight: u64,
         fitted: Code,
-        least: Vec<u64>,
+        bounds: Bounds,
     ) -> Result<Search, NoMemory>
         ensures { IfOk result (λ s. (library : LibraryValue) → weight ≡ weight_of graph.now library
-            → AreFitted graph.now library fitted → AreLeast graph.now library least.items
+            → AreFitted graph.now library fitted → AreBounds graph.now library bounds
             → IsSearching graph.now library 0 0 s) }
     {
         Ok(Search {
@@ -109,7 +109,7 @@ impl Search {
             chains: CodeChains::new(alloc, graph)?,
             name: fresh_name(alloc, graph.coded().graph(), STEM)?,
             fitted,
-            least,
+            bounds,
         })
     }
 
@@ -271,8 +271,7 @@ impl Search {
     }
 
     /// The weight that the partition leaves, if it leaves no conflict and a weight below the bar.
-    /// The graph isn't made where the signals that never wait alone add as much, nor where they
-    /// and the kept triggers of those that wait do.
+    /// The graph isn't made where the bounds tell that it weighs as much.
     fn weight_left(
         &mut self,
         alloc: Global,
@@ -291,12 +290,8 @@ impl Search {
         let coded = graph.coded();
         let classes = accepted.partition().classes();
         let waiting = waiting_signals(coded.graph(), classes);
-        let least = self.least.as_slice();
-        if sum_without(least, waiting) >= self.bar {
-            return Ok(None);
-        }
-        let most = most_pins(library.library());
-        if sum_with(coded, classes, most, waiting, least) >= self.bar {
+        let bounds = &self.bounds;
+        if !bounds.may_weigh_below(alloc, coded, classes, waiting, self.bar)? {
             return Ok(None);
         }
         let free = self.chains.trial_below(alloc, graph, classes, 1)?;

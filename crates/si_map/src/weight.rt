@@ -8,7 +8,7 @@ ghost use Rattle.si_checks.specs.Loops.Lent.{coded_of};
 ghost use Rattle.si_match.specs.Fit.{first_fit};
 ghost use Rattle.si_match.specs.Loops.Known.{AreKnown};
 ghost use Rattle.si_match.specs.Weight.{added_weight, weight_of};
-ghost use Rattle.si_map.specs.Loops.Progress.{AreFitted};
+ghost use Rattle.si_bounds.specs.Loops.Fitted.{AreFitted};
 
 use crate::unfit::added_below;
 use si_base::ids::{Code, NoMemory, Sig};

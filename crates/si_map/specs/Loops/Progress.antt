@@ -1,11 +1,9 @@
 -- What a search for the best divisor keeps.
 use Rattle.std.specs.Prelude.{◌≡◌, ℕ, ◌+◌, ◌<◌, ◌≤◌, ◌⊎◌, List, Vec, true}
-use Rattle.std.specs.Prelude.{IsTrue, Option, Some, None, IfSome, is_some}
+use Rattle.std.specs.Prelude.{IsTrue, Option, Some, None, IfSome}
 use Rattle.std.specs.Global.{Global}
 use Rattle.std.specs.BTreeSet.{BTreeSet, Updates, contains}
-use Rattle.si_base.specs.Bits.{bit}
 use Rattle.si_base.specs.Codes.{CodedGraph, IsCoded}
-use Rattle.si_base.specs.Graph.{IsNonInput}
 use Rattle.si_base.specs.Proper.{IsProper}
 use Rattle.si_cell.specs.Library.{Library, Instance, instance_value}
 use Rattle.si_conflicts.specs.Loops.Chains.{AreChains}
@@ -18,10 +16,10 @@ use Rattle.si_divisor.specs.Targets.{forced_by}
 use Rattle.si_insert.specs.declared.partition.Class.{Class}
 use Rattle.si_insert.specs.Accepted.{IsAccepted}
 use Rattle.si_insert.specs.Fresh.{IsTaken}
-use Rattle.si_match.specs.Fit.{first_fit}
 use Rattle.si_match.specs.Weight.{weight_of}
 use Rattle.si_map.specs.Best.{Choice, IsUnfit, IsDivisorAt, LeavesWeight}
-use Rattle.si_map.specs.Loops.Least.{AreLeast}
+use Rattle.si_bounds.specs.Loops.Bounds.{AreBounds}
+use Rattle.si_bounds.specs.Loops.Fitted.{AreFitted}
 use Rattle.si_map.specs.Loops.Packed.{ArePacked, words_cmp}
 use Rattle.si_map.specs.Loops.Search.{IsBestSoFar, bar}
 use Rattle.si_map.specs.declared.functions.Functions.{Functions}
@@ -63,11 +61,6 @@ pub record AreUpToDate (c : CodedGraph) (library : Library) (bar : ℕ) (functio
 
 -- ---- the search
 
--- the set has those signals that the circuit drives and that some cell fits, and others at will
-abbrev pub AreFitted : CodedGraph → Library → ℕ → Type 0
-AreFitted c library fitted = (z : ℕ) → IsNonInput c.graph.signals z
-    → bit fitted z ≡ is_some (first_fit c library z)
-
 -- no accepted partition whose words are among these leaves a weight below the bar
 abbrev pub ArePassed : CodedGraph → Library → ℕ → BTreeSet (Vec ℕ Global) → Type 0
 ArePassed c library bar tried = (classes : List Class) (words : Vec ℕ Global)
@@ -75,7 +68,7 @@ ArePassed c library bar tried = (classes : List Class) (words : Vec ℕ Global)
     → IsAccepted c.graph classes → LeavesNoneBelow c library classes bar
 
 -- what a search has for all divisors: c is a proper graph, the chains are those of its codes, no
--- signal has the name, the signals that fit are known, and what others add at least, and what was
+-- signal has the name, the signals that fit are known, and what signals add at least, and what was
 -- tried leaves none below the bar
 pub record IsReady (c : CodedGraph) (library : Library) (search : Search) : Type 0 where
   pub coded : IsCoded c
@@ -83,7 +76,7 @@ pub record IsReady (c : CodedGraph) (library : Library) (search : Search) : Type
   pub chains : AreChains c search.chains
   pub new : IsTaken c.graph.signals search.name → ⊥
   pub fitted : AreFitted c library search.fitted
-  pub least : AreLeast c library search.least.items
+  pub bounds : AreBounds c library search.bounds
   pub best_known : IfSome search.best (λ p. LeavesNoneBelow c library p search.bar)
   pub tried_known : ArePassed c library search.bar search.tried
 
@@ -119,7 +112,7 @@ pub record MayHaveRecorded (s : Search) (words : Vec ℕ Global) (t : Search) : 
   pub chains : t.chains ≡ s.chains
   pub name : t.name ≡ s.name
   pub fitted : t.fitted ≡ s.fitted
-  pub least : t.least ≡ s.least
+  pub bounds : t.bounds ≡ s.bounds
   pub tried : (t.tried ≡ s.tried) ⊎ Updates words_cmp s.tried t.tried words true
 
 -- ---- what becomes of a search with a partition

@@ -1,6 +1,6 @@
 use Rattle.std.proofs.Common.{subst, sym}
 use Rattle.si_map.specs.Best.{IsBestPartition}
-use Rattle.si_map.specs.Loops.Progress.{AreFitted}
+use Rattle.si_bounds.specs.Loops.Fitted.{AreFitted}
 use Rattle.si_map.proofs.best.best_by_functions.Goals as goal
 
 pub find_best-requires : goal.find_best-requires

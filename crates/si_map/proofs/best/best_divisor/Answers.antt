@@ -1,5 +1,5 @@
 use Rattle.std.proofs.Common.{subst}
-use Rattle.si_map.specs.Loops.Progress.{AreFitted}
+use Rattle.si_bounds.specs.Loops.Fitted.{AreFitted}
 use Rattle.si_map.proofs.best.best_divisor.Goals as goal
 
 pub best_by_functions-requires : goal.best_by_functions-requires

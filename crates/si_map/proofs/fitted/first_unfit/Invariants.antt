@@ -1,7 +1,7 @@
 use Rattle.si_cell.specs.Library.{Library}
 use Rattle.si_checks.specs.Loops.Lent.{coded_of}
 use Rattle.si_circuit.proofs.CellLemmas.{FitBefore}
-use Rattle.si_map.specs.Loops.Progress.{AreFitted}
+use Rattle.si_bounds.specs.Loops.Fitted.{AreFitted}
 use Rattle.si_map.proofs.fitted.first_unfit.Given as goal
 
 abbrev pub invariant-loop-i : goal.invariant-loop-i

@@ -6,7 +6,7 @@ use Rattle.si_circuit.specs.Cells.{AllFit, IsFirstUnfit}
 use Rattle.si_insert.specs.Lineage.{ExtendsBy, History}
 use Rattle.si_insert.proofs.LineageTraceLength.{leads_nowhere, leads_on}
 use Rattle.si_map.specs.Ends.{ShowsStuck}
-use Rattle.si_map.specs.Loops.Progress.{AreFitted}
+use Rattle.si_bounds.specs.Loops.Fitted.{AreFitted}
 use Rattle.si_map.specs.Trace.{InsertsDivisor, IsMappingTrace}
 use Rattle.si_map.proofs.map.map_cells.Goals as goal
 

@@ -4,9 +4,10 @@ use Rattle.si_base.specs.Codes.{CodedGraph}
 use Rattle.si_cell.specs.Library.{Library}
 use Rattle.si_match.specs.Weight.{weight_of}
 use Rattle.si_checks.specs.Loops.Lent.{coded_of}
+use Rattle.si_bounds.specs.Loops.Bounds.{AreBounds}
+use Rattle.si_bounds.specs.Loops.Fitted.{AreFitted}
+use Rattle.si_map.specs.Loops.Progress.{IsSearching}
 use Rattle.si_map.proofs.SearchLemmas.{none_yet}
-use Rattle.si_map.specs.Loops.Least.{AreLeast}
-use Rattle.si_map.specs.Loops.Progress.{AreFitted, IsSearching}
 use Rattle.si_map.proofs.SearchSignals.{found, pass_input_by}
 use Rattle.si_map.proofs.search.find_best.Goals as goal
 
@@ -14,11 +15,11 @@ pub loop-i-init : goal.loop-i-init
 loop-i-init c =
     let Starts : CodedGraph → Type 0 =
     λ d. (library : Library) → c.in_ok-weight.weight ≡ weight_of d library → AreFitted d library c.args.fitted
-    → AreLeast d library c.in_ok-least.least.items → IsSearching d library 0 0 c.in_ok-search.search in
+    → AreBounds d library c.in_ok-bounds.bounds → IsSearching d library 0 0 c.in_ok-search.search in
     let starts : Starts (coded_of c.args.graph) = subst Starts c.proper.ensures.same c.in_ok-search.ensures in
-    let least = rw c.library.ensures at c.in_ok-least.ensures in
     record {
-      searching = starts c.args.library.now (c.in_ok-weight.ensures c.args.library.now c.requires) c.requires least;
+      searching = starts c.args.library.now (c.in_ok-weight.ensures c.args.library.now c.requires) c.requires
+          c.in_ok-bounds.ensures;
       known = record {
         spent = none_yet (coded_of c.args.graph) c.args.library.now c.in_ok-search.search.bar
             c.new-functions.result.tried c.new-functions.ensures.tried;

@@ -3,7 +3,7 @@ use Rattle.si_base.specs.Limits.{code_width}
 use Rattle.si_cell.specs.Library.{Library}
 use Rattle.si_checks.specs.Loops.Lent.{coded_of}
 use Rattle.si_match.specs.Weight.{weight_from, weight_of}
-use Rattle.si_map.specs.Loops.Progress.{AreFitted}
+use Rattle.si_bounds.specs.Loops.Fitted.{AreFitted}
 use Rattle.si_map.proofs.weight.weight_without.Given as goal
 
 abbrev pub invariant-loop-i : goal.invariant-loop-i

@@ -1,11 +1,13 @@
-use Rattle.std.proofs.Common.{◌∙◌, ap, subst, sym}
+use Rattle.std.proofs.Common.{◌≡◌, ℕ, false, ◌∙◌, ap, subst, sym}
+use Rattle.si_base.specs.Bits.{bit}
 use Rattle.si_base.specs.Codes.{CodedGraph}
-use Rattle.si_cell.specs.Library.{Library}
-use Rattle.si_map.specs.Loops.Least.{AreLeast, HaveFewPins}
-use Rattle.si_map.proofs.KeptLemmas.{told_bound}
-use Rattle.si_map.proofs.LeastLemmas.{bounded}
-use Rattle.si_map.proofs.WaitingFits.{kept_known, known_unknown}
-use Rattle.si_map.proofs.SearchLemmas.{below_left, conflict_left, free_left, inserted_free, none_below_left}
+use Rattle.si_insert.specs.Partition.{IsLawful}
+use Rattle.si_bounds.specs.Loops.Bounds.{AreBounds}
+use Rattle.si_bounds.specs.Loops.Least.{WeighsAtLeast}
+use Rattle.si_bounds.specs.Loops.Waiting.{NeverWaits}
+use Rattle.si_bounds.proofs.WaitingFits.{kept_known, known_unknown}
+use Rattle.si_map.proofs.SearchLemmas.{below_left, conflict_left, free_left, heavy_leaves_none, inserted_free}
+use Rattle.si_map.proofs.SearchLemmas.{none_below_left}
 use Rattle.si_map.proofs.search.Search.weight_left.Goals as goal
 
 pub returns-then-is_none-clause-none : goal.returns-then-is_none-clause-none
@@ -51,29 +53,36 @@ weight_below-requires-clause-known c =
     given c.known_fits-known.result never c.known_fits-known.ensures.fitted c.known_fits-known.ensures.read
 
 -- ---- bounds
-pub returns-then-sum_without-self-clause-none : goal.returns-then-sum_without-self-clause-none
-returns-then-sum_without-self-clause-none c =
+pub may_weigh_below-requires-clause-lawful : goal.may_weigh_below-requires-clause-lawful
+may_weigh_below-requires-clause-lawful c =
     let given = c.classes-classes.ensures ∙ c.partition.ensures in
-    let graph = c.graph.ensures.same ∙ ap (λ (d : CodedGraph). d.graph) c.coded-coded.ensures.same in
-    let search = c.args.self.now in
-    let ready = c.requires.ready in
-    let least = subst (AreLeast c.args.graph.now c.args.library.now) (sym c.as_slice-least.ensures.value) ready.least in
-    bounded c.args.graph.now c.args.library.now c.args.accepted.now search.name c.as_slice-least.result.now
-    c.waiting_signals-waiting.result c.sum_without.result search.bar ready.coded c.requires.accepted ready.new least
-    c.graph.result.now c.classes-classes.result.now graph given c.waiting_signals-waiting.ensures.never
-    c.sum_without.ensures c.if-sum_without-self.true
+    let graph = ap (λ (d : CodedGraph). d.graph) c.coded-coded.ensures.same in
+    subst (λ g. IsLawful g c.classes-classes.result.now) (sym graph)
+    (subst (IsLawful c.args.graph.now.graph) (sym given) c.requires.accepted.lawful)
 
-pub returns-then-sum_with-self-clause-none : goal.returns-then-sum_with-self-clause-none
-returns-then-sum_with-self-clause-none c =
-    let given = c.classes-classes.ensures ∙ c.partition.ensures in
-    let graph = c.graph.ensures.same ∙ ap (λ (d : CodedGraph). d.graph) c.coded-coded.ensures.same in
+pub may_weigh_below-requires-clause-never : goal.may_weigh_below-requires-clause-never
+may_weigh_below-requires-clause-never c =
+    subst (λ g. (z : ℕ) → bit c.waiting_signals-waiting.result z ≡ false
+    → NeverWaits g c.classes-classes.result.now z) c.graph.ensures.same c.waiting_signals-waiting.ensures.never
+
+pub may_weigh_below-requires-clause-bounds : goal.may_weigh_below-requires-clause-bounds
+may_weigh_below-requires-clause-bounds c = (
+  c.args.library.now,
+  subst (λ d. AreBounds d c.args.library.now c.args.self.now.bounds) (sym c.coded-coded.ensures.same)
+      c.requires.ready.bounds,
+)
+
+pub returns-then-not-branch-clause-none : goal.returns-then-not-branch-clause-none
+returns-then-not-branch-clause-none c =
+    let d = c.args.graph.now in
+    let library = c.args.library.now in
     let search = c.args.self.now in
     let ready = c.requires.ready in
-    let least = subst (AreLeast c.args.graph.now c.args.library.now) (sym c.as_slice-least.ensures.value) ready.least in
-    let few = subst (λ (known : Library). HaveFewPins known c.most_pins-most.result) c.library.ensures
-    c.most_pins-most.ensures.few in
-    told_bound c.args.graph.now c.args.library.now c.args.accepted.now search.name c.as_slice-least.result.now
-    c.most_pins-most.result c.waiting_signals-waiting.result c.sum_with.result search.bar ready.coded
-    c.requires.accepted ready.new least few c.coded-coded.result.now c.graph.result.now
-    c.classes-classes.result.now c.coded-coded.ensures.same graph given c.waiting_signals-waiting.ensures.never
-    c.waiting_signals-waiting.ensures.waits c.sum_with.ensures c.if-sum_with-self.true
+    let same = c.coded-coded.ensures.same in
+    let given = c.classes-classes.ensures ∙ c.partition.ensures in
+    let bounds = subst (λ e. AreBounds e library search.bounds) (sym same) ready.bounds in
+    let lent = c.in_ok-may_weigh_below.ensures c.if-not-branch.true library bounds in
+    let heavy = subst (λ xs. WeighsAtLeast d library xs search.bar) given
+    (subst (λ e. WeighsAtLeast e library c.classes-classes.result.now search.bar) same lent) in
+    heavy_leaves_none d library c.args.accepted.now search.name search.bar ready.coded c.requires.accepted ready.new
+    heavy
